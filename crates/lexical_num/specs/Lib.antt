@@ -1,0 +1,5 @@
+pub mod Digit
+pub mod Error
+pub mod Format
+pub mod Magnitudes
+pub mod Width

@@ -1,0 +1,165 @@
+//! How many bytes a number takes at most.
+
+ghost use Rattle.std.specs.Prelude.{ℕ, ◌≤◌};
+ghost use Rattle.std.proofs.Common.{lit≤};
+ghost use Rattle.lexical_num.specs.declared.constants.TheConstants.{BUFFER_SIZE};
+
+/// The size of a buffer that has room for each number of each type, in each radix.
+pub const BUFFER_SIZE: usize = 128;
+
+/// How many bytes a number of the type takes at most, a `-` included.
+pub trait FormattedSize {
+    /// In each radix from 2 to 36.
+    const FORMATTED_SIZE: usize;
+
+    /// In decimal.
+    const FORMATTED_SIZE_DECIMAL: usize;
+
+    ghost FORMATTED_SIZE: { ℕ };
+
+    ghost FORMATTED_SIZE_DECIMAL: { ℕ };
+
+    ghost size_within_buffer: { (1 ≤ FORMATTED_SIZE) × (FORMATTED_SIZE ≤ BUFFER_SIZE) };
+
+    ghost decimal_size_within_buffer: { (1 ≤ FORMATTED_SIZE_DECIMAL) × (FORMATTED_SIZE_DECIMAL ≤ BUFFER_SIZE) };
+}
+
+impl FormattedSize for u8 {
+    const FORMATTED_SIZE: usize = 16;
+
+    const FORMATTED_SIZE_DECIMAL: usize = 3;
+
+    ghost FORMATTED_SIZE = { 16 };
+
+    ghost FORMATTED_SIZE_DECIMAL = { 3 };
+
+    ghost size_within_buffer = { (lit≤ tt, lit≤ tt) };
+
+    ghost decimal_size_within_buffer = { (lit≤ tt, lit≤ tt) };
+}
+
+impl FormattedSize for u16 {
+    const FORMATTED_SIZE: usize = 32;
+
+    const FORMATTED_SIZE_DECIMAL: usize = 5;
+
+    ghost FORMATTED_SIZE = { 32 };
+
+    ghost FORMATTED_SIZE_DECIMAL = { 5 };
+
+    ghost size_within_buffer = { (lit≤ tt, lit≤ tt) };
+
+    ghost decimal_size_within_buffer = { (lit≤ tt, lit≤ tt) };
+}
+
+impl FormattedSize for u32 {
+    const FORMATTED_SIZE: usize = 64;
+
+    const FORMATTED_SIZE_DECIMAL: usize = 10;
+
+    ghost FORMATTED_SIZE = { 64 };
+
+    ghost FORMATTED_SIZE_DECIMAL = { 10 };
+
+    ghost size_within_buffer = { (lit≤ tt, lit≤ tt) };
+
+    ghost decimal_size_within_buffer = { (lit≤ tt, lit≤ tt) };
+}
+
+impl FormattedSize for u64 {
+    const FORMATTED_SIZE: usize = 128;
+
+    const FORMATTED_SIZE_DECIMAL: usize = 20;
+
+    ghost FORMATTED_SIZE = { 128 };
+
+    ghost FORMATTED_SIZE_DECIMAL = { 20 };
+
+    ghost size_within_buffer = { (lit≤ tt, lit≤ tt) };
+
+    ghost decimal_size_within_buffer = { (lit≤ tt, lit≤ tt) };
+}
+
+impl FormattedSize for usize {
+    const FORMATTED_SIZE: usize = 128;
+
+    const FORMATTED_SIZE_DECIMAL: usize = 20;
+
+    ghost FORMATTED_SIZE = { 128 };
+
+    ghost FORMATTED_SIZE_DECIMAL = { 20 };
+
+    ghost size_within_buffer = { (lit≤ tt, lit≤ tt) };
+
+    ghost decimal_size_within_buffer = { (lit≤ tt, lit≤ tt) };
+}
+
+impl FormattedSize for i8 {
+    const FORMATTED_SIZE: usize = 16;
+
+    const FORMATTED_SIZE_DECIMAL: usize = 4;
+
+    ghost FORMATTED_SIZE = { 16 };
+
+    ghost FORMATTED_SIZE_DECIMAL = { 4 };
+
+    ghost size_within_buffer = { (lit≤ tt, lit≤ tt) };
+
+    ghost decimal_size_within_buffer = { (lit≤ tt, lit≤ tt) };
+}
+
+impl FormattedSize for i16 {
+    const FORMATTED_SIZE: usize = 32;
+
+    const FORMATTED_SIZE_DECIMAL: usize = 6;
+
+    ghost FORMATTED_SIZE = { 32 };
+
+    ghost FORMATTED_SIZE_DECIMAL = { 6 };
+
+    ghost size_within_buffer = { (lit≤ tt, lit≤ tt) };
+
+    ghost decimal_size_within_buffer = { (lit≤ tt, lit≤ tt) };
+}
+
+impl FormattedSize for i32 {
+    const FORMATTED_SIZE: usize = 64;
+
+    const FORMATTED_SIZE_DECIMAL: usize = 11;
+
+    ghost FORMATTED_SIZE = { 64 };
+
+    ghost FORMATTED_SIZE_DECIMAL = { 11 };
+
+    ghost size_within_buffer = { (lit≤ tt, lit≤ tt) };
+
+    ghost decimal_size_within_buffer = { (lit≤ tt, lit≤ tt) };
+}
+
+impl FormattedSize for i64 {
+    const FORMATTED_SIZE: usize = 128;
+
+    const FORMATTED_SIZE_DECIMAL: usize = 20;
+
+    ghost FORMATTED_SIZE = { 128 };
+
+    ghost FORMATTED_SIZE_DECIMAL = { 20 };
+
+    ghost size_within_buffer = { (lit≤ tt, lit≤ tt) };
+
+    ghost decimal_size_within_buffer = { (lit≤ tt, lit≤ tt) };
+}
+
+impl FormattedSize for isize {
+    const FORMATTED_SIZE: usize = 128;
+
+    const FORMATTED_SIZE_DECIMAL: usize = 20;
+
+    ghost FORMATTED_SIZE = { 128 };
+
+    ghost FORMATTED_SIZE_DECIMAL = { 20 };
+
+    ghost size_within_buffer = { (lit≤ tt, lit≤ tt) };
+
+    ghost decimal_size_within_buffer = { (lit≤ tt, lit≤ tt) };
+}

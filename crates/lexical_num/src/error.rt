@@ -1,0 +1,31 @@
+//! Why a format was refused.
+
+use std::fmt;
+
+/// What a builder answers: a value, or why there is none.
+pub type Result<T> = std::result::Result<T, Error>;
+
+/// The first fault of a format, with the byte that was refused.
+#[derive(Debug, Drop)]
+pub enum Error {
+    /// The mantissa radix is below 2 or above 36.
+    InvalidMantissaRadix(u8),
+    /// The exponent radix is below 2 or above 36.
+    InvalidExponentRadix(u8),
+}
+
+impl fmt::Display for Error {
+    ghost use Rattle.std.specs.Prelude.{Some};
+    ghost use Rattle.lexical_num.specs.Error.{printed_text};
+
+    ghost output = { λ error. Some (printed_text error) };
+
+    fn fmt<W: fmt::Write>(&self, f: &mut fmt::Formatter<W>) -> fmt::Result {
+        match self {
+            Error::InvalidMantissaRadix(radix) => write!(f, "invalid mantissa radix {radix}"),
+            Error::InvalidExponentRadix(radix) => write!(f, "invalid exponent radix {radix}"),
+        }
+    }
+}
+
+impl std::error::Error for Error {}

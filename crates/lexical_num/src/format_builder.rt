@@ -1,0 +1,143 @@
+//! Building a format part by part.
+
+ghost use Rattle.std.specs.Prelude.{◌≡◌, ◌↔◌, IsErrOf, IsOk, IfOk, IsTrue};
+ghost use Rattle.lexical_num.specs.Format.{IsRadix, IsValid, standard};
+
+use crate::error::{Error, Result};
+use crate::format::{NumberFormat, STANDARD};
+use std::marker::Model;
+
+/// The parts of a format, any bytes among them.
+#[derive(Clone, Copy, PartialEq, Eq, Debug)]
+pub struct NumberFormatBuilder {
+    mantissa_radix: u8,
+    exponent_radix: u8,
+    required_mantissa_sign: bool,
+}
+
+impl Model for NumberFormatBuilder {
+    ghost use Rattle.lexical_num.specs.Format.{Format};
+
+    ghost Value = { Format };
+
+    ghost view = { λ b. record {
+      mantissa_radix = b.mantissa_radix;
+      exponent_radix = b.exponent_radix;
+      required_mantissa_sign = b.required_mantissa_sign;
+    } };
+
+    ghost inverse = { λ format. record {
+      mantissa_radix = format.mantissa_radix;
+      exponent_radix = format.exponent_radix;
+      required_mantissa_sign = format.required_mantissa_sign;
+    } };
+}
+
+impl NumberFormatBuilder {
+    /// Starts from the parts of `STANDARD`: radices 10 and 10, and no required sign.
+    pub fn new() -> Self
+        ensures { result ≡ standard }
+    {
+        let format = STANDARD;
+        NumberFormatBuilder {
+            mantissa_radix: format.mantissa_radix,
+            exponent_radix: format.exponent_radix,
+            required_mantissa_sign: format.required_mantissa_sign,
+        }
+    }
+
+    /// The format whose radices are both 2, with no required sign.
+    pub fn binary() -> NumberFormat
+        ensures { result ≡ record standard { mantissa_radix = 2; exponent_radix = 2 } }
+    {
+        Self::from_radix(2)
+    }
+
+    /// The format whose radices are both `radix`, from 2 to 36, with no required sign.
+    pub fn from_radix(radix: u8) -> NumberFormat
+        requires { IsRadix radix }
+        ensures { result ≡ record standard { mantissa_radix = radix; exponent_radix = radix } }
+    {
+        Self::new()
+            .mantissa_radix(radix)
+            .exponent_radix(radix)
+            .build_strict()
+    }
+
+    /// Sets the mantissa radix, and leaves the exponent's.
+    pub fn radix(self, radix: u8) -> Self
+        ensures { result ≡ record self { mantissa_radix = radix } }
+    {
+        self.mantissa_radix(radix)
+    }
+
+    /// Sets the mantissa radix, and leaves the exponent's.
+    pub fn mantissa_radix(mut self, radix: u8) -> Self
+        ensures { result ≡ record self { mantissa_radix = radix } }
+    {
+        self.mantissa_radix = radix;
+        self
+    }
+
+    /// Sets the exponent radix, and leaves the mantissa's.
+    pub fn exponent_radix(mut self, radix: u8) -> Self
+        ensures { result ≡ record self { exponent_radix = radix } }
+    {
+        self.exponent_radix = radix;
+        self
+    }
+
+    /// Sets whether a `+` is to stand before a number that is not negative.
+    pub fn required_mantissa_sign(mut self, required: bool) -> Self
+        ensures { result ≡ record self { required_mantissa_sign = required } }
+    {
+        self.required_mantissa_sign = required;
+        self
+    }
+
+    /// The format of these parts, or its first fault: the mantissa radix is looked at before the
+    /// exponent radix. The builder can be used again in either case.
+    pub fn build(&self) -> Result<NumberFormat>
+        ensures valid { IsOk result ↔ IsValid self.now }
+        ensures format { IfOk result (λ format. format ≡ self.now) }
+        ensures mantissa { IsErrOf result (Error.InvalidMantissaRadix self.now.mantissa_radix)
+            ↔ ¬ IsRadix self.now.mantissa_radix }
+        ensures exponent { IsErrOf result (Error.InvalidExponentRadix self.now.exponent_radix)
+            ↔ (IsRadix self.now.mantissa_radix × ¬ IsRadix self.now.exponent_radix) }
+    {
+        if !is_radix(self.mantissa_radix) {
+            return Err(Error::InvalidMantissaRadix(self.mantissa_radix));
+        }
+        if !is_radix(self.exponent_radix) {
+            return Err(Error::InvalidExponentRadix(self.exponent_radix));
+        }
+        Ok(self.build_strict())
+    }
+
+    /// The format of these parts, whose radices are from 2 to 36.
+    pub fn build_strict(&self) -> NumberFormat
+        requires { IsValid self.now }
+        ensures { result ≡ self.now }
+    {
+        NumberFormat {
+            mantissa_radix: self.mantissa_radix,
+            exponent_radix: self.exponent_radix,
+            required_mantissa_sign: self.required_mantissa_sign,
+        }
+    }
+}
+
+impl Default for NumberFormatBuilder {
+    ghost is_default = { λ builder. builder ≡ standard };
+
+    fn default() -> Self {
+        Self::new()
+    }
+}
+
+// Whether there are characters for all digits of a radix.
+fn is_radix(radix: u8) -> bool
+    ensures { IsTrue result ↔ IsRadix radix }
+{
+    2 <= radix && radix <= 36
+}

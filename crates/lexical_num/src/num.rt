@@ -1,0 +1,499 @@
+//! The integer types, as contracts and generic code see them.
+
+ghost use Rattle.std.specs.Prelude.{◌≡◌, ℕ, ℤ, pos, negsuc, unsigned_abs, ◌-◌, ◌/◌, ◌%◌, ◌^◌, ◌<◌, ◌≤◌, ◌≤ℤ◌, ◌↔◌, IsTrue, refl};
+ghost use Rattle.std.proofs.Common.{rules, lit≤};
+ghost use Rattle.lexical_num.specs.Width.{IsWidth, is_8, is_16, is_32, is_64};
+ghost use Rattle.lexical_num.specs.Magnitudes.{unsigned_below, signed_below, pos-injective};
+
+/// An integer type whose numbers can be written.
+pub trait LexicalInteger: Copy {
+    /// The number of bits of the type.
+    const BITS: usize;
+
+    /// The most digits that a number of the type has in decimal.
+    const DECIMAL_WIDTH: usize;
+
+    ghost BITS: { ℕ };
+
+    ghost DECIMAL_WIDTH: { ℕ };
+
+    // The value as a whole number.
+    ghost number: { Self → ℤ };
+
+    // The least and the greatest number of the type.
+    ghost least: { ℤ };
+
+    ghost greatest: { ℤ };
+
+    /// Does nothing: its contract tells generic code that the number is one of the type's.
+    fn in_range(self)
+        ensures at_least { least ≤ℤ number self }
+        ensures at_most { number self ≤ℤ greatest };
+
+    // No number of the type has more decimal digits, and the greatest has as many.
+    ghost decimal_width_enough: { (n : ℤ) → least ≤ℤ n → n ≤ℤ greatest → unsigned_abs n < 10 ^ DECIMAL_WIDTH };
+
+    ghost decimal_width_needed: { 10 ^ (DECIMAL_WIDTH - 1) ≤ unsigned_abs greatest };
+}
+
+impl LexicalInteger for u8 {
+    const BITS: usize = 8;
+
+    const DECIMAL_WIDTH: usize = 3;
+
+    ghost BITS = { 8 };
+
+    ghost DECIMAL_WIDTH = { 3 };
+
+    ghost number = { pos };
+
+    ghost least = { pos 0 };
+
+    ghost greatest = { pos (2 ^ 8 - 1) };
+
+    ghost decimal_width_enough = { unsigned_below (2 ^ 8 - 1) (10 ^ 3) (lit≤ tt) };
+
+    ghost decimal_width_needed = { lit≤ tt };
+
+    fn in_range(self) {}
+}
+
+impl LexicalInteger for u16 {
+    const BITS: usize = 16;
+
+    const DECIMAL_WIDTH: usize = 5;
+
+    ghost BITS = { 16 };
+
+    ghost DECIMAL_WIDTH = { 5 };
+
+    ghost number = { pos };
+
+    ghost least = { pos 0 };
+
+    ghost greatest = { pos (2 ^ 16 - 1) };
+
+    ghost decimal_width_enough = { unsigned_below (2 ^ 16 - 1) (10 ^ 5) (lit≤ tt) };
+
+    ghost decimal_width_needed = { lit≤ tt };
+
+    fn in_range(self) {}
+}
+
+impl LexicalInteger for u32 {
+    const BITS: usize = 32;
+
+    const DECIMAL_WIDTH: usize = 10;
+
+    ghost BITS = { 32 };
+
+    ghost DECIMAL_WIDTH = { 10 };
+
+    ghost number = { pos };
+
+    ghost least = { pos 0 };
+
+    ghost greatest = { pos (2 ^ 32 - 1) };
+
+    ghost decimal_width_enough = { unsigned_below (2 ^ 32 - 1) (10 ^ 10) (lit≤ tt) };
+
+    ghost decimal_width_needed = { lit≤ tt };
+
+    fn in_range(self) {}
+}
+
+impl LexicalInteger for u64 {
+    const BITS: usize = 64;
+
+    const DECIMAL_WIDTH: usize = 20;
+
+    ghost BITS = { 64 };
+
+    ghost DECIMAL_WIDTH = { 20 };
+
+    ghost number = { pos };
+
+    ghost least = { pos 0 };
+
+    ghost greatest = { pos (2 ^ 64 - 1) };
+
+    ghost decimal_width_enough = { unsigned_below (2 ^ 64 - 1) (10 ^ 20) (lit≤ tt) };
+
+    ghost decimal_width_needed = { lit≤ tt };
+
+    fn in_range(self) {}
+}
+
+impl LexicalInteger for usize {
+    const BITS: usize = 64;
+
+    const DECIMAL_WIDTH: usize = 20;
+
+    ghost BITS = { 64 };
+
+    ghost DECIMAL_WIDTH = { 20 };
+
+    ghost number = { pos };
+
+    ghost least = { pos 0 };
+
+    ghost greatest = { pos (2 ^ 64 - 1) };
+
+    ghost decimal_width_enough = { unsigned_below (2 ^ 64 - 1) (10 ^ 20) (lit≤ tt) };
+
+    ghost decimal_width_needed = { lit≤ tt };
+
+    fn in_range(self) {}
+}
+
+impl LexicalInteger for i8 {
+    const BITS: usize = 8;
+
+    const DECIMAL_WIDTH: usize = 3;
+
+    ghost BITS = { 8 };
+
+    ghost DECIMAL_WIDTH = { 3 };
+
+    ghost number = { λ n. n };
+
+    ghost least = { negsuc (2 ^ 7 - 1) };
+
+    ghost greatest = { pos (2 ^ 7 - 1) };
+
+    ghost decimal_width_enough = { signed_below (2 ^ 7 - 1) (10 ^ 3) (lit≤ tt) };
+
+    ghost decimal_width_needed = { lit≤ tt };
+
+    fn in_range(self) {}
+}
+
+impl LexicalInteger for i16 {
+    const BITS: usize = 16;
+
+    const DECIMAL_WIDTH: usize = 5;
+
+    ghost BITS = { 16 };
+
+    ghost DECIMAL_WIDTH = { 5 };
+
+    ghost number = { λ n. n };
+
+    ghost least = { negsuc (2 ^ 15 - 1) };
+
+    ghost greatest = { pos (2 ^ 15 - 1) };
+
+    ghost decimal_width_enough = { signed_below (2 ^ 15 - 1) (10 ^ 5) (lit≤ tt) };
+
+    ghost decimal_width_needed = { lit≤ tt };
+
+    fn in_range(self) {}
+}
+
+impl LexicalInteger for i32 {
+    const BITS: usize = 32;
+
+    const DECIMAL_WIDTH: usize = 10;
+
+    ghost BITS = { 32 };
+
+    ghost DECIMAL_WIDTH = { 10 };
+
+    ghost number = { λ n. n };
+
+    ghost least = { negsuc (2 ^ 31 - 1) };
+
+    ghost greatest = { pos (2 ^ 31 - 1) };
+
+    ghost decimal_width_enough = { signed_below (2 ^ 31 - 1) (10 ^ 10) (lit≤ tt) };
+
+    ghost decimal_width_needed = { lit≤ tt };
+
+    fn in_range(self) {}
+}
+
+impl LexicalInteger for i64 {
+    const BITS: usize = 64;
+
+    const DECIMAL_WIDTH: usize = 19;
+
+    ghost BITS = { 64 };
+
+    ghost DECIMAL_WIDTH = { 19 };
+
+    ghost number = { λ n. n };
+
+    ghost least = { negsuc (2 ^ 63 - 1) };
+
+    ghost greatest = { pos (2 ^ 63 - 1) };
+
+    ghost decimal_width_enough = { signed_below (2 ^ 63 - 1) (10 ^ 19) (lit≤ tt) };
+
+    ghost decimal_width_needed = { lit≤ tt };
+
+    fn in_range(self) {}
+}
+
+impl LexicalInteger for isize {
+    const BITS: usize = 64;
+
+    const DECIMAL_WIDTH: usize = 19;
+
+    ghost BITS = { 64 };
+
+    ghost DECIMAL_WIDTH = { 19 };
+
+    ghost number = { λ n. n };
+
+    ghost least = { negsuc (2 ^ 63 - 1) };
+
+    ghost greatest = { pos (2 ^ 63 - 1) };
+
+    ghost decimal_width_enough = { signed_below (2 ^ 63 - 1) (10 ^ 19) (lit≤ tt) };
+
+    ghost decimal_width_needed = { lit≤ tt };
+
+    fn in_range(self) {}
+}
+
+/// An unsigned integer type, with the arithmetic that writing digits takes.
+pub trait UnsignedInteger: LexicalInteger {
+    // The value as a natural number.
+    ghost magnitude: { Self → ℕ };
+
+    /// The value of a number that the type has.
+    fn from_u32(value: u32) -> Self
+        requires { value < 2 ^ Self.BITS }
+        ensures { magnitude result ≡ value };
+
+    /// The number as a `u32`, which it fits.
+    fn as_u32(self) -> u32
+        requires { magnitude self < 2 ^ 32 }
+        ensures { result ≡ magnitude self };
+
+    /// The number as a `usize`, which each number of the type fits.
+    fn as_usize(self) -> usize
+        ensures { result ≡ magnitude self };
+
+    /// The quotient and the remainder of a division by a number other than 0.
+    fn div_rem(self, by: Self) -> (Self, Self)
+        requires { 0 < magnitude by }
+        ensures quotient { magnitude result.0 ≡ magnitude self / magnitude by }
+        ensures remainder { magnitude result.1 ≡ magnitude self % magnitude by };
+
+    /// Whether the number is `other` or greater.
+    fn is_at_least(self, other: Self) -> bool
+        ensures { IsTrue result ↔ (magnitude other ≤ magnitude self) };
+
+    /// The number of zero bits above the highest bit that is set: all bits of 0.
+    fn leading_zeros(self) -> u32
+        ensures of_zero { magnitude self ≡ 0 → result ≡ Self.BITS }
+        ensures within { 0 < magnitude self → result < Self.BITS }
+        ensures zeros_above { magnitude self < 2 ^ (Self.BITS - result) }
+        ensures highest_set { 0 < magnitude self → 2 ^ (Self.BITS - 1 - result) ≤ magnitude self };
+
+    ghost number_is_magnitude: { (x : Self) → Self.number x ≡ pos (magnitude x) };
+
+    ghost least_is_zero: { Self.least ≡ pos 0 };
+
+    ghost greatest_by_bits: { Self.greatest ≡ pos (2 ^ Self.BITS - 1) };
+
+    ghost same_number: { (x y : Self) → Self.number x ≡ Self.number y → x ≡ y };
+
+    ghost width_of_bits: { IsWidth Self.BITS };
+}
+
+impl UnsignedInteger for u8 {
+    ghost magnitude = { λ n. n };
+
+    ghost number_is_magnitude = { λ _. refl };
+
+    ghost least_is_zero = { refl };
+
+    ghost greatest_by_bits = { refl };
+
+    ghost same_number = { pos-injective };
+
+    ghost width_of_bits = { is_8 };
+
+    fn from_u32(value: u32) -> u8 {
+        value as u8
+    }
+
+    fn as_u32(self) -> u32 {
+        self as u32
+    }
+
+    fn as_usize(self) -> usize {
+        self as usize
+    }
+
+    fn div_rem(self, by: u8) -> (u8, u8) {
+        (self / by, self % by)
+    }
+
+    fn is_at_least(self, other: u8) -> bool {
+        self >= other
+    }
+
+    #[tactic(auto, using(crate::proofs::LeadingZeros::leading_zeros))]
+    fn leading_zeros(self) -> u32 {
+        u8::leading_zeros(self)
+    }
+}
+
+impl UnsignedInteger for u16 {
+    ghost magnitude = { λ n. n };
+
+    ghost number_is_magnitude = { λ _. refl };
+
+    ghost least_is_zero = { refl };
+
+    ghost greatest_by_bits = { refl };
+
+    ghost same_number = { pos-injective };
+
+    ghost width_of_bits = { is_16 };
+
+    fn from_u32(value: u32) -> u16 {
+        value as u16
+    }
+
+    fn as_u32(self) -> u32 {
+        self as u32
+    }
+
+    fn as_usize(self) -> usize {
+        self as usize
+    }
+
+    fn div_rem(self, by: u16) -> (u16, u16) {
+        (self / by, self % by)
+    }
+
+    fn is_at_least(self, other: u16) -> bool {
+        self >= other
+    }
+
+    #[tactic(auto, using(crate::proofs::LeadingZeros::leading_zeros))]
+    fn leading_zeros(self) -> u32 {
+        u16::leading_zeros(self)
+    }
+}
+
+impl UnsignedInteger for u32 {
+    ghost magnitude = { λ n. n };
+
+    ghost number_is_magnitude = { λ _. refl };
+
+    ghost least_is_zero = { refl };
+
+    ghost greatest_by_bits = { refl };
+
+    ghost same_number = { pos-injective };
+
+    ghost width_of_bits = { is_32 };
+
+    fn from_u32(value: u32) -> u32 {
+        value
+    }
+
+    fn as_u32(self) -> u32 {
+        self
+    }
+
+    fn as_usize(self) -> usize {
+        self as usize
+    }
+
+    fn div_rem(self, by: u32) -> (u32, u32) {
+        (self / by, self % by)
+    }
+
+    fn is_at_least(self, other: u32) -> bool {
+        self >= other
+    }
+
+    #[tactic(auto, using(crate::proofs::LeadingZeros::leading_zeros))]
+    fn leading_zeros(self) -> u32 {
+        u32::leading_zeros(self)
+    }
+}
+
+impl UnsignedInteger for u64 {
+    ghost magnitude = { λ n. n };
+
+    ghost number_is_magnitude = { λ _. refl };
+
+    ghost least_is_zero = { refl };
+
+    ghost greatest_by_bits = { refl };
+
+    ghost same_number = { pos-injective };
+
+    ghost width_of_bits = { is_64 };
+
+    fn from_u32(value: u32) -> u64 {
+        value as u64
+    }
+
+    fn as_u32(self) -> u32 {
+        self as u32
+    }
+
+    fn as_usize(self) -> usize {
+        self as usize
+    }
+
+    fn div_rem(self, by: u64) -> (u64, u64) {
+        (self / by, self % by)
+    }
+
+    fn is_at_least(self, other: u64) -> bool {
+        self >= other
+    }
+
+    #[tactic(auto, using(crate::proofs::LeadingZeros::leading_zeros))]
+    fn leading_zeros(self) -> u32 {
+        u64::leading_zeros(self)
+    }
+}
+
+impl UnsignedInteger for usize {
+    ghost magnitude = { λ n. n };
+
+    ghost number_is_magnitude = { λ _. refl };
+
+    ghost least_is_zero = { refl };
+
+    ghost greatest_by_bits = { refl };
+
+    ghost same_number = { pos-injective };
+
+    ghost width_of_bits = { is_64 };
+
+    fn from_u32(value: u32) -> usize {
+        value as usize
+    }
+
+    fn as_u32(self) -> u32 {
+        self as u32
+    }
+
+    fn as_usize(self) -> usize {
+        self
+    }
+
+    fn div_rem(self, by: usize) -> (usize, usize) {
+        (self / by, self % by)
+    }
+
+    fn is_at_least(self, other: usize) -> bool {
+        self >= other
+    }
+
+    #[tactic(auto, using(crate::proofs::LeadingZeros::leading_zeros))]
+    fn leading_zeros(self) -> u32 {
+        usize::leading_zeros(self)
+    }
+}

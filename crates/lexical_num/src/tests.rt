@@ -1,0 +1,188 @@
+ghost use Rattle.std.specs.Prelude.{◌≡◌, ◌↔◌, ◌^◌, ◌<◌, IsTrue};
+
+use crate::constants::{BUFFER_SIZE, FormattedSize};
+use crate::digit::digit_to_char;
+use crate::error::Error;
+use crate::format::{NumberFormat, STANDARD};
+use crate::format_builder::NumberFormatBuilder;
+use crate::num::{LexicalInteger, UnsignedInteger};
+use std::test::Fail;
+
+// What a caller has of each type through the bounds alone.
+
+fn sizes<T: LexicalInteger + FormattedSize>(value: T) -> [usize; 4] {
+    value.in_range();
+    [
+        T::BITS,
+        T::DECIMAL_WIDTH,
+        T::FORMATTED_SIZE_DECIMAL,
+        T::FORMATTED_SIZE,
+    ]
+}
+
+fn divided<T: UnsignedInteger>(value: T, by: T) -> (usize, usize)
+    requires { 0 < T.magnitude by }
+{
+    let (quotient, remainder) = value.div_rem(by);
+    (quotient.as_usize(), remainder.as_usize())
+}
+
+fn through<T: UnsignedInteger>(value: u32) -> u32
+    requires { value < 2 ^ T.BITS }
+    ensures { result ≡ value }
+{
+    T::from_u32(value).as_u32()
+}
+
+fn zeros_above<T: UnsignedInteger>(value: T) -> u32 {
+    value.leading_zeros()
+}
+
+fn compared<T: UnsignedInteger>(below: T, above: T) -> [bool; 3] {
+    [
+        below.is_at_least(above),
+        above.is_at_least(above),
+        above.is_at_least(below),
+    ]
+}
+
+// Two formats, and two builders, are equal where their parts are.
+
+fn same_format(a: &NumberFormat, b: &NumberFormat) -> bool
+    ensures { IsTrue result ↔ (a.now ≡ b.now) }
+{
+    a == b
+}
+
+fn same_builder(a: &NumberFormatBuilder, b: &NumberFormatBuilder) -> bool
+    ensures { IsTrue result ↔ (a.now ≡ b.now) }
+{
+    a == b
+}
+
+fn built(mantissa: u8, exponent: u8) -> Result<NumberFormat, Error> {
+    NumberFormatBuilder::new()
+        .mantissa_radix(mantissa)
+        .exponent_radix(exponent)
+        .build()
+}
+
+#[test]
+fn sizes_of_the_types(rt: HostRuntime) {
+    assert_eq!(rt; sizes(0u8), [8, 3, 3, 16]);
+    assert_eq!(rt; sizes(0u16), [16, 5, 5, 32]);
+    assert_eq!(rt; sizes(0u32), [32, 10, 10, 64]);
+    assert_eq!(rt; sizes(0u64), [64, 20, 20, 128]);
+    assert_eq!(rt; sizes(0usize), [64, 20, 20, 128]);
+    assert_eq!(rt; sizes(0i8), [8, 3, 4, 16]);
+    assert_eq!(rt; sizes(0i16), [16, 5, 6, 32]);
+    assert_eq!(rt; sizes(0i32), [32, 10, 11, 64]);
+    assert_eq!(rt; sizes(0i64), [64, 19, 20, 128]);
+    assert_eq!(rt; sizes(0isize), [64, 19, 20, 128]);
+    assert_eq!(rt; BUFFER_SIZE, 128);
+}
+
+#[test]
+fn arithmetic_of_the_types(rt: HostRuntime) {
+    assert_eq!(rt; 255u8.div_rem(16), (15, 15));
+    assert_eq!(rt; divided(255u8, 16), (15, 15));
+    assert_eq!(rt; divided(65535u16, 1000), (65, 535));
+    assert_eq!(rt; divided(4294967295u32, 4294967295), (1, 0));
+    assert_eq!(rt;
+        divided(18446744073709551615u64, 10),
+        (1844674407370955161, 5)
+    );
+    assert_eq!(rt; divided(7usize, 8), (0, 7));
+    assert_eq!(rt; through::<u8>(255), 255);
+    assert_eq!(rt; through::<u16>(65535), 65535);
+    assert_eq!(rt; through::<u32>(4294967295), 4294967295);
+    assert_eq!(rt; through::<u64>(4294967295), 4294967295);
+    assert_eq!(rt; through::<usize>(0), 0);
+}
+
+#[test]
+fn comparisons_and_zeros_of_the_types(rt: HostRuntime) {
+    assert_eq!(rt; compared(1u8, 2), [false, true, true]);
+    assert_eq!(rt; compared(0u16, 65535), [false, true, true]);
+    assert_eq!(rt; compared(9u32, 10), [false, true, true]);
+    assert_eq!(rt; compared(4294967295u64, 4294967296), [false, true, true]);
+    assert_eq!(rt; compared(0usize, 1), [false, true, true]);
+    assert_eq!(rt; UnsignedInteger::leading_zeros(0u16), 16);
+    assert_eq!(rt; UnsignedInteger::leading_zeros(1u64), 63);
+    assert_eq!(rt; zeros_above(255u8), 0);
+    assert_eq!(rt; zeros_above(1u16), 15);
+    assert_eq!(rt; zeros_above(65536u32), 15);
+    assert_eq!(rt; zeros_above(0u64), 64);
+    assert_eq!(rt; zeros_above(0usize), 64);
+}
+
+#[test]
+fn characters_of_digits(rt: HostRuntime) {
+    let characters = b"0123456789ABCDEFGHIJKLMNOPQRSTUVWXYZ";
+    for digit in 0..36u32 {
+        assert_eq!(rt; digit_to_char(digit), characters[digit as usize]);
+    }
+}
+
+#[test]
+fn build_tells_the_first_fault(rt: HostRuntime) -> Result<(), Fail> {
+    let faults = [
+        (1, 10, "invalid mantissa radix 1"),
+        (10, 37, "invalid exponent radix 37"),
+        (0, 0, "invalid mantissa radix 0"),
+        (37, 10, "invalid mantissa radix 37"),
+        (36, 1, "invalid exponent radix 1"),
+        (255, 0, "invalid mantissa radix 255"),
+        (10, 0, "invalid exponent radix 0"),
+    ];
+    for (mantissa, exponent, message) in faults {
+        let Err(error) = built(mantissa, exponent) else {
+            panic!(rt; "{mantissa} and {exponent} were built");
+        };
+        assert_eq!(rt; error.to_string(rt.alloc())?.as_str(), message);
+    }
+    Ok(())
+}
+
+#[test]
+fn build_keeps_the_parts(rt: HostRuntime) -> Result<(), Fail> {
+    let format = built(2, 36)?;
+    assert_eq!(rt; format.radix(), 2);
+    assert_eq!(rt; format.mantissa_radix(), 2);
+    assert_eq!(rt; format.exponent_radix(), 36);
+    assert!(rt; !format.required_mantissa_sign());
+    assert!(rt; format.is_valid());
+    let signed = NumberFormatBuilder::new()
+        .required_mantissa_sign(true)
+        .build_strict();
+    assert!(rt; signed.required_mantissa_sign());
+    assert!(rt; !same_format(&signed, &STANDARD));
+    assert!(rt; same_format(&built(10, 10)?, &STANDARD));
+    assert!(rt; same_format(&NumberFormatBuilder::binary(), &built(2, 2)?));
+    Ok(())
+}
+
+#[test]
+fn mantissa_and_exponent_stand_apart(rt: HostRuntime) -> Result<(), Fail> {
+    let mantissa_alone = NumberFormatBuilder::new().radix(16).build()?;
+    let both = NumberFormatBuilder::from_radix(16);
+    assert_eq!(rt; mantissa_alone.mantissa_radix(), 16);
+    assert_eq!(rt; mantissa_alone.exponent_radix(), 10);
+    assert_eq!(rt; both.mantissa_radix(), 16);
+    assert_eq!(rt; both.exponent_radix(), 16);
+    assert!(rt; !same_format(&mantissa_alone, &both));
+    Ok(())
+}
+
+#[test]
+fn a_builder_is_used_again(rt: HostRuntime) -> Result<(), Fail> {
+    let builder = NumberFormatBuilder::default().mantissa_radix(1);
+    assert!(rt; matches!(&builder.build(), Err(Error::InvalidMantissaRadix(1))));
+    assert!(rt; matches!(&builder.build(), Err(Error::InvalidMantissaRadix(1))));
+    let format = builder.mantissa_radix(2).build()?;
+    assert_eq!(rt; format.mantissa_radix(), 2);
+    assert_eq!(rt; format.exponent_radix(), 10);
+    assert!(rt; !same_builder(&builder, &NumberFormatBuilder::new()));
+    assert!(rt; same_builder(&NumberFormatBuilder::default(), &NumberFormatBuilder::new()));
+    Ok(())
+}
