@@ -131,7 +131,7 @@ impl Default for NumberFormatBuilder {
     ghost is_default = { λ builder. builder ≡ standard };
 
     fn default() -> Self {
-        Self::new()
+        NumberFormatBuilder::new()
     }
 }
 

@@ -438,10 +438,12 @@ impl UnsignedInteger for u64 {
     }
 
     fn as_u32(self) -> u32 {
+        // The caller has shown that the number fits.
         self as u32
     }
 
     fn as_usize(self) -> usize {
+        // A `usize` has 64 bits.
         self as usize
     }
 
