@@ -301,6 +301,13 @@ pub trait UnsignedInteger: LexicalInteger {
     ghost same_number: { (x y : Self) → Self.number x ≡ Self.number y → x ≡ y };
 
     ghost width_of_bits: { IsWidth Self.BITS };
+
+    /// Does nothing: its contract tells generic code that the bits of the type hold the number.
+    final fn fits_bits(self)
+        ensures { magnitude self < 2 ^ Self.BITS }
+    {
+        self.in_range();
+    }
 }
 
 impl UnsignedInteger for u8 {

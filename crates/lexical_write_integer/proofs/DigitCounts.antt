@@ -1,0 +1,131 @@
+-- How many digits a number has: the least exponent, from both sides, and what a division by a power of the radix leaves.
+use Rattle.std.proofs.Common.{◌≡◌, ℕ, zero, suc, ◌+◌, ◌-◌, ◌*◌, ◌/◌, ◌^◌, ◌<◌, ◌≤◌, ltb, sym, ap, ◌∙◌, inl, inr, arith}
+use Rattle.std.proofs.Math.Nat.{pow-zero, pow-suc, pow-le-pow_right, pow-le-pow_left, mul-le-mul_left, mul-le-mul_right, one-le-pow, div-lt_iff_lt-mul, div-mul-le_self, div-one, div-div-eq-div-mul, mul_comm}
+use Rattle.std.proofs.lemmas.Bool.{cases_lt, cases_eq, ltb-true, ltb-false, cond_both}
+use Rattle.std.proofs.lemmas.Nat.{pow-add}
+use Rattle.lexical_num.specs.Width.{IsWidth, is_8, is_16, is_32, is_64}
+use Rattle.lexical_write_integer.specs.Numeral.{digit_count, least_exponent}
+use Rattle.lexical_write_integer.proofs.Values.{pow-one}
+
+-- a number is below 2 to itself, and so below any larger radix to itself
+lt-pow_self : (r n : ℕ) → 2 ≤ r → n < r ^ n
+lt-pow_self r zero two = omega (arith, pow-zero r)
+lt-pow_self r (suc n) two = omega (arith, lt-pow_self r n two, pow-suc r n, mul-le-mul_left (r ^ n) two)
+
+pub pow-lt_more : (r i j : ℕ) → 2 ≤ r → i < j → r ^ i < r ^ j
+pow-lt_more r i (suc j) two less =
+    omega (arith, pow-le-pow_right {n = r} (omega arith) {i = i} {j = j} (omega arith), pow-suc r j, mul-le-mul_left (r ^ j) two, one-le-pow j r (omega arith))
+pow-lt_more r i zero two less = absurd (omega arith)
+
+-- ---- the least exponent
+
+least_exponent-ge : (r number n steps : ℕ) → n ≤ least_exponent r number n steps
+unfolding least_exponent
+least_exponent-ge r number n zero = omega arith
+least_exponent-ge r number n (suc steps) =
+    cond_both (ltb number (r ^ n)) n (least_exponent r number (suc n) steps) (λ k. n ≤ k) (λ e. omega arith) (λ e. omega (arith, least_exponent-ge r number (suc n) steps))
+
+least_exponent-fits : (r number n steps : ℕ) → number < r ^ (n + steps) → number < r ^ least_exponent r number n steps
+unfolding least_exponent
+least_exponent-fits r number n zero fits = let e : n + 0 ≡ n = omega arith in rw e at fits
+least_exponent-fits r number n (suc steps) fits =
+    cond_both (ltb number (r ^ n)) n (least_exponent r number (suc n) steps) (λ k. number < r ^ k)
+    (ltb-true number (r ^ n))
+    (λ _. let e : n + suc steps ≡ suc n + steps = omega arith in least_exponent-fits r number (suc n) steps (rw e at fits))
+
+least_exponent-le : (r number n steps m : ℕ) → n ≤ m → number < r ^ m → least_exponent r number n steps ≤ m
+unfolding least_exponent
+least_exponent-le r number n zero m most fits = most
+least_exponent-le r number n (suc steps) m most fits =
+    cond_both (ltb number (r ^ n)) n (least_exponent r number (suc n) steps) (λ k. k ≤ m)
+    (λ _. most)
+    (λ e. elim (cases_eq n m) [
+      | inl same ↦ absurd (omega (arith, rw same at (ltb-false number (r ^ n) e)))
+      | inr other ↦ least_exponent-le r number (suc n) steps m (omega arith) fits
+    ])
+
+-- ---- both sides of the count
+
+pub digit_count-pos : (r number : ℕ) → 1 ≤ digit_count r number
+unfolding digit_count
+digit_count-pos r number = least_exponent-ge r number 1 number
+
+pub digit_count-fits : (r number : ℕ) → 2 ≤ r → number < r ^ digit_count r number
+unfolding digit_count
+digit_count-fits r number two =
+    least_exponent-fits r number 1 number (omega (arith, lt-pow_self r number two, pow-lt_more r number (1 + number) two (omega arith)))
+
+pub digit_count-le : (r number m : ℕ) → 1 ≤ m → number < r ^ m → digit_count r number ≤ m
+unfolding digit_count
+digit_count-le r number m = least_exponent-le r number 1 number m
+
+pub digit_count-full : (r n : ℕ) → 2 ≤ r → 1 < digit_count r n → r ^ (digit_count r n - 1) ≤ n
+digit_count-full r n two long =
+    elim (cases_lt n (r ^ (digit_count r n - 1))) [
+      | inl less ↦ absurd (omega (arith, digit_count-le r n (digit_count r n - 1) (omega arith) less))
+      | inr more ↦ more
+    ]
+
+-- a count that both sides allow is the count
+pub digit_count-is : (r number n : ℕ) → 2 ≤ r → 1 ≤ n → number < r ^ n → (1 < n → r ^ (n - 1) ≤ number) → digit_count r number ≡ n
+digit_count-is r number n two pos fits full =
+    elim (cases_lt (digit_count r number) n) [
+      | inl less ↦
+          let one = digit_count-pos r number in
+          let below = pow-le-pow_right {n = r} (omega arith) {i = digit_count r number} {j = n - 1} (omega arith) in
+          let fit = digit_count-fits r number two in
+          absurd (omega (arith, full (omega arith)))
+      | inr more ↦ omega (arith, digit_count-le r number n pos fits)
+    ]
+
+pub digit_count-one : (r n : ℕ) → 2 ≤ r → n < r → digit_count r n ≡ 1
+digit_count-one r n two short = digit_count-is r n 1 two (omega arith) (rw pow-one short) (λ more. absurd (omega arith))
+
+-- ---- what divisions leave
+
+-- a division by the radix to `count` takes `count` digits off a number that has more
+pub digit_count-split : (r count n : ℕ) → 2 ≤ r → r ^ count ≤ n → digit_count r n ≡ digit_count r (n / r ^ count) + count
+digit_count-split r count n two long =
+    let p = r ^ count in
+    let q = n / p in
+    let c = digit_count r q in
+    let some : 0 < p = one-le-pow count r (omega arith) in
+    let fits : n < r ^ (c + count) = rw (pow-add r c count) ((div-lt_iff_lt-mul some).0 (digit_count-fits r q two)) in
+    let full : 1 < c + count → r ^ (c + count - 1) ≤ n =
+    λ _. elim (cases_lt 1 c) [
+      | inl more ↦
+          let e : c + count - 1 ≡ (c - 1) + count = omega arith in
+          let first : r ^ (c - 1) * p ≤ q * p = mul-le-mul_right p (digit_count-full r q two more) in
+          rw (e, pow-add r (c - 1) count) (omega (arith, div-mul-le_self n p))
+      | inr one ↦ let e : c + count - 1 ≡ count = omega (arith, digit_count-pos r q) in rw e long
+    ] in
+    digit_count-is r n (c + count) two (omega (arith, digit_count-pos r q)) fits full
+
+-- the same, from how many digits there are
+pub digit_count-left : (r n taken left : ℕ) → 2 ≤ r → taken < digit_count r n → left ≡ n / r ^ taken → digit_count r left + taken ≡ digit_count r n
+digit_count-left r n zero left two fewer is = rw (is, pow-zero, div-one) (omega arith)
+digit_count-left r n (suc taken) left two fewer is =
+    let power = pow-le-pow_right {n = r} (omega arith) {i = suc taken} {j = digit_count r n - 1} (omega arith) in
+    rw is (sym (digit_count-split r (suc taken) n two (omega (arith, digit_count-full r n two (omega arith)))))
+
+-- a number that the radix to `count` does not hold has more digits than `count`
+pub digit_count-more : (r count n : ℕ) → 2 ≤ r → r ^ count ≤ n → count < digit_count r n
+digit_count-more r count n two long = omega (arith, digit_count-split r count n two long, digit_count-pos r (n / r ^ count))
+
+-- a division more
+pub div-pow_more : (r n step taken : ℕ) → n / r ^ taken / r ^ step ≡ n / r ^ (step + taken)
+div-pow_more r n step taken =
+    div-div-eq-div-mul n (r ^ taken) (r ^ step) ∙ ap (λ p. n / p) (mul_comm (r ^ taken) (r ^ step) ∙ sym (pow-add r step taken))
+
+-- ---- the numbers of a type
+
+-- no radix needs more digits than binary
+pub digit_count-le_bits : (r n bits : ℕ) → 2 ≤ r → 1 ≤ bits → n < 2 ^ bits → digit_count r n ≤ bits
+digit_count-le_bits r n bits two one fits = digit_count-le r n bits one (omega (arith, pow-le-pow_left {n = 2} {m = r} two bits))
+
+-- no number of a type has more than 64 digits
+pub digit_count-le_64 : (r n bits : ℕ) → 2 ≤ r → IsWidth bits → n < 2 ^ bits → digit_count r n ≤ 64
+digit_count-le_64 r n bits two is_8 fits = omega (arith, digit_count-le_bits r n 8 two (omega arith) fits)
+digit_count-le_64 r n bits two is_16 fits = omega (arith, digit_count-le_bits r n 16 two (omega arith) fits)
+digit_count-le_64 r n bits two is_32 fits = omega (arith, digit_count-le_bits r n 32 two (omega arith) fits)
+digit_count-le_64 r n bits two is_64 fits = digit_count-le_bits r n 64 two (omega arith) fits

@@ -1,0 +1,4 @@
+pub mod Blocks
+pub mod DigitCounts
+pub mod Numerals
+pub mod Values

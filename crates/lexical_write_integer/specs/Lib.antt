@@ -1,0 +1,4 @@
+pub mod Buffer
+pub mod Lending
+pub mod Numeral
+pub mod Text

@@ -1,0 +1,25 @@
+-- The texts of numbers, and the room that a caller lends for them.
+use Rattle.std.specs.Prelude.{◌≡◌, ℕ, ◌+◌, List, ◌++◌, length, map, ℤ, unsigned_abs, if◌then◌else◌, ◌==◌}
+use Rattle.lexical_num.specs.Digit.{digit_char}
+use Rattle.lexical_num.specs.Format.{Format}
+use Rattle.lexical_num.specs.Sign.{sign_of}
+use Rattle.lexical_write_integer.specs.Numeral.{IsNumeralOf, digit_count}
+
+-- the characters of the numeral of a number
+pub record IsDigits (r number : ℕ) (text : List ℕ) : Type 0 where
+  pub digits : List ℕ
+  pub numeral : IsNumeralOf r number digits
+  pub characters : text ≡ map digit_char digits
+
+-- the sign of a number, and then the digits of its magnitude
+pub record IsText (number : ℤ) (format : Format) (text : List ℕ) : Type 0 where
+  pub digits : List ℕ
+  pub magnitude : IsDigits format.mantissa_radix (unsigned_abs number) digits
+  pub whole : text ≡ sign_of number format.required_mantissa_sign ++ digits
+
+-- how many bytes a caller lends for a number of a type with so many decimal digits: the sign, and in radix 10 the full
+-- width of the type, else the digits of the magnitude
+abbrev pub need : ℤ → ℕ → Format → ℕ
+need number decimal_width format =
+    length (sign_of number format.required_mantissa_sign)
+    + (if format.mantissa_radix == 10 then decimal_width else digit_count format.mantissa_radix (unsigned_abs number))

@@ -1,0 +1,61 @@
+//! The laws of numerals. Each function does nothing: its contract is a law over the definitions,
+//! which a caller has from the call.
+
+ghost use Rattle.std.specs.Prelude.{◌≡◌, ℕ, ◌+◌, ◌*◌, ◌/◌, ◌%◌, ◌^◌, ◌<◌, ◌≤◌, List, ◌++◌, length};
+ghost use Rattle.lexical_num.specs.Format.{IsRadix};
+ghost use Rattle.lexical_write_integer.specs.Numeral.{IsNumeral, IsNumeralOf, IsBlockOf, value_of, digit_count};
+ghost use Rattle.lexical_write_integer.specs.Text.{IsDigits};
+
+/// The digit count of a number is the least count, of 1 or more, whose power of the radix the
+/// number is below. It is at most 64.
+pub fn digit_count_is_least(radix: u32, value: u64)
+    requires { IsRadix radix }
+    ensures at_least_one { 1 ≤ digit_count radix value }
+    ensures fits { value < radix ^ digit_count radix value }
+    ensures least { (count : ℕ) → 1 ≤ count → value < radix ^ count
+        → digit_count radix value ≤ count }
+    ensures at_most_64 { digit_count radix value ≤ 64 }
+{}
+
+/// Every number has a numeral, of as many digits as its digit count.
+pub fn numeral_exists(radix: u32, value: u64)
+    requires { IsRadix radix }
+    ensures { (digits : List ℕ) × IsNumeralOf radix value digits
+        × (length digits ≡ digit_count radix value) }
+{}
+
+/// Two numerals in one radix with one value are the same list.
+pub fn numeral_unique(radix: u32, a: &[u8], b: &[u8])
+    requires radix { IsRadix radix }
+    requires a { IsNumeral radix a.now }
+    requires b { IsNumeral radix b.now }
+    requires same { value_of radix a.now ≡ value_of radix b.now }
+    ensures { a.now ≡ b.now }
+{}
+
+/// A number has one text in a radix, whose length is its digit count.
+pub fn digits_unique(radix: u32, value: u64, a: &[u8], b: &[u8])
+    requires radix { IsRadix radix }
+    requires a { IsDigits radix value a.now }
+    requires b { IsDigits radix value b.now }
+    ensures same { a.now ≡ b.now }
+    ensures count { length a.now ≡ digit_count radix value }
+{}
+
+/// The value of two lists of digits, one behind the other.
+pub fn value_of_append(radix: u32, front: &[u8], back: &[u8])
+    ensures { value_of radix (front.now ++ back.now)
+        ≡ value_of radix front.now * radix ^ length back.now + value_of radix back.now }
+{}
+
+/// The numeral of a number that is not below the radix to `count` is the numeral of its quotient
+/// by that, and then `count` digits with the remainder as their value.
+pub fn numeral_split(radix: u32, count: u32, value: u64)
+    requires radix { IsRadix radix }
+    requires long { radix ^ count ≤ value }
+    ensures numeral { (front back : List ℕ) → IsNumeralOf radix (value / radix ^ count) front
+        → IsBlockOf radix count (value % radix ^ count) back
+        → IsNumeralOf radix value (front ++ back) }
+    ensures digits { digit_count radix value
+        ≡ digit_count radix (value / radix ^ count) + count }
+{}
