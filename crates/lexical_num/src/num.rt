@@ -1,9 +1,9 @@
 //! The integer types, as contracts and generic code see them.
 
-ghost use Rattle.std.specs.Prelude.{◌≡◌, ℕ, ℤ, pos, negsuc, unsigned_abs, ◌-◌, ◌/◌, ◌%◌, ◌^◌, ◌<◌, ◌≤◌, ◌≤ℤ◌, ◌↔◌, IsTrue, refl};
+ghost use Rattle.std.specs.Prelude.{◌≡◌, ℕ, ℤ, pos, negsuc, ◌-◌, ◌/◌, ◌%◌, ◌^◌, ◌<◌, ◌≤◌, ◌≤ℤ◌, ◌↔◌, IsTrue, refl};
 ghost use Rattle.std.proofs.Common.{rules, lit≤};
+ghost use Rattle.lexical_num.specs.DecimalWidth.{IsDecimalWidth, unsigned_decimal_width, signed_decimal_width};
 ghost use Rattle.lexical_num.specs.Width.{IsWidth, is_8, is_16, is_32, is_64};
-ghost use Rattle.lexical_num.specs.Magnitudes.{unsigned_below, signed_below, pos-injective};
 
 /// An integer type whose numbers can be written.
 pub trait LexicalInteger: Copy {
@@ -30,10 +30,7 @@ pub trait LexicalInteger: Copy {
         ensures at_least { least ≤ℤ number self }
         ensures at_most { number self ≤ℤ greatest };
 
-    // No number of the type has more decimal digits, and the greatest has as many.
-    ghost decimal_width_enough: { (n : ℤ) → least ≤ℤ n → n ≤ℤ greatest → unsigned_abs n < 10 ^ DECIMAL_WIDTH };
-
-    ghost decimal_width_needed: { 10 ^ (DECIMAL_WIDTH - 1) ≤ unsigned_abs greatest };
+    ghost decimal_width: { IsDecimalWidth least greatest DECIMAL_WIDTH };
 }
 
 impl LexicalInteger for u8 {
@@ -51,9 +48,7 @@ impl LexicalInteger for u8 {
 
     ghost greatest = { pos (2 ^ 8 - 1) };
 
-    ghost decimal_width_enough = { unsigned_below (2 ^ 8 - 1) (10 ^ 3) (lit≤ tt) };
-
-    ghost decimal_width_needed = { lit≤ tt };
+    ghost decimal_width = { unsigned_decimal_width (2 ^ 8 - 1) 3 (lit≤ tt) (lit≤ tt) (lit≤ tt) };
 
     fn in_range(self) {}
 }
@@ -73,9 +68,7 @@ impl LexicalInteger for u16 {
 
     ghost greatest = { pos (2 ^ 16 - 1) };
 
-    ghost decimal_width_enough = { unsigned_below (2 ^ 16 - 1) (10 ^ 5) (lit≤ tt) };
-
-    ghost decimal_width_needed = { lit≤ tt };
+    ghost decimal_width = { unsigned_decimal_width (2 ^ 16 - 1) 5 (lit≤ tt) (lit≤ tt) (lit≤ tt) };
 
     fn in_range(self) {}
 }
@@ -95,9 +88,7 @@ impl LexicalInteger for u32 {
 
     ghost greatest = { pos (2 ^ 32 - 1) };
 
-    ghost decimal_width_enough = { unsigned_below (2 ^ 32 - 1) (10 ^ 10) (lit≤ tt) };
-
-    ghost decimal_width_needed = { lit≤ tt };
+    ghost decimal_width = { unsigned_decimal_width (2 ^ 32 - 1) 10 (lit≤ tt) (lit≤ tt) (lit≤ tt) };
 
     fn in_range(self) {}
 }
@@ -117,9 +108,7 @@ impl LexicalInteger for u64 {
 
     ghost greatest = { pos (2 ^ 64 - 1) };
 
-    ghost decimal_width_enough = { unsigned_below (2 ^ 64 - 1) (10 ^ 20) (lit≤ tt) };
-
-    ghost decimal_width_needed = { lit≤ tt };
+    ghost decimal_width = { unsigned_decimal_width (2 ^ 64 - 1) 20 (lit≤ tt) (lit≤ tt) (lit≤ tt) };
 
     fn in_range(self) {}
 }
@@ -139,9 +128,7 @@ impl LexicalInteger for usize {
 
     ghost greatest = { pos (2 ^ 64 - 1) };
 
-    ghost decimal_width_enough = { unsigned_below (2 ^ 64 - 1) (10 ^ 20) (lit≤ tt) };
-
-    ghost decimal_width_needed = { lit≤ tt };
+    ghost decimal_width = { unsigned_decimal_width (2 ^ 64 - 1) 20 (lit≤ tt) (lit≤ tt) (lit≤ tt) };
 
     fn in_range(self) {}
 }
@@ -161,9 +148,7 @@ impl LexicalInteger for i8 {
 
     ghost greatest = { pos (2 ^ 7 - 1) };
 
-    ghost decimal_width_enough = { signed_below (2 ^ 7 - 1) (10 ^ 3) (lit≤ tt) };
-
-    ghost decimal_width_needed = { lit≤ tt };
+    ghost decimal_width = { signed_decimal_width (2 ^ 7 - 1) 3 (lit≤ tt) (lit≤ tt) (lit≤ tt) };
 
     fn in_range(self) {}
 }
@@ -183,9 +168,7 @@ impl LexicalInteger for i16 {
 
     ghost greatest = { pos (2 ^ 15 - 1) };
 
-    ghost decimal_width_enough = { signed_below (2 ^ 15 - 1) (10 ^ 5) (lit≤ tt) };
-
-    ghost decimal_width_needed = { lit≤ tt };
+    ghost decimal_width = { signed_decimal_width (2 ^ 15 - 1) 5 (lit≤ tt) (lit≤ tt) (lit≤ tt) };
 
     fn in_range(self) {}
 }
@@ -205,9 +188,7 @@ impl LexicalInteger for i32 {
 
     ghost greatest = { pos (2 ^ 31 - 1) };
 
-    ghost decimal_width_enough = { signed_below (2 ^ 31 - 1) (10 ^ 10) (lit≤ tt) };
-
-    ghost decimal_width_needed = { lit≤ tt };
+    ghost decimal_width = { signed_decimal_width (2 ^ 31 - 1) 10 (lit≤ tt) (lit≤ tt) (lit≤ tt) };
 
     fn in_range(self) {}
 }
@@ -227,9 +208,7 @@ impl LexicalInteger for i64 {
 
     ghost greatest = { pos (2 ^ 63 - 1) };
 
-    ghost decimal_width_enough = { signed_below (2 ^ 63 - 1) (10 ^ 19) (lit≤ tt) };
-
-    ghost decimal_width_needed = { lit≤ tt };
+    ghost decimal_width = { signed_decimal_width (2 ^ 63 - 1) 19 (lit≤ tt) (lit≤ tt) (lit≤ tt) };
 
     fn in_range(self) {}
 }
@@ -249,9 +228,7 @@ impl LexicalInteger for isize {
 
     ghost greatest = { pos (2 ^ 63 - 1) };
 
-    ghost decimal_width_enough = { signed_below (2 ^ 63 - 1) (10 ^ 19) (lit≤ tt) };
-
-    ghost decimal_width_needed = { lit≤ tt };
+    ghost decimal_width = { signed_decimal_width (2 ^ 63 - 1) 19 (lit≤ tt) (lit≤ tt) (lit≤ tt) };
 
     fn in_range(self) {}
 }
@@ -319,7 +296,7 @@ impl UnsignedInteger for u8 {
 
     ghost greatest_by_bits = { refl };
 
-    ghost same_number = { pos-injective };
+    ghost same_number = { Prim.search rules };
 
     ghost width_of_bits = { is_8 };
 
@@ -358,7 +335,7 @@ impl UnsignedInteger for u16 {
 
     ghost greatest_by_bits = { refl };
 
-    ghost same_number = { pos-injective };
+    ghost same_number = { Prim.search rules };
 
     ghost width_of_bits = { is_16 };
 
@@ -397,7 +374,7 @@ impl UnsignedInteger for u32 {
 
     ghost greatest_by_bits = { refl };
 
-    ghost same_number = { pos-injective };
+    ghost same_number = { Prim.search rules };
 
     ghost width_of_bits = { is_32 };
 
@@ -436,7 +413,7 @@ impl UnsignedInteger for u64 {
 
     ghost greatest_by_bits = { refl };
 
-    ghost same_number = { pos-injective };
+    ghost same_number = { Prim.search rules };
 
     ghost width_of_bits = { is_64 };
 
@@ -477,7 +454,7 @@ impl UnsignedInteger for usize {
 
     ghost greatest_by_bits = { refl };
 
-    ghost same_number = { pos-injective };
+    ghost same_number = { Prim.search rules };
 
     ghost width_of_bits = { is_64 };
 

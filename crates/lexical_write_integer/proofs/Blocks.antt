@@ -1,5 +1,5 @@
 -- Blocks of digits in a buffer: how they join, and how the digits of a number are made of them.
-use Rattle.std.proofs.Common.{◌≡◌, ℕ, ◌+◌, ◌-◌, ◌*◌, ◌/◌, ◌%◌, ◌^◌, ◌<◌, ◌≤◌, List, [], ◌∷◌, ◌++◌, length, take, drop, set, map, refl, sym, ap, ◌∙◌, arith, add-zero, add_assoc, append_assoc, take-take}
+use Rattle.std.proofs.Common.{◌≡◌, ℕ, ◌+◌, ◌*◌, ◌/◌, ◌%◌, ◌^◌, ◌<◌, ◌≤◌, List, [], ◌∷◌, ◌++◌, length, take, drop, set, map, refl, sym, ap, ◌∙◌, arith, add-zero, add_assoc, append_assoc, take-take}
 use Rattle.std.proofs.Math.Nat.{pow-zero, one-le-pow, mod-one, mod-lt, div-one, div-add-mod', add-mul, mul_assoc}
 use Rattle.std.proofs.lemmas.List.{map-append, append-nil, drop_all, drop-set, take-set}
 use Rattle.std.proofs.lemmas.List.Elements.{All-nil}

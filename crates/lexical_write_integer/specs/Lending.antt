@@ -1,7 +1,7 @@
 -- What a writer hands back: the front of the buffer, for writing.
-use Rattle.std.specs.Prelude.{ℕ, List, ◌++◌, length, drop}
+use Rattle.std.specs.Prelude.{ℕ, List, ◌++◌, drop}
 use Rattle.std.specs.Borrow.{Lends, MutBor, Fml, Array, u8}
 
--- when the caller is done, the buffer is the front as the caller left it, and then the bytes behind it
-abbrev pub LendsFront : MutBor (List ℕ) → MutBor (List ℕ) → Fml
-LendsFront bytes front = Lends (Array u8 0) (Array u8 0) bytes front (λ left. left ++ drop (length front.now) bytes.now)
+-- when the caller is done with a front of so many bytes, the buffer is that front as the caller left it, and then the bytes behind it
+abbrev pub LendsFront : MutBor (List ℕ) → ℕ → MutBor (List ℕ) → Fml
+LendsFront buffer count front = Lends (Array u8 0) (Array u8 0) buffer front (λ left. left ++ drop count buffer.now)

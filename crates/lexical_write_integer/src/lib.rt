@@ -1,6 +1,14 @@
 //! Integers to text, in every radix from 2 to 36.
 #![tactic(auto)]
 
+mod api;
 mod buffer;
 pub mod compact;
 pub mod laws;
+
+pub use api::ToLexical;
+pub use lexical_num::constants::{BUFFER_SIZE, FormattedSize};
+pub use lexical_num::error::{Error, Result};
+pub use lexical_num::format;
+pub use lexical_num::format::NumberFormat;
+pub use lexical_num::format_builder::NumberFormatBuilder;

@@ -1,7 +1,6 @@
-use Rattle.std.proofs.Common.{◌≡◌, ℕ, ◌+◌, ◌-◌, ◌/◌, ◌%◌, ◌^◌, ◌<◌, ◌≤◌, List, length, drop, set, refl, sym, ap, ◌∙◌, arith}
+use Rattle.std.proofs.Common.{◌≡◌, ℕ, ◌+◌, ◌-◌, ◌/◌, ◌%◌, ◌<◌, ◌≤◌, List, length, drop, set, ap, ◌∙◌, arith}
 use Rattle.std.proofs.Math.Nat.{mod-lt, sub_self}
 use Rattle.lexical_num.specs.Digit.{digit_char}
-use Rattle.lexical_write_integer.specs.Numeral.{digit_count}
 use Rattle.lexical_write_integer.specs.Text.{IsDigits}
 use Rattle.lexical_write_integer.proofs.Blocks.{WritesBlock-one, IsWrittenBack, IsWrittenBack-start, IsWrittenBack-counts, IsWrittenBack-more, IsWrittenBack-last, IsDigits-block}
 use Rattle.lexical_write_integer.proofs.DigitCounts.{digit_count-one}
