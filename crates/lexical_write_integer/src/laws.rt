@@ -17,6 +17,14 @@ pub fn digit_count_is_least(radix: u32, value: u64)
     ensures at_most_64 { digit_count radix value ≤ 64 }
 {}
 
+/// A number below the radix to `count`, which is 1 or more, has at most `count` digits.
+pub fn digit_count_at_most(radix: u32, value: u64, count: u32)
+    requires radix { IsRadix radix }
+    requires some { 1 ≤ count }
+    requires fits { value < radix ^ count }
+    ensures { digit_count radix value ≤ count }
+{}
+
 /// Every number has a numeral, of as many digits as its digit count.
 pub fn numeral_exists(radix: u32, value: u64)
     requires { IsRadix radix }

@@ -5,6 +5,8 @@ mod api;
 mod buffer;
 pub mod compact;
 pub mod laws;
+#[cfg(test)]
+mod tests;
 
 pub use api::ToLexical;
 pub use lexical_num::constants::{BUFFER_SIZE, FormattedSize};
