@@ -3,4 +3,5 @@ pub mod Digit
 pub mod Error
 pub mod Format
 pub mod Sign
+pub mod Size
 pub mod Width

@@ -7,5 +7,6 @@ pub mod error;
 pub mod format;
 pub mod format_builder;
 pub mod num;
+pub mod options;
 #[cfg(test)]
 mod tests;

@@ -1,4 +1,5 @@
 ghost use Rattle.std.specs.Prelude.{◌≡◌, ◌↔◌, ◌^◌, ◌<◌, IsTrue};
+ghost use Rattle.lexical_num.specs.Size.{size_in};
 
 use crate::constants::{BUFFER_SIZE, FormattedSize};
 use crate::digit::digit_to_char;
@@ -6,6 +7,7 @@ use crate::error::Error;
 use crate::format::{NumberFormat, STANDARD};
 use crate::format_builder::NumberFormatBuilder;
 use crate::num::{LexicalInteger, UnsignedInteger};
+use crate::options::{self, Options, OptionsBuilder, WriteOptions};
 use std::test::Fail;
 
 // What a caller has of each type through the bounds alone.
@@ -58,6 +60,27 @@ fn same_builder(a: &NumberFormatBuilder, b: &NumberFormatBuilder) -> bool
     ensures { IsTrue result ↔ (a.now ≡ b.now) }
 {
     a == b
+}
+
+// All options are equal, and so are all builders of options.
+
+fn same_options(a: &Options, b: &Options) -> bool
+    ensures { IsTrue result }
+{
+    a == b
+}
+
+fn same_options_builder(a: &OptionsBuilder, b: &OptionsBuilder) -> bool
+    ensures { IsTrue result }
+{
+    a == b
+}
+
+// What a caller has of options through the bound alone.
+fn size_of<T: FormattedSize, O: WriteOptions>(options: &O, format: &NumberFormat) -> usize
+    ensures { result ≡ size_in T.FORMATTED_SIZE T.FORMATTED_SIZE_DECIMAL format.now }
+{
+    options.buffer_size::<T>(format)
 }
 
 fn built(mantissa: u8, exponent: u8) -> Result<NumberFormat, Error> {
@@ -185,4 +208,40 @@ fn a_builder_is_used_again(rt: HostRuntime) -> Result<(), Fail> {
     assert!(rt; !same_builder(&builder, &NumberFormatBuilder::new()));
     assert!(rt; same_builder(&NumberFormatBuilder::default(), &NumberFormatBuilder::new()));
     Ok(())
+}
+
+#[test]
+fn options_are_valid_and_equal(rt: HostRuntime) -> Result<(), Fail> {
+    let options = Options::new();
+    assert!(rt; options.is_valid());
+    assert!(rt; WriteOptions::is_valid(&options));
+    assert!(rt; same_options(&options, &Options::default()));
+    assert!(rt; same_options(&options, &options::STANDARD));
+    assert!(rt; same_options(&options, &Options::from_radix(36)));
+    assert!(rt; same_options(&options, &options.clone()?));
+    let builder = OptionsBuilder::new();
+    assert!(rt; builder.is_valid());
+    assert!(rt; OptionsBuilder::default().is_valid());
+    assert!(rt; same_options(&options, &builder.build()?));
+    assert!(rt; same_options(&options, &OptionsBuilder::default().build()?));
+    assert!(rt; same_options(&builder.build_strict(), &builder.build_unchecked()));
+    assert!(rt; same_options_builder(&options.rebuild(), &Options::builder()));
+    assert!(rt; same_options_builder(&builder, &builder.clone()?));
+    assert!(rt; options <= options::STANDARD);
+    Ok(())
+}
+
+#[test]
+fn sizes_of_the_types_in_formats(rt: HostRuntime) {
+    let options = Options::new();
+    let signed = NumberFormatBuilder::new().required_mantissa_sign(true);
+    let signed_hexadecimal = signed.radix(16).build_strict();
+    let signed = signed.build_strict();
+    let binary = NumberFormatBuilder::binary();
+    assert_eq!(rt; options.buffer_size::<u8>(&STANDARD), 3);
+    assert_eq!(rt; options.buffer_size_const::<u8>(&signed), 4);
+    assert_eq!(rt; size_of::<u64, Options>(&options, &signed), 21);
+    assert_eq!(rt; size_of::<i64, Options>(&options, &binary), 128);
+    assert_eq!(rt; size_of::<i8, Options>(&options, &signed_hexadecimal), 16);
+    assert_eq!(rt; size_of::<i8, Options>(&options, &signed), 5);
 }

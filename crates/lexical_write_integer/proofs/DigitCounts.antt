@@ -1,10 +1,11 @@
 -- How many digits a number has: the least exponent, from both sides, and what a division by a power of the radix leaves.
 use Rattle.std.proofs.Common.{◌≡◌, ℕ, zero, suc, ◌+◌, ◌-◌, ◌*◌, ◌/◌, ◌^◌, ◌<◌, ◌≤◌, ltb, sym, ap, ◌∙◌, inl, inr, arith}
-use Rattle.std.proofs.Math.Nat.{pow-zero, pow-suc, pow-le-pow_right, pow-le-pow_left, mul-le-mul_left, mul-le-mul_right, one-le-pow, div-lt_iff_lt-mul, div-mul-le_self, div-one, div-div-eq-div-mul, mul_comm}
-use Rattle.std.proofs.lemmas.Bool.{cases_lt, cases_eq, ltb-true, ltb-false, cond_both}
+use Rattle.std.proofs.Math.Nat.{pow-zero, pow-suc, pow-le-pow_right, mul-le-mul_left, mul-le-mul_right, one-le-pow, div-lt_iff_lt-mul, div-mul-le_self, div-one, div-div-eq-div-mul, mul_comm}
+use Rattle.std.proofs.lemmas.Bool.{cases_lt, ltb-true, cond_both}
 use Rattle.std.proofs.lemmas.Nat.{pow-add}
 use Rattle.lexical_num.specs.Width.{IsWidth, is_8, is_16, is_32, is_64}
 use Rattle.lexical_write_integer.specs.Numeral.{digit_count, least_exponent}
+pub use Rattle.lexical_write_integer.specs.DigitCount.{digit_count-le, digit_count-le_bits}
 use Rattle.lexical_write_integer.proofs.Values.{pow-one}
 
 -- a number is below 2 to itself, and so below any larger radix to itself
@@ -33,17 +34,6 @@ least_exponent-fits r number n (suc steps) fits =
     (ltb-true number (r ^ n))
     (λ _. let e : n + suc steps ≡ suc n + steps = omega arith in least_exponent-fits r number (suc n) steps (rw e at fits))
 
-least_exponent-le : (r number n steps m : ℕ) → n ≤ m → number < r ^ m → least_exponent r number n steps ≤ m
-unfolding least_exponent
-least_exponent-le r number n zero m most fits = most
-least_exponent-le r number n (suc steps) m most fits =
-    cond_both (ltb number (r ^ n)) n (least_exponent r number (suc n) steps) (λ k. k ≤ m)
-    (λ _. most)
-    (λ e. elim (cases_eq n m) [
-      | inl same ↦ absurd (omega (arith, rw same at (ltb-false number (r ^ n) e)))
-      | inr other ↦ least_exponent-le r number (suc n) steps m (omega arith) fits
-    ])
-
 -- ---- both sides of the count
 
 pub digit_count-pos : (r number : ℕ) → 1 ≤ digit_count r number
@@ -54,10 +44,6 @@ pub digit_count-fits : (r number : ℕ) → 2 ≤ r → number < r ^ digit_count
 unfolding digit_count
 digit_count-fits r number two =
     least_exponent-fits r number 1 number (omega (arith, lt-pow_self r number two, pow-lt_more r number (1 + number) two (omega arith)))
-
-pub digit_count-le : (r number m : ℕ) → 1 ≤ m → number < r ^ m → digit_count r number ≤ m
-unfolding digit_count
-digit_count-le r number m = least_exponent-le r number 1 number m
 
 pub digit_count-full : (r n : ℕ) → 2 ≤ r → 1 < digit_count r n → r ^ (digit_count r n - 1) ≤ n
 digit_count-full r n two long =
@@ -118,10 +104,6 @@ div-pow_more r n step taken =
     div-div-eq-div-mul n (r ^ taken) (r ^ step) ∙ ap (λ p. n / p) (mul_comm (r ^ taken) (r ^ step) ∙ sym (pow-add r step taken))
 
 -- ---- the numbers of a type
-
--- no radix needs more digits than binary
-pub digit_count-le_bits : (r n bits : ℕ) → 2 ≤ r → 1 ≤ bits → n < 2 ^ bits → digit_count r n ≤ bits
-digit_count-le_bits r n bits two one fits = digit_count-le r n bits one (omega (arith, pow-le-pow_left {n = 2} {m = r} two bits))
 
 -- no number of a type has more than 64 digits
 pub digit_count-le_64 : (r n bits : ℕ) → 2 ≤ r → IsWidth bits → n < 2 ^ bits → digit_count r n ≤ 64

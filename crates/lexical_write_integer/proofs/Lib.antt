@@ -1,6 +1,7 @@
 pub mod Blocks
 pub mod DigitCounts
-pub mod Fronts
+pub mod HandedFronts
 pub mod Numerals
 pub mod Relending
+pub mod Signs
 pub mod Values

@@ -1,17 +1,22 @@
 //! Writing a number of any integer type.
 
-ghost use Rattle.std.specs.Prelude.{◌≡◌, ◌≤◌, length};
+ghost use Rattle.std.specs.Prelude.{◌≡◌, ◌≤◌, ◌-◌, ◌^◌, ℤ, pos, negsuc, ◌<ℤ◌, ◌≤ℤ◌, ◌↔◌, IsTrue, length, unsigned_abs};
 ghost use Rattle.std.specs.Borrow.{sem};
-ghost use Rattle.lexical_num.specs.Format.{standard};
-ghost use Rattle.lexical_write_integer.specs.Buffer.{WritesText};
+ghost use Rattle.std.proofs.Common.{lit≤};
+ghost use Rattle.lexical_num.specs.Format.{Format, IsRadix, standard};
+ghost use Rattle.lexical_num.specs.Sign.{sign_of};
+ghost use Rattle.lexical_num.specs.Size.{size_in};
+ghost use Rattle.lexical_write_integer.specs.Buffer.{Front, WritesText};
 ghost use Rattle.lexical_write_integer.specs.Lending.{LendsFront};
 ghost use Rattle.lexical_write_integer.specs.Text.{IsText, need};
+ghost use Rattle.lexical_write_integer.specs.Need.{unsigned_need-le, signed_need-le};
 
 use crate::buffer::front_mut;
 use crate::compact::Compact;
 use lexical_num::constants::FormattedSize;
-use lexical_num::format::STANDARD;
-use lexical_num::num::{LexicalInteger, UnsignedInteger};
+use lexical_num::format::{NumberFormat, STANDARD};
+use lexical_num::num::LexicalInteger;
+use lexical_num::options::{Options, WriteOptions};
 
 /// An integer type whose numbers are written in decimal.
 pub trait ToLexical: LexicalInteger + FormattedSize {
@@ -33,41 +38,293 @@ pub trait ToLexical: LexicalInteger + FormattedSize {
     }
 }
 
-// Writes the digits of a number in decimal.
-fn write_unsigned<T: Compact>(value: T, bytes: &mut [u8]) -> usize
-    requires { need (T.number value) T.DECIMAL_WIDTH standard ≤ length bytes.old }
-    ensures { WritesText (T.number value) standard bytes.old bytes.new result }
+/// An integer type whose numbers are written in any format.
+pub trait ToLexicalWithOptions: ToLexical {
+    /// What is told of the text beside its format.
+    type Options: WriteOptions;
+
+    /// Writes the number to the front of the buffer, and answers the length of its text: the sign,
+    /// and then the digits in the mantissa radix. In radix 10 the buffer has `DECIMAL_WIDTH` bytes
+    /// beside the sign, else as many as the digits. The options have no effect.
+    fn write_lexical_with_options(
+        self,
+        bytes: &mut [u8],
+        format: &NumberFormat,
+        options: &Self::Options,
+    ) -> usize
+        requires { need (Self.number self) Self.DECIMAL_WIDTH format.now ≤ length bytes.old }
+        ensures { WritesText (Self.number self) format.now bytes.old bytes.new result };
+
+    // The size of the type in a format is enough for each of its numbers.
+    ghost size_is_enough: { (x : ℤ) (format : Format) → IsRadix format.mantissa_radix → Self.least ≤ℤ x → x ≤ℤ Self.greatest
+        → need x Self.DECIMAL_WIDTH format ≤ size_in Self.FORMATTED_SIZE Self.FORMATTED_SIZE_DECIMAL format };
+
+    /// Writes the number as `write_lexical_with_options` does, and hands back its text for writing:
+    /// what the caller leaves in it is left in those bytes of the buffer, and every other is as
+    /// before.
+    final fn to_lexical_with_options<'a>(
+        self,
+        bytes: &'a mut [u8],
+        format: &NumberFormat,
+        options: &Self::Options,
+    ) -> &'a mut [u8]
+        requires { need (Self.number self) Self.DECIMAL_WIDTH format.now ≤ length bytes.old }
+        ensures* lends { sem 𝓛 (LendsFront bytes.entry (length result.now) result) }
+        ensures text { IsText (Self.number self) format.now result.now }
+    {
+        let count = self.write_lexical_with_options(bytes, format, options);
+        front_mut(bytes, count)
+    }
+}
+
+// Writes the sign of a number to the front of the buffer, and answers how many bytes it has.
+fn write_sign<T: LexicalInteger>(
+    number: T,
+    is_negative: bool,
+    bytes: &mut [u8],
+    format: &NumberFormat,
+) -> usize
+    requires sign { IsTrue is_negative ↔ T.number number <ℤ pos 0 }
+    requires room { length (sign_of (T.number number) format.now.required_mantissa_sign) ≤ length bytes.old }
+    ensures sign { Front bytes.old bytes.new (sign_of (T.number number) format.now.required_mantissa_sign) }
+    ensures count { result ≡ length (sign_of (T.number number) format.now.required_mantissa_sign) }
 {
-    value.in_range();
-    value.compact(STANDARD.mantissa_radix(), bytes)
+    if is_negative {
+        bytes[0] = b'-';
+        1
+    } else if format.required_mantissa_sign() {
+        bytes[0] = b'+';
+        1
+    } else {
+        0
+    }
+}
+
+// Writes a number by its sign and its magnitude.
+fn write_text<T: LexicalInteger, U: Compact>(
+    number: T,
+    is_negative: bool,
+    magnitude: U,
+    bytes: &mut [u8],
+    format: &NumberFormat,
+) -> usize
+    requires sign { IsTrue is_negative ↔ T.number number <ℤ pos 0 }
+    requires magnitude { U.magnitude magnitude ≡ unsigned_abs (T.number number) }
+    requires room { need (T.number number) T.DECIMAL_WIDTH format.now ≤ length bytes.old }
+    ensures { WritesText (T.number number) format.now bytes.old bytes.new result }
+{
+    number.in_range();
+    let sign = write_sign(number, is_negative, bytes, format);
+    sign + magnitude.compact(format.mantissa_radix(), &mut bytes[sign..])
 }
 
 impl ToLexical for u8 {
     fn write_lexical(self, bytes: &mut [u8]) -> usize {
-        write_unsigned(self, bytes)
+        self.write_lexical_with_options(bytes, &STANDARD, &Options::new())
+    }
+}
+
+impl ToLexicalWithOptions for u8 {
+    type Options = Options;
+
+    ghost size_is_enough = { unsigned_need-le (2 ^ 8 - 1) 8 3 16 3 (lit≤ tt) (lit≤ tt) (lit≤ tt) (lit≤ tt) };
+
+    fn write_lexical_with_options(
+        self,
+        bytes: &mut [u8],
+        format: &NumberFormat,
+        _options: &Options,
+    ) -> usize {
+        write_text(self, false, self, bytes, format)
     }
 }
 
 impl ToLexical for u16 {
     fn write_lexical(self, bytes: &mut [u8]) -> usize {
-        write_unsigned(self, bytes)
+        self.write_lexical_with_options(bytes, &STANDARD, &Options::new())
+    }
+}
+
+impl ToLexicalWithOptions for u16 {
+    type Options = Options;
+
+    ghost size_is_enough = { unsigned_need-le (2 ^ 16 - 1) 16 5 32 5 (lit≤ tt) (lit≤ tt) (lit≤ tt) (lit≤ tt) };
+
+    fn write_lexical_with_options(
+        self,
+        bytes: &mut [u8],
+        format: &NumberFormat,
+        _options: &Options,
+    ) -> usize {
+        write_text(self, false, self, bytes, format)
     }
 }
 
 impl ToLexical for u32 {
     fn write_lexical(self, bytes: &mut [u8]) -> usize {
-        write_unsigned(self, bytes)
+        self.write_lexical_with_options(bytes, &STANDARD, &Options::new())
+    }
+}
+
+impl ToLexicalWithOptions for u32 {
+    type Options = Options;
+
+    ghost size_is_enough = { unsigned_need-le (2 ^ 32 - 1) 32 10 64 10 (lit≤ tt) (lit≤ tt) (lit≤ tt) (lit≤ tt) };
+
+    fn write_lexical_with_options(
+        self,
+        bytes: &mut [u8],
+        format: &NumberFormat,
+        _options: &Options,
+    ) -> usize {
+        write_text(self, false, self, bytes, format)
     }
 }
 
 impl ToLexical for u64 {
     fn write_lexical(self, bytes: &mut [u8]) -> usize {
-        write_unsigned(self, bytes)
+        self.write_lexical_with_options(bytes, &STANDARD, &Options::new())
+    }
+}
+
+impl ToLexicalWithOptions for u64 {
+    type Options = Options;
+
+    ghost size_is_enough = { unsigned_need-le (2 ^ 64 - 1) 64 20 128 20 (lit≤ tt) (lit≤ tt) (lit≤ tt) (lit≤ tt) };
+
+    fn write_lexical_with_options(
+        self,
+        bytes: &mut [u8],
+        format: &NumberFormat,
+        _options: &Options,
+    ) -> usize {
+        write_text(self, false, self, bytes, format)
     }
 }
 
 impl ToLexical for usize {
     fn write_lexical(self, bytes: &mut [u8]) -> usize {
-        write_unsigned(self, bytes)
+        self.write_lexical_with_options(bytes, &STANDARD, &Options::new())
+    }
+}
+
+impl ToLexicalWithOptions for usize {
+    type Options = Options;
+
+    ghost size_is_enough = { unsigned_need-le (2 ^ 64 - 1) 64 20 128 20 (lit≤ tt) (lit≤ tt) (lit≤ tt) (lit≤ tt) };
+
+    fn write_lexical_with_options(
+        self,
+        bytes: &mut [u8],
+        format: &NumberFormat,
+        _options: &Options,
+    ) -> usize {
+        write_text(self, false, self, bytes, format)
+    }
+}
+
+impl ToLexical for i8 {
+    fn write_lexical(self, bytes: &mut [u8]) -> usize {
+        self.write_lexical_with_options(bytes, &STANDARD, &Options::new())
+    }
+}
+
+impl ToLexicalWithOptions for i8 {
+    type Options = Options;
+
+    ghost size_is_enough = { signed_need-le (2 ^ 7 - 1) 8 3 16 4 (lit≤ tt) (lit≤ tt) (lit≤ tt) (lit≤ tt) };
+
+    fn write_lexical_with_options(
+        self,
+        bytes: &mut [u8],
+        format: &NumberFormat,
+        _options: &Options,
+    ) -> usize {
+        // The magnitude of the least value fits the unsigned type alone.
+        write_text(self, self < 0, self.unsigned_abs(), bytes, format)
+    }
+}
+
+impl ToLexical for i16 {
+    fn write_lexical(self, bytes: &mut [u8]) -> usize {
+        self.write_lexical_with_options(bytes, &STANDARD, &Options::new())
+    }
+}
+
+impl ToLexicalWithOptions for i16 {
+    type Options = Options;
+
+    ghost size_is_enough = { signed_need-le (2 ^ 15 - 1) 16 5 32 6 (lit≤ tt) (lit≤ tt) (lit≤ tt) (lit≤ tt) };
+
+    fn write_lexical_with_options(
+        self,
+        bytes: &mut [u8],
+        format: &NumberFormat,
+        _options: &Options,
+    ) -> usize {
+        write_text(self, self < 0, self.unsigned_abs(), bytes, format)
+    }
+}
+
+impl ToLexical for i32 {
+    fn write_lexical(self, bytes: &mut [u8]) -> usize {
+        self.write_lexical_with_options(bytes, &STANDARD, &Options::new())
+    }
+}
+
+impl ToLexicalWithOptions for i32 {
+    type Options = Options;
+
+    ghost size_is_enough = { signed_need-le (2 ^ 31 - 1) 32 10 64 11 (lit≤ tt) (lit≤ tt) (lit≤ tt) (lit≤ tt) };
+
+    fn write_lexical_with_options(
+        self,
+        bytes: &mut [u8],
+        format: &NumberFormat,
+        _options: &Options,
+    ) -> usize {
+        write_text(self, self < 0, self.unsigned_abs(), bytes, format)
+    }
+}
+
+impl ToLexical for i64 {
+    fn write_lexical(self, bytes: &mut [u8]) -> usize {
+        self.write_lexical_with_options(bytes, &STANDARD, &Options::new())
+    }
+}
+
+impl ToLexicalWithOptions for i64 {
+    type Options = Options;
+
+    ghost size_is_enough = { signed_need-le (2 ^ 63 - 1) 64 19 128 20 (lit≤ tt) (lit≤ tt) (lit≤ tt) (lit≤ tt) };
+
+    fn write_lexical_with_options(
+        self,
+        bytes: &mut [u8],
+        format: &NumberFormat,
+        _options: &Options,
+    ) -> usize {
+        write_text(self, self < 0, self.unsigned_abs(), bytes, format)
+    }
+}
+
+impl ToLexical for isize {
+    fn write_lexical(self, bytes: &mut [u8]) -> usize {
+        self.write_lexical_with_options(bytes, &STANDARD, &Options::new())
+    }
+}
+
+impl ToLexicalWithOptions for isize {
+    type Options = Options;
+
+    ghost size_is_enough = { signed_need-le (2 ^ 63 - 1) 64 19 128 20 (lit≤ tt) (lit≤ tt) (lit≤ tt) (lit≤ tt) };
+
+    fn write_lexical_with_options(
+        self,
+        bytes: &mut [u8],
+        format: &NumberFormat,
+        _options: &Options,
+    ) -> usize {
+        write_text(self, self < 0, self.unsigned_abs(), bytes, format)
     }
 }

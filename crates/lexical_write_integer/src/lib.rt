@@ -5,12 +5,14 @@ mod api;
 mod buffer;
 pub mod compact;
 pub mod laws;
+pub mod options;
 #[cfg(test)]
 mod tests;
 
-pub use api::ToLexical;
+pub use api::{ToLexical, ToLexicalWithOptions};
 pub use lexical_num::constants::{BUFFER_SIZE, FormattedSize};
 pub use lexical_num::error::{Error, Result};
 pub use lexical_num::format;
 pub use lexical_num::format::NumberFormat;
 pub use lexical_num::format_builder::NumberFormatBuilder;
+pub use lexical_num::options::{Options, OptionsBuilder, WriteOptions};

@@ -1,0 +1,86 @@
+-- A text stands at the front of a slice, and `front_mut` lends that front to be handed back: steps for the walks of this crate.
+use mathlib.Core.Path.{◌≡◌, refl, sym, ap, ◌∙◌}
+use Prim.Native.Nat.{ℕ, ◌*◌, ◌^◌, ◌<◌, ◌≤◌}
+use native.Mathlib.Omega.{arith}
+use mathlib.Core.List.{List, [], ◌∷◌, ◌++◌}
+use lib.ListN.{length, take, drop as drop_list}
+use seplogic.Ra.Ura.{Ura}
+use mir.Syntax.{named, w64}
+use mir.Val.{Val, vint}
+use base.Logic.{SProp, ent, emp, id⊢, sep}
+use base.Fml.{Lft, GName, Share, ftrue, flft}
+use prog.Memory.{Memory}
+use prog.Routine.{Routine}
+use types.Logic.{Logic, sem}
+use types.Kit.{Item, mean, ‵, raw, given, ◌⊛◌, some, later, ◌$◌, ◌∵◌, !, qed, move, keep, split, split3, join, check, fsplit, fjoin, feq_i, feq_l, flt_i, flt_l, use0, use1, await, pick, updating, now, show, done, rewrite}
+use contract.Monad.{Fun, fact, fact_i}
+use denote.Array.{Array}
+use denote.Builtin.{u8}
+use denote.Follow.{follows}
+use denote.Memory.{mem}
+use denote.Ref.{MutBor}
+use denote.Slice.{MutSlice, slice_val, mut_slice_vals}
+use denote.Steps.{nothing, heard, only}
+use denote.Triple.Clauses.{lasts}
+use denote.Triple.Spec.{triple_of}
+use denote.Triple.Statement.{Contract}
+use Rattle.std.proofs.lemmas.List.{take_at, drop_at}
+use Rattle.lexical_write_integer.specs.Buffer.{Writes}
+use Rattle.lexical_write_integer.specs.Lending.{LendsFront}
+use Rattle.lexical_write_integer.specs.contracts.buffer.front_mut as P
+
+-- the front that is handed back, and the machine's value for it
+pub record Handed (Is : List ℕ → Type 0) (v : Val) (r : MutBor (List ℕ)) : Type 0 where
+  pub word : v ≡ slice_val r.ref_ptr (length r.now)
+  pub fits : length r.now < 2 ^ 64
+  pub is : Is r.now
+
+module _ {M : Type 1} {𝓤 : Ura M} (𝓛 : Logic 𝓤) (at_mem : Memory → SProp 𝓤) (run : Routine → Fun 𝓤) where
+  open 𝓛 use {A}
+
+  -- what `front_mut` does
+  abbrev pub Fronts : Contract 𝓤
+  Fronts = triple_of 𝓛 P.signature (P.spec 𝓛 at_mem run)
+
+  module _ (κ : Lft) (q : Share) (b o : ℕ) (γ : GName) (xs ys : List ℕ) (n : ℕ) where
+    -- the slice, with zs in it
+    abbrev at : List ℕ → MutBor (List ℕ)
+    at zs = record { ref_ptr = (b, o); ghost_name = γ; now = zs }
+
+    -- it is called on the slice that had xs in it, and has ys
+    abbrev pub called : Fronts.Ghost
+    called = (((κ, tt), (q, tt), tt, (at ys, (n, tt)), (mut_slice_vals (at xs), (vint w64 n ∷ [], tt))), tt)
+
+    pub asks : {Is : List ℕ → Type 0} → Writes Is xs ys n → n < 2 ^ 64 → length ys ≡ length xs
+        → ent 𝓤 (sep 𝓤 (sem 𝓛 ((MutSlice (named 0) κ u8).own_val (at ys) (mut_slice_vals (at xs)))) (A.lft κ q)) (Fronts.pre called)
+    asks wrote fits long =
+        let counted = wrote.count in let fitting = wrote.front.fits in
+        qed 𝓛 (‵ ((MutSlice (named 0) κ u8).own_val (at ys) (mut_slice_vals (at xs))) ∷ ‵ (flft κ q) ∷ []) ∵
+        flt_i ! n (2 ^ 64) fits $ feq_i ! (List Val) (vint w64 n ∷ []) (vint w64 n ∷ []) refl $ fjoin ! $ nothing ! $ move ! (1 ∷ 0 ∷ []) $ join ! $
+        move ! (1 ∷ 0 ∷ []) $ join ! $ nothing ! $ move ! (2 ∷ 0 ∷ []) $ join ! $ join ! $
+        use0 𝓛 (raw (fact 𝓤 (n ≤ length ys))) (fact_i 𝓤 _ (emp 𝓤) (omega arith)) $ move ! (1 ∷ 0 ∷ []) $ done !
+
+    module _ (Is : List ℕ → Type 0) (v : Val) where
+      abbrev Given : MutBor (List ℕ) → Item 𝓤
+      Given r = given (Handed Is v r) (‵ ((MutSlice (named 0) κ u8).own_val r (mut_slice_vals r)) ⊛ ‵ (flft κ q) ⊛ ‵ (LendsFront (at xs) (length r.now) r))
+
+      -- what it gives where a text was written
+      abbrev pub gave : Item 𝓤
+      gave = later (some Given)
+
+      pub gives : Writes Is xs ys n → ent 𝓤 (Fronts.post called v) (mean 𝓛 gave)
+      gives wrote =
+          qed 𝓛 (raw (Fronts.post called v) ∷ []) ∵ updating ! $
+          use1 𝓛 (later (some (λ (r : MutBor (List ℕ)). ((‵ (flft κ q) ⊛ ‵ ftrue) ⊛ ‵ ((MutSlice (named 0) κ u8).own_val r (v ∷ []))) ⊛
+          some (λ (us : Unit {0} × (Unit {0} × Unit {0})). ‵ (lasts P.ended called.0.0 called.0.3 us) ⊛ (‵ (follows (Array u8 0) (Array u8 0) γ r.ghost_name (λ t. t ++ drop_list n ys)) ⊛ raw (fact 𝓤 (r.now ≡ take n ys))))))) (id⊢ 𝓤 _) $
+          await ! tt $ pick ! (λ r. split ! $ split ! $ move ! (1 ∷ []) $ fsplit ! $ fsplit ! $ feq_l ! (λ is. fsplit ! $ flt_l ! (λ r₁. flt_l ! (λ r₂.
+          flt_i ! (length r.now * (mem u8).size) (2 ^ 63) r₂ $ flt_i ! (length r.now) (2 ^ 64) r₁ $ fjoin ! $ feq_i ! (List Val) (mut_slice_vals r) (mut_slice_vals r) refl $ fjoin ! $ fjoin ! $
+          -- [the front; the token; what the call ensures]
+          move ! (2 ∷ []) $ pick ! (λ us. split3 ! $ move ! (2 ∷ []) $ heard ! _ (λ taken.
+          let counted = wrote.count in
+          let handed : r.now ≡ wrote.text = taken ∙ (λ i. take (counted i) (wrote.front.written i)) ∙ take_at wrote.text (drop_list (length wrote.text) xs) (length wrote.text) refl in
+          let behind : drop_list n ys ≡ drop_list (length r.now) xs =
+          (λ i. drop_list (counted i) (wrote.front.written i)) ∙ drop_at wrote.text (drop_list (length wrote.text) xs) (length wrote.text) refl ∙ ap (λ ts. drop_list (length ts) xs) (sym handed) in
+          rewrite ! 1 (λ (d : List ℕ). ‵ (follows (Array u8 0) (Array u8 0) γ r.ghost_name (λ t. t ++ d))) behind refl $
+          move ! (3 ∷ []) $ split ! $ keep ! (4 ∷ 0 ∷ 3 ∷ []) $
+          now ! $ show ! (λ (r : MutBor (List ℕ)). mean 𝓛 (Given r)) r $ check ! record { word = ap only is; fits = r₁; is = rw handed wrote.is } $ done !))))))

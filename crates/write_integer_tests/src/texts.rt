@@ -1,0 +1,190 @@
+// The texts of numbers of all types, in several formats.
+
+ghost use Rattle.std.specs.Prelude.{◌≤◌};
+ghost use Rattle.lexical_num.specs.Format.{standard};
+ghost use Rattle.lexical_write_integer.specs.Text.{need};
+
+use lexical_num::num::LexicalInteger;
+use lexical_num::options::{Options, WriteOptions};
+use lexical_write_integer::format::STANDARD;
+use lexical_write_integer::laws::digit_count_at_most;
+use lexical_write_integer::{NumberFormat, NumberFormatBuilder, ToLexical, ToLexicalWithOptions};
+use std::process::Abort;
+
+// In the standard format, in a buffer of 20 bytes: the text, and the bytes behind it as before.
+pub(crate) fn check_standard<T: ToLexical>(rt: &impl Abort, value: T, text: &[u8])
+    requires { need (T.number value) T.DECIMAL_WIDTH standard ≤ 20 }
+{
+    let mut buffer = [7u8; 20];
+    assert_eq!(rt; &*value.to_lexical(&mut buffer), text);
+    assert!(rt; buffer.starts_with(text));
+    assert!(rt; buffer[text.len()..].iter().all(|byte| *byte == 7));
+}
+
+// Room for the text of each number of each type in each format, and more.
+const ROOM: usize = 130;
+
+// In any format, in a buffer of so many bytes: the text, and the bytes behind it as before.
+fn check_in<T: ToLexicalWithOptions>(
+    rt: &impl Abort,
+    value: T,
+    format: &NumberFormat,
+    options: &T::Options,
+    room: usize,
+    text: &[u8],
+)
+    requires need { need (T.number value) T.DECIMAL_WIDTH format.now ≤ room }
+    requires room { room ≤ 130 }
+{
+    let mut buffer = [7u8; ROOM];
+    let front = value.to_lexical_with_options(&mut buffer[..room], format, options);
+    assert_eq!(rt; &*front, text);
+    assert!(rt; buffer.starts_with(text));
+    assert!(rt; buffer[text.len()..].iter().all(|byte| *byte == 7));
+}
+
+// In any format, in a buffer of the size of the type in the format.
+fn check<T: ToLexicalWithOptions>(
+    rt: &impl Abort,
+    value: T,
+    format: &NumberFormat,
+    options: &T::Options,
+    text: &[u8],
+) {
+    value.in_range();
+    format.mantissa_radix();
+    check_in(
+        rt,
+        value,
+        format,
+        options,
+        options.buffer_size::<T>(format),
+        text,
+    );
+}
+
+#[test]
+fn ends_of_the_types(rt: HostRuntime) {
+    check_standard(&rt, 0u8, b"0");
+    check_standard(&rt, 127u8, b"127");
+    check_standard(&rt, 128u8, b"128");
+    check_standard(&rt, 255u8, b"255");
+    check_standard(&rt, 0u16, b"0");
+    check_standard(&rt, 32767u16, b"32767");
+    check_standard(&rt, 32768u16, b"32768");
+    check_standard(&rt, 65535u16, b"65535");
+    check_standard(&rt, 0u32, b"0");
+    check_standard(&rt, 2147483647u32, b"2147483647");
+    check_standard(&rt, 2147483648u32, b"2147483648");
+    check_standard(&rt, 4294967295u32, b"4294967295");
+    check_standard(&rt, 0u64, b"0");
+    check_standard(&rt, 9223372036854775807u64, b"9223372036854775807");
+    check_standard(&rt, 9223372036854775808u64, b"9223372036854775808");
+    check_standard(&rt, 18446744073709551615u64, b"18446744073709551615");
+    check_standard(&rt, 18446744073709551615usize, b"18446744073709551615");
+}
+
+#[test]
+fn ends_of_the_signed_types(rt: HostRuntime) {
+    check_standard(&rt, 0i8, b"0");
+    check_standard(&rt, 1i8, b"1");
+    check_standard(&rt, 5i8, b"5");
+    check_standard(&rt, 127i8, b"127");
+    check_standard(&rt, -128i8, b"-128");
+    check_standard(&rt, -1i8, b"-1");
+    check_standard(&rt, 0i16, b"0");
+    check_standard(&rt, 32767i16, b"32767");
+    check_standard(&rt, -32768i16, b"-32768");
+    check_standard(&rt, -1i16, b"-1");
+    check_standard(&rt, 0i32, b"0");
+    check_standard(&rt, 2147483647i32, b"2147483647");
+    check_standard(&rt, -2147483648i32, b"-2147483648");
+    check_standard(&rt, -1i32, b"-1");
+    check_standard(&rt, 0i64, b"0");
+    check_standard(&rt, 9223372036854775807i64, b"9223372036854775807");
+    check_standard(&rt, -9223372036854775808i64, b"-9223372036854775808");
+    check_standard(&rt, -1i64, b"-1");
+    check_standard(&rt, -9223372036854775808isize, b"-9223372036854775808");
+}
+
+#[test]
+fn radices(rt: HostRuntime) {
+    let options = Options::new();
+    let twelve = NumberFormatBuilder::from_radix(12);
+    check(&rt, 1234u64, &STANDARD, &options, b"1234");
+    check(
+        &rt,
+        1234u64,
+        &NumberFormatBuilder::binary(),
+        &options,
+        b"10011010010",
+    );
+    check(&rt, 1234u64, &twelve, &options, b"86A");
+    check(&rt, 128u8, &twelve, &options, b"A8");
+}
+
+#[test]
+fn required_signs(rt: HostRuntime) {
+    let options = Options::new();
+    let signed = NumberFormatBuilder::new()
+        .required_mantissa_sign(true)
+        .build_strict();
+    check(
+        &rt,
+        18446744073709551615u64,
+        &signed,
+        &options,
+        b"+18446744073709551615",
+    );
+    check(&rt, 0i8, &signed, &options, b"+0");
+    check(&rt, -1i8, &signed, &options, b"-1");
+    check(&rt, 1i8, &signed, &options, b"+1");
+    check(&rt, 127i8, &signed, &options, b"+127");
+}
+
+#[test]
+fn buffers_of_just_the_need(rt: HostRuntime) {
+    let options = Options::new();
+    let binary = NumberFormatBuilder::binary();
+    let signed = NumberFormatBuilder::new()
+        .required_mantissa_sign(true)
+        .build_strict();
+    let signed_binary = NumberFormatBuilder::new()
+        .radix(2)
+        .required_mantissa_sign(true)
+        .build_strict();
+    let thirty_six = NumberFormatBuilder::from_radix(36);
+    check_in(
+        &rt,
+        -9223372036854775808i64,
+        &STANDARD,
+        &options,
+        20,
+        b"-9223372036854775808",
+    );
+    check_in(
+        &rt,
+        18446744073709551615u64,
+        &signed,
+        &options,
+        21,
+        b"+18446744073709551615",
+    );
+    check_in(&rt, 0i8, &signed, &options, 4, b"+0");
+    check_in(&rt, -1i8, &signed, &options, 4, b"-1");
+    check_in(&rt, 1i8, &signed, &options, 4, b"+1");
+    check_in(&rt, -128i8, &STANDARD, &options, 4, b"-128");
+    check_in(&rt, 127i8, &signed, &options, 4, b"+127");
+    check_in(&rt, 5isize, &STANDARD, &options, 19, b"5");
+    digit_count_at_most(2, 128, 8);
+    check_in(&rt, -128i8, &binary, &options, 9, b"-10000000");
+    digit_count_at_most(36, 128, 2);
+    check_in(&rt, -128i8, &thirty_six, &options, 3, b"-3K");
+    digit_count_at_most(2, 0, 1);
+    check_in(&rt, 0u8, &signed_binary, &options, 2, b"+0");
+    let mut least = [b'0'; 65];
+    least[0] = b'-';
+    least[1] = b'1';
+    digit_count_at_most(2, 9223372036854775808, 64);
+    check_in(&rt, -9223372036854775808i64, &binary, &options, 65, &least);
+}
