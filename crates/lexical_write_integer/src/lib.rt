@@ -6,6 +6,7 @@ mod buffer;
 pub mod compact;
 pub mod laws;
 pub mod options;
+pub mod table;
 #[cfg(test)]
 mod tests;
 

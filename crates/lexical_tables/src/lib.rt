@@ -1,0 +1,91 @@
+//! For each radix from 2 to 36 the characters of the two digits of every number below its square.
+#![tactic(auto)]
+
+ghost use Rattle.std.specs.Prelude.{◌≡◌, ℕ, ◌+◌, ◌*◌, ◌/◌, ◌%◌, ◌<◌, ◌≤◌, length, slice_index};
+ghost use Rattle.lexical_tables.specs.Pairs.{digit_character, pairs};
+
+mod table_binary;
+mod table_decimal;
+mod table_radix;
+#[cfg(test)]
+mod tests;
+
+pub use table_binary::{
+    DIGIT_TO_BASE2_SQUARED, DIGIT_TO_BASE4_SQUARED, DIGIT_TO_BASE8_SQUARED,
+    DIGIT_TO_BASE16_SQUARED, DIGIT_TO_BASE32_SQUARED,
+};
+pub use table_decimal::DIGIT_TO_BASE10_SQUARED;
+pub use table_radix::{
+    DIGIT_TO_BASE3_SQUARED, DIGIT_TO_BASE5_SQUARED, DIGIT_TO_BASE6_SQUARED, DIGIT_TO_BASE7_SQUARED,
+    DIGIT_TO_BASE9_SQUARED, DIGIT_TO_BASE11_SQUARED, DIGIT_TO_BASE12_SQUARED,
+    DIGIT_TO_BASE13_SQUARED, DIGIT_TO_BASE14_SQUARED, DIGIT_TO_BASE15_SQUARED,
+    DIGIT_TO_BASE17_SQUARED, DIGIT_TO_BASE18_SQUARED, DIGIT_TO_BASE19_SQUARED,
+    DIGIT_TO_BASE20_SQUARED, DIGIT_TO_BASE21_SQUARED, DIGIT_TO_BASE22_SQUARED,
+    DIGIT_TO_BASE23_SQUARED, DIGIT_TO_BASE24_SQUARED, DIGIT_TO_BASE25_SQUARED,
+    DIGIT_TO_BASE26_SQUARED, DIGIT_TO_BASE27_SQUARED, DIGIT_TO_BASE28_SQUARED,
+    DIGIT_TO_BASE29_SQUARED, DIGIT_TO_BASE30_SQUARED, DIGIT_TO_BASE31_SQUARED,
+    DIGIT_TO_BASE33_SQUARED, DIGIT_TO_BASE34_SQUARED, DIGIT_TO_BASE35_SQUARED,
+    DIGIT_TO_BASE36_SQUARED,
+};
+
+/// The table of a radix from 2 to 36: two bytes for each number below the square of the radix,
+/// `2 * i` and `2 * i + 1` for the number `i`, which are the characters of its two digits.
+#[tactic(auto, using(crate::proofs::PairsLemmas::reads))]
+pub fn get_table(radix: u32) -> &'static [u8]
+    requires at_least_two { 2 ≤ radix }
+    requires at_most_36 { radix ≤ 36 }
+    ensures table { result.now ≡ pairs radix }
+    ensures length { length result.now ≡ 2 * (radix * radix) }
+    ensures first { (i : ℕ) → i < radix * radix
+        → slice_index result.now (2 * i) ≡ digit_character (i / radix) }
+    ensures second { (i : ℕ) → i < radix * radix
+        → slice_index result.now (2 * i + 1) ≡ digit_character (i % radix) }
+{
+    written_table(radix)
+}
+
+// The table of a radix, as it is written out.
+fn written_table(radix: u32) -> &'static [u8]
+    requires at_least_two { 2 ≤ radix }
+    requires at_most_36 { radix ≤ 36 }
+    ensures { result.now ≡ pairs radix }
+{
+    match radix {
+        2 => &DIGIT_TO_BASE2_SQUARED,
+        3 => &DIGIT_TO_BASE3_SQUARED,
+        4 => &DIGIT_TO_BASE4_SQUARED,
+        5 => &DIGIT_TO_BASE5_SQUARED,
+        6 => &DIGIT_TO_BASE6_SQUARED,
+        7 => &DIGIT_TO_BASE7_SQUARED,
+        8 => &DIGIT_TO_BASE8_SQUARED,
+        9 => &DIGIT_TO_BASE9_SQUARED,
+        10 => &DIGIT_TO_BASE10_SQUARED,
+        11 => &DIGIT_TO_BASE11_SQUARED,
+        12 => &DIGIT_TO_BASE12_SQUARED,
+        13 => &DIGIT_TO_BASE13_SQUARED,
+        14 => &DIGIT_TO_BASE14_SQUARED,
+        15 => &DIGIT_TO_BASE15_SQUARED,
+        16 => &DIGIT_TO_BASE16_SQUARED,
+        17 => &DIGIT_TO_BASE17_SQUARED,
+        18 => &DIGIT_TO_BASE18_SQUARED,
+        19 => &DIGIT_TO_BASE19_SQUARED,
+        20 => &DIGIT_TO_BASE20_SQUARED,
+        21 => &DIGIT_TO_BASE21_SQUARED,
+        22 => &DIGIT_TO_BASE22_SQUARED,
+        23 => &DIGIT_TO_BASE23_SQUARED,
+        24 => &DIGIT_TO_BASE24_SQUARED,
+        25 => &DIGIT_TO_BASE25_SQUARED,
+        26 => &DIGIT_TO_BASE26_SQUARED,
+        27 => &DIGIT_TO_BASE27_SQUARED,
+        28 => &DIGIT_TO_BASE28_SQUARED,
+        29 => &DIGIT_TO_BASE29_SQUARED,
+        30 => &DIGIT_TO_BASE30_SQUARED,
+        31 => &DIGIT_TO_BASE31_SQUARED,
+        32 => &DIGIT_TO_BASE32_SQUARED,
+        33 => &DIGIT_TO_BASE33_SQUARED,
+        34 => &DIGIT_TO_BASE34_SQUARED,
+        35 => &DIGIT_TO_BASE35_SQUARED,
+        36 => &DIGIT_TO_BASE36_SQUARED,
+        _ => unreachable!(),
+    }
+}
