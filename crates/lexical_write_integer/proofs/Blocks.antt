@@ -55,9 +55,9 @@ WritesBlock-next r n taken step at before between after two last first =
     rw (mod-pow_split r n step taken two) (WritesBlock-front r step taken (n / r ^ taken % r ^ step) (n % r ^ taken) at before between after last first)
 
 -- the first digits of a number, in front of its last ones
-WritesBlock-whole : (r n taken count at : ℕ) (before between after : List ℕ) → WritesBlock r taken (n % r ^ taken) (at + count) before between → WritesBlock r count (n / r ^ taken) at between after → WritesBlock r (count + taken) n at before after
-WritesBlock-whole r n taken count at before between after last first =
-    rw (div-add-mod' n (r ^ taken)) at (WritesBlock-front r count taken (n / r ^ taken) (n % r ^ taken) at before between after last first)
+pub WritesBlock-whole : (r n taken rest count at : ℕ) (before between after : List ℕ) → rest ≡ n / r ^ taken → WritesBlock r taken (n % r ^ taken) (at + count) before between → WritesBlock r count rest at between after → WritesBlock r (count + taken) n at before after
+WritesBlock-whole r n taken rest count at before between after is last first =
+    rw (div-add-mod' n (r ^ taken)) at (WritesBlock-front r count taken (n / r ^ taken) (n % r ^ taken) at before between after last (rw is at first))
 
 -- ---- a number that is written from its last digit on
 
@@ -89,7 +89,7 @@ IsWrittenBack-more r n taken rest step next at before between after two long is 
 -- the first digits, with which the number is whole
 pub IsWrittenBack-last : (r n taken rest count at : ℕ) (before between after : List ℕ) → IsWrittenBack r n taken rest (at + count) before between → WritesBlock r count rest at between after → WritesBlock r (count + taken) n at before after
 IsWrittenBack-last r n taken rest count at before between after w b =
-    WritesBlock-whole r n taken count at before between after w.block (rw w.left at b)
+    WritesBlock-whole r n taken rest count at before between after w.left w.block b
 
 -- as many digits as the number has, to the end of the list, are its text
 pub IsDigits-block : (r n count at : ℕ) (before after : List ℕ) → 2 ≤ r → digit_count r n ≡ count → at + count ≡ length before → WritesBlock r count n at before after → IsDigits r n (drop at after)

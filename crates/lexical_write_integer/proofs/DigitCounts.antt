@@ -105,6 +105,13 @@ div-pow_more r n step taken =
 
 -- ---- the numbers of a type
 
+-- no type has more than 64 bits
+pub width-le_64 : (bits : ℕ) → IsWidth bits → bits ≤ 64
+width-le_64 bits is_8 = omega arith
+width-le_64 bits is_16 = omega arith
+width-le_64 bits is_32 = omega arith
+width-le_64 bits is_64 = omega arith
+
 -- no number of a type has more than 64 digits
 pub digit_count-le_64 : (r n bits : ℕ) → 2 ≤ r → IsWidth bits → n < 2 ^ bits → digit_count r n ≤ 64
 digit_count-le_64 r n bits two is_8 fits = omega (arith, digit_count-le_bits r n 8 two (omega arith) fits)

@@ -1,7 +1,13 @@
 pub mod Blocks
+pub mod DecimalTables
 pub mod DigitCounts
 pub mod HandedFronts
+pub mod Logarithms
+pub mod Loops
+pub mod Notes
 pub mod Numerals
+pub mod RadixPowers
 pub mod Relending
 pub mod Signs
+pub mod TablePairs
 pub mod Values

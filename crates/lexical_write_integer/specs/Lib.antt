@@ -1,6 +1,10 @@
 pub mod Buffer
 pub mod DigitCount
 pub mod Lending
+pub mod Logarithm
 pub mod Need
 pub mod Numeral
+pub mod PowersOfTen
+pub mod Table
 pub mod Text
+pub mod Turns

@@ -1,14 +1,19 @@
 //! Integers to text, in every radix from 2 to 36.
 #![tactic(auto)]
 
+pub mod algorithm;
 mod api;
 mod buffer;
 pub mod compact;
+pub mod decimal;
+pub mod digit_count;
 pub mod laws;
 pub mod options;
+pub mod radix;
 pub mod table;
 #[cfg(test)]
 mod tests;
+pub mod turns;
 
 pub use api::{ToLexical, ToLexicalWithOptions};
 pub use lexical_num::constants::{BUFFER_SIZE, FormattedSize};

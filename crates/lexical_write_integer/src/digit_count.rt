@@ -1,0 +1,188 @@
+//! How many digits a number has.
+
+ghost use Rattle.std.specs.Prelude.{◌≡◌, ◌+◌, ◌/◌, ◌^◌, ◌<◌, ◌≤◌, ◌↔◌, ◌++◌, [], ◌∷◌, IsTrue, IfNone, IfSome, length};
+ghost use Rattle.lexical_num.specs.Format.{IsRadix};
+ghost use Rattle.lexical_num.specs.Width.{IsWidth};
+ghost use Rattle.lexical_write_integer.specs.Logarithm.{IsLog2};
+ghost use Rattle.lexical_write_integer.specs.Numeral.{digit_count};
+ghost use Rattle.lexical_write_integer.specs.Turns.{IsStep, TakesDigits, count_notes, count_turns, slow_notes, slow_turns};
+
+use crate::decimal::DecimalCount;
+use crate::turns::Turns;
+use lexical_num::num::UnsignedInteger;
+
+/// The place of the highest bit that is set, and 0 for 0.
+pub fn fast_log2<T: UnsignedInteger>(x: T) -> usize
+    ensures log2 { IsLog2 (T.magnitude x) result }
+    ensures within { result < T.BITS }
+{
+    (T::BITS - 1).saturating_sub(x.leading_zeros() as usize)
+}
+
+// Whether the radix to the exponent fits a type of so many bits. A loop by that power is open where
+// it does, and nowhere else: in the count as in the table writer.
+fn power_fits(bits: usize, radix: u32, exponent: u32) -> bool
+    requires bits { IsWidth bits }
+    requires radix { IsRadix radix }
+    requires exponent { IsStep exponent }
+    ensures { IsTrue result ↔ (radix ^ exponent < 2 ^ bits) }
+{
+    match (exponent, bits) {
+        (4, 8) => radix <= 3,
+        (4, 16) => radix <= 15,
+        (2, 8) => radix <= 15,
+        _ => true,
+    }
+}
+
+// The radix to the exponent, where it fits the type. Where it does not, no number of the type is as
+// great, and a loop by it would have no turn.
+pub(crate) fn power_of<T: UnsignedInteger>(radix: u32, exponent: u32) -> Option<T>
+    requires radix { IsRadix radix }
+    requires exponent { IsStep exponent }
+    ensures power { IfSome result (λ power. T.magnitude power ≡ radix ^ exponent) }
+    ensures too_great { IfNone result (2 ^ T.BITS ≤ radix ^ exponent) }
+{
+    if power_fits(T::BITS, radix, exponent) {
+        Some(T::from_u32(radix.pow(exponent)))
+    } else {
+        None
+    }
+}
+
+// A turn of the count: a division by a power of the radix, which notes what it leaves.
+fn divide_once<T: UnsignedInteger>(number: T, power: T, turns: &mut Turns) -> T
+    requires { 0 < T.magnitude power }
+    ensures left { T.magnitude result ≡ T.magnitude number / T.magnitude power }
+    ensures notes { turns.new ≡ turns.old ++ T.magnitude result ∷ [] }
+{
+    let (left, _) = number.div_rem(power);
+    turns.tick(left.as_usize() as u64);
+    left
+}
+
+// Takes `step` digits a turn off a number while it has more. It answers what is left, and how many
+// digits were taken.
+fn divide_while_long<T: UnsignedInteger>(
+    value: T,
+    radix: u32,
+    step: u32,
+    turns: &mut Turns,
+) -> (T, usize)
+    requires radix { IsRadix radix }
+    requires step { IsStep step }
+    ensures { TakesDigits radix (T.magnitude value) step result.1 (T.magnitude result.0)
+        turns.old turns.new }
+{
+    value.fits_bits();
+    let Some(power) = power_of::<T>(radix, step) else {
+        return (value, 0);
+    };
+    let mut left = value;
+    let mut taken = 0;
+    while left.is_at_least(power) {
+        left = divide_once(left, power, turns);
+        taken += step as usize;
+    }
+    (left, taken)
+}
+
+/// How many digits the number has, by divisions: a turn takes four digits off while there are more
+/// than four, then two, and then one. The counter gets a note for each division, of what it leaves.
+/// The radix is from 2 to 36.
+#[tactic(auto, using(crate::proofs::RadixPowers::steps))]
+pub fn slow_digit_count_counted<T: UnsignedInteger>(x: T, radix: u32, turns: &mut Turns) -> usize
+    requires { IsRadix radix }
+    ensures count { result ≡ digit_count radix (T.magnitude x) }
+    ensures notes { turns.new ≡ turns.old ++ slow_notes radix (T.magnitude x) }
+    ensures turns { length turns.new ≡ length turns.old + slow_turns result }
+{
+    x.fits_bits();
+    let (left, by_four) = divide_while_long(x, radix, 4, turns);
+    let (left, by_two) = divide_while_long(left, radix, 2, turns);
+    let (_, by_one) = divide_while_long(left, radix, 1, turns);
+    1 + by_four + by_two + by_one
+}
+
+/// How many digits the number has: by its highest bit in the radices that are powers of 2, by its
+/// decimal count in radix 10, and else by divisions, which the counter notes. The radix is from 2
+/// to 36.
+pub fn digit_count_counted<T: DecimalCount>(x: T, radix: u32, turns: &mut Turns) -> usize
+    requires { IsRadix radix }
+    ensures count { result ≡ digit_count radix (T.magnitude x) }
+    ensures notes { turns.new ≡ turns.old ++ count_notes radix (T.magnitude x) }
+    ensures turns { length turns.new ≡ length turns.old + count_turns radix result }
+{
+    match radix {
+        2 => fast_log2(x) + 1,
+        4 => fast_log2(x) / 2 + 1,
+        8 => fast_log2(x) / 3 + 1,
+        16 => fast_log2(x) / 4 + 1,
+        32 => fast_log2(x) / 5 + 1,
+        10 => x.decimal_count(),
+        _ => slow_digit_count_counted(x, radix, turns),
+    }
+}
+
+/// An unsigned integer type whose digits are counted in every radix.
+pub trait DigitCount: DecimalCount {
+    /// How many digits the number has. The radix is from 2 to 36.
+    fn digit_count(self, radix: u32) -> usize
+        requires { IsRadix radix }
+        ensures { result ≡ digit_count radix (Self.magnitude self) };
+
+    /// How many digits the number has, by divisions in every radix. The radix is from 2 to 36.
+    fn slow_digit_count(self, radix: u32) -> usize
+        requires { IsRadix radix }
+        ensures { result ≡ digit_count radix (Self.magnitude self) };
+}
+
+impl DigitCount for u8 {
+    fn digit_count(self, radix: u32) -> usize {
+        digit_count_counted(self, radix, &mut Turns::new())
+    }
+
+    fn slow_digit_count(self, radix: u32) -> usize {
+        slow_digit_count_counted(self, radix, &mut Turns::new())
+    }
+}
+
+impl DigitCount for u16 {
+    fn digit_count(self, radix: u32) -> usize {
+        digit_count_counted(self, radix, &mut Turns::new())
+    }
+
+    fn slow_digit_count(self, radix: u32) -> usize {
+        slow_digit_count_counted(self, radix, &mut Turns::new())
+    }
+}
+
+impl DigitCount for u32 {
+    fn digit_count(self, radix: u32) -> usize {
+        digit_count_counted(self, radix, &mut Turns::new())
+    }
+
+    fn slow_digit_count(self, radix: u32) -> usize {
+        slow_digit_count_counted(self, radix, &mut Turns::new())
+    }
+}
+
+impl DigitCount for u64 {
+    fn digit_count(self, radix: u32) -> usize {
+        digit_count_counted(self, radix, &mut Turns::new())
+    }
+
+    fn slow_digit_count(self, radix: u32) -> usize {
+        slow_digit_count_counted(self, radix, &mut Turns::new())
+    }
+}
+
+impl DigitCount for usize {
+    fn digit_count(self, radix: u32) -> usize {
+        digit_count_counted(self, radix, &mut Turns::new())
+    }
+
+    fn slow_digit_count(self, radix: u32) -> usize {
+        slow_digit_count_counted(self, radix, &mut Turns::new())
+    }
+}

@@ -1,0 +1,62 @@
+//! Numbers to text in every radix, by the tables of pairs.
+
+ghost use Rattle.std.specs.Prelude.{◌≡◌, ◌≤◌, length};
+ghost use Rattle.lexical_num.specs.Format.{IsRadix};
+ghost use Rattle.lexical_write_integer.specs.Buffer.{WritesDigits};
+ghost use Rattle.lexical_write_integer.specs.Numeral.{digit_count};
+
+use crate::algorithm::algorithm;
+use crate::digit_count::DigitCount;
+use crate::table::get_table;
+use lexical_num::num::UnsignedInteger;
+
+// Lends the table writer the table of the radix.
+fn write_by_table<T: DigitCount>(value: T, radix: u32, buffer: &mut [u8]) -> usize
+    requires radix { IsRadix radix }
+    requires room { digit_count radix (T.magnitude value) ≤ length buffer.old }
+    ensures digits { WritesDigits radix (T.magnitude value) buffer.old buffer.new result }
+    ensures count { result ≡ digit_count radix (T.magnitude value) }
+{
+    algorithm(value, radix, get_table(radix), buffer)
+}
+
+/// An unsigned integer type whose numbers are written by the table writer.
+pub trait Radix: UnsignedInteger {
+    /// Writes the digits of the number to the front of the buffer, and answers how many they are.
+    /// The radix is from 2 to 36, and the buffer has room for the digits.
+    fn radix(self, radix: u32, buffer: &mut [u8]) -> usize
+        requires radix { IsRadix radix }
+        requires room { digit_count radix (Self.magnitude self) ≤ length buffer.old }
+        ensures digits { WritesDigits radix (Self.magnitude self) buffer.old buffer.new result }
+        ensures count { result ≡ digit_count radix (Self.magnitude self) };
+}
+
+impl Radix for u8 {
+    fn radix(self, radix: u32, buffer: &mut [u8]) -> usize {
+        write_by_table(self, radix, buffer)
+    }
+}
+
+impl Radix for u16 {
+    fn radix(self, radix: u32, buffer: &mut [u8]) -> usize {
+        write_by_table(self, radix, buffer)
+    }
+}
+
+impl Radix for u32 {
+    fn radix(self, radix: u32, buffer: &mut [u8]) -> usize {
+        write_by_table(self, radix, buffer)
+    }
+}
+
+impl Radix for u64 {
+    fn radix(self, radix: u32, buffer: &mut [u8]) -> usize {
+        write_by_table(self, radix, buffer)
+    }
+}
+
+impl Radix for usize {
+    fn radix(self, radix: u32, buffer: &mut [u8]) -> usize {
+        write_by_table(self, radix, buffer)
+    }
+}

@@ -1,0 +1,183 @@
+//! The turns of single calls. No test can read a counter, so each row is a function that makes the
+//! calls, each with a new counter, and hands the counters back: its contract is the row.
+#![tactic(auto, unfolding(lexical_write_integer::specs::Numeral::digit_count, lexical_write_integer::specs::Numeral::least_exponent, lexical_write_integer::specs::Turns::rests, lexical_write_integer::specs::Turns::one_notes, lexical_write_integer::specs::Turns::loop_notes, lexical_write_integer::specs::Turns::slow_notes, lexical_write_integer::specs::Turns::count_notes, lexical_write_integer::specs::Turns::table_notes))]
+
+ghost use Rattle.std.specs.Prelude.{◌≡◌, ◌-◌, ◌^◌, ◌<◌, ◌≤◌, [], ◌∷◌, length};
+ghost use Rattle.lexical_num.specs.Format.{IsRadix};
+ghost use Rattle.lexical_write_integer.specs.Turns.{one_notes, one_turns, slow_notes, slow_turns, table_notes, table_turns};
+
+use lexical_num::num::UnsignedInteger;
+use lexical_write_integer::algorithm::algorithm_counted;
+use lexical_write_integer::compact::compact_counted;
+use lexical_write_integer::digit_count::{DigitCount, slow_digit_count_counted};
+use lexical_write_integer::laws::digit_count_is_least;
+use lexical_write_integer::table::get_table;
+use lexical_write_integer::turns::Turns;
+
+/// The counters of three calls: the table writer with the count that it makes, the slow count, and
+/// the plain writer.
+#[derive(Drop)]
+pub struct Counters {
+    pub table: Turns,
+    pub slow: Turns,
+    pub compact: Turns,
+}
+
+/// The turns of a number with so many digits in the radix.
+pub fn turns_of<T: DigitCount>(value: T, radix: u32, digits: usize) -> Counters
+    requires radix { IsRadix radix }
+    requires some { 1 ≤ digits }
+    requires enough { T.magnitude value < radix ^ digits }
+    requires needed { 1 < digits → radix ^ (digits - 1) ≤ T.magnitude value }
+    ensures table { result.table ≡ table_notes radix (T.magnitude value) }
+    ensures slow { result.slow ≡ slow_notes radix (T.magnitude value) }
+    ensures compact { result.compact ≡ one_notes radix (T.magnitude value) }
+    ensures table_turns { length result.table ≡ table_turns radix digits }
+    ensures slow_turns { length result.slow ≡ slow_turns digits }
+    ensures compact_turns { length result.compact ≡ one_turns digits }
+{
+    digit_count_is_least(radix, value.as_usize() as u64);
+    let mut table = Turns::new();
+    algorithm_counted(value, radix, get_table(radix), &mut [0; 64], &mut table);
+    let mut slow = Turns::new();
+    slow_digit_count_counted(value, radix, &mut slow);
+    let mut compact = Turns::new();
+    compact_counted(value, radix, &mut [0; 64], &mut compact);
+    Counters {
+        table,
+        slow,
+        compact,
+    }
+}
+
+/// 255 is `100110` in radix 3.
+pub fn notes_of_255_in_radix_3() -> Counters
+    ensures table { result.table ≡ 3 ∷ 1 ∷ 3 ∷ [] }
+    ensures slow { result.slow ≡ 3 ∷ 1 ∷ [] }
+    ensures compact { result.compact ≡ 85 ∷ 28 ∷ 9 ∷ 3 ∷ 1 ∷ [] }
+{
+    turns_of(255u8, 3, 6)
+}
+
+/// 255 is `FF` in radix 16.
+pub fn notes_of_255_in_radix_16() -> Counters
+    ensures table { result.table ≡ [] }
+    ensures slow { result.slow ≡ 15 ∷ [] }
+    ensures compact { result.compact ≡ 15 ∷ [] }
+{
+    turns_of(255u8, 16, 2)
+}
+
+/// 0 has one digit.
+pub fn turns_of_0_in_radix_2() -> Counters
+    ensures table { length result.table ≡ 0 }
+    ensures slow { length result.slow ≡ 0 }
+    ensures compact { length result.compact ≡ 0 }
+{
+    turns_of(0u8, 2, 1)
+}
+
+/// 255 has eight digits in radix 2.
+pub fn turns_of_255_in_radix_2() -> Counters
+    ensures table { length result.table ≡ 2 }
+    ensures slow { length result.slow ≡ 3 }
+    ensures compact { length result.compact ≡ 7 }
+{
+    turns_of(255u8, 2, 8)
+}
+
+/// 255 has four digits in radix 4, by whose fourth power no byte is divided.
+pub fn turns_of_255_in_radix_4() -> Counters
+    ensures table { length result.table ≡ 1 }
+    ensures slow { length result.slow ≡ 2 }
+    ensures compact { length result.compact ≡ 3 }
+{
+    turns_of(255u8, 4, 4)
+}
+
+/// 255 has three digits in radix 15.
+pub fn turns_of_255_in_radix_15() -> Counters
+    ensures table { length result.table ≡ 2 }
+    ensures slow { length result.slow ≡ 1 }
+    ensures compact { length result.compact ≡ 2 }
+{
+    turns_of(255u8, 15, 3)
+}
+
+/// 255 has two digits in radix 16, by whose square no byte is divided.
+pub fn turns_of_255_in_radix_16() -> Counters
+    ensures table { length result.table ≡ 0 }
+    ensures slow { length result.slow ≡ 1 }
+    ensures compact { length result.compact ≡ 1 }
+{
+    turns_of(255u8, 16, 2)
+}
+
+/// 65535 has five digits in radix 15.
+pub fn turns_of_65535_in_radix_15() -> Counters
+    ensures table { length result.table ≡ 2 }
+    ensures slow { length result.slow ≡ 1 }
+    ensures compact { length result.compact ≡ 4 }
+{
+    turns_of(65535u16, 15, 5)
+}
+
+/// 65535 has four digits in radix 16, by whose fourth power no two bytes are divided.
+pub fn turns_of_65535_in_radix_16() -> Counters
+    ensures table { length result.table ≡ 1 }
+    ensures slow { length result.slow ≡ 2 }
+    ensures compact { length result.compact ≡ 3 }
+{
+    turns_of(65535u16, 16, 4)
+}
+
+/// The greatest number of 64 bits has 64 digits in radix 2.
+pub fn turns_of_the_greatest_in_radix_2() -> Counters
+    ensures table { length result.table ≡ 16 }
+    ensures slow { length result.slow ≡ 17 }
+    ensures compact { length result.compact ≡ 63 }
+{
+    turns_of(u64::MAX, 2, 64)
+}
+
+/// The greatest number of 64 bits has 13 digits in radix 36.
+pub fn turns_of_the_greatest_in_radix_36() -> Counters
+    ensures table { length result.table ≡ 6 }
+    ensures slow { length result.slow ≡ 3 }
+    ensures compact { length result.compact ≡ 12 }
+{
+    turns_of(u64::MAX, 36, 13)
+}
+
+/// No number of 64 bits has more turns of the table writer than one of 40 digits in radix 3.
+pub fn turns_of_40_digits_in_radix_3() -> Counters
+    ensures table { length result.table ≡ 21 }
+    ensures slow { length result.slow ≡ 11 }
+    ensures compact { length result.compact ≡ 39 }
+{
+    turns_of(12157665459056928800u64, 3, 40)
+}
+
+#[cfg(test)]
+mod tests {
+    use super::*;
+    use std::mem::size_of;
+
+    // The rows themselves are the contracts.
+    #[test]
+    fn counters_take_no_bytes(rt: HostRuntime) {
+        notes_of_255_in_radix_3();
+        notes_of_255_in_radix_16();
+        turns_of_0_in_radix_2();
+        turns_of_255_in_radix_2();
+        turns_of_255_in_radix_4();
+        turns_of_255_in_radix_15();
+        turns_of_255_in_radix_16();
+        turns_of_65535_in_radix_15();
+        turns_of_65535_in_radix_16();
+        turns_of_the_greatest_in_radix_2();
+        turns_of_the_greatest_in_radix_36();
+        turns_of_40_digits_in_radix_3();
+        assert_eq!(rt; size_of::<Counters>(), 0);
+    }
+}
