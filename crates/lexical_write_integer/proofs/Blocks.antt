@@ -50,7 +50,7 @@ mod-pow_split r n i j two =
     ap (λ k. n % k) (pow-add r i j) ∙ ap (λ k. k % (s * p)) (sym parts) ∙ mod-mul-add (q / s) (s * p) (q % s * p + n % p) low
 
 -- the next digits of a number, in front of its last ones
-WritesBlock-next : (r n taken step at : ℕ) (before between after : List ℕ) → 2 ≤ r → WritesBlock r taken (n % r ^ taken) (at + step) before between → WritesBlock r step (n / r ^ taken % r ^ step) at between after → WritesBlock r (step + taken) (n % r ^ (step + taken)) at before after
+pub WritesBlock-next : (r n taken step at : ℕ) (before between after : List ℕ) → 2 ≤ r → WritesBlock r taken (n % r ^ taken) (at + step) before between → WritesBlock r step (n / r ^ taken % r ^ step) at between after → WritesBlock r (step + taken) (n % r ^ (step + taken)) at before after
 WritesBlock-next r n taken step at before between after two last first =
     rw (mod-pow_split r n step taken two) (WritesBlock-front r step taken (n / r ^ taken % r ^ step) (n % r ^ taken) at before between after last first)
 

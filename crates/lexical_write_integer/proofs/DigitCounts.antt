@@ -52,6 +52,10 @@ digit_count-full r n two long =
       | inr more ↦ more
     ]
 
+-- a smaller number has no more digits
+pub digit_count-monotone : (r m n : ℕ) → 2 ≤ r → m ≤ n → digit_count r m ≤ digit_count r n
+digit_count-monotone r m n two less = digit_count-le r m (digit_count r n) (digit_count-pos r n) (omega (arith, digit_count-fits r n two))
+
 -- a count that both sides allow is the count
 pub digit_count-is : (r number n : ℕ) → 2 ≤ r → 1 ≤ n → number < r ^ n → (1 < n → r ^ (n - 1) ≤ number) → digit_count r number ≡ n
 digit_count-is r number n two pos fits full =

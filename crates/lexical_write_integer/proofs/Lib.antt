@@ -1,11 +1,14 @@
 pub mod Blocks
+pub mod BlocksBehind
 pub mod DecimalTables
 pub mod DigitCounts
+pub mod Fractions
 pub mod HandedFronts
 pub mod Logarithms
 pub mod Loops
 pub mod Notes
 pub mod Numerals
+pub mod PairBlocks
 pub mod RadixPowers
 pub mod Relending
 pub mod Signs

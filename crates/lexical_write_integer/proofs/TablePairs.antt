@@ -30,7 +30,7 @@ pair_second r place table t even within =
     sym (get_or-take (2 * (r * r)) table (place + 1) 0 (omega arith)) ∙ ap (λ list. get_or list (place + 1) 0) t.first ∙ rw twice at (slice_index-pairs_second r (place / 2) within) ∙ same_characters (place / 2 % r)
 
 -- two digits, the last one first
-WritesBlock-two : (r n at : ℕ) (list : List ℕ) → 0 < r → n < r * r → at + 2 ≤ length list → WritesBlock r 2 n at list (set (set list (at + 1) (digit_char (n % r))) at (digit_char (n / r)))
+pub WritesBlock-two : (r n at : ℕ) (list : List ℕ) → 0 < r → n < r * r → at + 2 ≤ length list → WritesBlock r 2 n at list (set (set list (at + 1) (digit_char (n % r))) at (digit_char (n / r)))
 WritesBlock-two r n at list some small room =
     let between = set list (at + 1) (digit_char (n % r)) in
     let whole : n / r * r ^ 1 + n % r ≡ n = rw pow-one (div-add-mod' n r) in

@@ -1,8 +1,10 @@
 pub mod Buffer
+pub mod Carries
 pub mod DigitCount
 pub mod Lending
 pub mod Logarithm
 pub mod Need
+pub mod Notes
 pub mod Numeral
 pub mod PowersOfTen
 pub mod Table

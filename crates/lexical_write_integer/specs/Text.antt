@@ -17,9 +17,12 @@ pub record IsText (number : ℤ) (format : Format) (text : List ℕ) : Type 0 wh
   pub magnitude : IsDigits format.mantissa_radix (unsigned_abs number) digits
   pub whole : text ≡ sign_of number format.required_mantissa_sign ++ digits
 
--- how many bytes a caller lends for a number of a type with so many decimal digits: the sign, and in radix 10 the full
--- width of the type, else the digits of the magnitude
+-- how many bytes a caller lends for the digits of a number, of a type with so many decimal digits: in radix 10 the full
+-- width of the type, else as many as the digits
+abbrev pub digits_need : ℕ → ℕ → ℕ → ℕ
+digits_need r number decimal_width = if r == 10 then decimal_width else digit_count r number
+
+-- the same for a number with its sign
 abbrev pub need : ℤ → ℕ → Format → ℕ
 need number decimal_width format =
-    length (sign_of number format.required_mantissa_sign)
-    + (if format.mantissa_radix == 10 then decimal_width else digit_count format.mantissa_radix (unsigned_abs number))
+    length (sign_of number format.required_mantissa_sign) + digits_need format.mantissa_radix (unsigned_abs number) decimal_width

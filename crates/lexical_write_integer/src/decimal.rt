@@ -1,12 +1,21 @@
-//! How many decimal digits a number has.
+//! Decimal digits: how many a number has, and the writer of each type.
 
-ghost use Rattle.std.specs.Prelude.{◌≡◌, ◌^◌, map};
+ghost use Rattle.std.specs.Prelude.{◌≡◌, ℕ, pos, negsuc, ◌+◌, ◌-◌, ◌/◌, ◌^◌, ◌<◌, ◌≤◌, ◌++◌, length, map};
+ghost use Rattle.std.proofs.Common.{lit≤};
+ghost use Rattle.lexical_num.specs.DecimalWidth.{IsDecimalWidth, signed_decimal_width};
+ghost use Rattle.lexical_write_integer.specs.Buffer.{WritesDigits};
 ghost use Rattle.lexical_write_integer.specs.Logarithm.{IsLog10Estimate};
+ghost use Rattle.lexical_write_integer.specs.Notes.{decimal_notes};
 ghost use Rattle.lexical_write_integer.specs.Numeral.{digit_count};
 ghost use Rattle.lexical_write_integer.specs.PowersOfTen.{IsPowersOfTen};
 
 use crate::digit_count::fast_log2;
-use lexical_num::num::UnsignedInteger;
+use crate::jeaiii::{
+    from_i64, from_u8, from_u8_counted, from_u16, from_u16_counted, from_u32, from_u32_counted,
+    from_u64, from_u64_counted,
+};
+use crate::turns::Turns;
+use lexical_num::num::{LexicalInteger, UnsignedInteger};
 
 // A digit, in a sum whose high half counts digits.
 const ONE: u64 = 1 << 32;
@@ -138,5 +147,143 @@ impl DecimalCount for u64 {
 impl DecimalCount for usize {
     fn decimal_count(self) -> usize {
         (self as u64).decimal_count()
+    }
+}
+
+/// An unsigned integer type whose numbers are written in decimal, two digits at a time.
+pub trait Decimal: DecimalCount {
+    /// The most decimal digits that the magnitude of a number has, of the signed type of as many
+    /// bits.
+    const SIGNED_WIDTH: usize;
+
+    ghost SIGNED_WIDTH: { ℕ };
+
+    /// Writes the digits of the number to the front of the buffer, of at least `DECIMAL_WIDTH`
+    /// bytes, and answers how many they are.
+    fn decimal(self, buffer: &mut [u8]) -> usize
+        requires { Self.DECIMAL_WIDTH ≤ length buffer.old }
+        ensures digits { WritesDigits 10 (Self.magnitude self) buffer.old buffer.new result }
+        ensures count { result ≡ digit_count 10 (Self.magnitude self) };
+
+    /// Writes the digits of a number below 10^`SIGNED_WIDTH` to the front of the buffer, of at
+    /// least `SIGNED_WIDTH` bytes, and answers how many they are.
+    fn decimal_signed(self, buffer: &mut [u8]) -> usize
+        requires number { Self.magnitude self < 10 ^ SIGNED_WIDTH }
+        requires room { SIGNED_WIDTH ≤ length buffer.old }
+        ensures digits { WritesDigits 10 (Self.magnitude self) buffer.old buffer.new result }
+        ensures count { result ≡ digit_count 10 (Self.magnitude self) };
+
+    /// `decimal`, under the same condition, with its turns counted: one for each pair of digits
+    /// behind the first.
+    fn decimal_counted(self, buffer: &mut [u8], turns: &mut Turns) -> usize
+        requires { Self.DECIMAL_WIDTH ≤ length buffer.old }
+        ensures digits { WritesDigits 10 (Self.magnitude self) buffer.old buffer.new result }
+        ensures count { result ≡ digit_count 10 (Self.magnitude self) }
+        ensures notes { turns.new ≡ turns.old ++ decimal_notes Self.BITS (Self.magnitude self) }
+        ensures half { length turns.new ≡ length turns.old + (result - 1) / 2 }
+        ensures few { length turns.new ≤ length turns.old + 9 };
+
+    ghost signed_width: { let greatest = 2 ^ (Self.BITS - 1) - 1 in
+        IsDecimalWidth (negsuc greatest) (pos greatest) SIGNED_WIDTH };
+}
+
+impl Decimal for u8 {
+    const SIGNED_WIDTH: usize = 3;
+
+    ghost SIGNED_WIDTH = { 3 };
+
+    ghost signed_width = { signed_decimal_width (2 ^ 7 - 1) 3 (lit≤ tt) (lit≤ tt) (lit≤ tt) };
+
+    fn decimal(self, buffer: &mut [u8]) -> usize {
+        from_u8(self, buffer)
+    }
+
+    fn decimal_signed(self, buffer: &mut [u8]) -> usize {
+        from_u8(self, buffer)
+    }
+
+    fn decimal_counted(self, buffer: &mut [u8], turns: &mut Turns) -> usize {
+        from_u8_counted(self, buffer, turns)
+    }
+}
+
+impl Decimal for u16 {
+    const SIGNED_WIDTH: usize = 5;
+
+    ghost SIGNED_WIDTH = { 5 };
+
+    ghost signed_width = { signed_decimal_width (2 ^ 15 - 1) 5 (lit≤ tt) (lit≤ tt) (lit≤ tt) };
+
+    fn decimal(self, buffer: &mut [u8]) -> usize {
+        from_u16(self, buffer)
+    }
+
+    fn decimal_signed(self, buffer: &mut [u8]) -> usize {
+        from_u16(self, buffer)
+    }
+
+    fn decimal_counted(self, buffer: &mut [u8], turns: &mut Turns) -> usize {
+        from_u16_counted(self, buffer, turns)
+    }
+}
+
+impl Decimal for u32 {
+    const SIGNED_WIDTH: usize = 10;
+
+    ghost SIGNED_WIDTH = { 10 };
+
+    ghost signed_width = { signed_decimal_width (2 ^ 31 - 1) 10 (lit≤ tt) (lit≤ tt) (lit≤ tt) };
+
+    fn decimal(self, buffer: &mut [u8]) -> usize {
+        from_u32(self, buffer)
+    }
+
+    fn decimal_signed(self, buffer: &mut [u8]) -> usize {
+        from_u32(self, buffer)
+    }
+
+    fn decimal_counted(self, buffer: &mut [u8], turns: &mut Turns) -> usize {
+        from_u32_counted(self, buffer, turns)
+    }
+}
+
+impl Decimal for u64 {
+    const SIGNED_WIDTH: usize = 19;
+
+    ghost SIGNED_WIDTH = { 19 };
+
+    ghost signed_width = { signed_decimal_width (2 ^ 63 - 1) 19 (lit≤ tt) (lit≤ tt) (lit≤ tt) };
+
+    fn decimal(self, buffer: &mut [u8]) -> usize {
+        from_u64(self, buffer)
+    }
+
+    fn decimal_signed(self, buffer: &mut [u8]) -> usize {
+        from_i64(self, buffer)
+    }
+
+    fn decimal_counted(self, buffer: &mut [u8], turns: &mut Turns) -> usize {
+        from_u64_counted(self, buffer, turns)
+    }
+}
+
+// A `usize` has 64 bits.
+impl Decimal for usize {
+    const SIGNED_WIDTH: usize = 19;
+
+    ghost SIGNED_WIDTH = { 19 };
+
+    ghost signed_width = { signed_decimal_width (2 ^ 63 - 1) 19 (lit≤ tt) (lit≤ tt) (lit≤ tt) };
+
+    fn decimal(self, buffer: &mut [u8]) -> usize {
+        from_u64(self as u64, buffer)
+    }
+
+    fn decimal_signed(self, buffer: &mut [u8]) -> usize {
+        from_i64(self as u64, buffer)
+    }
+
+    fn decimal_counted(self, buffer: &mut [u8], turns: &mut Turns) -> usize {
+        from_u64_counted(self as u64, buffer, turns)
     }
 }

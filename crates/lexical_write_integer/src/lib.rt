@@ -7,13 +7,17 @@ mod buffer;
 pub mod compact;
 pub mod decimal;
 pub mod digit_count;
+pub mod jeaiii;
+mod kernels;
 pub mod laws;
 pub mod options;
+mod pairs;
 pub mod radix;
 pub mod table;
 #[cfg(test)]
 mod tests;
 pub mod turns;
+pub mod write;
 
 pub use api::{ToLexical, ToLexicalWithOptions};
 pub use lexical_num::constants::{BUFFER_SIZE, FormattedSize};

@@ -1,0 +1,47 @@
+// The kernels on known values: the fraction that each answers, and the pairs that it carries.
+
+use lexical_write_integer::jeaiii::{
+    fixed_2, fixed_4, fixed_6, fixed_8_nine, fixed_8_ten, fixed_8_wide, next2,
+};
+use std::process::Abort;
+
+// The fraction is the one that is wanted, and so are its first pair and each pair behind it.
+fn check_fraction(rt: &impl Abort, fraction: u64, wanted: u64, first: u64, pairs: &[u32]) {
+    assert_eq!(rt; fraction, wanted);
+    assert_eq!(rt; fraction >> 32, first);
+    let mut rest = fraction;
+    for pair in pairs {
+        assert_eq!(rt; next2(&mut rest), *pair);
+    }
+}
+
+#[test]
+fn fractions_and_their_pairs(rt: HostRuntime) {
+    check_fraction(&rt, fixed_2(1234), 52999896482, 12, &[34]);
+    check_fraction(&rt, fixed_4(999999), 429496570503, 99, &[99, 99]);
+    check_fraction(&rt, fixed_6(1000000), 4294967315, 1, &[0, 0, 0]);
+    check_fraction(&rt, fixed_8_nine(999999999), 42949672954, 9, &[99; 4]);
+    check_fraction(
+        &rt,
+        fixed_8_ten(4294967295),
+        184467440725,
+        42,
+        &[94, 96, 72, 95],
+    );
+    check_fraction(&rt, fixed_8_wide(1000000000), 42949672963, 10, &[0; 4]);
+    check_fraction(
+        &rt,
+        fixed_8_wide(4294967296),
+        184467440752,
+        42,
+        &[94, 96, 72, 96],
+    );
+    check_fraction(&rt, fixed_8_wide(9999999999), 429496729591, 99, &[99; 4]);
+}
+
+#[test]
+fn next2_leaves_its_product(rt: HostRuntime) {
+    let mut product = fixed_2(1234);
+    assert_eq!(&rt; next2(&mut product), 34);
+    assert_eq!(&rt; product, 146028893000);
+}

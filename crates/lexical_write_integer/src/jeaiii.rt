@@ -1,0 +1,178 @@
+//! The decimal writers. A number of 3 to 10 digits is turned into a fixed-point fraction, by one
+//! product with the reciprocal of a power of 100; from there each product by 100 gives two digits,
+//! and no digit takes a division. The algorithm is James Anhalt's jeaiii
+//! (<https://github.com/jeaiii/itoa>); digits from the fraction of a product with a reciprocal are
+//! described in Lemire, Kaser and Kurz, "Faster Remainder by Direct Computation" (2019).
+//!
+//! Each counted call does what its plain call does, and counts one turn for each pair of digits
+//! behind the first: at most 9.
+
+ghost use Rattle.std.specs.Prelude.{◌≡◌, ◌+◌, ◌-◌, ◌/◌, ◌^◌, ◌<◌, ◌≤◌, ◌++◌, length};
+ghost use Rattle.lexical_write_integer.specs.Buffer.{WritesDigits};
+ghost use Rattle.lexical_write_integer.specs.Notes.{decimal_notes_32, decimal_notes_64};
+ghost use Rattle.lexical_write_integer.specs.Numeral.{digit_count};
+
+pub use crate::kernels::{
+    fixed_2, fixed_4, fixed_6, fixed_8_nine, fixed_8_ten, fixed_8_wide, next2,
+};
+use crate::pairs::{write_first_pair, write_last_ten, write_pairs};
+use crate::turns::Turns;
+
+// Writes the digits of a number of up to 32 bits.
+#[tactic(auto, using(crate::proofs::PairBlocks::widest), unfolding(crate::specs::Notes::decimal_notes_32))]
+fn write_32(n: u32, buffer: &mut [u8], turns: &mut Turns) -> usize
+    requires { digit_count 10 n ≤ length buffer.old }
+    ensures digits { WritesDigits 10 n buffer.old buffer.new result }
+    ensures count { result ≡ digit_count 10 n }
+    ensures notes { turns.new ≡ turns.old ++ decimal_notes_32 n }
+    ensures half { length turns.new ≡ length turns.old + (result - 1) / 2 }
+    ensures few { length turns.new ≤ length turns.old + 9 }
+{
+    if n < 100 {
+        write_first_pair(n, buffer)
+    } else if n < 10_000 {
+        write_pairs(fixed_2(n), 1, buffer, turns)
+    } else if n < 1_000_000 {
+        write_pairs(fixed_4(n), 2, buffer, turns)
+    } else if n < 100_000_000 {
+        write_pairs(fixed_6(n), 3, buffer, turns)
+    } else if n < 1_000_000_000 {
+        write_pairs(fixed_8_nine(n), 4, buffer, turns)
+    } else {
+        write_pairs(fixed_8_ten(n), 4, buffer, turns)
+    }
+}
+
+// Writes the digits of a number. From 11 digits on the last ten are written by division, behind
+// those in front of them.
+#[tactic(auto, using(crate::proofs::PairBlocks::widest), unfolding(crate::specs::Notes::decimal_notes_64))]
+fn write_64(n: u64, buffer: &mut [u8], turns: &mut Turns) -> usize
+    requires { digit_count 10 n ≤ length buffer.old }
+    ensures digits { WritesDigits 10 n buffer.old buffer.new result }
+    ensures count { result ≡ digit_count 10 n }
+    ensures notes { turns.new ≡ turns.old ++ decimal_notes_64 n }
+    ensures half { length turns.new ≡ length turns.old + (result - 1) / 2 }
+    ensures few { length turns.new ≤ length turns.old + 9 }
+{
+    if n < 1_000_000_000 {
+        write_32(n as u32, buffer, turns)
+    } else if n < 10_000_000_000 {
+        write_pairs(fixed_8_wide(n), 4, buffer, turns)
+    } else {
+        let front = write_32((n / 10_000_000_000) as u32, buffer, turns);
+        write_last_ten(n, front, buffer, turns);
+        front + 10
+    }
+}
+
+/// Writes the digits of a number to the front of the buffer, of at least 3 bytes, and answers how
+/// many they are.
+pub fn from_u8(n: u8, buffer: &mut [u8]) -> usize
+    requires { 3 ≤ length buffer.old }
+    ensures digits { WritesDigits 10 n buffer.old buffer.new result }
+    ensures count { result ≡ digit_count 10 n }
+{
+    from_u8_counted(n, buffer, &mut Turns::new())
+}
+
+/// Writes the digits of a number to the front of the buffer, of at least 5 bytes, and answers how
+/// many they are.
+pub fn from_u16(n: u16, buffer: &mut [u8]) -> usize
+    requires { 5 ≤ length buffer.old }
+    ensures digits { WritesDigits 10 n buffer.old buffer.new result }
+    ensures count { result ≡ digit_count 10 n }
+{
+    from_u16_counted(n, buffer, &mut Turns::new())
+}
+
+/// Writes the digits of a number to the front of the buffer, of at least 10 bytes, and answers how
+/// many they are.
+pub fn from_u32(n: u32, buffer: &mut [u8]) -> usize
+    requires { 10 ≤ length buffer.old }
+    ensures digits { WritesDigits 10 n buffer.old buffer.new result }
+    ensures count { result ≡ digit_count 10 n }
+{
+    from_u32_counted(n, buffer, &mut Turns::new())
+}
+
+/// Writes the digits of a number to the front of the buffer, of at least 20 bytes, and answers how
+/// many they are.
+pub fn from_u64(n: u64, buffer: &mut [u8]) -> usize
+    requires { 20 ≤ length buffer.old }
+    ensures digits { WritesDigits 10 n buffer.old buffer.new result }
+    ensures count { result ≡ digit_count 10 n }
+{
+    from_u64_counted(n, buffer, &mut Turns::new())
+}
+
+/// Writes the digits of a number below 10^19, as is the magnitude of each `i64`, to the front of
+/// the buffer, of at least 19 bytes, and answers how many they are.
+pub fn from_i64(n: u64, buffer: &mut [u8]) -> usize
+    requires number { n < 10 ^ 19 }
+    requires room { 19 ≤ length buffer.old }
+    ensures digits { WritesDigits 10 n buffer.old buffer.new result }
+    ensures count { result ≡ digit_count 10 n }
+{
+    from_i64_counted(n, buffer, &mut Turns::new())
+}
+
+/// `from_u8`, under the same condition, with its turns counted.
+pub fn from_u8_counted(n: u8, buffer: &mut [u8], turns: &mut Turns) -> usize
+    requires { 3 ≤ length buffer.old }
+    ensures digits { WritesDigits 10 n buffer.old buffer.new result }
+    ensures count { result ≡ digit_count 10 n }
+    ensures notes { turns.new ≡ turns.old ++ decimal_notes_32 n }
+    ensures half { length turns.new ≡ length turns.old + (result - 1) / 2 }
+    ensures few { length turns.new ≤ length turns.old + 9 }
+{
+    write_32(u32::from(n), buffer, turns)
+}
+
+/// `from_u16`, under the same condition, with its turns counted.
+pub fn from_u16_counted(n: u16, buffer: &mut [u8], turns: &mut Turns) -> usize
+    requires { 5 ≤ length buffer.old }
+    ensures digits { WritesDigits 10 n buffer.old buffer.new result }
+    ensures count { result ≡ digit_count 10 n }
+    ensures notes { turns.new ≡ turns.old ++ decimal_notes_32 n }
+    ensures half { length turns.new ≡ length turns.old + (result - 1) / 2 }
+    ensures few { length turns.new ≤ length turns.old + 9 }
+{
+    write_32(u32::from(n), buffer, turns)
+}
+
+/// `from_u32`, under the same condition, with its turns counted.
+pub fn from_u32_counted(n: u32, buffer: &mut [u8], turns: &mut Turns) -> usize
+    requires { 10 ≤ length buffer.old }
+    ensures digits { WritesDigits 10 n buffer.old buffer.new result }
+    ensures count { result ≡ digit_count 10 n }
+    ensures notes { turns.new ≡ turns.old ++ decimal_notes_32 n }
+    ensures half { length turns.new ≡ length turns.old + (result - 1) / 2 }
+    ensures few { length turns.new ≤ length turns.old + 9 }
+{
+    write_32(n, buffer, turns)
+}
+
+/// `from_u64`, under the same condition, with its turns counted.
+pub fn from_u64_counted(n: u64, buffer: &mut [u8], turns: &mut Turns) -> usize
+    requires { 20 ≤ length buffer.old }
+    ensures digits { WritesDigits 10 n buffer.old buffer.new result }
+    ensures count { result ≡ digit_count 10 n }
+    ensures notes { turns.new ≡ turns.old ++ decimal_notes_64 n }
+    ensures half { length turns.new ≡ length turns.old + (result - 1) / 2 }
+    ensures few { length turns.new ≤ length turns.old + 9 }
+{
+    write_64(n, buffer, turns)
+}
+
+/// `from_i64`, under the same conditions, with its turns counted.
+pub fn from_i64_counted(n: u64, buffer: &mut [u8], turns: &mut Turns) -> usize
+    requires number { n < 10 ^ 19 }
+    requires room { 19 ≤ length buffer.old }
+    ensures digits { WritesDigits 10 n buffer.old buffer.new result }
+    ensures count { result ≡ digit_count 10 n }
+    ensures notes { turns.new ≡ turns.old ++ decimal_notes_64 n }
+    ensures half { length turns.new ≡ length turns.old + (result - 1) / 2 }
+    ensures few { length turns.new ≤ length turns.old + 9 }
+{
+    write_64(n, buffer, turns)
+}

@@ -1,0 +1,178 @@
+//! The writer of every radix: in radix 10 the decimal writer, and else the table writer.
+
+ghost use Rattle.std.specs.Prelude.{◌≡◌, ◌+◌, ◌^◌, ◌<◌, ◌≤◌, ◌++◌, length};
+ghost use Rattle.lexical_num.specs.Format.{IsRadix};
+ghost use Rattle.lexical_write_integer.specs.Buffer.{WritesDigits};
+ghost use Rattle.lexical_write_integer.specs.Notes.{write_notes, write_turns};
+ghost use Rattle.lexical_write_integer.specs.Numeral.{digit_count};
+ghost use Rattle.lexical_write_integer.specs.Text.{digits_need};
+
+use crate::algorithm::algorithm_counted;
+use crate::decimal::Decimal;
+use crate::digit_count::DigitCount;
+use crate::radix::Radix;
+use crate::turns::Turns;
+use lexical_num::format::NumberFormat;
+use lexical_num::num::{LexicalInteger, UnsignedInteger};
+use lexical_tables::get_table;
+
+/// Writes the digits of the number to the front of the buffer, and answers how many they are. The
+/// radix is from 2 to 36. In radix 10 the buffer has at least `DECIMAL_WIDTH` bytes, else room for
+/// the digits. The counter gets the notes of the writer: at most 21, and in radix 10 at most 9.
+pub fn write_integer_counted<T: Decimal + DigitCount>(
+    value: T,
+    radix: u32,
+    buffer: &mut [u8],
+    turns: &mut Turns,
+) -> usize
+    requires radix { IsRadix radix }
+    requires room { digits_need radix (T.magnitude value) T.DECIMAL_WIDTH ≤ length buffer.old }
+    ensures digits { WritesDigits radix (T.magnitude value) buffer.old buffer.new result }
+    ensures count { result ≡ digit_count radix (T.magnitude value) }
+    ensures notes { turns.new ≡ turns.old ++ write_notes T.BITS radix (T.magnitude value) }
+    ensures turns { length turns.new ≡ length turns.old + write_turns radix result }
+    ensures few_turns { length turns.new ≤ length turns.old + 21 }
+    ensures few_decimal_turns { radix ≡ 10 → length turns.new ≤ length turns.old + 9 }
+{
+    if radix == 10 {
+        value.decimal_counted(buffer, turns)
+    } else {
+        algorithm_counted(value, radix, get_table(radix), buffer, turns)
+    }
+}
+
+// The same for the magnitude of a number of a signed type, which has room for fewer digits.
+fn write_magnitude<T: Decimal + Radix>(value: T, radix: u32, buffer: &mut [u8]) -> usize
+    requires radix { IsRadix radix }
+    requires number { radix ≡ 10 → T.magnitude value < 10 ^ T.SIGNED_WIDTH }
+    requires room { digits_need radix (T.magnitude value) T.SIGNED_WIDTH ≤ length buffer.old }
+    ensures digits { WritesDigits radix (T.magnitude value) buffer.old buffer.new result }
+    ensures count { result ≡ digit_count radix (T.magnitude value) }
+{
+    if radix == 10 {
+        value.decimal_signed(buffer)
+    } else {
+        value.radix(radix, buffer)
+    }
+}
+
+/// An unsigned integer type whose numbers are written in each radix. Each call writes the digits of
+/// the number to the front of the buffer, without a sign, and answers how many they are. In radix 10
+/// the buffer has at least `DECIMAL_WIDTH` bytes, or for the `_signed` calls at least `SIGNED_WIDTH`,
+/// and the number of these is below 10^`SIGNED_WIDTH`; in another radix it has room for the digits.
+pub trait WriteInteger: Decimal + Radix {
+    /// In a radix from 2 to 36.
+    fn write_integer(self, radix: u32, buffer: &mut [u8]) -> usize
+        requires radix { IsRadix radix }
+        requires room { digits_need radix (Self.magnitude self) Self.DECIMAL_WIDTH
+            ≤ length buffer.old }
+        ensures digits { WritesDigits radix (Self.magnitude self) buffer.old buffer.new result }
+        ensures count { result ≡ digit_count radix (Self.magnitude self) };
+
+    /// In a radix from 2 to 36, of the magnitude of a signed number.
+    fn write_integer_signed(self, radix: u32, buffer: &mut [u8]) -> usize
+        requires radix { IsRadix radix }
+        requires number { radix ≡ 10 → Self.magnitude self < 10 ^ Self.SIGNED_WIDTH }
+        requires room { digits_need radix (Self.magnitude self) Self.SIGNED_WIDTH
+            ≤ length buffer.old }
+        ensures digits { WritesDigits radix (Self.magnitude self) buffer.old buffer.new result }
+        ensures count { result ≡ digit_count radix (Self.magnitude self) };
+
+    /// In the mantissa radix of the format.
+    fn write_mantissa(self, format: &NumberFormat, buffer: &mut [u8]) -> usize
+        requires { digits_need format.now.mantissa_radix (Self.magnitude self) Self.DECIMAL_WIDTH
+            ≤ length buffer.old }
+        ensures digits { WritesDigits format.now.mantissa_radix (Self.magnitude self)
+            buffer.old buffer.new result }
+        ensures count { result ≡ digit_count format.now.mantissa_radix (Self.magnitude self) }
+    {
+        self.write_integer(format.mantissa_radix(), buffer)
+    }
+
+    /// In the mantissa radix of the format, of the magnitude of a signed number.
+    fn write_mantissa_signed(self, format: &NumberFormat, buffer: &mut [u8]) -> usize
+        requires number { format.now.mantissa_radix ≡ 10
+            → Self.magnitude self < 10 ^ Self.SIGNED_WIDTH }
+        requires room { digits_need format.now.mantissa_radix (Self.magnitude self) Self.SIGNED_WIDTH
+            ≤ length buffer.old }
+        ensures digits { WritesDigits format.now.mantissa_radix (Self.magnitude self)
+            buffer.old buffer.new result }
+        ensures count { result ≡ digit_count format.now.mantissa_radix (Self.magnitude self) }
+    {
+        self.write_integer_signed(format.mantissa_radix(), buffer)
+    }
+
+    /// In the exponent radix of the format.
+    fn write_exponent(self, format: &NumberFormat, buffer: &mut [u8]) -> usize
+        requires { digits_need format.now.exponent_radix (Self.magnitude self) Self.DECIMAL_WIDTH
+            ≤ length buffer.old }
+        ensures digits { WritesDigits format.now.exponent_radix (Self.magnitude self)
+            buffer.old buffer.new result }
+        ensures count { result ≡ digit_count format.now.exponent_radix (Self.magnitude self) }
+    {
+        self.write_integer(format.exponent_radix(), buffer)
+    }
+
+    /// In the exponent radix of the format, of the magnitude of a signed number.
+    fn write_exponent_signed(self, format: &NumberFormat, buffer: &mut [u8]) -> usize
+        requires number { format.now.exponent_radix ≡ 10
+            → Self.magnitude self < 10 ^ Self.SIGNED_WIDTH }
+        requires room { digits_need format.now.exponent_radix (Self.magnitude self) Self.SIGNED_WIDTH
+            ≤ length buffer.old }
+        ensures digits { WritesDigits format.now.exponent_radix (Self.magnitude self)
+            buffer.old buffer.new result }
+        ensures count { result ≡ digit_count format.now.exponent_radix (Self.magnitude self) }
+    {
+        self.write_integer_signed(format.exponent_radix(), buffer)
+    }
+}
+
+impl WriteInteger for u8 {
+    fn write_integer(self, radix: u32, buffer: &mut [u8]) -> usize {
+        write_integer_counted(self, radix, buffer, &mut Turns::new())
+    }
+
+    fn write_integer_signed(self, radix: u32, buffer: &mut [u8]) -> usize {
+        write_magnitude(self, radix, buffer)
+    }
+}
+
+impl WriteInteger for u16 {
+    fn write_integer(self, radix: u32, buffer: &mut [u8]) -> usize {
+        write_integer_counted(self, radix, buffer, &mut Turns::new())
+    }
+
+    fn write_integer_signed(self, radix: u32, buffer: &mut [u8]) -> usize {
+        write_magnitude(self, radix, buffer)
+    }
+}
+
+impl WriteInteger for u32 {
+    fn write_integer(self, radix: u32, buffer: &mut [u8]) -> usize {
+        write_integer_counted(self, radix, buffer, &mut Turns::new())
+    }
+
+    fn write_integer_signed(self, radix: u32, buffer: &mut [u8]) -> usize {
+        write_magnitude(self, radix, buffer)
+    }
+}
+
+impl WriteInteger for u64 {
+    fn write_integer(self, radix: u32, buffer: &mut [u8]) -> usize {
+        write_integer_counted(self, radix, buffer, &mut Turns::new())
+    }
+
+    fn write_integer_signed(self, radix: u32, buffer: &mut [u8]) -> usize {
+        write_magnitude(self, radix, buffer)
+    }
+}
+
+impl WriteInteger for usize {
+    fn write_integer(self, radix: u32, buffer: &mut [u8]) -> usize {
+        write_integer_counted(self, radix, buffer, &mut Turns::new())
+    }
+
+    fn write_integer_signed(self, radix: u32, buffer: &mut [u8]) -> usize {
+        write_magnitude(self, radix, buffer)
+    }
+}
