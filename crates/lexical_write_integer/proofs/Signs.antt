@@ -1,27 +1,13 @@
 -- A sign, and the digits behind it.
-use Rattle.std.proofs.Common.{◌≡◌, ℕ, ◌+◌, ◌-◌, ◌≤◌, List, [], ◌++◌, length, take, drop, cond, eqb, sym, ap, ◌∙◌, arith, ℤ, unsigned_abs, ◌≤ℤ◌, length-append, append_assoc}
-use Rattle.std.proofs.lemmas.Bool.{eqb-true, cond_both}
+use Rattle.std.proofs.Common.{◌≡◌, ℕ, ◌+◌, ◌-◌, List, [], ◌++◌, length, take, drop, refl, sym, ap, ◌∙◌, arith, ℤ, unsigned_abs, length-append, append_assoc}
 use Rattle.std.proofs.lemmas.List.{append-nil, drop_all, drop-drop, take_at, drop_at, take_rest, length-drop}
-use Rattle.lexical_num.specs.DecimalWidth.{IsDecimalWidth}
 use Rattle.lexical_num.specs.Format.{Format}
 use Rattle.lexical_num.specs.Sign.{sign_of}
-use Rattle.lexical_write_integer.specs.Buffer.{Front, Writes}
-use Rattle.lexical_write_integer.specs.Numeral.{digit_count}
-use Rattle.lexical_write_integer.specs.Text.{need}
-use Rattle.lexical_write_integer.proofs.DigitCounts.{digit_count-le}
+use Rattle.lexical_write_integer.specs.Buffer.{Front, Writes, WritesDigits, WritesText}
 use borrow.Rule.Slice.PartMut.{put_mid}
 
--- the need of a number is enough for its sign and its digits
-pub need-ge : (x least greatest : ℤ) (width : ℕ) (format : Format) → IsDecimalWidth least greatest width → least ≤ℤ x → x ≤ℤ greatest → length (sign_of x format.required_mantissa_sign) + digit_count format.mantissa_radix (unsigned_abs x) ≤ need x width format
-need-ge x least greatest width format law low high =
-    let digits = digit_count format.mantissa_radix (unsigned_abs x) in
-    let enough = digit_count-le 10 (unsigned_abs x) width law.some (law.enough x low high) in
-    let within : digits ≤ cond (eqb format.mantissa_radix 10) width digits =
-    cond_both (eqb format.mantissa_radix 10) width digits (λ k. digits ≤ k) (λ e. rw (eqb-true format.mantissa_radix 10 e) enough) (λ _. omega arith) in
-    omega arith
-
 -- what is written behind a text, in the rest of the buffer that the text left
-pub Writes-behind : {IsBehind IsWhole : List ℕ → Type 0} (text before between after : List ℕ) (count answer : ℕ) → count ≡ length text → Front before between text → ((behind : List ℕ) → IsBehind behind → IsWhole (text ++ behind)) → Writes IsBehind (take (length between - count) (drop count between)) after answer → Writes IsWhole before (put_mid count (length between - count) between after) (count + answer)
+Writes-behind : {IsBehind IsWhole : List ℕ → Type 0} (text before between after : List ℕ) (count answer : ℕ) → count ≡ length text → Front before between text → ((behind : List ℕ) → IsBehind behind → IsWhole (text ++ behind)) → Writes IsBehind (take (length between - count) (drop count between)) after answer → Writes IsWhole before (put_mid count (length between - count) between after) (count + answer)
 Writes-behind {IsBehind} {IsWhole} text before between after count answer e front whole w =
     let rest : drop count between ≡ drop count before = ap (drop count) front.written ∙ drop_at text (drop (length text) before) count (sym e) ∙ ap (λ k. drop k before) (sym e) in
     let first : take count between ≡ text = ap (take count) front.written ∙ take_at text (drop (length text) before) count (sym e) in
@@ -38,3 +24,8 @@ Writes-behind {IsBehind} {IsWhole} text before between after count answer e fron
       };
       count = ap (λ k. count + k) w.count ∙ sym long;
     }
+
+-- the digits of the magnitude behind the sign are the text
+pub WritesText-behind : (x : ℤ) (format : Format) (magnitude : ℕ) (before between after : List ℕ) (count answer : ℕ) → count ≡ length (sign_of x format.required_mantissa_sign) → Front before between (sign_of x format.required_mantissa_sign) → magnitude ≡ unsigned_abs x → WritesDigits format.mantissa_radix magnitude (take (length between - count) (drop count between)) after answer → WritesText x format before (put_mid count (length between - count) between after) (count + answer)
+WritesText-behind x format magnitude before between after count answer long front same w =
+    Writes-behind _ before between after count answer long front (λ digits is. record { digits = digits; magnitude = is; whole = refl }) (rw same at w)

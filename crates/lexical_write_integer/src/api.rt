@@ -12,7 +12,7 @@ ghost use Rattle.lexical_write_integer.specs.Text.{IsText, need};
 ghost use Rattle.lexical_write_integer.specs.Need.{unsigned_need-le, signed_need-le};
 
 use crate::buffer::front_mut;
-use crate::compact::Compact;
+use crate::write::WriteInteger;
 use lexical_num::constants::FormattedSize;
 use lexical_num::format::{NumberFormat, STANDARD};
 use lexical_num::num::LexicalInteger;
@@ -100,8 +100,17 @@ fn write_sign<T: LexicalInteger>(
     }
 }
 
-// Writes a number by its sign and its magnitude.
-fn write_text<T: LexicalInteger, U: Compact>(
+// Writes a number of an unsigned type.
+fn write_unsigned<T: WriteInteger>(number: T, bytes: &mut [u8], format: &NumberFormat) -> usize
+    requires { need (T.number number) T.DECIMAL_WIDTH format.now ≤ length bytes.old }
+    ensures { WritesText (T.number number) format.now bytes.old bytes.new result }
+{
+    let sign = write_sign(number, false, bytes, format);
+    sign + number.write_mantissa(format, &mut bytes[sign..])
+}
+
+// Writes a number of a signed type, by its sign and its magnitude.
+fn write_signed<T: LexicalInteger, U: WriteInteger>(
     number: T,
     is_negative: bool,
     magnitude: U,
@@ -110,12 +119,13 @@ fn write_text<T: LexicalInteger, U: Compact>(
 ) -> usize
     requires sign { IsTrue is_negative ↔ T.number number <ℤ pos 0 }
     requires magnitude { U.magnitude magnitude ≡ unsigned_abs (T.number number) }
+    requires width { U.SIGNED_WIDTH ≡ T.DECIMAL_WIDTH }
     requires room { need (T.number number) T.DECIMAL_WIDTH format.now ≤ length bytes.old }
     ensures { WritesText (T.number number) format.now bytes.old bytes.new result }
 {
     number.in_range();
     let sign = write_sign(number, is_negative, bytes, format);
-    sign + magnitude.compact(format.mantissa_radix(), &mut bytes[sign..])
+    sign + magnitude.write_mantissa_signed(format, &mut bytes[sign..])
 }
 
 impl ToLexical for u8 {
@@ -135,7 +145,7 @@ impl ToLexicalWithOptions for u8 {
         format: &NumberFormat,
         _options: &Options,
     ) -> usize {
-        write_text(self, false, self, bytes, format)
+        write_unsigned(self, bytes, format)
     }
 }
 
@@ -156,7 +166,7 @@ impl ToLexicalWithOptions for u16 {
         format: &NumberFormat,
         _options: &Options,
     ) -> usize {
-        write_text(self, false, self, bytes, format)
+        write_unsigned(self, bytes, format)
     }
 }
 
@@ -177,7 +187,7 @@ impl ToLexicalWithOptions for u32 {
         format: &NumberFormat,
         _options: &Options,
     ) -> usize {
-        write_text(self, false, self, bytes, format)
+        write_unsigned(self, bytes, format)
     }
 }
 
@@ -198,7 +208,7 @@ impl ToLexicalWithOptions for u64 {
         format: &NumberFormat,
         _options: &Options,
     ) -> usize {
-        write_text(self, false, self, bytes, format)
+        write_unsigned(self, bytes, format)
     }
 }
 
@@ -219,7 +229,7 @@ impl ToLexicalWithOptions for usize {
         format: &NumberFormat,
         _options: &Options,
     ) -> usize {
-        write_text(self, false, self, bytes, format)
+        write_unsigned(self, bytes, format)
     }
 }
 
@@ -241,7 +251,7 @@ impl ToLexicalWithOptions for i8 {
         _options: &Options,
     ) -> usize {
         // The magnitude of the least value fits the unsigned type alone.
-        write_text(self, self < 0, self.unsigned_abs(), bytes, format)
+        write_signed(self, self < 0, self.unsigned_abs(), bytes, format)
     }
 }
 
@@ -262,7 +272,7 @@ impl ToLexicalWithOptions for i16 {
         format: &NumberFormat,
         _options: &Options,
     ) -> usize {
-        write_text(self, self < 0, self.unsigned_abs(), bytes, format)
+        write_signed(self, self < 0, self.unsigned_abs(), bytes, format)
     }
 }
 
@@ -283,7 +293,7 @@ impl ToLexicalWithOptions for i32 {
         format: &NumberFormat,
         _options: &Options,
     ) -> usize {
-        write_text(self, self < 0, self.unsigned_abs(), bytes, format)
+        write_signed(self, self < 0, self.unsigned_abs(), bytes, format)
     }
 }
 
@@ -304,7 +314,7 @@ impl ToLexicalWithOptions for i64 {
         format: &NumberFormat,
         _options: &Options,
     ) -> usize {
-        write_text(self, self < 0, self.unsigned_abs(), bytes, format)
+        write_signed(self, self < 0, self.unsigned_abs(), bytes, format)
     }
 }
 
@@ -325,6 +335,6 @@ impl ToLexicalWithOptions for isize {
         format: &NumberFormat,
         _options: &Options,
     ) -> usize {
-        write_text(self, self < 0, self.unsigned_abs(), bytes, format)
+        write_signed(self, self < 0, self.unsigned_abs(), bytes, format)
     }
 }
