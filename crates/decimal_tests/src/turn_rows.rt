@@ -7,8 +7,10 @@ ghost use Rattle.lexical_write_integer.specs.Notes.{decimal_notes};
 
 use lexical_num::num::{LexicalInteger, UnsignedInteger};
 use lexical_write_integer::decimal::Decimal;
+use lexical_write_integer::digit_count::DigitCount;
 use lexical_write_integer::jeaiii::{from_u32_counted, from_u64_counted};
 use lexical_write_integer::turns::Turns;
+use lexical_write_integer::write::write_integer_counted;
 
 /// The note of the pair behind the first of 1234: 100 times what its fraction has behind the point.
 pub fn notes_of_four_digits() -> Turns
@@ -29,12 +31,12 @@ pub fn notes_of_eleven_digits() -> Turns
 }
 
 // The counter of one call.
-fn turns_of<T: Decimal>(value: T) -> Turns
+fn turns_of<T: Decimal + DigitCount>(value: T) -> Turns
     requires { T.DECIMAL_WIDTH ≤ 20 }
     ensures { result ≡ decimal_notes T.BITS (T.magnitude value) }
 {
     let mut turns = Turns::new();
-    value.decimal_counted(&mut [0; 20], &mut turns);
+    write_integer_counted(value, 10, &mut [0; 20], &mut turns);
     turns
 }
 

@@ -11,3 +11,5 @@ mod tables;
 #[cfg(test)]
 mod texts;
 pub mod turn_rows;
+#[cfg(test)]
+mod writes;

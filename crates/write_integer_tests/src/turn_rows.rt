@@ -2,17 +2,20 @@
 //! calls, each with a new counter, and hands the counters back: its contract is the row.
 #![tactic(auto, unfolding(lexical_write_integer::specs::Numeral::digit_count, lexical_write_integer::specs::Numeral::least_exponent, lexical_write_integer::specs::Turns::rests, lexical_write_integer::specs::Turns::one_notes, lexical_write_integer::specs::Turns::loop_notes, lexical_write_integer::specs::Turns::slow_notes, lexical_write_integer::specs::Turns::count_notes, lexical_write_integer::specs::Turns::table_notes))]
 
-ghost use Rattle.std.specs.Prelude.{◌≡◌, ◌-◌, ◌^◌, ◌<◌, ◌≤◌, [], ◌∷◌, length};
+ghost use Rattle.std.specs.Prelude.{◌≡◌, ◌≢◌, ◌-◌, ◌^◌, ◌<◌, ◌≤◌, [], ◌∷◌, length};
 ghost use Rattle.lexical_num.specs.Format.{IsRadix};
+ghost use Rattle.lexical_write_integer.specs.Notes.{write_turns};
 ghost use Rattle.lexical_write_integer.specs.Turns.{one_notes, one_turns, slow_notes, slow_turns, table_notes, table_turns};
 
 use lexical_num::num::UnsignedInteger;
 use lexical_write_integer::algorithm::algorithm_counted;
 use lexical_write_integer::compact::compact_counted;
+use lexical_write_integer::decimal::Decimal;
 use lexical_write_integer::digit_count::{DigitCount, slow_digit_count_counted};
 use lexical_write_integer::laws::digit_count_is_least;
 use lexical_write_integer::table::get_table;
 use lexical_write_integer::turns::Turns;
+use lexical_write_integer::write::write_integer_counted;
 
 /// The counters of three calls: the table writer with the count that it makes, the slow count, and
 /// the plain writer.
@@ -48,6 +51,28 @@ pub fn turns_of<T: DigitCount>(value: T, radix: u32, digits: usize) -> Counters
         slow,
         compact,
     }
+}
+
+/// The turns of the writer of every radix, for a number with so many digits in the radix.
+pub fn written_turns_of<T: Decimal + DigitCount>(value: T, radix: u32, digits: usize) -> Turns
+    requires radix { IsRadix radix }
+    requires other { radix ≢ 10 }
+    requires some { 1 ≤ digits }
+    requires enough { T.magnitude value < radix ^ digits }
+    requires needed { 1 < digits → radix ^ (digits - 1) ≤ T.magnitude value }
+    ensures { length result ≡ write_turns radix digits }
+{
+    digit_count_is_least(radix, value.as_usize() as u64);
+    let mut turns = Turns::new();
+    write_integer_counted(value, radix, &mut [0; 64], &mut turns);
+    turns
+}
+
+/// The most turns: of a number of 40 digits in radix 3.
+pub fn most_turns() -> Turns
+    ensures { length result ≡ 21 }
+{
+    written_turns_of(12157665459056928800u64, 3, 40)
 }
 
 /// 255 is `100110` in radix 3.
@@ -178,6 +203,7 @@ mod tests {
         turns_of_the_greatest_in_radix_2();
         turns_of_the_greatest_in_radix_36();
         turns_of_40_digits_in_radix_3();
+        most_turns();
         assert_eq!(rt; size_of::<Counters>(), 0);
     }
 }
