@@ -8,6 +8,7 @@ pub mod Logarithms
 pub mod Loops
 pub mod Notes
 pub mod Numerals
+pub mod Orders
 pub mod PairBlocks
 pub mod RadixPowers
 pub mod Relending

@@ -6,6 +6,7 @@ pub mod Logarithm
 pub mod Need
 pub mod Notes
 pub mod Numeral
+pub mod Order
 pub mod PowersOfTen
 pub mod Table
 pub mod Text

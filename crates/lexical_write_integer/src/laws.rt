@@ -1,10 +1,14 @@
-//! The laws of numerals. Each function does nothing: its contract is a law over the definitions,
-//! which a caller has from the call.
+//! The laws of numerals and texts. Each function does nothing: its contract is a law over the
+//! definitions, which a caller has from the call.
 
-ghost use Rattle.std.specs.Prelude.{◌≡◌, ℕ, ◌+◌, ◌*◌, ◌/◌, ◌%◌, ◌^◌, ◌<◌, ◌≤◌, List, ◌++◌, length};
+ghost use Rattle.std.specs.Prelude.{◌≡◌, ℕ, ◌+◌, ◌*◌, ◌/◌, ◌%◌, ◌^◌, ◌<◌, ◌≤◌, ◌↔◌, pos, ◌<ℤ◌, ◌≤ℤ◌, List, ◌++◌, length};
 ghost use Rattle.lexical_num.specs.Format.{IsRadix};
 ghost use Rattle.lexical_write_integer.specs.Numeral.{IsNumeral, IsNumeralOf, IsBlockOf, value_of, digit_count};
-ghost use Rattle.lexical_write_integer.specs.Text.{IsDigits};
+ghost use Rattle.lexical_write_integer.specs.Order.{ComesBefore};
+ghost use Rattle.lexical_write_integer.specs.Text.{IsDigits, IsText};
+
+use lexical_num::format::NumberFormat;
+use lexical_num::num::LexicalInteger;
 
 /// The digit count of a number is the least count, of 1 or more, whose power of the radix the
 /// number is below. It is at most 64.
@@ -67,3 +71,22 @@ pub fn numeral_split(radix: u32, count: u32, value: u64)
     ensures digits { digit_count radix value
         ≡ digit_count radix (value / radix ^ count) + count }
 {}
+
+/// Two numbers with one text in a format are the same number.
+pub fn equal_texts<T: LexicalInteger>(a: T, b: T, format: &NumberFormat)
+    ensures { (text : List ℕ) → IsText (T.number a) format.now text
+        → IsText (T.number b) format.now text → T.number a ≡ T.number b }
+{}
+
+/// Of two numbers that are not negative, the lesser is the one with the text that comes before:
+/// the shorter, or of two that are as long the earlier in the order of bytes.
+pub fn order<T: LexicalInteger>(a: T, b: T, format: &NumberFormat)
+    requires a { pos 0 ≤ℤ T.number a }
+    requires b { pos 0 ≤ℤ T.number b }
+    ensures { (s t : List ℕ) → IsText (T.number a) format.now s
+        → IsText (T.number b) format.now t
+        → (T.number a <ℤ T.number b) ↔ ComesBefore s t }
+{
+    // Its contract says that the radix is 2 or more.
+    format.mantissa_radix();
+}

@@ -3,8 +3,11 @@ ghost use Rattle.lexical_num.specs.Format.{IsRadix, standard};
 ghost use Rattle.lexical_write_integer.specs.Text.{need};
 
 use crate::compact::Compact;
-use crate::laws::{digit_count_at_most, digit_count_is_least};
-use crate::{BUFFER_SIZE, NumberFormat, NumberFormatBuilder, ToLexical, format};
+use crate::laws::{digit_count_at_most, digit_count_is_least, equal_texts, order};
+use crate::{
+    BUFFER_SIZE, NumberFormat, NumberFormatBuilder, Options, ToLexical, ToLexicalWithOptions,
+    format,
+};
 use std::process::Abort;
 
 // What a caller has of each type through the bound alone: the text at the front, and the bytes
@@ -27,6 +30,22 @@ fn check_compact<T: Compact>(rt: &impl Abort, value: T, radix: u32, text: &[u8])
     assert_eq!(rt; value.compact(radix, &mut buffer), text.len());
     assert!(rt; buffer.starts_with(text));
     assert!(rt; buffer[text.len()..].iter().all(|byte| *byte == 7));
+}
+
+fn check_short<T: ToLexicalWithOptions>(
+    rt: &impl Abort,
+    value: T,
+    format: &NumberFormat,
+    options: &T::Options,
+    text: &[u8],
+)
+    requires { need (T.number value) T.DECIMAL_WIDTH format.now ≤ 2 }
+{
+    let mut buffer = [7u8; 2];
+    assert_eq!(rt;
+        &*value.to_lexical_with_options(&mut buffer, format, options),
+        text
+    );
 }
 
 #[test]
@@ -82,6 +101,25 @@ fn buffers_of_just_the_digits(rt: HostRuntime) {
     let mut thirteen = [7; 13];
     assert_eq!(rt; 18446744073709551615u64.compact(36, &mut thirteen), 13);
     assert_eq!(rt; thirteen, *b"3W5E11264SGSF");
+}
+
+#[test]
+fn texts_are_in_the_order_of_the_numbers(rt: HostRuntime) {
+    let format = NumberFormatBuilder::from_radix(36);
+    let options = Options::new();
+    digit_count_at_most(36, 9, 1);
+    digit_count_at_most(36, 10, 1);
+    digit_count_at_most(36, 35, 1);
+    digit_count_at_most(36, 36, 2);
+    order(9u8, 10, &format);
+    check_short(&rt, 9u8, &format, &options, b"9");
+    check_short(&rt, 10u8, &format, &options, b"A");
+    order(35i32, 36, &format);
+    check_short(&rt, 35i32, &format, &options, b"Z");
+    check_short(&rt, 36i32, &format, &options, b"10");
+    equal_texts(-10i64, 10, &format);
+    check_short(&rt, -10i64, &format, &options, b"-A");
+    check_short(&rt, 10i64, &format, &options, b"A");
 }
 
 #[test]
