@@ -15,10 +15,10 @@ use Rattle.std.proofs.lemmas.List.Elements.{All-tail}
 use Rattle.lexical_num.specs.Digit.{digit_char}
 use Rattle.lexical_num.specs.Format.{Format}
 use Rattle.lexical_num.specs.Sign.{sign_of}
-use Rattle.lexical_write_integer.specs.Numeral.{digit_count, value_of}
+use Rattle.lexical_write_integer.specs.Numeral.{value_of}
 use Rattle.lexical_write_integer.specs.Order.{ComesBefore}
 use Rattle.lexical_write_integer.specs.Text.{IsDigits, IsText}
-use Rattle.lexical_write_integer.proofs.DigitCounts.{digit_count-pos, digit_count-fits, digit_count-le}
+use Rattle.lexical_write_integer.proofs.DigitCounts.{digit_count-monotone}
 use Rattle.lexical_write_integer.proofs.Numerals.{length-IsDigits}
 use Rattle.lexical_write_integer.proofs.Values.{value_of-lt}
 
@@ -130,9 +130,6 @@ slice_cmp-IsDigits r m n s t long p q =
 slice_cmp-append : (front s t : List ℕ) → slice_cmp nat_cmp (front ++ s) (front ++ t) ≡ slice_cmp nat_cmp s t
 slice_cmp-append [] s t = refl
 slice_cmp-append (c ∷ front) s t = rw (tied_itself nat_cmp_total c) (slice_cmp-append front s t)
-
-digit_count-monotone : (r m n : ℕ) → 2 ≤ r → m ≤ n → digit_count r m ≤ digit_count r n
-digit_count-monotone r m n two within = digit_count-le r m (digit_count r n) (digit_count-pos r n) (omega (arith, digit_count-fits r n two))
 
 ComesBefore-IsDigits : (r m n : ℕ) (s t : List ℕ) → 2 ≤ r → IsDigits r m s → IsDigits r n t → (m < n) ↔ ComesBefore s t
 ComesBefore-IsDigits r m n s t two p q =
