@@ -1,0 +1,4 @@
+//! Buffers of exactly the need, and calls at the edge of their conditions.
+#![tactic(auto)]
+
+pub mod callers;
