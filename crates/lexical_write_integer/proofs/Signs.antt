@@ -7,7 +7,7 @@ use Rattle.lexical_write_integer.specs.Buffer.{Front, Writes, WritesDigits, Writ
 use borrow.Rule.Slice.PartMut.{put_mid}
 
 -- what is written behind a text, in the rest of the buffer that the text left
-Writes-behind : {IsBehind IsWhole : List ℕ → Type 0} (text before between after : List ℕ) (count answer : ℕ) → count ≡ length text → Front before between text → ((behind : List ℕ) → IsBehind behind → IsWhole (text ++ behind)) → Writes IsBehind (take (length between - count) (drop count between)) after answer → Writes IsWhole before (put_mid count (length between - count) between after) (count + answer)
+pub Writes-behind : {IsBehind IsWhole : List ℕ → Type 0} (text before between after : List ℕ) (count answer : ℕ) → count ≡ length text → Front before between text → ((behind : List ℕ) → IsBehind behind → IsWhole (text ++ behind)) → Writes IsBehind (take (length between - count) (drop count between)) after answer → Writes IsWhole before (put_mid count (length between - count) between after) (count + answer)
 Writes-behind {IsBehind} {IsWhole} text before between after count answer e front whole w =
     let rest : drop count between ≡ drop count before = ap (drop count) front.written ∙ drop_at text (drop (length text) before) count (sym e) ∙ ap (λ k. drop k before) (sym e) in
     let first : take count between ≡ text = ap (take count) front.written ∙ take_at text (drop (length text) before) count (sym e) in

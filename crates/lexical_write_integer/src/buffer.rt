@@ -1,4 +1,4 @@
-// The front of a buffer that a caller lends.
+//! The front of a buffer that a caller lends.
 
 ghost use Rattle.std.specs.Prelude.{◌≡◌, ◌≤◌, length, take};
 ghost use Rattle.std.specs.Borrow.{sem};
@@ -6,7 +6,7 @@ ghost use Rattle.lexical_write_integer.specs.Buffer.{Front};
 ghost use Rattle.lexical_write_integer.specs.Lending.{LendsFront};
 
 /// Copies a text to the front of the buffer, and answers its length.
-pub(crate) fn copy_to_front(text: &[u8], buffer: &mut [u8]) -> usize
+pub fn copy_to_front(text: &[u8], buffer: &mut [u8]) -> usize
     requires { length text.now ≤ length buffer.old }
     ensures front { Front buffer.old buffer.new text.now }
     ensures count { result ≡ length text.now }
@@ -17,7 +17,7 @@ pub(crate) fn copy_to_front(text: &[u8], buffer: &mut [u8]) -> usize
 }
 
 /// The first `count` bytes of the buffer, for writing.
-pub(crate) fn front_mut(buffer: &mut [u8], count: usize) -> &mut [u8]
+pub fn front_mut(buffer: &mut [u8], count: usize) -> &mut [u8]
     requires { count ≤ length buffer.old }
     ensures* lends { sem 𝓛 (LendsFront buffer.entry count result) }
     ensures front { result.now ≡ take count buffer.old }

@@ -3,7 +3,7 @@
 
 pub mod algorithm;
 mod api;
-mod buffer;
+pub mod buffer;
 pub mod compact;
 pub mod decimal;
 pub mod digit_count;
