@@ -1,0 +1,116 @@
+-- Decimal digits, by their bytes.
+use Rattle.std.proofs.Common.{◌≡◌, ◌≢◌, ℕ, ◌+◌, ◌-◌, ◌*◌, ◌^◌, ◌<◌, ◌≤◌, List, [], ◌∷◌, ◌++◌, length, get_or, map, take, drop, refl, sym, ap, ◌∙◌, arith}
+use Rattle.std.specs.List.{All}
+use Rattle.std.proofs.lemmas.Bool.Decides.{nat_tests}
+use Rattle.std.proofs.lemmas.List.{take_more, take-append-drop, length-map, map-append}
+use Rattle.std.proofs.lemmas.List.Elements.{All-head, All-tail, All-map, All-weaker, All-get_or}
+use Rattle.std.proofs.Math.Nat.{one-le-pow, mul-le-mul_left}
+use Rattle.lexical_num.specs.Digit.{digit_char}
+use Rattle.lexical_write_integer.specs.Numeral.{value_of}
+use Rattle.lexical_write_integer.specs.Text.{IsDigits}
+use Rattle.lexical_write_integer.proofs.Values.{value_of-append, value_of-one}
+use Rattle.lexical_lines.specs.Line.{IsDecimal}
+
+pub record IsDigitByte (byte : ℕ) : Type 0 where
+  pub at_least : 48 ≤ byte
+  pub at_most : byte ≤ 57
+
+-- the digits that the bytes are the characters of
+abbrev pub digits_in : List ℕ → List ℕ
+digits_in text = map (λ byte. byte - 48) text
+
+pub digit_char-decimal : (d : ℕ) → d < 10 → digit_char d ≡ 48 + d
+digit_char-decimal d h = grind (arith, nat_tests)
+
+byte_of_digit : (d : ℕ) → d < 10 → IsDigitByte (digit_char d)
+byte_of_digit d h = let e = digit_char-decimal d h in record { at_least = omega arith; at_most = omega arith }
+
+pub bytes_of_digits : (digits : List ℕ) → All (λ d. d < 10) digits → All IsDigitByte (map digit_char digits)
+bytes_of_digits digits h = All-map IsDigitByte digit_char digits (All-weaker (λ d. d < 10) (λ d. IsDigitByte (digit_char d)) byte_of_digit digits h)
+
+pub digits_below_ten : (text : List ℕ) → All IsDigitByte text → All (λ d. d < 10) (digits_in text)
+digits_below_ten text h = All-map (λ d. d < 10) (λ byte. byte - 48) text (All-weaker IsDigitByte (λ byte. byte - 48 < 10) (λ byte b. omega arith) text h)
+
+pub digit_char-digits_in : (text : List ℕ) → All IsDigitByte text → map digit_char (digits_in text) ≡ text
+digit_char-digits_in [] h = refl
+digit_char-digits_in (byte ∷ text) h =
+    let b = All-head IsDigitByte byte text h in
+    let first : digit_char (byte - 48) ≡ byte = digit_char-decimal (byte - 48) (omega arith) ∙ omega arith in
+    let rest = digit_char-digits_in text (All-tail IsDigitByte byte text h) in
+    cc
+
+pub digits_in-digit_char : (digits : List ℕ) → All (λ d. d < 10) digits → digits_in (map digit_char digits) ≡ digits
+digits_in-digit_char [] h = refl
+digits_in-digit_char (d ∷ digits) h =
+    let e = digit_char-decimal d (All-head (λ d. d < 10) d digits h) in
+    let first : digit_char d - 48 ≡ d = omega arith in
+    let rest = digits_in-digit_char digits (All-tail (λ d. d < 10) d digits h) in
+    cc
+
+pub IsDecimal-from : (n : ℕ) (text : List ℕ) → 0 < length text → All IsDigitByte text → n ≡ value_of 10 (digits_in text) → IsDecimal n text
+IsDecimal-from n text some bytes value = record {
+  digits = digits_in text;
+  nonempty = rw length-map some;
+  below_ten = digits_below_ten text bytes;
+  value = sym value;
+  characters = sym (digit_char-digits_in text bytes);
+}
+
+pub IsDecimal-bytes : (n : ℕ) (text : List ℕ) → IsDecimal n text → All IsDigitByte text
+IsDecimal-bytes n text h = rw h.characters (bytes_of_digits h.digits h.below_ten)
+
+pub IsDecimal-value : (n : ℕ) (text : List ℕ) → IsDecimal n text → value_of 10 (digits_in text) ≡ n
+IsDecimal-value n text h = rw (h.characters, digits_in-digit_char h.digits h.below_ten) h.value
+
+-- ---- the digits read so far
+
+digits_in-split : (text : List ℕ) (k : ℕ) → digits_in text ≡ digits_in (take k text) ++ digits_in (drop k text)
+digits_in-split text k = ap digits_in (sym (take-append-drop k text)) ∙ map-append (λ byte. byte - 48) (take k text) (drop k text)
+
+-- the digits in front have no greater value than all of them
+pub value_of-front : (text : List ℕ) (k : ℕ) → value_of 10 (digits_in (take k text)) ≤ value_of 10 (digits_in text)
+value_of-front text k =
+    let front = value_of 10 (digits_in (take k text)) in
+    let back = digits_in (drop k text) in
+    let split : value_of 10 (digits_in text) ≡ front * 10 ^ length back + value_of 10 back = ap (value_of 10) (digits_in-split text k) ∙ value_of-append 10 (digits_in (take k text)) back in
+    omega (arith, mul-le-mul_left front (one-le-pow (length back) 10 (omega arith)))
+
+-- one more digit
+pub value_of-more : (text : List ℕ) (i : ℕ) → i < length text → value_of 10 (digits_in (take (i + 1) text)) ≡ value_of 10 (digits_in (take i text)) * 10 + (get_or text i 0 - 48)
+value_of-more text i h =
+    ap (λ bytes. value_of 10 (digits_in bytes)) (take_more text i 0 h)
+    ∙ ap (value_of 10) (map-append (λ byte. byte - 48) (take i text) (get_or text i 0 ∷ []))
+    ∙ value_of-append 10 (digits_in (take i text)) ((get_or text i 0 - 48) ∷ [])
+    ∙ omega (arith, value_of-one 10 (get_or text i 0 - 48))
+
+-- a text of which one byte is no digit spells no number
+pub IsDecimal-byte : (n : ℕ) (text : List ℕ) (i : ℕ) → i < length text → IsDecimal n text → IsDigitByte (get_or text i 0)
+IsDecimal-byte n text i h d = All-get_or IsDigitByte text i 0 h (IsDecimal-bytes n text d)
+
+-- a number that a text spells is at least what its front spells
+pub IsDecimal-at_least : (n : ℕ) (text : List ℕ) (i : ℕ) → i < length text → IsDecimal n text → value_of 10 (digits_in (take i text)) * 10 + (get_or text i 0 - 48) ≤ n
+IsDecimal-at_least n text i h d = omega (arith, value_of-more text i h, value_of-front text (i + 1), IsDecimal-value n text d)
+
+-- ---- digits without leading zeros
+
+pub IsDecimal-from_digits : (n : ℕ) (text : List ℕ) → IsDigits 10 n text → IsDecimal n text
+IsDecimal-from_digits n text h = record {
+  digits = h.digits;
+  nonempty = h.numeral.numeral.nonempty;
+  below_ten = h.numeral.numeral.below_radix;
+  value = h.numeral.value;
+  characters = h.characters;
+}
+
+first_byte : (digits : List ℕ) → 0 < length digits → All (λ d. d < 10) digits → get_or (map digit_char digits) 0 0 ≡ 48 + get_or digits 0 0
+first_byte [] some h = absurd (omega arith)
+first_byte (d ∷ digits) some h = digit_char-decimal d (All-head (λ d. d < 10) d digits h)
+
+pub IsDigits-first : (n : ℕ) (text : List ℕ) → 0 < n → IsDigits 10 n text → get_or text 0 0 ≢ 48
+IsDigits-first n text some h = λ zero.
+    let numeral = h.numeral.numeral in
+    let first = first_byte h.digits numeral.nonempty numeral.below_radix in
+    let same = ap (λ bytes. get_or bytes 0 0) h.characters in
+    let only : h.digits ≡ 0 ∷ [] = numeral.no_leading_zero (omega arith) in
+    let none : n ≡ 0 = sym h.numeral.value ∙ ap (value_of 10) only ∙ value_of-one 10 0 in
+    absurd (omega arith)

@@ -1,0 +1,13 @@
+pub mod Answers
+pub mod Cuts
+pub mod Decimals
+pub mod Joins
+pub mod Putting
+pub mod Ranges
+pub mod Requests
+pub mod Runs
+pub mod Separators
+pub mod Slices
+pub mod Steps
+pub mod Texts
+pub mod Unique

@@ -1,0 +1,20 @@
+use Rattle.std.proofs.Common.{◌≡◌, ◌-◌, ◌^◌, min, arith, inr}
+use Rattle.lexical_lines.proofs.Texts.{Writes-within}
+use Rattle.lexical_lines.proofs.answer.write_answer.Goals as goal
+
+pub returns-in-None-clause-answer : goal.returns-in-None-clause-answer
+returns-in-None-clause-answer c = λ bytes is.
+    let written = c.write_bad_line.ensures in
+    let number : c.args.line_number ≡ min c.args.line_number (2 ^ 64 - 1) = omega (arith, c.ranges.line_number.fits) in
+    record {
+      text = written.text;
+      is = inr (record { bad = c.in-None.ensures.none bytes is; told = rw number at written.is });
+      front = written.front;
+      count = written.count;
+    }
+
+pub returns-in-None-clause-within : goal.returns-in-None-clause-within
+returns-in-None-clause-within c = Writes-within c.write_bad_line.ensures
+
+pub returns-in-Some-clause-within : goal.returns-in-Some-clause-within
+returns-in-Some-clause-within c = Writes-within c.write_text.ensures

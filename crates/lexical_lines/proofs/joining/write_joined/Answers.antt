@@ -1,0 +1,44 @@
+use Rattle.std.proofs.Common.{◌≡◌, ◌+◌, ◌<◌, ◌≤◌, ◌++◌, [], ◌∷◌, length, map, take, ◌∙◌, arith}
+use Rattle.std.proofs.Math.Nat.{mul-le-mul_right}
+use Rattle.std.proofs.lemmas.List.{length-map, length-take-le}
+use Rattle.lexical_num.specs.Size.{size_in}
+use Rattle.lexical_write_integer.specs.Text.{IsText}
+use Rattle.lexical_write_integer.proofs.Signs.{Writes-behind}
+use Rattle.lexical_lines.specs.Joined.{IsJoined}
+use Rattle.lexical_lines.proofs.Joins.{map-take_more, Ready, Ready-one, Ready-push}
+use Rattle.lexical_lines.proofs.Texts.{length-IsText}
+use Rattle.lexical_lines.proofs.joining.write_joined.Goals as goal
+use Rattle.lexical_lines.proofs.joining.write_joined.Goals.{then-index-gt0, else-index-gt0}
+
+pub loop-index-preserved : goal.loop-index-preserved
+loop-index-preserved g c =
+    let number = g.T.LexicalInteger.number in
+    let values = c.args.values.now in
+    let format = c.args.format.now in
+    let index = c.loop-index.index in
+    let x = number c.index-values-index.result in
+    let inside : index < length values = omega (arith, c.loop-index-test.true) in
+    let room : c.loop-index.count < length c.args.buffer.now =
+    omega (arith, c.requires, c.loop-index.invariant.within, mul-le-mul_right (size_in g.T.FormattedSize.FORMATTED_SIZE g.T.FormattedSize.FORMATTED_SIZE_DECIMAL format + 1) inside) in
+    let numbers = map number (take index values) in
+    let many : length numbers ≡ index = length-map (take index values) number ∙ length-take-le index values (omega arith) in
+    let next = map-take_more number values index c.index-values-index.result inside c.index-values-index.is in
+    let was = c.loop-index.invariant.written in
+    let ready : Ready (IsText x format) (IsJoined (numbers ++ x ∷ []) c.args.mark format) c.args.buffer.now c.if-index-gt0.buffer c.if-index-gt0.count =
+    elim c.if-index-gt0.branch [
+      | then-index-gt0 w ↦ rw (w.buffer-is, w.count-is) (Ready-push c.args.mark format numbers x c.args.buffer.now c.loop-index.buffer c.loop-index.count (omega (arith, many, w.if-index-gt0.true)) room was)
+      | else-index-gt0 w ↦ rw (w.buffer-is, w.count-is) (Ready-one c.args.mark format numbers x c.args.buffer.now c.loop-index.buffer c.loop-index.count (omega (arith, many, w.if-index-gt0.false)) was)
+    ] in
+    let one : c.if-index-gt0.count ≤ c.loop-index.count + 1 =
+    elim c.if-index-gt0.branch [ then-index-gt0 w ↦ omega (arith, w.count-is) | else-index-gt0 w ↦ omega (arith, w.count-is) ] in
+    let radix = rw c.mantissa_radix.ensures.value at c.mantissa_radix.ensures.radix in
+    let width = g.met.T.LexicalInteger.decimal_width in
+    let low = c.in_range.ensures.at_least in
+    let high = c.in_range.ensures.at_most in
+    let text = c.write_lexical_with_options-count.ensures in
+    let short = length-IsText x g.T.LexicalInteger.DECIMAL_WIDTH format text.text radix.at_least_two width.some (width.enough x low high) text.is in
+    let enough = g.met.T.ToLexicalWithOptions.size_is_enough x format radix low high in
+    record {
+      written = rw next (Writes-behind ready.text _ _ _ _ _ ready.counted ready.front ready.whole text);
+      within = omega (arith, one, short, enough, text.count, c.loop-index.invariant.within);
+    }

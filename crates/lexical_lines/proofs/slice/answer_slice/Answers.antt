@@ -1,0 +1,27 @@
+use Rattle.std.proofs.Common.{arith, rules, inl, inr}
+use Rattle.lexical_lines.proofs.Slices.{given-ended, given-part, Writes-sink, BreaksOff-full}
+use Rattle.lexical_lines.proofs.slice.answer_slice.Goals as goal
+
+pub returns-in-Ok-clause-answered : goal.returns-in-Ok-clause-answered
+returns-in-Ok-clause-answered c =
+    let source = c.new-source.ensures in
+    let sink = c.new-sink.ensures in
+    let ran = c.in-Ok.ensures in
+    let given = given-ended c.args.input.now source.given source.left source.ended ran.kept_source ran.ok_end in
+    let answers = rw (source.given, given, sink.taken) at ran.ok_answers in
+    Writes-sink sink.taken sink.behind ran.kept_sink answers c.len.ensures (search rules)
+
+pub returns-in-Err-clause-full : goal.returns-in-Err-clause-full
+returns-in-Err-clause-full c =
+    let source = c.new-source.ensures in
+    let sink = c.new-sink.ensures in
+    let ran = c.in-Err.ensures in
+    elim ran.err [
+      | inl (risen, same, answered) ↦ absurd (omega arith)
+      | inr (same, risen, broke) ↦ elim ran.kept_sink.full [
+        | inl none ↦ absurd (omega (arith, risen, none))
+        | inr full ↦
+            let put = rw (source.given, sink.taken) at broke in
+            record { front = c.run.new.source.given; rest = c.run.new.source.left; whole = given-part c.args.input.now source.given source.left ran.kept_source; filled = BreaksOff-full c.run.new.sink full put (search rules) }
+      ]
+    ]

@@ -1,0 +1,14 @@
+pub mod Answer
+pub mod Device
+pub mod IntegerType
+pub mod Joined
+pub mod Kept
+pub mod Line
+pub mod Lines
+pub mod Parts
+pub mod Request
+pub mod Run
+pub mod Sink
+pub mod Source
+pub mod Status
+pub mod Traced

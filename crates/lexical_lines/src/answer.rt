@@ -1,0 +1,97 @@
+// The answer to a line.
+
+ghost use Rattle.std.specs.Prelude.{◌≡◌, ℕ, ◌+◌, ◌<◌, ◌≤◌, List, ◌++◌, ◌↔◌, length, IsTrue, IfSome, IfNone, pos};
+ghost use Rattle.lexical_num.specs.Format.{IsRadix, standard};
+ghost use Rattle.lexical_num.specs.declared.constants.TheConstants.{BUFFER_SIZE};
+ghost use Rattle.lexical_write_integer.specs.Buffer.{Writes};
+ghost use Rattle.lexical_write_integer.specs.Text.{IsText};
+ghost use Rattle.lexical_lines.specs.Answer.{IsAnswer, IsEnded, IsBadLine, format_of};
+ghost use Rattle.lexical_lines.specs.Kept.{kept};
+ghost use Rattle.lexical_lines.specs.Line.{IsGood};
+ghost use Rattle.lexical_lines.specs.Request.{Asks, number_of};
+
+use crate::line::Line;
+use crate::request::{Number, Request, parse};
+use lexical_num::constants::BUFFER_SIZE;
+use lexical_num::format::{NumberFormat, STANDARD};
+use lexical_num::format_builder::NumberFormatBuilder;
+use lexical_num::options::Options;
+use lexical_write_integer::ToLexicalWithOptions;
+use lexical_write_integer::buffer::copy_to_front;
+
+/// At least the length of every answer: `bad line `, a sign, the rest of a text, and a byte 10.
+pub const MAX_ANSWER: usize = BUFFER_SIZE + 11;
+
+/// Writes the answer to a line to the front of the buffer. Answers how long it is, and whether the line is a good one.
+pub fn write_answer(line: &Line, line_number: u64, buffer: &mut [u8]) -> (usize, bool)
+    requires { BUFFER_SIZE + 11 ≤ length buffer.old }
+    ensures within { result.0 ≤ length buffer.new }
+    ensures answer { (bytes : List ℕ) → line.now ≡ kept bytes
+        → Writes (IsAnswer line_number bytes) buffer.old buffer.new result.0 }
+    ensures good { (bytes : List ℕ) → line.now ≡ kept bytes → IsTrue result.1 ↔ IsGood bytes }
+{
+    match requested(line) {
+        Some(request) => (write_text(&request, buffer), true),
+        None => (write_bad_line(line_number, buffer), false),
+    }
+}
+
+// What the line asks for, where it is a good one.
+fn requested(line: &Line) -> Option<Request>
+    ensures radix { IfSome result (λ request. IsRadix request.radix) }
+    ensures found { IfSome result (λ request. (bytes : List ℕ) → line.now ≡ kept bytes → Asks bytes request) }
+    ensures none { IfNone result ((bytes : List ℕ) → line.now ≡ kept bytes → IsGood bytes → ⊥) }
+{
+    parse(line.as_slice()?)
+}
+
+// Writes the text that is asked for, and a byte 10.
+fn write_text(request: &Request, buffer: &mut [u8]) -> usize
+    requires radix { IsRadix request.now.radix }
+    requires room { BUFFER_SIZE + 2 ≤ length buffer.old }
+    ensures { Writes (IsEnded (IsText (number_of request.now.number) (format_of request.now.radix request.now.plus))) buffer.old buffer.new result }
+{
+    let format = NumberFormatBuilder::new()
+        .mantissa_radix(request.radix)
+        .exponent_radix(request.radix)
+        .required_mantissa_sign(request.plus)
+        .build_strict();
+    // The text does not depend on the type, so the widest ones write all.
+    match request.number {
+        Number::Unsigned(number) => write_line(number, buffer, &format, &Options::new()),
+        Number::Signed(number) => write_line(number, buffer, &format, &Options::new()),
+    }
+}
+
+// Writes `bad line `, the number of the line in decimal, and a byte 10.
+fn write_bad_line(line_number: u64, buffer: &mut [u8]) -> usize
+    requires { BUFFER_SIZE + 11 ≤ length buffer.old }
+    ensures { Writes (IsEnded (IsBadLine line_number)) buffer.old buffer.new result }
+{
+    let start = copy_to_front(b"bad line ", buffer);
+    start
+        + write_line(
+            line_number,
+            &mut buffer[start..],
+            &STANDARD,
+            &Options::new(),
+        )
+}
+
+// Writes a number of any type, and a byte 10.
+fn write_line<T: ToLexicalWithOptions>(
+    number: T,
+    buffer: &mut [u8],
+    format: &NumberFormat,
+    options: &T::Options,
+) -> usize
+    requires { BUFFER_SIZE + 2 ≤ length buffer.old }
+    ensures { Writes (IsEnded (IsText (T.number number) format.now)) buffer.old buffer.new result }
+{
+    // Their contracts say that the size of the type in the format is enough.
+    number.in_range();
+    format.mantissa_radix();
+    let end = number.write_lexical_with_options(buffer, format, options);
+    buffer[end] = b'\n';
+    end + 1
+}

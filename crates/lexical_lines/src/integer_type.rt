@@ -1,0 +1,87 @@
+// The ten integer types, by name.
+
+ghost use Rattle.std.specs.Prelude.{◌≡◌, ◌≢◌, ◌↔◌, IsTrue, IfSome, IfNone};
+
+/// One of the ten integer types.
+#[derive(Clone, Copy, PartialEq, Eq, Debug)]
+pub enum IntegerType {
+    U8,
+    U16,
+    U32,
+    U64,
+    Usize,
+    I8,
+    I16,
+    I32,
+    I64,
+    Isize,
+}
+
+impl IntegerType {
+    ghost use Rattle.lexical_lines.specs.IntegerType.{name_of, is_signed, greatest};
+    ghost use Rattle.lexical_lines.specs.Line.{Holds};
+
+    /// The type of this name.
+    pub fn from_name(name: &[u8]) -> Option<IntegerType>
+        ensures found { IfSome result (λ kind. name.now ≡ name_of kind) }
+        ensures none { IfNone result ((kind : IntegerType) → name.now ≢ name_of kind) }
+    {
+        match name {
+            b"u8" => Some(IntegerType::U8),
+            b"u16" => Some(IntegerType::U16),
+            b"u32" => Some(IntegerType::U32),
+            b"u64" => Some(IntegerType::U64),
+            b"usize" => Some(IntegerType::Usize),
+            b"i8" => Some(IntegerType::I8),
+            b"i16" => Some(IntegerType::I16),
+            b"i32" => Some(IntegerType::I32),
+            b"i64" => Some(IntegerType::I64),
+            b"isize" => Some(IntegerType::Isize),
+            _ => None,
+        }
+    }
+
+    /// Whether the type has numbers below 0.
+    pub fn is_signed(self) -> bool
+        ensures { result ≡ is_signed self }
+    {
+        match self {
+            IntegerType::U8
+            | IntegerType::U16
+            | IntegerType::U32
+            | IntegerType::U64
+            | IntegerType::Usize => false,
+            IntegerType::I8
+            | IntegerType::I16
+            | IntegerType::I32
+            | IntegerType::I64
+            | IntegerType::Isize => true,
+        }
+    }
+
+    /// The greatest number of the type.
+    pub fn greatest(self) -> u64
+        ensures { result ≡ greatest self }
+    {
+        match self {
+            IntegerType::U8 => 0xff,
+            IntegerType::U16 => 0xffff,
+            IntegerType::U32 => 0xffff_ffff,
+            IntegerType::U64 | IntegerType::Usize => 0xffff_ffff_ffff_ffff,
+            IntegerType::I8 => 0x7f,
+            IntegerType::I16 => 0x7fff,
+            IntegerType::I32 => 0x7fff_ffff,
+            IntegerType::I64 | IntegerType::Isize => 0x7fff_ffff_ffff_ffff,
+        }
+    }
+
+    /// Whether the type has the number of this magnitude, behind a `-` or not: no `-` stands in a value of an unsigned
+    /// type, not even in front of 0.
+    pub fn holds(self, minus: bool, magnitude: u64) -> bool
+        ensures { IsTrue result ↔ Holds self minus magnitude }
+    {
+        // Below 0 the numbers of a signed type go one further.
+        let over = magnitude.saturating_sub(u64::from(minus));
+        (self.is_signed() || !minus) && over <= self.greatest()
+    }
+}

@@ -1,0 +1,58 @@
+//! The laws of lines and their answers: each contract is a law over the definitions, which a caller has from the call.
+
+ghost use Rattle.std.specs.Prelude.{◌≡◌, List, ℕ, refl};
+ghost use Rattle.std.proofs.Common.{◌∙◌};
+ghost use Rattle.lexical_lines.specs.Answer.{AnswersAll};
+ghost use Rattle.lexical_lines.specs.Lines.{AreLines};
+
+use crate::engine::run;
+use crate::sink::ByteSink;
+use crate::slice::SliceSource;
+use crate::trace::Trace;
+use std::io;
+
+/// An input has lines, and in one way. It does nothing.
+pub fn lines_unique(input: &[u8])
+    ensures exists { (all : List (List ℕ)) × AreLines input.now all }
+    ensures only { (all other : List (List ℕ)) → AreLines input.now all → AreLines input.now other → all ≡ other }
+{}
+
+/// An input has one text of answers. It does nothing.
+pub fn answers_unique(input: &[u8], a: &[u8], b: &[u8])
+    requires a { AnswersAll input.now a.now }
+    requires b { AnswersAll input.now b.now }
+    ensures { a.now ≡ b.now }
+{}
+
+/// An input has answers. It works them out, and drops them.
+pub fn answers_exist(input: &[u8])
+    ensures { (text : List ℕ) × AnswersAll input.now text }
+{
+    let mut sink = Dropping {
+        trace: Trace::new(),
+    };
+    let _all_good = run(&mut SliceSource::new(input), &mut sink);
+}
+
+// A sink that takes all, and keeps nothing.
+#[derive(Drop)]
+struct Dropping {
+    trace: Trace,
+}
+
+impl ByteSink for Dropping {
+    ghost taken = { λ s. s.trace.bytes };
+
+    ghost faults = { λ s. s.trace.faults };
+
+    ghost keeps = { λ a b. b.trace.faults ≡ a.trace.faults };
+
+    ghost keeps_itself = { λ a. refl };
+
+    ghost keeps_on = { λ a b c p q. q ∙ p };
+
+    fn put(&mut self, bytes: &[u8]) -> io::Result<usize> {
+        self.trace.note(bytes);
+        Ok(bytes.len())
+    }
+}

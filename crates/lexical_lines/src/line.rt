@@ -1,0 +1,71 @@
+// The line that is being read.
+
+ghost use Rattle.std.specs.Prelude.{◌≡◌, ℕ, ◌≤◌, List, [], ◌∷◌, ◌++◌, ◌↔◌, take, Option, Some, None, IsTrue, if◌then◌else◌, nat_le, option_map, IfSome, length};
+ghost use Rattle.lexical_lines.specs.Kept.{kept};
+
+use std::marker::Model;
+
+const MAX_LENGTH: usize = 64;
+
+/// The bytes of a line that are kept: all of them, or none where they are more than 64.
+#[derive(Drop)]
+pub struct Line {
+    bytes: [u8; MAX_LENGTH],
+    // 65 where the line is too long.
+    count: usize,
+}
+
+impl Model for Line {
+    ghost Value = { Option (List ℕ) };
+
+    ghost view = { λ l. if nat_le l.count 64 then Some (take l.count l.bytes) else None };
+
+    ghost invariant = { λ l. l.count ≤ 65 };
+}
+
+impl Line {
+    pub fn new() -> Line
+        ensures { result ≡ kept [] }
+    {
+        Line {
+            bytes: [0; MAX_LENGTH],
+            count: 0,
+        }
+    }
+
+    pub fn clear(&mut self)
+        ensures { self.new ≡ kept [] }
+    {
+        self.count = 0;
+    }
+
+    /// One more byte of the line.
+    pub fn push(&mut self, byte: u8)
+        ensures { (line : List ℕ) → self.old ≡ kept line → self.new ≡ kept (line ++ byte ∷ []) }
+    {
+        if self.count < MAX_LENGTH {
+            self.bytes[self.count] = byte;
+        }
+        if self.count <= MAX_LENGTH {
+            self.count += 1;
+        }
+    }
+
+    pub fn is_empty(&self) -> bool
+        ensures { IsTrue result ↔ (self.now ≡ kept []) }
+    {
+        self.count == 0
+    }
+
+    /// The bytes of the line, where they are no more than 64.
+    pub fn as_slice(&self) -> Option<&[u8]>
+        ensures value { option_map (λ bytes. bytes.now) result ≡ self.now }
+        ensures short { IfSome result (λ bytes. length bytes.now ≤ 64) }
+    {
+        if self.count <= MAX_LENGTH {
+            Some(&self.bytes[..self.count])
+        } else {
+            None
+        }
+    }
+}

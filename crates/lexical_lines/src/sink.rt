@@ -1,0 +1,52 @@
+//! Where bytes go.
+
+ghost use Rattle.std.specs.Prelude.{◌≡◌, ℕ, ◌+◌, ◌≤◌, List, ◌++◌, length, take, IfOk, OnOk, OnErr};
+ghost use Rattle.lexical_lines.specs.Answer.{IsBeginning};
+ghost use Rattle.lexical_lines.specs.Device.{taken_by, put_faults};
+
+use std::io;
+
+/// A device that takes bytes, some at a time, and may fail.
+pub trait ByteSink {
+    // The bytes taken so far.
+    ghost taken: { Self → List ℕ };
+
+    // How often it has failed.
+    ghost faults: { Self → ℕ };
+
+    // What no call changes, of the state before some calls and that behind them.
+    ghost keeps: { Self → Self → Type 0 };
+
+    /// Takes the first bytes of a piece, and answers how many. An `Err` takes none and is a fault, and so is an `Ok` that
+    /// takes none of a piece that has some; nothing else is one.
+    fn put(&mut self, bytes: &[u8]) -> io::Result<usize>
+        ensures within { IfOk result (λ count. count ≤ length bytes.now) }
+        ensures taken { taken self.new ≡ taken self.old ++ take (taken_by result) bytes.now }
+        ensures faults { faults self.new ≡ faults self.old + put_faults result bytes.now }
+        ensures kept { keeps self.old self.new };
+
+    ghost keeps_itself: { (a : Self) → keeps a a };
+
+    ghost keeps_on: { (a b c : Self) → keeps a b → keeps b c → keeps a c };
+}
+
+/// Puts all bytes, or fails at the first fault of the sink: with its error, or with one of kind `WriteZero` where it
+/// took no byte.
+pub fn put_all<K: ByteSink>(sink: &mut K, bytes: &[u8]) -> io::Result<()>
+    ensures ok { OnOk result (K.taken sink.new ≡ K.taken sink.old ++ bytes.now) }
+    ensures ok_faults { OnOk result (K.faults sink.new ≡ K.faults sink.old) }
+    ensures err { OnErr result ((part : List ℕ) × IsBeginning part bytes.now
+        × (K.taken sink.new ≡ K.taken sink.old ++ part)) }
+    ensures err_faults { OnErr result (K.faults sink.new ≡ K.faults sink.old + 1) }
+    ensures kept { K.keeps sink.old sink.new }
+{
+    let mut rest = bytes;
+    while !rest.is_empty() {
+        let count = sink.put(rest)?;
+        if count == 0 {
+            return Err(io::Error::from(io::ErrorKind::WriteZero));
+        }
+        rest = &rest[count..];
+    }
+    Ok(())
+}

@@ -1,0 +1,169 @@
+//! Devices over memory.
+
+ghost use Rattle.std.specs.Prelude.{◌≡◌, ℕ, ◌+◌, ◌≤◌, Bool, false, ◌||◌, List, [], ◌++◌, Ok, None, Some, length, take, drop, min, IfOk, IfSome, IfNone, ◌<◌, slice_get, refl};
+ghost use Rattle.lexical_lines.specs.Answer.{AnswersAll, Overflows};
+ghost use Rattle.lexical_lines.specs.Device.{given_by, tells_end, faults_of, taken_by, put_faults};
+ghost use Rattle.lexical_lines.specs.Source.{KeepsBytes, SliceReading};
+ghost use Rattle.lexical_write_integer.specs.Buffer.{Writes};
+
+use crate::engine::run;
+use crate::sink::ByteSink;
+use crate::source::ByteSource;
+use crate::trace::Trace;
+use std::io;
+use std::marker::Model;
+
+/// Gives the bytes of a slice, and then tells the end. It never fails.
+#[derive(Drop)]
+pub struct SliceSource<'a> {
+    bytes: &'a [u8],
+    position: usize,
+    is_ended: bool,
+}
+
+impl<'a> Model for SliceSource<'a> {
+    ghost use Rattle.std.specs.Prelude.{◌≤◌, length, take, drop};
+    ghost use Rattle.lexical_lines.specs.Source.{SliceReading};
+
+    ghost Value = { SliceReading };
+
+    ghost view = { λ s. record { given = take s.position s.bytes.now; left = drop s.position s.bytes.now; is_ended = s.is_ended } };
+
+    ghost invariant = { λ s. s.position ≤ length s.bytes.now };
+}
+
+impl<'a> SliceSource<'a> {
+    /// A source that has all these bytes to give.
+    pub fn new(bytes: &'a [u8]) -> SliceSource<'a>
+        ensures given { result.given ≡ [] }
+        ensures left { result.left ≡ bytes.entry.now }
+        ensures ended { result.is_ended ≡ false }
+    {
+        SliceSource {
+            bytes,
+            position: 0,
+            is_ended: false,
+        }
+    }
+}
+
+impl ByteSource for SliceSource<'_> {
+    ghost use Rattle.lexical_lines.specs.Source.{KeepsBytes, KeepsBytes-itself, KeepsBytes-on};
+
+    ghost given = { λ s. s.given };
+
+    ghost is_ended = { λ s. s.is_ended };
+
+    ghost faults = { λ _. 0 };
+
+    ghost remaining = { λ s. length s.left };
+
+    ghost keeps = { KeepsBytes };
+
+    ghost keeps_itself = { KeepsBytes-itself };
+
+    ghost keeps_on = { KeepsBytes-on };
+
+    /// The next byte, or the end where none is left.
+    fn next(&mut self) -> io::Result<Option<u8>>
+        ensures given { self.new.given ≡ self.old.given ++ given_by result }
+        ensures ended { self.new.is_ended ≡ (self.old.is_ended || tells_end result) }
+        ensures faults { 0 ≡ 0 + faults_of result }
+        ensures remaining { length self.new.left + length (given_by result) ≤ length self.old.left }
+        ensures kept { KeepsBytes self.old self.new }
+        ensures exact { result ≡ Ok (slice_get self.old.left 0) }
+        ensures left { self.new.left ≡ drop 1 self.old.left }
+    {
+        if self.position < self.bytes.len() {
+            let byte = self.bytes[self.position];
+            self.position += 1;
+            Ok(Some(byte))
+        } else {
+            self.is_ended = true;
+            Ok(None)
+        }
+    }
+}
+
+/// Takes what fits a buffer, at whose front the bytes stand then, and fails where it is full.
+#[derive(Drop)]
+pub struct SliceSink<'a> {
+    buffer: &'a mut [u8],
+    count: usize,
+    trace: Trace,
+    ghost in_range: { count ≤ length buffer.now },
+}
+
+impl<'a> SliceSink<'a> {
+    ghost use Rattle.std.specs.Prelude.{◌≡◌, [], length};
+    ghost use Rattle.lexical_lines.specs.Sink.{taken_in, behind, faults_in, loan_of};
+
+    /// A sink that has all of this buffer to fill.
+    pub fn new(buffer: &'a mut [u8]) -> SliceSink<'a>
+        ensures taken { taken_in result ≡ [] }
+        ensures behind { behind result ≡ buffer.entry.now }
+        ensures faults { faults_in result ≡ 0 }
+        ensures loan { loan_of result ≡ buffer.entry.ghost_name }
+    {
+        SliceSink {
+            buffer,
+            count: 0,
+            trace: Trace::new(),
+        }
+    }
+
+    /// How many bytes were taken.
+    pub fn len(&self) -> usize
+        ensures { result ≡ length (taken_in self.now) }
+    {
+        self.count
+    }
+}
+
+impl ByteSink for SliceSink<'_> {
+    ghost use Rattle.std.specs.Prelude.{◌≡◌, ◌≤◌, ◌+◌, ◌++◌, Ok, length, take, min, IfOk};
+    ghost use Rattle.lexical_lines.specs.Device.{taken_by, put_faults};
+    ghost use Rattle.lexical_lines.specs.Sink.{taken_in, behind, faults_in, KeepsBuffer, KeepsBuffer-itself, KeepsBuffer-on};
+
+    ghost taken = { taken_in };
+
+    ghost faults = { faults_in };
+
+    ghost keeps = { KeepsBuffer };
+
+    ghost keeps_itself = { KeepsBuffer-itself };
+
+    ghost keeps_on = { KeepsBuffer-on };
+
+    /// Takes what fits: it answers 0 where it is full.
+    fn put(&mut self, bytes: &[u8]) -> io::Result<usize>
+        ensures within { IfOk result (λ count. count ≤ length bytes.now) }
+        ensures taken { taken_in self.new ≡ taken_in self.old ++ take (taken_by result) bytes.now }
+        ensures faults { faults_in self.new ≡ faults_in self.old + put_faults result bytes.now }
+        ensures kept { KeepsBuffer self.old self.new }
+        ensures exact { result ≡ Ok (min (length bytes.now) (length (behind self.old))) }
+    {
+        let count = bytes.len().min(self.buffer.len() - self.count);
+        if count == 0 && !bytes.is_empty() {
+            self.trace.fault();
+        }
+        let end = self.count + count;
+        self.buffer[self.count..end].copy_from_slice(&bytes[..count]);
+        self.count = end;
+        Ok(count)
+    }
+}
+
+/// Writes the answers to all lines of the input to the front of the buffer, and answers how many bytes these are; every
+/// byte behind them is as before. It answers `None` where they do not fit, and the buffer is full of them then.
+pub fn answer_slice(input: &[u8], buffer: &mut [u8]) -> Option<usize>
+    ensures answered { IfSome result (λ count. Writes (AnswersAll input.now) buffer.old buffer.new count) }
+    ensures full { IfNone result (Overflows input.now buffer.new) }
+{
+    let mut source = SliceSource::new(input);
+    let mut sink = SliceSink::new(buffer);
+    match run(&mut source, &mut sink) {
+        Ok(_) => Some(sink.len()),
+        Err(_) => None,
+    }
+}

@@ -1,0 +1,170 @@
+//! Devices over readers and writers.
+
+ghost use Rattle.std.specs.Prelude.{◌≡◌, ◌⊎◌, ℕ, ◌+◌, ◌-◌, ◌≤◌, Bool, true, false, ◌||◌, List, [], ◌++◌, Ok, None, length, take, drop, min, IfOk};
+ghost use Rattle.std.specs.Io.KnownBytes.{Consumes, IsAtEnd, WriteAppends};
+ghost use Rattle.lexical_lines.specs.Device.{given_by, tells_end, faults_of, taken_by, put_faults};
+
+use crate::sink::ByteSink;
+use crate::source::ByteSource;
+use crate::trace::Trace;
+use std::io;
+use std::io::{Read, Write};
+use std::marker::Model;
+
+/// Gives the bytes of a reader, up to a limit, by one read for each byte.
+#[derive(Drop)]
+pub struct Reading<R> {
+    reader: R,
+    left: u64,
+    is_ended: bool,
+    trace: Trace,
+}
+
+impl<R> Model for Reading<R> {
+    ghost use Rattle.lexical_lines.specs.Source.{StreamReading};
+
+    ghost Value = { StreamReading R };
+
+    ghost view = { λ s. record { reader = s.reader; left = s.left; is_ended = s.is_ended; given = s.trace.bytes; faults = s.trace.faults } };
+}
+
+impl<R: Read> Reading<R> {
+    /// A source that tells the end after `limit` bytes, and earlier only where the reader gives none.
+    pub fn new(reader: R, limit: u64) -> Reading<R>
+        ensures reader { result.reader ≡ reader }
+        ensures left { result.left ≡ limit }
+        ensures ended { result.is_ended ≡ false }
+        ensures given { result.given ≡ [] }
+        ensures faults { result.faults ≡ 0 }
+    {
+        Reading {
+            reader,
+            left: limit,
+            is_ended: false,
+            trace: Trace::new(),
+        }
+    }
+}
+
+impl<R: Read> ByteSource for Reading<R> {
+    ghost given = { λ s. s.given };
+
+    ghost is_ended = { λ s. s.is_ended };
+
+    ghost faults = { λ s. s.faults };
+
+    ghost remaining = { λ s. s.left };
+
+    ghost keeps = { λ a b. Unit {0} };
+
+    ghost keeps_itself = { λ a. tt };
+
+    ghost keeps_on = { λ a b c p q. tt };
+
+    /// The reader's next byte, or the end: at the limit, or where the reader has no byte left.
+    fn next(&mut self) -> io::Result<Option<u8>>
+        ensures given { self.new.given ≡ self.old.given ++ given_by result }
+        ensures ended { self.new.is_ended ≡ (self.old.is_ended || tells_end result) }
+        ensures faults { self.new.faults ≡ self.old.faults + faults_of result }
+        ensures remaining { self.new.left + length (given_by result) ≤ self.old.left }
+        ensures kept { Unit {0} }
+        ensures bytes { Consumes (R.remaining self.old.reader) (R.remaining self.new.reader) (given_by result) }
+        ensures end { result ≡ Ok None → (self.old.left ≡ 0) ⊎ IsAtEnd (R.remaining self.new.reader) }
+        ensures left { self.new.left ≡ self.old.left - length (given_by result) }
+        ensures limit { self.old.left ≡ 0 → result ≡ Ok None }
+    {
+        if self.left == 0 {
+            self.is_ended = true;
+            return Ok(None);
+        }
+        let mut byte = [0u8];
+        match self.reader.read(&mut byte) {
+            Ok(0) => {
+                self.is_ended = true;
+                Ok(None)
+            }
+            Ok(_) => {
+                self.left -= 1;
+                self.trace.note(&byte);
+                Ok(Some(byte[0]))
+            }
+            Err(error) => {
+                self.trace.fault();
+                Err(error)
+            }
+        }
+    }
+}
+
+/// Hands bytes to a writer, by one write for each piece.
+#[derive(Drop)]
+pub struct Writing<W> {
+    writer: W,
+    trace: Trace,
+}
+
+impl<W> Model for Writing<W> {
+    ghost use Rattle.lexical_lines.specs.Sink.{StreamWriting};
+
+    ghost Value = { StreamWriting W };
+
+    ghost view = { λ s. record { writer = s.writer; taken = s.trace.bytes; faults = s.trace.faults } };
+}
+
+impl<W: Write> Writing<W> {
+    /// A sink that has taken no byte.
+    pub fn new(writer: W) -> Writing<W>
+        ensures writer { result.writer ≡ writer }
+        ensures taken { result.taken ≡ [] }
+        ensures faults { result.faults ≡ 0 }
+    {
+        Writing {
+            writer,
+            trace: Trace::new(),
+        }
+    }
+
+    /// Gives the writer back.
+    pub fn into_inner(self) -> W
+        ensures { result ≡ self.writer }
+    {
+        let Writing { writer, trace } = self;
+        drop(trace);
+        writer
+    }
+}
+
+impl<W: Write> ByteSink for Writing<W> {
+    ghost taken = { λ s. s.taken };
+
+    ghost faults = { λ s. s.faults };
+
+    ghost keeps = { λ a b. Unit {0} };
+
+    ghost keeps_itself = { λ a. tt };
+
+    ghost keeps_on = { λ a b c p q. tt };
+
+    /// The bytes that it takes are those that the writer has written.
+    fn put(&mut self, bytes: &[u8]) -> io::Result<usize>
+        ensures within { IfOk result (λ count. count ≤ length bytes.now) }
+        ensures taken { self.new.taken ≡ self.old.taken ++ take (taken_by result) bytes.now }
+        ensures faults { self.new.faults ≡ self.old.faults + put_faults result bytes.now }
+        ensures kept { Unit {0} }
+        ensures bytes { WriteAppends (W.contents self.old.writer) (W.contents self.new.writer) result bytes.now }
+    {
+        match self.writer.write(bytes) {
+            Ok(count) => {
+                if count == 0 && !bytes.is_empty() {
+                    self.trace.fault();
+                }
+                self.trace.note(&bytes[..count]);
+                Ok(count)
+            }
+            Err(error) => {
+                self.trace.fault();
+                Err(error)
+            }
+        }
+    }
+}

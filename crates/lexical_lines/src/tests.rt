@@ -1,0 +1,3 @@
+mod answers;
+mod joined;
+mod streams;

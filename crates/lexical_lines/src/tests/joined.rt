@@ -1,0 +1,44 @@
+use crate::{join, write_joined};
+use lexical_num::format::STANDARD;
+use lexical_num::format_builder::NumberFormatBuilder;
+use lexical_num::options::Options;
+
+#[test]
+fn the_mark_stands_between_two_texts(rt: HostRuntime) {
+    let mut buffer = [7; 15];
+    let front = join(&[1i8, -2, 3], b',', &mut buffer, &STANDARD, &Options::new());
+    assert_eq!(rt; &*front, b"1,-2,3".as_slice());
+    assert_eq!(rt; buffer, *b"1,-2,3\x07\x07\x07\x07\x07\x07\x07\x07\x07");
+}
+
+#[test]
+fn what_is_left_in_the_texts_is_left_in_the_buffer(rt: HostRuntime) {
+    let mut buffer = [7; 15];
+    let front = join(&[1i8, -2, 3], b',', &mut buffer, &STANDARD, &Options::new());
+    assert_eq!(rt; front.len(), 6);
+    front[1] = b';';
+    assert_eq!(rt; buffer, *b"1;-2,3\x07\x07\x07\x07\x07\x07\x07\x07\x07");
+}
+
+#[test]
+fn no_values(rt: HostRuntime) {
+    let mut buffer = [7; 0];
+    let values: [u32; 0] = [];
+    assert_eq!(rt;
+        write_joined(&values, b',', &mut buffer, &STANDARD, &Options::new()),
+        0
+    );
+    let front = join(&values, b',', &mut buffer, &STANDARD, &Options::new());
+    assert_eq!(rt; front.len(), 0);
+}
+
+#[test]
+fn one_value_with_a_sign(rt: HostRuntime) {
+    let format = NumberFormatBuilder::new()
+        .required_mantissa_sign(true)
+        .build_strict();
+    let mut buffer = [7; 22];
+    let front = join(&[u64::MAX], b' ', &mut buffer, &format, &Options::new());
+    assert_eq!(rt; &*front, b"+18446744073709551615".as_slice());
+    assert_eq!(rt; buffer, *b"+18446744073709551615\x07");
+}
