@@ -22,7 +22,8 @@ use lexical_write_integer::buffer::copy_to_front;
 /// At least the length of every answer: `bad line `, a sign, the rest of a text, and a byte 10.
 pub const MAX_ANSWER: usize = BUFFER_SIZE + 11;
 
-/// Writes the answer to a line to the front of the buffer. Answers how long it is, and whether the line is a good one.
+/// Writes the answer to a line to the front of the buffer. Answers how long it is, and whether the
+/// line is a good one.
 pub fn write_answer(line: &Line, line_number: u64, buffer: &mut [u8]) -> (usize, bool)
     requires { BUFFER_SIZE + 11 ≤ length buffer.old }
     ensures within { result.0 ≤ length buffer.new }
@@ -39,7 +40,8 @@ pub fn write_answer(line: &Line, line_number: u64, buffer: &mut [u8]) -> (usize,
 // What the line asks for, where it is a good one.
 fn requested(line: &Line) -> Option<Request>
     ensures radix { IfSome result (λ request. IsRadix request.radix) }
-    ensures found { IfSome result (λ request. (bytes : List ℕ) → line.now ≡ kept bytes → Asks bytes request) }
+    ensures found { IfSome result (λ request. (bytes : List ℕ) → line.now ≡ kept bytes
+        → Asks bytes request) }
     ensures none { IfNone result ((bytes : List ℕ) → line.now ≡ kept bytes → IsGood bytes → ⊥) }
 {
     parse(line.as_slice()?)
@@ -49,7 +51,10 @@ fn requested(line: &Line) -> Option<Request>
 fn write_text(request: &Request, buffer: &mut [u8]) -> usize
     requires radix { IsRadix request.now.radix }
     requires room { BUFFER_SIZE + 2 ≤ length buffer.old }
-    ensures { Writes (IsEnded (IsText (number_of request.now.number) (format_of request.now.radix request.now.plus))) buffer.old buffer.new result }
+    ensures { Writes
+        (IsEnded (IsText (number_of request.now.number)
+        (format_of request.now.radix request.now.plus)))
+        buffer.old buffer.new result }
 {
     let format = NumberFormatBuilder::new()
         .mantissa_radix(request.radix)

@@ -14,18 +14,22 @@ use std::io;
 
 const NEWLINE: u8 = b'\n';
 
-/// Reads lines, and puts the answer to each before it asks for the next byte. It answers whether all lines are good ones,
-/// or the error of the device that failed, of kind `WriteZero` where the sink took no byte.
+/// Reads lines, and puts the answer to each before it asks for the next byte. It answers whether
+/// all lines are good ones, or the error of the device that failed, of kind `WriteZero` where the
+/// sink took no byte.
 ///
-/// A line is what stands in front of a byte 10, or behind the last one if that is not empty. A good one has at most 64
-/// bytes: the name of one of the ten integer types, a space, a `+` or nothing, a radix from `2` to `36`, a space, and a
-/// decimal number of the type, leading zeros or not, with a `-` or not where the type is signed. Its answer is the text of
-/// the number in the radix, with a sign in each case where the `+` stands. The answer to any other line is `bad line ` and
-/// its number, from 1 on. A byte 10 ends each answer.
+/// A line is what stands in front of a byte 10, or behind the last one if that is not empty. A good
+/// one has at most 64 bytes: the name of one of the ten integer types, a space, a `+` or nothing, a
+/// radix from `2` to `36`, a space, and a decimal number of the type, leading zeros or not, with a
+/// `-` or not where the type is signed. Its answer is the text of the number in the radix, with a
+/// sign in each case where the `+` stands. The answer to any other line is `bad line ` and its
+/// number, from 1 on. A byte 10 ends each answer.
 pub fn run<S: ByteSource, K: ByteSink>(source: &mut S, sink: &mut K) -> io::Result<bool>
     // A run adds to what was given and to what was taken.
-    ensures given { S.given source.new ≡ S.given source.old ++ since (S.given source.old) (S.given source.new) }
-    ensures taken { K.taken sink.new ≡ K.taken sink.old ++ since (K.taken sink.old) (K.taken sink.new) }
+    ensures given { S.given source.new
+        ≡ S.given source.old ++ since (S.given source.old) (S.given source.new) }
+    ensures taken { K.taken sink.new
+        ≡ K.taken sink.old ++ since (K.taken sink.old) (K.taken sink.new) }
     ensures kept_source { S.keeps source.old source.new }
     ensures kept_sink { K.keeps sink.old sink.new }
 
@@ -34,11 +38,15 @@ pub fn run<S: ByteSource, K: ByteSink>(source: &mut S, sink: &mut K) -> io::Resu
         × (K.faults sink.new ≡ K.faults sink.old)) }
     ensures ok_end { OnOk result (IsTrue (S.is_ended source.new)) }
     ensures ok_answers { OnOk result
-        (AnswersAll (since (S.given source.old) (S.given source.new)) (since (K.taken sink.old) (K.taken sink.new))) }
+        (let bytes = since (S.given source.old) (S.given source.new) in
+        let put = since (K.taken sink.old) (K.taken sink.new) in
+        AnswersAll bytes put) }
     ensures ok_good { IfOk result (λ all_good.
-        TellsAllGood (since (S.given source.old) (S.given source.new)) all_good) }
+        let bytes = since (S.given source.old) (S.given source.new) in
+        TellsAllGood bytes all_good) }
 
-    // Either the source failed, and all lines that ended are answered, or the sink did, in the last answer.
+    // Either the source failed, and all lines that ended are answered, or the sink did, in the last
+    // answer.
     ensures err { OnErr result
         (let bytes = since (S.given source.old) (S.given source.new) in
         let put = since (K.taken sink.old) (K.taken sink.new) in
@@ -68,12 +76,14 @@ pub fn run<S: ByteSource, K: ByteSink>(source: &mut S, sink: &mut K) -> io::Resu
 // Puts the answer to a line, and answers whether the line is a good one.
 fn put_answer<K: ByteSink>(line: &Line, line_number: u64, sink: &mut K) -> io::Result<bool>
     ensures ok { OnOk result ((bytes : List ℕ) → line.now ≡ kept bytes
-        → (answer : List ℕ) × IsAnswer line_number bytes answer × (K.taken sink.new ≡ K.taken sink.old ++ answer)) }
-    ensures good { IfOk result (λ good. (bytes : List ℕ) → line.now ≡ kept bytes → IsTrue good ↔ IsGood bytes) }
+        → (answer : List ℕ) × IsAnswer line_number bytes answer
+        × (K.taken sink.new ≡ K.taken sink.old ++ answer)) }
+    ensures good { IfOk result (λ good. (bytes : List ℕ) → line.now ≡ kept bytes
+        → IsTrue good ↔ IsGood bytes) }
     ensures ok_faults { OnOk result (K.faults sink.new ≡ K.faults sink.old) }
     ensures err { OnErr result ((bytes : List ℕ) → line.now ≡ kept bytes
-        → (answer : List ℕ) × (part : List ℕ) × IsAnswer line_number bytes answer × IsBeginning part answer
-        × (K.taken sink.new ≡ K.taken sink.old ++ part)) }
+        → (answer : List ℕ) × (part : List ℕ) × IsAnswer line_number bytes answer
+        × IsBeginning part answer × (K.taken sink.new ≡ K.taken sink.old ++ part)) }
     ensures err_faults { OnErr result (K.faults sink.new ≡ K.faults sink.old + 1) }
     ensures kept { K.keeps sink.old sink.new }
 {

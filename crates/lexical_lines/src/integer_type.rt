@@ -75,8 +75,8 @@ impl IntegerType {
         }
     }
 
-    /// Whether the type has the number of this magnitude, behind a `-` or not: no `-` stands in a value of an unsigned
-    /// type, not even in front of 0.
+    /// Whether the type has the number of this magnitude, behind a `-` or not: no `-` stands in a
+    /// value of an unsigned type, not even in front of 0.
     pub fn holds(self, minus: bool, magnitude: u64) -> bool
         ensures { IsTrue result ↔ Holds self minus magnitude }
     {

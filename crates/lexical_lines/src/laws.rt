@@ -1,4 +1,5 @@
-//! The laws of lines and their answers: each contract is a law over the definitions, which a caller has from the call.
+//! The laws of lines and their answers: each contract is a law over the definitions, which a caller
+//! has from the call.
 
 ghost use Rattle.std.specs.Prelude.{◌≡◌, List, ℕ, refl};
 ghost use Rattle.std.proofs.Common.{◌∙◌};

@@ -1,4 +1,5 @@
-//! Integers to text, line by line: each line of an input asks for the text of a number in a radix, and is answered.
+//! Integers to text, line by line: each line of an input asks for the text of a number in a radix,
+//! and is answered.
 #![tactic(auto)]
 
 mod answer;

@@ -17,8 +17,8 @@ pub trait ByteSink {
     // What no call changes, of the state before some calls and that behind them.
     ghost keeps: { Self → Self → Type 0 };
 
-    /// Takes the first bytes of a piece, and answers how many. An `Err` takes none and is a fault, and so is an `Ok` that
-    /// takes none of a piece that has some; nothing else is one.
+    /// Takes the first bytes of a piece, and answers how many. An `Err` takes none and is a fault,
+    /// and so is an `Ok` that takes none of a piece that has some; nothing else is one.
     fn put(&mut self, bytes: &[u8]) -> io::Result<usize>
         ensures within { IfOk result (λ count. count ≤ length bytes.now) }
         ensures taken { taken self.new ≡ taken self.old ++ take (taken_by result) bytes.now }
@@ -30,8 +30,8 @@ pub trait ByteSink {
     ghost keeps_on: { (a b c : Self) → keeps a b → keeps b c → keeps a c };
 }
 
-/// Puts all bytes, or fails at the first fault of the sink: with its error, or with one of kind `WriteZero` where it
-/// took no byte.
+/// Puts all bytes, or fails at the first fault of the sink: with its error, or with one of kind
+/// `WriteZero` where it took no byte.
 pub fn put_all<K: ByteSink>(sink: &mut K, bytes: &[u8]) -> io::Result<()>
     ensures ok { OnOk result (K.taken sink.new ≡ K.taken sink.old ++ bytes.now) }
     ensures ok_faults { OnOk result (K.faults sink.new ≡ K.faults sink.old) }

@@ -27,7 +27,11 @@ impl<'a> Model for SliceSource<'a> {
 
     ghost Value = { SliceReading };
 
-    ghost view = { λ s. record { given = take s.position s.bytes.now; left = drop s.position s.bytes.now; is_ended = s.is_ended } };
+    ghost view = { λ s. record {
+      given = take s.position s.bytes.now;
+      left = drop s.position s.bytes.now;
+      is_ended = s.is_ended;
+    } };
 
     ghost invariant = { λ s. s.position ≤ length s.bytes.now };
 }
@@ -154,8 +158,9 @@ impl ByteSink for SliceSink<'_> {
     }
 }
 
-/// Writes the answers to all lines of the input to the front of the buffer, and answers how many bytes these are; every
-/// byte behind them is as before. It answers `None` where they do not fit, and the buffer is full of them then.
+/// Writes the answers to all lines of the input to the front of the buffer, and answers how many
+/// bytes these are; every byte behind them is as before. It answers `None` where they do not fit,
+/// and the buffer is full of them then.
 pub fn answer_slice(input: &[u8], buffer: &mut [u8]) -> Option<usize>
     ensures answered { IfSome result (λ count. Writes (AnswersAll input.now) buffer.old buffer.new count) }
     ensures full { IfNone result (Overflows input.now buffer.new) }

@@ -22,8 +22,8 @@ pub trait ByteSource {
     // What no call changes, of the state before some calls and that behind them.
     ghost keeps: { Self → Self → Type 0 };
 
-    /// The next byte, or `None` at the end, which it alone tells. An `Err` gives no byte and is a fault, and nothing else
-    /// is one.
+    /// The next byte, or `None` at the end, which it alone tells. An `Err` gives no byte and is a
+    /// fault, and nothing else is one.
     fn next(&mut self) -> io::Result<Option<u8>>
         ensures given { given self.new ≡ given self.old ++ given_by result }
         ensures ended { is_ended self.new ≡ (is_ended self.old || tells_end result) }

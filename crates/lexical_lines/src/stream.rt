@@ -25,11 +25,18 @@ impl<R> Model for Reading<R> {
 
     ghost Value = { StreamReading R };
 
-    ghost view = { λ s. record { reader = s.reader; left = s.left; is_ended = s.is_ended; given = s.trace.bytes; faults = s.trace.faults } };
+    ghost view = { λ s. record {
+      reader = s.reader;
+      left = s.left;
+      is_ended = s.is_ended;
+      given = s.trace.bytes;
+      faults = s.trace.faults;
+    } };
 }
 
 impl<R: Read> Reading<R> {
-    /// A source that tells the end after `limit` bytes, and earlier only where the reader gives none.
+    /// A source that tells the end after `limit` bytes, and earlier only where the reader gives
+    /// none.
     pub fn new(reader: R, limit: u64) -> Reading<R>
         ensures reader { result.reader ≡ reader }
         ensures left { result.left ≡ limit }
@@ -68,8 +75,10 @@ impl<R: Read> ByteSource for Reading<R> {
         ensures faults { self.new.faults ≡ self.old.faults + faults_of result }
         ensures remaining { self.new.left + length (given_by result) ≤ self.old.left }
         ensures kept { Unit {0} }
-        ensures bytes { Consumes (R.remaining self.old.reader) (R.remaining self.new.reader) (given_by result) }
-        ensures end { result ≡ Ok None → (self.old.left ≡ 0) ⊎ IsAtEnd (R.remaining self.new.reader) }
+        ensures bytes { Consumes (R.remaining self.old.reader) (R.remaining self.new.reader)
+            (given_by result) }
+        ensures end { result ≡ Ok None
+            → (self.old.left ≡ 0) ⊎ IsAtEnd (R.remaining self.new.reader) }
         ensures left { self.new.left ≡ self.old.left - length (given_by result) }
         ensures limit { self.old.left ≡ 0 → result ≡ Ok None }
     {
@@ -108,7 +117,11 @@ impl<W> Model for Writing<W> {
 
     ghost Value = { StreamWriting W };
 
-    ghost view = { λ s. record { writer = s.writer; taken = s.trace.bytes; faults = s.trace.faults } };
+    ghost view = { λ s. record {
+      writer = s.writer;
+      taken = s.trace.bytes;
+      faults = s.trace.faults;
+    } };
 }
 
 impl<W: Write> Writing<W> {
@@ -151,7 +164,8 @@ impl<W: Write> ByteSink for Writing<W> {
         ensures taken { self.new.taken ≡ self.old.taken ++ take (taken_by result) bytes.now }
         ensures faults { self.new.faults ≡ self.old.faults + put_faults result bytes.now }
         ensures kept { Unit {0} }
-        ensures bytes { WriteAppends (W.contents self.old.writer) (W.contents self.new.writer) result bytes.now }
+        ensures bytes { WriteAppends (W.contents self.old.writer) (W.contents self.new.writer)
+            result bytes.now }
     {
         match self.writer.write(bytes) {
             Ok(count) => {

@@ -3,8 +3,8 @@ use std::io;
 use std::io::ErrorKind;
 use std::process::Abort;
 
-// Runs over the input into a buffer of so many bytes; the output is what was taken of it, and the bytes behind it are as
-// before.
+// Runs over the input into a buffer of so many bytes; the output is what was taken of it, and the
+// bytes behind it are as before.
 fn run_over(rt: &impl Abort, input: &[u8], room: usize, output: &[u8]) -> io::Result<bool> {
     let mut buffer = [b'.'; 256];
     assert!(rt; room <= 256);
