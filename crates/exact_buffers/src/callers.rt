@@ -2,22 +2,25 @@
 //! call of these passes the check.
 #![tactic(auto, unfolding(lexical_write_integer::specs::Numeral::digit_count, lexical_write_integer::specs::Numeral::least_exponent))]
 
-ghost use Rattle.std.specs.Prelude.{◌≡◌, ◌+◌, false, length, unsigned_abs};
+ghost use Rattle.std.specs.Prelude.{◌≡◌, ◌+◌, ◌≤◌, false, length, take, unsigned_abs, ℕ, pos, negsuc, List, [], ◌∷◌};
+ghost use Rattle.lexical_lines.specs.Joined.{IsJoined};
 ghost use Rattle.lexical_num.specs.Format.{standard};
 ghost use Rattle.lexical_num.specs.Sign.{sign_of};
 ghost use Rattle.lexical_write_integer.specs.Numeral.{digit_count};
 ghost use Rattle.lexical_write_integer.specs.Text.{IsText};
 
+use lexical_lines::join;
 use lexical_num::digit::digit_to_char;
 use lexical_num::num::{LexicalInteger, UnsignedInteger};
 use lexical_write_integer::algorithm::algorithm;
 use lexical_write_integer::compact::Compact;
 use lexical_write_integer::decimal::{Decimal, fallback_digit_count};
 use lexical_write_integer::digit_count::DigitCount;
+use lexical_write_integer::format::STANDARD;
 use lexical_write_integer::jeaiii::{fixed_6, fixed_8_nine, fixed_8_ten, fixed_8_wide, from_i64};
 use lexical_write_integer::laws::digit_count_at_most;
 use lexical_write_integer::table::get_table;
-use lexical_write_integer::{NumberFormat, NumberFormatBuilder, ToLexical};
+use lexical_write_integer::{NumberFormat, NumberFormatBuilder, Options, ToLexical};
 
 /// Writes 5 in decimal into 20 bytes, as many as the greatest `u64` has digits.
 pub fn decimal_of_a_u64() -> usize
@@ -150,13 +153,22 @@ pub fn format_with_the_greatest_exponent_radix() -> NumberFormat
     NumberFormatBuilder::new().exponent_radix(36).build_strict()
 }
 
+// So many bytes of a table, from its front.
+fn front_of(table: &[u8], count: usize) -> &[u8]
+    requires { count ≤ length table.now }
+    ensures bytes { result.now ≡ take count table.now }
+    ensures length { length result.now ≡ count }
+{
+    &table[..count]
+}
+
 /// Writes 255 by the 512 bytes of its table.
 #[tactic(auto)]
 pub fn digits_by_the_whole_table() -> usize
     ensures { result ≡ digit_count 16 255 }
 {
     digit_count_at_most(16, 255, 2);
-    algorithm(255u8, 16, &get_table(16)[..512], &mut [0; 2])
+    algorithm(255u8, 16, front_of(get_table(16), 512), &mut [0; 2])
 }
 
 /// Writes 128 by the table of its radix.
@@ -246,4 +258,20 @@ pub fn greatest_number_of_32_bits() -> u32
     ensures { result ≡ 4294967295 }
 {
     4294967295u64.as_u32()
+}
+
+/// The length of the texts of 1, -2 and 3 joined by commas, written into 15 bytes: for each the size
+/// of an `i8` in decimal, which is 4, and one byte more.
+pub fn length_of_joined_texts() -> usize
+    ensures { (text : List ℕ) × IsJoined (pos 1 ∷ negsuc 1 ∷ pos 3 ∷ []) 44 standard text
+        × (result ≡ length text) }
+{
+    join(
+        &[1i8, -2, 3],
+        b',',
+        &mut [0; 15],
+        &STANDARD,
+        &Options::new(),
+    )
+    .len()
 }

@@ -2,3 +2,5 @@
 #![tactic(auto)]
 
 pub mod callers;
+#[cfg(test)]
+mod tests;

@@ -1,5 +1,5 @@
 use Rattle.std.proofs.Common.{ap, ◌∙◌, ◌+◌, length, length-append, lit≤}
-use Rattle.std.specs.Prelude.{false, unsigned_abs}
+use Rattle.std.specs.Prelude.{false}
 use Rattle.lexical_num.specs.Sign.{sign_of}
 use Rattle.lexical_write_integer.proofs.Numerals.{length-IsDigits}
 use Rattle.exact_buffers.proofs.callers.text_length.Goals as goal

@@ -1,0 +1,31 @@
+use Rattle.std.proofs.Common.{◌≡◌, ℕ, ◌+◌, ◌-◌, ◌≤◌, List, ◌++◌, length, take, drop, sym, ap, ◌∙◌, arith, length-take, length-drop, take-append-drop}
+use Rattle.std.specs.List.{copy_within}
+use Rattle.std.proofs.lemmas.List.{drop-take}
+use Rattle.std.proofs.lemmas.List.Edits.{take-paste}
+use Rattle.std.proofs.KnownBytes.{append_known-moved}
+use Rattle.lexical_streams.proofs.block_writer.BlockWriter.hand_on.Goals as goal
+
+-- what stood behind the first bytes stands at the front
+take-copy_within : (xs : List ℕ) (count end : ℕ) → count ≤ end → end ≤ length xs
+    → take (end - count) (copy_within xs count end 0) ≡ drop count (take end xs)
+take-copy_within xs count end ordered within =
+    let left = end - count in
+    let parts : end ≡ count + left = omega arith in
+    let none : left ≡ 0 + left = omega arith in
+    ap (λ k. take k (copy_within xs count end 0)) none
+    ∙ take-paste xs 0 (drop count xs) left (omega arith) (omega (arith, length-drop count xs))
+    ∙ sym (ap (λ k. drop count (take k xs)) parts ∙ drop-take count left xs)
+
+-- what was held is what was handed on, and then what is held after the move
+parted : (xs ys : List ℕ) (count end : ℕ) → count ≤ end → end ≤ length xs → ys ≡ copy_within xs count end 0
+    → take end xs ≡ take count (take end xs) ++ take (end - count) ys
+parted xs ys count end ordered within moved =
+    let rest = ap (take (end - count)) moved ∙ take-copy_within xs count end ordered within in
+    sym (take-append-drop count (take end xs)) ∙ ap (λ l. take count (take end xs) ++ l) (sym rest)
+
+pub returns-clause-bytes : goal.returns-clause-bytes
+returns-clause-bytes g c =
+    let w = c.args.self.now in
+    let count = c.write_while_taken-count.result.0 in
+    let bound : count ≤ w.end = omega (arith, c.write_while_taken-count.ensures.bound, length-take w.end w.block) in
+    append_known-moved _ _ _ _ _ c.write_while_taken-count.ensures.bytes (parted w.block c.copy_within.new.self count w.end bound (omega arith) c.copy_within.ensures.after)
