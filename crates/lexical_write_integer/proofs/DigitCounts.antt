@@ -116,9 +116,13 @@ width-le_64 bits is_16 = omega arith
 width-le_64 bits is_32 = omega arith
 width-le_64 bits is_64 = omega arith
 
--- no number of a type has more than 64 digits
+-- no number of a type has more digits than bits
+pub digit_count-le_width : (r n bits : ℕ) → 2 ≤ r → IsWidth bits → n < 2 ^ bits → digit_count r n ≤ bits
+digit_count-le_width r n bits two is_8 fits = digit_count-le_bits r n 8 two (omega arith) fits
+digit_count-le_width r n bits two is_16 fits = digit_count-le_bits r n 16 two (omega arith) fits
+digit_count-le_width r n bits two is_32 fits = digit_count-le_bits r n 32 two (omega arith) fits
+digit_count-le_width r n bits two is_64 fits = digit_count-le_bits r n 64 two (omega arith) fits
+
+-- nor more than 64
 pub digit_count-le_64 : (r n bits : ℕ) → 2 ≤ r → IsWidth bits → n < 2 ^ bits → digit_count r n ≤ 64
-digit_count-le_64 r n bits two is_8 fits = omega (arith, digit_count-le_bits r n 8 two (omega arith) fits)
-digit_count-le_64 r n bits two is_16 fits = omega (arith, digit_count-le_bits r n 16 two (omega arith) fits)
-digit_count-le_64 r n bits two is_32 fits = omega (arith, digit_count-le_bits r n 32 two (omega arith) fits)
-digit_count-le_64 r n bits two is_64 fits = digit_count-le_bits r n 64 two (omega arith) fits
+digit_count-le_64 r n bits two width fits = omega (arith, digit_count-le_width r n bits two width fits, width-le_64 bits width)

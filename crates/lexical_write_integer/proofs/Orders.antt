@@ -39,7 +39,7 @@ map-digit_char_injective (x ∷ xs) (y ∷ ys) same =
     let rest : xs ≡ ys = map-digit_char_injective xs ys (cc) in
     cc
 
-same_from_IsDigits : (r m n : ℕ) (text : List ℕ) → IsDigits r m text → IsDigits r n text → m ≡ n
+pub same_from_IsDigits : (r m n : ℕ) (text : List ℕ) → IsDigits r m text → IsDigits r n text → m ≡ n
 same_from_IsDigits r m n text p q =
     sym p.numeral.value ∙ ap (value_of r) (map-digit_char_injective p.digits q.digits (sym p.characters ∙ q.characters)) ∙ q.numeral.value
 

@@ -1,14 +1,15 @@
 //! The laws of numerals and texts. Each function does nothing: its contract is a law over the
 //! definitions, which a caller has from the call.
 
-ghost use Rattle.std.specs.Prelude.{◌≡◌, ℕ, ◌+◌, ◌*◌, ◌/◌, ◌%◌, ◌^◌, ◌<◌, ◌≤◌, ◌↔◌, pos, ◌<ℤ◌, ◌≤ℤ◌, List, ◌++◌, length};
+ghost use Rattle.std.specs.Prelude.{◌≡◌, ℕ, ◌+◌, ◌*◌, ◌/◌, ◌%◌, ◌^◌, ◌<◌, ◌≤◌, ◌↔◌, pos, ◌<ℤ◌, ◌≤ℤ◌, List, ◌++◌, length, take, drop};
 ghost use Rattle.lexical_num.specs.Format.{IsRadix};
+ghost use Rattle.lexical_write_integer.specs.Buffer.{Front};
 ghost use Rattle.lexical_write_integer.specs.Numeral.{IsNumeral, IsNumeralOf, IsBlockOf, value_of, digit_count};
 ghost use Rattle.lexical_write_integer.specs.Order.{ComesBefore};
 ghost use Rattle.lexical_write_integer.specs.Text.{IsDigits, IsText};
 
 use lexical_num::format::NumberFormat;
-use lexical_num::num::LexicalInteger;
+use lexical_num::num::{LexicalInteger, UnsignedInteger};
 
 /// The digit count of a number is the least count, of 1 or more, whose power of the radix the
 /// number is below. It is at most 64.
@@ -28,6 +29,14 @@ pub fn digit_count_at_most(radix: u32, value: u64, count: u32)
     requires fits { value < radix ^ count }
     ensures { digit_count radix value ≤ count }
 {}
+
+/// A number has at most as many digits as its type has bits.
+pub fn digit_count_within_bits<T: UnsignedInteger>(radix: u32, value: T)
+    requires { IsRadix radix }
+    ensures { digit_count radix (T.magnitude value) ≤ T.BITS }
+{
+    value.fits_bits();
+}
 
 /// Every number has a numeral, of as many digits as its digit count.
 pub fn numeral_exists(radix: u32, value: u64)
@@ -54,6 +63,11 @@ pub fn digits_unique(radix: u32, value: u64, a: &[u8], b: &[u8])
     ensures count { length a.now ≡ digit_count radix value }
 {}
 
+/// Two numbers with the same digits in a radix are the same number.
+pub fn equal_digits(radix: u32, a: u64, b: u64)
+    ensures { (digits : List ℕ) → IsDigits radix a digits → IsDigits radix b digits → a ≡ b }
+{}
+
 /// The value of two lists of digits, one behind the other.
 pub fn value_of_append(radix: u32, front: &[u8], back: &[u8])
     ensures { value_of radix (front.now ++ back.now)
@@ -70,6 +84,16 @@ pub fn numeral_split(radix: u32, count: u32, value: u64)
         → IsNumeralOf radix value (front ++ back) }
     ensures digits { digit_count radix value
         ≡ digit_count radix (value / radix ^ count) + count }
+{}
+
+/// A text at the front of a buffer, and one at the front of a part of the buffer that begins behind
+/// it: the two, one behind the other, stand at the front of the buffer, and their counts add up.
+pub fn text_behind()
+    ensures { (before between part text behind : List ℕ) → (count room answer : ℕ)
+        → Front before between text → count ≡ length text
+        → Front (take room (drop count between)) part behind → answer ≡ length behind
+        → Front before (take count between ++ (part ++ drop room (drop count between))) (text ++ behind)
+        × (count + answer ≡ length (text ++ behind)) }
 {}
 
 /// Two numbers with one text in a format are the same number.

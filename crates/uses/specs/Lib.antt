@@ -1,0 +1,2 @@
+pub mod FloatParts
+pub mod LogLine

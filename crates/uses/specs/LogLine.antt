@@ -1,0 +1,22 @@
+-- A line of a log.
+use Rattle.std.specs.Prelude.{◌≡◌, ℕ, true, List, ◌++◌, ℤ, codes}
+use Rattle.lexical_num.specs.Format.{Format, standard}
+use Rattle.lexical_write_integer.specs.Text.{IsText}
+use Rattle.uses.specs.declared.log_line.Level.{Level}
+use Rattle.uses.specs.declared.log_line.Level.TheVariants.{Info, Warn, Error}
+
+-- the name of a level
+abbrev pub name_of : Level → List ℕ
+name_of Info = codes "INFO"
+name_of Warn = codes "WARN"
+name_of Error = codes "ERROR"
+
+-- in decimal, with a sign before each number
+abbrev pub signed : Format
+signed = record standard { required_mantissa_sign = true }
+
+-- the name of the level, a space, and the number with its sign
+pub record IsLine (level : Level) (number : ℤ) (line : List ℕ) : Type 0 where
+  pub number_text : List ℕ
+  pub is_number : IsText number signed number_text
+  pub whole : line ≡ name_of level ++ codes " " ++ number_text

@@ -1,0 +1,19 @@
+//! A record: numbers in one line, with commas between them.
+
+ghost use Rattle.std.specs.Prelude.{◌≤◌, ◌↔◌, IsTrue, length, map, pos, IfSome, take, List, ℕ, ◌≡◌};
+ghost use Rattle.lexical_num.specs.Format.{standard};
+ghost use Rattle.lexical_write_integer.specs.Buffer.{Writes};
+ghost use Rattle.lexical_lines.specs.Joined.{IsJoined};
+
+use lexical_lines::write_joined;
+use lexical_write_integer::Options;
+use lexical_write_integer::format::STANDARD;
+
+/// Writes the three numbers in decimal, with commas between them, to the front of the buffer, of at
+/// least 33 bytes, and answers how many bytes they are. The bytes behind them are as before.
+pub fn write_record(numbers: &[u32; 3], buffer: &mut [u8]) -> usize
+    requires { 33 ≤ length buffer.old }
+    ensures { Writes (IsJoined (map pos numbers.now) 44 standard) buffer.old buffer.new result }
+{
+    write_joined(numbers, b',', buffer, &STANDARD, &Options::new())
+}

@@ -1,0 +1,25 @@
+//! Keys that sort as texts as their numbers do.
+
+ghost use Rattle.std.specs.Prelude.{◌<◌, ◌↔◌, IsTrue};
+ghost use Rattle.lexical_write_integer.specs.Order.{ComesBefore};
+
+use lexical_write_integer::ToLexical;
+use lexical_write_integer::format::STANDARD;
+use lexical_write_integer::laws::order;
+use std::cmp::Ordering;
+
+/// Whether the first text is shorter than the second, or as long and earlier in the order of bytes.
+pub fn is_earlier_key(a: &[u8], b: &[u8]) -> bool
+    ensures { IsTrue result ↔ ComesBefore a.now b.now }
+{
+    a.len() < b.len() || a.len() == b.len() && a.cmp(&b) == Ordering::Less
+}
+
+/// Whether the decimal key of the first number comes before that of the second: it does where the
+/// number is the lesser one.
+pub fn comes_before(a: u64, b: u64) -> bool
+    ensures { IsTrue result ↔ a < b }
+{
+    order(a, b, &STANDARD);
+    is_earlier_key(a.to_lexical(&mut [0; 20]), b.to_lexical(&mut [0; 20]))
+}

@@ -1,0 +1,117 @@
+use crate::float_parts::write_parts;
+use crate::hex_dump::write_dump;
+use crate::identifier::{same_counter, write_identifier};
+use crate::log_line::{Level, level_name, write_line};
+use crate::record::write_record;
+use crate::sorted_keys::{comes_before, is_earlier_key};
+use lexical_write_integer::{BUFFER_SIZE, NumberFormat, NumberFormatBuilder};
+use std::process::Abort;
+
+fn check_identifier(rt: &impl Abort, counter: u64, identifier: &[u8]) {
+    let mut buffer = [7; 14];
+    let count = write_identifier(counter, &mut buffer);
+    assert_eq!(rt; count, identifier.len());
+    assert!(rt; buffer.starts_with(identifier));
+    assert!(rt; buffer[count..].iter().all(|byte| *byte == 7));
+}
+
+fn check_line(rt: &impl Abort, level: Level, number: i64, line: &[u8]) {
+    let mut buffer = [7; 30];
+    assert_eq!(rt; write_line(level, number, &mut buffer), line.len());
+    assert!(rt; buffer.starts_with(line));
+    assert!(rt; buffer[line.len()..].iter().all(|byte| *byte == 7));
+}
+
+fn check_parts(
+    rt: &impl Abort,
+    mantissa: u64,
+    mark: u8,
+    exponent: u32,
+    format: &NumberFormat,
+    text: &[u8],
+) {
+    let mut buffer = [7; BUFFER_SIZE];
+    let count = write_parts(mantissa, mark, exponent, format, &mut buffer);
+    assert_eq!(rt; count, text.len());
+    assert!(rt; buffer.starts_with(text));
+    assert!(rt; buffer[count..].iter().all(|byte| *byte == 7));
+}
+
+#[test]
+fn identifiers(rt: HostRuntime) {
+    check_identifier(&rt, 0, b"0");
+    same_counter(35, 36);
+    check_identifier(&rt, 35, b"Z");
+    check_identifier(&rt, 36, b"10");
+    check_identifier(&rt, 18446744073709551615, b"3W5E11264SGSF");
+}
+
+#[test]
+fn dump_of_eight_bytes(rt: HostRuntime) {
+    let mut dump = [7; 16];
+    write_dump(&[0x01, 0x23, 0x45, 0x67, 0x89, 0xAB, 0xCD, 0xEF], &mut dump);
+    assert_eq!(rt; dump, *b"0123456789ABCDEF");
+    write_dump(&[0, 10, 160, 255, 15, 240, 9, 144], &mut dump);
+    assert_eq!(rt; dump, *b"000AA0FF0FF00990");
+}
+
+#[test]
+fn parts_in_two_radices(rt: HostRuntime) {
+    let hexadecimal = NumberFormatBuilder::new()
+        .mantissa_radix(16)
+        .exponent_radix(2)
+        .build_strict();
+    check_parts(&rt, 10, b'^', 10, &hexadecimal, b"A^1010");
+    check_parts(
+        &rt,
+        10,
+        b'p',
+        0,
+        &NumberFormatBuilder::new().build_strict(),
+        b"10p0",
+    );
+    let mut longest = [b'1'; 97];
+    longest[64] = b'e';
+    check_parts(
+        &rt,
+        18446744073709551615,
+        b'e',
+        4294967295,
+        &NumberFormatBuilder::binary(),
+        &longest,
+    );
+}
+
+#[test]
+fn lines_of_a_log(rt: HostRuntime) {
+    check_line(&rt, Level::Warn, -5, b"WARN -5");
+    check_line(&rt, Level::Warn, 0, b"WARN +0");
+    check_line(&rt, Level::Info, 5, b"INFO +5");
+    let least = b"ERROR -9223372036854775808";
+    let mut buffer = [7; 26];
+    assert_eq!(rt;
+        write_line(Level::Error, -9223372036854775808, &mut buffer),
+        26
+    );
+    assert_eq!(rt; buffer, *least);
+    assert_eq!(rt; level_name(Level::Warn), b"WARN".as_slice());
+}
+
+#[test]
+fn keys_in_the_order_of_the_numbers(rt: HostRuntime) {
+    assert!(rt; comes_before(9, 10));
+    assert!(rt; !comes_before(10, 9));
+    assert!(rt; !comes_before(10, 10));
+    assert!(rt; comes_before(99, 18446744073709551615));
+    assert!(rt; is_earlier_key(b"9", b"10"));
+    assert!(rt; is_earlier_key(b"19", b"20"));
+    assert!(rt; !is_earlier_key(b"20", b"20"));
+}
+
+#[test]
+fn records(rt: HostRuntime) {
+    let mut buffer = [7; 34];
+    assert_eq!(rt; write_record(&[0, 4294967295, 10], &mut buffer), 15);
+    assert!(rt; buffer.starts_with(b"0,4294967295,10\x07"));
+    assert!(rt; buffer[15..].iter().all(|byte| *byte == 7));
+}
