@@ -1,6 +1,6 @@
 //! The texts of several numbers, joined by a byte.
 
-ghost use Rattle.std.specs.Prelude.{ℕ, ◌+◌, ◌*◌, ◌≤◌, length, map};
+ghost use Rattle.std.specs.Prelude.{◌+◌, ◌*◌, ◌≤◌, length, map};
 ghost use Rattle.std.specs.Borrow.{sem};
 ghost use Rattle.lexical_num.specs.Size.{size_in};
 ghost use Rattle.lexical_write_integer.specs.Buffer.{Writes};

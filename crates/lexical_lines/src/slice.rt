@@ -1,6 +1,6 @@
 //! Devices over memory.
 
-ghost use Rattle.std.specs.Prelude.{◌≡◌, ℕ, ◌+◌, ◌≤◌, Bool, false, ◌||◌, List, [], ◌++◌, Ok, None, Some, length, take, drop, min, IfOk, IfSome, IfNone, ◌<◌, slice_get, refl};
+ghost use Rattle.std.specs.Prelude.{◌≡◌, ◌+◌, ◌≤◌, false, ◌||◌, [], ◌++◌, Ok, None, Some, length, take, drop, min, IfOk, IfSome, IfNone, ◌<◌, slice_get};
 ghost use Rattle.lexical_lines.specs.Answer.{AnswersAll, Overflows};
 ghost use Rattle.lexical_lines.specs.Device.{given_by, tells_end, faults_of, taken_by, put_faults};
 ghost use Rattle.lexical_lines.specs.Source.{KeepsBytes, SliceReading};

@@ -1,6 +1,6 @@
 //! Devices over readers and writers.
 
-ghost use Rattle.std.specs.Prelude.{◌≡◌, ◌⊎◌, ℕ, ◌+◌, ◌-◌, ◌≤◌, Bool, true, false, ◌||◌, List, [], ◌++◌, Ok, None, length, take, drop, min, IfOk};
+ghost use Rattle.std.specs.Prelude.{◌≡◌, ◌⊎◌, ◌+◌, ◌-◌, ◌≤◌, true, false, ◌||◌, [], ◌++◌, Ok, None, length, take, drop, IfOk};
 ghost use Rattle.std.specs.Io.KnownBytes.{Consumes, IsAtEnd, WriteAppends};
 ghost use Rattle.lexical_lines.specs.Device.{given_by, tells_end, faults_of, taken_by, put_faults};
 

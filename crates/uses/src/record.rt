@@ -1,6 +1,6 @@
 //! A record: numbers in one line, with commas between them.
 
-ghost use Rattle.std.specs.Prelude.{◌≤◌, ◌↔◌, IsTrue, length, map, pos, IfSome, take, List, ℕ, ◌≡◌};
+ghost use Rattle.std.specs.Prelude.{◌≤◌, length, map, pos};
 ghost use Rattle.lexical_num.specs.Format.{standard};
 ghost use Rattle.lexical_write_integer.specs.Buffer.{Writes};
 ghost use Rattle.lexical_lines.specs.Joined.{IsJoined};
