@@ -2,6 +2,7 @@
 //! over the contracts of the calls alone.
 #![tactic(auto)]
 
+pub mod float_format;
 pub mod float_parts;
 pub mod hex_dump;
 pub mod identifier;

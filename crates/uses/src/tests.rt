@@ -1,10 +1,11 @@
+use crate::float_format::float_format;
 use crate::float_parts::write_parts;
 use crate::hex_dump::write_dump;
 use crate::identifier::{same_counter, write_identifier};
 use crate::log_line::{Level, level_name, write_line};
 use crate::record::write_record;
 use crate::sorted_keys::{comes_before, is_earlier_key};
-use lexical_write_integer::{BUFFER_SIZE, NumberFormat, NumberFormatBuilder};
+use lexical_write_integer::{BUFFER_SIZE, Error, NumberFormat, NumberFormatBuilder};
 use std::process::Abort;
 
 fn check_identifier(rt: &impl Abort, counter: u64, identifier: &[u8]) {
@@ -114,4 +115,14 @@ fn records(rt: HostRuntime) {
     assert_eq!(rt; write_record(&[0, 4294967295, 10], &mut buffer), 15);
     assert!(rt; buffer.starts_with(b"0,4294967295,10\x07"));
     assert!(rt; buffer[15..].iter().all(|byte| *byte == 7));
+}
+
+#[test]
+fn formats_of_floats(rt: HostRuntime) {
+    let format = float_format(16, 2);
+    assert!(rt;
+        matches!(format, Ok(format) if format.mantissa_radix() == 16 && format.exponent_radix() == 2)
+    );
+    assert!(rt; matches!(float_format(37, 2), Err(Error::InvalidMantissaRadix(37))));
+    assert!(rt; matches!(float_format(36, 1), Err(Error::InvalidExponentRadix(1))));
 }
