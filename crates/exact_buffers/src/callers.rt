@@ -1,5 +1,5 @@
-//! Calls at the edge of their conditions: with a byte less, or the next number, or another radix, no
-//! call of these passes the check.
+//! Calls at the edge of their conditions: with a byte less, or the next number, or another radix,
+//! no call of these passes the check.
 #![tactic(auto, unfolding(lexical_write_integer::specs::Numeral::digit_count, lexical_write_integer::specs::Numeral::least_exponent))]
 
 ghost use Rattle.std.specs.Prelude.{◌≡◌, ◌+◌, ◌≤◌, false, length, take, unsigned_abs, ℕ, pos, negsuc, List, [], ◌∷◌};
@@ -52,7 +52,8 @@ pub fn text_of_an_i16_below_0() -> usize
     text_length(-1234i16, (-1234i16).to_lexical(&mut [0; 6]))
 }
 
-/// The length of the text of -123456, written into 11 bytes: the sign and the 10 digits of an `i32`.
+/// The length of the text of -123456, written into 11 bytes: the sign and the 10 digits of an
+/// `i32`.
 pub fn text_of_an_i32_below_0() -> usize
     ensures { result ≡ 7 }
 {
@@ -260,8 +261,8 @@ pub fn greatest_number_of_32_bits() -> u32
     4294967295u64.as_u32()
 }
 
-/// The length of the texts of 1, -2 and 3 joined by commas, written into 15 bytes: for each the size
-/// of an `i8` in decimal, which is 4, and one byte more.
+/// The length of the texts of 1, -2 and 3 joined by commas, written into 15 bytes: for each the
+/// size of an `i8` in decimal, which is 4, and one byte more.
 pub fn length_of_joined_texts() -> usize
     ensures { (text : List ℕ) × IsJoined (pos 1 ∷ negsuc 1 ∷ pos 3 ∷ []) 44 standard text
         × (result ≡ length text) }

@@ -1,5 +1,5 @@
-//! Lines answered from a reader to a writer, by readers and writers that call those behind them once
-//! for a block of bytes. No call takes memory.
+//! Lines answered from a reader to a writer, by readers and writers that call those behind them
+//! once for a block of bytes. No call takes memory.
 #![tactic(auto)]
 
 mod answering;

@@ -7,8 +7,8 @@ use lexical_num::error::Result;
 use lexical_num::format::NumberFormat;
 use lexical_num::format_builder::NumberFormatBuilder;
 
-/// The format whose parts are written in these radices, with no required sign, or an error that tells
-/// which radix is not from 2 to 36.
+/// The format whose parts are written in these radices, with no required sign, or an error that
+/// tells which radix is not from 2 to 36.
 pub fn float_format(mantissa_radix: u8, exponent_radix: u8) -> Result<NumberFormat>
     ensures valid { IsOk result ↔ IsValid (record {
       mantissa_radix = mantissa_radix;

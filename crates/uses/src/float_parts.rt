@@ -9,9 +9,10 @@ use lexical_write_integer::buffer::copy_to_front;
 use lexical_write_integer::laws::{digit_count_within_bits, text_behind};
 use lexical_write_integer::write::WriteInteger;
 
-/// Writes the digits of the mantissa in the mantissa radix, the mark, and the digits of the exponent
-/// in the exponent radix to the front of the buffer, and answers how many bytes they are. The bytes
-/// behind them are as before. The buffer has at least 97 bytes, as one of `BUFFER_SIZE` does.
+/// Writes the digits of the mantissa in the mantissa radix, the mark, and the digits of the
+/// exponent in the exponent radix to the front of the buffer, and answers how many bytes they are.
+/// The bytes behind them are as before. The buffer has at least 97 bytes, as one of `BUFFER_SIZE`
+/// does.
 pub fn write_parts(
     mantissa: u64,
     mark: u8,

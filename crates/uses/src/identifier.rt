@@ -7,8 +7,8 @@ ghost use Rattle.lexical_write_integer.specs.Text.{IsDigits};
 use lexical_write_integer::laws::{digit_count_at_most, equal_digits};
 use lexical_write_integer::radix::Radix;
 
-/// Writes the identifier of the counter to the front of the buffer, of at least 13 bytes, and answers
-/// its length, which is at most 13. The bytes behind it are as before.
+/// Writes the identifier of the counter to the front of the buffer, of at least 13 bytes, and
+/// answers its length, which is at most 13. The bytes behind it are as before.
 pub fn write_identifier(counter: u64, buffer: &mut [u8]) -> usize
     requires { 13 ≤ length buffer.old }
     ensures identifier { WritesDigits 36 counter buffer.old buffer.new result }

@@ -1,5 +1,5 @@
-//! What a caller does with the numbers that these crates write, one thing in each module, each proved
-//! over the contracts of the calls alone.
+//! What a caller does with the numbers that these crates write, one thing in each module, each
+//! proved over the contracts of the calls alone.
 #![tactic(auto)]
 
 pub mod float_format;

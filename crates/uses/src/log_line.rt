@@ -42,9 +42,9 @@ fn write_signed(number: i64, buffer: &mut [u8]) -> usize
     number.write_lexical_with_options(buffer, &format, &Options::new())
 }
 
-/// Writes the name of the level, a space, and the number in decimal with its sign to the front of the
-/// buffer, of at least 26 bytes, and answers how many bytes they are. The bytes behind them are as
-/// before.
+/// Writes the name of the level, a space, and the number in decimal with its sign to the front of
+/// the buffer, of at least 26 bytes, and answers how many bytes they are. The bytes behind them are
+/// as before.
 pub fn write_line(level: Level, number: i64, buffer: &mut [u8]) -> usize
     requires { 26 ≤ length buffer.old }
     ensures { Writes (IsLine level number) buffer.old buffer.new result }

@@ -1,0 +1,7 @@
+mod devices;
+mod faults;
+mod formats;
+mod lines;
+mod memory;
+mod rows;
+mod runs;

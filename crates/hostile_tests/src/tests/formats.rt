@@ -1,0 +1,58 @@
+// Every pair of radix bytes.
+
+use lexical_num::error::Error;
+use lexical_num::format_builder::NumberFormatBuilder;
+use std::process::Abort;
+
+// A radix is from 2 to 36.
+fn is_radix(byte: u8) -> bool {
+    (2..=36).contains(&byte)
+}
+
+// Builds a format with these radices: it has them, or the first byte that is no radix is told.
+// Answers whether there is a format.
+fn check(rt: &impl Abort, mantissa: u8, exponent: u8) -> bool {
+    let builder = NumberFormatBuilder::new()
+        .mantissa_radix(mantissa)
+        .exponent_radix(exponent);
+    match builder.build() {
+        Ok(format) => {
+            assert!(rt; is_radix(mantissa) && is_radix(exponent));
+            assert_eq!(rt; format.mantissa_radix(), u32::from(mantissa));
+            assert_eq!(rt; format.exponent_radix(), u32::from(exponent));
+            assert!(rt; !format.required_mantissa_sign());
+            true
+        }
+        Err(Error::InvalidMantissaRadix(byte)) => {
+            assert!(rt; byte == mantissa && !is_radix(mantissa));
+            false
+        }
+        Err(Error::InvalidExponentRadix(byte)) => {
+            assert!(rt; byte == exponent && is_radix(mantissa) && !is_radix(exponent));
+            false
+        }
+    }
+}
+
+// 35 radices, each with 35 others.
+#[test]
+fn every_pair_of_bytes(rt: HostRuntime) {
+    let is_accepted = |pair: &u16| {
+        let [mantissa, exponent] = pair.to_be_bytes();
+        check(&rt, mantissa, exponent)
+    };
+    assert_eq!(&rt; (0..=65535u16).filter(is_accepted).count(), 1225);
+}
+
+#[test]
+fn pairs_at_the_ends(rt: HostRuntime) {
+    for (mantissa, exponent, is_accepted) in [
+        (0, 0, false),
+        (2, 36, true),
+        (36, 2, true),
+        (1, 10, false),
+        (10, 37, false),
+    ] {
+        assert_eq!(rt; check(&rt, mantissa, exponent), is_accepted);
+    }
+}

@@ -1,0 +1,119 @@
+// Hostile lines: single bytes, a good line with one byte changed, and one with a byte too many.
+
+use crate::tests::runs::check;
+use std::process::Abort;
+
+const BAD: &[u8] = b"bad line 1\n";
+
+#[test]
+fn single_bytes(rt: HostRuntime) {
+    for byte in 0..=255u8 {
+        let output = if byte == b'\n' {
+            b"bad line 1\nbad line 2\n".as_slice()
+        } else {
+            BAD
+        };
+        check(&rt, &[byte, b'\n'], output, false);
+        check(&rt, &[byte], BAD, false);
+    }
+}
+
+// The changes of one byte of `u8 10 5` that leave a good line, and its answer: another type, eleven
+// other radices, and nine other digits.
+const GOOD_CHANGES: [(usize, u8, &[u8]); 21] = [
+    (0, b'i', b"5\n"),
+    (3, b'2', b"5\n"),
+    (3, b'3', b"5\n"),
+    (4, b'1', b"5\n"),
+    (4, b'2', b"5\n"),
+    (4, b'3', b"5\n"),
+    (4, b'4', b"5\n"),
+    (4, b'5', b"5\n"),
+    (4, b'6', b"5\n"),
+    (4, b'7', b"5\n"),
+    (4, b'8', b"5\n"),
+    (4, b'9', b"5\n"),
+    (6, b'0', b"0\n"),
+    (6, b'1', b"1\n"),
+    (6, b'2', b"2\n"),
+    (6, b'3', b"3\n"),
+    (6, b'4', b"4\n"),
+    (6, b'6', b"6\n"),
+    (6, b'7', b"7\n"),
+    (6, b'8', b"8\n"),
+    (6, b'9', b"9\n"),
+];
+
+// The answer to `u8 10 5` with this byte in this place, where it is a good line then.
+fn good_answer(place: usize, byte: u8) -> Option<&'static [u8]> {
+    for (good_place, good_byte, answer) in GOOD_CHANGES {
+        if good_place == place && good_byte == byte {
+            return Some(answer);
+        }
+    }
+    None
+}
+
+// Changes one byte of `u8 10 5`. Answers whether the line is a good one then.
+fn check_change(rt: &impl Abort, place: usize, byte: u8) -> bool {
+    let mut line = *b"u8 10 5\n";
+    assert!(rt; place < 7);
+    assert_ne!(rt; line[place], byte);
+    line[place] = byte;
+    match good_answer(place, byte) {
+        Some(answer) => {
+            check(rt, &line, answer, true);
+            true
+        }
+        None => {
+            // A newline makes two lines of the one.
+            let output = if byte == b'\n' {
+                b"bad line 1\nbad line 2\n".as_slice()
+            } else {
+                BAD
+            };
+            check(rt, &line, output, false);
+            false
+        }
+    }
+}
+
+// How many of the 255 other bytes in this place leave a good line.
+fn count_good_changes(rt: &impl Abort, place: usize, own: u8) -> usize {
+    (0..=255u8)
+        .filter(|byte| *byte != own && check_change(rt, place, *byte))
+        .count()
+}
+
+// 7 places with 255 bytes each: 1785 lines, of which 21 are good ones.
+#[test]
+fn one_byte_changed(rt: HostRuntime) {
+    for (place, own, good) in [
+        (0, b'u', 1),
+        (1, b'8', 0),
+        (2, b' ', 0),
+        (3, b'1', 2),
+        (4, b'0', 9),
+        (5, b' ', 0),
+        (6, b'5', 9),
+    ] {
+        assert_eq!(rt; count_good_changes(&rt, place, own), good);
+    }
+}
+
+// A digit more makes another number of the type, and a newline ends the line and leaves an empty
+// one.
+#[test]
+fn one_byte_appended(rt: HostRuntime) {
+    for byte in 0..=255u8 {
+        let digit = [b'5', byte, b'\n'];
+        let line = [b'u', b'8', b' ', b'1', b'0', b' ', b'5', byte, b'\n'];
+        if byte == b'\n' {
+            check(&rt, &line, b"5\nbad line 2\n", false);
+        } else if byte.is_ascii_digit() {
+            check(&rt, &line, &digit, true);
+        } else {
+            check(&rt, &line, BAD, false);
+        }
+    }
+}

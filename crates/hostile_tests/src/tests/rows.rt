@@ -1,0 +1,77 @@
+// Single runs: devices that fail, stop or go slowly, and lines that are too long.
+
+use crate::tests::devices::{FailingSink, FailingSource};
+use crate::tests::runs::{check, outcome, run_from};
+use lexical_lines::{Reading, SliceSource, run};
+use std::io::ErrorKind;
+
+const TWO_LINES: &[u8] = b"u8 10 5\nu8 10 6";
+
+// In front of the first newline, behind it, and behind the last byte.
+#[test]
+fn a_source_that_fails(rt: HostRuntime) {
+    let outputs: [(usize, &[u8]); 3] = [(7, b""), (8, b"5\n"), (15, b"5\n")];
+    for (position, output) in outputs {
+        let mut source = FailingSource::new(TWO_LINES, position, ErrorKind::BrokenPipe);
+        assert_eq!(&rt;
+            run_from(&rt, &mut source, 64, output),
+            Err(ErrorKind::BrokenPipe)
+        );
+    }
+}
+
+#[test]
+fn a_source_that_tells_the_end(rt: HostRuntime) {
+    check(&rt, TWO_LINES, b"5\n6\n", true);
+}
+
+#[test]
+fn a_sink_of_five_bytes(rt: HostRuntime) {
+    let mut source = SliceSource::new(b"u8 10 256");
+    assert_eq!(&rt;
+        run_from(&rt, &mut source, 5, b"bad l"),
+        Err(ErrorKind::WriteZero)
+    );
+}
+
+#[test]
+fn a_sink_that_takes_one_byte_at_a_time(rt: HostRuntime) {
+    let mut buffer = [b'.'; 31];
+    let mut source = SliceSource::new(b"i8 10 -128\nu8 +10 5\nu8 10 256\nu8 37 5");
+    let mut sink = FailingSink::new(&mut buffer, 1, None, None);
+    let ran = run(&mut source, &mut sink);
+    assert_eq!(&rt; sink.len(), 30);
+    assert_eq!(&rt; buffer, *b"-128\n+5\nbad line 3\nbad line 4\n.");
+    assert_eq!(&rt; outcome(ran), Ok(false));
+}
+
+#[test]
+fn a_line_of_ten_thousand_bytes(rt: HostRuntime) {
+    let mut input = [b'0'; 10007];
+    input[10000] = b'\n';
+    input[10001..].copy_from_slice(b"u8 2 5");
+    check(&rt, &input, b"bad line 1\n101\n", false);
+}
+
+#[test]
+fn a_reader_up_to_a_limit(rt: HostRuntime) {
+    let reader: &[u8] = b"u8 10 5";
+    let mut source = Reading::new(reader, 3);
+    assert_eq!(&rt; run_from(&rt, &mut source, 64, b"bad line 1\n"), Ok(false));
+}
+
+#[test]
+fn lines_of_64_and_65_bytes(rt: HostRuntime) {
+    check(
+        &rt,
+        b"u8 10 0000000000000000000000000000000000000000000000000000000005",
+        b"5\n",
+        true,
+    );
+    check(
+        &rt,
+        b"u8 10 00000000000000000000000000000000000000000000000000000000005",
+        b"bad line 1\n",
+        false,
+    );
+}
