@@ -15,8 +15,8 @@ name_of Error = codes "ERROR"
 abbrev pub signed : Format
 signed = record standard { required_mantissa_sign = true }
 
--- the name of the level, a space, and the number with its sign
+-- the name of the level, a tab, and the number with its sign
 pub record IsLine (level : Level) (number : ℤ) (line : List ℕ) : Type 0 where
   pub number_text : List ℕ
   pub is_number : IsText number signed number_text
-  pub whole : line ≡ name_of level ++ codes " " ++ number_text
+  pub whole : line ≡ name_of level ++ codes "\t" ++ number_text

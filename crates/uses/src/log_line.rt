@@ -1,4 +1,4 @@
-//! A line of a log: its level, a space, and a number with its sign.
+//! A line of a log: its level, a tab, and a number with its sign.
 
 ghost use Rattle.std.specs.Prelude.{◌≡◌, ◌≤◌, length};
 ghost use Rattle.lexical_write_integer.specs.Buffer.{Writes, WritesText};
@@ -42,7 +42,7 @@ fn write_signed(number: i64, buffer: &mut [u8]) -> usize
     number.write_lexical_with_options(buffer, &format, &Options::new())
 }
 
-/// Writes the name of the level, a space, and the number in decimal with its sign to the front of
+/// Writes the name of the level, a tab, and the number in decimal with its sign to the front of
 /// the buffer, of at least 26 bytes, and answers how many bytes they are. The bytes behind them are
 /// as before.
 pub fn write_line(level: Level, number: i64, buffer: &mut [u8]) -> usize
@@ -51,6 +51,6 @@ pub fn write_line(level: Level, number: i64, buffer: &mut [u8]) -> usize
 {
     text_behind();
     let name = copy_to_front(level_name(level), buffer);
-    let lead = name + copy_to_front(b" ", &mut buffer[name..]);
+    let lead = name + copy_to_front(b"\t", &mut buffer[name..]);
     lead + write_signed(number, &mut buffer[lead..])
 }

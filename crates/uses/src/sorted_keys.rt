@@ -1,6 +1,6 @@
 //! Keys that sort as texts as their numbers do.
 
-ghost use Rattle.std.specs.Prelude.{◌<◌, ◌↔◌, IsTrue};
+ghost use Rattle.std.specs.Prelude.{◌<◌, ◌+◌, ◌↔◌, ℕ, IsTrue, length, slice_index};
 ghost use Rattle.lexical_write_integer.specs.Order.{ComesBefore};
 
 use lexical_write_integer::ToLexical;
@@ -22,4 +22,18 @@ pub fn comes_before(a: u64, b: u64) -> bool
 {
     order(a, b, &STANDARD);
     is_earlier_key(a.to_lexical(&mut [0; 20]), b.to_lexical(&mut [0; 20]))
+}
+
+/// Whether the decimal keys of the numbers are sorted, each before the next: they are where the
+/// numbers rise.
+pub fn are_sorted(numbers: &[u64]) -> bool
+    ensures { IsTrue result ↔ ((i : ℕ) → i + 1 < length numbers.now
+        → slice_index numbers.now i < slice_index numbers.now (i + 1)) }
+{
+    for i in 1..numbers.len() {
+        if !comes_before(numbers[i - 1], numbers[i]) {
+            return false;
+        }
+    }
+    true
 }

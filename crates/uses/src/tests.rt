@@ -4,7 +4,7 @@ use crate::hex_dump::write_dump;
 use crate::identifier::{same_counter, write_identifier};
 use crate::log_line::{Level, level_name, write_line};
 use crate::record::write_record;
-use crate::sorted_keys::{comes_before, is_earlier_key};
+use crate::sorted_keys::{are_sorted, comes_before, is_earlier_key};
 use lexical_write_integer::{BUFFER_SIZE, Error, NumberFormat, NumberFormatBuilder};
 use std::process::Abort;
 
@@ -85,10 +85,10 @@ fn parts_in_two_radices(rt: HostRuntime) {
 
 #[test]
 fn lines_of_a_log(rt: HostRuntime) {
-    check_line(&rt, Level::Warn, -5, b"WARN -5");
-    check_line(&rt, Level::Warn, 0, b"WARN +0");
-    check_line(&rt, Level::Info, 5, b"INFO +5");
-    let least = b"ERROR -9223372036854775808";
+    check_line(&rt, Level::Warn, -5, b"WARN\t-5");
+    check_line(&rt, Level::Warn, 0, b"WARN\t+0");
+    check_line(&rt, Level::Info, 5, b"INFO\t+5");
+    let least = b"ERROR\t-9223372036854775808";
     let mut buffer = [7; 26];
     assert_eq!(rt;
         write_line(Level::Error, -9223372036854775808, &mut buffer),
@@ -125,4 +125,12 @@ fn formats_of_floats(rt: HostRuntime) {
     );
     assert!(rt; matches!(float_format(37, 2), Err(Error::InvalidMantissaRadix(37))));
     assert!(rt; matches!(float_format(36, 1), Err(Error::InvalidExponentRadix(1))));
+}
+
+#[test]
+fn sorted_lists(rt: HostRuntime) {
+    assert!(rt; are_sorted(&[]));
+    assert!(rt; are_sorted(&[0, 9, 10, 99, 100, 18446744073709551615]));
+    assert!(rt; !are_sorted(&[9, 10, 10]));
+    assert!(rt; !are_sorted(&[10, 9]));
 }
