@@ -10,7 +10,7 @@ use crate::integer_type::IntegerType;
 use crate::space::{split_at_space, strip_mark};
 
 /// A number of one of the ten types, in the type that is to write it.
-#[derive(Clone, Copy, PartialEq, Eq, Debug)]
+#[derive(Clone, Copy)]
 pub enum Number {
     /// Of a value without a `-`.
     Unsigned(u64),
@@ -19,7 +19,7 @@ pub enum Number {
 }
 
 /// The text of a number, its radix, and whether a `+` is wanted.
-#[derive(Clone, Copy, PartialEq, Eq, Debug)]
+#[derive(Clone, Copy)]
 pub struct Request {
     pub plus: bool,
     pub radix: u8,
