@@ -24,6 +24,7 @@ impl Model for Line {
 }
 
 impl Line {
+    /// A line of no byte.
     pub fn new() -> Line
         ensures { result ≡ kept [] }
     {
@@ -33,6 +34,7 @@ impl Line {
         }
     }
 
+    /// Begins a new line.
     pub fn clear(&mut self)
         ensures { self.new ≡ kept [] }
     {
@@ -51,6 +53,7 @@ impl Line {
         }
     }
 
+    /// Whether the line has no byte.
     pub fn is_empty(&self) -> bool
         ensures { IsTrue result ↔ (self.now ≡ kept []) }
     {

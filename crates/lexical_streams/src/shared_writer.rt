@@ -1,4 +1,5 @@
 // A writer in a cell.
+
 ghost use Rattle.std.specs.Prelude.{◌≡◌};
 
 use std::cell::RefCell;

@@ -1,6 +1,7 @@
+// A reader and a writer that do little at a call, and fail once in mid-stream or for good.
+
 ghost use Rattle.std.specs.Prelude.{◌≤◌};
 
-// A reader and a writer that do little at a call, and fail once in mid-stream or for good.
 use std::io;
 use std::io::{ErrorKind, Read, Write};
 
