@@ -5,7 +5,9 @@ use crate::identifier::{same_counter, write_identifier};
 use crate::log_line::{Level, level_name, write_line};
 use crate::record::write_record;
 use crate::sorted_keys::{are_sorted, comes_before, is_earlier_key};
-use lexical_write_integer::{BUFFER_SIZE, Error, NumberFormat, NumberFormatBuilder};
+use lexical_write_integer::{
+    BUFFER_SIZE, Error, NumberFormat, NumberFormatBuilder, Options, ToLexical, ToLexicalWithOptions,
+};
 use std::process::Abort;
 
 fn check_identifier(rt: &impl Abort, counter: u64, identifier: &[u8]) {
@@ -133,4 +135,19 @@ fn sorted_lists(rt: HostRuntime) {
     assert!(rt; are_sorted(&[0, 9, 10, 99, 100, 18446744073709551615]));
     assert!(rt; !are_sorted(&[9, 10, 10]));
     assert!(rt; !are_sorted(&[10, 9]));
+}
+
+// The first use that the README shows.
+#[test]
+fn a_first_use(rt: HostRuntime) {
+    let mut buffer = [7u8; 20];
+    let text = 1234u64.to_lexical(&mut buffer);
+    assert_eq!(rt; &*text, b"1234".as_slice());
+    assert!(rt; buffer[4..].iter().all(|byte| *byte == 7));
+
+    let signed = NumberFormatBuilder::new()
+        .required_mantissa_sign(true)
+        .build_strict();
+    let text = 127i8.to_lexical_with_options(&mut buffer, &signed, &Options::new());
+    assert_eq!(rt; &*text, b"+127".as_slice());
 }
