@@ -3,5 +3,5 @@ mod faults;
 mod formats;
 mod lines;
 mod memory;
-mod rows;
 mod runs;
+mod single_runs;
