@@ -2,7 +2,7 @@
 #![tactic(auto)]
 
 #[cfg(test)]
-mod decimal_rows;
+mod decimal_values;
 #[cfg(test)]
-mod kernel_rows;
-pub mod turn_rows;
+mod kernel_values;
+pub mod turn_lists;

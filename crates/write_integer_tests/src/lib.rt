@@ -10,6 +10,6 @@ mod powers;
 mod tables;
 #[cfg(test)]
 mod texts;
-pub mod turn_rows;
+pub mod turn_lists;
 #[cfg(test)]
 mod writes;

@@ -1,5 +1,5 @@
-//! The turns of single calls. No test can read a counter, so each row is a function that makes the
-//! calls, each with a new counter, and hands the counters back: its contract is the row.
+//! The turns of single calls. A test cannot read a counter, so each function here makes some calls,
+//! with a new counter each, and hands the counters back: its contract says what they hold.
 #![tactic(auto, unfolding(lexical_write_integer::specs::Numeral::digit_count, lexical_write_integer::specs::Numeral::least_exponent, lexical_write_integer::specs::Turns::rests, lexical_write_integer::specs::Turns::one_notes, lexical_write_integer::specs::Turns::loop_notes, lexical_write_integer::specs::Turns::slow_notes, lexical_write_integer::specs::Turns::count_notes, lexical_write_integer::specs::Turns::table_notes))]
 
 ghost use Rattle.std.specs.Prelude.{◌≡◌, ◌≢◌, ◌-◌, ◌^◌, ◌<◌, ◌≤◌, [], ◌∷◌, length};
@@ -188,7 +188,7 @@ mod tests {
     use super::*;
     use std::mem::size_of;
 
-    // The rows themselves are the contracts.
+    // The lists themselves stand in the contracts.
     #[test]
     fn counters_take_no_bytes(rt: HostRuntime) {
         notes_of_255_in_radix_3();

@@ -1,5 +1,5 @@
-//! The turns of single calls. A test cannot read a counter, so each row is a function that makes
-//! the calls, with a new counter each, and hands the counters back: its contract is the row.
+//! The turns of single calls. A test cannot read a counter, so each function here makes some calls,
+//! with a new counter each, and hands the counters back: its contract says what they hold.
 #![tactic(auto, unfolding(lexical_write_integer::specs::Notes::decimal_notes_32, lexical_write_integer::specs::Notes::decimal_notes_64))]
 
 ghost use Rattle.std.specs.Prelude.{◌≡◌, ◌≤◌, [], ◌∷◌, length};

@@ -21,7 +21,7 @@ fn check<T: Decimal>(rt: &impl Abort, value: T, text: &[u8])
 }
 
 // Around the powers of ten, and at the ends of types.
-const ROWS: [(u64, &[u8]); 43] = [
+const TEXTS: [(u64, &[u8]); 43] = [
     (5, b"5"),
     (11, b"11"),
     (99, b"99"),
@@ -69,7 +69,7 @@ const ROWS: [(u64, &[u8]); 43] = [
 
 #[test]
 fn u32toa_test(rt: HostRuntime) {
-    for (value, text) in ROWS {
+    for (value, text) in TEXTS {
         if let Ok(value) = u32::try_from(value) {
             check(&rt, value, text);
         }
@@ -78,7 +78,7 @@ fn u32toa_test(rt: HostRuntime) {
 
 #[test]
 fn u64toa_test(rt: HostRuntime) {
-    for (value, text) in ROWS {
+    for (value, text) in TEXTS {
         check(&rt, value, text);
     }
 }
