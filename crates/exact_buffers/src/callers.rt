@@ -222,7 +222,9 @@ pub fn greatest_of_nine() -> u64
 }
 
 /// The fraction of the least number of its branch.
-pub fn least_of_ten() -> u64 {
+pub fn least_of_ten() -> u64
+    ensures { result ≡ 42949672967 }
+{
     fixed_8_ten(1000000000)
 }
 
