@@ -96,7 +96,8 @@ fn write_line<T: ToLexicalWithOptions>(
     // Their contracts say that the size of the type in the format is enough.
     number.in_range();
     format.mantissa_radix();
-    let end = number.write_lexical_with_options(buffer, format, options);
+    let room = &mut buffer[..BUFFER_SIZE + 1];
+    let end = number.write_lexical_with_options(room, format, options);
     buffer[end] = b'\n';
     end + 1
 }

@@ -10,6 +10,7 @@ ghost use Rattle.lexical_lines.specs.Joined.{IsJoined};
 use lexical_num::constants::FormattedSize;
 use lexical_num::format::NumberFormat;
 use lexical_num::num::LexicalInteger;
+use lexical_num::options::WriteOptions;
 use lexical_write_integer::ToLexicalWithOptions;
 use lexical_write_integer::buffer::front_mut;
 
@@ -28,6 +29,7 @@ pub fn write_joined<T: ToLexicalWithOptions>(
     ensures { Writes (IsJoined (map T.number values.now) mark format.now)
         buffer.old buffer.new result }
 {
+    let size = options.buffer_size::<T>(format);
     let mut count = 0;
     for (index, value) in values.iter().enumerate() {
         // Before each text but the first, so that none stands behind the last.
@@ -35,10 +37,11 @@ pub fn write_joined<T: ToLexicalWithOptions>(
             buffer[count] = mark;
             count += 1;
         }
+        // Their contracts say that the size of the type in the format is enough.
         value.in_range();
-        // Its contract says that the radix is from 2 to 36.
         format.mantissa_radix();
-        count += value.write_lexical_with_options(&mut buffer[count..], format, options);
+        let room = &mut buffer[count..count + size];
+        count += value.write_lexical_with_options(room, format, options);
     }
     count
 }

@@ -25,17 +25,17 @@ Front-behind before between part text behind count room e front back =
 pub length-behind : (text behind : List ℕ) (count answer : ℕ) → count ≡ length text → answer ≡ length behind → count + answer ≡ length (text ++ behind)
 length-behind text behind count answer e f = omega (arith, length-append text behind)
 
--- the same of texts of some kind, in all that the first one left
-pub Writes-behind : {IsBehind IsWhole : List ℕ → Type 0} (text before between after : List ℕ) (count answer : ℕ) → count ≡ length text → Front before between text → ((behind : List ℕ) → IsBehind behind → IsWhole (text ++ behind)) → Writes IsBehind (take (length between - count) (drop count between)) after answer → Writes IsWhole before (put_mid count (length between - count) between after) (count + answer)
-Writes-behind {IsBehind} {IsWhole} text before between after count answer e front whole w =
+-- the same of texts of some kind
+pub Writes-behind : {IsBehind IsWhole : List ℕ → Type 0} (text before between after : List ℕ) (count room answer : ℕ) → count ≡ length text → Front before between text → ((behind : List ℕ) → IsBehind behind → IsWhole (text ++ behind)) → Writes IsBehind (take room (drop count between)) after answer → Writes IsWhole before (put_mid count room between after) (count + answer)
+Writes-behind text before between after count room answer e front whole w =
     record {
       text = text ++ w.text;
       is = whole w.text w.is;
-      front = Front-behind before between after text w.text count (length between - count) e front w.front;
+      front = Front-behind before between after text w.text count room e front w.front;
       count = length-behind text w.text count answer e w.count;
     }
 
 -- the digits of the magnitude behind the sign are the text
 pub WritesText-behind : (x : ℤ) (format : Format) (magnitude : ℕ) (before between after : List ℕ) (count answer : ℕ) → count ≡ length (sign_of x format.required_mantissa_sign) → Front before between (sign_of x format.required_mantissa_sign) → magnitude ≡ unsigned_abs x → WritesDigits format.mantissa_radix magnitude (take (length between - count) (drop count between)) after answer → WritesText x format before (put_mid count (length between - count) between after) (count + answer)
 WritesText-behind x format magnitude before between after count answer long front same w =
-    Writes-behind _ before between after count answer long front (λ digits is. record { digits = digits; magnitude = is; whole = refl }) (rw same at w)
+    Writes-behind _ before between after count (length between - count) answer long front (λ digits is. record { digits = digits; magnitude = is; whole = refl }) (rw same at w)

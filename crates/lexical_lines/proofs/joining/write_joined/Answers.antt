@@ -1,12 +1,11 @@
-use Rattle.std.proofs.Common.{◌≡◌, ◌+◌, ◌<◌, ◌≤◌, ◌++◌, [], ◌∷◌, length, map, take, ◌∙◌, arith}
+use Rattle.std.proofs.Common.{◌≡◌, ℕ, ◌+◌, ◌<◌, ◌≤◌, ◌++◌, [], ◌∷◌, length, map, take, ◌∙◌, arith}
 use Rattle.std.proofs.Math.Nat.{mul-le-mul_right}
-use Rattle.std.proofs.lemmas.List.{length-map, length-take-le}
+use Rattle.std.proofs.lemmas.List.{length-map, length-take, length-take-le}
 use Rattle.lexical_num.specs.Size.{size_in}
 use Rattle.lexical_write_integer.specs.Text.{IsText}
 use Rattle.lexical_write_integer.proofs.Signs.{Writes-behind}
 use Rattle.lexical_lines.specs.Joined.{IsJoined}
 use Rattle.lexical_lines.proofs.Joins.{map-take_more, Ready, Ready-one, Ready-push}
-use Rattle.lexical_lines.proofs.Texts.{length-IsText}
 use Rattle.lexical_lines.proofs.joining.write_joined.Goals as goal
 use Rattle.lexical_lines.proofs.joining.write_joined.Goals.{then-index-gt0, else-index-gt0}
 
@@ -31,14 +30,8 @@ loop-index-preserved g c =
     ] in
     let one : c.if-index-gt0.count ≤ c.loop-index.count + 1 =
     elim c.if-index-gt0.branch [ then-index-gt0 w ↦ omega (arith, w.count-is) | else-index-gt0 w ↦ omega (arith, w.count-is) ] in
-    let radix = rw c.mantissa_radix.ensures.value at c.mantissa_radix.ensures.radix in
-    let width = g.met.T.LexicalInteger.decimal_width in
-    let low = c.in_range.ensures.at_least in
-    let high = c.in_range.ensures.at_most in
     let text = c.write_lexical_with_options-count.ensures in
-    let short = length-IsText x g.T.LexicalInteger.DECIMAL_WIDTH format text.text radix.at_least_two width.some (width.enough x low high) text.is in
-    let enough = g.met.T.ToLexicalWithOptions.size_is_enough x format radix low high in
     record {
-      written = rw next (Writes-behind ready.text _ _ _ _ _ ready.counted ready.front ready.whole text);
-      within = omega (arith, one, short, enough, text.count, c.loop-index.invariant.within);
+      written = rw next (Writes-behind ready.text _ _ _ _ _ _ ready.counted ready.front ready.whole text);
+      within = omega (arith, one, text.count, text.front.fits, length-take {A = ℕ}, c.loop-index.invariant.within);
     }
