@@ -4,7 +4,8 @@ use Rattle.std.proofs.lemmas.Bool.{cases_eq}
 use Rattle.std.specs.List.{All}
 use Rattle.std.proofs.lemmas.Grind.{flat_map-append}
 use Rattle.std.proofs.lemmas.List.{append-nil}
-use Rattle.std.proofs.lemmas.List.Elements.{All-nil, All-cons, All-head, All-tail, All-push}
+use Rattle.std.proofs.lemmas.List.Elements.{All-nil, All-cons, All-head, All-tail, All-push, All-append}
+use Rattle.lexical_lines.specs.Answer.{EndsLine}
 use Rattle.lexical_lines.specs.Lines.{IsCut, AreLines, NoNewline, with_newlines, rest_line}
 use Rattle.lexical_lines.proofs.Separators.{Lacks-not, cut_unique}
 
@@ -122,3 +123,25 @@ pub AreLines-unique : (bytes : List ℕ) (all other : List (List ℕ)) → AreLi
 AreLines-unique bytes all other p q =
     let same = cuts_same p.ended q.ended p.rest q.rest p.cut.each q.cut.each p.cut.rest_inside q.cut.rest_inside (sym p.cut.whole ∙ q.cut.whole) in
     p.are ∙ ap (λ ended. ended ++ rest_line p.rest) same.0 ∙ ap (λ rest. q.ended ++ rest_line rest) same.1 ∙ sym q.are
+
+-- ---- an input behind another, which ends with a byte 10
+
+IsCut-append : {bytes more : List ℕ} {ended others : List (List ℕ)} {rest : List ℕ} → IsCut bytes ended [] → IsCut more others rest → IsCut (bytes ++ more) (ended ++ others) rest
+IsCut-append {ended = ended} {others = others} {rest = rest} p q = record {
+  whole = (λ i. p.whole i ++ q.whole i) ∙ simp (flat_map-append, append_assoc, append-nil);
+  each = All-append NoNewline ended others p.each q.each;
+  rest_inside = q.rest_inside;
+}
+
+pub AreLines-append : (bytes more : List ℕ) (all others : List (List ℕ)) → EndsLine bytes → AreLines bytes all → AreLines more others → AreLines (bytes ++ more) (all ++ others)
+AreLines-append bytes more all others (front, ends) p q =
+    let (ended, rest, cut) = IsCut-exists front in
+    let newline = IsCut-newline {bytes = front} {ended = ended} {rest = rest} cut in
+    let first : IsCut bytes (ended ++ rest ∷ []) [] = rw (sym ends) at newline in
+    let same = AreLines-unique bytes all (ended ++ rest ∷ []) p (AreLines-ended first refl) in
+    record {
+      ended = (ended ++ rest ∷ []) ++ q.ended;
+      rest = q.rest;
+      cut = IsCut-append first q.cut;
+      are = (λ i. same i ++ q.are i) ∙ sym (append_assoc (ended ++ rest ∷ []) q.ended (rest_line q.rest));
+    }

@@ -1,11 +1,11 @@
 -- How far a run has come.
-use Rattle.std.proofs.Common.{◌≡◌, ◌↔◌, ℕ, ◌+◌, ◌-◌, ◌^◌, min, Bool, true, false, List, [], ◌∷◌, ◌++◌, length, drop, refl, sym, ap, ◌∙◌, arith, append_assoc, Option, IsTrue, length-append, inl, inr, ◌&&◌}
+use Rattle.std.proofs.Common.{◌≡◌, ◌↔◌, ℕ, ◌+◌, ◌-◌, ◌^◌, min, Bool, true, false, List, [], ◌∷◌, ◌++◌, length, drop, refl, sym, ap, ◌∙◌, arith, append_assoc, Option, IsTrue, length-append, inl, inr, ◌&&◌, ◌⊎◌}
 use Rattle.std.specs.List.{All}
 use Rattle.std.specs.Prelude.{nat_le}
 use Rattle.std.proofs.Math.Seq.{drop-append_seam}
 use Rattle.std.proofs.lemmas.Option.{cond_some}
 use Rattle.std.proofs.lemmas.List.Elements.{All-nil, All-cons, All-head, All-tail, All-push}
-use Rattle.lexical_lines.specs.Answer.{IsAnswer, AreAnswers, AreAnswersFrom, AnswersAll, AnswersEnded, IsBeginning, BreaksOff}
+use Rattle.lexical_lines.specs.Answer.{IsAnswer, AreAnswers, AreAnswersFrom, AnswersAll, AnswersEnded, IsBeginning, BreaksOff, EndsLine}
 use Rattle.lexical_lines.specs.Kept.{kept}
 use Rattle.lexical_lines.specs.Line.{IsGood}
 use Rattle.lexical_lines.specs.Lines.{IsCut, AreLines}
@@ -47,7 +47,7 @@ since-is before after added e = ap (drop (length before)) e ∙ drop-append_seam
 
 -- ---- answers, one more
 
-AreAnswersFrom-push : (i : ℕ) (ended : List (List ℕ)) (answers line answer : List ℕ) → AreAnswersFrom i ended answers → IsAnswer (i + length ended) line answer → AreAnswersFrom i (ended ++ line ∷ []) (answers ++ answer)
+pub AreAnswersFrom-push : (i : ℕ) (ended : List (List ℕ)) (answers line answer : List ℕ) → AreAnswersFrom i ended answers → IsAnswer (i + length ended) line answer → AreAnswersFrom i (ended ++ line ∷ []) (answers ++ answer)
 AreAnswersFrom-push i [] answers line answer h is =
     let here : i + 0 ≡ i = omega arith in
     (answer, [], rw here at is, refl, ap (λ xs. xs ++ answer) h ∙ sym (append-nil answer))
@@ -160,6 +160,9 @@ module _ {given_before given taken_before taken : List ℕ} {line_number : ℕ} 
       let are = AreLines-ended (IsCut-newline h.cut) refl in
       rw bytes at are
 
+  pub ends_at_newline : (after : List ℕ) → after ≡ given ++ 10 ∷ [] → EndsLine (since given_before after)
+  ends_at_newline after e = (h.bytes, since-is given_before after (h.bytes ++ 10 ∷ []) (given_after after (10 ∷ []) e))
+
   -- all lines are answered
   pub answers_at_empty : (after : List ℕ) → after ≡ given ++ [] → line ≡ kept [] → AnswersAll (since given_before after) (since taken_before taken)
   answers_at_empty after e none = (h.ended, lines_at_empty after e none, rw taken_same at h.answered)
@@ -171,9 +174,10 @@ module _ {given_before given taken_before taken : List ℕ} {line_number : ℕ} 
       (h.ended ++ h.rest ∷ [], lines_at_rest after e some, rw put_is at answered)
 
   -- the sink failed
-  pub BreaksOff-from : (bytes put : List ℕ) → AreLines bytes (h.ended ++ h.rest ∷ []) → (answer : List ℕ) (part : List ℕ) → IsAnswer line_number h.rest answer → IsBeginning part answer → put ≡ taken ++ part
-      → BreaksOff bytes (since taken_before put)
-  BreaksOff-from bytes put cut answer part is begins e = record {
+  pub BreaksOff-from : (is_ended : Bool) (bytes put : List ℕ) → IsTrue is_ended ⊎ EndsLine bytes → AreLines bytes (h.ended ++ h.rest ∷ []) → (answer : List ℕ) (part : List ℕ) → IsAnswer line_number h.rest answer → IsBeginning part answer → put ≡ taken ++ part
+      → BreaksOff is_ended bytes (since taken_before put)
+  BreaksOff-from is_ended bytes put line_end cut answer part is begins e = record {
+    line_end = line_end;
     front = h.ended;
     last = h.rest;
     answers = h.answers;

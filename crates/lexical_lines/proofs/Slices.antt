@@ -1,5 +1,5 @@
 -- What a run over slices leaves.
-use Rattle.std.proofs.Common.{◌≡◌, ℕ, ◌+◌, ◌-◌, ◌≤◌, false, IsTrue, List, [], ◌++◌, length, take, drop, sym, ap, ◌∙◌, arith, length-append}
+use Rattle.std.proofs.Common.{Bool, ◌≡◌, ℕ, ◌+◌, ◌-◌, ◌≤◌, false, IsTrue, List, [], ◌++◌, length, take, drop, sym, ap, ◌∙◌, arith, length-append}
 use Rattle.std.proofs.lemmas.List.{append-nil, take-append-drop, drop-drop, length-take-le}
 use Rattle.std.proofs.lemmas.Slice.{take-put_mid, drop-put_mid}
 use borrow.Rule.Slice.PartMut.{put_mid}
@@ -35,7 +35,7 @@ Writes-sink {a = a} {b = b} none all kept is counted final =
     }
 
 -- a full one is what it has taken
-pub BreaksOff-full : {bytes : List ℕ} (b : SliceSink) {after : List ℕ} → behind b ≡ [] → BreaksOff bytes (taken_in b) → b.buffer.now ≡ after → BreaksOff bytes after
+pub BreaksOff-full : {is_ended : Bool} {bytes : List ℕ} (b : SliceSink) {after : List ℕ} → behind b ≡ [] → BreaksOff is_ended bytes (taken_in b) → b.buffer.now ≡ after → BreaksOff is_ended bytes after
 BreaksOff-full b full broke final =
     let all : taken_in b ≡ b.buffer.now = sym (append-nil (taken_in b)) ∙ ap (λ rest. taken_in b ++ rest) (sym full) ∙ take-append-drop b.count b.buffer.now in
     rw (all ∙ final) at broke

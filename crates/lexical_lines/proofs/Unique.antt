@@ -1,13 +1,16 @@
 -- Lines have one text of answers.
-use Rattle.std.proofs.Common.{◌≡◌, ℕ, ◌+◌, ◌-◌, ◌^◌, ◌≤◌, min, Bool, List, [], ◌∷◌, ◌++◌, refl, sym, ap, ◌∙◌, arith, ℤ, inl, inr}
+use Rattle.std.proofs.Common.{◌≡◌, ℕ, ◌+◌, ◌-◌, ◌^◌, ◌≤◌, min, Bool, List, [], ◌∷◌, ◌++◌, refl, sym, ap, ◌∙◌, arith, ℤ, inl, inr, ◌⊎◌, IsTrue, length, length-append, append_assoc}
 use Rattle.std.specs.Prelude.{codes}
 use Rattle.lexical_write_integer.specs.Text.{IsText}
 use Rattle.lexical_num.specs.Sign.{sign_of}
 use Rattle.lexical_write_integer.proofs.Numerals.{digits_unique}
 use Rattle.lexical_lines.specs.declared.integer_type.IntegerType.{IntegerType}
-use Rattle.lexical_lines.specs.Answer.{IsAnswer, IsEnded, IsBadLine, AreAnswersFrom, AnswersAll, format_of}
+use Rattle.lexical_lines.specs.Answer.{IsAnswer, IsEnded, IsBadLine, IsBeginning, AreAnswersFrom, AnswersAll, BreaksOff, EndsLine, format_of}
+use Rattle.lexical_lines.specs.Lines.{AreLines}
+use Rattle.lexical_lines.proofs.Runs.{AreAnswersFrom-push}
+use Rattle.std.proofs.lemmas.List.{append-nil}
 use Rattle.lexical_lines.specs.Line.{IsRequest, IsValue, signed}
-use Rattle.lexical_lines.proofs.Cuts.{AreLines-unique}
+use Rattle.lexical_lines.proofs.Cuts.{AreLines-append, AreLines-exist, AreLines-unique}
 use Rattle.lexical_lines.proofs.Decimals.{IsDecimal-bytes, IsDecimal-value, IsDecimal-from_digits}
 use Rattle.lexical_lines.proofs.Requests.{IsRequest-name, IsRequest-parts, no_space-name, no_space-marked, radix_bytes, whole_as, marks_same}
 
@@ -58,3 +61,35 @@ AreAnswersFrom-unique i (line ∷ all) a b (x, xs, is, more, whole) (y, ys, is',
 pub AnswersAll-unique : (bytes a b : List ℕ) → AnswersAll bytes a → AnswersAll bytes b → a ≡ b
 AnswersAll-unique bytes a b (all, are, answers) (other, also, others) =
     AreAnswersFrom-unique 1 all a b answers (let same = AreLines-unique bytes other all also are in rw same at others)
+
+-- ---- answers that broke off begin those to the whole input
+
+AreAnswersFrom-split : (i : ℕ) (front back : List (List ℕ)) (text : List ℕ) → AreAnswersFrom i (front ++ back) text → (first : List ℕ) × (rest : List ℕ) × AreAnswersFrom i front first × (text ≡ first ++ rest)
+AreAnswersFrom-split i [] back text h = ([], text, refl, refl)
+AreAnswersFrom-split i (line ∷ front) back text (answer, more, is, others, whole) =
+    let (first, rest, answered, e) = AreAnswersFrom-split (i + 1) front back more others in
+    (answer ++ first, rest, (answer, first, is, answered, refl), whole ∙ ap (λ bytes. answer ++ bytes) e ∙ sym (append_assoc answer first rest))
+
+-- the lines of the part that was read are the first ones of the whole
+lines_before : (is_ended : Bool) (bytes left : List ℕ) (all lines : List (List ℕ)) → (IsTrue is_ended → left ≡ []) → IsTrue is_ended ⊎ EndsLine bytes → AreLines bytes lines → AreLines (bytes ++ left) all → (others : List (List ℕ)) × (all ≡ lines ++ others)
+lines_before is_ended bytes left all lines none (inl ended) p q =
+    let same : bytes ++ left ≡ bytes = ap (λ rest. bytes ++ rest) (none ended) ∙ append-nil bytes in
+    ([], AreLines-unique bytes all lines (rw same at q) p ∙ sym (append-nil lines))
+lines_before is_ended bytes left all lines none (inr ends) p q =
+    let (others, rest) = AreLines-exist left in
+    (others, AreLines-unique (bytes ++ left) all (lines ++ others) q (AreLines-append bytes left lines others ends p rest))
+
+pub BreaksOff-begins : (is_ended : Bool) (bytes left put text : List ℕ) → (IsTrue is_ended → left ≡ []) → BreaksOff is_ended bytes put → AnswersAll (bytes ++ left) text → IsBeginning put text
+BreaksOff-begins is_ended bytes left put text none broke (all, are, answers) =
+    let (others, lines) = lines_before is_ended bytes left all (broke.front ++ broke.last ∷ []) none broke.line_end broke.cut are in
+    let (first, behind, answered, whole) = AreAnswersFrom-split 1 (broke.front ++ broke.last ∷ []) others text (rw lines at answers) in
+    let here : length broke.front + 1 ≡ 1 + length broke.front = omega arith in
+    let same = AreAnswersFrom-unique 1 (broke.front ++ broke.last ∷ []) first (broke.answers ++ broke.answer) answered (AreAnswersFrom-push 1 broke.front broke.answers broke.last broke.answer broke.answered (rw here at broke.last_answer)) in
+    let (rest, some, answer) = broke.beginning in (
+      rest ++ behind,
+      omega (arith, length-append rest behind),
+      whole ∙ ap (λ bytes. bytes ++ behind) (same ∙ ap (λ bytes. broke.answers ++ bytes) answer) ∙ regroup broke.answers broke.part rest behind ∙ ap (λ bytes. bytes ++ (rest ++ behind)) (sym broke.whole),
+    )
+  where
+    regroup : (a b c d : List ℕ) → (a ++ (b ++ c)) ++ d ≡ (a ++ b) ++ (c ++ d)
+    regroup a b c d = simp append_assoc

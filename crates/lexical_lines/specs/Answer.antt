@@ -1,5 +1,5 @@
 -- The answers to lines.
-use Rattle.std.specs.Prelude.{◌≡◌, ◌⊎◌, ℕ, ◌+◌, ◌-◌, ◌^◌, ◌<◌, min, Bool, List, [], ◌∷◌, ◌++◌, length, ℤ, codes}
+use Rattle.std.specs.Prelude.{◌≡◌, ◌⊎◌, ℕ, ◌+◌, ◌-◌, ◌^◌, ◌<◌, min, Bool, List, [], ◌∷◌, ◌++◌, length, ℤ, codes, IsTrue}
 use Rattle.lexical_num.specs.Format.{Format}
 use Rattle.lexical_write_integer.specs.Text.{IsDigits, IsText}
 use Rattle.lexical_lines.specs.declared.integer_type.IntegerType.{IntegerType}
@@ -58,8 +58,14 @@ AnswersEnded bytes text = (ended : List (List ℕ)) × (rest : List ℕ) × IsCu
 abbrev pub IsBeginning : List ℕ → List ℕ → Type 0
 IsBeginning part whole = (rest : List ℕ) × (0 < length rest) × (whole ≡ part ++ rest)
 
--- the answers to all lines of an input but the last, and then a beginning, not the whole, of the last one's
-pub record BreaksOff (bytes put : List ℕ) : Type 0 where
+-- the last byte is a byte 10
+abbrev pub EndsLine : List ℕ → Type 0
+EndsLine bytes = (front : List ℕ) × (bytes ≡ front ++ 10 ∷ [])
+
+-- an input was read to the end of a line, and what was put is the answers to all its lines but the last, and then a
+-- beginning, not the whole, of the last one's
+pub record BreaksOff (is_ended : Bool) (bytes put : List ℕ) : Type 0 where
+  pub line_end : IsTrue is_ended ⊎ EndsLine bytes
   pub front : List (List ℕ)
   pub last : List ℕ
   pub answers : List ℕ
@@ -70,10 +76,3 @@ pub record BreaksOff (bytes put : List ℕ) : Type 0 where
   pub last_answer : IsAnswer (length front + 1) last answer
   pub beginning : IsBeginning part answer
   pub whole : put ≡ answers ++ part
-
--- what a buffer holds that the answers to an input do not fit: those to the lines of its front, as far as they go
-pub record Overflows (input buffer : List ℕ) : Type 0 where
-  pub front : List ℕ
-  pub rest : List ℕ
-  pub whole : input ≡ front ++ rest
-  pub filled : BreaksOff front buffer

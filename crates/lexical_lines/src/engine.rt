@@ -53,7 +53,7 @@ pub fn run<S: ByteSource, K: ByteSink>(source: &mut S, sink: &mut K) -> io::Resu
         ((S.faults source.new ≡ S.faults source.old + 1) × (K.faults sink.new ≡ K.faults sink.old)
         × AnswersEnded bytes put)
         ⊎ ((S.faults source.new ≡ S.faults source.old) × (K.faults sink.new ≡ K.faults sink.old + 1)
-        × BreaksOff bytes put)) }
+        × BreaksOff (S.is_ended source.new) bytes put)) }
 {
     let mut line = Line::new();
     let mut line_number: u64 = 1;

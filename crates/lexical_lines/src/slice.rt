@@ -1,7 +1,7 @@
 //! Devices over memory.
 
-ghost use Rattle.std.specs.Prelude.{◌≡◌, ◌+◌, ◌≤◌, false, ◌||◌, [], ◌++◌, Ok, None, Some, length, take, drop, min, IfOk, IfSome, IfNone, ◌<◌, slice_get};
-ghost use Rattle.lexical_lines.specs.Answer.{AnswersAll, Overflows};
+ghost use Rattle.std.specs.Prelude.{◌≡◌, ℕ, List, ◌+◌, ◌≤◌, false, ◌||◌, [], ◌++◌, Ok, None, Some, length, take, drop, min, IfOk, IfSome, IfNone, ◌<◌, slice_get};
+ghost use Rattle.lexical_lines.specs.Answer.{AnswersAll, IsBeginning};
 ghost use Rattle.lexical_lines.specs.Device.{given_by, tells_end, faults_of, taken_by, put_faults};
 ghost use Rattle.lexical_lines.specs.Source.{KeepsBytes, SliceReading};
 ghost use Rattle.lexical_write_integer.specs.Buffer.{Writes};
@@ -159,11 +159,13 @@ impl ByteSink for SliceSink<'_> {
 }
 
 /// Writes the answers to all lines of the input to the front of the buffer, and answers how many
-/// bytes these are; every byte behind them is as before. It answers `None` where they do not fit,
-/// and the buffer is full of them then.
+/// bytes these are; every byte behind them is as before. It answers `None` where they do not fit, and
+/// the buffer is then a beginning of them, and not the whole.
 pub fn answer_slice(input: &[u8], buffer: &mut [u8]) -> Option<usize>
-    ensures answered { IfSome result (λ count. Writes (AnswersAll input.now) buffer.old buffer.new count) }
-    ensures full { IfNone result (Overflows input.now buffer.new) }
+    ensures answered { IfSome result (λ count.
+        Writes (AnswersAll input.now) buffer.old buffer.new count) }
+    ensures full { IfNone result ((text : List ℕ) → AnswersAll input.now text
+        → IsBeginning buffer.new text) }
 {
     let mut source = SliceSource::new(input);
     let mut sink = SliceSink::new(buffer);

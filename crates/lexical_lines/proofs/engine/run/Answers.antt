@@ -1,6 +1,6 @@
-use Rattle.std.proofs.Common.{[], ◌∷◌, ◌++◌, ◌∙◌, refl, inl, inr, arith}
+use Rattle.std.proofs.Common.{[], ◌∷◌, ◌++◌, ◌∙◌, refl, inl, inr, arith, rules}
 use Rattle.std.proofs.lemmas.Result.{err_from_is_err_and}
-use Rattle.lexical_lines.proofs.Runs.{HasRead-none, HasRead-byte, HasRead-line, answers_ended, answers_at_empty, answers_at_rest, good_after, lines_at_empty, lines_at_rest, lines_at_newline, BreaksOff-from}
+use Rattle.lexical_lines.proofs.Runs.{HasRead-none, HasRead-byte, HasRead-line, answers_ended, answers_at_empty, answers_at_rest, good_after, lines_at_empty, lines_at_rest, lines_at_newline, ends_at_newline, BreaksOff-from}
 use Rattle.lexical_lines.proofs.engine.run.Goals as goal
 
 pub loop-byte-init : goal.loop-byte-init
@@ -52,7 +52,7 @@ returns-in_err-all_good-clause-err g c =
     rw (err_from_is_err_and c.from_residual-in_err-all_good.result c.from_residual-in_err-all_good.ensures.1).1 (inr (
       omega (arith, c.in_ok-byte.ensures.faults, c.loop-byte.invariant.source_faults),
       omega (arith, c.in_err-all_good.ensures.err_faults, c.loop-byte.invariant.sink_faults),
-      BreaksOff-from read _ (g.K.ByteSink.taken c.put_answer.new.sink) (lines_at_newline read given (rw (c.in-Some.is, c.if-byte-eq-NEWLINE.true) at c.in_ok-byte.ensures.given)) broke.0 broke.1 broke.2 broke.3 broke.4,
+      BreaksOff-from read _ _ (g.K.ByteSink.taken c.put_answer.new.sink) (inr (ends_at_newline read given (rw (c.in-Some.is, c.if-byte-eq-NEWLINE.true) at c.in_ok-byte.ensures.given))) (lines_at_newline read given (rw (c.in-Some.is, c.if-byte-eq-NEWLINE.true) at c.in_ok-byte.ensures.given)) broke.0 broke.1 broke.2 broke.3 broke.4,
     ))
 
 pub returns-in_err-all_good-2-clause-err : goal.returns-in_err-all_good-2-clause-err
@@ -63,7 +63,7 @@ returns-in_err-all_good-2-clause-err g c =
     rw (err_from_is_err_and c.from_residual-in_err-all_good-2.result c.from_residual-in_err-all_good-2.ensures.1).1 (inr (
       omega (arith, c.in_ok-byte.ensures.faults, c.loop-byte.invariant.source_faults),
       omega (arith, c.in_err-all_good-2.ensures.err_faults, c.loop-byte.invariant.sink_faults),
-      BreaksOff-from read _ (g.K.ByteSink.taken c.put_answer-then-not-is_empty.new.sink) (lines_at_rest read given (rw c.in_default.is at c.in_ok-byte.ensures.given) (λ e. let wrong = c.if-not-is_empty.ensures.1 e in cc)) broke.0 broke.1 broke.2 broke.3 broke.4,
+      BreaksOff-from read _ _ (g.K.ByteSink.taken c.put_answer-then-not-is_empty.new.sink) (inl (search rules)) (lines_at_rest read given (rw c.in_default.is at c.in_ok-byte.ensures.given) (λ e. let wrong = c.if-not-is_empty.ensures.1 e in cc)) broke.0 broke.1 broke.2 broke.3 broke.4,
     ))
 
 pub returns-in_ok-all_good-2-clause-ok_answers : goal.returns-in_ok-all_good-2-clause-ok_answers

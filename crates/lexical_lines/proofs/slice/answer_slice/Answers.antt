@@ -1,4 +1,5 @@
 use Rattle.std.proofs.Common.{arith, rules, inl, inr}
+use Rattle.lexical_lines.proofs.Unique.{BreaksOff-begins}
 use Rattle.lexical_lines.proofs.Slices.{given-ended, given-part, Writes-sink, BreaksOff-full}
 use Rattle.lexical_lines.proofs.slice.answer_slice.Goals as goal
 
@@ -22,6 +23,8 @@ returns-in-Err-clause-full c =
         | inl none ↦ absurd (omega (arith, risen, none))
         | inr full ↦
             let put = rw (source.given, sink.taken) at broke in
-            record { front = c.run.new.source.given; rest = c.run.new.source.left; whole = given-part c.args.input.now source.given source.left ran.kept_source; filled = BreaksOff-full c.run.new.sink full put (search rules) }
+            λ text answered.
+            BreaksOff-begins c.run.new.source.is_ended c.run.new.source.given c.run.new.source.left _ text
+            (λ ended. ran.kept_source.at_end (λ e. cc (e, source.ended)) ended) (BreaksOff-full c.run.new.sink full put (search rules)) (rw (given-part c.args.input.now source.given source.left ran.kept_source) at answered)
       ]
     ]
