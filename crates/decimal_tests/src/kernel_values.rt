@@ -1,13 +1,13 @@
-// The kernels on known values: the fraction that each answers, and the pairs that it carries.
+// The kernels on known numbers: the fraction that each returns, and the pairs of digits in it.
 
 use lexical_write_integer::jeaiii::{
     fixed_2, fixed_4, fixed_6, fixed_8_nine, fixed_8_ten, fixed_8_wide, next2,
 };
 use std::process::Abort;
 
-// The fraction is the one that is wanted, and so are its first pair and each pair behind it.
-fn check_fraction(rt: &impl Abort, fraction: u64, wanted: u64, first: u64, pairs: &[u32]) {
-    assert_eq!(rt; fraction, wanted);
+// The fraction is the expected one, and so are its first pair and each pair after it.
+fn check_fraction(rt: &impl Abort, fraction: u64, expected: u64, first: u64, pairs: &[u32]) {
+    assert_eq!(rt; fraction, expected);
     assert_eq!(rt; fraction >> 32, first);
     let mut rest = fraction;
     for pair in pairs {

@@ -1,4 +1,5 @@
-//! The decimal writers and their kernels on known values.
+//! Tests of the decimal writers and their kernels on known numbers, and the loop turns of single
+//! calls as contracts.
 #![tactic(auto)]
 
 #[cfg(test)]

@@ -1,9 +1,9 @@
-//! The turns of single calls. A test cannot read a counter, so each function here makes some calls,
-//! with a new counter each, and hands the counters back: its contract says what they hold.
-#![tactic(auto, unfolding(lexical_write_integer::specs::Notes::decimal_notes_32, lexical_write_integer::specs::Notes::decimal_notes_64))]
+//! The loop turns of single calls. A test cannot read a counter, so each function here makes some
+//! calls, with a new counter each, and returns the counters: its contract says what they hold.
+#![tactic(auto, unfolding(lexical_write_integer::specs::DecimalTurns::decimal_notes_32, lexical_write_integer::specs::DecimalTurns::decimal_notes_64))]
 
 ghost use Rattle.std.specs.Prelude.{◌≡◌, ◌≤◌, [], ◌∷◌, length};
-ghost use Rattle.lexical_write_integer.specs.Notes.{decimal_notes};
+ghost use Rattle.lexical_write_integer.specs.DecimalTurns.{decimal_notes};
 
 use lexical_num::num::{LexicalInteger, UnsignedInteger};
 use lexical_write_integer::decimal::Decimal;
@@ -12,7 +12,7 @@ use lexical_write_integer::jeaiii::{from_u32_counted, from_u64_counted};
 use lexical_write_integer::turns::Turns;
 use lexical_write_integer::write::write_integer_counted;
 
-/// The note of the pair behind the first of 1234: 100 times what its fraction has behind the point.
+/// The number noted for the second pair of 1234: 100 times what its fraction has after the point.
 pub fn notes_of_four_digits() -> Turns
     ensures { result ≡ 146028893000 ∷ [] }
 {
@@ -21,7 +21,7 @@ pub fn notes_of_four_digits() -> Turns
     turns
 }
 
-/// The notes of 12345678901: its last five pairs, from the back.
+/// The numbers noted for 12345678901: its last five pairs, the last one first.
 pub fn notes_of_eleven_digits() -> Turns
     ensures { result ≡ 1 ∷ 89 ∷ 67 ∷ 45 ∷ 23 ∷ [] }
 {
@@ -50,7 +50,7 @@ pub struct Counters {
     pub greatest_u64: Turns,
 }
 
-/// The counters, with one turn for each pair of digits behind the first.
+/// The counters, with one turn for each pair of digits after the first.
 pub fn turns_by_length() -> Counters
     ensures zero { result.zero ≡ [] }
     ensures greatest_u8 { length result.greatest_u8 ≡ 1 }
@@ -64,18 +64,5 @@ pub fn turns_by_length() -> Counters
         greatest_u32: turns_of(4294967295u32),
         eleven_digits: turns_of(10000000000u64),
         greatest_u64: turns_of(18446744073709551615u64),
-    }
-}
-
-#[cfg(test)]
-mod tests {
-    use super::*;
-    use std::mem::size_of_val;
-
-    #[test]
-    fn counters_take_no_bytes(rt: HostRuntime) {
-        assert_eq!(&rt; size_of_val(&notes_of_four_digits()), 0);
-        assert_eq!(&rt; size_of_val(&notes_of_eleven_digits()), 0);
-        assert_eq!(&rt; size_of_val(&turns_by_length()), 0);
     }
 }

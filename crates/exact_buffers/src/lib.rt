@@ -1,4 +1,5 @@
-//! Buffers of exactly the need, and calls at the edge of their conditions.
+//! Tests with buffers of exactly the size that a call asks for, and calls at the edge of their
+//! conditions.
 #![tactic(auto)]
 
 pub mod callers;

@@ -9,7 +9,7 @@ use Rattle.lexical_num.specs.Digit.{digit_char}
 use Rattle.lexical_write_integer.specs.Numeral.{value_of}
 use Rattle.lexical_write_integer.specs.Text.{IsDigits}
 use Rattle.lexical_write_integer.proofs.Values.{value_of-append, value_of-one}
-use Rattle.lexical_lines.specs.Line.{IsDecimal}
+use Rattle.lexical_lines.specs.Decimal.{IsDecimal}
 
 pub record IsDigitByte (byte : ℕ) : Type 0 where
   pub at_least : 48 ≤ byte
@@ -67,7 +67,7 @@ IsDecimal-value n text h = rw (h.characters, digits_in-digit_char h.digits h.bel
 digits_in-split : (text : List ℕ) (k : ℕ) → digits_in text ≡ digits_in (take k text) ++ digits_in (drop k text)
 digits_in-split text k = ap digits_in (sym (take-append-drop k text)) ∙ map-append (λ byte. byte - 48) (take k text) (drop k text)
 
--- the digits in front have no greater value than all of them
+-- the first digits have no greater value than all of them
 pub value_of-front : (text : List ℕ) (k : ℕ) → value_of 10 (digits_in (take k text)) ≤ value_of 10 (digits_in text)
 value_of-front text k =
     let front = value_of 10 (digits_in (take k text)) in
@@ -87,7 +87,7 @@ value_of-more text i h =
 pub IsDecimal-byte : (n : ℕ) (text : List ℕ) (i : ℕ) → i < length text → IsDecimal n text → IsDigitByte (get_or text i 0)
 IsDecimal-byte n text i h d = All-get_or IsDigitByte text i 0 h (IsDecimal-bytes n text d)
 
--- a number that a text spells is at least what its front spells
+-- a number that a text spells is at least what its first bytes spell
 pub IsDecimal-at_least : (n : ℕ) (text : List ℕ) (i : ℕ) → i < length text → IsDecimal n text → value_of 10 (digits_in (take i text)) * 10 + (get_or text i 0 - 48) ≤ n
 IsDecimal-at_least n text i h d = omega (arith, value_of-more text i h, value_of-front text (i + 1), IsDecimal-value n text d)
 

@@ -4,7 +4,7 @@ use Rattle.std.proofs.lemmas.List.{map-append, take_more}
 use Rattle.lexical_num.specs.Format.{Format}
 use Rattle.lexical_write_integer.specs.Buffer.{Front, Writes}
 use Rattle.lexical_write_integer.specs.Text.{IsText}
-use Rattle.lexical_lines.proofs.Texts.{Front-push}
+use Rattle.lexical_lines.proofs.Buffers.{Front-push}
 use Rattle.lexical_lines.specs.Joined.{AreTexts, IsJoined, joined}
 
 -- ---- one text more
@@ -31,18 +31,18 @@ no_texts : (mark : ℕ) (format : Format) (texts : List (List ℕ)) → AreTexts
 no_texts mark format [] each = refl
 no_texts mark format (_ ∷ _) each = absurd each
 
-IsJoined-one : (mark : ℕ) (format : Format) (numbers : List ℤ) (x : ℤ) (text behind : List ℕ) → length numbers ≡ 0 → IsJoined numbers mark format text → IsText x format behind → IsJoined (numbers ++ x ∷ []) mark format (text ++ behind)
-IsJoined-one mark format [] x text behind none was is =
-    record { texts = behind ∷ []; each = (is, tt); whole = ap (λ front. front ++ behind) (was.whole ∙ no_texts mark format was.texts was.each) }
-IsJoined-one mark format (_ ∷ _) x text behind none was is = absurd (omega arith)
+IsJoined-one : (mark : ℕ) (format : Format) (numbers : List ℤ) (x : ℤ) (text last : List ℕ) → length numbers ≡ 0 → IsJoined numbers mark format text → IsText x format last → IsJoined (numbers ++ x ∷ []) mark format (text ++ last)
+IsJoined-one mark format [] x text last none was is =
+    record { texts = last ∷ []; each = (is, tt); whole = ap (λ front. front ++ last) (was.whole ∙ no_texts mark format was.texts was.each) }
+IsJoined-one mark format (_ ∷ _) x text last none was is = absurd (omega arith)
 
-IsJoined-push : (mark : ℕ) (format : Format) (numbers : List ℤ) (x : ℤ) (text behind : List ℕ) → 0 < length numbers → IsJoined numbers mark format text → IsText x format behind → IsJoined (numbers ++ x ∷ []) mark format ((text ++ mark ∷ []) ++ behind)
-IsJoined-push mark format numbers x text behind some was is =
+IsJoined-push : (mark : ℕ) (format : Format) (numbers : List ℤ) (x : ℤ) (text last : List ℕ) → 0 < length numbers → IsJoined numbers mark format text → IsText x format last → IsJoined (numbers ++ x ∷ []) mark format ((text ++ mark ∷ []) ++ last)
+IsJoined-push mark format numbers x text last some was is =
     let many = length-AreTexts numbers format was.texts was.each in
     record {
-      texts = was.texts ++ behind ∷ [];
-      each = AreTexts-push numbers format was.texts x behind was.each is;
-      whole = ap (λ front. (front ++ mark ∷ []) ++ behind) was.whole ∙ sym (joined-push mark was.texts behind (omega arith));
+      texts = was.texts ++ last ∷ [];
+      each = AreTexts-push numbers format was.texts x last was.each is;
+      whole = ap (λ front. (front ++ mark ∷ []) ++ last) was.whole ∙ sym (joined-push mark was.texts last (omega arith));
     }
 
 -- the first numbers and the next
@@ -51,24 +51,24 @@ map-take_more f xs i x less is = ap (map f) (take_more xs i x less) ∙ map-appe
 
 -- ---- in the buffer
 
--- so many bytes are written, and what is of one kind becomes of the other behind them
-pub record Ready (IsBehind IsWhole : List ℕ → Type 0) (before between : List ℕ) (count : ℕ) : Type 0 where
+-- a text is written, and what follows it with one property makes a whole with the other
+pub record Ready (IsNext IsWhole : List ℕ → Type 0) (before between : List ℕ) (count : ℕ) : Type 0 where
   pub text : List ℕ
   pub counted : count ≡ length text
   pub front : Front before between text
-  pub whole : (behind : List ℕ) → IsBehind behind → IsWhole (text ++ behind)
+  pub whole : (last : List ℕ) → IsNext last → IsWhole (text ++ last)
 
 -- for the first text
 pub Ready-one : (mark : ℕ) (format : Format) (numbers : List ℤ) (x : ℤ) (before between : List ℕ) (count : ℕ) → length numbers ≡ 0 → Writes (IsJoined numbers mark format) before between count → Ready (IsText x format) (IsJoined (numbers ++ x ∷ []) mark format) before between count
 Ready-one mark format numbers x before between count none w =
-    record { text = w.text; counted = w.count; front = w.front; whole = λ behind. IsJoined-one mark format numbers x w.text behind none w.is }
+    record { text = w.text; counted = w.count; front = w.front; whole = λ last. IsJoined-one mark format numbers x w.text last none w.is }
 
--- for a text behind the mark
+-- for a text after the mark
 pub Ready-push : (mark : ℕ) (format : Format) (numbers : List ℤ) (x : ℤ) (before between : List ℕ) (count : ℕ) → 0 < length numbers → count < length before → Writes (IsJoined numbers mark format) before between count → Ready (IsText x format) (IsJoined (numbers ++ x ∷ []) mark format) before (set between count mark) (count + 1)
 Ready-push mark format numbers x before between count some less w =
     record {
       text = w.text ++ mark ∷ [];
       counted = ap (λ k. k + 1) w.count ∙ sym (length-append w.text (mark ∷ []));
       front = Front-push before between w.text count mark w.count w.front less;
-      whole = λ behind. IsJoined-push mark format numbers x w.text behind some w.is;
+      whole = λ last. IsJoined-push mark format numbers x w.text last some w.is;
     }

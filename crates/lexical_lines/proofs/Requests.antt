@@ -1,15 +1,16 @@
 -- The parts of a line.
-use Rattle.std.proofs.Common.{◌≡◌, ◌≢◌, ℕ, ◌<◌, List, [], ◌∷◌, ◌++◌, Bool, true, false, not, ◌&&◌, refl, sym, ap, ◌∙◌, ℤ, arith, ◌==◌, eq-eqb, append_assoc, cond}
+use Rattle.std.proofs.Common.{◌≡◌, ◌≢◌, ℕ, List, [], ◌∷◌, ◌++◌, Bool, true, false, not, ◌&&◌, refl, sym, ap, ◌∙◌, ℤ, arith, ◌==◌, eq-eqb, append_assoc, cond}
 use Rattle.std.specs.List.{All}
 use Rattle.std.specs.Str.{bytes_eq}
-use Rattle.std.proofs.lemmas.List.Elements.{All-nil, All-cons, All-head, All-append, All-weaker}
+use Rattle.std.proofs.lemmas.List.Elements.{All-nil, All-cons, All-append, All-weaker}
 use Rattle.lexical_lines.specs.declared.integer_type.IntegerType.{IntegerType}
 use Rattle.lexical_lines.specs.declared.integer_type.IntegerType.TheVariants.{U8, U16, U32, U64, Usize, I8, I16, I32, I64, Isize}
 use Rattle.lexical_lines.specs.IntegerType.{name_of}
-use Rattle.lexical_lines.specs.Line.{IsRequest, IsValue, optional}
-use Rattle.lexical_lines.specs.Parts.{StartsWith}
+use Rattle.lexical_lines.specs.Request.{IsRequest, IsValue}
+use Rattle.lexical_lines.specs.Sign.{optional_sign, StartsWith}
 use Rattle.lexical_lines.proofs.Separators.{Lacks, cut_unique}
 use Rattle.lexical_lines.proofs.Decimals.{IsDigitByte, IsDecimal-bytes, IsDecimal-from_digits}
+use Rattle.lexical_lines.proofs.Signs.{stripped_unique}
 
 -- no byte is a space
 abbrev pub NoSpace : List ℕ → Type 0
@@ -44,36 +45,12 @@ no_space-name Isize = lacks_space-is (name_of Isize) refl
 no_space-digits : (text : List ℕ) → All IsDigitByte text → NoSpace text
 no_space-digits text h = All-weaker IsDigitByte (λ byte. byte ≢ 32) (λ byte digit e. omega arith) text h
 
-no_space-optional : (wanted : Bool) → NoSpace (optional wanted 43)
-no_space-optional false = All-nil (λ byte. byte ≢ 32)
-no_space-optional true = lacks_space-is (43 ∷ []) refl
+no_space-optional_sign : (is_there : Bool) → NoSpace (optional_sign is_there 43)
+no_space-optional_sign false = All-nil (λ byte. byte ≢ 32)
+no_space-optional_sign true = lacks_space-is (43 ∷ []) refl
 
-pub no_space-marked : (wanted : Bool) (text : List ℕ) → All IsDigitByte text → NoSpace (optional wanted 43 ++ text)
-no_space-marked wanted text h = All-append (λ byte. byte ≢ 32) (optional wanted 43) text (no_space-optional wanted) (no_space-digits text h)
-
--- a mark in front of digits is found in one way
-pub strip_same : (mark : ℕ) (text s t : List ℕ) (p q : Bool) → mark < 48 → text ≡ optional p mark ++ s → (StartsWith text mark → p ≡ true) → text ≡ optional q mark ++ t → All IsDigitByte t → (p ≡ q) × (s ≡ t)
-strip_same mark text s t true true m e stripped f digits = (refl, cc)
-strip_same mark text s t false false m e stripped f digits = (refl, cc)
-strip_same mark text s t false true m e stripped f digits = absurd (let wrong : false ≡ true = stripped (record { rest = t; whole = f }) in cc)
-strip_same mark text s [] true false m e stripped f digits = absurd (cc)
-strip_same mark text s (byte ∷ t) true false m e stripped f digits =
-    let digit = All-head IsDigitByte byte t digits in
-    let same : byte ≡ mark = cc in
-    absurd (omega arith)
-
--- the same, of two texts
-pub marks_same : (mark : ℕ) (p q : Bool) (s t : List ℕ) → mark < 48 → optional p mark ++ s ≡ optional q mark ++ t → All IsDigitByte s → All IsDigitByte t → (p ≡ q) × (s ≡ t)
-marks_same mark p q s t m e left right =
-    strip_same mark (optional p mark ++ s) s t p q m refl (λ begins. starts p s begins left) e right
-  where
-    starts : (p : Bool) (s : List ℕ) → StartsWith (optional p mark ++ s) mark → All IsDigitByte s → p ≡ true
-    starts true s begins digits = refl
-    starts false [] begins digits = cc (begins.whole)
-    starts false (byte ∷ s) begins digits =
-        let digit = All-head IsDigitByte byte s digits in
-        let same : byte ≡ mark = cc (begins.whole) in
-        absurd (omega arith)
+pub no_space-signed : (is_there : Bool) (text : List ℕ) → All IsDigitByte text → NoSpace (optional_sign is_there 43 ++ text)
+no_space-signed is_there text h = All-append (λ byte. byte ≢ 32) (optional_sign is_there 43) text (no_space-optional_sign is_there) (no_space-digits text h)
 
 -- ---- what a line's parts are
 
@@ -83,25 +60,25 @@ radix_bytes {radix = radix} h = IsDecimal-bytes radix h.radix_text (IsDecimal-fr
 regroup : (n o r v : List ℕ) → n ++ 32 ∷ o ++ r ++ 32 ∷ v ≡ n ++ 32 ∷ ((o ++ r) ++ 32 ∷ v)
 regroup n o r v = simp append_assoc
 
-pub whole_as : {kind : IntegerType} {plus : Bool} {radix : ℕ} {number : ℤ} {line : List ℕ} (h : IsRequest kind plus radix number line) → line ≡ name_of kind ++ 32 ∷ ((optional plus 43 ++ h.radix_text) ++ 32 ∷ h.value_text)
-whole_as {kind = kind} {plus = plus} h = h.whole ∙ regroup (name_of kind) (optional plus 43) h.radix_text h.value_text
+pub whole_as : {kind : IntegerType} {plus : Bool} {radix : ℕ} {number : ℤ} {line : List ℕ} (h : IsRequest kind plus radix number line) → line ≡ name_of kind ++ 32 ∷ ((optional_sign plus 43 ++ h.radix_text) ++ 32 ∷ h.value_text)
+whole_as {kind = kind} {plus = plus} h = h.whole ∙ regroup (name_of kind) (optional_sign plus 43) h.radix_text h.value_text
 
-pub IsRequest-name : {kind : IntegerType} {plus : Bool} {radix : ℕ} {number : ℤ} {line : List ℕ} (h : IsRequest kind plus radix number line) (name rest : List ℕ) → line ≡ name ++ 32 ∷ rest → NoSpace name → (name ≡ name_of kind) × (rest ≡ (optional plus 43 ++ h.radix_text) ++ 32 ∷ h.value_text)
+pub IsRequest-name : {kind : IntegerType} {plus : Bool} {radix : ℕ} {number : ℤ} {line : List ℕ} (h : IsRequest kind plus radix number line) (name rest : List ℕ) → line ≡ name ++ 32 ∷ rest → NoSpace name → (name ≡ name_of kind) × (rest ≡ (optional_sign plus 43 ++ h.radix_text) ++ 32 ∷ h.value_text)
 IsRequest-name {kind = kind} {plus = plus} h name rest e lacks =
-    cut_unique 32 name rest (name_of kind) ((optional plus 43 ++ h.radix_text) ++ 32 ∷ h.value_text) lacks (no_space-name kind) (sym e ∙ whole_as h)
+    cut_unique 32 name rest (name_of kind) ((optional_sign plus 43 ++ h.radix_text) ++ 32 ∷ h.value_text) lacks (no_space-name kind) (sym e ∙ whole_as h)
 
-pub IsRequest-parts : {kind : IntegerType} {plus : Bool} {radix : ℕ} {number : ℤ} {line : List ℕ} (h : IsRequest kind plus radix number line) (rest marked value : List ℕ) → rest ≡ (optional plus 43 ++ h.radix_text) ++ 32 ∷ h.value_text → rest ≡ marked ++ 32 ∷ value → NoSpace marked → (marked ≡ optional plus 43 ++ h.radix_text) × (value ≡ h.value_text)
-IsRequest-parts {plus = plus} h rest marked value is e lacks =
-    cut_unique 32 marked value (optional plus 43 ++ h.radix_text) h.value_text lacks (no_space-marked plus h.radix_text (radix_bytes h)) (sym e ∙ is)
+pub IsRequest-parts : {kind : IntegerType} {plus : Bool} {radix : ℕ} {number : ℤ} {line : List ℕ} (h : IsRequest kind plus radix number line) (rest first value : List ℕ) → rest ≡ (optional_sign plus 43 ++ h.radix_text) ++ 32 ∷ h.value_text → rest ≡ first ++ 32 ∷ value → NoSpace first → (first ≡ optional_sign plus 43 ++ h.radix_text) × (value ≡ h.value_text)
+IsRequest-parts {plus = plus} h rest first value is e lacks =
+    cut_unique 32 first value (optional_sign plus 43 ++ h.radix_text) h.value_text lacks (no_space-signed plus h.radix_text (radix_bytes h)) (sym e ∙ is)
 
-pub IsRequest-radix : {kind : IntegerType} {plus : Bool} {radix : ℕ} {number : ℤ} {line : List ℕ} (h : IsRequest kind plus radix number line) (marked text : List ℕ) (found : Bool) → marked ≡ optional plus 43 ++ h.radix_text → marked ≡ optional found 43 ++ text → (StartsWith marked 43 → found ≡ true) → text ≡ h.radix_text
-IsRequest-radix {plus = plus} h marked text found is e stripped =
-    (strip_same 43 marked text h.radix_text found plus (omega arith) e stripped is (radix_bytes h)).1
+pub IsRequest-radix : {kind : IntegerType} {plus : Bool} {radix : ℕ} {number : ℤ} {line : List ℕ} (h : IsRequest kind plus radix number line) (first text : List ℕ) (found : Bool) → first ≡ optional_sign plus 43 ++ h.radix_text → first ≡ optional_sign found 43 ++ text → (StartsWith first 43 → found ≡ true) → text ≡ h.radix_text
+IsRequest-radix {plus = plus} h first text found is e stripped =
+    (stripped_unique 43 first text h.radix_text found plus (omega arith) e stripped is (radix_bytes h)).1
 
 -- the sign of a value, and its magnitude
-pub IsValue-parts : {kind : IntegerType} {number : ℤ} {text : List ℕ} (h : IsValue kind number text) (digits : List ℕ) (minus : Bool) → text ≡ optional minus 45 ++ digits → (StartsWith text 45 → minus ≡ true) → (minus ≡ h.minus) × (digits ≡ h.digits)
+pub IsValue-parts : {kind : IntegerType} {number : ℤ} {text : List ℕ} (h : IsValue kind number text) (digits : List ℕ) (minus : Bool) → text ≡ optional_sign minus 45 ++ digits → (StartsWith text 45 → minus ≡ true) → (minus ≡ h.minus) × (digits ≡ h.digits)
 IsValue-parts {text = text} h digits minus e stripped =
-    strip_same 45 text digits h.digits minus h.minus (omega arith) e stripped h.whole (IsDecimal-bytes h.magnitude h.digits h.decimal)
+    stripped_unique 45 text digits h.digits minus h.minus (omega arith) e stripped h.whole (IsDecimal-bytes h.magnitude h.digits h.decimal)
 
 -- the type of a name, so that two types have two names
 type_named : List ℕ → IntegerType

@@ -5,15 +5,16 @@ use Rattle.std.specs.Prelude.{nat_le}
 use Rattle.std.proofs.Math.Seq.{drop-append_seam}
 use Rattle.std.proofs.lemmas.Option.{cond_some}
 use Rattle.std.proofs.lemmas.List.Elements.{All-nil, All-cons, All-head, All-tail, All-push}
-use Rattle.lexical_lines.specs.Answer.{IsAnswer, AreAnswers, AreAnswersFrom, AnswersAll, AnswersEnded, IsBeginning, BreaksOff, EndsLine}
-use Rattle.lexical_lines.specs.Kept.{kept}
-use Rattle.lexical_lines.specs.Line.{IsGood}
-use Rattle.lexical_lines.specs.Lines.{IsCut, AreLines}
-use Rattle.lexical_lines.specs.Run.{since}
-use Rattle.lexical_lines.proofs.Cuts.{IsInside, IsCut-none, IsCut-byte, IsCut-newline, AreLines-ended, AreLines-rest}
+use Rattle.lexical_lines.specs.Answer.{IsAnswer, AreAnswers, AreAnswersFrom, AnswersAll, AnswersEnded}
+use Rattle.lexical_lines.specs.Line.{held}
+use Rattle.lexical_lines.specs.Lines.{IsCut, AreLines, EndsLine}
+use Rattle.lexical_lines.specs.Request.{IsGood}
+use Rattle.lexical_lines.specs.Running.{added, BreaksOff}
+use Rattle.lexical_lines.specs.Sink.{IsBeginning}
+use Rattle.lexical_lines.proofs.Lines.{IsInside, IsCut-none, IsCut-byte, IsCut-newline, AreLines-ended, AreLines-rest}
 use Rattle.std.proofs.lemmas.List.{append-nil}
 
--- the lines that have ended are answered, and the rest is kept
+-- the lines that have ended are answered, and the rest is held
 pub record HasRead (given_before given taken_before taken : List ℕ) (line_number : ℕ) (all_good : Bool) (line : Option (List ℕ)) : Type 0 where
   pub bytes : List ℕ
   pub ended : List (List ℕ)
@@ -25,9 +26,9 @@ pub record HasRead (given_before given taken_before taken : List ℕ) (line_numb
   pub taken_is : taken ≡ taken_before ++ answers
   pub number_is : line_number ≡ min (length ended + 1) (2 ^ 64 - 1)
   pub good : IsTrue all_good ↔ All IsGood ended
-  pub kept_is : line ≡ kept rest
+  pub held_is : line ≡ held rest
 
-pub HasRead-none : (given taken : List ℕ) → HasRead given given taken taken 1 true (kept [])
+pub HasRead-none : (given taken : List ℕ) → HasRead given given taken taken 1 true (held [])
 HasRead-none given taken = record {
   bytes = [];
   ended = [];
@@ -39,13 +40,13 @@ HasRead-none given taken = record {
   taken_is = sym (append-nil taken);
   number_is = refl;
   good = (λ _. All-nil IsGood, λ _. refl);
-  kept_is = refl;
+  held_is = refl;
 }
 
-pub since-is : (before after added : List ℕ) → after ≡ before ++ added → since before after ≡ added
-since-is before after added e = ap (drop (length before)) e ∙ drop-append_seam before added
+pub added-is : (before after more : List ℕ) → after ≡ before ++ more → added before after ≡ more
+added-is before after more e = ap (drop (length before)) e ∙ drop-append_seam before more
 
--- ---- answers, one more
+-- ---- the answer to one line more
 
 pub AreAnswersFrom-push : (i : ℕ) (ended : List (List ℕ)) (answers line answer : List ℕ) → AreAnswersFrom i ended answers → IsAnswer (i + length ended) line answer → AreAnswersFrom i (ended ++ line ∷ []) (answers ++ answer)
 AreAnswersFrom-push i [] answers line answer h is =
@@ -76,8 +77,8 @@ and_iff : (a b : Bool) (P Q : Type 0) → (IsTrue a ↔ P) → (IsTrue b ↔ Q) 
 and_iff true b P Q p q = (λ e. (p.0 refl, q.0 e), λ both. q.1 both.1)
 and_iff false b P Q p q = (λ e. cc, λ both. p.1 both.0)
 
-kept_empty : (rest : List ℕ) → kept rest ≡ kept [] → rest ≡ []
-kept_empty rest e = (cond_some (nat_le (length rest) 64) rest [] e).1
+held_empty : (rest : List ℕ) → held rest ≡ held [] → rest ≡ []
+held_empty rest e = (cond_some (nat_le (length rest) 64) rest [] e).1
 
 module _ {given_before given taken_before taken : List ℕ} {line_number : ℕ} {all_good : Bool} {line : Option (List ℕ)} (h : HasRead given_before given taken_before taken line_number all_good line) where
   pub answers_after : (answer : List ℕ) → IsAnswer line_number h.rest answer → AreAnswers (h.ended ++ h.rest ∷ []) (h.answers ++ answer)
@@ -97,7 +98,7 @@ module _ {given_before given taken_before taken : List ℕ} {line_number : ℕ} 
   given_after after more e = e ∙ ap (λ xs. xs ++ more) h.given_is ∙ append_assoc given_before h.bytes more
 
   -- one byte more of a line
-  pub HasRead-byte : (byte : ℕ) (after : List ℕ) (pushed : Option (List ℕ)) → IsInside byte → after ≡ given ++ byte ∷ [] → ((bytes : List ℕ) → line ≡ kept bytes → pushed ≡ kept (bytes ++ byte ∷ []))
+  pub HasRead-byte : (byte : ℕ) (after : List ℕ) (pushed : Option (List ℕ)) → IsInside byte → after ≡ given ++ byte ∷ [] → ((bytes : List ℕ) → line ≡ held bytes → pushed ≡ held (bytes ++ byte ∷ []))
       → HasRead given_before after taken_before taken line_number all_good pushed
   HasRead-byte byte after pushed inside e push = record {
     bytes = h.bytes ++ byte ∷ [];
@@ -110,12 +111,12 @@ module _ {given_before given taken_before taken : List ℕ} {line_number : ℕ} 
     taken_is = h.taken_is;
     number_is = h.number_is;
     good = h.good;
-    kept_is = push h.rest h.kept_is;
+    held_is = push h.rest h.held_is;
   }
 
   -- a line ended, and was answered
   pub HasRead-line : (after put answer : List ℕ) (next_number : ℕ) (is_good : Bool) → after ≡ given ++ 10 ∷ [] → put ≡ taken ++ answer → IsAnswer line_number h.rest answer → (IsTrue is_good ↔ IsGood h.rest)
-      → next_number ≡ min (line_number + 1) (2 ^ 64 - 1) → HasRead given_before after taken_before put next_number (all_good && is_good) (kept [])
+      → next_number ≡ min (line_number + 1) (2 ^ 64 - 1) → HasRead given_before after taken_before put next_number (all_good && is_good) (held [])
   HasRead-line after put answer next_number is_good e f is good next = record {
     bytes = h.bytes ++ 10 ∷ [];
     ended = h.ended ++ h.rest ∷ [];
@@ -127,55 +128,55 @@ module _ {given_before given taken_before taken : List ℕ} {line_number : ℕ} 
     taken_is = taken_after put answer f;
     number_is = omega (arith, h.number_is, length-append h.ended (h.rest ∷ []));
     good = good_after is_good good;
-    kept_is = refl;
+    held_is = refl;
   }
 
   -- ---- how a run ends
 
-  given_same : (after : List ℕ) → after ≡ given ++ [] → h.bytes ≡ since given_before after
-  given_same after e = sym (since-is given_before after h.bytes (e ∙ append-nil given ∙ h.given_is))
+  given_same : (after : List ℕ) → after ≡ given ++ [] → h.bytes ≡ added given_before after
+  given_same after e = sym (added-is given_before after h.bytes (e ∙ append-nil given ∙ h.given_is))
 
-  taken_same : h.answers ≡ since taken_before taken
-  taken_same = sym (since-is taken_before taken h.answers h.taken_is)
+  taken_same : h.answers ≡ added taken_before taken
+  taken_same = sym (added-is taken_before taken h.answers h.taken_is)
 
   -- the source failed
-  pub answers_ended : (after : List ℕ) → after ≡ given ++ [] → AnswersEnded (since given_before after) (since taken_before taken)
+  pub answers_ended : (after : List ℕ) → after ≡ given ++ [] → AnswersEnded (added given_before after) (added taken_before taken)
   answers_ended after e = (h.ended, h.rest, rw (given_same after e) at h.cut, rw taken_same at h.answered)
 
   -- what is left is no line
-  pub lines_at_empty : (after : List ℕ) → after ≡ given ++ [] → line ≡ kept [] → AreLines (since given_before after) h.ended
+  pub lines_at_empty : (after : List ℕ) → after ≡ given ++ [] → line ≡ held [] → AreLines (added given_before after) h.ended
   lines_at_empty after e none =
-      let are = AreLines-ended h.cut (kept_empty h.rest (sym h.kept_is ∙ none)) in
+      let are = AreLines-ended h.cut (held_empty h.rest (sym h.held_is ∙ none)) in
       rw (given_same after e) at are
 
   -- what is left is a line
-  pub lines_at_rest : (after : List ℕ) → after ≡ given ++ [] → (line ≡ kept [] → ⊥) → AreLines (since given_before after) (h.ended ++ h.rest ∷ [])
+  pub lines_at_rest : (after : List ℕ) → after ≡ given ++ [] → (line ≡ held [] → ⊥) → AreLines (added given_before after) (h.ended ++ h.rest ∷ [])
   lines_at_rest after e some =
-      let are = AreLines-rest h.cut (λ empty. some (h.kept_is ∙ ap kept empty)) in
+      let are = AreLines-rest h.cut (λ empty. some (h.held_is ∙ ap held empty)) in
       rw (given_same after e) at are
 
-  pub lines_at_newline : (after : List ℕ) → after ≡ given ++ 10 ∷ [] → AreLines (since given_before after) (h.ended ++ h.rest ∷ [])
+  pub lines_at_newline : (after : List ℕ) → after ≡ given ++ 10 ∷ [] → AreLines (added given_before after) (h.ended ++ h.rest ∷ [])
   lines_at_newline after e =
-      let bytes : h.bytes ++ 10 ∷ [] ≡ since given_before after = sym (since-is given_before after (h.bytes ++ 10 ∷ []) (given_after after (10 ∷ []) e)) in
+      let bytes : h.bytes ++ 10 ∷ [] ≡ added given_before after = sym (added-is given_before after (h.bytes ++ 10 ∷ []) (given_after after (10 ∷ []) e)) in
       let are = AreLines-ended (IsCut-newline h.cut) refl in
       rw bytes at are
 
-  pub ends_at_newline : (after : List ℕ) → after ≡ given ++ 10 ∷ [] → EndsLine (since given_before after)
-  ends_at_newline after e = (h.bytes, since-is given_before after (h.bytes ++ 10 ∷ []) (given_after after (10 ∷ []) e))
+  pub ends_at_newline : (after : List ℕ) → after ≡ given ++ 10 ∷ [] → EndsLine (added given_before after)
+  ends_at_newline after e = (h.bytes, added-is given_before after (h.bytes ++ 10 ∷ []) (given_after after (10 ∷ []) e))
 
   -- all lines are answered
-  pub answers_at_empty : (after : List ℕ) → after ≡ given ++ [] → line ≡ kept [] → AnswersAll (since given_before after) (since taken_before taken)
+  pub answers_at_empty : (after : List ℕ) → after ≡ given ++ [] → line ≡ held [] → AnswersAll (added given_before after) (added taken_before taken)
   answers_at_empty after e none = (h.ended, lines_at_empty after e none, rw taken_same at h.answered)
 
-  pub answers_at_rest : (after put answer : List ℕ) → after ≡ given ++ [] → (line ≡ kept [] → ⊥) → IsAnswer line_number h.rest answer → put ≡ taken ++ answer → AnswersAll (since given_before after) (since taken_before put)
+  pub answers_at_rest : (after put answer : List ℕ) → after ≡ given ++ [] → (line ≡ held [] → ⊥) → IsAnswer line_number h.rest answer → put ≡ taken ++ answer → AnswersAll (added given_before after) (added taken_before put)
   answers_at_rest after put answer e some is f =
-      let put_is : h.answers ++ answer ≡ since taken_before put = sym (since-is taken_before put (h.answers ++ answer) (taken_after put answer f)) in
+      let put_is : h.answers ++ answer ≡ added taken_before put = sym (added-is taken_before put (h.answers ++ answer) (taken_after put answer f)) in
       let answered = answers_after answer is in
       (h.ended ++ h.rest ∷ [], lines_at_rest after e some, rw put_is at answered)
 
   -- the sink failed
   pub BreaksOff-from : (is_ended : Bool) (bytes put : List ℕ) → IsTrue is_ended ⊎ EndsLine bytes → AreLines bytes (h.ended ++ h.rest ∷ []) → (answer : List ℕ) (part : List ℕ) → IsAnswer line_number h.rest answer → IsBeginning part answer → put ≡ taken ++ part
-      → BreaksOff is_ended bytes (since taken_before put)
+      → BreaksOff is_ended bytes (added taken_before put)
   BreaksOff-from is_ended bytes put line_end cut answer part is begins e = record {
     line_end = line_end;
     front = h.ended;
@@ -187,5 +188,5 @@ module _ {given_before given taken_before taken : List ℕ} {line_number : ℕ} 
     answered = h.answered;
     last_answer = IsAnswer-counted (length h.ended + 1) line_number h.rest answer h.number_is is;
     beginning = begins;
-    whole = since-is taken_before put (h.answers ++ part) (taken_after put part e);
+    whole = added-is taken_before put (h.answers ++ part) (taken_after put part e);
   }

@@ -4,10 +4,9 @@ use Rattle.std.proofs.lemmas.List.{append-nil, take-append-drop, drop-drop, leng
 use Rattle.std.proofs.lemmas.Slice.{take-put_mid, drop-put_mid}
 use borrow.Rule.Slice.PartMut.{put_mid}
 use Rattle.lexical_write_integer.specs.Buffer.{Writes}
-use Rattle.lexical_lines.specs.Answer.{BreaksOff}
+use Rattle.lexical_lines.specs.Running.{BreaksOff}
 use Rattle.lexical_lines.specs.declared.slice.SliceSink.{SliceSink}
-use Rattle.lexical_lines.specs.Sink.{KeepsBuffer, behind, taken_in}
-use Rattle.lexical_lines.specs.Source.{KeepsBytes, SliceReading}
+use Rattle.lexical_lines.specs.Slice.{KeepsBytes, SliceReading, KeepsBuffer, rest_in, taken_in}
 
 -- a source that has told the end has given all its bytes
 pub given-ended : {a b : SliceReading} (bytes : List ℕ) → a.given ≡ [] → a.left ≡ bytes → a.is_ended ≡ false → KeepsBytes a b → IsTrue b.is_ended → b.given ≡ bytes
@@ -18,8 +17,8 @@ given-ended {a} {b} bytes none all unended kept ended =
 pub given-part : {a b : SliceReading} (bytes : List ℕ) → a.given ≡ [] → a.left ≡ bytes → KeepsBytes a b → bytes ≡ b.given ++ b.left
 given-part {a} {b} bytes none all kept = sym (kept.whole ∙ ap (λ front. front ++ a.left) none ∙ all)
 
--- a sink's buffer is what it has taken, and then what stood behind that
-pub Writes-sink : {Is : List ℕ → Type 0} {a b : SliceSink} {before after : List ℕ} {count : ℕ} → taken_in a ≡ [] → behind a ≡ before → KeepsBuffer a b → Is (taken_in b) → count ≡ length (taken_in b) → b.buffer.now ≡ after → Writes Is before after count
+-- a sink's buffer is what it has taken, and then what stood after that
+pub Writes-sink : {Is : List ℕ → Type 0} {a b : SliceSink} {before after : List ℕ} {count : ℕ} → taken_in a ≡ [] → rest_in a ≡ before → KeepsBuffer a b → Is (taken_in b) → count ≡ length (taken_in b) → b.buffer.now ≡ after → Writes Is before after count
 Writes-sink {a = a} {b = b} none all kept is counted final =
     let start = ap length none in
     let room = ap length all in
@@ -29,13 +28,13 @@ Writes-sink {a = a} {b = b} none all kept is counted final =
       is = is;
       front = record {
         fits = omega (arith, kept.whole);
-        written = sym final ∙ sym (take-append-drop b.count b.buffer.now) ∙ ap (λ rest. taken_in b ++ rest) (kept.behind_is ∙ ap (λ n. drop n (behind a)) skipped ∙ ap (drop (length (taken_in b))) all);
+        written = sym final ∙ sym (take-append-drop b.count b.buffer.now) ∙ ap (λ rest. taken_in b ++ rest) (kept.rest ∙ ap (λ n. drop n (rest_in a)) skipped ∙ ap (drop (length (taken_in b))) all);
       };
       count = counted;
     }
 
 -- a full one is what it has taken
-pub BreaksOff-full : {is_ended : Bool} {bytes : List ℕ} (b : SliceSink) {after : List ℕ} → behind b ≡ [] → BreaksOff is_ended bytes (taken_in b) → b.buffer.now ≡ after → BreaksOff is_ended bytes after
+pub BreaksOff-full : {is_ended : Bool} {bytes : List ℕ} (b : SliceSink) {after : List ℕ} → rest_in b ≡ [] → BreaksOff is_ended bytes (taken_in b) → b.buffer.now ≡ after → BreaksOff is_ended bytes after
 BreaksOff-full b full broke final =
     let all : taken_in b ≡ b.buffer.now = sym (append-nil (taken_in b)) ∙ ap (λ rest. taken_in b ++ rest) (sym full) ∙ take-append-drop b.count b.buffer.now in
     rw (all ∙ final) at broke
@@ -46,6 +45,6 @@ pub put-taken : (at count : ℕ) (buffer new : List ℕ) → at + count ≤ leng
 put-taken at count buffer new room long =
     ap length (take-put_mid at (at + count - at) buffer new (at + count) (omega arith) (omega arith)) ∙ omega (arith, length-append (take at buffer) new, length-take-le at buffer (omega arith))
 
-pub put-behind : (at count : ℕ) (buffer new : List ℕ) → at + count ≤ length buffer → length new ≡ count → drop (at + count) (put_mid at (at + count - at) buffer new) ≡ drop count (drop at buffer)
-put-behind at count buffer new room long =
+pub put-rest : (at count : ℕ) (buffer new : List ℕ) → at + count ≤ length buffer → length new ≡ count → drop (at + count) (put_mid at (at + count - at) buffer new) ≡ drop count (drop at buffer)
+put-rest at count buffer new room long =
     drop-put_mid at (at + count - at) buffer new (at + count) (omega arith) (omega arith) (omega arith) ∙ sym (drop-drop count at buffer)

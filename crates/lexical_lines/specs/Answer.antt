@@ -1,18 +1,18 @@
 -- The answers to lines.
-use Rattle.std.specs.Prelude.{◌≡◌, ◌⊎◌, ℕ, ◌+◌, ◌-◌, ◌^◌, ◌<◌, min, Bool, List, [], ◌∷◌, ◌++◌, length, ℤ, codes, IsTrue}
-use Rattle.lexical_num.specs.Format.{Format}
+use Rattle.std.specs.Prelude.{◌≡◌, ◌⊎◌, ℕ, ◌+◌, ◌-◌, ◌^◌, min, Bool, List, [], ◌∷◌, ◌++◌, ℤ, codes}
+use Rattle.lexical_num.specs.Format.{Format, standard}
 use Rattle.lexical_write_integer.specs.Text.{IsDigits, IsText}
 use Rattle.lexical_lines.specs.declared.integer_type.IntegerType.{IntegerType}
-use Rattle.lexical_lines.specs.Line.{IsGood, IsRequest}
 use Rattle.lexical_lines.specs.Lines.{IsCut, AreLines}
+use Rattle.lexical_lines.specs.Request.{IsGood, IsRequest}
 
 -- both radices alike, and a sign required or not
 abbrev pub format_of : ℕ → Bool → Format
-format_of radix plus = record { mantissa_radix = radix; exponent_radix = radix; required_mantissa_sign = plus }
+format_of radix plus = record standard { mantissa_radix = radix; exponent_radix = radix; required_mantissa_sign = plus }
 
 -- a text of this kind, and a byte 10
-abbrev pub IsEnded : (List ℕ → Type 0) → List ℕ → Type 0
-IsEnded Is line = (text : List ℕ) × Is text × (line ≡ text ++ 10 ∷ [])
+abbrev pub WithNewline : (List ℕ → Type 0) → List ℕ → Type 0
+WithNewline Is line = (text : List ℕ) × Is text × (line ≡ text ++ 10 ∷ [])
 
 -- `bad line `, and a number in decimal
 abbrev pub IsBadLine : ℕ → List ℕ → Type 0
@@ -25,18 +25,18 @@ pub record IsTextAnswer (line answer : List ℕ) : Type 0 where
   pub radix : ℕ
   pub number : ℤ
   pub request : IsRequest kind plus radix number line
-  pub text : IsEnded (IsText number (format_of radix plus)) answer
+  pub text : WithNewline (IsText number (format_of radix plus)) answer
 
 -- the line is no good one, and this tells its number, which stays at the greatest of 64 bits
 pub record IsBadAnswer (i : ℕ) (line answer : List ℕ) : Type 0 where
   pub bad : IsGood line → ⊥
-  pub told : IsEnded (IsBadLine (min i (2 ^ 64 - 1))) answer
+  pub told : WithNewline (IsBadLine (min i (2 ^ 64 - 1))) answer
 
 -- the answer to the line with this number
 abbrev pub IsAnswer : ℕ → List ℕ → List ℕ → Type 0
 IsAnswer i line answer = IsTextAnswer line answer ⊎ IsBadAnswer i line answer
 
--- the answers to lines, one behind the other, the first line having this number
+-- the answers to lines, one after the other, the first line having this number
 abbrev pub AreAnswersFrom : ℕ → List (List ℕ) → List ℕ → Type 0
 AreAnswersFrom i [] text = text ≡ []
 AreAnswersFrom i (line ∷ more) text =
@@ -53,26 +53,3 @@ AnswersAll bytes text = (all : List (List ℕ)) × AreLines bytes all × AreAnsw
 -- the answers to the lines of an input that a byte 10 ends
 abbrev pub AnswersEnded : List ℕ → List ℕ → Type 0
 AnswersEnded bytes text = (ended : List (List ℕ)) × (rest : List ℕ) × IsCut bytes ended rest × AreAnswers ended text
-
--- a beginning of the whole, and not all of it
-abbrev pub IsBeginning : List ℕ → List ℕ → Type 0
-IsBeginning part whole = (rest : List ℕ) × (0 < length rest) × (whole ≡ part ++ rest)
-
--- the last byte is a byte 10
-abbrev pub EndsLine : List ℕ → Type 0
-EndsLine bytes = (front : List ℕ) × (bytes ≡ front ++ 10 ∷ [])
-
--- an input was read to the end of a line, and what was put is the answers to all its lines but the last, and then a
--- beginning, not the whole, of the last one's
-pub record BreaksOff (is_ended : Bool) (bytes put : List ℕ) : Type 0 where
-  pub line_end : IsTrue is_ended ⊎ EndsLine bytes
-  pub front : List (List ℕ)
-  pub last : List ℕ
-  pub answers : List ℕ
-  pub part : List ℕ
-  pub answer : List ℕ
-  pub cut : AreLines bytes (front ++ last ∷ [])
-  pub answered : AreAnswers front answers
-  pub last_answer : IsAnswer (length front + 1) last answer
-  pub beginning : IsBeginning part answer
-  pub whole : put ≡ answers ++ part

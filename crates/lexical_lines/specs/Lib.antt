@@ -1,14 +1,21 @@
 pub mod Answer
-pub mod Device
+pub mod Decimal
+pub mod ExitStatus
 pub mod IntegerType
 pub mod Joined
-pub mod Kept
 pub mod Line
 pub mod Lines
-pub mod Parts
 pub mod Request
-pub mod Run
+pub mod Running
+pub mod Sign
 pub mod Sink
+pub mod Slice
 pub mod Source
-pub mod Status
-pub mod Traced
+pub mod Stream
+pub mod Trace
+-- the words of the crates below that these contracts use
+pub use Rattle.lexical_num.specs.Format
+pub use Rattle.lexical_num.specs.Size
+pub use Rattle.lexical_write_integer.specs.Buffer
+pub use Rattle.lexical_write_integer.specs.Lending
+pub use Rattle.lexical_write_integer.specs.Text

@@ -1,11 +1,40 @@
--- What a line asks for, as a request holds it.
-use Rattle.std.specs.Prelude.{ℕ, List, ℤ, pos}
+-- What a good line asks for.
+use Rattle.std.specs.Prelude.{◌≡◌, ℕ, ◌≤◌, Bool, List, ◌∷◌, ◌++◌, length, ℤ, pos}
+use Rattle.lexical_num.specs.Format.{IsRadix}
+use Rattle.lexical_write_integer.specs.Text.{IsDigits}
 use Rattle.lexical_lines.specs.declared.integer_type.IntegerType.{IntegerType}
 use Rattle.lexical_lines.specs.declared.request.Number.{Number}
 use Rattle.lexical_lines.specs.declared.request.Number.TheVariants.{Unsigned, Signed}
 use Rattle.lexical_lines.specs.declared.request.Request.{Request}
-use Rattle.lexical_lines.specs.Line.{IsRequest}
+use Rattle.lexical_lines.specs.Decimal.{IsDecimal}
+use Rattle.lexical_lines.specs.IntegerType.{name_of, signed, Holds}
+use Rattle.lexical_lines.specs.Sign.{optional_sign}
 
+-- `-` or nothing, and then the digits of a number that the type has
+pub record IsValue (kind : IntegerType) (number : ℤ) (text : List ℕ) : Type 0 where
+  pub minus : Bool
+  pub magnitude : ℕ
+  pub digits : List ℕ
+  pub holds : Holds kind minus magnitude
+  pub decimal : IsDecimal magnitude digits
+  pub whole : text ≡ optional_sign minus 45 ++ digits
+  pub value : number ≡ signed minus magnitude
+
+-- TYPE, a space, an optional `+`, RADIX, a space, VALUE
+pub record IsRequest (kind : IntegerType) (plus : Bool) (radix : ℕ) (number : ℤ) (line : List ℕ) : Type 0 where
+  pub radix_text : List ℕ
+  pub value_text : List ℕ
+  pub radix_valid : IsRadix radix
+  pub radix_digits : IsDigits 10 radix radix_text
+  pub value : IsValue kind number value_text
+  pub short : length line ≤ 64
+  pub whole : line ≡ name_of kind ++ 32 ∷ optional_sign plus 43 ++ radix_text ++ 32 ∷ value_text
+
+-- the line asks for the text of a number
+abbrev pub IsGood : List ℕ → Type 0
+IsGood line = (kind : IntegerType) × (plus : Bool) × (radix : ℕ) × (number : ℤ) × IsRequest kind plus radix number line
+
+-- the number, as a request holds it
 abbrev pub number_of : Number → ℤ
 number_of (Unsigned magnitude) = pos magnitude
 number_of (Signed number) = number

@@ -1,28 +1,19 @@
--- What contracts see of sources.
-use Rattle.std.specs.Prelude.{◌≡◌, ℕ, Bool, true, List, [], ◌++◌, refl}
-use Rattle.std.proofs.Common.{◌∙◌}
+-- What a call of a source did, by its result.
+use Rattle.std.specs.Prelude.{ℕ, Bool, true, false, List, [], ◌∷◌, Option, Some, None, Result, Ok, Err}
 
--- a source over memory: the bytes given, those that are left, and whether the end was told
-pub record SliceReading : Type 0 where
-  pub given : List ℕ
-  pub left : List ℕ
-  pub is_ended : Bool
+-- the bytes that the call gave
+abbrev pub given_by : {E : Type 0} → Result (Option ℕ) E → List ℕ
+given_by (Ok (Some byte)) = byte ∷ []
+given_by (Ok None) = []
+given_by (Err e) = []
 
--- the bytes as a whole stay, and once the end is told, none is left
-pub record KeepsBytes (a b : SliceReading) : Type 0 where
-  pub whole : b.given ++ b.left ≡ a.given ++ a.left
-  pub at_end : (a.is_ended ≡ true → a.left ≡ []) → b.is_ended ≡ true → b.left ≡ []
+-- whether the call told the end
+abbrev pub tells_end : {E : Type 0} → Result (Option ℕ) E → Bool
+tells_end (Ok None) = true
+tells_end (Ok (Some byte)) = false
+tells_end (Err e) = false
 
-pub KeepsBytes-itself : (a : SliceReading) → KeepsBytes a a
-KeepsBytes-itself a = record { whole = refl; at_end = λ none. none }
-
-pub KeepsBytes-on : (a b c : SliceReading) → KeepsBytes a b → KeepsBytes b c → KeepsBytes a c
-KeepsBytes-on a b c p q = record { whole = q.whole ∙ p.whole; at_end = λ none. q.at_end (p.at_end none) }
-
--- a source over a reader: the reader, how many bytes it may still give, whether the end was told, the bytes given and the faults
-pub record StreamReading (R : Type 0) : Type 0 where
-  pub reader : R
-  pub left : ℕ
-  pub is_ended : Bool
-  pub given : List ℕ
-  pub faults : ℕ
+-- the number of faults that the call was: 1 for an error
+abbrev pub faults_of : {A E : Type 0} → Result A E → ℕ
+faults_of (Ok a) = 0
+faults_of (Err e) = 1

@@ -5,10 +5,9 @@ ghost use Rattle.lexical_num.specs.Format.{IsRadix};
 ghost use Rattle.lexical_num.specs.declared.constants.TheConstants.{BUFFER_SIZE};
 ghost use Rattle.lexical_write_integer.specs.Buffer.{Writes};
 ghost use Rattle.lexical_write_integer.specs.Text.{IsText};
-ghost use Rattle.lexical_lines.specs.Answer.{IsAnswer, IsEnded, IsBadLine, format_of};
-ghost use Rattle.lexical_lines.specs.Kept.{kept};
-ghost use Rattle.lexical_lines.specs.Line.{IsGood};
-ghost use Rattle.lexical_lines.specs.Request.{Asks, number_of};
+ghost use Rattle.lexical_lines.specs.Answer.{IsAnswer, WithNewline, IsBadLine, format_of};
+ghost use Rattle.lexical_lines.specs.Line.{held};
+ghost use Rattle.lexical_lines.specs.Request.{IsGood, Asks, number_of};
 
 use crate::line::Line;
 use crate::request::{Number, Request, parse};
@@ -18,18 +17,19 @@ use lexical_num::format_builder::NumberFormatBuilder;
 use lexical_num::options::Options;
 use lexical_write_integer::ToLexicalWithOptions;
 use lexical_write_integer::buffer::copy_to_front;
+use lexical_write_integer::laws::size_is_enough;
 
-/// At least the length of every answer: `bad line `, a sign, the rest of a text, and a byte 10.
+/// At least the length of each answer: `bad line `, a sign, the digits and the marks, and a byte 10.
 pub const MAX_ANSWER: usize = BUFFER_SIZE + 11;
 
-/// Writes the answer to a line to the front of the buffer. Answers how long it is, and whether the
+/// Writes the answer to a line to the front of the buffer, and returns its length and whether the
 /// line is a good one.
 pub fn write_answer(line: &Line, line_number: u64, buffer: &mut [u8]) -> (usize, bool)
     requires { BUFFER_SIZE + 11 ≤ length buffer.old }
     ensures within { result.0 ≤ length buffer.new }
-    ensures answer { (bytes : List ℕ) → line.now ≡ kept bytes
+    ensures answer { (bytes : List ℕ) → line.now ≡ held bytes
         → Writes (IsAnswer line_number bytes) buffer.old buffer.new result.0 }
-    ensures good { (bytes : List ℕ) → line.now ≡ kept bytes → IsTrue result.1 ↔ IsGood bytes }
+    ensures good { (bytes : List ℕ) → line.now ≡ held bytes → IsTrue result.1 ↔ IsGood bytes }
 {
     match requested(line) {
         Some(request) => (write_text(&request, buffer), true),
@@ -40,19 +40,19 @@ pub fn write_answer(line: &Line, line_number: u64, buffer: &mut [u8]) -> (usize,
 // What the line asks for, where it is a good one.
 fn requested(line: &Line) -> Option<Request>
     ensures radix { IfSome result (λ request. IsRadix request.radix) }
-    ensures found { IfSome result (λ request. (bytes : List ℕ) → line.now ≡ kept bytes
+    ensures found { IfSome result (λ request. (bytes : List ℕ) → line.now ≡ held bytes
         → Asks bytes request) }
-    ensures none { IfNone result ((bytes : List ℕ) → line.now ≡ kept bytes → IsGood bytes → ⊥) }
+    ensures none { IfNone result ((bytes : List ℕ) → line.now ≡ held bytes → IsGood bytes → ⊥) }
 {
     parse(line.as_slice()?)
 }
 
-// Writes the text that is asked for, and a byte 10.
+// Writes the text that is asked for and a byte 10, and returns their length.
 fn write_text(request: &Request, buffer: &mut [u8]) -> usize
     requires radix { IsRadix request.now.radix }
     requires room { BUFFER_SIZE + 2 ≤ length buffer.old }
     ensures { Writes
-        (IsEnded (IsText (number_of request.now.number)
+        (WithNewline (IsText (number_of request.now.number)
         (format_of request.now.radix request.now.plus)))
         buffer.old buffer.new result }
 {
@@ -68,10 +68,10 @@ fn write_text(request: &Request, buffer: &mut [u8]) -> usize
     }
 }
 
-// Writes `bad line `, the number of the line in decimal, and a byte 10.
+// Writes `bad line `, the number of the line in decimal and a byte 10, and returns their length.
 fn write_bad_line(line_number: u64, buffer: &mut [u8]) -> usize
     requires { BUFFER_SIZE + 11 ≤ length buffer.old }
-    ensures { Writes (IsEnded (IsBadLine line_number)) buffer.old buffer.new result }
+    ensures { Writes (WithNewline (IsBadLine line_number)) buffer.old buffer.new result }
 {
     let start = copy_to_front(b"bad line ", buffer);
     start
@@ -83,20 +83,18 @@ fn write_bad_line(line_number: u64, buffer: &mut [u8]) -> usize
         )
 }
 
-// Writes a number of any type, and a byte 10.
+// Writes the text of a number of any type and a byte 10, and returns their length.
 fn write_line<T: ToLexicalWithOptions>(
     number: T,
     buffer: &mut [u8],
     format: &NumberFormat,
     options: &T::Options,
 ) -> usize
-    requires { BUFFER_SIZE + 2 ≤ length buffer.old }
-    ensures { Writes (IsEnded (IsText (T.number number) format.now)) buffer.old buffer.new result }
+    requires { BUFFER_SIZE + 1 ≤ length buffer.old }
+    ensures { Writes (WithNewline (IsText (T.number number) format.now)) buffer.old buffer.new result }
 {
-    // Their contracts say that the size of the type in the format is enough.
-    number.in_range();
-    format.mantissa_radix();
-    let room = &mut buffer[..BUFFER_SIZE + 1];
+    size_is_enough(number, format);
+    let room = &mut buffer[..BUFFER_SIZE];
     let end = number.write_lexical_with_options(room, format, options);
     buffer[end] = b'\n';
     end + 1

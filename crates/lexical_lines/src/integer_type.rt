@@ -18,10 +18,9 @@ pub enum IntegerType {
 }
 
 impl IntegerType {
-    ghost use Rattle.lexical_lines.specs.IntegerType.{name_of, is_signed, greatest};
-    ghost use Rattle.lexical_lines.specs.Line.{Holds};
+    ghost use Rattle.lexical_lines.specs.IntegerType.{name_of, is_signed, greatest, Holds};
 
-    /// The type of this name.
+    /// The type with this name, as Rust spells it.
     pub fn from_name(name: &[u8]) -> Option<IntegerType>
         ensures found { IfSome result (λ kind. name.now ≡ name_of kind) }
         ensures none { IfNone result ((kind : IntegerType) → name.now ≢ name_of kind) }
@@ -75,12 +74,12 @@ impl IntegerType {
         }
     }
 
-    /// Whether the type has the number of this magnitude, behind a `-` or not: no `-` stands in a
-    /// value of an unsigned type, not even in front of 0.
+    /// Whether the type has the number of this magnitude, with a `-` before it or not: no `-` stands
+    /// in a value of an unsigned type, not even before 0.
     pub fn holds(self, minus: bool, magnitude: u64) -> bool
         ensures { IsTrue result ↔ Holds self minus magnitude }
     {
-        // Below 0 the numbers of a signed type go one further.
+        // Below 0 the magnitudes of a signed type go one further.
         let over = magnitude.saturating_sub(u64::from(minus));
         (self.is_signed() || !minus) && over <= self.greatest()
     }

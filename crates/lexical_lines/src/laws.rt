@@ -1,31 +1,31 @@
-//! The laws of lines and their answers: each contract is a law over the definitions, which a caller
-//! has from the call.
+//! The laws of lines and their answers: each contract is a law over the definitions, and a caller
+//! has it from the call.
 
 ghost use Rattle.std.specs.Prelude.{◌≡◌, List, ℕ, refl};
 ghost use Rattle.std.proofs.Common.{◌∙◌};
 ghost use Rattle.lexical_lines.specs.Answer.{AnswersAll};
 ghost use Rattle.lexical_lines.specs.Lines.{AreLines};
 
-use crate::engine::run;
+use crate::running::run;
 use crate::sink::ByteSink;
 use crate::slice::SliceSource;
 use crate::trace::Trace;
 use std::io;
 
-/// An input has lines, and in one way. It does nothing.
+/// An input is cut into lines in exactly one way. This function does nothing.
 pub fn lines_unique(input: &[u8])
     ensures exists { (all : List (List ℕ)) × AreLines input.now all }
     ensures only { (all other : List (List ℕ)) → AreLines input.now all → AreLines input.now other → all ≡ other }
 {}
 
-/// An input has one text of answers. It does nothing.
+/// Two texts that are the answers to one input are the same. This function does nothing.
 pub fn answers_unique(input: &[u8], a: &[u8], b: &[u8])
     requires a { AnswersAll input.now a.now }
     requires b { AnswersAll input.now b.now }
     ensures { a.now ≡ b.now }
 {}
 
-/// An input has answers. It works them out, and drops them.
+/// Each input has answers. This function works them out, and drops them.
 pub fn answers_exist(input: &[u8])
     ensures { (text : List ℕ) × AnswersAll input.now text }
 {
@@ -35,7 +35,7 @@ pub fn answers_exist(input: &[u8])
     let _all_good = run(&mut SliceSource::new(input), &mut sink);
 }
 
-// A sink that takes all, and keeps nothing.
+// A sink that takes each byte and drops it.
 #[derive(Drop)]
 struct Dropping {
     trace: Trace,
@@ -48,9 +48,9 @@ impl ByteSink for Dropping {
 
     ghost keeps = { λ a b. b.trace.faults ≡ a.trace.faults };
 
-    ghost keeps_itself = { λ a. refl };
+    ghost keeps_reflexive = { λ a. refl };
 
-    ghost keeps_on = { λ a b c p q. q ∙ p };
+    ghost keeps_transitive = { λ a b c p q. q ∙ p };
 
     fn put(&mut self, bytes: &[u8]) -> io::Result<usize> {
         self.trace.note(bytes);

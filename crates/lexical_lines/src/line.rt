@@ -1,13 +1,13 @@
 // The line that is being read.
 
 ghost use Rattle.std.specs.Prelude.{◌≡◌, ℕ, ◌≤◌, List, [], ◌∷◌, ◌++◌, ◌↔◌, take, Option, Some, None, IsTrue, if◌then◌else◌, nat_le, option_map, IfSome, length};
-ghost use Rattle.lexical_lines.specs.Kept.{kept};
+ghost use Rattle.lexical_lines.specs.Line.{held};
 
 use std::marker::Model;
 
 const MAX_LENGTH: usize = 64;
 
-/// The bytes of a line that are kept: all of them, or none where they are more than 64.
+/// The bytes that are held of a line: all of them, or none where they are more than 64.
 #[derive(Drop)]
 pub struct Line {
     bytes: [u8; MAX_LENGTH],
@@ -24,9 +24,9 @@ impl Model for Line {
 }
 
 impl Line {
-    /// A line of no byte.
+    /// A line without bytes.
     pub fn new() -> Line
-        ensures { result ≡ kept [] }
+        ensures { result ≡ held [] }
     {
         Line {
             bytes: [0; MAX_LENGTH],
@@ -34,16 +34,16 @@ impl Line {
         }
     }
 
-    /// Begins a new line.
+    /// Drops the bytes, and begins a new line.
     pub fn clear(&mut self)
-        ensures { self.new ≡ kept [] }
+        ensures { self.new ≡ held [] }
     {
         self.count = 0;
     }
 
-    /// One more byte of the line.
+    /// Adds a byte to the line.
     pub fn push(&mut self, byte: u8)
-        ensures { (line : List ℕ) → self.old ≡ kept line → self.new ≡ kept (line ++ byte ∷ []) }
+        ensures { (line : List ℕ) → self.old ≡ held line → self.new ≡ held (line ++ byte ∷ []) }
     {
         if self.count < MAX_LENGTH {
             self.bytes[self.count] = byte;
@@ -53,9 +53,9 @@ impl Line {
         }
     }
 
-    /// Whether the line has no byte.
+    /// Whether the line has no bytes.
     pub fn is_empty(&self) -> bool
-        ensures { IsTrue result ↔ (self.now ≡ kept []) }
+        ensures { IsTrue result ↔ (self.now ≡ held []) }
     {
         self.count == 0
     }

@@ -2,23 +2,23 @@
 
 ghost use Rattle.std.specs.Prelude.{◌≡◌, ◌^◌, ℤ, pos, neg_ℤ, ◌≤◌, length, IfSome, IfNone};
 ghost use Rattle.lexical_num.specs.Format.{IsRadix};
-ghost use Rattle.lexical_lines.specs.Line.{IsValue, IsGood};
-ghost use Rattle.lexical_lines.specs.Request.{Asks, number_of};
+ghost use Rattle.lexical_lines.specs.Request.{IsValue, IsGood, Asks, number_of};
 
 use crate::decimal::{parse_decimal, parse_radix};
 use crate::integer_type::IntegerType;
-use crate::space::{split_at_space, strip_mark};
+use crate::sign::strip_sign;
+use crate::space::split_at_space;
 
-/// A number of one of the ten types, in the type that is to write it.
+/// A number of one of the ten types, in one of the two widest types, which is to write it.
 #[derive(Clone, Copy)]
 pub enum Number {
-    /// Of a value without a `-`.
+    /// The number of a value without a `-`.
     Unsigned(u64),
-    /// Of a value with a `-`.
+    /// The number of a value with a `-`.
     Signed(i64),
 }
 
-/// The text of a number, its radix, and whether a `+` is wanted.
+/// What a good line asks for: the text of a number in a radix, and whether a `+` is required.
 #[derive(Clone, Copy)]
 pub struct Request {
     pub plus: bool,
@@ -34,9 +34,9 @@ pub fn parse(line: &[u8]) -> Option<Request>
     ensures none { IfNone result (IsGood line.now → ⊥) }
 {
     let (name, rest) = split_at_space(line)?;
-    let (marked_radix, value) = split_at_space(rest)?;
+    let (signed_radix, value) = split_at_space(rest)?;
     let kind = IntegerType::from_name(name)?;
-    let (plus, radix_text) = strip_mark(b'+', marked_radix);
+    let (plus, radix_text) = strip_sign(b'+', signed_radix);
     let radix = parse_radix(radix_text)?;
     let number = parse_value(kind, value)?;
     Some(Request {
@@ -46,12 +46,12 @@ pub fn parse(line: &[u8]) -> Option<Request>
     })
 }
 
-// The number that the text spells, where it is one of the type's.
+// The number that the text spells, where the type has it.
 fn parse_value(kind: IntegerType, text: &[u8]) -> Option<Number>
     ensures found { IfSome result (λ number. IsValue kind (number_of number) text.now) }
     ensures none { IfNone result ((number : ℤ) → IsValue kind number text.now → ⊥) }
 {
-    let (minus, digits) = strip_mark(b'-', text);
+    let (minus, digits) = strip_sign(b'-', text);
     let magnitude = parse_decimal(digits)?;
     if !kind.holds(minus, magnitude) {
         None
@@ -62,7 +62,7 @@ fn parse_value(kind: IntegerType, text: &[u8]) -> Option<Number>
     }
 }
 
-// The number of this magnitude that is 0 or below.
+// The number of this magnitude that is not above 0.
 fn negated(magnitude: u64) -> i64
     requires { magnitude ≤ 2 ^ 63 }
     ensures { result ≡ neg_ℤ (pos magnitude) }
@@ -70,7 +70,7 @@ fn negated(magnitude: u64) -> i64
     if magnitude == 0 {
         0
     } else {
-        // `!n` is -n - 1, so that the least value needs no step outside of its type.
+        // `!n` is -n - 1, so that the least value needs no step outside its type.
         !((magnitude - 1) as i64)
     }
 }

@@ -1,8 +1,7 @@
 //! Where bytes go.
 
 ghost use Rattle.std.specs.Prelude.{◌≡◌, ℕ, ◌+◌, ◌≤◌, List, ◌++◌, length, take, IfOk, OnOk, OnErr};
-ghost use Rattle.lexical_lines.specs.Answer.{IsBeginning};
-ghost use Rattle.lexical_lines.specs.Device.{taken_by, put_faults};
+ghost use Rattle.lexical_lines.specs.Sink.{taken_by, put_faults, IsBeginning};
 
 use std::io;
 
@@ -11,27 +10,27 @@ pub trait ByteSink {
     // The bytes taken so far.
     ghost taken: { Self → List ℕ };
 
-    // How often it has failed.
+    // The number of its faults.
     ghost faults: { Self → ℕ };
 
-    // What no call changes, of the state before some calls and that behind them.
+    // What every call keeps, as a relation between the states before and after some calls.
     ghost keeps: { Self → Self → Type 0 };
 
-    /// Takes the first bytes of a piece, and answers how many. An `Err` takes none and is a fault,
-    /// and so is an `Ok` that takes none of a piece that has some; nothing else is one.
+    /// Takes the first bytes of a piece, and returns their number. An `Err` takes none and is a
+    /// fault, and so is an `Ok` of 0 for a piece that is not empty; nothing else is one.
     fn put(&mut self, bytes: &[u8]) -> io::Result<usize>
         ensures within { IfOk result (λ count. count ≤ length bytes.now) }
         ensures taken { taken self.new ≡ taken self.old ++ take (taken_by result) bytes.now }
         ensures faults { faults self.new ≡ faults self.old + put_faults result bytes.now }
         ensures kept { keeps self.old self.new };
 
-    ghost keeps_itself: { (a : Self) → keeps a a };
+    ghost keeps_reflexive: { (a : Self) → keeps a a };
 
-    ghost keeps_on: { (a b c : Self) → keeps a b → keeps b c → keeps a c };
+    ghost keeps_transitive: { (a b c : Self) → keeps a b → keeps b c → keeps a c };
 }
 
-/// Puts all bytes, or fails at the first fault of the sink: with its error, or with one of kind
-/// `WriteZero` where it took no byte.
+/// Puts all bytes, or fails at the first fault of the sink: with the error of the sink, or with one
+/// of kind `WriteZero` where it took no byte.
 pub fn put_all<K: ByteSink>(sink: &mut K, bytes: &[u8]) -> io::Result<()>
     ensures ok { OnOk result (K.taken sink.new ≡ K.taken sink.old ++ bytes.now) }
     ensures ok_faults { OnOk result (K.faults sink.new ≡ K.faults sink.old) }

@@ -1,12 +1,12 @@
 //! Devices over memory.
 
 ghost use Rattle.std.specs.Prelude.{◌≡◌, ℕ, List, ◌+◌, ◌≤◌, false, ◌||◌, [], ◌++◌, Ok, None, Some, length, take, drop, min, IfOk, IfSome, IfNone, ◌<◌, slice_get};
-ghost use Rattle.lexical_lines.specs.Answer.{AnswersAll, IsBeginning};
-ghost use Rattle.lexical_lines.specs.Device.{given_by, tells_end, faults_of, taken_by, put_faults};
-ghost use Rattle.lexical_lines.specs.Source.{KeepsBytes, SliceReading};
+ghost use Rattle.lexical_lines.specs.Answer.{AnswersAll};
+ghost use Rattle.lexical_lines.specs.Sink.{taken_by, put_faults, IsBeginning};
+ghost use Rattle.lexical_lines.specs.Source.{given_by, tells_end, faults_of};
 ghost use Rattle.lexical_write_integer.specs.Buffer.{Writes};
 
-use crate::engine::run;
+use crate::running::run;
 use crate::sink::ByteSink;
 use crate::source::ByteSource;
 use crate::trace::Trace;
@@ -23,7 +23,7 @@ pub struct SliceSource<'a> {
 
 impl<'a> Model for SliceSource<'a> {
     ghost use Rattle.std.specs.Prelude.{◌≤◌, length, take, drop};
-    ghost use Rattle.lexical_lines.specs.Source.{SliceReading};
+    ghost use Rattle.lexical_lines.specs.Slice.{SliceReading};
 
     ghost Value = { SliceReading };
 
@@ -37,7 +37,7 @@ impl<'a> Model for SliceSource<'a> {
 }
 
 impl<'a> SliceSource<'a> {
-    /// A source that has all these bytes to give.
+    /// A source that has given no byte, and has all these left.
     pub fn new(bytes: &'a [u8]) -> SliceSource<'a>
         ensures given { result.given ≡ [] }
         ensures left { result.left ≡ bytes.entry.now }
@@ -52,7 +52,7 @@ impl<'a> SliceSource<'a> {
 }
 
 impl ByteSource for SliceSource<'_> {
-    ghost use Rattle.lexical_lines.specs.Source.{KeepsBytes, KeepsBytes-itself, KeepsBytes-on};
+    ghost use Rattle.lexical_lines.specs.Slice.{KeepsBytes, KeepsBytes-reflexive, KeepsBytes-transitive};
 
     ghost given = { λ s. s.given };
 
@@ -64,9 +64,9 @@ impl ByteSource for SliceSource<'_> {
 
     ghost keeps = { KeepsBytes };
 
-    ghost keeps_itself = { KeepsBytes-itself };
+    ghost keeps_reflexive = { KeepsBytes-reflexive };
 
-    ghost keeps_on = { KeepsBytes-on };
+    ghost keeps_transitive = { KeepsBytes-transitive };
 
     /// The next byte, or the end where none is left.
     fn next(&mut self) -> io::Result<Option<u8>>
@@ -89,7 +89,7 @@ impl ByteSource for SliceSource<'_> {
     }
 }
 
-/// Takes what fits a buffer, at whose front the bytes stand then, and fails where it is full.
+/// Takes bytes into the front of a buffer, as many as fit, and fails where the buffer is full.
 #[derive(Drop)]
 pub struct SliceSink<'a> {
     buffer: &'a mut [u8],
@@ -100,14 +100,14 @@ pub struct SliceSink<'a> {
 
 impl<'a> SliceSink<'a> {
     ghost use Rattle.std.specs.Prelude.{◌≡◌, [], length};
-    ghost use Rattle.lexical_lines.specs.Sink.{taken_in, behind, faults_in, loan_of};
+    ghost use Rattle.lexical_lines.specs.Slice.{taken_in, rest_in, faults_in, loan_in};
 
-    /// A sink that has all of this buffer to fill.
+    /// A sink that has taken no byte, and has the whole buffer to fill.
     pub fn new(buffer: &'a mut [u8]) -> SliceSink<'a>
         ensures taken { taken_in result ≡ [] }
-        ensures behind { behind result ≡ buffer.entry.now }
+        ensures rest { rest_in result ≡ buffer.entry.now }
         ensures faults { faults_in result ≡ 0 }
-        ensures loan { loan_of result ≡ buffer.entry.ghost_name }
+        ensures loan { loan_in result ≡ buffer.entry.ghost_name }
     {
         SliceSink {
             buffer,
@@ -116,7 +116,7 @@ impl<'a> SliceSink<'a> {
         }
     }
 
-    /// How many bytes were taken.
+    /// The number of bytes taken.
     pub fn len(&self) -> usize
         ensures { result ≡ length (taken_in self.now) }
     {
@@ -126,8 +126,8 @@ impl<'a> SliceSink<'a> {
 
 impl ByteSink for SliceSink<'_> {
     ghost use Rattle.std.specs.Prelude.{◌≡◌, ◌≤◌, ◌+◌, ◌++◌, Ok, length, take, min, IfOk};
-    ghost use Rattle.lexical_lines.specs.Device.{taken_by, put_faults};
-    ghost use Rattle.lexical_lines.specs.Sink.{taken_in, behind, faults_in, KeepsBuffer, KeepsBuffer-itself, KeepsBuffer-on};
+    ghost use Rattle.lexical_lines.specs.Sink.{taken_by, put_faults};
+    ghost use Rattle.lexical_lines.specs.Slice.{taken_in, rest_in, faults_in, KeepsBuffer, KeepsBuffer-reflexive, KeepsBuffer-transitive};
 
     ghost taken = { taken_in };
 
@@ -135,17 +135,17 @@ impl ByteSink for SliceSink<'_> {
 
     ghost keeps = { KeepsBuffer };
 
-    ghost keeps_itself = { KeepsBuffer-itself };
+    ghost keeps_reflexive = { KeepsBuffer-reflexive };
 
-    ghost keeps_on = { KeepsBuffer-on };
+    ghost keeps_transitive = { KeepsBuffer-transitive };
 
-    /// Takes what fits: it answers 0 where it is full.
+    /// Takes as many bytes as fit: none where the buffer is full.
     fn put(&mut self, bytes: &[u8]) -> io::Result<usize>
         ensures within { IfOk result (λ count. count ≤ length bytes.now) }
         ensures taken { taken_in self.new ≡ taken_in self.old ++ take (taken_by result) bytes.now }
         ensures faults { faults_in self.new ≡ faults_in self.old + put_faults result bytes.now }
         ensures kept { KeepsBuffer self.old self.new }
-        ensures exact { result ≡ Ok (min (length bytes.now) (length (behind self.old))) }
+        ensures exact { result ≡ Ok (min (length bytes.now) (length (rest_in self.old))) }
     {
         let count = bytes.len().min(self.buffer.len() - self.count);
         if count == 0 && !bytes.is_empty() {
@@ -158,9 +158,9 @@ impl ByteSink for SliceSink<'_> {
     }
 }
 
-/// Writes the answers to all lines of the input to the front of the buffer, and answers how many
-/// bytes these are; every byte behind them is as before. It answers `None` where they do not fit, and
-/// the buffer is then a beginning of them, and not the whole.
+/// Writes the answers to all lines of the input to the front of the buffer, and returns their
+/// length; every byte after them is unchanged. Returns `None` where they do not fit: the buffer then
+/// holds as much of their beginning as fits.
 pub fn answer_slice(input: &[u8], buffer: &mut [u8]) -> Option<usize>
     ensures answered { IfSome result (λ count.
         Writes (AnswersAll input.now) buffer.old buffer.new count) }

@@ -1,7 +1,7 @@
 //! Where bytes come from.
 
 ghost use Rattle.std.specs.Prelude.{◌≡◌, ℕ, ◌+◌, ◌≤◌, Bool, ◌||◌, List, ◌++◌, length};
-ghost use Rattle.lexical_lines.specs.Device.{given_by, tells_end, faults_of};
+ghost use Rattle.lexical_lines.specs.Source.{given_by, tells_end, faults_of};
 
 use std::io;
 
@@ -13,17 +13,17 @@ pub trait ByteSource {
     // Whether the end was told.
     ghost is_ended: { Self → Bool };
 
-    // How often it has failed.
+    // The number of its faults.
     ghost faults: { Self → ℕ };
 
-    // How many bytes it may still give.
+    // The number of bytes that it may still give.
     ghost remaining: { Self → ℕ };
 
-    // What no call changes, of the state before some calls and that behind them.
+    // What every call keeps, as a relation between the states before and after some calls.
     ghost keeps: { Self → Self → Type 0 };
 
-    /// The next byte, or `None` at the end, which it alone tells. An `Err` gives no byte and is a
-    /// fault, and nothing else is one.
+    /// The next byte, or `None` at the end; nothing but `None` tells the end. An `Err` gives no byte
+    /// and is a fault, and nothing else is one.
     fn next(&mut self) -> io::Result<Option<u8>>
         ensures given { given self.new ≡ given self.old ++ given_by result }
         ensures ended { is_ended self.new ≡ (is_ended self.old || tells_end result) }
@@ -31,7 +31,7 @@ pub trait ByteSource {
         ensures remaining { remaining self.new + length (given_by result) ≤ remaining self.old }
         ensures kept { keeps self.old self.new };
 
-    ghost keeps_itself: { (a : Self) → keeps a a };
+    ghost keeps_reflexive: { (a : Self) → keeps a a };
 
-    ghost keeps_on: { (a b c : Self) → keeps a b → keeps b c → keeps a c };
+    ghost keeps_transitive: { (a b c : Self) → keeps a b → keeps b c → keeps a c };
 }

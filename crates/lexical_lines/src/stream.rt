@@ -2,7 +2,8 @@
 
 ghost use Rattle.std.specs.Prelude.{◌≡◌, ◌⊎◌, ◌+◌, ◌-◌, ◌≤◌, true, false, ◌||◌, [], ◌++◌, Ok, None, length, take, drop, IfOk};
 ghost use Rattle.std.specs.Io.KnownBytes.{Consumes, IsAtEnd, WriteAppends};
-ghost use Rattle.lexical_lines.specs.Device.{given_by, tells_end, faults_of, taken_by, put_faults};
+ghost use Rattle.lexical_lines.specs.Sink.{taken_by, put_faults};
+ghost use Rattle.lexical_lines.specs.Source.{given_by, tells_end, faults_of};
 
 use crate::sink::ByteSink;
 use crate::source::ByteSource;
@@ -11,7 +12,7 @@ use std::io;
 use std::io::{Read, Write};
 use std::marker::Model;
 
-/// Gives the bytes of a reader, up to a limit, by one read for each byte.
+/// Gives the bytes of a reader, up to a limit, with one call of `read` for each byte.
 #[derive(Drop)]
 pub struct Reading<R> {
     reader: R,
@@ -21,7 +22,7 @@ pub struct Reading<R> {
 }
 
 impl<R> Model for Reading<R> {
-    ghost use Rattle.lexical_lines.specs.Source.{StreamReading};
+    ghost use Rattle.lexical_lines.specs.Stream.{StreamReading};
 
     ghost Value = { StreamReading R };
 
@@ -54,6 +55,8 @@ impl<R: Read> Reading<R> {
 }
 
 impl<R: Read> ByteSource for Reading<R> {
+    ghost use Rattle.lexical_lines.specs.Stream.{KeepsReader, KeepsReader-reflexive, KeepsReader-transitive};
+
     ghost given = { λ s. s.given };
 
     ghost is_ended = { λ s. s.is_ended };
@@ -62,11 +65,11 @@ impl<R: Read> ByteSource for Reading<R> {
 
     ghost remaining = { λ s. s.left };
 
-    ghost keeps = { λ a b. Unit {0} };
+    ghost keeps = { KeepsReader R.remaining };
 
-    ghost keeps_itself = { λ a. tt };
+    ghost keeps_reflexive = { KeepsReader-reflexive R.remaining };
 
-    ghost keeps_on = { λ a b c p q. tt };
+    ghost keeps_transitive = { KeepsReader-transitive R.remaining };
 
     /// The reader's next byte, or the end: at the limit, or where the reader has no byte left.
     fn next(&mut self) -> io::Result<Option<u8>>
@@ -74,7 +77,7 @@ impl<R: Read> ByteSource for Reading<R> {
         ensures ended { self.new.is_ended ≡ (self.old.is_ended || tells_end result) }
         ensures faults { self.new.faults ≡ self.old.faults + faults_of result }
         ensures remaining { self.new.left + length (given_by result) ≤ self.old.left }
-        ensures kept { Unit {0} }
+        ensures kept { KeepsReader R.remaining self.old self.new }
         ensures bytes { Consumes (R.remaining self.old.reader) (R.remaining self.new.reader)
             (given_by result) }
         ensures end { result ≡ Ok None
@@ -105,7 +108,7 @@ impl<R: Read> ByteSource for Reading<R> {
     }
 }
 
-/// Hands bytes to a writer, by one write for each piece.
+/// Hands bytes to a writer, with one call of `write` for each piece.
 #[derive(Drop)]
 pub struct Writing<W> {
     writer: W,
@@ -113,7 +116,7 @@ pub struct Writing<W> {
 }
 
 impl<W> Model for Writing<W> {
-    ghost use Rattle.lexical_lines.specs.Sink.{StreamWriting};
+    ghost use Rattle.lexical_lines.specs.Stream.{StreamWriting};
 
     ghost Value = { StreamWriting W };
 
@@ -154,11 +157,11 @@ impl<W: Write> ByteSink for Writing<W> {
 
     ghost keeps = { λ a b. Unit {0} };
 
-    ghost keeps_itself = { λ a. tt };
+    ghost keeps_reflexive = { λ a. tt };
 
-    ghost keeps_on = { λ a b c p q. tt };
+    ghost keeps_transitive = { λ a b c p q. tt };
 
-    /// The bytes that it takes are those that the writer has written.
+    /// Takes the bytes that the writer has written.
     fn put(&mut self, bytes: &[u8]) -> io::Result<usize>
         ensures within { IfOk result (λ count. count ≤ length bytes.now) }
         ensures taken { self.new.taken ≡ self.old.taken ++ take (taken_by result) bytes.now }

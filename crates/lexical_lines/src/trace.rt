@@ -1,12 +1,12 @@
-//! Bytes that were taken and a count of faults, which only contracts read.
+//! Bytes and faults of a device, of which only contracts know.
 
 ghost use Rattle.std.specs.Prelude.{◌≡◌, ℕ, ◌+◌, List, [], ◌++◌};
 
 use std::marker::{Model, PhantomData};
 use std::mem::size_of;
 
-/// The bytes that were noted so far, and how many faults there were. It takes no bytes, and its
-/// methods do nothing at run time.
+/// The bytes that a device has given or taken so far, and the number of its faults, as contracts
+/// see them. At run time a trace has no data, and its methods do nothing.
 #[derive(Drop)]
 pub struct Trace {
     marker: PhantomData<()>,
@@ -16,7 +16,7 @@ pub struct Trace {
 
 impl Model for Trace {
     ghost use Rattle.std.specs.Borrow.{ftrue};
-    ghost use Rattle.lexical_lines.specs.Traced.{Traced};
+    ghost use Rattle.lexical_lines.specs.Trace.{Traced};
 
     ghost Value = { Traced };
 
@@ -28,7 +28,7 @@ impl Model for Trace {
 const _: () = prove!(size_of::<Trace>() == 0);
 
 impl Trace {
-    /// A trace of no byte and no fault.
+    /// A trace without bytes and without faults.
     pub fn new() -> Trace
         ensures bytes { result.bytes ≡ [] }
         ensures faults { result.faults ≡ 0 }
@@ -38,7 +38,7 @@ impl Trace {
         }
     }
 
-    /// Notes more bytes, behind the others.
+    /// Notes more bytes, after the others.
     pub fn note(&mut self, bytes: &[u8])
         ensures bytes { self.new.bytes ≡ self.old.bytes ++ bytes.now }
         ensures faults { self.new.faults ≡ self.old.faults }

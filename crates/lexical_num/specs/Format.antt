@@ -1,22 +1,54 @@
 -- How a number is to be written, and when that can be done.
-use Rattle.std.specs.Prelude.{ℕ, Bool, false, ◌≤◌}
+use Rattle.std.specs.Prelude.{ℕ, Bool, false, Option, None, Some, ◌+◌, ◌-◌, ◌/◌, ◌≤◌, ◌≢◌}
+use Rattle.std.specs.Char.{IsNotAsciiAlphanumeric}
+use Rattle.std.specs.Option.{ForSome}
 
--- the radices of a number's two parts, and whether a `+` stands before a number that is not negative
+-- the radices of a number's two parts, whether a `+` stands before a number that is not negative, and, where the digits
+-- stand in groups, the number of digits of a group and the mark between two groups
 pub record Format : Type 0 where
   pub mantissa_radix : ℕ
   pub exponent_radix : ℕ
   pub required_mantissa_sign : Bool
+  pub digit_grouping : Option (ℕ × ℕ)
 
 -- a radix whose digits are among `0` to `9` and `A` to `Z`
 pub record IsRadix (radix : ℕ) : Type 0 where
   pub at_least_two : 2 ≤ radix
   pub at_most_36 : radix ≤ 36
 
+-- the number of digits that a group can have
+pub record IsGroupSize (size : ℕ) : Type 0 where
+  pub at_least_one : 1 ≤ size
+  pub at_most_64 : size ≤ 64
+
+-- a byte that can stand between two groups: from the space to `~`, and no letter, no digit and no sign
+pub record IsMark (mark : ℕ) : Type 0 where
+  pub at_least_space : 32 ≤ mark
+  pub at_most_tilde : mark ≤ 126
+  pub no_letter_or_digit : IsNotAsciiAlphanumeric mark
+  pub no_plus : mark ≢ 43
+  pub no_minus : mark ≢ 45
+
+-- groups that digits can be written in: their size, and the mark
+pub record IsGrouping (grouping : ℕ × ℕ) : Type 0 where
+  pub size : IsGroupSize grouping.0
+  pub mark : IsMark grouping.1
+
 -- a format that numbers can be written in
 pub record IsValid (format : Format) : Type 0 where
   pub mantissa : IsRadix format.mantissa_radix
   pub exponent : IsRadix format.exponent_radix
+  pub groups : ForSome format.digit_grouping IsGrouping
 
--- decimal, and no `+`
+-- decimal, with no `+` and no groups
 abbrev pub standard : Format
-standard = record { mantissa_radix = 10; exponent_radix = 10; required_mantissa_sign = false }
+standard = record { mantissa_radix = 10; exponent_radix = 10; required_mantissa_sign = false; digit_grouping = None }
+
+-- the same format, without groups
+abbrev pub without_groups : Format → Format
+without_groups format = record format { digit_grouping = None }
+
+-- the number of bytes that `count` digits take: in groups a mark stands before each group but the first
+abbrev pub grouped_length : Option (ℕ × ℕ) → ℕ → ℕ
+grouped_length None count = count
+grouped_length (Some grouping) count = count + (count - 1) / grouping.0

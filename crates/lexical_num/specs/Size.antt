@@ -1,10 +1,11 @@
 -- How many bytes a caller lends for any number of a type.
 use Rattle.std.specs.Prelude.{ℕ, ◌+◌, if◌then◌else◌, ◌==◌}
-use Rattle.lexical_num.specs.Format.{Format}
+use Rattle.lexical_num.specs.Format.{Format, grouped_length}
 
--- of a type with these two sizes: in radix 10 the decimal one, and a byte more for a required sign, else the other
+-- of a type with these two sizes: in radix 10 the decimal one, with the marks of groups, and a byte more for a required sign,
+-- else the other
 abbrev pub size_in : ℕ → ℕ → Format → ℕ
 size_in formatted_size formatted_size_decimal format =
     if format.mantissa_radix == 10
-    then formatted_size_decimal + (if format.required_mantissa_sign then 1 else 0)
+    then grouped_length format.digit_grouping formatted_size_decimal + (if format.required_mantissa_sign then 1 else 0)
     else formatted_size

@@ -1,10 +1,10 @@
 //! How many bytes a number takes at most.
 
-ghost use Rattle.std.specs.Prelude.{ℕ, ◌≤◌};
+ghost use Rattle.std.specs.Prelude.{ℕ, ◌*◌, ◌≤◌};
 ghost use Rattle.std.proofs.Common.{lit≤};
 ghost use Rattle.lexical_num.specs.declared.constants.TheConstants.{BUFFER_SIZE};
 
-/// The size of a buffer that has room for each number of each type, in each radix.
+/// The size of a buffer that has room for each number of each type, in each format.
 pub const BUFFER_SIZE: usize = 128;
 
 /// How many bytes a number of the type takes at most, a `-` included.
@@ -21,7 +21,8 @@ pub trait FormattedSize {
 
     ghost size_within_buffer: { (1 ≤ FORMATTED_SIZE) × (FORMATTED_SIZE ≤ BUFFER_SIZE) };
 
-    ghost decimal_size_within_buffer: { (1 ≤ FORMATTED_SIZE_DECIMAL) × (FORMATTED_SIZE_DECIMAL ≤ BUFFER_SIZE) };
+    // Groups of one digit have as many marks as digits.
+    ghost decimal_size_within_buffer: { (1 ≤ FORMATTED_SIZE_DECIMAL) × (2 * FORMATTED_SIZE_DECIMAL ≤ BUFFER_SIZE) };
 }
 
 impl FormattedSize for u8 {

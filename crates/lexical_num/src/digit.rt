@@ -3,15 +3,13 @@
 ghost use Rattle.std.specs.Prelude.{◌≡◌, ◌<◌};
 ghost use Rattle.lexical_num.specs.Digit.{digit_char};
 
+// The characters of the digits, in order.
+const CHARACTERS: [u8; 36] = *b"0123456789ABCDEFGHIJKLMNOPQRSTUVWXYZ";
+
 /// The character of a digit below 36: `0` to `9`, and from ten on `A` to `Z`.
 pub fn digit_to_char(digit: u32) -> u8
     requires { digit < 36 }
     ensures { result ≡ digit_char digit }
 {
-    let digit = digit as u8;
-    if digit < 10 {
-        b'0' + digit
-    } else {
-        b'A' + (digit - 10)
-    }
+    CHARACTERS[digit as usize]
 }

@@ -2,7 +2,7 @@
 
 use std::fmt;
 
-/// What a builder answers: a value, or why there is none.
+/// What a builder returns: a value, or why there is none.
 pub type Result<T> = std::result::Result<T, Error>;
 
 /// The first fault of a format, with the byte that was refused.
@@ -12,6 +12,10 @@ pub enum Error {
     InvalidMantissaRadix(u8),
     /// The exponent radix is below 2 or above 36.
     InvalidExponentRadix(u8),
+    /// The size of the groups is 0 or above 64.
+    InvalidGroupSize(u8),
+    /// The mark between groups is not from 32 to 126, or a letter, a digit, `+` or `-`.
+    InvalidGroupMark(u8),
 }
 
 impl fmt::Display for Error {
@@ -24,6 +28,8 @@ impl fmt::Display for Error {
         match self {
             Error::InvalidMantissaRadix(radix) => write!(f, "invalid mantissa radix {radix}"),
             Error::InvalidExponentRadix(radix) => write!(f, "invalid exponent radix {radix}"),
+            Error::InvalidGroupSize(size) => write!(f, "invalid group size {size}"),
+            Error::InvalidGroupMark(mark) => write!(f, "invalid group mark {mark}"),
         }
     }
 }

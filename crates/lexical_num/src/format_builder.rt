@@ -1,7 +1,8 @@
 //! Building a format part by part.
 
 ghost use Rattle.std.specs.Prelude.{◌≡◌, ◌↔◌, IsErrOf, IsOk, IfOk, IsTrue};
-ghost use Rattle.lexical_num.specs.Format.{IsRadix, IsValid, standard};
+ghost use Rattle.std.specs.Option.{ForSome};
+ghost use Rattle.lexical_num.specs.Format.{IsRadix, IsGroupSize, IsMark, IsValid, standard};
 
 use crate::error::{Error, Result};
 use crate::format::{NumberFormat, STANDARD};
@@ -13,6 +14,7 @@ pub struct NumberFormatBuilder {
     mantissa_radix: u8,
     exponent_radix: u8,
     required_mantissa_sign: bool,
+    digit_grouping: Option<(u8, u8)>,
 }
 
 impl Model for NumberFormatBuilder {
@@ -24,17 +26,19 @@ impl Model for NumberFormatBuilder {
       mantissa_radix = b.mantissa_radix;
       exponent_radix = b.exponent_radix;
       required_mantissa_sign = b.required_mantissa_sign;
+      digit_grouping = b.digit_grouping;
     } };
 
     ghost inverse = { λ format. record {
       mantissa_radix = format.mantissa_radix;
       exponent_radix = format.exponent_radix;
       required_mantissa_sign = format.required_mantissa_sign;
+      digit_grouping = format.digit_grouping;
     } };
 }
 
 impl NumberFormatBuilder {
-    /// Starts from the parts of `STANDARD`: radices 10 and 10, and no required sign.
+    /// Starts from the parts of `STANDARD`: radices 10 and 10, no required sign and no groups.
     pub fn new() -> Self
         ensures { result ≡ standard }
     {
@@ -43,6 +47,7 @@ impl NumberFormatBuilder {
             mantissa_radix: format.mantissa_radix,
             exponent_radix: format.exponent_radix,
             required_mantissa_sign: format.required_mantissa_sign,
+            digit_grouping: format.digit_grouping,
         }
     }
 
@@ -95,8 +100,18 @@ impl NumberFormatBuilder {
         self
     }
 
-    /// The format of these parts, or its first fault: the mantissa radix is looked at before the
-    /// exponent radix. The builder can be used again in either case.
+    /// Sets the number of digits of a group, and the byte that stands between two groups. The
+    /// digits are counted from the right: in groups of three `1234567` is written `1,234,567`.
+    pub fn digit_grouping(mut self, size: u8, mark: u8) -> Self
+        ensures { result ≡ record self { digit_grouping = Some (size, mark) } }
+    {
+        self.digit_grouping = Some((size, mark));
+        self
+    }
+
+    /// The format of these parts, or its first fault: the mantissa radix is looked at first, then the
+    /// exponent radix, then the size of the groups, then their mark. The builder is unchanged in
+    /// either case.
     pub fn build(&self) -> Result<NumberFormat>
         ensures valid { IsOk result ↔ IsValid self.now }
         ensures format { IfOk result (λ format. format ≡ self.now) }
@@ -104,6 +119,13 @@ impl NumberFormatBuilder {
             ↔ ¬ IsRadix self.now.mantissa_radix }
         ensures exponent { IsErrOf result (Error.InvalidExponentRadix self.now.exponent_radix)
             ↔ (IsRadix self.now.mantissa_radix × ¬ IsRadix self.now.exponent_radix) }
+        ensures group_size { ForSome self.now.digit_grouping (λ grouping.
+            IsErrOf result (Error.InvalidGroupSize grouping.0)
+            ↔ (IsRadix self.now.mantissa_radix × IsRadix self.now.exponent_radix × ¬ IsGroupSize grouping.0)) }
+        ensures group_mark { ForSome self.now.digit_grouping (λ grouping.
+            IsErrOf result (Error.InvalidGroupMark grouping.1)
+            ↔ (IsRadix self.now.mantissa_radix × IsRadix self.now.exponent_radix
+            × IsGroupSize grouping.0 × ¬ IsMark grouping.1)) }
     {
         if !is_radix(self.mantissa_radix) {
             return Err(Error::InvalidMantissaRadix(self.mantissa_radix));
@@ -111,10 +133,19 @@ impl NumberFormatBuilder {
         if !is_radix(self.exponent_radix) {
             return Err(Error::InvalidExponentRadix(self.exponent_radix));
         }
+        if let Some((size, mark)) = self.digit_grouping {
+            if !is_group_size(size) {
+                return Err(Error::InvalidGroupSize(size));
+            }
+            if !is_mark(mark) {
+                return Err(Error::InvalidGroupMark(mark));
+            }
+        }
         Ok(self.build_strict())
     }
 
-    /// The format of these parts, whose radices are from 2 to 36.
+    /// The format of these parts, whose radices are from 2 to 36. Where groups were set, their size is
+    /// from 1 to 64, and the mark is from 32 to 126 and no letter, digit or sign.
     pub fn build_strict(&self) -> NumberFormat
         requires { IsValid self.now }
         ensures { result ≡ self.now }
@@ -123,6 +154,7 @@ impl NumberFormatBuilder {
             mantissa_radix: self.mantissa_radix,
             exponent_radix: self.exponent_radix,
             required_mantissa_sign: self.required_mantissa_sign,
+            digit_grouping: self.digit_grouping,
         }
     }
 }
@@ -140,4 +172,18 @@ fn is_radix(radix: u8) -> bool
     ensures { IsTrue result ↔ IsRadix radix }
 {
     2 <= radix && radix <= 36
+}
+
+// Whether a group can have this number of digits.
+fn is_group_size(size: u8) -> bool
+    ensures { IsTrue result ↔ IsGroupSize size }
+{
+    1 <= size && size <= 64
+}
+
+// Whether the byte can stand between two groups.
+fn is_mark(byte: u8) -> bool
+    ensures { IsTrue result ↔ IsMark byte }
+{
+    32 <= byte && byte <= 126 && !byte.is_ascii_alphanumeric() && byte != b'+' && byte != b'-'
 }

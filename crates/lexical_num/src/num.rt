@@ -3,7 +3,8 @@
 ghost use Rattle.std.specs.Prelude.{◌≡◌, ℕ, ℤ, pos, negsuc, ◌-◌, ◌/◌, ◌%◌, ◌^◌, ◌<◌, ◌≤◌, ◌≤ℤ◌, ◌↔◌, IsTrue, refl};
 ghost use Rattle.std.proofs.Common.{rules, lit≤};
 ghost use Rattle.lexical_num.specs.DecimalWidth.{IsDecimalWidth, unsigned_decimal_width, signed_decimal_width};
-ghost use Rattle.lexical_num.specs.Width.{IsWidth, is_8, is_16, is_32, is_64};
+ghost use Rattle.lexical_num.specs.Range.{IsRange, unsigned, signed};
+ghost use Rattle.lexical_num.specs.BitWidth.{IsBitWidth, is_8, is_16, is_32, is_64};
 
 /// An integer type whose numbers can be written.
 pub trait LexicalInteger: Copy {
@@ -31,6 +32,8 @@ pub trait LexicalInteger: Copy {
         ensures at_most { number self ≤ℤ greatest };
 
     ghost decimal_width: { IsDecimalWidth least greatest DECIMAL_WIDTH };
+
+    ghost range_of_bits: { IsRange BITS least greatest };
 }
 
 impl LexicalInteger for u8 {
@@ -49,6 +52,8 @@ impl LexicalInteger for u8 {
     ghost greatest = { pos (2 ^ 8 - 1) };
 
     ghost decimal_width = { unsigned_decimal_width (2 ^ 8 - 1) 3 (lit≤ tt) (lit≤ tt) (lit≤ tt) };
+
+    ghost range_of_bits = { unsigned 8 is_8 };
 
     fn in_range(self) {}
 }
@@ -70,6 +75,8 @@ impl LexicalInteger for u16 {
 
     ghost decimal_width = { unsigned_decimal_width (2 ^ 16 - 1) 5 (lit≤ tt) (lit≤ tt) (lit≤ tt) };
 
+    ghost range_of_bits = { unsigned 16 is_16 };
+
     fn in_range(self) {}
 }
 
@@ -89,6 +96,8 @@ impl LexicalInteger for u32 {
     ghost greatest = { pos (2 ^ 32 - 1) };
 
     ghost decimal_width = { unsigned_decimal_width (2 ^ 32 - 1) 10 (lit≤ tt) (lit≤ tt) (lit≤ tt) };
+
+    ghost range_of_bits = { unsigned 32 is_32 };
 
     fn in_range(self) {}
 }
@@ -110,6 +119,8 @@ impl LexicalInteger for u64 {
 
     ghost decimal_width = { unsigned_decimal_width (2 ^ 64 - 1) 20 (lit≤ tt) (lit≤ tt) (lit≤ tt) };
 
+    ghost range_of_bits = { unsigned 64 is_64 };
+
     fn in_range(self) {}
 }
 
@@ -129,6 +140,8 @@ impl LexicalInteger for usize {
     ghost greatest = { pos (2 ^ 64 - 1) };
 
     ghost decimal_width = { unsigned_decimal_width (2 ^ 64 - 1) 20 (lit≤ tt) (lit≤ tt) (lit≤ tt) };
+
+    ghost range_of_bits = { unsigned 64 is_64 };
 
     fn in_range(self) {}
 }
@@ -150,6 +163,8 @@ impl LexicalInteger for i8 {
 
     ghost decimal_width = { signed_decimal_width (2 ^ 7 - 1) 3 (lit≤ tt) (lit≤ tt) (lit≤ tt) };
 
+    ghost range_of_bits = { signed 8 is_8 };
+
     fn in_range(self) {}
 }
 
@@ -169,6 +184,8 @@ impl LexicalInteger for i16 {
     ghost greatest = { pos (2 ^ 15 - 1) };
 
     ghost decimal_width = { signed_decimal_width (2 ^ 15 - 1) 5 (lit≤ tt) (lit≤ tt) (lit≤ tt) };
+
+    ghost range_of_bits = { signed 16 is_16 };
 
     fn in_range(self) {}
 }
@@ -190,6 +207,8 @@ impl LexicalInteger for i32 {
 
     ghost decimal_width = { signed_decimal_width (2 ^ 31 - 1) 10 (lit≤ tt) (lit≤ tt) (lit≤ tt) };
 
+    ghost range_of_bits = { signed 32 is_32 };
+
     fn in_range(self) {}
 }
 
@@ -210,6 +229,8 @@ impl LexicalInteger for i64 {
 
     ghost decimal_width = { signed_decimal_width (2 ^ 63 - 1) 19 (lit≤ tt) (lit≤ tt) (lit≤ tt) };
 
+    ghost range_of_bits = { signed 64 is_64 };
+
     fn in_range(self) {}
 }
 
@@ -229,6 +250,8 @@ impl LexicalInteger for isize {
     ghost greatest = { pos (2 ^ 63 - 1) };
 
     ghost decimal_width = { signed_decimal_width (2 ^ 63 - 1) 19 (lit≤ tt) (lit≤ tt) (lit≤ tt) };
+
+    ghost range_of_bits = { signed 64 is_64 };
 
     fn in_range(self) {}
 }
@@ -275,9 +298,9 @@ pub trait UnsignedInteger: LexicalInteger {
 
     ghost greatest_by_bits: { Self.greatest ≡ pos (2 ^ Self.BITS - 1) };
 
-    ghost same_number: { (x y : Self) → Self.number x ≡ Self.number y → x ≡ y };
+    ghost equal_by_number: { (x y : Self) → Self.number x ≡ Self.number y → x ≡ y };
 
-    ghost width_of_bits: { IsWidth Self.BITS };
+    ghost width_of_bits: { IsBitWidth Self.BITS };
 
     /// Does nothing: its contract tells generic code that the bits of the type hold the number.
     final fn fits_bits(self)
@@ -296,7 +319,7 @@ impl UnsignedInteger for u8 {
 
     ghost greatest_by_bits = { refl };
 
-    ghost same_number = { Prim.search rules };
+    ghost equal_by_number = { Prim.search rules };
 
     ghost width_of_bits = { is_8 };
 
@@ -335,7 +358,7 @@ impl UnsignedInteger for u16 {
 
     ghost greatest_by_bits = { refl };
 
-    ghost same_number = { Prim.search rules };
+    ghost equal_by_number = { Prim.search rules };
 
     ghost width_of_bits = { is_16 };
 
@@ -374,7 +397,7 @@ impl UnsignedInteger for u32 {
 
     ghost greatest_by_bits = { refl };
 
-    ghost same_number = { Prim.search rules };
+    ghost equal_by_number = { Prim.search rules };
 
     ghost width_of_bits = { is_32 };
 
@@ -413,7 +436,7 @@ impl UnsignedInteger for u64 {
 
     ghost greatest_by_bits = { refl };
 
-    ghost same_number = { Prim.search rules };
+    ghost equal_by_number = { Prim.search rules };
 
     ghost width_of_bits = { is_64 };
 
@@ -454,7 +477,7 @@ impl UnsignedInteger for usize {
 
     ghost greatest_by_bits = { refl };
 
-    ghost same_number = { Prim.search rules };
+    ghost equal_by_number = { Prim.search rules };
 
     ghost width_of_bits = { is_64 };
 

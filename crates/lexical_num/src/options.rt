@@ -15,7 +15,8 @@ pub trait WriteOptions {
     fn is_valid(&self) -> bool
         ensures { result ≡ is_valid self.now };
 
-    /// How many bytes a number of the type takes at most in the format, its sign included.
+    /// How many bytes a number of the type takes at most in the format, its sign and the marks of
+    /// its groups included.
     fn buffer_size<T: FormattedSize>(&self, format: &NumberFormat) -> usize
         ensures { result ≡ size_in T.FORMATTED_SIZE T.FORMATTED_SIZE_DECIMAL format.now };
 }
@@ -52,17 +53,21 @@ impl Options {
         true
     }
 
-    /// How many bytes a number of the type takes at most in the format, its sign included.
+    /// How many bytes a number of the type takes at most in the format, its sign and the marks of
+    /// its groups included.
     pub fn buffer_size_const<T: FormattedSize>(&self, format: &NumberFormat) -> usize
         ensures { result ≡ size_in T.FORMATTED_SIZE T.FORMATTED_SIZE_DECIMAL format.now }
     {
         if format.mantissa_radix() != 10 {
-            T::FORMATTED_SIZE
-        } else if format.required_mantissa_sign() {
-            T::FORMATTED_SIZE_DECIMAL + 1
-        } else {
-            T::FORMATTED_SIZE_DECIMAL
+            return T::FORMATTED_SIZE;
         }
+        let digits = T::FORMATTED_SIZE_DECIMAL;
+        let marks = match format.digit_grouping() {
+            Some((size, _)) => (digits - 1) / usize::from(size),
+            None => 0,
+        };
+        let sign = usize::from(format.required_mantissa_sign());
+        digits + marks + sign
     }
 
     /// A builder of the options.

@@ -168,6 +168,36 @@ fn build_tells_the_first_fault(rt: HostRuntime) -> Result<(), Fail> {
 }
 
 #[test]
+fn build_tells_the_fault_of_the_groups(rt: HostRuntime) -> Result<(), Fail> {
+    let faults = [
+        (10, 0, 44, "invalid group size 0"),
+        (10, 65, 44, "invalid group size 65"),
+        (10, 0, 65, "invalid group size 0"),
+        (10, 3, 43, "invalid group mark 43"),
+        (10, 3, 45, "invalid group mark 45"),
+        (10, 3, 65, "invalid group mark 65"),
+        (10, 3, 127, "invalid group mark 127"),
+        (1, 0, 65, "invalid mantissa radix 1"),
+    ];
+    for (radix, size, mark, message) in faults {
+        let builder = NumberFormatBuilder::new()
+            .radix(radix)
+            .digit_grouping(size, mark);
+        let Err(error) = builder.build() else {
+            panic!(rt; "{size} and {mark} were built");
+        };
+        assert_eq!(rt; error.to_string(rt.alloc())?.as_str(), message);
+    }
+    let ones = NumberFormatBuilder::new().digit_grouping(1, 32).build()?;
+    assert_eq!(rt; ones.digit_grouping(), Some((1, 32)));
+    let long = NumberFormatBuilder::new().digit_grouping(64, 126).build()?;
+    assert_eq!(rt; long.digit_grouping(), Some((64, 126)));
+    assert!(rt; !same_format(&ones, &long));
+    assert_eq!(rt; STANDARD.digit_grouping(), None);
+    Ok(())
+}
+
+#[test]
 fn build_keeps_the_parts(rt: HostRuntime) -> Result<(), Fail> {
     let format = built(2, 36)?;
     assert_eq!(rt; format.radix(), 2);

@@ -1,4 +1,4 @@
-// A block of bytes in front of a reader.
+// A block of bytes before a reader.
 
 ghost use Rattle.std.specs.Prelude.{◌≡◌, ◌+◌, ◌-◌, ◌<◌, ◌≤◌, min, [], ◌++◌, length, take, drop, Ok, OnOk, OnErr};
 ghost use Rattle.std.specs.Io.{ReadsAtMost};
@@ -7,7 +7,8 @@ ghost use Rattle.std.specs.Io.KnownBytes.{Keeps, IsAtEnd, ReadConsumes};
 use std::io;
 use std::io::Read;
 
-/// Gives the bytes of a reader, which it reads in blocks of up to `SIZE` bytes.
+/// Gives the bytes of a reader, which it reads in blocks of up to `SIZE` bytes. Each byte is given
+/// once and in order, also after an error. The value itself has room for a block.
 #[derive(Drop)]
 pub struct BlockReader<R, const SIZE: usize> {
     reader: R,
@@ -61,13 +62,13 @@ impl<R: Read, const SIZE: usize> BlockReader<R, SIZE> {
     fn give(&mut self, buffer: &mut [u8]) -> usize
         ensures count { result ≡ min (length (unread self.old)) (length buffer.old) }
         ensures bytes { unread self.old ≡ take result buffer.new ++ unread self.new }
-        ensures behind { drop result buffer.new ≡ drop result buffer.old }
+        ensures after { drop result buffer.new ≡ drop result buffer.old }
         ensures inner { reader_inner self.new ≡ reader_inner self.old }
     {
         let start = self.start;
         let count = buffer.len().min(self.end - start);
         let block = &self.block[..];
-        buffer[..count].copy_from_slice(&block[start..start + count]);
+        copy_bytes(&block[start..start + count], &mut buffer[..count]);
         self.start = start + count;
         count
     }
@@ -78,7 +79,7 @@ impl<R: Read, const SIZE: usize> Read for BlockReader<R, SIZE> {
 
     ghost remaining = { reader_remaining R.remaining };
 
-    // Where a byte is unread, the reader behind is not called.
+    // Where a byte is unread, the reader is not called.
     fn read(&mut self, buffer: &mut [u8]) -> io::Result<usize>
         ensures bound { ReadsAtMost result buffer.new }
         ensures bytes { ReadConsumes (reader_remaining R.remaining self.old)
@@ -92,5 +93,17 @@ impl<R: Read, const SIZE: usize> Read for BlockReader<R, SIZE> {
             self.fill()?;
         }
         Ok(self.give(buffer))
+    }
+}
+
+// Copies bytes over as many. One byte alone is moved without a call.
+fn copy_bytes(bytes: &[u8], buffer: &mut [u8])
+    requires { length bytes.now ≡ length buffer.old }
+    ensures { buffer.new ≡ bytes.now }
+{
+    if bytes.len() == 1 {
+        buffer[0] = bytes[0];
+    } else {
+        buffer.copy_from_slice(bytes);
     }
 }

@@ -1,4 +1,4 @@
-// A block of bytes in front of a writer.
+// A block of bytes before a writer.
 
 ghost use Rattle.std.specs.Prelude.{◌≡◌, ◌+◌, ◌-◌, ◌<◌, ◌≤◌, min, [], ◌++◌, length, take, Ok, IfOk, OnOk};
 ghost use Rattle.std.specs.Io.{WritesAtMost};
@@ -7,8 +7,11 @@ ghost use Rattle.std.specs.Io.KnownBytes.{Keeps, Appends, WriteAppends};
 use std::io;
 use std::io::Write;
 
-/// Takes bytes and hands them on to a writer, in blocks of `SIZE` bytes and at a flush. A drop
-/// loses what is held, so the last call is a flush.
+/// Takes bytes and hands them on to a writer, in blocks of `SIZE` bytes and at a flush. Each byte is
+/// handed on once and in order, also after an error, and after a flush that succeeds none is held. A
+/// drop loses what is held, so the last call is a flush. The value itself has room for a block.
+///
+/// A flush flushes the writer too, which is in no contract: tests show it.
 #[derive(Drop)]
 pub struct BlockWriter<W, const SIZE: usize> {
     writer: W,
@@ -73,7 +76,7 @@ impl<W: Write, const SIZE: usize> Write for BlockWriter<W, SIZE> {
 
     ghost contents = { writer_contents W.contents };
 
-    // Where the block has room, the writer behind is not called.
+    // Where the block has room, the writer is not called.
     fn write(&mut self, bytes: &[u8]) -> io::Result<usize>
         ensures bound { WritesAtMost result bytes.now }
         ensures bytes { WriteAppends (writer_contents W.contents self.old)
@@ -99,7 +102,7 @@ impl<W: Write, const SIZE: usize> Write for BlockWriter<W, SIZE> {
     }
 }
 
-// Writes the bytes until all are taken or a write takes none, and answers how many were taken.
+// Writes the bytes until all are taken or a write takes none, and returns how many were taken.
 fn write_while_taken<W: Write>(bytes: &[u8], writer: &mut W) -> (usize, io::Result<()>)
     ensures bound { result.0 ≤ length bytes.now }
     ensures all { OnOk result.1 (result.0 ≡ length bytes.now) }

@@ -9,6 +9,9 @@ use std::io::{Read, Write};
 
 /// Gives the bytes of a reader, and flushes a writer before each read, so that whoever waits for
 /// what was written has it before the read waits for more.
+///
+/// A caller may rely on the bytes given, and on the writer's bytes staying as they are. That the
+/// flush comes is in no contract: tests show it.
 #[derive(Drop)]
 pub struct FlushingReader<R, W> {
     reader: R,

@@ -1,5 +1,10 @@
-//! Lines answered from a reader to a writer, by readers and writers that call those behind them
-//! once for a block of bytes. No call takes memory.
+//! Lines answered from a reader to a writer, which are called once for a block of bytes. No call
+//! takes memory; a block lies in its reader or writer, and so on the stack.
+//!
+//! A caller may rely on what the contracts say: which bytes `BlockReader` and `FlushingReader` give,
+//! which bytes `BlockWriter` has handed on and which it still holds, and what the exit status of
+//! `answer_stream` tells of the lines read. No contract says what a cell holds, so none says what a
+//! `SharedWriter` has written, nor can one say when a flush comes: the tests show both.
 #![tactic(auto)]
 
 mod answering;
@@ -10,7 +15,7 @@ mod shared_writer;
 #[cfg(test)]
 mod tests;
 
-pub use answering::answer_lines;
+pub use answering::{answer_lines, answer_stream};
 pub use block_reader::BlockReader;
 pub use block_writer::BlockWriter;
 pub use flushing_reader::FlushingReader;

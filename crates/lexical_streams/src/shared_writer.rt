@@ -6,8 +6,11 @@ use std::cell::RefCell;
 use std::io;
 use std::io::Write;
 
-/// Writes to a writer in a cell, so that several owners can write to one. No clause says what a
-/// cell holds, so a write here promises no more than any write.
+/// Writes to a writer in a cell, so that several owners can write to one.
+///
+/// A caller may rely on the number of bytes that a write returns, which is at most that of its piece,
+/// and on nothing else: what a cell holds is in no contract, so none says that the bytes reach the
+/// writer, nor what it holds when it is taken out of the cell. Tests show both.
 #[derive(Drop)]
 pub struct SharedWriter<'a, W> {
     cell: &'a RefCell<W>,

@@ -1,3 +1,4 @@
+mod answers;
 mod devices;
 
 ghost use Rattle.std.specs.Prelude.{◌≡◌, IfOk};
@@ -13,7 +14,7 @@ use std::test::Fail;
 
 const TEXT: &[u8] = b"0123456789abcdef";
 
-// Reads byte after byte to the end, or to an error, into a buffer, and answers how many came.
+// Reads byte after byte to the end, or to an error, into a buffer, and returns how many came.
 fn read_bytes<R: Read>(reader: &mut R, buffer: &mut [u8]) -> (usize, io::Result<()>) {
     for place in 0..buffer.len() {
         match reader.read(&mut buffer[place..=place]) {
@@ -84,7 +85,7 @@ fn reads_once_for_a_block(rt: HostRuntime) -> Result<(), Fail> {
 }
 
 #[test]
-fn gives_the_bytes_before_an_error_and_those_behind_it(rt: HostRuntime) -> Result<(), Fail> {
+fn gives_the_bytes_before_an_error_and_those_after_it(rt: HostRuntime) -> Result<(), Fail> {
     for (calls, before) in [(0, 0), (1, 3), (2, 6), (5, 15), (6, 16)] {
         let giver = Giver {
             bytes: TEXT,
@@ -105,7 +106,7 @@ fn gives_the_bytes_before_an_error_and_those_behind_it(rt: HostRuntime) -> Resul
     Ok(())
 }
 
-// Writes a text and flushes, each step again after an error, and answers how many errors of a kind
+// Writes a text and flushes, each step again after an error, and returns how many errors of a kind
 // came.
 fn write_through<W: Write>(rt: &impl Abort, writer: &mut W, text: &[u8], kind: ErrorKind) -> u32 {
     let mut errors = 0u32;

@@ -3,12 +3,12 @@ use Rattle.std.specs.Prelude.{ℕ, ◌+◌, ◌*◌, ◌/◌, ◌%◌, List, [],
 use Rattle.std.specs.List.{flat_map, range_with_len}
 
 -- the character of a digit below 36: `0` to `9`, and from ten on `A` to `Z`
-abbrev pub digit_character : ℕ → ℕ
-digit_character digit = if nat_lt digit 10 then 48 + digit else 55 + digit
+abbrev pub digit_char : ℕ → ℕ
+digit_char digit = if nat_lt digit 10 then 48 + digit else 55 + digit
 
 -- the characters of the two digits of a number
 abbrev pub pair : ℕ → ℕ → List ℕ
-pair radix number = digit_character (number / radix) ∷ digit_character (number % radix) ∷ []
+pair radix number = digit_char (number / radix) ∷ digit_char (number % radix) ∷ []
 
 -- the pairs of 0, 1 and so on, below the square of the radix
 unfoldable pub pairs : ℕ → List ℕ

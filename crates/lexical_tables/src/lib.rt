@@ -2,7 +2,7 @@
 #![tactic(auto)]
 
 ghost use Rattle.std.specs.Prelude.{◌≡◌, ℕ, ◌+◌, ◌*◌, ◌/◌, ◌%◌, ◌<◌, ◌≤◌, length, slice_index};
-ghost use Rattle.lexical_tables.specs.Pairs.{digit_character, pairs};
+ghost use Rattle.lexical_tables.specs.Pairs.{digit_char, pairs};
 
 mod table_binary;
 mod table_decimal;
@@ -30,16 +30,16 @@ pub use table_radix::{
 
 /// The table of a radix from 2 to 36: two bytes for each number below the square of the radix,
 /// `2 * i` and `2 * i + 1` for the number `i`, which are the characters of its two digits.
-#[tactic(auto, using(crate::proofs::PairsLemmas::reads))]
+#[tactic(auto, using(crate::proofs::Pairs::reads))]
 pub fn get_table(radix: u32) -> &'static [u8]
     requires at_least_two { 2 ≤ radix }
     requires at_most_36 { radix ≤ 36 }
     ensures table { result.now ≡ pairs radix }
     ensures length { length result.now ≡ 2 * (radix * radix) }
     ensures first { (i : ℕ) → i < radix * radix
-        → slice_index result.now (2 * i) ≡ digit_character (i / radix) }
+        → slice_index result.now (2 * i) ≡ digit_char (i / radix) }
     ensures second { (i : ℕ) → i < radix * radix
-        → slice_index result.now (2 * i + 1) ≡ digit_character (i % radix) }
+        → slice_index result.now (2 * i + 1) ≡ digit_char (i % radix) }
 {
     written_table(radix)
 }
@@ -50,42 +50,48 @@ fn written_table(radix: u32) -> &'static [u8]
     requires at_most_36 { radix ≤ 36 }
     ensures { result.now ≡ pairs radix }
 {
-    match radix {
-        2 => &DIGIT_TO_BASE2_SQUARED,
-        3 => &DIGIT_TO_BASE3_SQUARED,
-        4 => &DIGIT_TO_BASE4_SQUARED,
-        5 => &DIGIT_TO_BASE5_SQUARED,
-        6 => &DIGIT_TO_BASE6_SQUARED,
-        7 => &DIGIT_TO_BASE7_SQUARED,
-        8 => &DIGIT_TO_BASE8_SQUARED,
-        9 => &DIGIT_TO_BASE9_SQUARED,
-        10 => &DIGIT_TO_BASE10_SQUARED,
-        11 => &DIGIT_TO_BASE11_SQUARED,
-        12 => &DIGIT_TO_BASE12_SQUARED,
-        13 => &DIGIT_TO_BASE13_SQUARED,
-        14 => &DIGIT_TO_BASE14_SQUARED,
-        15 => &DIGIT_TO_BASE15_SQUARED,
-        16 => &DIGIT_TO_BASE16_SQUARED,
-        17 => &DIGIT_TO_BASE17_SQUARED,
-        18 => &DIGIT_TO_BASE18_SQUARED,
-        19 => &DIGIT_TO_BASE19_SQUARED,
-        20 => &DIGIT_TO_BASE20_SQUARED,
-        21 => &DIGIT_TO_BASE21_SQUARED,
-        22 => &DIGIT_TO_BASE22_SQUARED,
-        23 => &DIGIT_TO_BASE23_SQUARED,
-        24 => &DIGIT_TO_BASE24_SQUARED,
-        25 => &DIGIT_TO_BASE25_SQUARED,
-        26 => &DIGIT_TO_BASE26_SQUARED,
-        27 => &DIGIT_TO_BASE27_SQUARED,
-        28 => &DIGIT_TO_BASE28_SQUARED,
-        29 => &DIGIT_TO_BASE29_SQUARED,
-        30 => &DIGIT_TO_BASE30_SQUARED,
-        31 => &DIGIT_TO_BASE31_SQUARED,
-        32 => &DIGIT_TO_BASE32_SQUARED,
-        33 => &DIGIT_TO_BASE33_SQUARED,
-        34 => &DIGIT_TO_BASE34_SQUARED,
-        35 => &DIGIT_TO_BASE35_SQUARED,
-        36 => &DIGIT_TO_BASE36_SQUARED,
-        _ => unreachable!(),
+    if radix <= 18 {
+        match radix {
+            2 => &DIGIT_TO_BASE2_SQUARED,
+            3 => &DIGIT_TO_BASE3_SQUARED,
+            4 => &DIGIT_TO_BASE4_SQUARED,
+            5 => &DIGIT_TO_BASE5_SQUARED,
+            6 => &DIGIT_TO_BASE6_SQUARED,
+            7 => &DIGIT_TO_BASE7_SQUARED,
+            8 => &DIGIT_TO_BASE8_SQUARED,
+            9 => &DIGIT_TO_BASE9_SQUARED,
+            10 => &DIGIT_TO_BASE10_SQUARED,
+            11 => &DIGIT_TO_BASE11_SQUARED,
+            12 => &DIGIT_TO_BASE12_SQUARED,
+            13 => &DIGIT_TO_BASE13_SQUARED,
+            14 => &DIGIT_TO_BASE14_SQUARED,
+            15 => &DIGIT_TO_BASE15_SQUARED,
+            16 => &DIGIT_TO_BASE16_SQUARED,
+            17 => &DIGIT_TO_BASE17_SQUARED,
+            18 => &DIGIT_TO_BASE18_SQUARED,
+            _ => unreachable!(),
+        }
+    } else {
+        match radix {
+            19 => &DIGIT_TO_BASE19_SQUARED,
+            20 => &DIGIT_TO_BASE20_SQUARED,
+            21 => &DIGIT_TO_BASE21_SQUARED,
+            22 => &DIGIT_TO_BASE22_SQUARED,
+            23 => &DIGIT_TO_BASE23_SQUARED,
+            24 => &DIGIT_TO_BASE24_SQUARED,
+            25 => &DIGIT_TO_BASE25_SQUARED,
+            26 => &DIGIT_TO_BASE26_SQUARED,
+            27 => &DIGIT_TO_BASE27_SQUARED,
+            28 => &DIGIT_TO_BASE28_SQUARED,
+            29 => &DIGIT_TO_BASE29_SQUARED,
+            30 => &DIGIT_TO_BASE30_SQUARED,
+            31 => &DIGIT_TO_BASE31_SQUARED,
+            32 => &DIGIT_TO_BASE32_SQUARED,
+            33 => &DIGIT_TO_BASE33_SQUARED,
+            34 => &DIGIT_TO_BASE34_SQUARED,
+            35 => &DIGIT_TO_BASE35_SQUARED,
+            36 => &DIGIT_TO_BASE36_SQUARED,
+            _ => unreachable!(),
+        }
     }
 }

@@ -6,7 +6,7 @@ use Rattle.std.proofs.lemmas.List.Elements.{All-nil}
 use Rattle.std.proofs.lemmas.Nat.{pow-add, mul-add-lt, mod-mul-add}
 use Rattle.lexical_num.specs.Digit.{digit_char}
 use Rattle.lexical_write_integer.specs.Buffer.{WritesBlock}
-use Rattle.lexical_write_integer.specs.Numeral.{digit_count}
+use Rattle.lexical_write_integer.specs.DigitCount.{digit_count}
 use Rattle.lexical_write_integer.specs.Text.{IsDigits}
 use Rattle.lexical_write_integer.proofs.DigitCounts.{digit_count-pos, digit_count-left, digit_count-more, div-pow_more}
 use Rattle.lexical_write_integer.proofs.Numerals.{IsBlockOf-one, IsBlockOf-append, IsNumeralOf-block}
@@ -29,7 +29,7 @@ WritesBlock-one r d at list small room = record {
   kept = take-set list at (digit_char d);
 }
 
--- a block in front of one that is written
+-- a block before one that is written
 pub WritesBlock-front : (r i j m n at : ℕ) (before between after : List ℕ) → WritesBlock r j n (at + i) before between → WritesBlock r i m at between after → WritesBlock r (i + j) (m * r ^ j + n) at before after
 WritesBlock-front r i j m n at before between after last first = record {
   digits = first.digits ++ last.digits;
@@ -49,12 +49,12 @@ mod-pow_split r n i j two =
     ap (λ k. k + (q % s * p + n % p)) (sym (mul_assoc (q / s) s p)) ∙ omega (arith, add-mul (q / s * s) (q % s) p, ap (λ k. k * p) (div-add-mod' q s), div-add-mod' n p) in
     ap (λ k. n % k) (pow-add r i j) ∙ ap (λ k. k % (s * p)) (sym parts) ∙ mod-mul-add (q / s) (s * p) (q % s * p + n % p) low
 
--- the next digits of a number, in front of its last ones
+-- the next digits of a number, before its last ones
 pub WritesBlock-next : (r n taken step at : ℕ) (before between after : List ℕ) → 2 ≤ r → WritesBlock r taken (n % r ^ taken) (at + step) before between → WritesBlock r step (n / r ^ taken % r ^ step) at between after → WritesBlock r (step + taken) (n % r ^ (step + taken)) at before after
 WritesBlock-next r n taken step at before between after two last first =
     rw (mod-pow_split r n step taken two) (WritesBlock-front r step taken (n / r ^ taken % r ^ step) (n % r ^ taken) at before between after last first)
 
--- the first digits of a number, in front of its last ones
+-- the first digits of a number, before its last ones
 pub WritesBlock-whole : (r n taken rest count at : ℕ) (before between after : List ℕ) → rest ≡ n / r ^ taken → WritesBlock r taken (n % r ^ taken) (at + count) before between → WritesBlock r count rest at between after → WritesBlock r (count + taken) n at before after
 WritesBlock-whole r n taken rest count at before between after is last first =
     rw (div-add-mod' n (r ^ taken)) at (WritesBlock-front r count taken (n / r ^ taken) (n % r ^ taken) at before between after last (rw is at first))

@@ -5,7 +5,7 @@ use Rattle.std.proofs.lemmas.Bool.{and_parts, or_cases, cases_lt, leb-true, ltb-
 use Rattle.std.proofs.lemmas.List.{get_or-map, length-map}
 use Rattle.std.proofs.lemmas.List.FromFn.{get_or-map-range_with_len}
 use Rattle.lexical_write_integer.specs.Logarithm.{IsLog2}
-use Rattle.lexical_write_integer.specs.Numeral.{digit_count}
+use Rattle.lexical_write_integer.specs.DigitCount.{digit_count}
 use Rattle.lexical_write_integer.specs.PowersOfTen.{IsPowersOfTen}
 use Rattle.lexical_write_integer.specs.declared.decimal.TheConstants.{DIGITS_BY_LOG2, POWERS_OF_TEN}
 use Rattle.lexical_write_integer.proofs.DigitCounts.{digit_count-is, pow-lt_more}
@@ -31,7 +31,7 @@ IsPowersOfTen-64 = record { rising = refl; below = omega arith; all = omega arit
 
 -- ---- the table by the place of the highest bit
 
--- every number of the place k has so many digits at least
+-- every number of the place k has at least this number of digits
 no_fewer : ℕ → ℕ → Bool
 no_fewer k digits = leb digits 1 || leb (10 ^ (digits - 1)) (2 ^ k)
 

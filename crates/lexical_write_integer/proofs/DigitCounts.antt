@@ -3,13 +3,13 @@ use Rattle.std.proofs.Common.{◌≡◌, ℕ, zero, suc, ◌+◌, ◌-◌, ◌*�
 use Rattle.std.proofs.Math.Nat.{pow-zero, pow-suc, pow-le-pow_right, mul-le-mul_left, mul-le-mul_right, one-le-pow, div-lt_iff_lt-mul, div-mul-le_self, div-one, div-div-eq-div-mul, mul_comm}
 use Rattle.std.proofs.lemmas.Bool.{cases_lt, ltb-true, cond_both}
 use Rattle.std.proofs.lemmas.Nat.{pow-add}
-use Rattle.lexical_num.specs.Width.{IsWidth, is_8, is_16, is_32, is_64}
-use Rattle.lexical_write_integer.specs.Numeral.{digit_count, least_exponent}
+use Rattle.lexical_num.specs.BitWidth.{IsBitWidth, is_8, is_16, is_32, is_64}
+use Rattle.lexical_write_integer.specs.DigitCount.{digit_count, least_exponent}
 pub use Rattle.lexical_write_integer.specs.DigitCount.{digit_count-le, digit_count-le_bits}
 use Rattle.lexical_write_integer.proofs.Values.{pow-one}
 
 -- a number is below 2 to itself, and so below any larger radix to itself
-lt-pow_self : (r n : ℕ) → 2 ≤ r → n < r ^ n
+pub lt-pow_self : (r n : ℕ) → 2 ≤ r → n < r ^ n
 lt-pow_self r zero two = omega (arith, pow-zero r)
 lt-pow_self r (suc n) two = omega (arith, lt-pow_self r n two, pow-suc r n, mul-le-mul_left (r ^ n) two)
 
@@ -110,19 +110,19 @@ div-pow_more r n step taken =
 -- ---- the numbers of a type
 
 -- no type has more than 64 bits
-pub width-le_64 : (bits : ℕ) → IsWidth bits → bits ≤ 64
+pub width-le_64 : (bits : ℕ) → IsBitWidth bits → bits ≤ 64
 width-le_64 bits is_8 = omega arith
 width-le_64 bits is_16 = omega arith
 width-le_64 bits is_32 = omega arith
 width-le_64 bits is_64 = omega arith
 
 -- no number of a type has more digits than bits
-pub digit_count-le_width : (r n bits : ℕ) → 2 ≤ r → IsWidth bits → n < 2 ^ bits → digit_count r n ≤ bits
+pub digit_count-le_width : (r n bits : ℕ) → 2 ≤ r → IsBitWidth bits → n < 2 ^ bits → digit_count r n ≤ bits
 digit_count-le_width r n bits two is_8 fits = digit_count-le_bits r n 8 two (omega arith) fits
 digit_count-le_width r n bits two is_16 fits = digit_count-le_bits r n 16 two (omega arith) fits
 digit_count-le_width r n bits two is_32 fits = digit_count-le_bits r n 32 two (omega arith) fits
 digit_count-le_width r n bits two is_64 fits = digit_count-le_bits r n 64 two (omega arith) fits
 
 -- nor more than 64
-pub digit_count-le_64 : (r n bits : ℕ) → 2 ≤ r → IsWidth bits → n < 2 ^ bits → digit_count r n ≤ 64
+pub digit_count-le_64 : (r n bits : ℕ) → 2 ≤ r → IsBitWidth bits → n < 2 ^ bits → digit_count r n ≤ 64
 digit_count-le_64 r n bits two width fits = omega (arith, digit_count-le_width r n bits two width fits, width-le_64 bits width)

@@ -1,4 +1,4 @@
--- What a fraction that carries a number's digits says of them: each pair stands in front of the point in its turn.
+-- What a fraction that carries a number's digits says of them: each pair stands before the point in its turn.
 use Rattle.std.proofs.Common.{◌≡◌, ℕ, ◌+◌, ◌-◌, ◌*◌, ◌/◌, ◌%◌, ◌^◌, ◌<◌, ◌≤◌, ap, ◌∙◌, arith}
 use Rattle.std.proofs.Math.Nat.{one-le-pow, mod-lt, div-add-mod', mul-le-mul_left, mul-le-mul_right, pow-le-pow_right, le_of_mul-le-mul_right, lt_of_mul-lt-mul_right, div-eq_of_lt-le}
 use Rattle.std.proofs.lemmas.Nat.{pow-add, mul-mod_first}
@@ -22,7 +22,7 @@ whole_part n y p w some low high =
 pub Carries-first : {n y k : ℕ} → Carries n y k → y / 2 ^ 32 ≡ n / 100 ^ k
 Carries-first {n} {y} {k} carries = whole_part n y (100 ^ k) (2 ^ 32) (one-le-pow k 100 (omega arith)) carries.at_least carries.below
 
--- what stands behind the point, times 100, carries the digits behind the first pair
+-- what stands after the point, times 100, carries the digits after the first pair
 pub Carries-next : {n y k : ℕ} → 1 ≤ k → Carries n y k → Carries (n % 100 ^ k) (y % 2 ^ 32 * 100) (k - 1)
 Carries-next {n} {y} {k} some carries =
     let p = 100 ^ k in
@@ -52,7 +52,7 @@ whole_part_of_product y = omega arith
 pub carried-more : (y i : ℕ) → carried y (i + 1) ≡ carried y i * 100 + y * 100 ^ i % 2 ^ 32 * 100 / 2 ^ 32
 carried-more y i = rw (moved_more y i) at (whole_part_of_product (y * 100 ^ i))
 
--- what stands behind the point after one pair more
+-- what stands after the point after one pair more
 pub rest-more : (y i rest : ℕ) → rest ≡ y * 100 ^ i % 2 ^ 32 → rest * 100 % 2 ^ 32 ≡ y * 100 ^ (i + 1) % 2 ^ 32
 rest-more y i rest is = rw is (mul-mod_first (y * 100 ^ i) 100 (2 ^ 32) ∙ ap (λ z. z % 2 ^ 32) (moved_more y i))
 

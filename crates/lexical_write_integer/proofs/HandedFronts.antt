@@ -79,8 +79,8 @@ module _ {M : Type 1} {𝓤 : Ura M} (𝓛 : Logic 𝓤) (at_mem : Memory → SP
           move ! (2 ∷ []) $ pick ! (λ us. split3 ! $ move ! (2 ∷ []) $ heard ! _ (λ taken.
           let counted = wrote.count in
           let handed : r.now ≡ wrote.text = taken ∙ (λ i. take (counted i) (wrote.front.written i)) ∙ take_at wrote.text (drop_list (length wrote.text) xs) (length wrote.text) refl in
-          let behind : drop_list n ys ≡ drop_list (length r.now) xs =
+          let following : drop_list n ys ≡ drop_list (length r.now) xs =
           (λ i. drop_list (counted i) (wrote.front.written i)) ∙ drop_at wrote.text (drop_list (length wrote.text) xs) (length wrote.text) refl ∙ ap (λ ts. drop_list (length ts) xs) (sym handed) in
-          rewrite ! 1 (λ (d : List ℕ). ‵ (follows (Array u8 0) (Array u8 0) γ r.ghost_name (λ t. t ++ d))) behind refl $
+          rewrite ! 1 (λ (d : List ℕ). ‵ (follows (Array u8 0) (Array u8 0) γ r.ghost_name (λ t. t ++ d))) following refl $
           move ! (3 ∷ []) $ split ! $ keep ! (4 ∷ 0 ∷ 3 ∷ []) $
           now ! $ show ! (λ (r : MutBor (List ℕ)). mean 𝓛 (Given r)) r $ check ! record { word = ap only is; fits = r₁; is = rw handed wrote.is } $ done !))))))

@@ -4,7 +4,7 @@ use Rattle.std.proofs.Math.Nat.{pow-zero, pow-suc, pow-le-pow_right, one-le-pow,
 use Rattle.std.proofs.lemmas.Bool.{and_parts, cases_lt, cases_eq, ltb-true, leb-true}
 use Rattle.std.proofs.lemmas.Nat.{pow-add}
 use Rattle.lexical_write_integer.specs.Logarithm.{IsGreatestPower, IsLog2, IsLog10Estimate}
-use Rattle.lexical_write_integer.specs.Numeral.{digit_count}
+use Rattle.lexical_write_integer.specs.DigitCount.{digit_count}
 use Rattle.lexical_write_integer.proofs.DigitCounts.{digit_count-is, pow-lt_more}
 
 pub IsGreatestPower-between : (base number k : ℕ) → 2 ≤ base → base ^ k ≤ number → number < base ^ (k + 1) → IsGreatestPower base number k

@@ -4,24 +4,24 @@ use Rattle.std.proofs.Math.Nat.{pow-zero, div-lt_self, div-one, mul-div-le}
 use Rattle.std.proofs.lemmas.List.{append-nil}
 use Rattle.std.proofs.lemmas.List.FromFn.{map-range_with_len_more, length-map-range_with_len}
 use Rattle.std.proofs.lemmas.Nat.{div-mul-add}
-use Rattle.lexical_write_integer.specs.Numeral.{digit_count}
-use Rattle.lexical_write_integer.specs.Turns.{IsStep, TakesDigits, behind_first, rests}
+use Rattle.lexical_write_integer.specs.DigitCount.{digit_count}
+use Rattle.lexical_write_integer.specs.LoopTurns.{IsStep, TakesDigits, digits_after_first, quotients}
 use Rattle.lexical_write_integer.proofs.DigitCounts.{digit_count-pos, digit_count-le, digit_count-left, digit_count-more, div-pow_more}
 use Rattle.lexical_write_integer.proofs.RadixPowers.{step-pos, power-gt_one}
 
 -- ---- notes
 
-pub rests-none : (r n step : ℕ) → rests r n step 0 ≡ []
-unfolding rests
-rests-none r n step = refl
+pub quotients-none : (r n step : ℕ) → quotients r n step 0 ≡ []
+unfolding quotients
+quotients-none r n step = refl
 
-pub rests-more : (r n step count : ℕ) → rests r n step (count + 1) ≡ rests r n step count ++ n / r ^ (step * (count + 1)) ∷ []
-unfolding rests
-rests-more r n step count = map-range_with_len_more (λ turn. n / r ^ (step * turn)) 1 count (count + 1) (omega arith)
+pub quotients-more : (r n step count : ℕ) → quotients r n step (count + 1) ≡ quotients r n step count ++ n / r ^ (step * (count + 1)) ∷ []
+unfolding quotients
+quotients-more r n step count = map-range_with_len_more (λ turn. n / r ^ (step * turn)) 1 count (count + 1) (omega arith)
 
-pub length-rests : (r n step count : ℕ) → length (rests r n step count) ≡ count
-unfolding rests
-length-rests r n step count = length-map-range_with_len (λ turn. n / r ^ (step * turn)) 1 count
+pub length-quotients : (r n step count : ℕ) → length (quotients r n step count) ≡ count
+unfolding quotients
+length-quotients r n step count = length-map-range_with_len (λ turn. n / r ^ (step * turn)) 1 count
 
 -- ---- a loop that takes `step` digits a turn
 
@@ -31,7 +31,7 @@ pub record IsDivided (r n step taken left : ℕ) (before after : List ℕ) : Typ
   pub by_turns : taken ≡ step * turns
   pub rest : left ≡ n / r ^ taken
   pub fewer : taken < digit_count r n
-  pub notes : after ≡ before ++ rests r n step turns
+  pub notes : after ≡ before ++ quotients r n step turns
 
 pub IsDivided-start : (r n step : ℕ) (notes : List ℕ) → IsDivided r n step 0 n notes notes
 IsDivided-start r n step notes = record {
@@ -39,7 +39,7 @@ IsDivided-start r n step notes = record {
   by_turns = omega arith;
   rest = rw (pow-zero, div-one) refl;
   fewer = digit_count-pos r n;
-  notes = rw rests-none (sym (append-nil notes));
+  notes = rw quotients-none (sym (append-nil notes));
 }
 
 -- where there is one more turn, more digits are left than it takes
@@ -57,7 +57,7 @@ IsDivided-more r n step taken left next before between after two d long e noted 
       by_turns = turn;
       rest = rest;
       fewer = IsDivided-room r n step taken left before between two d long;
-      notes = noted ∙ rw (d.notes, rests-more, ← turn, ← rest) (append_assoc before (rests r n step d.turns) (next ∷ []));
+      notes = noted ∙ rw (d.notes, quotients-more, ← turn, ← rest) (append_assoc before (quotients r n step d.turns) (next ∷ []));
     }
 
 -- at the end of the loop
@@ -66,9 +66,9 @@ TakesDigits-end r n step taken left before after two stepped d short =
     let few = digit_count-le r left step (step-pos step stepped) short in
     let counts = digit_count-left r n taken left two d.fewer d.rest in
     let order : d.turns * step ≡ step * d.turns = grind arith in
-    let parts : behind_first r n ≡ d.turns * step + (behind_first r n - taken) = omega (arith, d.by_turns, d.fewer) in
-    let turns : behind_first r n / step ≡ d.turns =
-    ap (λ k. k / step) parts ∙ div-mul-add d.turns step (behind_first r n - taken) (omega (arith, d.fewer)) in
+    let parts : digits_after_first r n ≡ d.turns * step + (digits_after_first r n - taken) = omega (arith, d.by_turns, d.fewer) in
+    let turns : digits_after_first r n / step ≡ d.turns =
+    ap (λ k. k / step) parts ∙ div-mul-add d.turns step (digits_after_first r n - taken) (omega (arith, d.fewer)) in
     record { count = rw turns d.by_turns; rest = d.rest; notes = rw turns d.notes }
 
 -- a loop that is not entered
@@ -80,8 +80,8 @@ pub left-smaller : (r step left next : ℕ) → 2 ≤ r → IsStep step → r ^ 
 left-smaller r step left next two stepped long e =
     omega (arith, power-gt_one r step two stepped, div-lt_self {n = left} {k = r ^ step} (omega (arith, power-gt_one r step two stepped)) (power-gt_one r step two stepped))
 
--- ---- behind the loop
+-- ---- after the loop
 
 pub TakesDigits-counts : {r n step taken left : ℕ} {before after : List ℕ} → 2 ≤ r → TakesDigits r n step taken left before after → digit_count r left + taken ≡ digit_count r n
 TakesDigits-counts {r} {n} {step} {taken} {left} two t =
-    digit_count-left r n taken left two (omega (arith, t.count, mul-div-le (behind_first r n) step, digit_count-pos r n)) t.rest
+    digit_count-left r n taken left two (omega (arith, t.count, mul-div-le (digits_after_first r n) step, digit_count-pos r n)) t.rest

@@ -1,13 +1,15 @@
 -- Laws of numerals: that there is one and only one, how many digits it has, and how it is made of parts.
-use Rattle.std.proofs.Common.{◌≡◌, ℕ, zero, suc, ◌+◌, ◌-◌, ◌*◌, ◌/◌, ◌%◌, ◌^◌, ◌<◌, ◌≤◌, List, [], ◌∷◌, ◌++◌, length, get_or, map, refl, sym, ap, ◌∙◌, arith, length-append}
+use Rattle.std.proofs.Common.{◌≡◌, ℕ, zero, suc, ◌+◌, ◌-◌, ◌*◌, ◌/◌, ◌%◌, ◌^◌, ◌<◌, ◌≤◌, List, [], ◌∷◌, ◌++◌, length, get_or, map, refl, sym, ap, ◌∙◌, inl, inr, arith, length-append}
 use Rattle.std.specs.Int.Digits.{digits_of, number_from_digits_after}
 use Rattle.std.proofs.Math.Nat.{pow-zero, pow-suc, one-le-pow, div-add-mod'}
 use Rattle.std.proofs.lemmas.Int.Digits.{number_digits_of, all_below_base_digits_of, first_digits_of, length-digits_of_step}
+use Rattle.std.proofs.lemmas.Bool.{cases_lt}
 use Rattle.std.proofs.lemmas.List.{get_or_append_left, length-map}
-use Rattle.std.proofs.lemmas.List.Elements.{All-nil, All-cons, All-append, All-from_recursion}
+use Rattle.std.proofs.lemmas.List.Elements.{All-nil, All-cons, All-head, All-append, All-from_recursion}
 use Rattle.std.proofs.lemmas.Nat.{le-div}
 use Rattle.lexical_num.specs.Digit.{digit_char}
-use Rattle.lexical_write_integer.specs.Numeral.{IsNumeral, IsNumeralOf, IsBlockOf, value_of, digit_count}
+use Rattle.lexical_write_integer.specs.DigitCount.{digit_count}
+use Rattle.lexical_write_integer.specs.Numeral.{IsNumeral, IsNumeralOf, IsBlockOf, value_of}
 use Rattle.lexical_write_integer.specs.Text.{IsDigits}
 use Rattle.lexical_write_integer.proofs.DigitCounts.{digit_count-is}
 use Rattle.lexical_write_integer.proofs.Values.{value_of-append, value_of-one, value_of-lt, value_of-ge, same_digits}
@@ -29,11 +31,21 @@ length-IsNumeral r digits two n =
 pub length-IsNumeralOf : {r n : ℕ} {digits : List ℕ} → 2 ≤ r → IsNumeralOf r n digits → length digits ≡ digit_count r n
 length-IsNumeralOf {r} {n} {digits} two p = length-IsNumeral r digits two p.numeral ∙ ap (digit_count r) p.value
 
-pub numeral_unique : (r : ℕ) (xs ys : List ℕ) → 2 ≤ r → IsNumeral r xs → IsNumeral r ys → value_of r xs ≡ value_of r ys → xs ≡ ys
-numeral_unique r xs ys two p q same =
-    same_digits r xs ys (length-IsNumeral r xs two p ∙ ap (digit_count r) same ∙ sym (length-IsNumeral r ys two q)) p.below_radix q.below_radix same
+-- below radix 2 the one numeral is that of 0
+only_zero : (r : ℕ) (digits : List ℕ) → r < 2 → IsNumeral r digits → digits ≡ 0 ∷ []
+only_zero r [] small n = absurd (omega (arith, n.nonempty))
+only_zero r (d ∷ digits) small n =
+    let below = All-head (λ d. d < r) d digits n.below_radix in
+    n.no_leading_zero (let first : d ≡ 0 = omega (arith, below) in first)
 
--- ---- blocks of digits, and numerals in front of them
+pub numeral_unique : (r : ℕ) (xs ys : List ℕ) → IsNumeral r xs → IsNumeral r ys → value_of r xs ≡ value_of r ys → xs ≡ ys
+numeral_unique r xs ys p q same =
+    elim (cases_lt r 2) [
+      | inl small ↦ only_zero r xs small p ∙ sym (only_zero r ys small q)
+      | inr two ↦ same_digits r xs ys (length-IsNumeral r xs two p ∙ ap (digit_count r) same ∙ sym (length-IsNumeral r ys two q)) p.below_radix q.below_radix same
+    ]
+
+-- ---- blocks of digits, and numerals before them
 
 pub IsBlockOf-one : (r d : ℕ) → d < r → IsBlockOf r 1 d (d ∷ [])
 IsBlockOf-one r d small = record {
@@ -59,7 +71,7 @@ IsNumeralOf-zero r some = record {
   value = value_of-one r 0;
 }
 
--- digits behind the numeral of a number that is not 0
+-- digits after the numeral of a number that is not 0
 IsNumeralOf-append : {r count q m : ℕ} {xs ys : List ℕ} → 0 < q → IsNumeralOf r q xs → IsBlockOf r count m ys → IsNumeralOf r (q * r ^ count + m) (xs ++ ys)
 IsNumeralOf-append {r} {count} {q} {m} {xs} {ys} pos p b = record {
   numeral = record {
@@ -117,7 +129,7 @@ IsNumeralOf-block r n count digits two few b =
 
 pub digits_unique : (r n : ℕ) (a b : List ℕ) → 2 ≤ r → IsDigits r n a → IsDigits r n b → a ≡ b
 digits_unique r n a b two p q =
-    let same = numeral_unique r p.digits q.digits two p.numeral.numeral q.numeral.numeral (p.numeral.value ∙ sym q.numeral.value) in
+    let same = numeral_unique r p.digits q.digits p.numeral.numeral q.numeral.numeral (p.numeral.value ∙ sym q.numeral.value) in
     p.characters ∙ ap (map digit_char) same ∙ sym q.characters
 
 pub length-IsDigits : (r n : ℕ) (text : List ℕ) → 2 ≤ r → IsDigits r n text → length text ≡ digit_count r n

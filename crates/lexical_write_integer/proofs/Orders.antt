@@ -1,5 +1,5 @@
 -- Texts and their numbers: a text belongs to one number, and the order of texts is that of their numbers.
-use Rattle.std.proofs.Common.{◌≡◌, ℕ, suc, ◌+◌, ◌*◌, ◌^◌, ◌<◌, ◌≤◌, List, [], ◌∷◌, ◌++◌, length, get_or, map, Bool, true, false, ◌↔◌, inl, inr, refl, sym, ap, ◌∙◌, arith, ℤ, pos, negsuc, ◌<ℤ◌, ◌≤ℤ◌, length-append}
+use Rattle.std.proofs.Common.{◌≡◌, Option, None, Some, ℕ, suc, ◌+◌, ◌*◌, ◌^◌, ◌<◌, ◌≤◌, List, [], ◌∷◌, ◌++◌, length, get_or, map, Bool, true, false, ◌↔◌, inl, inr, refl, sym, ap, ◌∙◌, arith, ℤ, pos, negsuc, ◌<ℤ◌, ◌≤ℤ◌, length-append}
 use Rattle.std.specs.Cmp.{nat_cmp_is, ranks}
 use Rattle.std.specs.Cmp.Derive.Mapped.{lex_map}
 use Rattle.std.specs.Cmp.Lexicographic.{slice_cmp}
@@ -7,7 +7,7 @@ use Rattle.std.specs.List.{All}
 use Rattle.std.specs.Ordering.{nat_cmp, ordering_then}
 use Rattle.std.specs.declared.cmp.Ordering.TheVariants.{Less, Equal, Greater}
 use Rattle.std.proofs.Math.Nat.{mul-le-mul_right}
-use Rattle.std.proofs.lemmas.Bool.{cases_lt}
+use Rattle.std.proofs.lemmas.Bool.{cases_lt, cases_order}
 use Rattle.std.proofs.lemmas.Cmp.{by_ranked, nat_cmp_total, tied_itself}
 use Rattle.std.proofs.lemmas.Int.{ints}
 use Rattle.std.proofs.lemmas.List.{append_cancel_left, length-map}
@@ -15,10 +15,12 @@ use Rattle.std.proofs.lemmas.List.Elements.{All-tail}
 use Rattle.lexical_num.specs.Digit.{digit_char}
 use Rattle.lexical_num.specs.Format.{Format}
 use Rattle.lexical_num.specs.Sign.{sign_of}
+use Rattle.lexical_write_integer.specs.Groups.{mark_before, in_groups, grouped}
 use Rattle.lexical_write_integer.specs.Numeral.{value_of}
 use Rattle.lexical_write_integer.specs.Order.{ComesBefore}
 use Rattle.lexical_write_integer.specs.Text.{IsDigits, IsText}
 use Rattle.lexical_write_integer.proofs.DigitCounts.{digit_count-monotone}
+use Rattle.lexical_write_integer.proofs.GroupedDigits.{grouped-injective, length-grouped_lt, length-grouped_same}
 use Rattle.lexical_write_integer.proofs.Numerals.{length-IsDigits}
 use Rattle.lexical_write_integer.proofs.Values.{value_of-lt}
 
@@ -39,38 +41,50 @@ map-digit_char_injective (x ∷ xs) (y ∷ ys) same =
     let rest : xs ≡ ys = map-digit_char_injective xs ys (cc) in
     cc
 
-pub same_from_IsDigits : (r m n : ℕ) (text : List ℕ) → IsDigits r m text → IsDigits r n text → m ≡ n
-same_from_IsDigits r m n text p q =
+pub equal_from_IsDigits : (r m n : ℕ) (text : List ℕ) → IsDigits r m text → IsDigits r n text → m ≡ n
+equal_from_IsDigits r m n text p q =
     sym p.numeral.value ∙ ap (value_of r) (map-digit_char_injective p.digits q.digits (sym p.characters ∙ q.characters)) ∙ q.numeral.value
 
--- a list of characters of digits has no sign in it
-no_sign : (sign : ℕ) (rest digits : List ℕ) → sign < 48 → sign ∷ rest ≡ map digit_char digits → ⊥
-no_sign sign rest [] small e = cc
-no_sign sign rest (d ∷ digits) small e =
-    let first : sign ≡ digit_char d = cc in
-    omega (arith, digit_char-ge d)
+-- digits begin with the first of them, in groups or not
+get_or-grouped : (grouping : Option (ℕ × ℕ)) (digits : List ℕ) → get_or (grouped grouping digits) 0 0 ≡ get_or digits 0 0
+get_or-grouped None digits = refl
+get_or-grouped (Some grouping) [] = refl
+get_or-grouped (Some grouping) (digit ∷ []) = refl
+get_or-grouped (Some grouping) (digit ∷ next ∷ digits) = refl
 
-signs_differ : (required : Bool) (n : ℕ) (s digits : List ℕ) → 45 ∷ s ≡ sign_of (pos n) required ++ map digit_char digits → ⊥
-signs_differ true n s digits e =
+-- characters of digits begin with no sign
+no_sign : (grouping : Option (ℕ × ℕ)) (sign : ℕ) (rest digits : List ℕ) → 0 < sign → sign < 48 → sign ∷ rest ≡ grouped grouping (map digit_char digits) → ⊥
+no_sign grouping sign rest digits some small e =
+    let first : sign ≡ get_or (map digit_char digits) 0 0 = ap (λ text. get_or text 0 0) e ∙ get_or-grouped grouping (map digit_char digits) in
+    differ digits first
+  where
+    differ : (digits : List ℕ) → sign ≡ get_or (map digit_char digits) 0 0 → ⊥
+    differ [] first = omega arith
+    differ (d ∷ digits) first = omega (arith, digit_char-ge d)
+
+signs_differ : (grouping : Option (ℕ × ℕ)) (required : Bool) (n : ℕ) (s digits : List ℕ) → 45 ∷ s ≡ sign_of (pos n) required ++ grouped grouping (map digit_char digits) → ⊥
+signs_differ grouping true n s digits e =
     let same : ◌≡◌ {A = ℕ} 45 43 = ap (λ text. get_or text 0 0) e in
     omega arith
-signs_differ false n s digits e = no_sign 45 s digits (omega arith) e
+signs_differ grouping false n s digits e = no_sign grouping 45 s digits (omega arith) (omega arith) e
 
 -- a number below 0 and one that is not have no text in common
 IsText-one_sign : (m n : ℕ) (format : Format) (text : List ℕ) → IsText (negsuc m) format text → IsText (pos n) format text → ⊥
 IsText-one_sign m n format text p q =
-    signs_differ format.required_mantissa_sign n p.digits q.magnitude.digits (sym p.whole ∙ q.whole ∙ ap (λ digits. sign_of (pos n) format.required_mantissa_sign ++ digits) q.magnitude.characters)
+    signs_differ format.digit_grouping format.required_mantissa_sign n (grouped format.digit_grouping p.digits) q.magnitude.digits (sym p.whole ∙ q.whole ∙ ap (λ digits. sign_of (pos n) format.required_mantissa_sign ++ grouped format.digit_grouping digits) q.magnitude.characters)
 
-pub same_from_IsText : (m n : ℤ) (format : Format) (text : List ℕ) → IsText m format text → IsText n format text → m ≡ n
-same_from_IsText (pos m) (pos n) format text p q =
-    let same = append_cancel_left (sign_of (pos m) format.required_mantissa_sign) p.digits q.digits (sym p.whole ∙ q.whole) in
-    ap pos (same_from_IsDigits format.mantissa_radix m n q.digits (rw same at p.magnitude) q.magnitude)
-same_from_IsText (negsuc m) (negsuc n) format text p q =
-    let same : p.digits ≡ q.digits = append_cancel_left (45 ∷ []) p.digits q.digits (sym p.whole ∙ q.whole) in
-    let abs : suc m ≡ suc n = same_from_IsDigits format.mantissa_radix (suc m) (suc n) q.digits (rw same at p.magnitude) q.magnitude in
+pub equal_from_IsText : (m n : ℤ) (format : Format) (text : List ℕ) → IsText m format text → IsText n format text → m ≡ n
+equal_from_IsText (pos m) (pos n) format text p q =
+    let grouping = format.digit_grouping in
+    let same = grouped-injective grouping p.digits q.digits (append_cancel_left (sign_of (pos m) format.required_mantissa_sign) (grouped grouping p.digits) (grouped grouping q.digits) (sym p.whole ∙ q.whole)) in
+    ap pos (equal_from_IsDigits format.mantissa_radix m n q.digits (rw same at p.magnitude) q.magnitude)
+equal_from_IsText (negsuc m) (negsuc n) format text p q =
+    let grouping = format.digit_grouping in
+    let same = grouped-injective grouping p.digits q.digits (append_cancel_left (45 ∷ []) (grouped grouping p.digits) (grouped grouping q.digits) (sym p.whole ∙ q.whole)) in
+    let abs : suc m ≡ suc n = equal_from_IsDigits format.mantissa_radix (suc m) (suc n) q.digits (rw same at p.magnitude) q.magnitude in
     ap negsuc (omega arith)
-same_from_IsText (negsuc m) (pos n) format text p q = absurd (IsText-one_sign m n format text p q)
-same_from_IsText (pos m) (negsuc n) format text p q = absurd (IsText-one_sign n m format text q p)
+equal_from_IsText (negsuc m) (pos n) format text p q = absurd (IsText-one_sign m n format text p q)
+equal_from_IsText (pos m) (negsuc n) format text p q = absurd (IsText-one_sign n m format text q p)
 
 -- ---- the order of bytes, which for lists of one length is that of their values
 
@@ -80,7 +94,7 @@ lt-nat_cmp m n less = sym (nat_cmp_is m n Less less)
 nat_cmp-Less : (m n : ℕ) → nat_cmp m n ≡ Less → m < n
 nat_cmp-Less m n less = rw less at (ranks m n)
 
--- what keeps `<` keeps the answer of a comparison
+-- what keeps `<` keeps the result of a comparison
 nat_cmp-monotone : (f : ℕ → ℕ) → ((m n : ℕ) → m < n → f m < f n) → (m n : ℕ) → nat_cmp (f m) (f n) ≡ nat_cmp m n
 nat_cmp-monotone f more m n =
     by_ranked (m < n) (m ≡ n) (n < m) (nat_cmp m n) (ranks m n)
@@ -164,10 +178,52 @@ ComesBefore-append front s t =
       ],
     )
 
+-- in groups digits keep their order, since those of one length have their marks at the same places
+slice_cmp-in_groups : (grouping : ℕ × ℕ) (s t : List ℕ) → length s ≡ length t → slice_cmp nat_cmp (in_groups grouping s) (in_groups grouping t) ≡ slice_cmp nat_cmp s t
+slice_cmp-in_groups grouping [] [] long = refl
+slice_cmp-in_groups grouping [] (c ∷ t) long = absurd (omega arith)
+slice_cmp-in_groups grouping (c ∷ s) [] long = absurd (omega arith)
+slice_cmp-in_groups grouping (c ∷ []) (d ∷ []) long = refl
+slice_cmp-in_groups grouping (c ∷ []) (d ∷ next ∷ t) long = absurd (omega arith)
+slice_cmp-in_groups grouping (c ∷ next ∷ s) (d ∷ []) long = absurd (omega arith)
+slice_cmp-in_groups grouping (c ∷ next ∷ s) (d ∷ other ∷ t) long =
+    let right : length (other ∷ t) ≡ length (next ∷ s) = omega arith in
+    let mark = mark_before grouping (length (next ∷ s)) in
+    ap (ordering_then (nat_cmp c d))
+    (ap (λ n. slice_cmp nat_cmp (mark ++ in_groups grouping (next ∷ s)) (mark_before grouping n ++ in_groups grouping (other ∷ t))) right
+    ∙ slice_cmp-append mark (in_groups grouping (next ∷ s)) (in_groups grouping (other ∷ t))
+    ∙ slice_cmp-in_groups grouping (next ∷ s) (other ∷ t) (omega arith))
+
+slice_cmp-grouped : (grouping : Option (ℕ × ℕ)) (s t : List ℕ) → length s ≡ length t → slice_cmp nat_cmp (grouped grouping s) (grouped grouping t) ≡ slice_cmp nat_cmp s t
+slice_cmp-grouped None s t long = refl
+slice_cmp-grouped (Some grouping) s t long = slice_cmp-in_groups grouping s t long
+
+ComesBefore-grouped : (grouping : Option (ℕ × ℕ)) (s t : List ℕ) → ComesBefore s t ↔ ComesBefore (grouped grouping s) (grouped grouping t)
+ComesBefore-grouped grouping s t = (
+  λ before. elim before [
+    | inl shorter ↦ inl (length-grouped_lt grouping s t shorter)
+    | inr earlier ↦ inr (length-grouped_same grouping s t earlier.0, slice_cmp-grouped grouping s t earlier.0 ∙ earlier.1)
+  ],
+  λ before. elim (cases_order (length s) (length t)) [
+    | inl same ↦ elim before [
+      | inl shorter ↦ absurd (omega (arith, length-grouped_same grouping s t same))
+      | inr earlier ↦ inr (same, sym (slice_cmp-grouped grouping s t same) ∙ earlier.1)
+    ]
+    | inr other ↦ elim other [
+      | inl shorter ↦ inl shorter
+      | inr longer ↦ elim before [
+        | inl shorter ↦ absurd (omega (arith, length-grouped_lt grouping t s longer))
+        | inr earlier ↦ absurd (omega (arith, length-grouped_lt grouping t s longer, earlier.0))
+      ]
+    ]
+  ],
+)
+
 pub ComesBefore-IsText : (m n : ℤ) (format : Format) (s t : List ℕ) → 2 ≤ format.mantissa_radix → pos 0 ≤ℤ m → pos 0 ≤ℤ n → IsText m format s → IsText n format t → (m <ℤ n) ↔ ComesBefore s t
 ComesBefore-IsText (pos m) (pos n) format s t two _ _ p q =
     let digits = ComesBefore-IsDigits format.mantissa_radix m n p.digits q.digits two p.magnitude q.magnitude in
-    let whole = ComesBefore-append (sign_of (pos m) format.required_mantissa_sign) p.digits q.digits in
-    rw (p.whole, q.whole) (λ less. whole.0 (digits.0 (omega (arith, ints))), λ before. let less = digits.1 (whole.1 before) in omega (arith, ints))
+    let groups = ComesBefore-grouped format.digit_grouping p.digits q.digits in
+    let whole = ComesBefore-append (sign_of (pos m) format.required_mantissa_sign) (grouped format.digit_grouping p.digits) (grouped format.digit_grouping q.digits) in
+    rw (p.whole, q.whole) (λ less. whole.0 (groups.0 (digits.0 (omega (arith, ints)))), λ before. let less = digits.1 (groups.1 (whole.1 before)) in omega (arith, ints))
 ComesBefore-IsText (negsuc m) n format s t two low _ p q = absurd (omega (arith, ints, low))
 ComesBefore-IsText (pos m) (negsuc n) format s t two _ low p q = absurd (omega (arith, ints, low))

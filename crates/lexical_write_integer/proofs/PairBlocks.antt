@@ -1,11 +1,11 @@
 -- Pairs of decimal digits: what stands in the table, and how the pairs of a fraction make up the digits that it carries.
 use Rattle.std.proofs.Common.{◌≡◌, ℕ, ◌+◌, ◌*◌, ◌/◌, ◌%◌, ◌^◌, ◌<◌, ◌≤◌, List, length, get_or, set, arith}
 use Rattle.lexical_tables.specs.Pairs.{pairs}
-use Rattle.lexical_tables.proofs.PairsLemmas.{slice_index-pairs_first, slice_index-pairs_second}
+use Rattle.lexical_tables.proofs.Pairs.{slice_index-pairs_first, slice_index-pairs_second}
 use Rattle.lexical_write_integer.specs.Buffer.{WritesBlock, WritesDigits}
 use Rattle.lexical_write_integer.specs.Carries.{carried}
-use Rattle.lexical_write_integer.specs.Numeral.{digit_count}
-use Rattle.lexical_write_integer.proofs.BlocksBehind.{WritesDigits-behind}
+use Rattle.lexical_write_integer.specs.DigitCount.{digit_count}
+use Rattle.lexical_write_integer.proofs.BlocksAfter.{WritesDigits-after}
 use Rattle.lexical_write_integer.proofs.DigitCounts.{digit_count-le, digit_count-monotone, digit_count-split}
 use Rattle.lexical_write_integer.proofs.Fractions.{carried-more, carried-monotone}
 use Rattle.lexical_write_integer.proofs.TablePairs.{WritesBlock-two}
@@ -40,7 +40,7 @@ pub digit_count-carried : (y i : ℕ) → 1 ≤ y / 2 ^ 32 → digit_count 10 (c
 digit_count-carried y i first =
     rw carried-front at (digit_count-split 10 2 (carried y (i + 1)) (omega arith) (carried-long y i first))
 
--- the next pair, behind the pairs that are written
+-- the next pair, after the pairs that are written
 pub WritesDigits-pair : (y i pair count : ℕ) (before between after : List ℕ) → 1 ≤ y / 2 ^ 32 → digit_count 10 (carried y (i + 1)) ≤ length before → pair ≡ y * 100 ^ i % 2 ^ 32 * 100 / 2 ^ 32 → WritesDigits 10 (carried y i) before between count → WritesBlock 10 2 pair count between after → WritesDigits 10 (carried y (i + 1)) before after (count + 2)
 WritesDigits-pair y i pair count before between after first room is front last =
-    WritesDigits-behind 10 (carried y (i + 1)) 2 count before between after (omega arith) (carried-long y i first) room (rw (carried-front y i) front) (rw (carried-last y i, ← is) last)
+    WritesDigits-after 10 (carried y (i + 1)) 2 count before between after (omega arith) (carried-long y i first) room (rw (carried-front y i) front) (rw (carried-last y i, ← is) last)

@@ -1,10 +1,10 @@
 -- The powers of a radix that the loops divide by: which of them fit which type.
-use Rattle.std.proofs.Common.{◌≡◌, ◌≢◌, ℕ, ◌+◌, ◌*◌, ◌%◌, ◌^◌, ◌<◌, ◌≤◌, ◌↔◌, true, ltb, leb, IsTrue, refl, inl, inr, arith}
-use Rattle.std.proofs.Math.Nat.{pow-zero, pow-suc, pow-le-pow_left, pow-le-pow_right, mod-lt, div-add-mod', mul-le-mul_right}
+use Rattle.std.proofs.Common.{◌≡◌, ◌≢◌, ℕ, ◌+◌, ◌*◌, ◌^◌, ◌<◌, ◌≤◌, ◌↔◌, true, ltb, leb, IsTrue, refl, inl, inr, arith}
+use Rattle.std.proofs.Math.Nat.{pow-zero, pow-suc, pow-le-pow_left, pow-le-pow_right}
 use Rattle.std.proofs.lemmas.Bool.{leb-true, le-leb, ltb-true, cases_lt}
-use Rattle.std.proofs.lemmas.Nat.{pow-add, mul-le, le-div}
-use Rattle.lexical_num.specs.Width.{IsWidth, is_8, is_16, is_32, is_64}
-use Rattle.lexical_write_integer.specs.Turns.{IsStep, takes_one, takes_two, takes_four}
+use Rattle.std.proofs.lemmas.Nat.{pow-add}
+use Rattle.lexical_num.specs.BitWidth.{IsBitWidth, is_8, is_16, is_32, is_64}
+use Rattle.lexical_write_integer.specs.LoopTurns.{IsStep, takes_one, takes_two, takes_four}
 use Rattle.lexical_write_integer.proofs.DigitCounts.{pow-lt_more}
 use Rattle.lexical_write_integer.proofs.Values.{pow-one}
 
@@ -23,7 +23,7 @@ fits_36 radix exponent bits few low =
     (λ _. omega (arith, ltb-true (36 ^ exponent) (2 ^ bits) low, pow-le-pow_left {n = radix} {m = 36} few exponent), λ _. refl)
 
 -- where no radix is too large
-pub fits_always : (radix exponent bits : ℕ) → radix ≤ 36 → IsStep exponent → IsWidth bits → (exponent ≡ 4 → bits ≢ 8) → (exponent ≡ 4 → bits ≢ 16) → (exponent ≡ 2 → bits ≢ 8) → IsTrue true ↔ (radix ^ exponent < 2 ^ bits)
+pub fits_always : (radix exponent bits : ℕ) → radix ≤ 36 → IsStep exponent → IsBitWidth bits → (exponent ≡ 4 → bits ≢ 8) → (exponent ≡ 4 → bits ≢ 16) → (exponent ≡ 2 → bits ≢ 8) → IsTrue true ↔ (radix ^ exponent < 2 ^ bits)
 fits_always radix exponent bits few takes_one is_8 four_8 four_16 two_8 = fits_36 radix 1 8 few refl
 fits_always radix exponent bits few takes_one is_16 four_8 four_16 two_8 = fits_36 radix 1 16 few refl
 fits_always radix exponent bits few takes_one is_32 four_8 four_16 two_8 = fits_36 radix 1 32 few refl
@@ -47,11 +47,6 @@ step-pos step takes_one = omega arith
 step-pos step takes_two = omega arith
 step-pos step takes_four = omega arith
 
-pub step-two : (step : ℕ) → IsStep step → 2 ≤ step → step ≢ 4 → step ≡ 2
-step-two step takes_one several other = absurd (omega arith)
-step-two step takes_two several other = refl
-step-two step takes_four several other = absurd (other refl)
-
 pub step-le_4 : (step : ℕ) → IsStep step → step ≤ 4
 step-le_4 step takes_one = omega arith
 step-le_4 step takes_two = omega arith
@@ -70,12 +65,3 @@ pow-two r = rw (pow-suc r 1, pow-one) refl
 
 pub pow-four : (r : ℕ) → r ^ 4 ≡ r * r * (r * r)
 pow-four r = rw (pow-add r 2 2, pow-two) refl
-
-pub square-small : (r : ℕ) → r ≤ 36 → r * r ≤ 1296
-square-small r few = mul-le r r 36 36 few few
-
--- what a division by a number leaves of one that is not below it is less than half of that
-pub twice_rest-lt : (n power : ℕ) → 0 < power → power ≤ n → 2 * (n % power) < n
-twice_rest-lt n power some long =
-    let once = mul-le-mul_right power (le-div 1 n power some (omega arith)) in
-    omega (arith, div-add-mod' n power, mod-lt n some)

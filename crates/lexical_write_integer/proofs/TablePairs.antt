@@ -4,8 +4,8 @@ use Rattle.std.proofs.Math.Nat.{mod-lt, div-add-mod'}
 use Rattle.std.proofs.lemmas.List.{get_or-take}
 use Rattle.std.proofs.lemmas.Nat.{div_below}
 use Rattle.lexical_num.specs.Digit.{digit_char}
-use Rattle.lexical_tables.specs.Pairs.{digit_character}
-use Rattle.lexical_tables.proofs.PairsLemmas.{length-pairs, slice_index-pairs_first, slice_index-pairs_second}
+use Rattle.lexical_tables.specs.Pairs as Tables
+use Rattle.lexical_tables.proofs.Pairs.{length-pairs, slice_index-pairs_first, slice_index-pairs_second}
 use Rattle.lexical_write_integer.specs.Buffer.{WritesBlock}
 use Rattle.lexical_write_integer.specs.Table.{BeginsWithPairs}
 use Rattle.lexical_write_integer.proofs.Blocks.{WritesBlock-one, WritesBlock-front}
@@ -13,7 +13,7 @@ use Rattle.lexical_write_integer.proofs.RadixPowers.{pow-two}
 use Rattle.lexical_write_integer.proofs.Values.{pow-one}
 
 -- the tables are made of the characters that the writers write
-same_characters : (digit : ℕ) → digit_character digit ≡ digit_char digit
+same_characters : (digit : ℕ) → Tables.digit_char digit ≡ digit_char digit
 same_characters digit = refl
 
 pub length-table : (r : ℕ) (table : List ℕ) → BeginsWithPairs r table → 2 * (r * r) ≤ length table
@@ -24,7 +24,7 @@ pair_first r place table t even within =
     let twice : 2 * (place / 2) ≡ place = omega arith in
     sym (get_or-take (2 * (r * r)) table place 0 (omega arith)) ∙ ap (λ list. get_or list place 0) t.first ∙ rw twice at (slice_index-pairs_first r (place / 2) within) ∙ same_characters (place / 2 / r)
 
-pair_second : (r place : ℕ) (table : List ℕ) → BeginsWithPairs r table → place % 2 ≡ 0 → place / 2 < r * r → get_or table (place + 1) 0 ≡ digit_char (place / 2 % r)
+pub pair_second : (r place : ℕ) (table : List ℕ) → BeginsWithPairs r table → place % 2 ≡ 0 → place / 2 < r * r → get_or table (place + 1) 0 ≡ digit_char (place / 2 % r)
 pair_second r place table t even within =
     let twice : 2 * (place / 2) ≡ place = omega arith in
     sym (get_or-take (2 * (r * r)) table (place + 1) 0 (omega arith)) ∙ ap (λ list. get_or list (place + 1) 0) t.first ∙ rw twice at (slice_index-pairs_second r (place / 2) within) ∙ same_characters (place / 2 % r)

@@ -1,151 +1,196 @@
 //! The table writer: four digits a turn, by a table of the pairs of digits of the radix.
 
-ghost use Rattle.std.specs.Prelude.{◌≡◌, ◌+◌, ◌-◌, ◌*◌, ◌/◌, ◌%◌, ◌^◌, ◌<◌, ◌≤◌, ◌++◌, [], ◌∷◌, length};
+ghost use Rattle.std.specs.Prelude.{◌≡◌, ◌+◌, ◌*◌, ◌^◌, ◌<◌, ◌≤◌, ◌++◌, true, false, length};
 ghost use Rattle.lexical_num.specs.Format.{IsRadix};
-ghost use Rattle.lexical_write_integer.specs.Buffer.{WritesBlock, WritesDigits};
-ghost use Rattle.lexical_write_integer.specs.Numeral.{digit_count};
+ghost use Rattle.lexical_write_integer.specs.Buffer.{WritesDigits};
+ghost use Rattle.lexical_write_integer.specs.DigitCount.{digit_count};
 ghost use Rattle.lexical_write_integer.specs.Table.{BeginsWithPairs};
-ghost use Rattle.lexical_write_integer.specs.Text.{IsDigits};
-ghost use Rattle.lexical_write_integer.specs.Turns.{IsStep, TakesDigits, loop_notes, table_notes, table_turns};
+ghost use Rattle.lexical_write_integer.specs.LoopTurns.{is_counted_at_once, table_notes, table_turns};
 
-use crate::digit_count::{DigitCount, digit_count_counted, power_of};
+use crate::decimal::DecimalCount;
+use crate::digit_count::DigitCount;
+use crate::logarithm::fast_log2;
+use crate::quotients::{count_and_keep, count_short};
+use crate::table_digits::{fill_by_division, fill_by_kept, fill_short};
+use crate::table_pairs::RadixTable;
 use crate::turns::Turns;
-use lexical_num::digit::digit_to_char;
 use lexical_num::num::UnsignedInteger;
 
-// A radix and its pairs of digits.
-#[derive(Drop)]
-struct Pairs<'a> {
+// Writes a number in a radix in which its digits are counted by divisions. No number of 64 bits has
+// more quotients to be kept than there is room for.
+fn write_slow<T: UnsignedInteger, const R: u32, const QUOTIENTS: usize>(
+    value: T,
+    is_short: bool,
     radix: u32,
-    square: u32,
-    table: &'a [u8],
-    ghost is_radix: { IsRadix radix },
-    ghost is_square: { square ≡ radix * radix },
-    ghost begins: { BeginsWithPairs radix table.now },
-}
-
-// Copies the pair that stands at a place of the table, which is twice the pair's number.
-fn write_pair(place: usize, pairs: &Pairs<'_>, buffer: &mut [u8], at: usize)
-    requires even { place % 2 ≡ 0 }
-    requires pair { place / 2 < pairs.now.square }
-    requires room { at + 2 ≤ length buffer.old }
-    ensures { WritesBlock pairs.now.radix 2 (place / 2) at buffer.old buffer.new }
-{
-    buffer[at + 1] = pairs.table[place + 1];
-    buffer[at] = pairs.table[place];
-}
-
-// Writes four digits as two pairs, the last one first.
-fn write_two_pairs(number: u32, pairs: &Pairs<'_>, buffer: &mut [u8], at: usize)
-    requires number { number < pairs.now.radix ^ 4 }
-    requires room { at + 4 ≤ length buffer.old }
-    ensures { WritesBlock pairs.now.radix 4 number at buffer.old buffer.new }
-{
-    let high = number / pairs.square;
-    let low = number % pairs.square;
-    write_pair(2 * low as usize, pairs, buffer, at + 2);
-    write_pair(2 * high as usize, pairs, buffer, at);
-}
-
-// A turn of a loop: takes the last digits off a number that has more, four or two of them, writes
-// them at a place, and notes what it leaves. The place of a pair fits the type of the number.
-fn write_turn<T: UnsignedInteger>(
-    number: T,
-    power: T,
-    step: u32,
-    pairs: &Pairs<'_>,
+    table: &[u8],
     buffer: &mut [u8],
-    at: usize,
     turns: &mut Turns,
-) -> T
-    requires step { IsStep step }
-    requires several { 2 ≤ step }
-    requires power { T.magnitude power ≡ pairs.now.radix ^ step }
-    requires long { T.magnitude power ≤ T.magnitude number }
-    requires room { at + step ≤ length buffer.old }
-    ensures left { T.magnitude result ≡ T.magnitude number / T.magnitude power }
-    ensures written { WritesBlock pairs.now.radix step (T.magnitude number % T.magnitude power) at
-        buffer.old buffer.new }
-    ensures notes { turns.new ≡ turns.old ++ T.magnitude result ∷ [] }
+) -> usize
+    requires wide { 32 ≤ T.BITS }
+    requires same { radix ≡ R }
+    requires by_turns { is_counted_at_once R ≡ false }
+    requires few { QUOTIENTS ≤ 16 }
+    requires enough { 2 ^ 64 ≤ R ^ (4 * (QUOTIENTS + 1)) }
+    requires radix { IsRadix radix }
+    requires table { BeginsWithPairs radix table.now }
+    requires room { digit_count radix (T.magnitude value) ≤ length buffer.old }
+    ensures digits { WritesDigits radix (T.magnitude value) buffer.old buffer.new result }
+    ensures count { result ≡ digit_count radix (T.magnitude value) }
+    ensures notes { turns.new ≡ turns.old ++ table_notes radix (T.magnitude value) }
 {
-    number.fits_bits();
-    let (left, last) = number.div_rem(power);
-    let digits = last.as_u32();
-    if step == 4 {
-        write_two_pairs(digits, pairs, buffer, at);
-    } else {
-        write_pair(T::from_u32(2 * digits).as_usize(), pairs, buffer, at);
+    let radix_table = RadixTable::<R> { table };
+    let number = value.as_usize() as u64;
+    if (R >= 32 || is_short) && number < u64::from(R * R) {
+        let count = count_short::<R>(number as u32, turns);
+        fill_short(number as u32, &radix_table, &mut buffer[..count], turns);
+        return count;
     }
-    turns.tick(left.as_usize() as u64);
-    left
+    let mut kept = [0; QUOTIENTS];
+    let (left, fours, count) = count_and_keep::<T, R>(value, &mut kept, turns);
+    let digits = &mut buffer[..count];
+    fill_by_kept(number, left, &kept[..fours], &radix_table, digits, turns);
+    count
 }
 
-// Takes `step` digits a turn off a number while it has more, and writes them in front of `end`,
-// from the back. It answers what is left, and how many digits were taken.
-fn write_while_long<T: UnsignedInteger>(
-    value: T,
-    step: u32,
-    pairs: &Pairs<'_>,
-    buffer: &mut [u8],
-    end: usize,
-    turns: &mut Turns,
-) -> (T, usize)
-    requires step { IsStep step }
-    requires several { 2 ≤ step }
-    requires room { digit_count pairs.now.radix (T.magnitude value) ≤ end }
-    requires within { end ≤ length buffer.old }
-    ensures taken { TakesDigits pairs.now.radix (T.magnitude value) step result.1
-        (T.magnitude result.0) turns.old turns.new }
-    ensures written { WritesBlock pairs.now.radix result.1
-        (T.magnitude value % pairs.now.radix ^ result.1) (end - result.1) buffer.old buffer.new }
-{
-    value.fits_bits();
-    let Some(power) = power_of::<T>(pairs.radix, step) else {
-        return (value, 0);
-    };
-    let mut left = value;
-    let mut taken = 0;
-    while left.is_at_least(power) {
-        taken += step as usize;
-        left = write_turn(left, power, step, pairs, buffer, end - taken, turns);
-    }
-    (left, taken)
-}
-
-// Writes the one or two digits of a number to the front.
-fn write_first<T: UnsignedInteger>(number: T, pairs: &Pairs<'_>, buffer: &mut [u8])
-    requires short { digit_count pairs.now.radix (T.magnitude number) ≤ 2 }
-    requires room { digit_count pairs.now.radix (T.magnitude number) ≤ length buffer.old }
-    ensures { WritesBlock pairs.now.radix (digit_count pairs.now.radix (T.magnitude number))
-        (T.magnitude number) 0 buffer.old buffer.new }
-{
-    let digits = number.as_u32();
-    if digits < pairs.radix {
-        buffer[0] = digit_to_char(digits);
-    } else {
-        write_pair(2 * number.as_usize(), pairs, buffer, 0);
-    }
-}
-
-// Writes the digits of a number over a buffer of just their count, from the back.
-#[tactic(auto, using(crate::proofs::RadixPowers::steps))]
-fn fill_digits<T: UnsignedInteger>(
-    value: T,
-    pairs: &Pairs<'_>,
+// Writes a number in a radix in which its digits are counted at once.
+fn write_at_once<const R: u32>(
+    value: u64,
+    is_short: bool,
+    count: usize,
+    radix: u32,
+    table: &[u8],
     buffer: &mut [u8],
     turns: &mut Turns,
 )
-    requires { length buffer.old ≡ digit_count pairs.now.radix (T.magnitude value) }
-    ensures digits { IsDigits pairs.now.radix (T.magnitude value) buffer.new }
-    ensures notes { turns.new ≡ turns.old ++ loop_notes pairs.now.radix (T.magnitude value) }
+    requires same { radix ≡ R }
+    requires at_once { is_counted_at_once R ≡ true }
+    requires count { count ≡ digit_count radix value }
+    requires radix { IsRadix radix }
+    requires table { BeginsWithPairs radix table.now }
+    requires room { digit_count radix value ≤ length buffer.old }
+    ensures digits { WritesDigits radix value buffer.old buffer.new count }
+    ensures notes { turns.new ≡ turns.old ++ table_notes radix value }
 {
-    let end = buffer.len();
-    let (left, fours) = write_while_long(value, 4, pairs, buffer, end, turns);
-    let (left, _) = write_while_long(left, 2, pairs, buffer, end - fours, turns);
-    write_first(left, pairs, buffer);
+    let radix_table = RadixTable::<R> { table };
+    if (R >= 32 || is_short) && value < u64::from(R * R) {
+        fill_short(value as u32, &radix_table, &mut buffer[..count], turns);
+    } else {
+        fill_by_division(value, &radix_table, &mut buffer[..count], turns);
+    }
 }
 
-/// Writes the digits of the number to the front of the buffer, and answers how many they are. The
+// Writes a number in a radix that is a power of two.
+fn write_bits<const R: u32, const K: usize>(
+    value: u64,
+    is_short: bool,
+    radix: u32,
+    table: &[u8],
+    buffer: &mut [u8],
+    turns: &mut Turns,
+) -> usize
+    requires same { radix ≡ R }
+    requires some { 0 < K }
+    requires power { R ≡ 2 ^ K }
+    requires at_once { is_counted_at_once R ≡ true }
+    requires radix { IsRadix radix }
+    requires table { BeginsWithPairs radix table.now }
+    requires room { digit_count radix value ≤ length buffer.old }
+    ensures digits { WritesDigits radix value buffer.old buffer.new result }
+    ensures count { result ≡ digit_count radix value }
+    ensures notes { turns.new ≡ turns.old ++ table_notes radix value }
+{
+    let count = fast_log2(value) / K + 1;
+    write_at_once::<R>(value, is_short, count, radix, table, buffer, turns);
+    count
+}
+
+// Writes a number in any radix, by the function of the radix.
+fn write_in_radix<T: UnsignedInteger>(
+    value: T,
+    is_short: bool,
+    radix: u32,
+    table: &[u8],
+    buffer: &mut [u8],
+    turns: &mut Turns,
+) -> usize
+    requires wide { 32 ≤ T.BITS }
+    requires radix { IsRadix radix }
+    requires table { BeginsWithPairs radix table.now }
+    requires room { digit_count radix (T.magnitude value) ≤ length buffer.old }
+    ensures digits { WritesDigits radix (T.magnitude value) buffer.old buffer.new result }
+    ensures count { result ≡ digit_count radix (T.magnitude value) }
+    ensures notes { turns.new ≡ turns.old ++ table_notes radix (T.magnitude value) }
+{
+    let number = value.as_usize() as u64;
+    match radix {
+        2 => write_bits::<2, 1>(number, is_short, radix, table, buffer, turns),
+        3 => write_slow::<T, 3, 10>(value, is_short, radix, table, buffer, turns),
+        4 => write_bits::<4, 2>(number, is_short, radix, table, buffer, turns),
+        5 => write_slow::<T, 5, 6>(value, is_short, radix, table, buffer, turns),
+        6 => write_slow::<T, 6, 6>(value, is_short, radix, table, buffer, turns),
+        7 => write_slow::<T, 7, 5>(value, is_short, radix, table, buffer, turns),
+        8 => write_bits::<8, 3>(number, is_short, radix, table, buffer, turns),
+        9 => write_slow::<T, 9, 5>(value, is_short, radix, table, buffer, turns),
+        10 => {
+            let count = number.decimal_count();
+            write_at_once::<10>(number, is_short, count, radix, table, buffer, turns);
+            count
+        }
+        11 => write_slow::<T, 11, 4>(value, is_short, radix, table, buffer, turns),
+        12 => write_slow::<T, 12, 4>(value, is_short, radix, table, buffer, turns),
+        13 => write_slow::<T, 13, 4>(value, is_short, radix, table, buffer, turns),
+        14 => write_slow::<T, 14, 4>(value, is_short, radix, table, buffer, turns),
+        15 => write_slow::<T, 15, 4>(value, is_short, radix, table, buffer, turns),
+        16 => write_bits::<16, 4>(number, is_short, radix, table, buffer, turns),
+        17 => write_slow::<T, 17, 3>(value, is_short, radix, table, buffer, turns),
+        18 => write_slow::<T, 18, 3>(value, is_short, radix, table, buffer, turns),
+        19 => write_slow::<T, 19, 3>(value, is_short, radix, table, buffer, turns),
+        20 => write_slow::<T, 20, 3>(value, is_short, radix, table, buffer, turns),
+        21 => write_slow::<T, 21, 3>(value, is_short, radix, table, buffer, turns),
+        22 => write_slow::<T, 22, 3>(value, is_short, radix, table, buffer, turns),
+        23 => write_slow::<T, 23, 3>(value, is_short, radix, table, buffer, turns),
+        24 => write_slow::<T, 24, 3>(value, is_short, radix, table, buffer, turns),
+        25 => write_slow::<T, 25, 3>(value, is_short, radix, table, buffer, turns),
+        26 => write_slow::<T, 26, 3>(value, is_short, radix, table, buffer, turns),
+        27 => write_slow::<T, 27, 3>(value, is_short, radix, table, buffer, turns),
+        28 => write_slow::<T, 28, 3>(value, is_short, radix, table, buffer, turns),
+        29 => write_slow::<T, 29, 3>(value, is_short, radix, table, buffer, turns),
+        30 => write_slow::<T, 30, 3>(value, is_short, radix, table, buffer, turns),
+        31 => write_slow::<T, 31, 3>(value, is_short, radix, table, buffer, turns),
+        32 => write_bits::<32, 5>(number, is_short, radix, table, buffer, turns),
+        33 => write_slow::<T, 33, 3>(value, is_short, radix, table, buffer, turns),
+        34 => write_slow::<T, 34, 3>(value, is_short, radix, table, buffer, turns),
+        35 => write_slow::<T, 35, 3>(value, is_short, radix, table, buffer, turns),
+        _ => write_slow::<T, 36, 3>(value, is_short, radix, table, buffer, turns),
+    }
+}
+
+// Writes a number by one of two instances: a number of up to 32 bits is divided as such.
+fn write_number<T: UnsignedInteger>(
+    value: T,
+    radix: u32,
+    table: &[u8],
+    buffer: &mut [u8],
+    turns: &mut Turns,
+) -> usize
+    requires radix { IsRadix radix }
+    requires table { BeginsWithPairs radix table.now }
+    requires room { digit_count radix (T.magnitude value) ≤ length buffer.old }
+    ensures digits { WritesDigits radix (T.magnitude value) buffer.old buffer.new result }
+    ensures count { result ≡ digit_count radix (T.magnitude value) }
+    ensures notes { turns.new ≡ turns.old ++ table_notes radix (T.magnitude value) }
+{
+    value.fits_bits();
+    let number = value.as_usize();
+    let is_short = T::BITS == 8 && radix >= 16;
+    if T::BITS <= 32 {
+        write_in_radix(number as u32, is_short, radix, table, buffer, turns)
+    } else {
+        write_in_radix(number as u64, is_short, radix, table, buffer, turns)
+    }
+}
+
+/// Writes the digits of the number to the front of the buffer, and returns how many they are. The
 /// radix is from 2 to 36, the table begins with the radix's pairs of digits, and the buffer has room
 /// for the digits. The counter gets a note for each turn of the digit count, which comes first, and
 /// of the writer: of what the turn leaves.
@@ -166,17 +211,10 @@ pub fn algorithm_counted<T: DigitCount>(
     ensures few_turns { length turns.new ≤ length turns.old + 21 }
 {
     value.fits_bits();
-    let count = digit_count_counted(value, radix, turns);
-    let pairs = Pairs {
-        radix,
-        square: radix * radix,
-        table,
-    };
-    fill_digits(value, &pairs, &mut buffer[..count], turns);
-    count
+    write_number(value, radix, table, buffer, turns)
 }
 
-/// Writes the digits of the number to the front of the buffer, and answers how many they are. The
+/// Writes the digits of the number to the front of the buffer, and returns how many they are. The
 /// radix is from 2 to 36, the table begins with the radix's pairs of digits, and the buffer has room
 /// for the digits.
 pub fn algorithm<T: DigitCount>(value: T, radix: u32, table: &[u8], buffer: &mut [u8]) -> usize

@@ -5,7 +5,7 @@ ghost use Rattle.std.specs.Borrow.{sem};
 ghost use Rattle.lexical_write_integer.specs.Buffer.{Front};
 ghost use Rattle.lexical_write_integer.specs.Lending.{LendsFront};
 
-/// Copies a text to the front of the buffer, and answers its length.
+/// Copies a text to the front of the buffer, and returns its length.
 pub fn copy_to_front(text: &[u8], buffer: &mut [u8]) -> usize
     requires { length text.now ≤ length buffer.old }
     ensures front { Front buffer.old buffer.new text.now }

@@ -4,16 +4,16 @@ ghost use Rattle.std.specs.Prelude.{◌≡◌, ℕ, pos, negsuc, ◌+◌, ◌-�
 ghost use Rattle.std.proofs.Common.{lit≤};
 ghost use Rattle.lexical_num.specs.DecimalWidth.{IsDecimalWidth, signed_decimal_width};
 ghost use Rattle.lexical_write_integer.specs.Buffer.{WritesDigits};
-ghost use Rattle.lexical_write_integer.specs.Logarithm.{IsLog10Estimate};
-ghost use Rattle.lexical_write_integer.specs.Notes.{decimal_notes};
-ghost use Rattle.lexical_write_integer.specs.Numeral.{digit_count};
+ghost use Rattle.lexical_write_integer.specs.DecimalTurns.{decimal_notes};
+ghost use Rattle.lexical_write_integer.specs.DigitCount.{digit_count};
 ghost use Rattle.lexical_write_integer.specs.PowersOfTen.{IsPowersOfTen};
 
-use crate::digit_count::fast_log2;
 use crate::jeaiii::{
     from_i64, from_u8, from_u8_counted, from_u16, from_u16_counted, from_u32, from_u32_counted,
-    from_u64, from_u64_counted,
+    from_u64_counted,
 };
+use crate::logarithm::fast_log2;
+pub use crate::logarithm::fast_log10;
 use crate::turns::Turns;
 use lexical_num::num::{LexicalInteger, UnsignedInteger};
 
@@ -80,14 +80,6 @@ const POWERS_OF_TEN: [u64; 19] = [
     1000000000000000000,
     10000000000000000000,
 ];
-
-/// The logarithm to base 10 of the greatest power of 2 that is at most the number, and 0 for 0.
-pub fn fast_log10<T: UnsignedInteger>(x: T) -> usize
-    ensures { IsLog10Estimate (T.magnitude x) result }
-{
-    // 1233 / 4096 is near enough to the logarithm of 2 for the places of 64 bits.
-    (fast_log2(x) * 1233) >> 12
-}
 
 /// How many decimal digits the number has. By Lemire, "Computing the number of digits of an integer
 /// even faster".
@@ -159,14 +151,17 @@ pub trait Decimal: DecimalCount {
     ghost SIGNED_WIDTH: { ℕ };
 
     /// Writes the digits of the number to the front of the buffer, of at least `DECIMAL_WIDTH`
-    /// bytes, and answers how many they are.
+    /// bytes, and returns how many they are.
     fn decimal(self, buffer: &mut [u8]) -> usize
         requires { Self.DECIMAL_WIDTH ≤ length buffer.old }
         ensures digits { WritesDigits 10 (Self.magnitude self) buffer.old buffer.new result }
-        ensures count { result ≡ digit_count 10 (Self.magnitude self) };
+        ensures count { result ≡ digit_count 10 (Self.magnitude self) }
+    {
+        self.decimal_counted(buffer, &mut Turns::new())
+    }
 
     /// Writes the digits of a number below 10^`SIGNED_WIDTH` to the front of the buffer, of at
-    /// least `SIGNED_WIDTH` bytes, and answers how many they are.
+    /// least `SIGNED_WIDTH` bytes, and returns how many they are.
     fn decimal_signed(self, buffer: &mut [u8]) -> usize
         requires number { Self.magnitude self < 10 ^ SIGNED_WIDTH }
         requires room { SIGNED_WIDTH ≤ length buffer.old }
@@ -174,7 +169,7 @@ pub trait Decimal: DecimalCount {
         ensures count { result ≡ digit_count 10 (Self.magnitude self) };
 
     /// `decimal`, under the same condition, with its turns counted: one for each pair of digits
-    /// behind the first.
+    /// after the first.
     fn decimal_counted(self, buffer: &mut [u8], turns: &mut Turns) -> usize
         requires { Self.DECIMAL_WIDTH ≤ length buffer.old }
         ensures digits { WritesDigits 10 (Self.magnitude self) buffer.old buffer.new result }
@@ -194,10 +189,6 @@ impl Decimal for u8 {
 
     ghost signed_width = { signed_decimal_width (2 ^ 7 - 1) 3 (lit≤ tt) (lit≤ tt) (lit≤ tt) };
 
-    fn decimal(self, buffer: &mut [u8]) -> usize {
-        from_u8(self, buffer)
-    }
-
     fn decimal_signed(self, buffer: &mut [u8]) -> usize {
         from_u8(self, buffer)
     }
@@ -213,10 +204,6 @@ impl Decimal for u16 {
     ghost SIGNED_WIDTH = { 5 };
 
     ghost signed_width = { signed_decimal_width (2 ^ 15 - 1) 5 (lit≤ tt) (lit≤ tt) (lit≤ tt) };
-
-    fn decimal(self, buffer: &mut [u8]) -> usize {
-        from_u16(self, buffer)
-    }
 
     fn decimal_signed(self, buffer: &mut [u8]) -> usize {
         from_u16(self, buffer)
@@ -234,10 +221,6 @@ impl Decimal for u32 {
 
     ghost signed_width = { signed_decimal_width (2 ^ 31 - 1) 10 (lit≤ tt) (lit≤ tt) (lit≤ tt) };
 
-    fn decimal(self, buffer: &mut [u8]) -> usize {
-        from_u32(self, buffer)
-    }
-
     fn decimal_signed(self, buffer: &mut [u8]) -> usize {
         from_u32(self, buffer)
     }
@@ -253,10 +236,6 @@ impl Decimal for u64 {
     ghost SIGNED_WIDTH = { 19 };
 
     ghost signed_width = { signed_decimal_width (2 ^ 63 - 1) 19 (lit≤ tt) (lit≤ tt) (lit≤ tt) };
-
-    fn decimal(self, buffer: &mut [u8]) -> usize {
-        from_u64(self, buffer)
-    }
 
     fn decimal_signed(self, buffer: &mut [u8]) -> usize {
         from_i64(self, buffer)
@@ -274,10 +253,6 @@ impl Decimal for usize {
     ghost SIGNED_WIDTH = { 19 };
 
     ghost signed_width = { signed_decimal_width (2 ^ 63 - 1) 19 (lit≤ tt) (lit≤ tt) (lit≤ tt) };
-
-    fn decimal(self, buffer: &mut [u8]) -> usize {
-        from_u64(self as u64, buffer)
-    }
 
     fn decimal_signed(self, buffer: &mut [u8]) -> usize {
         from_i64(self as u64, buffer)

@@ -2,27 +2,19 @@
 
 ghost use Rattle.std.specs.Prelude.{◌≡◌, ◌+◌, ◌/◌, ◌^◌, ◌<◌, ◌≤◌, ◌↔◌, ◌++◌, [], ◌∷◌, IsTrue, IfNone, IfSome, length};
 ghost use Rattle.lexical_num.specs.Format.{IsRadix};
-ghost use Rattle.lexical_num.specs.Width.{IsWidth};
-ghost use Rattle.lexical_write_integer.specs.Logarithm.{IsLog2};
-ghost use Rattle.lexical_write_integer.specs.Numeral.{digit_count};
-ghost use Rattle.lexical_write_integer.specs.Turns.{IsStep, TakesDigits, count_notes, count_turns, slow_notes, slow_turns};
+ghost use Rattle.lexical_num.specs.BitWidth.{IsBitWidth};
+ghost use Rattle.lexical_write_integer.specs.DigitCount.{digit_count};
+ghost use Rattle.lexical_write_integer.specs.LoopTurns.{IsStep, TakesDigits, count_notes, count_turns, slow_notes, slow_turns};
 
 use crate::decimal::DecimalCount;
+pub use crate::logarithm::fast_log2;
 use crate::turns::Turns;
 use lexical_num::num::UnsignedInteger;
 
-/// The place of the highest bit that is set, and 0 for 0.
-pub fn fast_log2<T: UnsignedInteger>(x: T) -> usize
-    ensures log2 { IsLog2 (T.magnitude x) result }
-    ensures within { result < T.BITS }
-{
-    (T::BITS - 1).saturating_sub(x.leading_zeros() as usize)
-}
-
-// Whether the radix to the exponent fits a type of so many bits. A loop by that power is open where
-// it does, and nowhere else: in the count as in the table writer.
+// Whether the radix to the exponent fits a type with this number of bits. A loop by that power is open where
+// it does, and nowhere else.
 fn power_fits(bits: usize, radix: u32, exponent: u32) -> bool
-    requires bits { IsWidth bits }
+    requires bits { IsBitWidth bits }
     requires radix { IsRadix radix }
     requires exponent { IsStep exponent }
     ensures { IsTrue result ↔ (radix ^ exponent < 2 ^ bits) }
@@ -37,7 +29,7 @@ fn power_fits(bits: usize, radix: u32, exponent: u32) -> bool
 
 // The radix to the exponent, where it fits the type. Where it does not, no number of the type is as
 // great, and a loop by it would have no turn.
-pub(crate) fn power_of<T: UnsignedInteger>(radix: u32, exponent: u32) -> Option<T>
+fn power_of<T: UnsignedInteger>(radix: u32, exponent: u32) -> Option<T>
     requires radix { IsRadix radix }
     requires exponent { IsStep exponent }
     ensures power { IfSome result (λ power. T.magnitude power ≡ radix ^ exponent) }
@@ -61,7 +53,7 @@ fn divide_once<T: UnsignedInteger>(number: T, power: T, turns: &mut Turns) -> T
     left
 }
 
-// Takes `step` digits a turn off a number while it has more. It answers what is left, and how many
+// Takes `step` digits a turn off a number while it has more. It returns what is left, and how many
 // digits were taken.
 fn divide_while_long<T: UnsignedInteger>(
     value: T,

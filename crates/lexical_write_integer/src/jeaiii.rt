@@ -5,21 +5,21 @@
 //! described in Lemire, Kaser and Kurz, "Faster Remainder by Direct Computation" (2019).
 //!
 //! Each counted call does what its plain call does, and counts one turn for each pair of digits
-//! behind the first: at most 9.
+//! after the first: at most 9.
 
 ghost use Rattle.std.specs.Prelude.{◌≡◌, ◌+◌, ◌-◌, ◌/◌, ◌^◌, ◌<◌, ◌≤◌, ◌++◌, length};
 ghost use Rattle.lexical_write_integer.specs.Buffer.{WritesDigits};
-ghost use Rattle.lexical_write_integer.specs.Notes.{decimal_notes_32, decimal_notes_64};
-ghost use Rattle.lexical_write_integer.specs.Numeral.{digit_count};
+ghost use Rattle.lexical_write_integer.specs.DecimalTurns.{decimal_notes_32, decimal_notes_64};
+ghost use Rattle.lexical_write_integer.specs.DigitCount.{digit_count};
 
+use crate::decimal_pairs::{write_first_pair, write_last_ten, write_pairs};
 pub use crate::kernels::{
     fixed_2, fixed_4, fixed_6, fixed_8_nine, fixed_8_ten, fixed_8_wide, next2,
 };
-use crate::pairs::{write_first_pair, write_last_ten, write_pairs};
 use crate::turns::Turns;
 
 // Writes the digits of a number of up to 32 bits.
-#[tactic(auto, using(crate::proofs::PairBlocks::widest), unfolding(crate::specs::Notes::decimal_notes_32))]
+#[tactic(auto, using(crate::proofs::PairBlocks::widest), unfolding(crate::specs::DecimalTurns::decimal_notes_32))]
 fn write_32(n: u32, buffer: &mut [u8], turns: &mut Turns) -> usize
     requires { digit_count 10 n ≤ length buffer.old }
     ensures digits { WritesDigits 10 n buffer.old buffer.new result }
@@ -36,16 +36,19 @@ fn write_32(n: u32, buffer: &mut [u8], turns: &mut Turns) -> usize
         write_pairs(fixed_4(n), 2, buffer, turns)
     } else if n < 100_000_000 {
         write_pairs(fixed_6(n), 3, buffer, turns)
-    } else if n < 1_000_000_000 {
-        write_pairs(fixed_8_nine(n), 4, buffer, turns)
     } else {
-        write_pairs(fixed_8_ten(n), 4, buffer, turns)
+        let fraction = if n < 1_000_000_000 {
+            fixed_8_nine(n)
+        } else {
+            fixed_8_ten(n)
+        };
+        write_pairs(fraction, 4, buffer, turns)
     }
 }
 
-// Writes the digits of a number. From 11 digits on the last ten are written by division, behind
-// those in front of them.
-#[tactic(auto, using(crate::proofs::PairBlocks::widest), unfolding(crate::specs::Notes::decimal_notes_64))]
+// Writes the digits of a number. From 11 digits on the last ten are written by division, after
+// those before them.
+#[tactic(auto, using(crate::proofs::PairBlocks::widest), unfolding(crate::specs::DecimalTurns::decimal_notes_64))]
 fn write_64(n: u64, buffer: &mut [u8], turns: &mut Turns) -> usize
     requires { digit_count 10 n ≤ length buffer.old }
     ensures digits { WritesDigits 10 n buffer.old buffer.new result }
@@ -65,7 +68,7 @@ fn write_64(n: u64, buffer: &mut [u8], turns: &mut Turns) -> usize
     }
 }
 
-/// Writes the digits of a number to the front of the buffer, of at least 3 bytes, and answers how
+/// Writes the digits of a number to the front of the buffer, of at least 3 bytes, and returns how
 /// many they are.
 pub fn from_u8(n: u8, buffer: &mut [u8]) -> usize
     requires { 3 ≤ length buffer.old }
@@ -75,7 +78,7 @@ pub fn from_u8(n: u8, buffer: &mut [u8]) -> usize
     from_u8_counted(n, buffer, &mut Turns::new())
 }
 
-/// Writes the digits of a number to the front of the buffer, of at least 5 bytes, and answers how
+/// Writes the digits of a number to the front of the buffer, of at least 5 bytes, and returns how
 /// many they are.
 pub fn from_u16(n: u16, buffer: &mut [u8]) -> usize
     requires { 5 ≤ length buffer.old }
@@ -85,7 +88,7 @@ pub fn from_u16(n: u16, buffer: &mut [u8]) -> usize
     from_u16_counted(n, buffer, &mut Turns::new())
 }
 
-/// Writes the digits of a number to the front of the buffer, of at least 10 bytes, and answers how
+/// Writes the digits of a number to the front of the buffer, of at least 10 bytes, and returns how
 /// many they are.
 pub fn from_u32(n: u32, buffer: &mut [u8]) -> usize
     requires { 10 ≤ length buffer.old }
@@ -95,7 +98,7 @@ pub fn from_u32(n: u32, buffer: &mut [u8]) -> usize
     from_u32_counted(n, buffer, &mut Turns::new())
 }
 
-/// Writes the digits of a number to the front of the buffer, of at least 20 bytes, and answers how
+/// Writes the digits of a number to the front of the buffer, of at least 20 bytes, and returns how
 /// many they are.
 pub fn from_u64(n: u64, buffer: &mut [u8]) -> usize
     requires { 20 ≤ length buffer.old }
@@ -106,7 +109,7 @@ pub fn from_u64(n: u64, buffer: &mut [u8]) -> usize
 }
 
 /// Writes the digits of a number below 10^19, as is the magnitude of each `i64`, to the front of
-/// the buffer, of at least 19 bytes, and answers how many they are.
+/// the buffer, of at least 19 bytes, and returns how many they are.
 pub fn from_i64(n: u64, buffer: &mut [u8]) -> usize
     requires number { n < 10 ^ 19 }
     requires room { 19 ≤ length buffer.old }
@@ -117,6 +120,7 @@ pub fn from_i64(n: u64, buffer: &mut [u8]) -> usize
 }
 
 /// `from_u8`, under the same condition, with its turns counted.
+#[tactic(auto, using(crate::proofs::PairBlocks::widest), unfolding(crate::specs::DecimalTurns::decimal_notes_32))]
 pub fn from_u8_counted(n: u8, buffer: &mut [u8], turns: &mut Turns) -> usize
     requires { 3 ≤ length buffer.old }
     ensures digits { WritesDigits 10 n buffer.old buffer.new result }
@@ -125,7 +129,12 @@ pub fn from_u8_counted(n: u8, buffer: &mut [u8], turns: &mut Turns) -> usize
     ensures half { length turns.new ≡ length turns.old + (result - 1) / 2 }
     ensures few { length turns.new ≤ length turns.old + 9 }
 {
-    write_32(u32::from(n), buffer, turns)
+    let number = u32::from(n);
+    if number < 100 {
+        write_first_pair(number, buffer)
+    } else {
+        write_pairs(fixed_2(number), 1, buffer, turns)
+    }
 }
 
 /// `from_u16`, under the same condition, with its turns counted.

@@ -1,11 +1,11 @@
 // Decimal digits without division. A kernel turns a number into a fixed-point fraction, with 32
-// bits behind the point: its whole part is the number's first pair of digits, and each product of
-// the rest by 100 brings the next pair in front of the point.
+// bits after the point: its whole part is the number's first pair of digits, and each product of
+// the rest by 100 brings the next pair before the point.
 
 ghost use Rattle.std.specs.Prelude.{◌≡◌, ℕ, ◌-◌, ◌*◌, ◌/◌, ◌%◌, ◌^◌, ◌<◌, ◌≤◌};
 ghost use Rattle.lexical_write_integer.specs.Carries.{Carries};
 
-/// The fraction of a number below 10^4: its first pair of digits, and one pair behind it.
+/// The fraction of a number below 10^4: its first pair of digits, and one pair after it.
 pub fn fixed_2(n: u32) -> u64
     requires { n < 10 ^ 4 }
     ensures number { result ≡ n * 42949673 }
@@ -14,7 +14,7 @@ pub fn fixed_2(n: u32) -> u64
     u64::from(n) * 42_949_673
 }
 
-/// The fraction of a number below 10^6: its first pair of digits, and two pairs behind it.
+/// The fraction of a number below 10^6: its first pair of digits, and two pairs after it.
 pub fn fixed_4(n: u32) -> u64
     requires { n < 10 ^ 6 }
     ensures number { result ≡ n * 429497 }
@@ -24,7 +24,7 @@ pub fn fixed_4(n: u32) -> u64
 }
 
 /// The fraction of a number from 10^6 to below 10^8: its first pair of digits, and three pairs
-/// behind it.
+/// after it.
 pub fn fixed_6(n: u32) -> u64
     requires at_least { 10 ^ 6 ≤ n }
     requires below { n < 10 ^ 8 }
@@ -34,7 +34,7 @@ pub fn fixed_6(n: u32) -> u64
     (u64::from(n) * 281_474_978) >> 16
 }
 
-/// The fraction of a number of nine digits: its first pair of digits, and four pairs behind it.
+/// The fraction of a number of nine digits: its first pair of digits, and four pairs after it.
 pub fn fixed_8_nine(n: u32) -> u64
     requires at_least { 10 ^ 8 ≤ n }
     requires below { n < 10 ^ 9 }
@@ -45,7 +45,7 @@ pub fn fixed_8_nine(n: u32) -> u64
 }
 
 /// The fraction of a number of ten digits that 32 bits hold: its first pair of digits, and four
-/// pairs behind it.
+/// pairs after it.
 pub fn fixed_8_ten(n: u32) -> u64
     requires { 10 ^ 9 ≤ n }
     ensures number { result ≡ n * 1441151881 / 2 ^ 25 }
@@ -54,7 +54,7 @@ pub fn fixed_8_ten(n: u32) -> u64
     (u64::from(n) * 1_441_151_881) >> 25
 }
 
-/// The fraction of a number of ten digits: its first pair of digits, and four pairs behind it.
+/// The fraction of a number of ten digits: its first pair of digits, and four pairs after it.
 pub fn fixed_8_wide(n: u64) -> u64
     requires at_least { 10 ^ 9 ≤ n }
     requires below { n < 10 ^ 10 }
@@ -65,13 +65,13 @@ pub fn fixed_8_wide(n: u64) -> u64
     ((u128::from(n) * 11_529_215_047) >> 28) as u64
 }
 
-/// Leaves what stands behind the point of a fraction times 100, and answers the pair of digits
-/// that this brings in front of the point.
+/// Leaves what stands after the point of a fraction times 100, and returns the pair of digits
+/// that this brings before the point.
 pub fn next2(prod: &mut u64) -> u32
     ensures product { prod.new ≡ prod.old % 2 ^ 32 * 100 }
     ensures pair { result ≡ prod.new / 2 ^ 32 }
     ensures below { result < 100 }
-    // Where a fraction carries digits, its new one carries those behind its first pair, and the pair
+    // Where a fraction carries digits, its new one carries those after its first pair, and the pair
     // is the first of them.
     ensures carries { (n k : ℕ) → 1 ≤ k → Carries n prod.old k
         → Carries (n % 100 ^ k) prod.new (k - 1) }

@@ -1,15 +1,24 @@
 //! The laws of numerals and texts. Each function does nothing: its contract is a law over the
-//! definitions, which a caller has from the call.
+//! definitions, which a caller has from the call. No edit could turn an empty body; those of the
+//! crate `uses` turn callers that rest on a law.
 
-ghost use Rattle.std.specs.Prelude.{◌≡◌, ℕ, ◌+◌, ◌*◌, ◌/◌, ◌%◌, ◌^◌, ◌<◌, ◌≤◌, ◌↔◌, pos, ◌<ℤ◌, ◌≤ℤ◌, List, ◌++◌, length, take, drop};
-ghost use Rattle.lexical_num.specs.Format.{IsRadix};
-ghost use Rattle.lexical_write_integer.specs.Buffer.{Front};
-ghost use Rattle.lexical_write_integer.specs.Numeral.{IsNumeral, IsNumeralOf, IsBlockOf, value_of, digit_count};
+ghost use Rattle.std.specs.Prelude.{◌≡◌, ℕ, ◌+◌, ◌-◌, ◌*◌, ◌/◌, ◌%◌, ◌^◌, ◌<◌, ◌≤◌, ◌↔◌, pos, ◌<ℤ◌, ◌≤ℤ◌, List, ◌++◌, length};
+ghost use Rattle.lexical_num.specs.Format.{IsRadix, without_groups};
+ghost use Rattle.lexical_write_integer.specs.Groups.{in_groups, without_marks, from_right};
+ghost use Rattle.lexical_write_integer.specs.DigitCount.{digit_count};
+ghost use Rattle.lexical_write_integer.specs.Numeral.{IsNumeral, IsNumeralOf, IsBlockOf, value_of};
 ghost use Rattle.lexical_write_integer.specs.Order.{ComesBefore};
 ghost use Rattle.lexical_write_integer.specs.Text.{IsDigits, IsText};
 
+mod bytes;
+mod comparison;
+mod room;
+
+pub use bytes::{digits_computed, text_computed, text_is_ascii, text_is_decimal};
+pub use comparison::{digits_tell, texts_tell};
 use lexical_num::format::NumberFormat;
 use lexical_num::num::{LexicalInteger, UnsignedInteger};
+pub use room::{size_is_enough, text_fits};
 
 /// The digit count of a number is the least count, of 1 or more, whose power of the radix the
 /// number is below. It is at most 64.
@@ -47,7 +56,6 @@ pub fn numeral_exists(radix: u32, value: u64)
 
 /// Two numerals in one radix with one value are the same list.
 pub fn numeral_unique(radix: u32, a: &[u8], b: &[u8])
-    requires radix { IsRadix radix }
     requires a { IsNumeral radix a.now }
     requires b { IsNumeral radix b.now }
     requires same { value_of radix a.now ≡ value_of radix b.now }
@@ -68,7 +76,7 @@ pub fn equal_digits(radix: u32, a: u64, b: u64)
     ensures { (digits : List ℕ) → IsDigits radix a digits → IsDigits radix b digits → a ≡ b }
 {}
 
-/// The value of two lists of digits, one behind the other.
+/// The value of two lists of digits, one after the other.
 pub fn value_of_append(radix: u32, front: &[u8], back: &[u8])
     ensures { value_of radix (front.now ++ back.now)
         ≡ value_of radix front.now * radix ^ length back.now + value_of radix back.now }
@@ -86,15 +94,33 @@ pub fn numeral_split(radix: u32, count: u32, value: u64)
         ≡ digit_count radix (value / radix ^ count) + count }
 {}
 
-/// A text at the front of a buffer, and one at the front of a part of the buffer that begins behind
-/// it: the two, one behind the other, stand at the front of the buffer, and their counts add up.
-pub fn text_behind()
-    ensures { (before between part text behind : List ℕ) → (count room answer : ℕ)
-        → Front before between text → count ≡ length text
-        → Front (take room (drop count between)) part behind → answer ≡ length behind
-        → Front before (take count between ++ (part ++ drop room (drop count between))) (text ++ behind)
-        × (count + answer ≡ length (text ++ behind)) }
+/// Where digits and marks stand when digits are written in groups. Places are counted from the
+/// right: a digit keeps the digits to its right, with a mark for each whole group of them; a mark
+/// stands before each number of whole groups; and these are all the bytes. Digits that are no more
+/// than the size stand without a mark.
+pub fn places_in_groups(digits: &[u8], size: u8, mark: u8)
+    requires { 1 ≤ size }
+    ensures one_group { length digits.now ≤ size → in_groups (size, mark) digits.now ≡ digits.now }
+    ensures length { length (in_groups (size, mark) digits.now)
+        ≡ length digits.now + (length digits.now - 1) / size }
+    ensures digits { (right : ℕ) → right < length digits.now
+        → from_right (in_groups (size, mark) digits.now) (right + right / size)
+        ≡ from_right digits.now right }
+    ensures marks { (groups : ℕ) → 1 ≤ groups → groups * size < length digits.now
+        → from_right (in_groups (size, mark) digits.now) (groups * size + groups - 1) ≡ mark }
 {}
+
+/// The text of a number without the marks between its groups is its text in the same format
+/// without groups.
+pub fn text_without_marks<T: LexicalInteger>(number: T, format: &NumberFormat)
+    ensures { (text : List ℕ) → IsText (T.number number) format.now text
+        → IsText (T.number number) (without_groups format.now)
+        (without_marks format.now.digit_grouping text) }
+{
+    // Their contracts say that the radix is at most 36, and that the mark is no character of a text.
+    format.mantissa_radix();
+    format.digit_grouping();
+}
 
 /// Two numbers with one text in a format are the same number.
 pub fn equal_texts<T: LexicalInteger>(a: T, b: T, format: &NumberFormat)

@@ -3,7 +3,7 @@
 ghost use Rattle.std.specs.Prelude.{◌≡◌, ◌≤◌, length};
 ghost use Rattle.lexical_num.specs.Format.{IsRadix};
 ghost use Rattle.lexical_write_integer.specs.Buffer.{WritesDigits};
-ghost use Rattle.lexical_write_integer.specs.Numeral.{digit_count};
+ghost use Rattle.lexical_write_integer.specs.DigitCount.{digit_count};
 
 use crate::algorithm::algorithm;
 use crate::digit_count::DigitCount;
@@ -22,7 +22,7 @@ fn write_by_table<T: DigitCount>(value: T, radix: u32, buffer: &mut [u8]) -> usi
 
 /// An unsigned integer type whose numbers are written by the table writer.
 pub trait Radix: UnsignedInteger {
-    /// Writes the digits of the number to the front of the buffer, and answers how many they are.
+    /// Writes the digits of the number to the front of the buffer, and returns how many they are.
     /// The radix is from 2 to 36, and the buffer has room for the digits.
     fn radix(self, radix: u32, buffer: &mut [u8]) -> usize
         requires radix { IsRadix radix }

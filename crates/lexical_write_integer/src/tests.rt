@@ -11,7 +11,7 @@ use crate::{
 use std::process::Abort;
 
 // What a caller has of each type through the bound alone: the text at the front, and the bytes
-// behind it as before.
+// after it unchanged.
 
 fn check_decimal<T: ToLexical>(rt: &impl Abort, value: T, text: &[u8])
     requires { need (T.number value) T.DECIMAL_WIDTH standard ≤ 20 }

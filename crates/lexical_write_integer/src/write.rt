@@ -3,8 +3,8 @@
 ghost use Rattle.std.specs.Prelude.{◌≡◌, ◌+◌, ◌^◌, ◌<◌, ◌≤◌, ◌++◌, length};
 ghost use Rattle.lexical_num.specs.Format.{IsRadix};
 ghost use Rattle.lexical_write_integer.specs.Buffer.{WritesDigits};
-ghost use Rattle.lexical_write_integer.specs.Notes.{write_notes, write_turns};
-ghost use Rattle.lexical_write_integer.specs.Numeral.{digit_count};
+ghost use Rattle.lexical_write_integer.specs.DecimalTurns.{write_notes, write_turns};
+ghost use Rattle.lexical_write_integer.specs.DigitCount.{digit_count};
 ghost use Rattle.lexical_write_integer.specs.Text.{digits_need};
 
 use crate::algorithm::algorithm_counted;
@@ -16,7 +16,7 @@ use lexical_num::format::NumberFormat;
 use lexical_num::num::{LexicalInteger, UnsignedInteger};
 use lexical_tables::get_table;
 
-/// Writes the digits of the number to the front of the buffer, and answers how many they are. The
+/// Writes the digits of the number to the front of the buffer, and returns how many they are. The
 /// radix is from 2 to 36. In radix 10 the buffer has at least `DECIMAL_WIDTH` bytes, else room for
 /// the digits. The counter gets the notes of the writer: at most 21, and in radix 10 at most 9.
 pub fn write_integer_counted<T: Decimal + DigitCount>(
@@ -57,7 +57,7 @@ fn write_magnitude<T: Decimal + Radix>(value: T, radix: u32, buffer: &mut [u8]) 
 }
 
 /// An unsigned integer type whose numbers are written in each radix. Each call writes the digits of
-/// the number to the front of the buffer, without a sign, and answers how many they are. In radix 10
+/// the number to the front of the buffer, without a sign, and returns how many they are. In radix 10
 /// the buffer has at least `DECIMAL_WIDTH` bytes, or for the `_signed` calls at least `SIGNED_WIDTH`,
 /// and the number of these is below 10^`SIGNED_WIDTH`; in another radix it has room for the digits.
 pub trait WriteInteger: Decimal + Radix {

@@ -1,6 +1,7 @@
 -- A line of a log.
-use Rattle.std.specs.Prelude.{◌≡◌, ℕ, true, List, ◌++◌, ℤ, codes}
+use Rattle.std.specs.Prelude.{ℕ, true, List, ℤ, codes}
 use Rattle.lexical_num.specs.Format.{Format, standard}
+use Rattle.lexical_write_integer.specs.Sequence.{IsExactly, Then}
 use Rattle.lexical_write_integer.specs.Text.{IsText}
 use Rattle.uses.specs.declared.log_line.Level.{Level}
 use Rattle.uses.specs.declared.log_line.Level.TheVariants.{Info, Warn, Error}
@@ -16,7 +17,5 @@ abbrev pub signed : Format
 signed = record standard { required_mantissa_sign = true }
 
 -- the name of the level, a tab, and the number with its sign
-pub record IsLine (level : Level) (number : ℤ) (line : List ℕ) : Type 0 where
-  pub number_text : List ℕ
-  pub is_number : IsText number signed number_text
-  pub whole : line ≡ name_of level ++ codes "\t" ++ number_text
+abbrev pub IsLine : Level → ℤ → List ℕ → Type 0
+IsLine level number = Then (Then (IsExactly (name_of level)) (IsExactly (codes "\t"))) (IsText number signed)

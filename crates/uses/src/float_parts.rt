@@ -6,13 +6,14 @@ ghost use Rattle.uses.specs.FloatParts.{IsParts};
 
 use lexical_write_integer::NumberFormat;
 use lexical_write_integer::buffer::copy_to_front;
-use lexical_write_integer::laws::{digit_count_within_bits, text_behind};
+use lexical_write_integer::laws::digit_count_within_bits;
 use lexical_write_integer::write::WriteInteger;
 
 /// Writes the digits of the mantissa in the mantissa radix, the mark, and the digits of the
-/// exponent in the exponent radix to the front of the buffer, and answers how many bytes they are.
-/// The bytes behind them are as before. The buffer has at least 97 bytes, as one of `BUFFER_SIZE`
+/// exponent in the exponent radix to the front of the buffer, and returns how many bytes they are.
+/// The bytes after them are unchanged. The buffer has at least 97 bytes, as one of `BUFFER_SIZE`
 /// does.
+#[tactic(auto, using(lexical_write_integer::proofs::Sequences::in_order))]
 pub fn write_parts(
     mantissa: u64,
     mark: u8,
@@ -25,7 +26,6 @@ pub fn write_parts(
 {
     digit_count_within_bits(format.mantissa_radix(), mantissa);
     digit_count_within_bits(format.exponent_radix(), exponent);
-    text_behind();
     let count = mantissa.write_mantissa(format, buffer);
     let marked = count + copy_to_front(&[mark], &mut buffer[count..]);
     marked + exponent.write_exponent(format, &mut buffer[marked..])

@@ -1,14 +1,14 @@
 //! The short identifier of a counter: its digits in radix 36.
 
-ghost use Rattle.std.specs.Prelude.{◌≡◌, ◌≤◌, List, ℕ, length};
+ghost use Rattle.std.specs.Prelude.{◌≡◌, ◌≤◌, ◌↔◌, IsTrue, List, ℕ, length};
 ghost use Rattle.lexical_write_integer.specs.Buffer.{WritesDigits};
 ghost use Rattle.lexical_write_integer.specs.Text.{IsDigits};
 
-use lexical_write_integer::laws::{digit_count_at_most, equal_digits};
+use lexical_write_integer::laws::{digit_count_at_most, digits_tell, equal_digits};
 use lexical_write_integer::radix::Radix;
 
 /// Writes the identifier of the counter to the front of the buffer, of at least 13 bytes, and
-/// answers its length, which is at most 13. The bytes behind it are as before.
+/// returns its length, which is at most 13. The bytes after it are unchanged.
 pub fn write_identifier(counter: u64, buffer: &mut [u8]) -> usize
     requires { 13 ≤ length buffer.old }
     ensures identifier { WritesDigits 36 counter buffer.old buffer.new result }
@@ -23,4 +23,24 @@ pub fn same_counter(a: u64, b: u64)
     ensures { (identifier : List ℕ) → IsDigits 36 a identifier → IsDigits 36 b identifier → a ≡ b }
 {
     equal_digits(36, a, b);
+}
+
+/// The identifier of the counter, which borrows the array.
+pub fn identifier(counter: u64, buffer: &mut [u8; 13]) -> &[u8]
+    ensures { IsDigits 36 counter result.now }
+{
+    let count = write_identifier(counter, buffer);
+    &buffer[..count]
+}
+
+/// Whether two counters have the same identifier: exactly where they are the same.
+pub fn have_same_identifier(a: u64, b: u64) -> bool
+    ensures { IsTrue result ↔ (a ≡ b) }
+{
+    let mut first = [0; 13];
+    let mut second = [0; 13];
+    let first = identifier(a, &mut first);
+    let second = identifier(b, &mut second);
+    digits_tell(36, a, b, first, second);
+    first == second
 }

@@ -2,12 +2,20 @@
 //! proved over the contracts of the calls alone.
 #![tactic(auto)]
 
+pub mod amount;
+pub mod any_format;
+pub mod csv_row;
+pub mod fixed_texts;
 pub mod float_format;
 pub mod float_parts;
 pub mod hex_dump;
+pub mod hexadecimal;
 pub mod identifier;
+pub mod key_value;
 pub mod log_line;
+pub mod printed;
 pub mod record;
 pub mod sorted_keys;
 #[cfg(test)]
 mod tests;
+pub mod weight;

@@ -5,7 +5,6 @@ ghost use Rattle.lexical_write_integer.specs.Buffer.{Writes, WritesText};
 ghost use Rattle.uses.specs.LogLine.{IsLine, name_of, signed};
 
 use lexical_write_integer::buffer::copy_to_front;
-use lexical_write_integer::laws::text_behind;
 use lexical_write_integer::{NumberFormatBuilder, Options, ToLexicalWithOptions};
 
 /// How much a line of a log matters.
@@ -43,13 +42,13 @@ fn write_signed(number: i64, buffer: &mut [u8]) -> usize
 }
 
 /// Writes the name of the level, a tab, and the number in decimal with its sign to the front of
-/// the buffer, of at least 26 bytes, and answers how many bytes they are. The bytes behind them are
-/// as before.
+/// the buffer, of at least 26 bytes, and returns how many bytes they are. The bytes after them are
+/// unchanged.
+#[tactic(auto, using(lexical_write_integer::proofs::Sequences::in_order))]
 pub fn write_line(level: Level, number: i64, buffer: &mut [u8]) -> usize
     requires { 26 ≤ length buffer.old }
     ensures { Writes (IsLine level number) buffer.old buffer.new result }
 {
-    text_behind();
     let name = copy_to_front(level_name(level), buffer);
     let lead = name + copy_to_front(b"\t", &mut buffer[name..]);
     lead + write_signed(number, &mut buffer[lead..])

@@ -10,7 +10,7 @@ use lexical_write_integer::Options;
 use lexical_write_integer::format::STANDARD;
 
 /// Writes the three numbers in decimal, with commas between them, to the front of the buffer, of at
-/// least 33 bytes, and answers how many bytes they are. The bytes behind them are as before.
+/// least 33 bytes, and returns how many bytes they are. The bytes after them are unchanged.
 pub fn write_record(numbers: &[u32; 3], buffer: &mut [u8]) -> usize
     requires { 33 ≤ length buffer.old }
     ensures { Writes (IsJoined (map pos numbers.now) 44 standard) buffer.old buffer.new result }

@@ -1,10 +1,18 @@
+use crate::amount::write_amount;
+use crate::any_format::{have_same_text, text_if_room, text_of_any, text_of_i64};
+use crate::csv_row::write_row;
+use crate::fixed_texts::{million, white};
 use crate::float_format::float_format;
 use crate::float_parts::write_parts;
 use crate::hex_dump::write_dump;
-use crate::identifier::{same_counter, write_identifier};
+use crate::hexadecimal::write_hexadecimal;
+use crate::identifier::{have_same_identifier, identifier, same_counter, write_identifier};
+use crate::key_value::write_setting;
 use crate::log_line::{Level, level_name, write_line};
+use crate::printed::printed;
 use crate::record::write_record;
 use crate::sorted_keys::{are_sorted, comes_before, is_earlier_key};
+use crate::weight::write_weight;
 use lexical_write_integer::{
     BUFFER_SIZE, Error, NumberFormat, NumberFormatBuilder, Options, ToLexical, ToLexicalWithOptions,
 };
@@ -137,6 +145,84 @@ fn sorted_lists(rt: HostRuntime) {
     assert!(rt; !are_sorted(&[10, 9]));
 }
 
+#[test]
+fn numbers_in_hexadecimal(rt: HostRuntime) {
+    let mut buffer = [7; 10];
+    assert_eq!(rt; write_hexadecimal(0, &mut buffer), 3);
+    assert_eq!(rt; buffer, *b"0x0\x07\x07\x07\x07\x07\x07\x07");
+    assert_eq!(rt; write_hexadecimal(4294967295, &mut buffer), 10);
+    assert_eq!(rt; buffer, *b"0xFFFFFFFF");
+}
+
+#[test]
+fn weights(rt: HostRuntime) {
+    let mut buffer = [7; 13];
+    assert_eq!(rt; write_weight(250, &mut buffer), 5);
+    assert!(rt; buffer.starts_with(b"250 g\x07"));
+    assert_eq!(rt; write_weight(-2147483648, &mut buffer), 13);
+    assert_eq!(rt; buffer, *b"-2147483648 g");
+}
+
+#[test]
+fn any_number_in_any_format(rt: HostRuntime) {
+    let binary = NumberFormatBuilder::binary();
+    let mut buffer = [7; BUFFER_SIZE];
+    assert_eq!(rt; text_of_i64(-5, &binary, &mut buffer), b"-101".as_slice());
+    assert_eq!(rt;
+        text_of_any(6u8, &binary, &Options::new(), &mut buffer),
+        b"110".as_slice()
+    );
+    let mut short = [7; 15];
+    assert!(rt; text_if_room(6u8, &binary, &Options::new(), &mut short).is_none());
+    let mut enough = [7; 16];
+    assert!(rt; text_if_room(6u8, &binary, &Options::new(), &mut enough).is_some());
+    assert!(rt; have_same_text(-5, -5, &binary));
+    assert!(rt; !have_same_text(-5, 5, &binary));
+}
+
+#[test]
+fn compared_identifiers(rt: HostRuntime) {
+    let mut buffer = [7; 13];
+    assert_eq!(rt; identifier(71, &mut buffer), b"1Z".as_slice());
+    assert!(rt; have_same_identifier(71, 71));
+    assert!(rt; !have_same_identifier(71, 72));
+}
+
+#[test]
+fn rows_of_a_table(rt: HostRuntime) {
+    let mut buffer = [7; 36];
+    assert_eq!(rt; write_row(&[-1, 0, 23], &mut buffer), 8);
+    assert!(rt; buffer.starts_with(b"-1,0,23\n\x07"));
+}
+
+#[test]
+fn settings(rt: HostRuntime) {
+    let mut buffer = [7; 30];
+    assert_eq!(rt; write_setting(b"limit", -40, &mut buffer), 10);
+    assert!(rt; buffer.starts_with(b"limit=-40\n\x07"));
+}
+
+#[test]
+fn printed_numbers(rt: HostRuntime) {
+    assert_eq!(rt; printed(-2147483648, &mut [7; 11]), Some("-2147483648"));
+    assert_eq!(rt; printed(0, &mut [7; 11]), Some("0"));
+}
+
+#[test]
+fn amounts(rt: HostRuntime) {
+    let mut buffer = [7; 27];
+    assert_eq!(rt; write_amount(1234567, &mut buffer), 10);
+    assert!(rt; buffer.starts_with(b"$1,234,567\x07"));
+    assert_eq!(rt; write_amount(-9223372036854775808, &mut buffer), 27);
+    assert_eq!(rt; buffer, *b"$-9,223,372,036,854,775,808");
+}
+
+#[test]
+fn texts_that_are_written_out(rt: HostRuntime) {
+    assert_eq!(rt; white(&mut [7; 6]), b"FFFFFF".as_slice());
+    assert_eq!(rt; million(&mut [7; 14]), b"+1,000,000".as_slice());
+}
+
 // The first use that the README shows.
 #[test]
 fn a_first_use(rt: HostRuntime) {
@@ -150,4 +236,12 @@ fn a_first_use(rt: HostRuntime) {
         .build_strict();
     let text = 127i8.to_lexical_with_options(&mut buffer, &signed, &Options::new());
     assert_eq!(rt; &*text, b"+127".as_slice());
+
+    let thousands = NumberFormatBuilder::new()
+        .digit_grouping(3, b',')
+        .build_strict();
+    let mut buffer = [7u8; 20];
+    let text = 1234567u32.to_lexical_with_options(&mut buffer, &thousands, &Options::new());
+    assert_eq!(rt; &*text, b"1,234,567".as_slice());
+    assert!(rt; buffer[9..].iter().all(|byte| *byte == 7));
 }

@@ -61,13 +61,14 @@ fn decimal_counts(rt: HostRuntime) {
 fn tables_of_powers(rt: HostRuntime) {
     assert_eq!(rt; fallback_digit_count(255u8, &[10, 100]), 3);
     assert_eq!(rt; fallback_digit_count(65535u16, &[10, 100, 1000, 10000]), 5);
-    // The place of its highest bit is past the table.
+    // The table has no entry at the place that its highest bit gives.
     let powers = [
         10, 100, 1000, 10000, 100000, 1000000, 10000000, 100000000, 1000000000,
     ];
     assert_eq!(rt; fallback_digit_count(1073741824u32, &powers), 10);
 }
 
+// Both counts return the expected one.
 fn check<T: DigitCount>(rt: &impl Abort, value: T, radix: u32, count: usize)
     requires { IsRadix radix }
 {
@@ -126,9 +127,9 @@ fn counts_near_powers(rt: HostRuntime) {
     check_near_powers(&rt, 32);
 }
 
-// Where a loop by a power of the radix is closed for the type, and beside that.
+// Where the type cannot hold the power of the radix that a loop divides by, and beside that.
 #[test]
-fn counts_at_closed_loops(rt: HostRuntime) {
+fn counts_without_a_loop(rt: HostRuntime) {
     check(&rt, 255u8, 3, 6);
     check(&rt, 255u8, 4, 4);
     check(&rt, 255u8, 15, 3);

@@ -1,9 +1,13 @@
-//! Tests of the counts and the writers against values from outside the code, and the turns of
-//! single calls as contracts.
+//! Tests of the counts and the writers against known values, and the loop turns of single calls as
+//! contracts.
 #![tactic(auto)]
 
 #[cfg(test)]
+mod buffers;
+#[cfg(test)]
 mod counts;
+#[cfg(test)]
+mod groups;
 #[cfg(test)]
 mod powers;
 #[cfg(test)]

@@ -1,4 +1,4 @@
-// The texts of 0, 1 and 5, and of the numbers around the powers of 2 and of 10.
+// The texts of 0, 1 and 5, and of the powers of 2 and of 10 with their neighbours.
 
 use crate::texts::check_standard;
 

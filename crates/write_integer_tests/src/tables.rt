@@ -2,6 +2,7 @@
 
 ghost use Rattle.lexical_num.specs.Format.{IsRadix};
 
+use crate::buffers::check_front;
 use lexical_num::num::UnsignedInteger;
 use lexical_write_integer::algorithm::algorithm;
 use lexical_write_integer::compact::Compact;
@@ -11,42 +12,66 @@ use lexical_write_integer::radix::Radix;
 use lexical_write_integer::table::get_table;
 use std::process::Abort;
 
-// Both writers write the text into room of just its length, and into more.
+// Both writers write the text into room of just its length.
 fn check<T: DigitCount + Radix + Compact>(rt: &impl Abort, value: T, radix: u32, text: &[u8])
     requires { IsRadix radix }
 {
     digit_count_is_least(radix, value.as_usize() as u64);
     let count = value.digit_count(radix);
     assert_eq!(rt; count, text.len());
-    let mut by_table = [7u8; 67];
-    assert_eq!(rt; value.radix(radix, &mut by_table[..count]), count);
-    assert_eq!(rt; &by_table[..count], text);
-    let mut by_digits = [7u8; 67];
-    assert_eq!(rt; value.compact(radix, &mut by_digits[..count]), count);
-    assert_eq!(rt; &by_digits[..count], text);
-    let mut longer = [7u8; 67];
-    assert_eq!(rt; value.radix(radix, &mut longer), count);
-    assert_eq!(rt; longer, by_table);
-    assert_eq!(rt; by_digits, by_table);
-    assert_eq!(rt; &by_table[count..count + 3], [7, 7, 7].as_slice());
+    let mut buffer = [7u8; 67];
+    assert_eq!(rt; value.radix(radix, &mut buffer[..count]), count);
+    check_front(rt, &buffer, text);
+    let mut buffer = [7u8; 67];
+    assert_eq!(rt; value.compact(radix, &mut buffer[..count]), count);
+    check_front(rt, &buffer, text);
 }
 
-const TEXTS_OF_37: [&str; 35] = [
-    "100101", "1101", "211", "122", "101", "52", "45", "41", "37", "34", "31", "2B", "29", "27",
-    "25", "23", "21", "1I", "1H", "1G", "1F", "1E", "1D", "1C", "1B", "1A", "19", "18", "17", "16",
-    "15", "14", "13", "12", "11",
-];
+// The texts of a number in the radices from 2 to 36, in order.
+fn check_radices<T: DigitCount + Radix + Compact>(rt: &impl Abort, value: T, texts: &str) {
+    let mut texts = texts.split(' ');
+    for radix in 2..37 {
+        let Some(text) = texts.next() else {
+            panic!(rt; "no text in radix {radix}");
+        };
+        check(rt, value, radix, text.as_bytes());
+    }
+}
+
+const TEXTS_OF_37: &str = "\
+    100101 1101 211 122 101 52 45 41 37 34 31 2B 29 27 25 23 21 1I 1H 1G 1F 1E 1D 1C 1B 1A \
+    19 18 17 16 15 14 13 12 11";
+
+const TEXTS_OF_54321: &str = "\
+    1101010000110001 2202111220 31100301 3214241 1055253 314241 152061 82456 54321 378A3 \
+    27529 1B957 15B21 11166 D431 B0G6 95BF 7H90 6FG1 5I3F 5253 4AFI 3M79 3BML 3297 2KDO 2D81 \
+    26H4 20AL 1PG9 1L1H 1GT3 1CXN 19C1 15WX";
+
+const TEXTS_OF_3735928559: &str = "\
+    11011110101011011011111011101111 100122100210211112102 3132223123323233 30122344203214 \
+    1414413525315 161402603666 33653337357 10570724472 3735928559 164791A470 8831A383B \
+    476CC321C 276253DDD 16CEB1BDE DEADBEEF 91D36G78 61F275CB 437F27AH 2I79B17J 21BFF96K \
+    1AKK16EB 125A44IB JD49B1N F7DOAH9 C2B8DDP 9H9LMEB 7L226RR 6842PHL 53M7LLT 46F9IMF \
+    3FARFNF 2TF7NOB 2E7M43P 214KCKY 1PS9WXB";
+
+const TEXTS_OF_20_DIGITS: &str = "\
+    1010101101010100101010011000110011101011000111110000101011010010 \
+    10001020211011120100112110012121122102100 22231110222120303223013300223102 \
+    1312030340311104212022133030 2334440255314523150301230 31050262160105055621201 \
+    1255245230635307605322 101224146315405548370 12345678901234567890 2247503844228971741 \
+    5693760686551B7816 157268021CA1B407C1 595043150AA9B7238 1D2D765EEDEDDB360 \
+    AB54A98CEB1F0AD2 4557E833D200EADD 1EGFHAEGEDFBA0H0 F8AH6DGB64EE69D 7AE1CE21BFG0JEA \
+    3GJ78IH8D5DAE4F 1LE87D3K4H3477C 11B82M4M9CB8137 E2149LIECABB0I 8733KG64BAC8FF \
+    4P9G9DH3HL9LCE 316M4F9EC5GHB9 1P4GIJ5FDC2I1M 15PQ1L7BKO5D6P N6RFE1Q0D1C30 FKRGH3UG71N8R \
+    AML59HJLHU2MI 7D8ORA3WSB21C 55UBHW3PH1S6U 3MUEXREA0KVFF 2LSOHXAWJUI8I";
 
 #[test]
-fn texts_of_37(rt: HostRuntime) {
-    for radix in 2..37 {
-        check(
-            &rt,
-            37u32,
-            radix,
-            TEXTS_OF_37[radix as usize - 2].as_bytes(),
-        );
-    }
+fn numbers_in_each_radix(rt: HostRuntime) {
+    check_radices(&rt, 37u32, TEXTS_OF_37);
+    check_radices(&rt, 54321u16, TEXTS_OF_54321);
+    check_radices(&rt, 3735928559u32, TEXTS_OF_3735928559);
+    check_radices(&rt, 12345678901234567890u64, TEXTS_OF_20_DIGITS);
+    check_radices(&rt, 12345678901234567890usize, TEXTS_OF_20_DIGITS);
 }
 
 #[test]
@@ -56,7 +81,7 @@ fn small_numbers_in_binary(rt: HostRuntime) {
     check(&rt, 5u64, 2, b"101");
 }
 
-// Where a loop by a power of the radix is closed for the type, and beside that.
+// Where the type cannot hold the power of the radix that a loop divides by, and beside that.
 #[test]
 fn greatest_numbers(rt: HostRuntime) {
     check(&rt, 255u8, 3, b"100110");
@@ -87,33 +112,4 @@ fn longer_table(rt: HostRuntime) {
     assert_eq!(rt; 128u8.digit_count(12), 2);
     assert_eq!(rt; algorithm(128u8, 12, &table, &mut buffer), 2);
     assert_eq!(rt; &buffer, b"A8");
-}
-
-// The two writers leave the same buffer, in every radix.
-fn compare<T: DigitCount + Radix + Compact>(rt: &impl Abort, value: T) {
-    for radix in 2..37 {
-        digit_count_is_least(radix, value.as_usize() as u64);
-        let mut by_table = [7u8; 67];
-        let mut by_digits = [7u8; 67];
-        let count = value.radix(radix, &mut by_table);
-        assert_eq!(rt; value.compact(radix, &mut by_digits), count);
-        assert_eq!(rt; by_table, by_digits);
-    }
-}
-
-// Numbers of every length, by a linear congruence.
-#[test]
-fn both_writers_agree(rt: HostRuntime) {
-    let mut state = 1u64;
-    for turn in 0..320u32 {
-        state = state
-            .wrapping_mul(6364136223846793005)
-            .wrapping_add(1442695040888963407);
-        let value = state >> (turn % 64);
-        compare(&rt, (value % 256) as u8);
-        compare(&rt, (value % 65536) as u16);
-        compare(&rt, (value % 4294967296) as u32);
-        compare(&rt, value);
-        compare(&rt, value as usize);
-    }
 }

@@ -4,6 +4,7 @@ ghost use Rattle.std.specs.Prelude.{◌≤◌};
 ghost use Rattle.lexical_num.specs.Format.{standard};
 ghost use Rattle.lexical_write_integer.specs.Text.{need};
 
+use crate::buffers::check_front;
 use lexical_num::num::LexicalInteger;
 use lexical_num::options::{Options, WriteOptions};
 use lexical_write_integer::format::STANDARD;
@@ -11,21 +12,20 @@ use lexical_write_integer::laws::digit_count_at_most;
 use lexical_write_integer::{NumberFormat, NumberFormatBuilder, ToLexical, ToLexicalWithOptions};
 use std::process::Abort;
 
-// In the standard format, in a buffer of 20 bytes: the text, and the bytes behind it as before.
+// Writes in the standard format into 20 bytes.
 pub(crate) fn check_standard<T: ToLexical>(rt: &impl Abort, value: T, text: &[u8])
     requires { need (T.number value) T.DECIMAL_WIDTH standard ≤ 20 }
 {
     let mut buffer = [7u8; 20];
     assert_eq!(rt; &*value.to_lexical(&mut buffer), text);
-    assert!(rt; buffer.starts_with(text));
-    assert!(rt; buffer[text.len()..].iter().all(|byte| *byte == 7));
+    check_front(rt, &buffer, text);
 }
 
-// Room for the text of each number of each type in each format, and more.
+// More than the length of each text.
 const ROOM: usize = 130;
 
-// In any format, in a buffer of so many bytes: the text, and the bytes behind it as before.
-fn check_in<T: ToLexicalWithOptions>(
+// Writes in any format into `room` bytes.
+pub(crate) fn check_in<T: ToLexicalWithOptions>(
     rt: &impl Abort,
     value: T,
     format: &NumberFormat,
@@ -39,11 +39,10 @@ fn check_in<T: ToLexicalWithOptions>(
     let mut buffer = [7u8; ROOM];
     let front = value.to_lexical_with_options(&mut buffer[..room], format, options);
     assert_eq!(rt; &*front, text);
-    assert!(rt; buffer.starts_with(text));
-    assert!(rt; buffer[text.len()..].iter().all(|byte| *byte == 7));
+    check_front(rt, &buffer, text);
 }
 
-// In any format, in a buffer of the size of the type in the format.
+// Writes in any format into the size of the type in the format.
 fn check<T: ToLexicalWithOptions>(
     rt: &impl Abort,
     value: T,
@@ -53,14 +52,9 @@ fn check<T: ToLexicalWithOptions>(
 ) {
     value.in_range();
     format.mantissa_radix();
-    check_in(
-        rt,
-        value,
-        format,
-        options,
-        options.buffer_size::<T>(format),
-        text,
-    );
+    let size = options.buffer_size::<T>(format);
+    assert!(rt; size <= ROOM);
+    check_in(rt, value, format, options, size, text);
 }
 
 #[test]

@@ -1,11 +1,11 @@
-//! The turns of single calls. A test cannot read a counter, so each function here makes some calls,
-//! with a new counter each, and hands the counters back: its contract says what they hold.
-#![tactic(auto, unfolding(lexical_write_integer::specs::Numeral::digit_count, lexical_write_integer::specs::Numeral::least_exponent, lexical_write_integer::specs::Turns::rests, lexical_write_integer::specs::Turns::one_notes, lexical_write_integer::specs::Turns::loop_notes, lexical_write_integer::specs::Turns::slow_notes, lexical_write_integer::specs::Turns::count_notes, lexical_write_integer::specs::Turns::table_notes))]
+//! The loop turns of single calls. A test cannot read a counter, so each function here makes some
+//! calls, with a new counter each, and returns the counters: its contract says what they hold.
+#![tactic(auto, unfolding(lexical_write_integer::specs::DigitCount::digit_count, lexical_write_integer::specs::DigitCount::least_exponent, lexical_write_integer::specs::LoopTurns::quotients, lexical_write_integer::specs::LoopTurns::compact_notes, lexical_write_integer::specs::LoopTurns::loop_notes, lexical_write_integer::specs::LoopTurns::slow_notes, lexical_write_integer::specs::LoopTurns::count_notes, lexical_write_integer::specs::LoopTurns::table_notes))]
 
 ghost use Rattle.std.specs.Prelude.{◌≡◌, ◌≢◌, ◌-◌, ◌^◌, ◌<◌, ◌≤◌, [], ◌∷◌, length};
 ghost use Rattle.lexical_num.specs.Format.{IsRadix};
-ghost use Rattle.lexical_write_integer.specs.Notes.{write_turns};
-ghost use Rattle.lexical_write_integer.specs.Turns.{one_notes, one_turns, slow_notes, slow_turns, table_notes, table_turns};
+ghost use Rattle.lexical_write_integer.specs.DecimalTurns.{write_turns};
+ghost use Rattle.lexical_write_integer.specs.LoopTurns.{compact_notes, compact_turns, slow_notes, slow_turns, table_notes, table_turns};
 
 use lexical_num::num::UnsignedInteger;
 use lexical_write_integer::algorithm::algorithm_counted;
@@ -26,7 +26,7 @@ pub struct Counters {
     pub compact: Turns,
 }
 
-/// The turns of a number with so many digits in the radix.
+/// The turns of three calls on a number that has `digits` digits in the radix.
 pub fn turns_of<T: DigitCount>(value: T, radix: u32, digits: usize) -> Counters
     requires radix { IsRadix radix }
     requires some { 1 ≤ digits }
@@ -34,10 +34,10 @@ pub fn turns_of<T: DigitCount>(value: T, radix: u32, digits: usize) -> Counters
     requires needed { 1 < digits → radix ^ (digits - 1) ≤ T.magnitude value }
     ensures table { result.table ≡ table_notes radix (T.magnitude value) }
     ensures slow { result.slow ≡ slow_notes radix (T.magnitude value) }
-    ensures compact { result.compact ≡ one_notes radix (T.magnitude value) }
+    ensures compact { result.compact ≡ compact_notes radix (T.magnitude value) }
     ensures table_turns { length result.table ≡ table_turns radix digits }
     ensures slow_turns { length result.slow ≡ slow_turns digits }
-    ensures compact_turns { length result.compact ≡ one_turns digits }
+    ensures compact_turns { length result.compact ≡ compact_turns digits }
 {
     digit_count_is_least(radix, value.as_usize() as u64);
     let mut table = Turns::new();
@@ -53,7 +53,7 @@ pub fn turns_of<T: DigitCount>(value: T, radix: u32, digits: usize) -> Counters
     }
 }
 
-/// The turns of the writer of every radix, for a number with so many digits in the radix.
+/// The turns of `write_integer` on a number that has `digits` digits in the radix.
 pub fn written_turns_of<T: Decimal + DigitCount>(value: T, radix: u32, digits: usize) -> Turns
     requires radix { IsRadix radix }
     requires other { radix ≢ 10 }
@@ -68,7 +68,7 @@ pub fn written_turns_of<T: Decimal + DigitCount>(value: T, radix: u32, digits: u
     turns
 }
 
-/// The most turns: of a number of 40 digits in radix 3.
+/// The most turns of `write_integer`: of a number with 40 digits in radix 3.
 pub fn most_turns() -> Turns
     ensures { length result ≡ 21 }
 {
@@ -181,29 +181,4 @@ pub fn turns_of_40_digits_in_radix_3() -> Counters
     ensures compact { length result.compact ≡ 39 }
 {
     turns_of(12157665459056928800u64, 3, 40)
-}
-
-#[cfg(test)]
-mod tests {
-    use super::*;
-    use std::mem::size_of;
-
-    // The lists themselves stand in the contracts.
-    #[test]
-    fn counters_take_no_bytes(rt: HostRuntime) {
-        notes_of_255_in_radix_3();
-        notes_of_255_in_radix_16();
-        turns_of_0_in_radix_2();
-        turns_of_255_in_radix_2();
-        turns_of_255_in_radix_4();
-        turns_of_255_in_radix_15();
-        turns_of_255_in_radix_16();
-        turns_of_65535_in_radix_15();
-        turns_of_65535_in_radix_16();
-        turns_of_the_greatest_in_radix_2();
-        turns_of_the_greatest_in_radix_36();
-        turns_of_40_digits_in_radix_3();
-        most_turns();
-        assert_eq!(rt; size_of::<Counters>(), 0);
-    }
 }

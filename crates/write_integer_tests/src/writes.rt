@@ -1,4 +1,4 @@
-// The writer of every radix, by its six calls.
+// The six calls of `WriteInteger`.
 
 use lexical_write_integer::NumberFormatBuilder;
 use lexical_write_integer::laws::digit_count_at_most;

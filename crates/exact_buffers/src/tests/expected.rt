@@ -1,35 +1,34 @@
-//! The texts that are wanted, by repeated division.
+//! The expected texts, by repeated division.
 
 ghost use Rattle.std.specs.Prelude.{◌≤◌};
-ghost use Rattle.lexical_num.specs.Format.{IsRadix};
 
-use std::process::Abort;
+use lexical_write_integer::NumberFormat;
 
 const DIGITS: &[u8; 36] = b"0123456789ABCDEFGHIJKLMNOPQRSTUVWXYZ";
 
-// A text, at the end of room for a sign and 64 digits.
+// The length of the longest text: a sign, 64 digits, and a mark between each two neighbours.
+const LONGEST: usize = 128;
+
+// The expected text of a number, at the end of room for the longest one.
 #[derive(Drop)]
 pub(crate) struct Expected {
-    bytes: [u8; 65],
+    bytes: [u8; LONGEST],
     text: usize,
     digits: usize,
-    ghost text_within: { text ≤ 65 },
-    ghost digits_within: { digits ≤ 65 },
+    ghost text_within: { text ≤ 128 },
+    ghost digits_within: { digits ≤ 128 },
 }
 
 impl Expected {
-    // Of a number of this sign and magnitude, where `+` stands before a number that is not negative
-    // if that is asked for.
-    pub(crate) fn new(is_negative: bool, magnitude: u64, radix: u32, with_plus: bool) -> Expected
-        requires { IsRadix radix }
-    {
-        let mut bytes = [0; 65];
-        let digits = fill_digits(&mut bytes, magnitude, u64::from(radix));
+    // The text of the number of this sign and magnitude.
+    pub(crate) fn new(is_negative: bool, magnitude: u64, format: &NumberFormat) -> Expected {
+        let mut bytes = [0; LONGEST];
+        let digits = fill_digits(&mut bytes, magnitude, format);
         let mut text = digits;
         if is_negative {
             text -= 1;
             bytes[text] = b'-';
-        } else if with_plus {
+        } else if format.required_mantissa_sign() {
             text -= 1;
             bytes[text] = b'+';
         }
@@ -51,42 +50,28 @@ impl Expected {
     }
 }
 
-// Puts the digits at the end, the last one first, and answers where they begin.
-fn fill_digits(bytes: &mut [u8; 65], magnitude: u64, radix: u64) -> usize
-    requires { IsRadix radix }
+// Puts the digits at the end, the last one first, with a mark after each whole group that is not
+// the first one of the text, and returns where they begin.
+fn fill_digits(bytes: &mut [u8; LONGEST], magnitude: u64, format: &NumberFormat) -> usize
     ensures after_sign { 1 ≤ result }
-    ensures within { result ≤ 65 }
+    ensures within { result ≤ 128 }
 {
+    let radix = u64::from(format.mantissa_radix());
+    // No number has a 65th digit before which a mark could stand.
+    let (size, mark) = format.digit_grouping().unwrap_or((64, 0));
     let mut rest = magnitude;
-    for count in 1..65 {
-        let place = 65 - count;
+    let mut place = LONGEST;
+    for count in 0..64usize {
+        if count > 0 && count % usize::from(size) == 0 {
+            place -= 1;
+            bytes[place] = mark;
+        }
+        place -= 1;
         bytes[place] = DIGITS[(rest % radix) as usize];
         rest /= radix;
         if rest == 0 {
             return place;
         }
     }
-    1
-}
-
-fn check(rt: &impl Abort, text: &[u8], wanted: &[u8]) {
-    assert_eq!(rt; text, wanted);
-}
-
-#[test]
-fn texts_by_division(rt: HostRuntime) {
-    check(&rt, Expected::new(false, 0, 10, false).text(), b"0");
-    check(&rt, Expected::new(false, 0, 2, true).text(), b"+0");
-    check(&rt, Expected::new(true, 128, 10, true).text(), b"-128");
-    check(&rt, Expected::new(true, 128, 36, false).digits(), b"3K");
-    check(
-        &rt,
-        Expected::new(false, u64::MAX, 36, true).text(),
-        b"+3W5E11264SGSF",
-    );
-    check(
-        &rt,
-        Expected::new(true, u64::MAX, 2, true).digits(),
-        &[b'1'; 64],
-    );
+    place
 }

@@ -1,16 +1,17 @@
 //! The numbers that are tried.
 
 ghost use Rattle.std.specs.Prelude.{◌≤◌};
-ghost use Rattle.lexical_num.specs.Format.{IsRadix};
+ghost use Rattle.lexical_num.specs.Format.{IsRadix, IsGroupSize};
 
-use super::digits::check_digits;
+use super::digits::check_types;
 use super::expected::Expected;
 use super::numbers::Number;
-use super::texts::check_text;
+use super::texts::{check_text, need_of};
 use lexical_write_integer::{NumberFormat, NumberFormatBuilder, Options};
 use std::process::Abort;
 
-// Tries the number of a sign and a magnitude, where the type has it, and answers how many it tried.
+// Tries the number of a sign and a magnitude, where the type has it, and returns the count of the
+// numbers tried.
 fn try_number<T: Number>(
     rt: &impl Abort,
     is_negative: bool,
@@ -23,11 +24,13 @@ fn try_number<T: Number>(
     let Some(value) = T::of(is_negative, magnitude) else {
         return 0;
     };
-    let radix = format.mantissa_radix();
-    let with_plus = format.required_mantissa_sign();
-    let wanted = Expected::new(is_negative, magnitude, radix, with_plus);
-    check_text(rt, value, format, options, wanted.text());
-    check_digits(rt, value.absolute(), radix, wanted.digits());
+    let expected = Expected::new(is_negative, magnitude, format);
+    let need = need_of::<T>(rt, is_negative, magnitude, format);
+    check_text(rt, value, need, format, options, expected.text());
+    // The writers of digits know neither signs nor groups.
+    if !is_negative && format.digit_grouping().is_none() {
+        check_types(rt, magnitude, format.mantissa_radix(), expected.digits());
+    }
     1
 }
 
@@ -101,6 +104,39 @@ fn try_radix<T: Number>(rt: &impl Abort, radix: u8, options: &T::Options) -> usi
     try_format::<T>(rt, &unsigned, options) + try_format::<T>(rt, &signed, options)
 }
 
+// The same in groups of this size, with and without a required sign.
+fn try_groups<T: Number>(rt: &impl Abort, radix: u8, size: u8, options: &T::Options) -> usize
+    requires radix { IsRadix radix }
+    requires size { IsGroupSize size }
+    ensures { result ≤ 784 }
+{
+    let unsigned = NumberFormatBuilder::new()
+        .radix(radix)
+        .digit_grouping(size, b'_');
+    let signed = unsigned.required_mantissa_sign(true).build_strict();
+    try_format::<T>(rt, &unsigned.build_strict(), options) + try_format::<T>(rt, &signed, options)
+}
+
+// The same in groups of 1, 2, 3, 4 and 64 digits.
+fn try_sizes<T: Number>(rt: &impl Abort, radix: u8, options: &T::Options) -> usize
+    requires { IsRadix radix }
+    ensures { result ≤ 3920 }
+{
+    try_groups::<T>(rt, radix, 1, options)
+        + try_groups::<T>(rt, radix, 2, options)
+        + try_groups::<T>(rt, radix, 3, options)
+        + try_groups::<T>(rt, radix, 4, options)
+        + try_groups::<T>(rt, radix, 64, options)
+}
+
+// The same in radices 2, 10, 16 and 36.
+fn try_grouped_type<T: Number>(rt: &impl Abort, options: &T::Options) -> usize {
+    try_sizes::<T>(rt, 2, options)
+        + try_sizes::<T>(rt, 10, options)
+        + try_sizes::<T>(rt, 16, options)
+        + try_sizes::<T>(rt, 36, options)
+}
+
 // The same in each radix.
 fn try_type<T: Number>(rt: &impl Abort, options: &T::Options) -> usize {
     let mut tried = 0;
@@ -108,15 +144,6 @@ fn try_type<T: Number>(rt: &impl Abort, options: &T::Options) -> usize {
         tried += try_radix::<T>(rt, radix, options);
     }
     tried
-}
-
-// 0, 1, 0 and 255, and three numbers for each power from 1 to 128; of 256 the one before.
-#[test]
-fn numbers_of_u8_in_radix_2(rt: HostRuntime) {
-    assert_eq!(rt;
-        try_radix::<u8>(&rt, 2, &Options::new()),
-        2 * (4 + 3 * 8 + 1)
-    );
 }
 
 #[test]
@@ -167,4 +194,54 @@ fn numbers_of_i64(rt: HostRuntime) {
 #[test]
 fn numbers_of_isize(rt: HostRuntime) {
     assert_eq!(rt; try_type::<isize>(&rt, &Options::new()), 8234);
+}
+
+#[test]
+fn numbers_of_u8_in_groups(rt: HostRuntime) {
+    assert_eq!(rt; try_grouped_type::<u8>(&rt, &Options::new()), 630);
+}
+
+#[test]
+fn numbers_of_u16_in_groups(rt: HostRuntime) {
+    assert_eq!(rt; try_grouped_type::<u16>(&rt, &Options::new()), 1050);
+}
+
+#[test]
+fn numbers_of_u32_in_groups(rt: HostRuntime) {
+    assert_eq!(rt; try_grouped_type::<u32>(&rt, &Options::new()), 1890);
+}
+
+#[test]
+fn numbers_of_u64_in_groups(rt: HostRuntime) {
+    assert_eq!(rt; try_grouped_type::<u64>(&rt, &Options::new()), 3550);
+}
+
+#[test]
+fn numbers_of_usize_in_groups(rt: HostRuntime) {
+    assert_eq!(rt; try_grouped_type::<usize>(&rt, &Options::new()), 3550);
+}
+
+#[test]
+fn numbers_of_i8_in_groups(rt: HostRuntime) {
+    assert_eq!(rt; try_grouped_type::<i8>(&rt, &Options::new()), 1070);
+}
+
+#[test]
+fn numbers_of_i16_in_groups(rt: HostRuntime) {
+    assert_eq!(rt; try_grouped_type::<i16>(&rt, &Options::new()), 1850);
+}
+
+#[test]
+fn numbers_of_i32_in_groups(rt: HostRuntime) {
+    assert_eq!(rt; try_grouped_type::<i32>(&rt, &Options::new()), 3530);
+}
+
+#[test]
+fn numbers_of_i64_in_groups(rt: HostRuntime) {
+    assert_eq!(rt; try_grouped_type::<i64>(&rt, &Options::new()), 6890);
+}
+
+#[test]
+fn numbers_of_isize_in_groups(rt: HostRuntime) {
+    assert_eq!(rt; try_grouped_type::<isize>(&rt, &Options::new()), 6890);
 }

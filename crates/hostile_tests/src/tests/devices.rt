@@ -17,7 +17,7 @@ pub struct FailingSource<'a> {
 }
 
 impl<'a> FailingSource<'a> {
-    /// A source with a fault of this kind behind so many bytes.
+    /// A source with a fault of this kind after this number of bytes.
     pub fn new(bytes: &'a [u8], until_fault: usize, kind: ErrorKind) -> FailingSource<'a> {
         FailingSource {
             inner: SliceSource::new(bytes),
@@ -34,7 +34,7 @@ impl<'a> FailingSource<'a> {
 }
 
 impl<'a> ByteSource for FailingSource<'a> {
-    ghost use Rattle.lexical_lines.specs.Source.{KeepsBytes-itself, KeepsBytes-on};
+    ghost use Rattle.lexical_lines.specs.Slice.{KeepsBytes-reflexive, KeepsBytes-transitive};
 
     ghost given = { λ s. ⟦<SliceSource<'a> as ByteSource>⟧.given s.inner };
 
@@ -46,9 +46,9 @@ impl<'a> ByteSource for FailingSource<'a> {
 
     ghost keeps = { λ a b. ⟦<SliceSource<'a> as ByteSource>⟧.keeps a.inner b.inner };
 
-    ghost keeps_itself = { λ a. KeepsBytes-itself a.inner };
+    ghost keeps_reflexive = { λ a. KeepsBytes-reflexive a.inner };
 
-    ghost keeps_on = { λ a b c. KeepsBytes-on a.inner b.inner c.inner };
+    ghost keeps_transitive = { λ a b c. KeepsBytes-transitive a.inner b.inner c.inner };
 
     fn next(&mut self) -> io::Result<Option<u8>> {
         match self.until_fault {
@@ -79,7 +79,7 @@ pub struct FailingSink<'a> {
 }
 
 impl<'a> FailingSink<'a> {
-    /// A sink that takes at least one byte at a time, with a fault of this kind behind so many
+    /// A sink that takes at least one byte at a time, with a fault of this kind after this many
     /// bytes, if any. With no kind, it takes no byte then.
     pub fn new(
         buffer: &'a mut [u8],
@@ -110,7 +110,7 @@ impl<'a> FailingSink<'a> {
 }
 
 impl<'a> ByteSink for FailingSink<'a> {
-    ghost use Rattle.lexical_lines.specs.Sink.{KeepsBuffer-itself, KeepsBuffer-on};
+    ghost use Rattle.lexical_lines.specs.Slice.{KeepsBuffer-reflexive, KeepsBuffer-transitive};
 
     ghost taken = { λ s. ⟦<SliceSink<'a> as ByteSink>⟧.taken s.inner };
 
@@ -118,9 +118,9 @@ impl<'a> ByteSink for FailingSink<'a> {
 
     ghost keeps = { λ a b. ⟦<SliceSink<'a> as ByteSink>⟧.keeps a.inner b.inner };
 
-    ghost keeps_itself = { λ a. KeepsBuffer-itself a.inner };
+    ghost keeps_reflexive = { λ a. KeepsBuffer-reflexive a.inner };
 
-    ghost keeps_on = { λ a b c. KeepsBuffer-on a.inner b.inner c.inner };
+    ghost keeps_transitive = { λ a b c. KeepsBuffer-transitive a.inner b.inner c.inner };
 
     fn put(&mut self, bytes: &[u8]) -> io::Result<usize> {
         if bytes.is_empty() {

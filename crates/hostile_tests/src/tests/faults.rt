@@ -1,4 +1,4 @@
-// Runs over devices that fail, behind each number of bytes: a run ends at the first fault, and no
+// Runs over devices that fail, after each number of bytes: a run ends at the first fault, and no
 // byte is lost or put twice.
 
 ghost use Rattle.std.specs.Prelude.{◌≤◌};
@@ -44,7 +44,7 @@ fn answered(case: Case, given: usize) -> usize {
     count
 }
 
-// The source fails behind so many bytes: all lines that ended by then are answered, and the error
+// The source fails after this number of bytes: all lines that ended by then are answered, and the error
 // is the source's.
 fn check_source(rt: &impl Abort, case: Case, position: usize, kind: ErrorKind) {
     let mut source = FailingSource::new(case.input, position, kind);
@@ -55,7 +55,7 @@ fn check_source(rt: &impl Abort, case: Case, position: usize, kind: ErrorKind) {
     assert!(rt; !source.expects_fault());
 }
 
-// The source fails behind each number of bytes, the whole input among them.
+// The source fails after each number of bytes, the whole input among them.
 fn check_sources(rt: &impl Abort, case: Case, kind: ErrorKind, positions: usize) {
     assert_eq!(rt; positions, case.input.len() + 1);
     for position in 0..positions {
@@ -72,7 +72,7 @@ fn sources_that_fail(rt: HostRuntime) {
     }
 }
 
-// The sink fails behind so many bytes, which are then the first ones of the output, and the error
+// The sink fails after this number of bytes, which are then the first ones of the output, and the error
 // is the sink's, or tells that it took no byte.
 fn check_sink(rt: &impl Abort, case: Case, position: usize, piece: usize, kind: Option<ErrorKind>)
     requires { 1 ≤ piece }
@@ -90,7 +90,7 @@ fn check_sink(rt: &impl Abort, case: Case, position: usize, piece: usize, kind: 
     assert_eq!(rt; outcome(ran), Err(wanted));
 }
 
-// The sink fails behind each number of bytes below the whole output, taking whole pieces and one
+// The sink fails after each number of bytes below the whole output, taking whole pieces and one
 // byte at a time.
 fn check_sinks(rt: &impl Abort, case: Case, kind: Option<ErrorKind>, positions: usize) {
     assert_eq!(rt; positions, case.output.len());

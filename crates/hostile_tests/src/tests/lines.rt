@@ -54,7 +54,7 @@ fn good_answer(place: usize, byte: u8) -> Option<&'static [u8]> {
     None
 }
 
-// Changes one byte of `u8 10 5`. Answers whether the line is a good one then.
+// Changes one byte of `u8 10 5`. Returns whether the line is then a good one.
 fn check_change(rt: &impl Abort, place: usize, byte: u8) -> bool {
     let mut line = *b"u8 10 5\n";
     assert!(rt; place < 7);

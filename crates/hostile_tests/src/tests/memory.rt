@@ -1,47 +1,62 @@
 // Memory that is refused. No call of the libraries takes an allocator, so what asks for memory is a
 // device alone.
 
+ghost use Rattle.std.specs.Prelude.{◌≤◌};
+
 use crate::tests::runs::outcome;
 use lexical_lines::{SliceSource, Writing, run};
-use linked_list_allocator::LocalHeap;
-use std::alloc::AllocError;
-use std::io::ErrorKind;
+use std::io;
+use std::io::{ErrorKind, Write};
 use std::process::Abort;
-use std::test::Fail;
 
-// Runs over four lines into a vector that has this room, and gets no more. The output is what was
-// put. Answers how the run ended.
-fn run_in(
-    rt: &impl Abort,
-    heap: &LocalHeap,
+// Takes each piece whole while its memory, of at most 32 bytes, has room for it, and gets no more.
+#[derive(Drop)]
+struct Limited {
+    bytes: [u8; 32],
+    count: usize,
     room: usize,
-    output: &[u8],
-) -> Result<Result<bool, ErrorKind>, AllocError> {
-    let mut source = SliceSource::new(b"i8 10 -128\nu8 +10 5\nu8 10 256\nu8 37 5");
-    let mut sink = Writing::new(Vec::with_capacity(heap, room)?);
-    let ran = run(&mut source, &mut sink);
-    let written: Vec<u8, &LocalHeap> = sink.into_inner();
-    assert_eq!(rt; written.as_slice(), output);
-    Ok(outcome(ran))
+    ghost ordered: { count ≤ room },
+    ghost within: { room ≤ 32 },
 }
 
-// The heap gives 32 bytes to the first run, then 16 beside those that are held, and none where all
-// are held.
+impl Write for Limited {
+    fn write(&mut self, bytes: &[u8]) -> io::Result<usize> {
+        let start = self.count;
+        if self.room - start < bytes.len() {
+            return Err(io::Error::from(ErrorKind::OutOfMemory));
+        }
+        self.bytes[start..start + bytes.len()].copy_from_slice(bytes);
+        self.count = start + bytes.len();
+        Ok(bytes.len())
+    }
+
+    fn flush(&mut self) -> io::Result<()> {
+        Ok(())
+    }
+}
+
+// Runs over four lines into this many bytes of memory. The output is what was put. Returns how the
+// run ended.
+fn run_in(rt: &impl Abort, room: usize, output: &[u8]) -> Result<bool, ErrorKind>
+    requires { room ≤ 32 }
+{
+    let mut source = SliceSource::new(b"i8 10 -128\nu8 +10 5\nu8 10 256\nu8 37 5");
+    let mut sink = Writing::new(Limited {
+        bytes: [0; 32],
+        count: 0,
+        room,
+    });
+    let ran = run(&mut source, &mut sink);
+    let written = sink.into_inner();
+    assert_eq!(rt; &written.bytes[..written.count], output);
+    outcome(ran)
+}
+
+// Enough memory, enough for two of the four answers, and none.
 #[test]
-fn writers_that_get_no_more_memory(rt: HostRuntime) -> Result<(), Fail> {
-    let heap = LocalHeap::new(rt.alloc(), 32)?;
-    assert_eq!(&rt;
-        run_in(&rt, &heap, 32, b"-128\n+5\nbad line 3\nbad line 4\n")?,
-        Ok(false)
-    );
-    let first_half: Vec<u8, &LocalHeap> = Vec::with_capacity(&heap, 16)?;
-    assert_eq!(&rt;
-        run_in(&rt, &heap, 16, b"-128\n+5\n")?,
-        Err(ErrorKind::OutOfMemory)
-    );
-    let second_half: Vec<u8, &LocalHeap> = Vec::with_capacity(&heap, 16)?;
-    assert_eq!(&rt; run_in(&rt, &heap, 0, b"")?, Err(ErrorKind::OutOfMemory));
-    drop(first_half);
-    drop(second_half);
-    Ok(())
+fn writers_that_get_no_more_memory(rt: HostRuntime) {
+    let output = b"-128\n+5\nbad line 3\nbad line 4\n";
+    assert_eq!(&rt; run_in(&rt, 32, output), Ok(false));
+    assert_eq!(&rt; run_in(&rt, 16, b"-128\n+5\n"), Err(ErrorKind::OutOfMemory));
+    assert_eq!(&rt; run_in(&rt, 0, b""), Err(ErrorKind::OutOfMemory));
 }

@@ -13,8 +13,8 @@ pub fn outcome(ran: io::Result<bool>) -> Result<bool, ErrorKind> {
     }
 }
 
-/// Runs into a buffer of so many bytes, at most 64. The output is what was put, and the bytes
-/// behind it are as before. Answers how the run ended.
+/// Runs into a buffer of this number of bytes, at most 64. The output is what was put, and the bytes
+/// after it are unchanged. Returns how the run ended.
 pub fn run_from<S: ByteSource>(
     rt: &impl Abort,
     source: &mut S,
@@ -32,7 +32,7 @@ pub fn run_from<S: ByteSource>(
     outcome(ran)
 }
 
-/// Runs over the input, which has this output, of at most 64 bytes. Answers whether all lines are
+/// Runs over the input, which has this output, of at most 64 bytes. Returns whether all lines are
 /// good ones.
 pub fn check(rt: &impl Abort, input: &[u8], output: &[u8], all_good: bool) {
     let ran = run_from(rt, &mut SliceSource::new(input), 64, output);

@@ -7,7 +7,7 @@ use std::io::ErrorKind;
 
 const TWO_LINES: &[u8] = b"u8 10 5\nu8 10 6";
 
-// In front of the first newline, behind it, and behind the last byte.
+// Before the first newline, after it, and after the last byte.
 #[test]
 fn a_source_that_fails(rt: HostRuntime) {
     let outputs: [(usize, &[u8]); 3] = [(7, b""), (8, b"5\n"), (15, b"5\n")];

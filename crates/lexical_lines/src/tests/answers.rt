@@ -3,8 +3,8 @@ use std::io;
 use std::io::ErrorKind;
 use std::process::Abort;
 
-// Runs over the input into a buffer of so many bytes; the output is what was taken of it, and the
-// bytes behind it are as before.
+// Runs over the input into a buffer of `room` bytes, which takes exactly the output; every byte after
+// it is unchanged.
 fn run_over(rt: &impl Abort, input: &[u8], room: usize, output: &[u8]) -> io::Result<bool> {
     let mut buffer = [b'.'; 256];
     assert!(rt; room <= 256);
@@ -18,7 +18,7 @@ fn run_over(rt: &impl Abort, input: &[u8], room: usize, output: &[u8]) -> io::Re
     ran
 }
 
-// The answers to the input, and whether all of its lines are good ones.
+// A run, and the call over slices: both write the output.
 fn check(rt: &impl Abort, input: &[u8], output: &[u8], all_good: bool) {
     let ran = run_over(rt, input, 256, output);
     assert!(rt; matches!(ran, Ok(good) if good == all_good));

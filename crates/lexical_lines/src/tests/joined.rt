@@ -42,3 +42,14 @@ fn one_value_with_a_sign(rt: HostRuntime) {
     assert_eq!(rt; &*front, b"+18446744073709551615".as_slice());
     assert_eq!(rt; buffer, *b"+18446744073709551615\x07");
 }
+
+#[test]
+fn texts_in_groups(rt: HostRuntime) {
+    let format = NumberFormatBuilder::new()
+        .digit_grouping(3, b',')
+        .build_strict();
+    let mut buffer = [7; 14];
+    let front = join(&[1000u16, 5], b';', &mut buffer, &format, &Options::new());
+    assert_eq!(rt; &*front, b"1,000;5".as_slice());
+    assert_eq!(rt; buffer, *b"1,000;5\x07\x07\x07\x07\x07\x07\x07");
+}

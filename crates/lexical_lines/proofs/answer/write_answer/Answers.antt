@@ -1,5 +1,5 @@
 use Rattle.std.proofs.Common.{◌≡◌, ◌-◌, ◌^◌, min, arith, inr}
-use Rattle.lexical_lines.proofs.Texts.{Writes-within}
+use Rattle.lexical_lines.proofs.Buffers.{Writes-within}
 use Rattle.lexical_lines.proofs.answer.write_answer.Goals as goal
 
 pub returns-in-None-clause-answer : goal.returns-in-None-clause-answer

@@ -1,4 +1,4 @@
-use Rattle.lexical_lines.proofs.Unique.{AnswersAll-unique}
+use Rattle.lexical_lines.proofs.UniqueAnswers.{AnswersAll-unique}
 use Rattle.lexical_lines.proofs.laws.answers_unique.Goals as goal
 
 pub returns : goal.returns

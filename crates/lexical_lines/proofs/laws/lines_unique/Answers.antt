@@ -1,4 +1,4 @@
-use Rattle.lexical_lines.proofs.Cuts.{AreLines-exist, AreLines-unique}
+use Rattle.lexical_lines.proofs.Lines.{AreLines-exist, AreLines-unique}
 use Rattle.lexical_lines.proofs.laws.lines_unique.Goals as goal
 
 pub returns-clause-exists : goal.returns-clause-exists

@@ -1,5 +1,5 @@
 use Rattle.std.proofs.Common.{◌≡◌, length}
-use Rattle.lexical_lines.proofs.Putting.{HasPut}
+use Rattle.lexical_lines.proofs.Sinks.{HasPut}
 use Rattle.lexical_lines.proofs.sink.put_all.Given as goal
 
 abbrev pub invariant-loop-rest : goal.invariant-loop-rest

@@ -1,5 +1,5 @@
 use Rattle.std.proofs.Common.{arith, rules, inl, inr}
-use Rattle.lexical_lines.proofs.Unique.{BreaksOff-begins}
+use Rattle.lexical_lines.proofs.UniqueAnswers.{BreaksOff-begins}
 use Rattle.lexical_lines.proofs.Slices.{given-ended, given-part, Writes-sink, BreaksOff-full}
 use Rattle.lexical_lines.proofs.slice.answer_slice.Goals as goal
 
@@ -10,7 +10,7 @@ returns-in-Ok-clause-answered c =
     let ran = c.in-Ok.ensures in
     let given = given-ended c.args.input.now source.given source.left source.ended ran.kept_source ran.ok_end in
     let answers = rw (source.given, given, sink.taken) at ran.ok_answers in
-    Writes-sink sink.taken sink.behind ran.kept_sink answers c.len.ensures (search rules)
+    Writes-sink sink.taken sink.rest ran.kept_sink answers c.len.ensures (search rules)
 
 pub returns-in-Err-clause-full : goal.returns-in-Err-clause-full
 returns-in-Err-clause-full c =

@@ -72,7 +72,7 @@ module _ {M : Type 1} {𝓤 : Ura M} (𝓛 : Logic 𝓤) where
     abbrev after : List ℕ → List ℕ
     after ws = ws ++ back
 
-    -- where the bytes behind a front of k bytes begin
+    -- where the bytes after a front of k bytes begin
     abbrev past : ℕ → ℕ
     past = at o (mem u8).size
 

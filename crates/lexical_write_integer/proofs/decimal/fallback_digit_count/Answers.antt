@@ -1,12 +1,12 @@
 use Rattle.std.proofs.Common.{◌≡◌, ◌+◌, ◌^◌, sym, arith}
-use Rattle.lexical_write_integer.specs.Numeral.{digit_count}
+use Rattle.lexical_write_integer.specs.DigitCount.{digit_count}
 use Rattle.lexical_write_integer.proofs.DigitCounts.{digit_count-le_64}
 use Rattle.lexical_write_integer.proofs.Logarithms.{digit_count-estimate, digit_count-estimate_more}
 use Rattle.lexical_write_integer.proofs.DecimalTables.{entry_is, past_table}
 use Rattle.lexical_write_integer.proofs.decimal.fallback_digit_count.Goals as goal
 use Rattle.lexical_write_integer.proofs.decimal.fallback_digit_count.Goals.{Then-is_at_least, Joined-else-log10-table, else-log10-table-via-then-log10-table+else-is_at_least, else-log10-table-via-else-log10-table}
 
--- the entry is the power of ten behind the estimate, and the number is at least that
+-- the entry is the power of ten after the estimate, and the number is at least that
 two_more : (g : _) (c : Then-is_at_least g) → c.fast_log10-log10.result + 2 ≡ digit_count 10 (g.T.UnsignedInteger.magnitude c.args.x)
 two_more g c =
     let entry = entry_is (2 ^ g.T.LexicalInteger.BITS) g.T.UnsignedInteger.magnitude c.args.table.now c.fast_log10-log10.result c.index-table-log10.result c.if-log10-table.true c.index-table-log10.is c.requires in

@@ -1,7 +1,7 @@
 use Rattle.std.proofs.Common.{◌≡◌, ◌+◌, ◌/◌, ◌<◌, ℕ, get_or, arith}
 use Rattle.lexical_write_integer.specs.Logarithm.{IsLog2}
-use Rattle.lexical_write_integer.specs.Numeral.{digit_count}
-use Rattle.lexical_num.specs.Width.{is_32}
+use Rattle.lexical_write_integer.specs.DigitCount.{digit_count}
+use Rattle.lexical_num.specs.BitWidth.{is_32}
 use Rattle.lexical_write_integer.specs.declared.decimal.TheConstants.{DIGITS_BY_LOG2}
 use Rattle.lexical_write_integer.proofs.DecimalTables.{fast_digit_count-is}
 use Rattle.lexical_write_integer.proofs.DigitCounts.{digit_count-le_64}

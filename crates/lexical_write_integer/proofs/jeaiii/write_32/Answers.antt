@@ -1,6 +1,6 @@
 use Rattle.std.proofs.Common.{◌^◌, ◌≤◌, arith}
 use Rattle.std.proofs.lemmas.Bool.{lt-ltb, le-ltb}
-use Rattle.lexical_write_integer.specs.Notes.{decimal_notes_32}
+use Rattle.lexical_write_integer.specs.DecimalTurns.{decimal_notes_32}
 use Rattle.lexical_write_integer.proofs.jeaiii.write_32.Goals as goal
 
 pub returns-then-n-lt1000000-clause-notes : goal.returns-then-n-lt1000000-clause-notes

@@ -1,7 +1,7 @@
 use Rattle.std.proofs.Common.{◌^◌, ◌≤◌, ◌++◌, length, ap, ◌∙◌, arith, append_assoc, length-append}
 use Rattle.std.proofs.lemmas.Bool.{le-ltb}
-use Rattle.lexical_write_integer.specs.Notes.{decimal_notes_64, pairs_from_back}
-use Rattle.lexical_write_integer.proofs.BlocksBehind.{WritesDigits-behind}
+use Rattle.lexical_write_integer.specs.DecimalTurns.{decimal_notes_64, pairs_from_back}
+use Rattle.lexical_write_integer.proofs.BlocksAfter.{WritesDigits-after}
 use Rattle.lexical_write_integer.proofs.DigitCounts.{digit_count-split}
 use Rattle.lexical_write_integer.proofs.PairBlocks.{digit_count-widest}
 use Rattle.lexical_write_integer.proofs.jeaiii.write_64.Goals as goal
@@ -14,7 +14,7 @@ write_last_ten-requires c = omega (arith, digit_count-split 10 10 c.args.n (omeg
 
 pub returns-else-n-lt10000000000-clause-digits : goal.returns-else-n-lt10000000000-clause-digits
 returns-else-n-lt10000000000-clause-digits c =
-    WritesDigits-behind 10 c.args.n 10 _ _ _ _ (omega arith) c.if-n-lt10000000000.false c.requires c.write_32-front.ensures.digits c.write_last_ten.ensures.block
+    WritesDigits-after 10 c.args.n 10 _ _ _ _ (omega arith) c.if-n-lt10000000000.false c.requires c.write_32-front.ensures.digits c.write_last_ten.ensures.block
 
 pub returns-else-n-lt10000000000-clause-count : goal.returns-else-n-lt10000000000-clause-count
 returns-else-n-lt10000000000-clause-count c = omega (arith, digit_count-split 10 10 c.args.n (omega arith) c.if-n-lt10000000000.false)
@@ -29,5 +29,5 @@ unfolding decimal_notes_64
 returns-else-n-lt10000000000-clause-notes c =
     let n = c.args.n in
     let long : 10 ^ 9 ≤ n = omega arith in
-    let behind = c.write_last_ten.ensures.notes ∙ ap (λ notes. notes ++ pairs_from_back n 5) c.write_32-front.ensures.notes in
-    rw (le-ltb n (10 ^ 9) long, le-ltb n (10 ^ 10) c.if-n-lt10000000000.false) (rw append_assoc at behind)
+    let following = c.write_last_ten.ensures.notes ∙ ap (λ notes. notes ++ pairs_from_back n 5) c.write_32-front.ensures.notes in
+    rw (le-ltb n (10 ^ 9) long, le-ltb n (10 ^ 10) c.if-n-lt10000000000.false) (rw append_assoc at following)

@@ -1,4 +1,4 @@
-use Rattle.lexical_num.specs.Width.{is_64}
+use Rattle.lexical_num.specs.BitWidth.{is_64}
 use Rattle.lexical_write_integer.proofs.DigitCounts.{digit_count-pos, digit_count-fits, digit_count-le, digit_count-le_64}
 use Rattle.lexical_write_integer.proofs.laws.digit_count_is_least.Goals as goal
 

@@ -1,5 +1,5 @@
-use Rattle.lexical_write_integer.proofs.Orders.{same_from_IsDigits}
+use Rattle.lexical_write_integer.proofs.Orders.{equal_from_IsDigits}
 use Rattle.lexical_write_integer.proofs.laws.equal_digits.Goals as goal
 
 pub returns : goal.returns
-returns c = same_from_IsDigits c.args.radix c.args.a c.args.b
+returns c = equal_from_IsDigits c.args.radix c.args.a c.args.b

@@ -1,5 +1,5 @@
 use Rattle.std.proofs.Common.{◌≡◌, ◌∙◌, arith}
-use Rattle.lexical_write_integer.specs.Numeral.{digit_count}
+use Rattle.lexical_write_integer.specs.DigitCount.{digit_count}
 use Rattle.lexical_write_integer.proofs.DigitCounts.{digit_count-is}
 use Rattle.write_integer_tests.proofs.turn_lists.turns_of.Goals as goal
 use Rattle.write_integer_tests.proofs.turn_lists.turns_of.Goals.{After-compact_counted}

@@ -5,7 +5,7 @@ use Rattle.std.proofs.lemmas.List.Edits.{take-paste}
 use Rattle.std.proofs.KnownBytes.{append_known-moved}
 use Rattle.lexical_streams.proofs.block_writer.BlockWriter.hand_on.Goals as goal
 
--- what stood behind the first bytes stands at the front
+-- what stood after the first bytes stands at the front
 take-copy_within : (xs : List ℕ) (count end : ℕ) → count ≤ end → end ≤ length xs
     → take (end - count) (copy_within xs count end 0) ≡ drop count (take end xs)
 take-copy_within xs count end ordered within =

@@ -26,6 +26,7 @@ use contract.Running.{tables, tables_of}
 use sound.WpLaws.{WpFn-mono, fm_of}
 use Rattle.lexical_write_integer.proofs.Relending.{lent_again, lends_again, came_back, comes_back}
 use Rattle.lexical_write_integer.proofs.HandedFronts.{Fronts, called, asks, gave, gives}
+use Rattle.lexical_write_integer.proofs.Lengths.{Writes-short}
 use denote.Builtin.{u8, usize}
 use denote.Exit.{no}
 use denote.Param.{bounded, layout, layouts, copied}
@@ -119,6 +120,10 @@ module _ (T : Able) {M : Type 1} {𝓤 : Ura M} (𝓛 : Logic 𝓤) (at_mem : Me
     abbrev Text : List ℕ → Type 0
     Text = IsText (T.gn.number x) standard
 
+    -- and how long it is
+    abbrev Both : List ℕ → Type 0
+    Both text = Text text × (length text ≤ room_for)
+
     -- the slice, with xs in it, under another name
     abbrev loan : GName → MutBor (List ℕ)
     loan δ = record { ref_ptr = (b, o); ghost_name = δ; now = xs }
@@ -149,10 +154,11 @@ module _ (T : Able) {M : Type 1} {𝓤 : Ura M} (𝓛 : Logic 𝓤) (at_mem : Me
         move ! (1 ∷ 0 ∷ []) $ use2 𝓛 (raw (Writes.pre z)) (id⊢ 𝓤 _) $
         calls_at ! (fm_of 𝓤 H 𝓛.laws 𝓣) Writes writes z (and_then ! (get ! refl) (and_then ! (get ! refl) (no_more !))) (λ v.
         use1 𝓛 (later (some (λ (n : ℕ). ((‵ (flft (α ∷ []) full_share) ⊛ ‵ tokens) ⊛ ‵ (usize.own_val n (v ∷ []))) ⊛
-        some (λ (ws : Unit {0} × (List ℕ × Unit {0})). ‵ (lasts (W.ended T.row T.g T.d T.gn T.dn T.gc T.dc T.gs T.ds) z.0.0 z.0.3 ws) ⊛ raw (fact 𝓤 (Written Text xs ws.1.0 n)))))) (id⊢ 𝓤 _) $
+        some (λ (ws : Unit {0} × (List ℕ × Unit {0})). ‵ (lasts (W.ended T.row T.g T.d T.gn T.dn T.gc T.dc T.gs T.ds) z.0.0 z.0.3 ws) ⊛ (raw (fact 𝓤 (Written Text xs ws.1.0 n)) ⊛ raw (fact 𝓤 (n ≤ room_for))))))) (id⊢ 𝓤 _) $
         await ! tt $ pick ! (λ n. split ! $ split ! $ split ! $ lft_end ! tt $ move ! (2 ∷ 3 ∷ []) $ fsplit ! $ feq_l ! (λ is. flt_l ! (λ fits.
-        pick ! (λ ws. split ! $ move ! (1 ∷ []) $ heard ! _ (λ wrote. fsplit ! $ drop ! $ fsplit ! $ move ! (2 ∷ 4 ∷ 0 ∷ []) $
+        pick ! (λ ws. split3 ! $ move ! (1 ∷ []) $ heard ! _ (λ text. move ! (1 ∷ []) $ heard ! _ (λ short. fsplit ! $ drop ! $ fsplit ! $ move ! (2 ∷ 4 ∷ 0 ∷ []) $
         let ys : List ℕ = ws.1.0 in
+        let wrote : Written Both xs ys n = Writes-short room_for xs ys n text short in
         use3 𝓛 (came_back 𝓛 u8 (named 0) κ q (α ∷ []) b o γ xs ys) (comes_back 𝓛 u8 (named 0) κ q (α ∷ []) b o γ δ xs ys) $ await ! tt $ learn ! (λ long. split ! $
         -- [the slice, as it was written; the token of κ; nothing; the other token]
         lands_as ! (ap only is) refl (tt, record { fits = fits }) $
@@ -161,13 +167,13 @@ module _ (T : Able) {M : Type 1} {𝓤 : Ura M} (𝓛 : Logic 𝓤) (at_mem : Me
         let y : (Fronts 𝓛 at_mem run).Ghost = called 𝓛 at_mem run κ q b o γ xs ys n in
         use2 𝓛 (raw ((Fronts 𝓛 at_mem run).pre y)) (asks 𝓛 at_mem run κ q b o γ xs ys n wrote fits long) $
         calls_at ! (fm_of 𝓤 H 𝓛.laws 𝓣) (Fronts 𝓛 at_mem run) fronts y (and_then ! (get ! refl) (and_then ! (get ! refl) (no_more !))) (λ v'.
-        use1 𝓛 (gave 𝓛 at_mem run κ q b o γ xs ys n Text v') (gives 𝓛 at_mem run κ q b o γ xs ys n Text v' wrote) $ await ! tt $ pick ! (λ r. learn ! (λ handed. split3 ! $
+        use1 𝓛 (gave 𝓛 at_mem run κ q b o γ xs ys n Both v') (gives 𝓛 at_mem run κ q b o γ xs ys n Both v' wrote) $ await ! tt $ pick ! (λ r. learn ! (λ handed. split3 ! $
         lands_as ! handed.word refl (tt, (tt, (record { fits = handed.fits }, tt))) $
         returns ! (look_at ! 0 refl) $ free_all ! refl $
         -- [the result; the token of κ; what is lent; nothing; the other token]
         suffices ! _ (ends_at 𝓛 (ended T) (stayed T) clauses bound (slice_val r.ref_ptr (length r.now)) r (tt, (tt, tt)) (tt, (tt, tt))) $
         keep ! (1 ∷ 4 ∷ 0 ∷ 2 ∷ []) $ join ! $ nothing ! $ nothing ! $ fjoin ! $ nothing ! $ fjoin ! $ move ! (0 ∷ 2 ∷ []) $ join ! $ move ! (1 ∷ []) $ join ! $
-        frame ! $ says ! handed.is $ done !)))))))))))))))
+        frame ! $ frame ! $ says ! handed.is.1 $ use0 𝓛 (raw (fact 𝓤 (Text r.now))) (fact_i 𝓤 _ (emp 𝓤) handed.is.0) $ done !))))))))))))))))
 
 pub to_lexical_spec : {M : Type 1} → stated.statement M
 unfolding tables_of

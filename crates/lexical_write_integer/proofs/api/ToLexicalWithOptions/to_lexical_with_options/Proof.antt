@@ -3,7 +3,7 @@
 use mathlib.Core.Path.{refl, ap}
 use Prim.Native.Nat.{ℕ, ◌≤◌}
 use mathlib.Core.List.{List, [], ◌∷◌}
-use lib.ListN.{length}
+use lib.ListN.{length, take}
 use seplogic.Ra.Ura.{Ura}
 use base.Fraction.{full_share}
 use mir.Syntax.{Fn, Args, Dict, a_type, named, dcons, dnil, method}
@@ -26,6 +26,8 @@ use contract.Running.{tables, tables_of}
 use sound.WpLaws.{WpFn-mono, fm_of}
 use Rattle.lexical_write_integer.proofs.Relending.{lent_again, lends_again, came_back, comes_back}
 use Rattle.lexical_write_integer.proofs.HandedFronts.{Fronts, called, asks, gave, gives}
+use Rattle.lexical_write_integer.proofs.Lengths.{Writes-short}
+use Rattle.lexical_write_integer.proofs.Signs.{Writes-and}
 use denote.Builtin.{u8, usize}
 use denote.Exit.{no, yes}
 use denote.Param.{bounded, layout, layouts, copied, param}
@@ -43,12 +45,13 @@ use denote.Triple.Statement.{Triple, Contract}
 use denote.Triple.Table.{entered}
 use denote.Triple.Walked.{says, Stays, stay_dropped, walk_of, ends_at, walked, Goes-dropped, Goes-spent_slice, walk_Meets}
 use Rattle.std.specs.declared.clone.Clone as cloned
-use Rattle.lexical_num.specs.Format.{Format}
+use Rattle.lexical_num.specs.Format.{Format, without_groups}
 use Rattle.lexical_num.specs.contracts.format.NumberFormat.{the_row as NumberFormat}
 use Rattle.lexical_num.specs.declared.constants.FormattedSize as sized
 use Rattle.lexical_num.specs.declared.num.LexicalInteger as numbered
 use Rattle.lexical_num.specs.declared.options.WriteOptions as told
 use Rattle.lexical_write_integer.specs.Buffer.{Writes as Written}
+use Rattle.lexical_write_integer.specs.Groups.{without_marks}
 use Rattle.lexical_write_integer.specs.Text.{IsText, need}
 use Rattle.lexical_write_integer.specs.declared.api.ToLexical as decimal
 use Rattle.lexical_write_integer.specs.declared.api.ToLexicalWithOptions as declared
@@ -130,6 +133,17 @@ module _ (T : Able) {M : Type 1} {𝓤 : Ura M} (𝓛 : Logic 𝓤) (at_mem : Me
     abbrev Text : List ℕ → Type 0
     Text = IsText (T.gn.number x) format.now
 
+    -- and what it is without its marks
+    abbrev Plain : List ℕ → Type 0
+    Plain text = IsText (T.gn.number x) (without_groups format.now) (without_marks format.now.digit_grouping text)
+
+    -- how long it is
+    abbrev IsShort : List ℕ → Type 0
+    IsShort text = length text ≤ room_for
+
+    abbrev All : List ℕ → Type 0
+    All text = (Text text × IsShort text) × Plain text
+
     -- the slice, with xs in it, under another name
     abbrev loan : GName → MutBor (List ℕ)
     loan δ = record { ref_ptr = (b, o); ghost_name = δ; now = xs }
@@ -164,10 +178,11 @@ module _ (T : Able) {M : Type 1} {𝓤 : Ura M} (𝓛 : Logic 𝓤) (at_mem : Me
         move ! (1 ∷ 0 ∷ []) $ use2 𝓛 (raw (Writes.pre z)) (id⊢ 𝓤 _) $
         calls_at ! (fm_of 𝓤 H 𝓛.laws 𝓣) Writes writes z (and_then ! (get ! refl) (and_then ! (get ! refl) (and_then ! (get ! refl) (and_then ! (get ! refl) (no_more !))))) (λ v.
         use1 𝓛 (later (some (λ (n : ℕ). ((‵ (flft (α ∷ []) full_share) ⊛ ‵ tokens) ⊛ ‵ (usize.own_val n (v ∷ []))) ⊛
-        some (λ (ws : Unit {0} × (List ℕ × (Unit {0} × (Unit {0} × Unit {0})))). ‵ (lasts (W.ended T.row T.options T.g T.d T.gl T.dl T.gn T.dn T.gc T.dc T.gs T.ds T.gt T.dt) z.0.0 z.0.3 ws) ⊛ raw (fact 𝓤 (Written Text xs ws.1.0 n)))))) (id⊢ 𝓤 _) $
+        some (λ (ws : Unit {0} × (List ℕ × (Unit {0} × (Unit {0} × Unit {0})))). ‵ (lasts (W.ended T.row T.options T.g T.d T.gl T.dl T.gn T.dn T.gc T.dc T.gs T.ds T.gt T.dt) z.0.0 z.0.3 ws) ⊛ (raw (fact 𝓤 (Written Text xs ws.1.0 n)) ⊛ raw (fact 𝓤 (n ≤ room_for)) ⊛ raw (fact 𝓤 (Plain (take n ws.1.0)))))))) (id⊢ 𝓤 _) $
         await ! tt $ pick ! (λ n. split ! $ split ! $ split ! $ lft_end ! tt $ move ! (2 ∷ 3 ∷ []) $ fsplit ! $ feq_l ! (λ is. flt_l ! (λ fits.
-        pick ! (λ ws. split ! $ move ! (1 ∷ []) $ heard ! _ (λ wrote. fsplit ! $ drop ! $ fsplit ! $ move ! (2 ∷ 4 ∷ 0 ∷ []) $
+        pick ! (λ ws. split3 ! $ move ! (1 ∷ []) $ heard ! _ (λ text. move ! (1 ∷ []) $ split ! $ heard ! _ (λ short. heard ! _ (λ plain. fsplit ! $ drop ! $ fsplit ! $ move ! (2 ∷ 4 ∷ 0 ∷ []) $
         let ys : List ℕ = ws.1.0 in
+        let wrote : Written All xs ys n = Writes-and xs ys n (Writes-short room_for xs ys n text short) plain in
         use3 𝓛 (came_back 𝓛 u8 (named 0) κ q (α ∷ []) b o γ xs ys) (comes_back 𝓛 u8 (named 0) κ q (α ∷ []) b o γ δ xs ys) $ await ! tt $ learn ! (λ long. split ! $
         -- [the slice, as it was written; the token of κ; the references; the other tokens]
         lands_as ! (ap only is) refl (tt, record { fits = fits }) $
@@ -176,13 +191,14 @@ module _ (T : Able) {M : Type 1} {𝓤 : Ura M} (𝓛 : Logic 𝓤) (at_mem : Me
         let y : (Fronts 𝓛 at_mem run).Ghost = called 𝓛 at_mem run κ q b o γ xs ys n in
         use2 𝓛 (raw ((Fronts 𝓛 at_mem run).pre y)) (asks 𝓛 at_mem run κ q b o γ xs ys n wrote fits long) $
         calls_at ! (fm_of 𝓤 H 𝓛.laws 𝓣) (Fronts 𝓛 at_mem run) fronts y (and_then ! (get ! refl) (and_then ! (get ! refl) (no_more !))) (λ v'.
-        use1 𝓛 (gave 𝓛 at_mem run κ q b o γ xs ys n Text v') (gives 𝓛 at_mem run κ q b o γ xs ys n Text v' wrote) $ await ! tt $ pick ! (λ r. learn ! (λ handed. split3 ! $
+        use1 𝓛 (gave 𝓛 at_mem run κ q b o γ xs ys n All v') (gives 𝓛 at_mem run κ q b o γ xs ys n All v' wrote) $ await ! tt $ pick ! (λ r. learn ! (λ handed. split3 ! $
         lands_as ! handed.word refl (tt, (tt, (record { fits = handed.fits }, tt))) $
         returns ! (look_at ! 0 refl) $ free_all ! refl $
         -- [the result; the token of κ; what is lent; the references; the other tokens]
         suffices ! _ (ends_at 𝓛 (ended T) (stayed T) clauses bound (slice_val r.ref_ptr (length r.now)) r (tt, (tt, (tt, (tt, tt)))) (tt, (tt, (tt, (tt, tt))))) $
         keep ! (1 ∷ 4 ∷ 0 ∷ 2 ∷ []) $ join ! $ nothing ! $ nothing ! $ fjoin ! $ nothing ! $ fjoin ! $ nothing ! $ fjoin ! $ nothing ! $ fjoin ! $ move ! (0 ∷ 2 ∷ []) $ join ! $ move ! (1 ∷ []) $ join ! $
-        frame ! $ says ! handed.is $ done !))))))))))))))))
+        frame ! $ frame ! $ use0 𝓛 (raw (fact 𝓤 (Plain r.now))) (fact_i 𝓤 _ (emp 𝓤) handed.is.1) $ use0 𝓛 (raw (fact 𝓤 (IsShort r.now))) (fact_i 𝓤 _ (emp 𝓤) handed.is.0.1) $
+        use0 𝓛 (raw (fact 𝓤 (Text r.now))) (fact_i 𝓤 _ (emp 𝓤) handed.is.0.0) $ done !))))))))))))))))))
 
 pub to_lexical_with_options_spec : {M : Type 1} → stated.statement M
 unfolding tables_of

@@ -1,0 +1,146 @@
+-- The one way in which an input is cut into lines.
+use Rattle.std.proofs.Common.{◌≡◌, ◌≢◌, ℕ, List, [], ◌∷◌, ◌++◌, refl, sym, ap, ◌∙◌, append_assoc, inl, inr}
+use Rattle.std.proofs.lemmas.Bool.{cases_eq}
+use Rattle.std.specs.List.{All}
+use Rattle.std.proofs.lemmas.Grind.{flat_map-append}
+use Rattle.std.proofs.lemmas.List.{append-nil}
+use Rattle.std.proofs.lemmas.List.Elements.{All-nil, All-cons, All-head, All-tail, All-push, All-append}
+use Rattle.lexical_lines.specs.Lines.{IsCut, AreLines, EndsLine, NoNewline, with_newlines, rest_line}
+use Rattle.lexical_lines.proofs.Separators.{Lacks-not, cut_unique}
+
+-- a byte that is no byte 10
+abbrev pub IsInside : ℕ → Type 0
+IsInside byte = byte ≢ 10
+
+with_newlines-cons : (line : List ℕ) (ended : List (List ℕ)) (rest : List ℕ) → with_newlines (line ∷ ended) ++ rest ≡ line ++ 10 ∷ (with_newlines ended ++ rest)
+with_newlines-cons line ended rest = simp append_assoc
+
+-- ---- one byte more
+
+pub IsCut-none : IsCut [] [] []
+IsCut-none = record { whole = refl; each = All-nil NoNewline; rest_inside = All-nil IsInside }
+
+pub IsCut-byte : {bytes : List ℕ} {ended : List (List ℕ)} {rest : List ℕ} (byte : ℕ) → IsInside byte → IsCut bytes ended rest → IsCut (bytes ++ byte ∷ []) ended (rest ++ byte ∷ [])
+IsCut-byte {ended = ended} {rest = rest} byte inside h = record {
+  whole = ap (λ xs. xs ++ byte ∷ []) h.whole ∙ append_assoc (with_newlines ended) rest (byte ∷ []);
+  each = h.each;
+  rest_inside = All-push IsInside rest byte h.rest_inside inside;
+}
+
+pub IsCut-newline : {bytes : List ℕ} {ended : List (List ℕ)} {rest : List ℕ} → IsCut bytes ended rest → IsCut (bytes ++ 10 ∷ []) (ended ++ rest ∷ []) []
+IsCut-newline {ended = ended} {rest = rest} h = record {
+  whole = ap (λ xs. xs ++ 10 ∷ []) h.whole ∙ simp (flat_map-append, append_assoc, append-nil);
+  each = All-push NoNewline ended rest h.each h.rest_inside;
+  rest_inside = All-nil IsInside;
+}
+
+-- ---- the lines of a cut
+
+rest_line-some : (rest : List ℕ) → (rest ≡ [] → ⊥) → rest_line rest ≡ rest ∷ []
+rest_line-some [] some = absurd (some refl)
+rest_line-some (byte ∷ rest) some = refl
+
+pub AreLines-ended : {bytes : List ℕ} {ended : List (List ℕ)} {rest : List ℕ} → IsCut bytes ended rest → rest ≡ [] → AreLines bytes ended
+AreLines-ended {ended = ended} {rest = rest} cut none = record {
+  ended = ended;
+  rest = rest;
+  cut = cut;
+  are = sym (append-nil ended) ∙ ap (λ last. ended ++ rest_line last) (sym none);
+}
+
+pub AreLines-rest : {bytes : List ℕ} {ended : List (List ℕ)} {rest : List ℕ} → IsCut bytes ended rest → (rest ≡ [] → ⊥) → AreLines bytes (ended ++ rest ∷ [])
+AreLines-rest {ended = ended} {rest = rest} cut some = record {
+  ended = ended;
+  rest = rest;
+  cut = cut;
+  are = ap (λ more. ended ++ more) (sym (rest_line-some rest some));
+}
+
+-- ---- every input has a cut
+
+onto_cut : (byte : ℕ) (bytes : List ℕ) → IsInside byte → ((ended : List (List ℕ)) × (rest : List ℕ) × IsCut bytes ended rest) → (ended : List (List ℕ)) × (rest : List ℕ) × IsCut (byte ∷ bytes) ended rest
+onto_cut byte bytes inside ([], rest, h) = (
+  [],
+  byte ∷ rest,
+  record {
+    whole = ap (λ xs. byte ∷ xs) h.whole;
+    each = h.each;
+    rest_inside = All-cons IsInside byte rest inside h.rest_inside;
+  },
+)
+onto_cut byte bytes inside (line ∷ ended, rest, h) = (
+  (byte ∷ line) ∷ ended,
+  rest,
+  record {
+    whole = ap (λ xs. byte ∷ xs) h.whole;
+    each = All-cons NoNewline (byte ∷ line) ended (All-cons IsInside byte line inside (All-head NoNewline line ended h.each)) (All-tail NoNewline line ended h.each);
+    rest_inside = h.rest_inside;
+  },
+)
+
+IsCut-exists : (bytes : List ℕ) → (ended : List (List ℕ)) × (rest : List ℕ) × IsCut bytes ended rest
+IsCut-exists [] = ([], [], IsCut-none)
+IsCut-exists (byte ∷ bytes) = elim (cases_eq byte 10) [
+  | inl newline ↦
+      let (ended, rest, h) = IsCut-exists bytes in (
+        [] ∷ ended,
+        rest,
+        record {
+          whole = cc (newline, h.whole);
+          each = All-cons NoNewline [] ended (All-nil IsInside) h.each;
+          rest_inside = h.rest_inside;
+        },
+      )
+  | inr inside ↦ onto_cut byte bytes inside (IsCut-exists bytes)
+]
+
+pub AreLines-exist : (bytes : List ℕ) → (all : List (List ℕ)) × AreLines bytes all
+AreLines-exist bytes =
+    let (ended, rest, cut) = IsCut-exists bytes in
+    (ended ++ rest_line rest, record { ended = ended; rest = rest; cut = cut; are = refl })
+
+-- ---- and one only
+
+no_newline : (line more : List ℕ) (rest : List ℕ) → NoNewline rest → rest ≡ line ++ 10 ∷ more → ⊥
+no_newline line more rest inside e = Lacks-not 10 line more (rw e at inside)
+
+cuts_unique : (ended other : List (List ℕ)) (rest last : List ℕ) → All NoNewline ended → All NoNewline other → NoNewline rest → NoNewline last
+    → with_newlines ended ++ rest ≡ with_newlines other ++ last → (ended ≡ other) × (rest ≡ last)
+cuts_unique [] [] rest last each_ended each_other inside within e = (refl, e)
+cuts_unique [] (line ∷ other) rest last each_ended each_other inside within e =
+    absurd (no_newline line (with_newlines other ++ last) rest inside (e ∙ with_newlines-cons line other last))
+cuts_unique (line ∷ ended) [] rest last each_ended each_other inside within e =
+    absurd (no_newline line (with_newlines ended ++ rest) last within (sym e ∙ with_newlines-cons line ended rest))
+cuts_unique (line ∷ ended) (first ∷ other) rest last each_ended each_other inside within e =
+    let both =
+    cut_unique 10 line (with_newlines ended ++ rest) first (with_newlines other ++ last) (All-head NoNewline line ended each_ended) (All-head NoNewline first other each_other)
+    (sym (with_newlines-cons line ended rest) ∙ e ∙ with_newlines-cons first other last) in
+    let more = cuts_unique ended other rest last (All-tail NoNewline line ended each_ended) (All-tail NoNewline first other each_other) inside within both.1 in
+    (cc (both.0, more.0), more.1)
+
+pub AreLines-unique : (bytes : List ℕ) (all other : List (List ℕ)) → AreLines bytes all → AreLines bytes other → all ≡ other
+AreLines-unique bytes all other p q =
+    let same = cuts_unique p.ended q.ended p.rest q.rest p.cut.each q.cut.each p.cut.rest_inside q.cut.rest_inside (sym p.cut.whole ∙ q.cut.whole) in
+    p.are ∙ ap (λ ended. ended ++ rest_line p.rest) same.0 ∙ ap (λ rest. q.ended ++ rest_line rest) same.1 ∙ sym q.are
+
+-- ---- an input after another, which ends with a byte 10
+
+IsCut-append : {bytes more : List ℕ} {ended others : List (List ℕ)} {rest : List ℕ} → IsCut bytes ended [] → IsCut more others rest → IsCut (bytes ++ more) (ended ++ others) rest
+IsCut-append {ended = ended} {others = others} {rest = rest} p q = record {
+  whole = (λ i. p.whole i ++ q.whole i) ∙ simp (flat_map-append, append_assoc, append-nil);
+  each = All-append NoNewline ended others p.each q.each;
+  rest_inside = q.rest_inside;
+}
+
+pub AreLines-append : (bytes more : List ℕ) (all others : List (List ℕ)) → EndsLine bytes → AreLines bytes all → AreLines more others → AreLines (bytes ++ more) (all ++ others)
+AreLines-append bytes more all others (front, ends) p q =
+    let (ended, rest, cut) = IsCut-exists front in
+    let newline = IsCut-newline {bytes = front} {ended = ended} {rest = rest} cut in
+    let first : IsCut bytes (ended ++ rest ∷ []) [] = rw (sym ends) at newline in
+    let same = AreLines-unique bytes all (ended ++ rest ∷ []) p (AreLines-ended first refl) in
+    record {
+      ended = (ended ++ rest ∷ []) ++ q.ended;
+      rest = q.rest;
+      cut = IsCut-append first q.cut;
+      are = (λ i. same i ++ q.are i) ∙ sym (append_assoc (ended ++ rest ∷ []) q.ended (rest_line q.rest));
+    }

@@ -1,0 +1,8 @@
+-- What a sink has taken of a piece.
+use Rattle.std.proofs.Common.{◌≡◌, ℕ, List, ◌++◌}
+
+-- the sink took the bytes before the rest
+pub record HasPut (before after bytes rest : List ℕ) : Type 0 where
+  pub part : List ℕ
+  pub whole : bytes ≡ part ++ rest
+  pub taken : after ≡ before ++ part

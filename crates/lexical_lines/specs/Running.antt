@@ -1,0 +1,29 @@
+-- What a run did.
+use Rattle.std.specs.Prelude.{◌≡◌, ◌⊎◌, ℕ, ◌+◌, List, [], ◌∷◌, ◌++◌, length, drop, Bool, ◌↔◌, IsTrue, All}
+use Rattle.lexical_lines.specs.Answer.{IsAnswer, AreAnswers}
+use Rattle.lexical_lines.specs.Lines.{AreLines, EndsLine}
+use Rattle.lexical_lines.specs.Request.{IsGood}
+use Rattle.lexical_lines.specs.Sink.{IsBeginning}
+
+-- what was added to a list
+abbrev pub added : List ℕ → List ℕ → List ℕ
+added before after = drop (length before) after
+
+-- whether all lines of an input are good ones
+abbrev pub TellsAllGood : List ℕ → Bool → Type 0
+TellsAllGood bytes all_good = (all : List (List ℕ)) × AreLines bytes all × (IsTrue all_good ↔ All IsGood all)
+
+-- an input was read to the end of a line, and what was put is the answers to all its lines but the last, and then a
+-- beginning, not the whole, of the last one's
+pub record BreaksOff (is_ended : Bool) (bytes put : List ℕ) : Type 0 where
+  pub line_end : IsTrue is_ended ⊎ EndsLine bytes
+  pub front : List (List ℕ)
+  pub last : List ℕ
+  pub answers : List ℕ
+  pub part : List ℕ
+  pub answer : List ℕ
+  pub cut : AreLines bytes (front ++ last ∷ [])
+  pub answered : AreAnswers front answers
+  pub last_answer : IsAnswer (length front + 1) last answer
+  pub beginning : IsBeginning part answer
+  pub whole : put ≡ answers ++ part

@@ -1,0 +1,60 @@
+-- What contracts see of the devices over readers and writers.
+use Rattle.std.specs.Prelude.{◌≡◌, ◌⊎◌, ℕ, ◌+◌, Bool, true, List, length, Option, Some, None, IsSome, refl}
+use Rattle.std.specs.Io.{StartsWith}
+use Rattle.std.specs.Io.KnownBytes.{Consumes, IsAtEnd}
+use Rattle.std.proofs.Common.{◌∙◌, sym, subst}
+use Rattle.std.proofs.KnownBytes.{Consumes-nil, Consumes-more}
+use Rattle.std.proofs.Math.Seq.{take-length, drop-length}
+use Rattle.std.proofs.Transfers.{starts_with_trans}
+use Rattle.lexical_lines.specs.Running.{added}
+
+-- a source over a reader: the reader, the number of bytes that it may still give, whether the end was told, the bytes
+-- given and the faults
+pub record StreamReading (R : Type 0) : Type 0 where
+  pub reader : R
+  pub left : ℕ
+  pub is_ended : Bool
+  pub given : List ℕ
+  pub faults : ℕ
+
+-- a sink over a writer: the writer, the bytes taken and the faults
+pub record StreamWriting (W : Type 0) : Type 0 where
+  pub writer : W
+  pub taken : List ℕ
+  pub faults : ℕ
+
+-- ---- what calls of a source over a reader keep
+
+-- the source is at its limit, or its reader at the end
+abbrev pub IsUsedUp : {R : Type 0} → (R → Option (List ℕ)) → StreamReading R → Type 0
+IsUsedUp remaining s = (s.left ≡ 0) ⊎ IsAtEnd (remaining s.reader)
+
+-- what was given is what the reader lost, and counts towards the limit; where the reader tells its bytes, the end comes
+-- only once all is used up
+pub record KeepsReader {R : Type 0} (remaining : R → Option (List ℕ)) (a b : StreamReading R) : Type 0 where
+  pub longer : StartsWith b.given a.given
+  pub left : b.left + length b.given ≡ a.left + length a.given
+  pub bytes : Consumes (remaining a.reader) (remaining b.reader) (added a.given b.given)
+  pub at_end : IsSome (remaining a.reader) → (a.is_ended ≡ true → IsUsedUp remaining a) → b.is_ended ≡ true → IsUsedUp remaining b
+
+pub KeepsReader-reflexive : {R : Type 0} (remaining : R → Option (List ℕ)) (a : StreamReading R) → KeepsReader remaining a a
+KeepsReader-reflexive remaining a = record {
+  longer = take-length a.given;
+  left = refl;
+  bytes = subst (Consumes _ _) (sym (drop-length a.given)) (Consumes-nil (remaining a.reader));
+  at_end = λ _ used. used;
+}
+
+-- a reader that tells its bytes tells them after it gave some too
+still-told : (before after : Option (List ℕ)) (bytes : List ℕ) → Consumes before after bytes → IsSome before → IsSome after
+still-told None after bytes gave told = absurd (cc told)
+still-told (Some xs) None bytes gave told = absurd gave
+still-told (Some xs) (Some ys) bytes gave told = refl
+
+pub KeepsReader-transitive : {R : Type 0} (remaining : R → Option (List ℕ)) (a b c : StreamReading R) → KeepsReader remaining a b → KeepsReader remaining b c → KeepsReader remaining a c
+KeepsReader-transitive remaining a b c p q = record {
+  longer = starts_with_trans c.given b.given a.given q.longer p.longer;
+  left = q.left ∙ p.left;
+  bytes = Consumes-more _ _ _ a.given b.given c.given p.longer q.longer p.bytes q.bytes;
+  at_end = λ told used. q.at_end (still-told _ _ _ p.bytes told) (p.at_end told used);
+}

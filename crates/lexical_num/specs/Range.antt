@@ -1,0 +1,8 @@
+-- The ends of the integer types.
+use Rattle.std.specs.Prelude.{ℕ, ◌-◌, ◌^◌, ℤ, pos, negsuc}
+use Rattle.lexical_num.specs.BitWidth.{IsBitWidth}
+
+-- the least and the greatest number of a type with this many bits: one without a sign, or one with a sign
+pub data IsRange : ℕ → ℤ → ℤ → Type 0 where
+  unsigned : (bits : ℕ) → IsBitWidth bits → IsRange bits (pos 0) (pos (2 ^ bits - 1))
+  signed : (bits : ℕ) → IsBitWidth bits → IsRange bits (negsuc (2 ^ (bits - 1) - 1)) (pos (2 ^ (bits - 1) - 1))

@@ -1,0 +1,65 @@
+-- Blocks of digits that are written from the front: a block after another, and after the digits of a number.
+use Rattle.std.proofs.Common.{◌≡◌, ℕ, ◌+◌, ◌*◌, ◌/◌, ◌%◌, ◌^◌, ◌≤◌, List, ◌++◌, length, take, drop, map, refl, sym, ap, ◌∙◌, arith, add_assoc, zero-add, append_assoc, take-take}
+use Rattle.std.proofs.lemmas.List.{map-append, length-map, drop-drop, take_at, drop_at, take-append-drop, drop-take}
+use Rattle.std.proofs.Math.Nat.{div-add-mod'}
+use Rattle.lexical_num.specs.Digit.{digit_char}
+use Rattle.lexical_write_integer.specs.Buffer.{WritesBlock, WritesDigits}
+use Rattle.lexical_write_integer.specs.DigitCount.{digit_count}
+use Rattle.lexical_write_integer.proofs.DigitCounts.{digit_count-split}
+use Rattle.lexical_write_integer.proofs.Numerals.{IsBlockOf-append, IsNumeralOf-block, length-IsDigits}
+
+-- a write after a text leaves the text
+text_kept : (at count : ℕ) (before between after text : List ℕ) → length text ≡ count → drop at between ≡ text ++ drop (at + count) before → take (at + count) after ≡ take (at + count) between → drop at after ≡ text ++ drop (at + count) after
+text_kept at count before between after text long written kept =
+    let front : take count (drop at after) ≡ text = sym (drop-take at count after) ∙ ap (drop at) kept ∙ drop-take at count between ∙ ap (take count) written ∙ take_at text (drop (at + count) before) count long in
+    sym (take-append-drop count (drop at after)) ∙ ap (λ ys. ys ++ drop count (drop at after)) front ∙ ap (λ ys. text ++ ys) (drop-drop count at after)
+
+-- what stands after a text is unchanged
+rest_kept : (at count more : ℕ) (before between text : List ℕ) → length text ≡ count → drop at between ≡ text ++ drop (at + count) before → drop (at + count + more) between ≡ drop (at + count + more) before
+rest_kept at count more before between text long written =
+    sym (drop-drop more (at + count) between) ∙ ap (drop more) (sym (drop-drop count at between) ∙ ap (drop count) written ∙ drop_at text (drop (at + count) before) count long) ∙ drop-drop more (at + count) before
+
+-- a block after one that is written
+pub WritesBlock-after : (r i j m n at : ℕ) (before between after : List ℕ) → WritesBlock r i m at before between → WritesBlock r j n (at + i) between after → WritesBlock r (i + j) (m * r ^ j + n) at before after
+WritesBlock-after r i j m n at before between after first last =
+    let text = map digit_char first.digits in
+    let long : length text ≡ i = length-map first.digits digit_char ∙ first.block.counted in
+    record {
+      digits = first.digits ++ last.digits;
+      block = IsBlockOf-append first.block last.block;
+      written = rw (map-append, append_assoc, ← add_assoc, ← rest_kept at i j before between text long first.written, ← last.written) (text_kept at i before between after text long first.written last.kept);
+      kept = sym (take-take at (at + i) after (omega arith)) ∙ ap (take at) last.kept ∙ take-take at (at + i) between (omega arith) ∙ first.kept;
+    }
+
+-- as many digits as the number has, at the front, are its digits
+pub WritesDigits-block : (r n count : ℕ) (before after : List ℕ) → 2 ≤ r → digit_count r n ≡ count → count ≤ length before → WritesBlock r count n 0 before after → WritesDigits r n before after count
+WritesDigits-block r n count before after two few room b =
+    let long = length-map b.digits digit_char ∙ b.block.counted in
+    record {
+      text = map digit_char b.digits;
+      is = record { digits = b.digits; numeral = IsNumeralOf-block r n count b.digits two few b.block; characters = refl };
+      front = record { fits = rw long room; written = rw (zero-add, ← long) at b.written };
+      count = sym long;
+    }
+
+-- the digits of a number at the front are a block
+WritesBlock-digits : (r n count : ℕ) (before after : List ℕ) → WritesDigits r n before after count → WritesBlock r count n 0 before after
+WritesBlock-digits r n count before after w =
+    let long : length w.is.digits ≡ count = sym (w.count ∙ ap length w.is.characters ∙ length-map w.is.digits digit_char) in
+    record {
+      digits = w.is.digits;
+      block = record { counted = long; below_radix = w.is.numeral.numeral.below_radix; value = w.is.numeral.value };
+      written = rw (zero-add, w.count, ← w.is.characters) w.front.written;
+      kept = refl;
+    }
+
+-- the result of a writer is the digit count
+pub WritesDigits-count : {r n count : ℕ} {before after : List ℕ} → 2 ≤ r → WritesDigits r n before after count → count ≡ digit_count r n
+WritesDigits-count {r} {n} two w = w.count ∙ length-IsDigits r n w.text two w.is
+
+-- the last digits of a number, after the digits of what stands before them
+pub WritesDigits-after : (r n count at : ℕ) (before between after : List ℕ) → 2 ≤ r → r ^ count ≤ n → digit_count r n ≤ length before → WritesDigits r (n / r ^ count) before between at → WritesBlock r count (n % r ^ count) at between after → WritesDigits r n before after (at + count)
+WritesDigits-after r n count at before between after two long room first last =
+    let counted : digit_count r n ≡ at + count = omega (arith, digit_count-split r count n two long, WritesDigits-count two first) in
+    let block = WritesBlock-after r at count (n / r ^ count) (n % r ^ count) 0 before between after (WritesBlock-digits r (n / r ^ count) at before between first) (rw zero-add last) in
+    WritesDigits-block r n (at + count) before after two counted (omega arith) (rw (div-add-mod' n (r ^ count)) at block)

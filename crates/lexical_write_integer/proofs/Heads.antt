@@ -1,0 +1,77 @@
+-- Numbers of one to four digits, which are written without a loop.
+use Rattle.std.proofs.Common.{◌≡◌, ℕ, ◌+◌, ◌-◌, ◌*◌, ◌/◌, ◌%◌, ◌^◌, ◌<◌, ◌≤◌, List, [], ◌∷◌, ◌++◌, length, drop, inl, inr, arith}
+use Rattle.std.proofs.Math.Nat.{pow-zero, div-one, pow-le-pow_right}
+use Rattle.std.proofs.lemmas.Bool.{cases_lt}
+use Rattle.std.proofs.lemmas.Nat.{pow-add, div_below}
+use Rattle.lexical_write_integer.specs.Buffer.{WritesBlock}
+use Rattle.lexical_write_integer.specs.DigitCount.{digit_count}
+use Rattle.lexical_write_integer.specs.Text.{IsDigits}
+use Rattle.lexical_write_integer.specs.LoopTurns.{IsStep, TakesDigits}
+use Rattle.lexical_write_integer.proofs.Blocks.{WritesBlock-whole, IsDigits-block}
+use Rattle.lexical_write_integer.proofs.Loops.{IsDivided-start, IsDivided-more, TakesDigits-end, TakesDigits-counts}
+use Rattle.lexical_write_integer.proofs.RadixPowers.{power-gt_one, pow-two}
+use Rattle.lexical_write_integer.proofs.DigitCounts.{digit_count-fits, digit_count-le, digit_count-pos}
+
+-- one turn, after which there is none
+pub TakesDigits-once : (r n step next : ℕ) (before after : List ℕ) → 2 ≤ r → IsStep step → r ^ step ≤ n → n < r ^ (step + step) → next ≡ n / r ^ step → after ≡ before ++ next ∷ [] → TakesDigits r n step step next before after
+TakesDigits-once r n step next before after two stepped long short is noted =
+    let none : 4 * 0 ≡ 0 = omega arith in
+    let first : 0 + step ≡ step = omega arith in
+    let some : 0 < r ^ step = omega (arith, power-gt_one r step two stepped) in
+    let below : next < r ^ step = rw is (div_below n (r ^ step) (r ^ step) some (rw pow-add at short)) in
+    TakesDigits-end r n step step next before after two stepped (rw first at (IsDivided-more r n step 0 n next before before after two (IsDivided-start r n step before) long is noted)) below
+
+-- what was written before, where it is written over
+pub WritesBlock-over : (r count n : ℕ) (before between after : List ℕ) → drop count between ≡ drop count before → WritesBlock r count n 0 between after → WritesBlock r count n 0 before after
+WritesBlock-over r count n before between after following b =
+    let none : 0 + count ≡ count = omega arith in
+    record {
+      digits = b.digits;
+      block = b.block;
+      written = rw none (rw (none, following) at b.written);
+      kept = b.kept;
+    }
+
+-- what is left in the end, before what the turns wrote
+pub IsDigits-head : {r n four left : ℕ} {a b : List ℕ} (digits : ℕ) (before between after : List ℕ) → 2 ≤ r → length before ≡ digit_count r n → TakesDigits r n 4 four left a b → digits ≡ digit_count r left
+    → WritesBlock r four (n % r ^ four) digits before between → WritesBlock r digits left 0 between after → IsDigits r n after
+IsDigits-head {r} {n} {four} {left} digits before between after two just t is p s =
+    let counts = TakesDigits-counts two t in
+    let place : digits ≡ 0 + digits = omega arith in
+    IsDigits-block r n (digits + four) 0 before after two (omega arith) (omega arith) (WritesBlock-whole r n four left digits 0 before between after t.rest (rw place at p) s)
+
+-- what is left of four digits at most
+pub head-left : {r n taken left : ℕ} {a b : List ℕ} → 2 ≤ r → n < r ^ 4 → TakesDigits r n 2 taken left a b → left < r * r
+head-left {r} {n} {taken} {left} two short t =
+    let few = digit_count-le r n 4 (omega arith) short in
+    let counts = TakesDigits-counts two t in
+    let least : digit_count r left ≤ 2 = omega (arith, t.count, digit_count-pos r n) in
+    omega (arith, digit_count-fits r left two, pow-le-pow_right {n = r} (omega arith) {i = digit_count r left} {j = 2} least, pow-two r)
+
+-- a pair that is written always, and then the digits before it, which go over it where there is none
+pub WritesBlock-head : {r n taken left : ℕ} {a b : List ℕ} (digits : ℕ) (before between after : List ℕ) → 2 ≤ r → n < r ^ 4 → digits ≡ digit_count r n → TakesDigits r n 2 taken left a b
+    → (2 ≤ digits → WritesBlock r 2 (n % (r * r)) (digits - 2) before between) → drop digits between ≡ drop digits before → WritesBlock r (digits - taken) left 0 between after → WritesBlock r digits n 0 before after
+WritesBlock-head {r} {n} {taken} {left} digits before between after two short is t pair following first =
+    let few = digit_count-le r n 4 (omega arith) short in
+    elim (cases_lt 2 digits) [
+      | inl more ↦
+          let twice : taken ≡ 2 = omega (arith, t.count) in
+          let whole : digits - 2 + 2 ≡ digits = omega arith in
+          let place : digits - 2 ≡ 0 + (digits - 2) = omega arith in
+          let last : WritesBlock r 2 (n % r ^ 2) (0 + (digits - 2)) before between = rw (← place, pow-two) (pair (omega arith)) in
+          rw whole at (WritesBlock-whole r n 2 left (digits - 2) 0 before between after (rw twice at t.rest) last (rw twice at first))
+      | inr less ↦
+          let none : taken ≡ 0 = omega (arith, t.count) in
+          let all : left ≡ n = rw (none, pow-zero, div-one) at t.rest in
+          let whole : digits - 0 ≡ digits = omega arith in
+          WritesBlock-over r digits n before between after following (rw (none, whole, all) at first)
+    ]
+
+pub few-fits : (r n : ℕ) → 2 ≤ r → digit_count r n ≤ 4 → n < r ^ 4
+few-fits r n two few = omega (arith, digit_count-fits r n two, pow-le-pow_right {n = r} (omega arith) {i = digit_count r n} {j = 4} few)
+
+pub more-long : (r n : ℕ) → 4 < digit_count r n → r ^ 4 ≤ n
+more-long r n more = elim (cases_lt n (r ^ 4)) [
+  | inl less ↦ absurd (omega (arith, digit_count-le r n 4 (omega arith) less))
+  | inr long ↦ long
+]

@@ -1,0 +1,12 @@
+use Rattle.std.proofs.lemmas.Str.{IsUtf8-from_ascii}
+use Rattle.lexical_write_integer.proofs.Ascii.{IsAscii-IsText}
+use Rattle.lexical_write_integer.proofs.laws.bytes.text_is_ascii.Goals as goal
+
+pub returns-clause-ascii : goal.returns-clause-ascii
+returns-clause-ascii g c =
+    let few = rw c.mantissa_radix.ensures.value at c.mantissa_radix.ensures.radix.at_most_36 in
+    let good = rw c.digit_grouping.ensures.value at c.digit_grouping.ensures.valid in
+    IsAscii-IsText (g.T.LexicalInteger.number c.args.number) c.args.format.now c.args.text.now few good c.requires
+
+pub returns-clause-utf8 : goal.returns-clause-utf8
+returns-clause-utf8 g c = IsUtf8-from_ascii c.args.text.now (returns-clause-ascii g c)

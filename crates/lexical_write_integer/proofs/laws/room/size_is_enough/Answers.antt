@@ -1,0 +1,12 @@
+use Rattle.lexical_write_integer.proofs.Sizes.{size_in-within}
+use Rattle.lexical_write_integer.proofs.laws.room.size_is_enough.Goals as goal
+
+pub returns-clause-size : goal.returns-clause-size
+returns-clause-size g c =
+    let radix = rw c.mantissa_radix.ensures.value at c.mantissa_radix.ensures.radix in
+    g.met.T.ToLexicalWithOptions.size_is_enough (g.T.LexicalInteger.number c.args.value) c.args.format.now radix c.in_range.ensures.at_least c.in_range.ensures.at_most
+
+pub returns-clause-buffer : goal.returns-clause-buffer
+returns-clause-buffer g c =
+    let size = g.T.FormattedSize in
+    size_in-within g.T.FormattedSize.FORMATTED_SIZE g.T.FormattedSize.FORMATTED_SIZE_DECIMAL c.args.format.now size.size_within_buffer.1 size.decimal_size_within_buffer.0 size.decimal_size_within_buffer.1

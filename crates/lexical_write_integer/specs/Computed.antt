@@ -1,0 +1,14 @@
+-- The text of a number as a value that computes: for a number that is written out, it is the list of its bytes.
+use Rattle.std.specs.Prelude.{ℕ, ◌+◌, List, [], ◌++◌, true, min, ℤ, unsigned_abs}
+use Rattle.std.specs.Fmt.{digits_onto}
+use Rattle.lexical_num.specs.Format.{Format}
+use Rattle.lexical_num.specs.Sign.{sign_of}
+use Rattle.lexical_write_integer.specs.Groups.{grouped}
+
+-- the characters of the digits of a number below 2 ^ 64
+abbrev pub digits_text : ℕ → ℕ → List ℕ
+digits_text r number = digits_onto (min 64 (number + 1)) r true number []
+
+-- the text of a number whose magnitude is below 2 ^ 64
+abbrev pub text_of : ℤ → Format → List ℕ
+text_of number format = sign_of number format.required_mantissa_sign ++ grouped format.digit_grouping (digits_text format.mantissa_radix (unsigned_abs number))

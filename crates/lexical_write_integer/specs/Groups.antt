@@ -1,0 +1,27 @@
+-- Digits in groups, which are counted from the right.
+use Rattle.std.specs.Prelude.{ℕ, ◌-◌, ◌%◌, List, [], ◌∷◌, ◌++◌, length, Option, None, Some, filter, not, if◌then◌else◌, ◌==◌, slice_index}
+
+-- what stands between two neighbours, by the number of digits to the right of that place: the mark, where these are
+-- whole groups
+abbrev pub mark_before : ℕ × ℕ → ℕ → List ℕ
+mark_before grouping right = if right % grouping.0 == 0 then grouping.1 ∷ [] else []
+
+-- the digits, and what stands between each two neighbours
+abbrev pub in_groups : ℕ × ℕ → List ℕ → List ℕ
+in_groups grouping [] = []
+in_groups grouping (digit ∷ []) = digit ∷ []
+in_groups grouping (digit ∷ next ∷ digits) = digit ∷ mark_before grouping (length (next ∷ digits)) ++ in_groups grouping (next ∷ digits)
+
+-- the digits as a format writes them: in its groups, or as they are
+abbrev pub grouped : Option (ℕ × ℕ) → List ℕ → List ℕ
+grouped None digits = digits
+grouped (Some grouping) digits = in_groups grouping digits
+
+-- a text without the marks between its groups
+abbrev pub without_marks : Option (ℕ × ℕ) → List ℕ → List ℕ
+without_marks None text = text
+without_marks (Some grouping) text = filter (λ byte. not (byte == grouping.1)) text
+
+-- the byte of a text that has this number of bytes to its right
+abbrev pub from_right : List ℕ → ℕ → ℕ
+from_right text right = slice_index text (length text - 1 - right)

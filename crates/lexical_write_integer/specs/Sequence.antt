@@ -1,0 +1,14 @@
+-- Texts that stand one after another.
+use Rattle.std.specs.Prelude.{◌≡◌, ℕ, List, ◌++◌}
+
+-- these bytes, and no others
+abbrev pub IsExactly : List ℕ → List ℕ → Type 0
+IsExactly bytes text = text ≡ bytes
+
+-- a text of the one kind, and then one of the other
+pub record Then (IsFirst IsSecond : List ℕ → Type 0) (text : List ℕ) : Type 0 where
+  pub first : List ℕ
+  pub second : List ℕ
+  pub is_first : IsFirst first
+  pub is_second : IsSecond second
+  pub whole : text ≡ first ++ second

@@ -1,0 +1,49 @@
+//! Digits in groups.
+
+ghost use Rattle.std.specs.Prelude.{◌≡◌, ◌+◌, ◌-◌, ◌/◌, ◌≤◌, length, take};
+ghost use Rattle.lexical_num.specs.Format.{grouped_length};
+ghost use Rattle.lexical_write_integer.specs.Buffer.{Front};
+ghost use Rattle.lexical_write_integer.specs.Groups.{in_groups, grouped};
+
+use lexical_num::format::NumberFormat;
+
+/// Puts the first `count` bytes of the buffer, at least one, into the groups of the format, and
+/// returns how many bytes they then take. Every byte after these is unchanged.
+pub fn group_digits(count: usize, format: &NumberFormat, buffer: &mut [u8]) -> usize
+    requires some { 1 ≤ count }
+    requires room { grouped_length format.now.digit_grouping count ≤ length buffer.old }
+    ensures groups { Front buffer.old buffer.new
+        (grouped format.now.digit_grouping (take count buffer.old)) }
+    ensures count { result ≡ length (grouped format.now.digit_grouping (take count buffer.old)) }
+{
+    match format.digit_grouping() {
+        Some((size, mark)) => spread(count, usize::from(size), mark, buffer),
+        None => count,
+    }
+}
+
+// The same in groups of this size. The groups move to the right, the last one first, so that no
+// digit is overwritten before it has moved; the first group stays where it is:
+//
+//     1234567      the digits
+//     1234 ,567    after the first turn
+//     1,234,567    after the second
+fn spread(count: usize, size: usize, mark: u8, buffer: &mut [u8]) -> usize
+    requires size { 1 ≤ size }
+    requires some { 1 ≤ count }
+    requires room { count + (count - 1) / size ≤ length buffer.old }
+    ensures groups { Front buffer.old buffer.new (in_groups (size, mark) (take count buffer.old)) }
+    ensures count { result ≡ length (in_groups (size, mark) (take count buffer.old)) }
+{
+    let total = count + (count - 1) / size;
+    let mut left = count;
+    let mut end = total;
+    while left > size {
+        left -= size;
+        end -= size;
+        buffer.copy_within(left..left + size, end);
+        end -= 1;
+        buffer[end] = mark;
+    }
+    total
+}

@@ -1,0 +1,46 @@
+//! Which bytes the text of a number is.
+
+ghost use Rattle.std.specs.Prelude.{◌≡◌, ◌↔◌};
+ghost use Rattle.std.specs.Fmt.{signed_decimal};
+ghost use Rattle.std.specs.Str.{IsAscii, IsUtf8};
+ghost use Rattle.lexical_num.specs.Format.{IsRadix, standard};
+ghost use Rattle.lexical_write_integer.specs.Computed.{digits_text, text_of};
+ghost use Rattle.lexical_write_integer.specs.Text.{IsDigits, IsText};
+
+use lexical_num::format::NumberFormat;
+use lexical_num::num::LexicalInteger;
+
+/// The bytes of a text are ASCII, and so they are UTF-8.
+pub fn text_is_ascii<T: LexicalInteger>(number: T, format: &NumberFormat, text: &[u8])
+    requires { IsText (T.number number) format.now text.now }
+    ensures ascii { IsAscii text.now }
+    ensures utf8 { IsUtf8 text.now }
+{
+    // Their contracts say that the radix is at most 36, and that the mark is printable.
+    format.mantissa_radix();
+    format.digit_grouping();
+}
+
+/// The text of a number in decimal, without a required sign and without groups, is what `{}` prints.
+pub fn text_is_decimal<T: LexicalInteger>(number: T, text: &[u8])
+    requires { IsText (T.number number) standard text.now }
+    ensures { text.now ≡ signed_decimal (T.number number) }
+{
+    number.in_range();
+}
+
+/// The digits of a number are the list that `digits_text` computes, and no other.
+pub fn digits_computed(radix: u32, value: u64, text: &[u8])
+    requires { IsRadix radix }
+    ensures { IsDigits radix value text.now ↔ (text.now ≡ digits_text radix value) }
+{}
+
+/// The text of a number is the list that `text_of` computes, and no other.
+pub fn text_computed<T: LexicalInteger>(number: T, format: &NumberFormat, text: &[u8])
+    ensures { IsText (T.number number) format.now text.now
+        ↔ (text.now ≡ text_of (T.number number) format.now) }
+{
+    number.in_range();
+    // Its contract says that the radix is 2 or more.
+    format.mantissa_radix();
+}

@@ -1,0 +1,26 @@
+//! Texts that are compared tell whether their numbers are equal.
+
+ghost use Rattle.std.specs.Prelude.{◌≡◌, ◌↔◌};
+ghost use Rattle.lexical_num.specs.Format.{IsRadix};
+ghost use Rattle.lexical_write_integer.specs.Text.{IsDigits, IsText};
+
+use lexical_num::format::NumberFormat;
+use lexical_num::num::LexicalInteger;
+
+/// Two slices with the digits of two numbers in a radix are equal exactly where the numbers are.
+pub fn digits_tell(radix: u32, a: u64, b: u64, s: &[u8], t: &[u8])
+    requires radix { IsRadix radix }
+    requires s { IsDigits radix a s.now }
+    requires t { IsDigits radix b t.now }
+    ensures { (s.now ≡ t.now) ↔ (a ≡ b) }
+{}
+
+/// Two slices with the texts of two numbers in a format are equal exactly where the numbers are.
+pub fn texts_tell<T: LexicalInteger>(a: T, b: T, format: &NumberFormat, s: &[u8], t: &[u8])
+    requires s { IsText (T.number a) format.now s.now }
+    requires t { IsText (T.number b) format.now t.now }
+    ensures { (s.now ≡ t.now) ↔ (T.number a ≡ T.number b) }
+{
+    // Its contract says that the radix is 2 or more.
+    format.mantissa_radix();
+}

@@ -1,0 +1,22 @@
+// Logarithms, rounded down: what the counts of digits begin with.
+
+ghost use Rattle.std.specs.Prelude.{◌<◌};
+ghost use Rattle.lexical_write_integer.specs.Logarithm.{IsLog2, IsLog10Estimate};
+
+use lexical_num::num::UnsignedInteger;
+
+/// The place of the highest bit that is set, and 0 for 0.
+pub fn fast_log2<T: UnsignedInteger>(x: T) -> usize
+    ensures log2 { IsLog2 (T.magnitude x) result }
+    ensures within { result < T.BITS }
+{
+    (T::BITS - 1).saturating_sub(x.leading_zeros() as usize)
+}
+
+/// The logarithm to base 10 of the greatest power of 2 that is at most the number, and 0 for 0.
+pub fn fast_log10<T: UnsignedInteger>(x: T) -> usize
+    ensures { IsLog10Estimate (T.magnitude x) result }
+{
+    // 1233 / 4096 is near enough to the logarithm of 2 for the places of 64 bits.
+    (fast_log2(x) * 1233) >> 12
+}

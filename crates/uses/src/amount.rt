@@ -1,0 +1,26 @@
+//! An amount of money, in groups of three digits.
+
+ghost use Rattle.std.specs.Prelude.{Some, codes};
+ghost use Rattle.lexical_num.specs.Format.{standard};
+ghost use Rattle.lexical_write_integer.specs.Buffer.{Writes};
+ghost use Rattle.lexical_write_integer.specs.Sequence.{IsExactly, Then};
+ghost use Rattle.lexical_write_integer.specs.Text.{IsText};
+
+use lexical_write_integer::buffer::copy_to_front;
+use lexical_write_integer::{NumberFormatBuilder, Options, ToLexicalWithOptions};
+
+/// Writes `$` and the amount in decimal, with a comma between two groups of three digits, to the
+/// front of the array, and returns how many bytes they are. The bytes after them are as before.
+#[tactic(auto, using(lexical_write_integer::proofs::Sequences::in_order))]
+pub fn write_amount(dollars: i64, buffer: &mut [u8; 27]) -> usize
+    ensures { Writes
+        (Then (IsExactly (codes "$"))
+        (IsText dollars (record standard { digit_grouping = Some (3, 44) })))
+        buffer.old buffer.new result }
+{
+    let format = NumberFormatBuilder::new()
+        .digit_grouping(3, b',')
+        .build_strict();
+    let start = copy_to_front(b"$", buffer);
+    start + dollars.write_lexical_with_options(&mut buffer[start..], &format, &Options::new())
+}

@@ -1,0 +1,22 @@
+//! A number in hexadecimal after `0x`.
+
+ghost use Rattle.std.specs.Prelude.{codes};
+ghost use Rattle.lexical_write_integer.specs.Buffer.{Writes};
+ghost use Rattle.lexical_write_integer.specs.Sequence.{IsExactly, Then};
+ghost use Rattle.lexical_write_integer.specs.Text.{IsDigits};
+
+use lexical_write_integer::buffer::copy_to_front;
+use lexical_write_integer::laws::digit_count_at_most;
+use lexical_write_integer::radix::Radix;
+
+/// Writes `0x` and the number in radix 16 to the front of the array, and returns how many bytes
+/// they are. The bytes after them are as before.
+#[tactic(auto, using(lexical_write_integer::proofs::Sequences::in_order))]
+pub fn write_hexadecimal(number: u32, buffer: &mut [u8; 10]) -> usize
+    ensures { Writes (Then (IsExactly (codes "0x")) (IsDigits 16 number))
+        buffer.old buffer.new result }
+{
+    digit_count_at_most(16, u64::from(number), 8);
+    let start = copy_to_front(b"0x", buffer);
+    start + number.radix(16, &mut buffer[start..])
+}
