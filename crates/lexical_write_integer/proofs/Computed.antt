@@ -1,5 +1,5 @@
 -- The computed text of a number is its text.
-use Rattle.std.proofs.Common.{◌≡◌, ℕ, zero, suc, ◌+◌, ◌/◌, ◌%◌, ◌^◌, ◌<◌, ◌≤◌, List, [], ◌∷◌, ◌++◌, length, map, min, true, inl, inr, refl, sym, ap, ◌∙◌, arith, ℤ, unsigned_abs, append_assoc}
+use Rattle.std.proofs.Common.{◌≡◌, ℕ, zero, suc, ◌+◌, ◌/◌, ◌%◌, ◌^◌, ◌<◌, ◌≤◌, List, [], ◌∷◌, ◌++◌, min, true, inl, inr, refl, sym, ap, ◌∙◌, arith, ℤ, unsigned_abs, append_assoc}
 use Rattle.std.specs.Prelude.{◌↔◌}
 use Rattle.std.specs.Fmt.{digits_onto}
 use Rattle.std.proofs.Math.Nat.{pow-suc, pow-zero, div-add-mod', div-eq_of_lt, div-lt_iff_lt-mul, mod-lt, pow-le-pow_left}
@@ -7,9 +7,7 @@ use Rattle.std.proofs.lemmas.Bool.{cases_eq, cases_lt, cond-true, cond-false, eq
 use Rattle.std.proofs.lemmas.List.{append-nil, map-append}
 use Rattle.lexical_num.specs.Digit.{digit_char}
 use Rattle.lexical_num.specs.Format.{Format}
-use Rattle.lexical_num.specs.Sign.{sign_of}
 use Rattle.lexical_write_integer.specs.Computed.{digits_text, text_of}
-use Rattle.lexical_write_integer.specs.Groups.{grouped}
 use Rattle.lexical_write_integer.specs.Text.{IsDigits, IsText}
 use Rattle.lexical_write_integer.proofs.Comparisons.{texts_unique}
 use Rattle.lexical_write_integer.proofs.DigitCounts.{lt-pow_self, pow-lt_more}

@@ -107,6 +107,10 @@ pub div-pow_more : (r n step taken : ℕ) → n / r ^ taken / r ^ step ≡ n / r
 div-pow_more r n step taken =
     div-div-eq-div-mul n (r ^ taken) (r ^ step) ∙ ap (λ p. n / p) (mul_comm (r ^ taken) (r ^ step) ∙ sym (pow-add r step taken))
 
+-- two digits
+pub digit_count-two : (r n : ℕ) → 2 ≤ r → r ≤ n → n < r ^ 2 → digit_count r n ≡ 2
+digit_count-two r n two more less = digit_count-is r n 2 two (omega arith) less (λ long. rw pow-one more)
+
 -- ---- the numbers of a type
 
 -- no type has more than 64 bits
@@ -115,6 +119,13 @@ width-le_64 bits is_8 = omega arith
 width-le_64 bits is_16 = omega arith
 width-le_64 bits is_32 = omega arith
 width-le_64 bits is_64 = omega arith
+
+-- and each has some
+pub width-some : (bits : ℕ) → IsBitWidth bits → 0 < bits
+width-some bits is_8 = omega arith
+width-some bits is_16 = omega arith
+width-some bits is_32 = omega arith
+width-some bits is_64 = omega arith
 
 -- no number of a type has more digits than bits
 pub digit_count-le_width : (r n bits : ℕ) → 2 ≤ r → IsBitWidth bits → n < 2 ^ bits → digit_count r n ≤ bits

@@ -1,5 +1,5 @@
 -- Numerals: lists of digits in a radix, the most significant first.
-use Rattle.std.specs.Prelude.{◌≡◌, ℕ, zero, suc, ◌+◌, ◌*◌, ◌^◌, ◌<◌, List, [], ◌∷◌, length, All, nat_lt, if◌then◌else◌, slice_index}
+use Rattle.std.specs.Prelude.{◌≡◌, ℕ, ◌+◌, ◌*◌, ◌^◌, ◌<◌, List, [], ◌∷◌, length, All, slice_index}
 
 -- at least one digit, each below the radix, and no needless zero before
 pub record IsNumeral (r : ℕ) (digits : List ℕ) : Type 0 where

@@ -16,11 +16,26 @@ use crate::table_pairs::RadixTable;
 use crate::turns::Turns;
 use lexical_num::num::UnsignedInteger;
 
+// Writes a number of one or two digits, in a radix from 16 on.
+fn write_short(value: u32, radix: u32, table: &[u8], buffer: &mut [u8], turns: &mut Turns) -> usize
+    requires radix { IsRadix radix }
+    requires great { 16 ≤ radix }
+    requires short { value < radix ^ 2 }
+    requires table { BeginsWithPairs radix table.now }
+    requires room { digit_count radix value ≤ length buffer.old }
+    ensures digits { WritesDigits radix value buffer.old buffer.new result }
+    ensures count { result ≡ digit_count radix value }
+    ensures notes { turns.new ≡ turns.old ++ table_notes radix value }
+{
+    let count = count_short(value, radix, turns);
+    fill_short(value, radix, table, &mut buffer[..count], turns);
+    count
+}
+
 // Writes a number in a radix in which its digits are counted by divisions. No number of 64 bits has
 // more quotients to be kept than there is room for.
 fn write_slow<T: UnsignedInteger, const R: u32, const QUOTIENTS: usize>(
     value: T,
-    is_short: bool,
     radix: u32,
     table: &[u8],
     buffer: &mut [u8],
@@ -38,24 +53,27 @@ fn write_slow<T: UnsignedInteger, const R: u32, const QUOTIENTS: usize>(
     ensures count { result ≡ digit_count radix (T.magnitude value) }
     ensures notes { turns.new ≡ turns.old ++ table_notes radix (T.magnitude value) }
 {
-    let radix_table = RadixTable::<R> { table };
     let number = value.as_usize() as u64;
-    if (R >= 32 || is_short) && number < u64::from(R * R) {
-        let count = count_short::<R>(number as u32, turns);
-        fill_short(number as u32, &radix_table, &mut buffer[..count], turns);
-        return count;
+    if R >= 32 && number < u64::from(R * R) {
+        return write_short(number as u32, R, table, buffer, turns);
     }
     let mut kept = [0; QUOTIENTS];
     let (left, fours, count) = count_and_keep::<T, R>(value, &mut kept, turns);
     let digits = &mut buffer[..count];
-    fill_by_kept(number, left, &kept[..fours], &radix_table, digits, turns);
+    fill_by_kept(
+        number,
+        left,
+        &kept[..fours],
+        &RadixTable::<R> { table },
+        digits,
+        turns,
+    );
     count
 }
 
 // Writes a number in a radix in which its digits are counted at once.
 fn write_at_once<const R: u32>(
     value: u64,
-    is_short: bool,
     count: usize,
     radix: u32,
     table: &[u8],
@@ -71,18 +89,17 @@ fn write_at_once<const R: u32>(
     ensures digits { WritesDigits radix value buffer.old buffer.new count }
     ensures notes { turns.new ≡ turns.old ++ table_notes radix value }
 {
-    let radix_table = RadixTable::<R> { table };
-    if (R >= 32 || is_short) && value < u64::from(R * R) {
-        fill_short(value as u32, &radix_table, &mut buffer[..count], turns);
-    } else {
-        fill_by_division(value, &radix_table, &mut buffer[..count], turns);
-    }
+    fill_by_division(
+        value,
+        &RadixTable::<R> { table },
+        &mut buffer[..count],
+        turns,
+    );
 }
 
 // Writes a number in a radix that is a power of two.
 fn write_bits<const R: u32, const K: usize>(
     value: u64,
-    is_short: bool,
     radix: u32,
     table: &[u8],
     buffer: &mut [u8],
@@ -99,15 +116,17 @@ fn write_bits<const R: u32, const K: usize>(
     ensures count { result ≡ digit_count radix value }
     ensures notes { turns.new ≡ turns.old ++ table_notes radix value }
 {
+    if R >= 32 && value < u64::from(R * R) {
+        return write_short(value as u32, R, table, buffer, turns);
+    }
     let count = fast_log2(value) / K + 1;
-    write_at_once::<R>(value, is_short, count, radix, table, buffer, turns);
+    write_at_once::<R>(value, count, radix, table, buffer, turns);
     count
 }
 
 // Writes a number in any radix, by the function of the radix.
 fn write_in_radix<T: UnsignedInteger>(
     value: T,
-    is_short: bool,
     radix: u32,
     table: &[u8],
     buffer: &mut [u8],
@@ -123,49 +142,50 @@ fn write_in_radix<T: UnsignedInteger>(
 {
     let number = value.as_usize() as u64;
     match radix {
-        2 => write_bits::<2, 1>(number, is_short, radix, table, buffer, turns),
-        3 => write_slow::<T, 3, 10>(value, is_short, radix, table, buffer, turns),
-        4 => write_bits::<4, 2>(number, is_short, radix, table, buffer, turns),
-        5 => write_slow::<T, 5, 6>(value, is_short, radix, table, buffer, turns),
-        6 => write_slow::<T, 6, 6>(value, is_short, radix, table, buffer, turns),
-        7 => write_slow::<T, 7, 5>(value, is_short, radix, table, buffer, turns),
-        8 => write_bits::<8, 3>(number, is_short, radix, table, buffer, turns),
-        9 => write_slow::<T, 9, 5>(value, is_short, radix, table, buffer, turns),
+        2 => write_bits::<2, 1>(number, radix, table, buffer, turns),
+        3 => write_slow::<T, 3, 10>(value, radix, table, buffer, turns),
+        4 => write_bits::<4, 2>(number, radix, table, buffer, turns),
+        5 => write_slow::<T, 5, 6>(value, radix, table, buffer, turns),
+        6 => write_slow::<T, 6, 6>(value, radix, table, buffer, turns),
+        7 => write_slow::<T, 7, 5>(value, radix, table, buffer, turns),
+        8 => write_bits::<8, 3>(number, radix, table, buffer, turns),
+        9 => write_slow::<T, 9, 5>(value, radix, table, buffer, turns),
         10 => {
             let count = number.decimal_count();
-            write_at_once::<10>(number, is_short, count, radix, table, buffer, turns);
+            write_at_once::<10>(number, count, radix, table, buffer, turns);
             count
         }
-        11 => write_slow::<T, 11, 4>(value, is_short, radix, table, buffer, turns),
-        12 => write_slow::<T, 12, 4>(value, is_short, radix, table, buffer, turns),
-        13 => write_slow::<T, 13, 4>(value, is_short, radix, table, buffer, turns),
-        14 => write_slow::<T, 14, 4>(value, is_short, radix, table, buffer, turns),
-        15 => write_slow::<T, 15, 4>(value, is_short, radix, table, buffer, turns),
-        16 => write_bits::<16, 4>(number, is_short, radix, table, buffer, turns),
-        17 => write_slow::<T, 17, 3>(value, is_short, radix, table, buffer, turns),
-        18 => write_slow::<T, 18, 3>(value, is_short, radix, table, buffer, turns),
-        19 => write_slow::<T, 19, 3>(value, is_short, radix, table, buffer, turns),
-        20 => write_slow::<T, 20, 3>(value, is_short, radix, table, buffer, turns),
-        21 => write_slow::<T, 21, 3>(value, is_short, radix, table, buffer, turns),
-        22 => write_slow::<T, 22, 3>(value, is_short, radix, table, buffer, turns),
-        23 => write_slow::<T, 23, 3>(value, is_short, radix, table, buffer, turns),
-        24 => write_slow::<T, 24, 3>(value, is_short, radix, table, buffer, turns),
-        25 => write_slow::<T, 25, 3>(value, is_short, radix, table, buffer, turns),
-        26 => write_slow::<T, 26, 3>(value, is_short, radix, table, buffer, turns),
-        27 => write_slow::<T, 27, 3>(value, is_short, radix, table, buffer, turns),
-        28 => write_slow::<T, 28, 3>(value, is_short, radix, table, buffer, turns),
-        29 => write_slow::<T, 29, 3>(value, is_short, radix, table, buffer, turns),
-        30 => write_slow::<T, 30, 3>(value, is_short, radix, table, buffer, turns),
-        31 => write_slow::<T, 31, 3>(value, is_short, radix, table, buffer, turns),
-        32 => write_bits::<32, 5>(number, is_short, radix, table, buffer, turns),
-        33 => write_slow::<T, 33, 3>(value, is_short, radix, table, buffer, turns),
-        34 => write_slow::<T, 34, 3>(value, is_short, radix, table, buffer, turns),
-        35 => write_slow::<T, 35, 3>(value, is_short, radix, table, buffer, turns),
-        _ => write_slow::<T, 36, 3>(value, is_short, radix, table, buffer, turns),
+        11 => write_slow::<T, 11, 4>(value, radix, table, buffer, turns),
+        12 => write_slow::<T, 12, 4>(value, radix, table, buffer, turns),
+        13 => write_slow::<T, 13, 4>(value, radix, table, buffer, turns),
+        14 => write_slow::<T, 14, 4>(value, radix, table, buffer, turns),
+        15 => write_slow::<T, 15, 4>(value, radix, table, buffer, turns),
+        16 => write_bits::<16, 4>(number, radix, table, buffer, turns),
+        17 => write_slow::<T, 17, 3>(value, radix, table, buffer, turns),
+        18 => write_slow::<T, 18, 3>(value, radix, table, buffer, turns),
+        19 => write_slow::<T, 19, 3>(value, radix, table, buffer, turns),
+        20 => write_slow::<T, 20, 3>(value, radix, table, buffer, turns),
+        21 => write_slow::<T, 21, 3>(value, radix, table, buffer, turns),
+        22 => write_slow::<T, 22, 3>(value, radix, table, buffer, turns),
+        23 => write_slow::<T, 23, 3>(value, radix, table, buffer, turns),
+        24 => write_slow::<T, 24, 3>(value, radix, table, buffer, turns),
+        25 => write_slow::<T, 25, 3>(value, radix, table, buffer, turns),
+        26 => write_slow::<T, 26, 3>(value, radix, table, buffer, turns),
+        27 => write_slow::<T, 27, 3>(value, radix, table, buffer, turns),
+        28 => write_slow::<T, 28, 3>(value, radix, table, buffer, turns),
+        29 => write_slow::<T, 29, 3>(value, radix, table, buffer, turns),
+        30 => write_slow::<T, 30, 3>(value, radix, table, buffer, turns),
+        31 => write_slow::<T, 31, 3>(value, radix, table, buffer, turns),
+        32 => write_bits::<32, 5>(number, radix, table, buffer, turns),
+        33 => write_slow::<T, 33, 3>(value, radix, table, buffer, turns),
+        34 => write_slow::<T, 34, 3>(value, radix, table, buffer, turns),
+        35 => write_slow::<T, 35, 3>(value, radix, table, buffer, turns),
+        _ => write_slow::<T, 36, 3>(value, radix, table, buffer, turns),
     }
 }
 
-// Writes a number by one of two instances: a number of up to 32 bits is divided as such.
+// Writes a number by one of two instances: a number of up to 32 bits is divided as such. From radix 16
+// on a byte has two digits at most, and takes no instance.
 fn write_number<T: UnsignedInteger>(
     value: T,
     radix: u32,
@@ -182,11 +202,12 @@ fn write_number<T: UnsignedInteger>(
 {
     value.fits_bits();
     let number = value.as_usize();
-    let is_short = T::BITS == 8 && radix >= 16;
-    if T::BITS <= 32 {
-        write_in_radix(number as u32, is_short, radix, table, buffer, turns)
+    if T::BITS == 8 && radix >= 16 {
+        write_short(number as u32, radix, table, buffer, turns)
+    } else if T::BITS <= 32 {
+        write_in_radix(number as u32, radix, table, buffer, turns)
     } else {
-        write_in_radix(number as u64, is_short, radix, table, buffer, turns)
+        write_in_radix(number as u64, radix, table, buffer, turns)
     }
 }
 

@@ -10,7 +10,10 @@ pub fn fast_log2<T: UnsignedInteger>(x: T) -> usize
     ensures log2 { IsLog2 (T.magnitude x) result }
     ensures within { result < T.BITS }
 {
-    (T::BITS - 1).saturating_sub(x.leading_zeros() as usize)
+    x.fits_bits();
+    // The highest bit of 64 that are not all 0 is one instruction.
+    let number = (x.as_usize() as u64).max(1);
+    63 - UnsignedInteger::leading_zeros(number) as usize
 }
 
 /// The logarithm to base 10 of the greatest power of 2 that is at most the number, and 0 for 0.

@@ -3,7 +3,7 @@
 ghost use Rattle.std.specs.Prelude.{◌≡◌, ℕ, ◌+◌, ◌*◌, ◌/◌, ◌^◌, ◌<◌, ◌≤◌, ◌++◌, length, slice_index};
 ghost use Rattle.lexical_num.specs.Format.{IsRadix};
 ghost use Rattle.lexical_write_integer.specs.DigitCount.{digit_count};
-ghost use Rattle.lexical_write_integer.specs.LoopTurns.{TakesDigits, digits_after_first, slow_notes};
+ghost use Rattle.lexical_write_integer.specs.LoopTurns.{TakesDigits, count_notes, digits_after_first, slow_notes};
 
 use crate::turns::Turns;
 use lexical_num::num::UnsignedInteger;
@@ -58,13 +58,13 @@ pub(crate) fn divide_twice<const R: u32>(number: u32, turns: &mut Turns) -> (u32
 
 // Takes one digit off a number of up to two digits, if it has two. It returns what is left, and how
 // many digits were taken.
-fn divide_last<const R: u32>(number: u32, turns: &mut Turns) -> (u32, usize)
-    requires radix { IsRadix R }
-    requires short { number < R ^ 2 }
-    ensures { TakesDigits R number 1 result.1 result.0 turns.old turns.new }
+fn divide_last(number: u32, radix: u32, turns: &mut Turns) -> (u32, usize)
+    requires radix { IsRadix radix }
+    requires short { number < radix ^ 2 }
+    ensures { TakesDigits radix number 1 result.1 result.0 turns.old turns.new }
 {
-    let left = number / R;
-    if number >= R {
+    let left = number / radix;
+    if number >= radix {
         turns.tick(u64::from(left));
         (left, 1)
     } else {
@@ -95,18 +95,22 @@ pub(crate) fn count_and_keep<T: UnsignedInteger, const R: u32>(
     value.fits_bits();
     let (left, fours) = keep_quotients::<T, R>(value, kept, turns);
     let (short, by_two) = divide_twice::<R>(left, turns);
-    let (_, by_one) = divide_last::<R>(short, turns);
+    let (_, by_one) = divide_last(short, R, turns);
     (left, fours, 1 + 4 * fours + by_two + by_one)
 }
 
-// How many digits a number of one or two digits has, by a division.
-#[tactic(auto, using(crate::proofs::RadixPowers::steps))]
-pub(crate) fn count_short<const R: u32>(value: u32, turns: &mut Turns) -> usize
-    requires radix { IsRadix R }
-    requires short { value < R ^ 2 }
-    ensures count { result ≡ digit_count R value }
-    ensures notes { turns.new ≡ turns.old ++ slow_notes R value }
+// How many digits a number of one or two digits has, in a radix from 16 on. Of these all but two count
+// by a division.
+pub(crate) fn count_short(value: u32, radix: u32, turns: &mut Turns) -> usize
+    requires radix { IsRadix radix }
+    requires great { 16 ≤ radix }
+    requires short { value < radix ^ 2 }
+    ensures count { result ≡ digit_count radix value }
+    ensures notes { turns.new ≡ turns.old ++ count_notes radix value }
 {
-    let (_, by_one) = divide_last::<R>(value, turns);
+    if radix == 16 || radix == 32 {
+        return if value < radix { 1 } else { 2 };
+    }
+    let (_, by_one) = divide_last(value, radix, turns);
     1 + by_one
 }

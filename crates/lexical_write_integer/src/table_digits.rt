@@ -1,8 +1,10 @@
 // The digits of a number, written over a buffer of just their count.
 
 ghost use Rattle.std.specs.Prelude.{◌≡◌, ℕ, ◌+◌, ◌-◌, ◌*◌, ◌/◌, ◌%◌, ◌^◌, ◌<◌, ◌≤◌, ◌++◌, [], ◌∷◌, length, slice_index};
+ghost use Rattle.lexical_num.specs.Format.{IsRadix};
 ghost use Rattle.lexical_write_integer.specs.Buffer.{WritesBlock};
 ghost use Rattle.lexical_write_integer.specs.DigitCount.{digit_count};
+ghost use Rattle.lexical_write_integer.specs.Table.{BeginsWithPairs};
 ghost use Rattle.lexical_write_integer.specs.Text.{IsDigits};
 ghost use Rattle.lexical_write_integer.specs.LoopTurns.{TakesDigits, digits_after_first, loop_notes};
 
@@ -85,7 +87,7 @@ fn write_fours<const R: u32>(
     (left, at)
 }
 
-// Writes the one to four digits of a number to the front.
+// Writes the one to four digits of a number to the front, without a branch that guesses how many.
 fn write_head<const R: u32>(
     number: u32,
     digits: usize,
@@ -99,9 +101,14 @@ fn write_head<const R: u32>(
     ensures written { WritesBlock R digits number 0 buffer.old buffer.new }
     ensures taken { (taken left : ℕ) × TakesDigits R number 2 taken left turns.old turns.new }
 {
-    write_last_pair(number, digits, radix_table, buffer);
     let (left, taken) = divide_twice::<R>(number, turns);
-    write_first(left, digits - taken, radix_table, buffer);
+    // In radix 16 this is how the numbers end that fill 16, 32 or 64 bits.
+    if R == 16 && digits == 4 {
+        write_four(number, radix_table, buffer, 0);
+    } else {
+        write_last_pair(number, digits, radix_table, buffer);
+        write_first(left, digits - taken, R, radix_table.table, buffer);
+    }
 }
 
 // Writes the digits of a number over a buffer of just their count, from what the count kept: `left`
@@ -143,17 +150,14 @@ pub(crate) fn fill_by_division<const R: u32>(
 }
 
 // Writes the digits of a number of one or two digits over a buffer of just their count.
-pub(crate) fn fill_short<const R: u32>(
-    value: u32,
-    radix_table: &RadixTable<'_, R>,
-    buffer: &mut [u8],
-    turns: &mut Turns,
-)
-    requires short { value < R ^ 2 }
-    requires room { length buffer.old ≡ digit_count R value }
-    ensures digits { IsDigits R value buffer.new }
-    ensures notes { turns.new ≡ turns.old ++ loop_notes R value }
+pub(crate) fn fill_short(value: u32, radix: u32, table: &[u8], buffer: &mut [u8], turns: &mut Turns)
+    requires radix { IsRadix radix }
+    requires table { BeginsWithPairs radix table.now }
+    requires short { value < radix ^ 2 }
+    requires room { length buffer.old ≡ digit_count radix value }
+    ensures digits { IsDigits radix value buffer.new }
+    ensures notes { turns.new ≡ turns.old ++ loop_notes radix value }
 {
     let digits = buffer.len();
-    write_first(value, digits, radix_table, buffer);
+    write_first(value, digits, radix, table, buffer);
 }

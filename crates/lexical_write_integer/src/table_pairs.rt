@@ -52,23 +52,20 @@ pub(crate) fn write_four<const R: u32>(
 
 // Writes the one or two digits of a number to the front, without a branch: where it has one digit,
 // this is written twice.
-pub(crate) fn write_first<const R: u32>(
-    number: u32,
-    digits: usize,
-    radix_table: &RadixTable<'_, R>,
-    buffer: &mut [u8],
-)
-    requires short { number < R * R }
-    requires digits { digits ≡ digit_count R number }
+pub(crate) fn write_first(number: u32, digits: usize, radix: u32, table: &[u8], buffer: &mut [u8])
+    requires radix { IsRadix radix }
+    requires table { BeginsWithPairs radix table.now }
+    requires short { number < radix * radix }
+    requires digits { digits ≡ digit_count radix number }
     requires room { digits ≤ length buffer.old }
-    ensures { WritesBlock R digits number 0 buffer.old buffer.new }
+    ensures { WritesBlock radix digits number 0 buffer.old buffer.new }
 {
     let place = 2 * number as usize;
-    let first = radix_table.table[place];
-    let second = radix_table.table[place + 1];
+    let first = table[place];
+    let second = table[place + 1];
     // Both bytes are read before one is written, so that the choice is no branch.
     buffer[digits - 1] = second;
-    let front = if number < R { second } else { first };
+    let front = if number < radix { second } else { first };
     buffer[0] = front;
 }
 

@@ -1,10 +1,6 @@
 use Rattle.lexical_write_integer.proofs.LoopNotes.{slow_noted, table_notes-are}
 use Rattle.lexical_write_integer.proofs.algorithm.write_slow.Goals as goal
 
-pub returns-then-number-from-clause-notes : goal.returns-then-number-from-clause-notes
-returns-then-number-from-clause-notes g c =
-    rw (c.requires.same, ← c.as_usize-number.ensures) (table_notes-are g.row.R c.as_usize-number.result c.args.turns.now c.count_short-count.new.turns _ (slow_noted g.row.R c.as_usize-number.result _ _ c.requires.by_turns c.count_short-count.ensures.notes) c.fill_short.ensures.notes)
-
 pub returns-clause-notes : goal.returns-clause-notes
 returns-clause-notes g c =
     let number = g.T.UnsignedInteger.magnitude c.args.value in

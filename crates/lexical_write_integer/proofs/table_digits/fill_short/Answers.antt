@@ -1,4 +1,4 @@
-use Rattle.std.proofs.Common.{◌^◌, ◌<◌, lit<, arith}
+use Rattle.std.proofs.Common.{◌^◌, ◌<◌, arith}
 use Rattle.std.proofs.Math.Nat.{pow-le-pow_right}
 use Rattle.lexical_write_integer.specs.LoopTurns.{takes_two, takes_four}
 use Rattle.lexical_write_integer.proofs.Blocks.{IsDigits-block}
@@ -7,14 +7,14 @@ use Rattle.lexical_write_integer.proofs.LoopNotes.{loop_notes-are}
 use Rattle.lexical_write_integer.proofs.RadixPowers.{pow-two}
 use Rattle.lexical_write_integer.proofs.table_digits.fill_short.Goals as goal
 
-pub write_first-requires : goal.write_first-requires
-write_first-requires g c = (lit< tt, (rw pow-two at c.requires.short, (c.requires.room, omega arith)))
+pub write_first-requires-clause-short : goal.write_first-requires-clause-short
+write_first-requires-clause-short c = rw pow-two at c.requires.short
 
 pub returns-clause-digits : goal.returns-clause-digits
-returns-clause-digits g c = IsDigits-block g.row.R c.args.value _ 0 c.args.buffer.now c.write_first.new.buffer c.args.radix_table.now.is_radix.at_least_two (omega (arith, c.requires.room)) (omega arith) c.write_first.ensures
+returns-clause-digits c = IsDigits-block c.args.radix c.args.value _ 0 c.args.buffer.now c.write_first.new.buffer c.requires.radix.at_least_two (omega (arith, c.requires.room)) (omega arith) c.write_first.ensures
 
 pub returns-clause-notes : goal.returns-clause-notes
-returns-clause-notes g c =
-    let two = c.args.radix_table.now.is_radix.at_least_two in
-    let short : c.args.value < g.row.R ^ 4 = omega (arith, c.requires.short, pow-le-pow_right {n = g.row.R} (omega arith) {i = 2} {j = 4} (omega arith)) in
-    loop_notes-are two (TakesDigits-none g.row.R c.args.value 4 c.args.turns.now two takes_four short) (TakesDigits-none g.row.R c.args.value 2 c.args.turns.now two takes_two c.requires.short)
+returns-clause-notes c =
+    let two = c.requires.radix.at_least_two in
+    let short : c.args.value < c.args.radix ^ 4 = omega (arith, c.requires.short, pow-le-pow_right {n = c.args.radix} (omega arith) {i = 2} {j = 4} (omega arith)) in
+    loop_notes-are two (TakesDigits-none c.args.radix c.args.value 4 c.args.turns.now two takes_four short) (TakesDigits-none c.args.radix c.args.value 2 c.args.turns.now two takes_two c.requires.short)

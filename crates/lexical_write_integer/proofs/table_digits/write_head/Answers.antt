@@ -7,14 +7,14 @@ use Rattle.lexical_write_integer.proofs.table_digits.write_head.Goals as goal
 pub write_last_pair-requires : goal.write_last_pair-requires
 write_last_pair-requires g c = (lit< tt, (omega (arith, c.requires.digits, digit_count-pos g.row.R c.args.number), c.requires.room))
 
-pub write_first-requires : goal.write_first-requires
-write_first-requires g c =
-    let two = c.args.radix_table.now.is_radix.at_least_two in
-    let taken = c.divide_twice-left.ensures in
-    (lit< tt, (head-left two c.requires.short taken, (omega (arith, c.requires.digits, TakesDigits-counts two taken), omega (arith, c.requires.room, c.write_last_pair.auto.buffer))))
+pub write_first-requires-clause-short : goal.write_first-requires-clause-short
+write_first-requires-clause-short g c = head-left c.args.radix_table.now.is_radix.at_least_two c.requires.short c.divide_twice-left.ensures
 
-pub returns-clause-written : goal.returns-clause-written
-returns-clause-written g c =
+pub write_first-requires-clause-digits : goal.write_first-requires-clause-digits
+write_first-requires-clause-digits g c = omega (arith, c.requires.digits, TakesDigits-counts c.args.radix_table.now.is_radix.at_least_two c.divide_twice-left.ensures)
+
+pub returns-else-this-eq16-clause-written : goal.returns-else-this-eq16-clause-written
+returns-else-this-eq16-clause-written g c =
     let two = c.args.radix_table.now.is_radix.at_least_two in
     let taken = c.divide_twice-left.ensures in
     WritesBlock-head c.args.digits c.args.buffer.now c.write_last_pair.new.buffer c.write_first.new.buffer two c.requires.short c.requires.digits taken c.write_last_pair.ensures.pair c.write_last_pair.ensures.following c.write_first.ensures

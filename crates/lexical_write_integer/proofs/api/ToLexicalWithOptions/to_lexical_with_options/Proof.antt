@@ -43,7 +43,7 @@ use denote.Triple.Clauses.{Clauses, Ended, lasts}
 use denote.Triple.Spec.{triple_of}
 use denote.Triple.Statement.{Triple, Contract}
 use denote.Triple.Table.{entered}
-use denote.Triple.Walked.{says, Stays, stay_dropped, walk_of, ends_at, walked, Goes-dropped, Goes-spent_slice, walk_Meets}
+use denote.Triple.Walked.{Stays, stay_dropped, walk_of, ends_at, walked, Goes-dropped, Goes-spent_slice, walk_Meets}
 use Rattle.std.specs.declared.clone.Clone as cloned
 use Rattle.lexical_num.specs.Format.{Format, without_groups}
 use Rattle.lexical_num.specs.contracts.format.NumberFormat.{the_row as NumberFormat}
