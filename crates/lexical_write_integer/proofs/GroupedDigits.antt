@@ -1,12 +1,9 @@
 -- Digits in groups: how long they are, and the last group after the others.
-use Rattle.std.proofs.Common.{◌≡◌, if◌then◌else◌, ◌==◌, Option, None, Some, ℕ, zero, suc, ◌+◌, ◌-◌, ◌/◌, ◌%◌, ◌<◌, ◌≤◌, List, [], ◌∷◌, ◌++◌, length, take, drop, set, inl, inr, ◌*◌, refl, sym, ap, ◌∙◌, arith, length-append, append_assoc}
-use Rattle.std.proofs.Math.Nat.{mod-eq_of_lt, mod-lt, mod_self, add-mod_right, add-div_right, div-eq_of_lt}
+use Rattle.std.proofs.Common.{◌≡◌, if◌then◌else◌, ◌==◌, Option, None, Some, ℕ, zero, suc, ◌+◌, ◌-◌, ◌/◌, ◌%◌, ◌<◌, ◌≤◌, List, [], ◌∷◌, ◌++◌, length, take, inl, inr, ◌*◌, refl, sym, ap, ◌∙◌, arith, length-append, append_assoc}
+use Rattle.std.proofs.Math.Nat.{mod-eq_of_lt, mod-lt, mod_self, add-mod_right, div-eq_of_lt}
 use Rattle.std.proofs.lemmas.Nat.{div-add-mod', div-mul-add}
 use Rattle.std.proofs.lemmas.Bool.{cases_eq, cases_lt, cases_order, eq-eqb, ne_eqb, cond-true, cond-false}
-use Rattle.std.proofs.lemmas.List.{append_cancel_left, length-take, length-take-le, length-drop, take-append-le, take-take, take-set-le, drop_at, drop-take, drop-set, take-append-drop}
-use Rattle.std.proofs.lemmas.List.Edits.{length-paste}
-use lib.Seq.{paste}
-use Rattle.lexical_write_integer.specs.Buffer.{Front}
+use Rattle.std.proofs.lemmas.List.{append_cancel_left, length-take-le}
 use Rattle.lexical_write_integer.specs.Groups.{mark_before, in_groups, grouped}
 
 pub mark_before-whole : (grouping : ℕ × ℕ) (right : ℕ) → right % grouping.0 ≡ 0 → mark_before grouping right ≡ grouping.1 ∷ []
@@ -38,7 +35,7 @@ in_groups-append grouping (digit ∷ next ∷ digits) group some any whole =
     let rest = in_groups-append grouping (next ∷ digits) group some (omega arith) whole in
     ap (λ rest. digit ∷ rest) ((λ i. mark i ++ rest i) ∙ sym (append_assoc (mark_before grouping (length (next ∷ digits))) _ _))
 
-some_factor : (m n product : ℕ) → m * n ≡ product → 0 < product → 0 < m
+pub some_factor : (m n product : ℕ) → m * n ≡ product → 0 < product → 0 < m
 some_factor zero n product is some = absurd (omega arith)
 some_factor (suc m) n product is some = omega arith
 
@@ -71,76 +68,9 @@ length-in_groups grouping (digit ∷ next ∷ digits) some =
     let quotient : (suc right - 1) / grouping.0 ≡ right / grouping.0 = ap (λ n. n / grouping.0) (let e : suc right - 1 ≡ right = omega arith in e) in
     omega (arith, mark, rest, quotient, length-append (mark_before grouping right) (in_groups grouping (next ∷ digits)))
 
--- ---- groups are put in place one by one, the last first
-
--- the first `left` digits are where they were, and the others stand in their groups after the place `end`
-pub record IsSpread (grouping : ℕ × ℕ) (count total left end : ℕ) (before between : List ℕ) : Type 0 where
-  pub fewer : left ≤ count
-  pub within : end ≤ total
-  pub place : end ≡ left + (left - 1) / grouping.0
-  pub front : take left between ≡ take left before
-  pub whole : in_groups grouping (take left before) ++ drop end between ≡ in_groups grouping (take count before) ++ drop total before
-
-pub IsSpread-start : (grouping : ℕ × ℕ) (count total : ℕ) (before : List ℕ) → total ≡ count + (count - 1) / grouping.0 → IsSpread grouping count total count total before before
-IsSpread-start grouping count total before long =
-    record { fewer = omega arith; within = omega arith; place = long; front = refl; whole = refl }
-
--- the last group is moved, and the mark put before it
-pub IsSpread-more : (grouping : ℕ × ℕ) (count total left end next size : ℕ) (before between : List ℕ) → 0 < grouping.0 → 0 < next → left ≡ next + grouping.0 → size ≡ grouping.0 → count ≤ total → total ≤ length before → length between ≡ length before → IsSpread grouping count total left end before between → IsSpread grouping count total next (end - grouping.0 - 1) before (set (paste between (end - grouping.0) (drop next between) size) (end - grouping.0 - 1) grouping.1)
-IsSpread-more grouping count total left end next size before between some any is_left is_size fits inside long w =
-    let to = end - grouping.0 in
-    let moved = paste between to (drop next between) size in
-    let quotient : (left - 1) / grouping.0 ≡ (next - 1) / grouping.0 + 1 =
-    ap (λ n. n / grouping.0) (let e : left - 1 ≡ next - 1 + grouping.0 = omega arith in e) ∙ add-div_right (next - 1) some in
-    let place : to - 1 ≡ next + (next - 1) / grouping.0 = omega (arith, w.place) in
-    let room : to + size ≡ end = omega (arith, w.place) in
-    let below : end ≤ length between = omega (arith, w.within) in
-    let kept : next ≤ to - 1 = omega arith in
-    let to_length : length (take to between) ≡ to = length-take-le to between (omega arith) in
-    let moved_length : length moved ≡ length between = length-paste between to (drop next between) size (omega arith) (omega (arith, length-drop next between)) in
-    let group = drop next (take left before) in
-    let group_is : take size (drop next between) ≡ group =
-    sym (drop-take next size between) ∙ ap (λ n. drop next (take n between)) (let e : next + size ≡ left = omega arith in e) ∙ ap (drop next) w.front in
-    let front : take next moved ≡ take next before =
-    ap (take next) (append_assoc (take to between) (take size (drop next between)) (drop (to + size) between))
-    ∙ take-append-le next (take to between) _ (omega arith)
-    ∙ take-take next to between (omega arith)
-    ∙ sym (take-take next left between (omega arith)) ∙ ap (take next) w.front ∙ take-take next left before (omega arith) in
-    let following : drop to moved ≡ group ++ drop end between =
-    ap (drop to) (append_assoc (take to between) (take size (drop next between)) (drop (to + size) between))
-    ∙ drop_at (take to between) _ to to_length
-    ∙ (λ i. group_is i ++ drop (room i) between) in
-    let marked : drop (to - 1) (set moved (to - 1) grouping.1) ≡ grouping.1 ∷ group ++ drop end between =
-    drop-set moved (to - 1) grouping.1 (omega arith) ∙ ap (λ n. grouping.1 ∷ drop n moved) (let e : to - 1 + 1 ≡ to = omega arith in e) ∙ ap (λ xs. grouping.1 ∷ xs) following in
-    let digits : take left before ≡ take next before ++ group =
-    sym (take-append-drop next (take left before)) ∙ ap (λ xs. xs ++ group) (take-take next left before (omega arith)) in
-    let groups : in_groups grouping (take left before) ≡ in_groups grouping (take next before) ++ grouping.1 ∷ group =
-    ap (in_groups grouping) digits
-    ∙ in_groups-append grouping (take next before) group some (omega (arith, length-take-le next before (omega (arith, w.fewer)))) (omega (arith, length-drop next (take left before), length-take-le left before (omega (arith, w.fewer)))) in
-    record {
-      fewer = omega (arith, w.fewer);
-      within = omega (arith, w.within);
-      place = place;
-      front = take-set-le next moved (to - 1) grouping.1 kept ∙ front;
-      whole = ap (λ xs. in_groups grouping (take next before) ++ xs) marked ∙ sym (append_assoc (in_groups grouping (take next before)) (grouping.1 ∷ group) (drop end between)) ∙ ap (λ xs. xs ++ drop end between) (sym groups) ∙ w.whole;
-    }
-
 pub length-in_groups_taken : (grouping : ℕ × ℕ) (count total : ℕ) (before : List ℕ) → 0 < grouping.0 → total ≡ count + (count - 1) / grouping.0 → total ≤ length before → length (in_groups grouping (take count before)) ≡ total
 length-in_groups_taken grouping count total before some is_total inside =
     length-in_groups grouping (take count before) some ∙ ap (λ n. n + (n - 1) / grouping.0) (length-take-le count before (omega arith)) ∙ sym is_total
-
--- the one group that is left is in place
-pub IsSpread-end : (grouping : ℕ × ℕ) (count total left end : ℕ) (before after : List ℕ) → 0 < grouping.0 → left ≤ grouping.0 → total ≡ count + (count - 1) / grouping.0 → total ≤ length before → IsSpread grouping count total left end before after → Front before after (in_groups grouping (take count before))
-IsSpread-end grouping count total left end before after some one is_total inside w =
-    let none : (left - 1) / grouping.0 ≡ 0 = div-eq_of_lt (omega arith) in
-    let place : end ≡ left = omega (arith, w.place) in
-    let long = length-in_groups_taken grouping count total before some is_total inside in
-    let left_is : in_groups grouping (take left before) ≡ take left after =
-    in_groups-one grouping (take left before) (omega (arith, length-take left before)) ∙ sym w.front in
-    record {
-      fits = omega (arith, long);
-      written = sym (take-append-drop left after) ∙ (λ i. sym left_is i ++ drop (sym place i) after) ∙ w.whole ∙ ap (λ n. in_groups grouping (take count before) ++ drop n before) (sym long);
-    }
 
 -- ---- digits and their groups
 

@@ -24,5 +24,6 @@ pub mod Relending
 pub mod Sequences
 pub mod Signs
 pub mod Sizes
+pub mod SpreadDigits
 pub mod TablePairs
 pub mod Values

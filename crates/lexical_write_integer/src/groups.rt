@@ -22,12 +22,12 @@ pub fn group_digits(count: usize, format: &NumberFormat, buffer: &mut [u8]) -> u
     }
 }
 
-// The same in groups of this size. The groups move to the right, the last one first, so that no
-// digit is overwritten before it has moved; the first group stays where it is:
+// The same in groups of this size. Each byte is put in its place, the last one first, so that no digit
+// is overwritten before it has moved:
 //
 //     1234567      the digits
-//     1234 ,567    after the first turn
-//     1,234,567    after the second
+//     12345,567    after four bytes
+//     1,234,567    after all
 fn spread(count: usize, size: usize, mark: u8, buffer: &mut [u8]) -> usize
     requires size { 1 ≤ size }
     requires some { 1 ≤ count }
@@ -38,12 +38,17 @@ fn spread(count: usize, size: usize, mark: u8, buffer: &mut [u8]) -> usize
     let total = count + (count - 1) / size;
     let mut left = count;
     let mut end = total;
-    while left > size {
-        left -= size;
-        end -= size;
-        buffer.copy_within(left..left + size, end);
+    let mut in_group = 0;
+    while end > 0 {
         end -= 1;
-        buffer[end] = mark;
+        if in_group == size {
+            buffer[end] = mark;
+            in_group = 0;
+        } else {
+            left -= 1;
+            buffer[end] = buffer[left];
+            in_group += 1;
+        }
     }
     total
 }

@@ -1,8 +1,8 @@
-use Rattle.lexical_write_integer.proofs.GroupedDigits.{IsSpread}
+use Rattle.lexical_write_integer.proofs.SpreadDigits.{IsSpread}
 use Rattle.lexical_write_integer.proofs.groups.spread.Given as goal
 
-abbrev pub invariant-loop-left : goal.invariant-loop-left
-invariant-loop-left l = IsSpread (l.size, l.mark) l.count l.total l.left l.end l.fn.buffer l.buffer
+abbrev pub invariant-loop-end : goal.invariant-loop-end
+invariant-loop-end l = IsSpread (l.size, l.mark) l.count l.total l.left l.end l.in_group l.fn.buffer l.buffer
 
-abbrev pub decreases-loop-left : goal.decreases-loop-left
-decreases-loop-left l = l.left
+abbrev pub decreases-loop-end : goal.decreases-loop-end
+decreases-loop-end l = l.end
