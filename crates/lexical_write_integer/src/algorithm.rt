@@ -71,8 +71,8 @@ fn write_slow<T: UnsignedInteger, const R: u32, const QUOTIENTS: usize>(
     count
 }
 
-// Writes a number in a radix in which its digits are counted at once.
-fn write_at_once<const R: u32>(
+// Writes a number whose digits are counted.
+fn write_counted<const R: u32>(
     value: u64,
     count: usize,
     radix: u32,
@@ -89,12 +89,8 @@ fn write_at_once<const R: u32>(
     ensures digits { WritesDigits radix value buffer.old buffer.new count }
     ensures notes { turns.new ≡ turns.old ++ table_notes radix value }
 {
-    fill_by_division(
-        value,
-        &RadixTable::<R> { table },
-        &mut buffer[..count],
-        turns,
-    );
+    let radix_table = RadixTable::<R> { table };
+    fill_by_division(value, &radix_table, &mut buffer[..count], turns);
 }
 
 // Writes a number in a radix that is a power of two.
@@ -120,12 +116,42 @@ fn write_bits<const R: u32, const K: usize>(
         return write_short(value as u32, R, table, buffer, turns);
     }
     let count = fast_log2(value) / K + 1;
-    write_at_once::<R>(value, count, radix, table, buffer, turns);
+    write_counted::<R>(value, count, radix, table, buffer, turns);
     count
 }
 
-// Writes a number in any radix, by the function of the radix.
-fn write_in_radix<T: UnsignedInteger>(
+// Writes a number in a radix in which its digits are counted at once, by the function of the radix.
+fn write_at_once(
+    value: u64,
+    radix: u32,
+    table: &[u8],
+    buffer: &mut [u8],
+    turns: &mut Turns,
+) -> usize
+    requires at_once { is_counted_at_once radix ≡ true }
+    requires radix { IsRadix radix }
+    requires table { BeginsWithPairs radix table.now }
+    requires room { digit_count radix value ≤ length buffer.old }
+    ensures digits { WritesDigits radix value buffer.old buffer.new result }
+    ensures count { result ≡ digit_count radix value }
+    ensures notes { turns.new ≡ turns.old ++ table_notes radix value }
+{
+    match radix {
+        2 => write_bits::<2, 1>(value, radix, table, buffer, turns),
+        4 => write_bits::<4, 2>(value, radix, table, buffer, turns),
+        8 => write_bits::<8, 3>(value, radix, table, buffer, turns),
+        10 => {
+            let count = value.decimal_count();
+            write_counted::<10>(value, count, radix, table, buffer, turns);
+            count
+        }
+        16 => write_bits::<16, 4>(value, radix, table, buffer, turns),
+        _ => write_bits::<32, 5>(value, radix, table, buffer, turns),
+    }
+}
+
+// Writes a number in a radix in which its digits are counted by divisions, by the function of the radix.
+fn write_by_divisions<T: UnsignedInteger>(
     value: T,
     radix: u32,
     table: &[u8],
@@ -133,6 +159,7 @@ fn write_in_radix<T: UnsignedInteger>(
     turns: &mut Turns,
 ) -> usize
     requires wide { 32 ≤ T.BITS }
+    requires by_turns { is_counted_at_once radix ≡ false }
     requires radix { IsRadix radix }
     requires table { BeginsWithPairs radix table.now }
     requires room { digit_count radix (T.magnitude value) ≤ length buffer.old }
@@ -140,27 +167,17 @@ fn write_in_radix<T: UnsignedInteger>(
     ensures count { result ≡ digit_count radix (T.magnitude value) }
     ensures notes { turns.new ≡ turns.old ++ table_notes radix (T.magnitude value) }
 {
-    let number = value.as_usize() as u64;
     match radix {
-        2 => write_bits::<2, 1>(number, radix, table, buffer, turns),
         3 => write_slow::<T, 3, 10>(value, radix, table, buffer, turns),
-        4 => write_bits::<4, 2>(number, radix, table, buffer, turns),
         5 => write_slow::<T, 5, 6>(value, radix, table, buffer, turns),
         6 => write_slow::<T, 6, 6>(value, radix, table, buffer, turns),
         7 => write_slow::<T, 7, 5>(value, radix, table, buffer, turns),
-        8 => write_bits::<8, 3>(number, radix, table, buffer, turns),
         9 => write_slow::<T, 9, 5>(value, radix, table, buffer, turns),
-        10 => {
-            let count = number.decimal_count();
-            write_at_once::<10>(number, count, radix, table, buffer, turns);
-            count
-        }
         11 => write_slow::<T, 11, 4>(value, radix, table, buffer, turns),
         12 => write_slow::<T, 12, 4>(value, radix, table, buffer, turns),
         13 => write_slow::<T, 13, 4>(value, radix, table, buffer, turns),
         14 => write_slow::<T, 14, 4>(value, radix, table, buffer, turns),
         15 => write_slow::<T, 15, 4>(value, radix, table, buffer, turns),
-        16 => write_bits::<16, 4>(number, radix, table, buffer, turns),
         17 => write_slow::<T, 17, 3>(value, radix, table, buffer, turns),
         18 => write_slow::<T, 18, 3>(value, radix, table, buffer, turns),
         19 => write_slow::<T, 19, 3>(value, radix, table, buffer, turns),
@@ -176,7 +193,6 @@ fn write_in_radix<T: UnsignedInteger>(
         29 => write_slow::<T, 29, 3>(value, radix, table, buffer, turns),
         30 => write_slow::<T, 30, 3>(value, radix, table, buffer, turns),
         31 => write_slow::<T, 31, 3>(value, radix, table, buffer, turns),
-        32 => write_bits::<32, 5>(number, radix, table, buffer, turns),
         33 => write_slow::<T, 33, 3>(value, radix, table, buffer, turns),
         34 => write_slow::<T, 34, 3>(value, radix, table, buffer, turns),
         35 => write_slow::<T, 35, 3>(value, radix, table, buffer, turns),
@@ -184,8 +200,8 @@ fn write_in_radix<T: UnsignedInteger>(
     }
 }
 
-// Writes a number by one of two instances: a number of up to 32 bits is divided as such. From radix 16
-// on a byte has two digits at most, and takes no instance.
+// Writes a number in any radix. From radix 16 on a byte has two digits at most; and a number of up to 32
+// bits is divided as such.
 fn write_number<T: UnsignedInteger>(
     value: T,
     radix: u32,
@@ -203,11 +219,12 @@ fn write_number<T: UnsignedInteger>(
     value.fits_bits();
     let number = value.as_usize();
     if T::BITS == 8 && radix >= 16 {
-        write_short(number as u32, radix, table, buffer, turns)
-    } else if T::BITS <= 32 {
-        write_in_radix(number as u32, radix, table, buffer, turns)
-    } else {
-        write_in_radix(number as u64, radix, table, buffer, turns)
+        return write_short(number as u32, radix, table, buffer, turns);
+    }
+    match radix {
+        2 | 4 | 8 | 10 | 16 | 32 => write_at_once(number as u64, radix, table, buffer, turns),
+        _ if T::BITS <= 32 => write_by_divisions(number as u32, radix, table, buffer, turns),
+        _ => write_by_divisions(number as u64, radix, table, buffer, turns),
     }
 }
 

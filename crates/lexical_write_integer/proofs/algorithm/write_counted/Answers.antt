@@ -1,5 +1,5 @@
 use Rattle.lexical_write_integer.proofs.LoopNotes.{none_noted, table_notes-are}
-use Rattle.lexical_write_integer.proofs.algorithm.write_at_once.Goals as goal
+use Rattle.lexical_write_integer.proofs.algorithm.write_counted.Goals as goal
 
 pub returns-clause-notes : goal.returns-clause-notes
 returns-clause-notes g c =
