@@ -54,9 +54,6 @@ fn write_slow<T: UnsignedInteger, const R: u32, const QUOTIENTS: usize>(
     ensures notes { turns.new ≡ turns.old ++ table_notes radix (T.magnitude value) }
 {
     let number = value.as_usize() as u64;
-    if R >= 32 && number < u64::from(R * R) {
-        return write_short(number as u32, R, table, buffer, turns);
-    }
     let mut kept = [0; QUOTIENTS];
     let (left, fours, count) = count_and_keep::<T, R>(value, &mut kept, turns);
     let digits = &mut buffer[..count];
@@ -112,9 +109,6 @@ fn write_bits<const R: u32, const K: usize>(
     ensures count { result ≡ digit_count radix value }
     ensures notes { turns.new ≡ turns.old ++ table_notes radix value }
 {
-    if R >= 32 && value < u64::from(R * R) {
-        return write_short(value as u32, R, table, buffer, turns);
-    }
     let count = fast_log2(value) / K + 1;
     write_counted::<R>(value, count, radix, table, buffer, turns);
     count
@@ -200,8 +194,8 @@ fn write_by_divisions<T: UnsignedInteger>(
     }
 }
 
-// Writes a number in any radix. From radix 16 on a byte has two digits at most; and a number of up to 32
-// bits is divided as such.
+// Writes a number in any radix. From radix 16 on a byte has two digits at most, and from radix 32 on a
+// number below 1024; and a number of up to 32 bits is divided as such.
 fn write_number<T: UnsignedInteger>(
     value: T,
     radix: u32,
@@ -219,6 +213,9 @@ fn write_number<T: UnsignedInteger>(
     value.fits_bits();
     let number = value.as_usize();
     if T::BITS == 8 && radix >= 16 {
+        return write_short(number as u32, radix, table, buffer, turns);
+    }
+    if number < 1024 && radix >= 32 {
         return write_short(number as u32, radix, table, buffer, turns);
     }
     match radix {
