@@ -1,15 +1,12 @@
--- How a number is to be written, and when that can be done.
-use Rattle.std.specs.Prelude.{ℕ, Bool, false, Option, None, Some, ◌+◌, ◌-◌, ◌/◌, ◌≤◌, ◌≢◌}
+-- How a number is to be written, by the parts that `src/format.rt` lists, and when that can be done.
+use Rattle.std.specs.Prelude.{ℕ, false, Option, None, Some, ◌+◌, ◌-◌, ◌/◌, ◌≤◌, ◌≢◌}
 use Rattle.std.specs.Char.{IsNotAsciiAlphanumeric}
 use Rattle.std.specs.Option.{ForSome}
+use Rattle.lexical_num.specs.declared.format.Parts.{Parts}
 
--- the radices of a number's two parts, whether a `+` stands before a number that is not negative, and, where the digits
--- stand in groups, the number of digits of a group and the mark between two groups
-pub record Format : Type 0 where
-  pub mantissa_radix : ℕ
-  pub exponent_radix : ℕ
-  pub required_mantissa_sign : Bool
-  pub digit_grouping : Option (ℕ × ℕ)
+-- the parts of a format
+abbrev pub Format : Type 0
+Format = Parts
 
 -- a radix whose digits are among `0` to `9` and `A` to `Z`
 pub record IsRadix (radix : ℕ) : Type 0 where

@@ -6,46 +6,44 @@ ghost use Rattle.lexical_num.specs.Format.{IsRadix, IsGrouping};
 
 use std::marker::Model;
 
+/// The parts of a format, any bytes among them: the radices of a number's two parts, whether a `+`
+/// stands before a number that is not negative, and, where the digits stand in groups, the number
+/// of digits of a group and the mark between two groups.
+#[derive(Clone, Copy, PartialEq, Eq, Debug)]
+pub(crate) struct Parts {
+    pub mantissa_radix: u8,
+    pub exponent_radix: u8,
+    pub required_mantissa_sign: bool,
+    pub digit_grouping: Option<(u8, u8)>,
+}
+
 /// A format that is known to be valid: its two radices are from 2 to 36, and where it groups digits
 /// the size of a group is from 1 to 64, and the mark is printable and no letter, digit or sign.
 #[derive(Clone, Copy, PartialEq, Eq, Debug)]
 pub struct NumberFormat {
-    pub(crate) mantissa_radix: u8,
-    pub(crate) exponent_radix: u8,
-    pub(crate) required_mantissa_sign: bool,
-    pub(crate) digit_grouping: Option<(u8, u8)>,
+    pub(crate) parts: Parts,
 }
 
 impl Model for NumberFormat {
-    ghost use Rattle.std.specs.Option.{ForSome};
-    ghost use Rattle.lexical_num.specs.Format.{Format, IsRadix, IsGrouping};
+    ghost use Rattle.lexical_num.specs.Format.{Format, IsValid};
 
     ghost Value = { Format };
 
-    ghost view = { λ f. record {
-      mantissa_radix = f.mantissa_radix;
-      exponent_radix = f.exponent_radix;
-      required_mantissa_sign = f.required_mantissa_sign;
-      digit_grouping = f.digit_grouping;
-    } };
+    ghost view = { λ format. format.parts };
 
-    ghost invariant = { λ f. IsRadix f.mantissa_radix × IsRadix f.exponent_radix
-        × ForSome f.digit_grouping IsGrouping };
+    ghost invariant = { λ format. IsValid format.parts };
 
-    ghost inverse = { λ format. record {
-      mantissa_radix = format.mantissa_radix;
-      exponent_radix = format.exponent_radix;
-      required_mantissa_sign = format.required_mantissa_sign;
-      digit_grouping = format.digit_grouping;
-    } };
+    ghost inverse = { λ parts. record { parts = parts } };
 }
 
 /// Decimal, with no sign before a number that is not negative, and no groups.
 pub const STANDARD: NumberFormat = NumberFormat {
-    mantissa_radix: 10,
-    exponent_radix: 10,
-    required_mantissa_sign: false,
-    digit_grouping: None,
+    parts: Parts {
+        mantissa_radix: 10,
+        exponent_radix: 10,
+        required_mantissa_sign: false,
+        digit_grouping: None,
+    },
 };
 
 impl NumberFormat {
@@ -62,7 +60,7 @@ impl NumberFormat {
         ensures value { result ≡ self.now.mantissa_radix }
         ensures radix { IsRadix result }
     {
-        u32::from(self.mantissa_radix)
+        u32::from(self.parts.mantissa_radix)
     }
 
     /// The exponent radix, from 2 to 36.
@@ -70,14 +68,14 @@ impl NumberFormat {
         ensures value { result ≡ self.now.exponent_radix }
         ensures radix { IsRadix result }
     {
-        u32::from(self.exponent_radix)
+        u32::from(self.parts.exponent_radix)
     }
 
     /// Whether a `+` stands before a number that is not negative.
     pub fn required_mantissa_sign(&self) -> bool
         ensures { result ≡ self.now.required_mantissa_sign }
     {
-        self.required_mantissa_sign
+        self.parts.required_mantissa_sign
     }
 
     /// The number of digits of a group, from 1 to 64, and the byte between two groups; or `None`,
@@ -86,7 +84,7 @@ impl NumberFormat {
         ensures value { result ≡ self.now.digit_grouping }
         ensures valid { ForSome result IsGrouping }
     {
-        self.digit_grouping
+        self.parts.digit_grouping
     }
 
     /// Whether numbers can be written in the format: always, since no other format exists.

@@ -5,16 +5,13 @@ ghost use Rattle.std.specs.Option.{ForSome};
 ghost use Rattle.lexical_num.specs.Format.{IsRadix, IsGroupSize, IsMark, IsValid, standard};
 
 use crate::error::{Error, Result};
-use crate::format::{NumberFormat, STANDARD};
+use crate::format::{NumberFormat, Parts, STANDARD};
 use std::marker::Model;
 
 /// The parts of a format, any bytes among them.
 #[derive(Clone, Copy, PartialEq, Eq, Debug)]
 pub struct NumberFormatBuilder {
-    mantissa_radix: u8,
-    exponent_radix: u8,
-    required_mantissa_sign: bool,
-    digit_grouping: Option<(u8, u8)>,
+    parts: Parts,
 }
 
 impl Model for NumberFormatBuilder {
@@ -22,19 +19,9 @@ impl Model for NumberFormatBuilder {
 
     ghost Value = { Format };
 
-    ghost view = { λ b. record {
-      mantissa_radix = b.mantissa_radix;
-      exponent_radix = b.exponent_radix;
-      required_mantissa_sign = b.required_mantissa_sign;
-      digit_grouping = b.digit_grouping;
-    } };
+    ghost view = { λ builder. builder.parts };
 
-    ghost inverse = { λ format. record {
-      mantissa_radix = format.mantissa_radix;
-      exponent_radix = format.exponent_radix;
-      required_mantissa_sign = format.required_mantissa_sign;
-      digit_grouping = format.digit_grouping;
-    } };
+    ghost inverse = { λ parts. record { parts = parts } };
 }
 
 impl NumberFormatBuilder {
@@ -42,12 +29,8 @@ impl NumberFormatBuilder {
     pub fn new() -> Self
         ensures { result ≡ standard }
     {
-        let format = STANDARD;
         NumberFormatBuilder {
-            mantissa_radix: format.mantissa_radix,
-            exponent_radix: format.exponent_radix,
-            required_mantissa_sign: format.required_mantissa_sign,
-            digit_grouping: format.digit_grouping,
+            parts: STANDARD.parts,
         }
     }
 
@@ -80,7 +63,7 @@ impl NumberFormatBuilder {
     pub fn mantissa_radix(mut self, radix: u8) -> Self
         ensures { result ≡ record self { mantissa_radix = radix } }
     {
-        self.mantissa_radix = radix;
+        self.parts.mantissa_radix = radix;
         self
     }
 
@@ -88,7 +71,7 @@ impl NumberFormatBuilder {
     pub fn exponent_radix(mut self, radix: u8) -> Self
         ensures { result ≡ record self { exponent_radix = radix } }
     {
-        self.exponent_radix = radix;
+        self.parts.exponent_radix = radix;
         self
     }
 
@@ -96,7 +79,7 @@ impl NumberFormatBuilder {
     pub fn required_mantissa_sign(mut self, required: bool) -> Self
         ensures { result ≡ record self { required_mantissa_sign = required } }
     {
-        self.required_mantissa_sign = required;
+        self.parts.required_mantissa_sign = required;
         self
     }
 
@@ -105,7 +88,7 @@ impl NumberFormatBuilder {
     pub fn digit_grouping(mut self, size: u8, mark: u8) -> Self
         ensures { result ≡ record self { digit_grouping = Some (size, mark) } }
     {
-        self.digit_grouping = Some((size, mark));
+        self.parts.digit_grouping = Some((size, mark));
         self
     }
 
@@ -127,13 +110,13 @@ impl NumberFormatBuilder {
             ↔ (IsRadix self.now.mantissa_radix × IsRadix self.now.exponent_radix
             × IsGroupSize grouping.0 × ¬ IsMark grouping.1)) }
     {
-        if !is_radix(self.mantissa_radix) {
-            return Err(Error::InvalidMantissaRadix(self.mantissa_radix));
+        if !is_radix(self.parts.mantissa_radix) {
+            return Err(Error::InvalidMantissaRadix(self.parts.mantissa_radix));
         }
-        if !is_radix(self.exponent_radix) {
-            return Err(Error::InvalidExponentRadix(self.exponent_radix));
+        if !is_radix(self.parts.exponent_radix) {
+            return Err(Error::InvalidExponentRadix(self.parts.exponent_radix));
         }
-        if let Some((size, mark)) = self.digit_grouping {
+        if let Some((size, mark)) = self.parts.digit_grouping {
             if !is_group_size(size) {
                 return Err(Error::InvalidGroupSize(size));
             }
@@ -150,12 +133,7 @@ impl NumberFormatBuilder {
         requires { IsValid self.now }
         ensures { result ≡ self.now }
     {
-        NumberFormat {
-            mantissa_radix: self.mantissa_radix,
-            exponent_radix: self.exponent_radix,
-            required_mantissa_sign: self.required_mantissa_sign,
-            digit_grouping: self.digit_grouping,
-        }
+        NumberFormat { parts: self.parts }
     }
 }
 
