@@ -1,5 +1,5 @@
 -- How many decimal digits the numbers of a type have.
-use Rattle.std.specs.Prelude.{ℕ, ◌+◌, ◌-◌, ◌^◌, ◌<◌, ◌≤◌, ℤ, pos, negsuc, unsigned_abs, ◌≤ℤ◌}
+use Rattle.std.specs.Prelude.{ℕ, ◌-◌, ◌^◌, ◌<◌, ◌≤◌, ℤ, pos, negsuc, unsigned_abs, ◌≤ℤ◌}
 use Rattle.std.proofs.Common.{arith}
 use Rattle.std.proofs.lemmas.Int.{ints}
 
@@ -9,18 +9,13 @@ pub record IsDecimalWidth (least greatest : ℤ) (width : ℕ) : Type 0 where
   pub enough : (n : ℤ) → least ≤ℤ n → n ≤ℤ greatest → unsigned_abs n < 10 ^ width
   pub needed : 10 ^ (width - 1) ≤ unsigned_abs greatest
 
--- of a type whose least number is 0
-pub unsigned_decimal_width : (greatest width : ℕ) → 1 ≤ width → greatest < 10 ^ width → 10 ^ (width - 1) ≤ greatest → IsDecimalWidth (pos 0) (pos greatest) width
-unsigned_decimal_width greatest width some fits full = record { some = some; enough = between; needed = full }
+-- where both ends have no more digits than that, and the greatest number has as many
+pub is_decimal_width : {least greatest : ℤ} {width : ℕ} → 1 ≤ width → unsigned_abs least < 10 ^ width → unsigned_abs greatest < 10 ^ width → 10 ^ (width - 1) ≤ unsigned_abs greatest → IsDecimalWidth least greatest width
+is_decimal_width {least} {greatest} {width} some low high full =
+    record { some = some; enough = λ n. between n least greatest low high; needed = full }
   where
-    between : (n : ℤ) → pos 0 ≤ℤ n → n ≤ℤ pos greatest → unsigned_abs n < 10 ^ width
-    between (pos n) low high = omega (arith, ints)
-    between (negsuc n) low high = absurd (omega (arith, ints))
-
--- of a type whose least number is one below the negative of its greatest
-pub signed_decimal_width : (greatest width : ℕ) → 1 ≤ width → greatest + 1 < 10 ^ width → 10 ^ (width - 1) ≤ greatest → IsDecimalWidth (negsuc greatest) (pos greatest) width
-signed_decimal_width greatest width some fits full = record { some = some; enough = between; needed = full }
-  where
-    between : (n : ℤ) → negsuc greatest ≤ℤ n → n ≤ℤ pos greatest → unsigned_abs n < 10 ^ width
-    between (pos n) low high = omega (arith, ints)
-    between (negsuc n) low high = omega (arith, ints)
+    between : (n least greatest : ℤ) → unsigned_abs least < 10 ^ width → unsigned_abs greatest < 10 ^ width → least ≤ℤ n → n ≤ℤ greatest → unsigned_abs n < 10 ^ width
+    between (pos n) least (pos greatest) low high above below = omega (arith, ints)
+    between (pos n) least (negsuc greatest) low high above below = absurd (omega (arith, ints))
+    between (negsuc n) (pos least) greatest low high above below = absurd (omega (arith, ints))
+    between (negsuc n) (negsuc least) greatest low high above below = omega (arith, ints)

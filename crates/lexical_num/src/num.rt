@@ -1,8 +1,9 @@
 //! The integer types, as contracts and generic code see them.
+#![tactic(auto, using(crate::proofs::LeadingZeros::leading_zeros))]
 
 ghost use Rattle.std.specs.Prelude.{◌≡◌, ℕ, ℤ, pos, negsuc, ◌-◌, ◌/◌, ◌%◌, ◌^◌, ◌<◌, ◌≤◌, ◌≤ℤ◌, ◌↔◌, IsTrue, refl};
 ghost use Rattle.std.proofs.Common.{rules, lit≤};
-ghost use Rattle.lexical_num.specs.DecimalWidth.{IsDecimalWidth, unsigned_decimal_width, signed_decimal_width};
+ghost use Rattle.lexical_num.specs.DecimalWidth.{IsDecimalWidth, is_decimal_width};
 ghost use Rattle.lexical_num.specs.Range.{IsRange, unsigned, signed};
 ghost use Rattle.lexical_num.specs.BitWidth.{IsBitWidth, is_8, is_16, is_32, is_64};
 
@@ -51,7 +52,7 @@ impl LexicalInteger for u8 {
 
     ghost greatest = { pos (2 ^ 8 - 1) };
 
-    ghost decimal_width = { unsigned_decimal_width (2 ^ 8 - 1) 3 (lit≤ tt) (lit≤ tt) (lit≤ tt) };
+    ghost decimal_width = { is_decimal_width (lit≤ tt) (lit≤ tt) (lit≤ tt) (lit≤ tt) };
 
     ghost range_of_bits = { unsigned 8 is_8 };
 
@@ -73,7 +74,7 @@ impl LexicalInteger for u16 {
 
     ghost greatest = { pos (2 ^ 16 - 1) };
 
-    ghost decimal_width = { unsigned_decimal_width (2 ^ 16 - 1) 5 (lit≤ tt) (lit≤ tt) (lit≤ tt) };
+    ghost decimal_width = { is_decimal_width (lit≤ tt) (lit≤ tt) (lit≤ tt) (lit≤ tt) };
 
     ghost range_of_bits = { unsigned 16 is_16 };
 
@@ -95,7 +96,7 @@ impl LexicalInteger for u32 {
 
     ghost greatest = { pos (2 ^ 32 - 1) };
 
-    ghost decimal_width = { unsigned_decimal_width (2 ^ 32 - 1) 10 (lit≤ tt) (lit≤ tt) (lit≤ tt) };
+    ghost decimal_width = { is_decimal_width (lit≤ tt) (lit≤ tt) (lit≤ tt) (lit≤ tt) };
 
     ghost range_of_bits = { unsigned 32 is_32 };
 
@@ -117,7 +118,7 @@ impl LexicalInteger for u64 {
 
     ghost greatest = { pos (2 ^ 64 - 1) };
 
-    ghost decimal_width = { unsigned_decimal_width (2 ^ 64 - 1) 20 (lit≤ tt) (lit≤ tt) (lit≤ tt) };
+    ghost decimal_width = { is_decimal_width (lit≤ tt) (lit≤ tt) (lit≤ tt) (lit≤ tt) };
 
     ghost range_of_bits = { unsigned 64 is_64 };
 
@@ -139,7 +140,7 @@ impl LexicalInteger for usize {
 
     ghost greatest = { pos (2 ^ 64 - 1) };
 
-    ghost decimal_width = { unsigned_decimal_width (2 ^ 64 - 1) 20 (lit≤ tt) (lit≤ tt) (lit≤ tt) };
+    ghost decimal_width = { is_decimal_width (lit≤ tt) (lit≤ tt) (lit≤ tt) (lit≤ tt) };
 
     ghost range_of_bits = { unsigned 64 is_64 };
 
@@ -161,7 +162,7 @@ impl LexicalInteger for i8 {
 
     ghost greatest = { pos (2 ^ 7 - 1) };
 
-    ghost decimal_width = { signed_decimal_width (2 ^ 7 - 1) 3 (lit≤ tt) (lit≤ tt) (lit≤ tt) };
+    ghost decimal_width = { is_decimal_width (lit≤ tt) (lit≤ tt) (lit≤ tt) (lit≤ tt) };
 
     ghost range_of_bits = { signed 8 is_8 };
 
@@ -183,7 +184,7 @@ impl LexicalInteger for i16 {
 
     ghost greatest = { pos (2 ^ 15 - 1) };
 
-    ghost decimal_width = { signed_decimal_width (2 ^ 15 - 1) 5 (lit≤ tt) (lit≤ tt) (lit≤ tt) };
+    ghost decimal_width = { is_decimal_width (lit≤ tt) (lit≤ tt) (lit≤ tt) (lit≤ tt) };
 
     ghost range_of_bits = { signed 16 is_16 };
 
@@ -205,7 +206,7 @@ impl LexicalInteger for i32 {
 
     ghost greatest = { pos (2 ^ 31 - 1) };
 
-    ghost decimal_width = { signed_decimal_width (2 ^ 31 - 1) 10 (lit≤ tt) (lit≤ tt) (lit≤ tt) };
+    ghost decimal_width = { is_decimal_width (lit≤ tt) (lit≤ tt) (lit≤ tt) (lit≤ tt) };
 
     ghost range_of_bits = { signed 32 is_32 };
 
@@ -227,7 +228,7 @@ impl LexicalInteger for i64 {
 
     ghost greatest = { pos (2 ^ 63 - 1) };
 
-    ghost decimal_width = { signed_decimal_width (2 ^ 63 - 1) 19 (lit≤ tt) (lit≤ tt) (lit≤ tt) };
+    ghost decimal_width = { is_decimal_width (lit≤ tt) (lit≤ tt) (lit≤ tt) (lit≤ tt) };
 
     ghost range_of_bits = { signed 64 is_64 };
 
@@ -249,7 +250,7 @@ impl LexicalInteger for isize {
 
     ghost greatest = { pos (2 ^ 63 - 1) };
 
-    ghost decimal_width = { signed_decimal_width (2 ^ 63 - 1) 19 (lit≤ tt) (lit≤ tt) (lit≤ tt) };
+    ghost decimal_width = { is_decimal_width (lit≤ tt) (lit≤ tt) (lit≤ tt) (lit≤ tt) };
 
     ghost range_of_bits = { signed 64 is_64 };
 
@@ -269,7 +270,11 @@ pub trait UnsignedInteger: LexicalInteger {
     /// The number as a `u32`, which it fits.
     fn as_u32(self) -> u32
         requires { magnitude self < 2 ^ 32 }
-        ensures { result ≡ magnitude self };
+        ensures { result ≡ magnitude self }
+    {
+        // The caller has shown that the number fits.
+        self.as_usize() as u32
+    }
 
     /// The number as a `usize`, which each number of the type fits.
     fn as_usize(self) -> usize
@@ -283,7 +288,10 @@ pub trait UnsignedInteger: LexicalInteger {
 
     /// Whether the number is `other` or greater.
     fn is_at_least(self, other: Self) -> bool
-        ensures { IsTrue result ↔ (magnitude other ≤ magnitude self) };
+        ensures { IsTrue result ↔ (magnitude other ≤ magnitude self) }
+    {
+        self.as_usize() >= other.as_usize()
+    }
 
     /// The number of zero bits above the highest bit that is set: all bits of 0.
     fn leading_zeros(self) -> u32
@@ -327,10 +335,6 @@ impl UnsignedInteger for u8 {
         value as u8
     }
 
-    fn as_u32(self) -> u32 {
-        self as u32
-    }
-
     fn as_usize(self) -> usize {
         self as usize
     }
@@ -339,11 +343,6 @@ impl UnsignedInteger for u8 {
         (self / by, self % by)
     }
 
-    fn is_at_least(self, other: u8) -> bool {
-        self >= other
-    }
-
-    #[tactic(auto, using(crate::proofs::LeadingZeros::leading_zeros))]
     fn leading_zeros(self) -> u32 {
         u8::leading_zeros(self)
     }
@@ -366,10 +365,6 @@ impl UnsignedInteger for u16 {
         value as u16
     }
 
-    fn as_u32(self) -> u32 {
-        self as u32
-    }
-
     fn as_usize(self) -> usize {
         self as usize
     }
@@ -378,11 +373,6 @@ impl UnsignedInteger for u16 {
         (self / by, self % by)
     }
 
-    fn is_at_least(self, other: u16) -> bool {
-        self >= other
-    }
-
-    #[tactic(auto, using(crate::proofs::LeadingZeros::leading_zeros))]
     fn leading_zeros(self) -> u32 {
         u16::leading_zeros(self)
     }
@@ -405,10 +395,6 @@ impl UnsignedInteger for u32 {
         value
     }
 
-    fn as_u32(self) -> u32 {
-        self
-    }
-
     fn as_usize(self) -> usize {
         self as usize
     }
@@ -417,11 +403,6 @@ impl UnsignedInteger for u32 {
         (self / by, self % by)
     }
 
-    fn is_at_least(self, other: u32) -> bool {
-        self >= other
-    }
-
-    #[tactic(auto, using(crate::proofs::LeadingZeros::leading_zeros))]
     fn leading_zeros(self) -> u32 {
         u32::leading_zeros(self)
     }
@@ -444,11 +425,6 @@ impl UnsignedInteger for u64 {
         value as u64
     }
 
-    fn as_u32(self) -> u32 {
-        // The caller has shown that the number fits.
-        self as u32
-    }
-
     fn as_usize(self) -> usize {
         // A `usize` has 64 bits.
         self as usize
@@ -458,11 +434,6 @@ impl UnsignedInteger for u64 {
         (self / by, self % by)
     }
 
-    fn is_at_least(self, other: u64) -> bool {
-        self >= other
-    }
-
-    #[tactic(auto, using(crate::proofs::LeadingZeros::leading_zeros))]
     fn leading_zeros(self) -> u32 {
         u64::leading_zeros(self)
     }
@@ -485,10 +456,6 @@ impl UnsignedInteger for usize {
         value as usize
     }
 
-    fn as_u32(self) -> u32 {
-        self as u32
-    }
-
     fn as_usize(self) -> usize {
         self
     }
@@ -497,11 +464,6 @@ impl UnsignedInteger for usize {
         (self / by, self % by)
     }
 
-    fn is_at_least(self, other: usize) -> bool {
-        self >= other
-    }
-
-    #[tactic(auto, using(crate::proofs::LeadingZeros::leading_zeros))]
     fn leading_zeros(self) -> u32 {
         usize::leading_zeros(self)
     }

@@ -1,4 +1,4 @@
-ghost use Rattle.std.specs.Prelude.{◌≡◌, ◌↔◌, ◌^◌, ◌<◌, IsTrue};
+ghost use Rattle.std.specs.Prelude.{◌≡◌, ◌^◌, ◌<◌};
 ghost use Rattle.lexical_num.specs.Size.{size_in};
 
 use crate::constants::{BUFFER_SIZE, FormattedSize};
@@ -6,6 +6,7 @@ use crate::digit::digit_to_char;
 use crate::error::Error;
 use crate::format::{NumberFormat, STANDARD};
 use crate::format_builder::NumberFormatBuilder;
+use crate::laws::{equal_builders, equal_formats, equal_options, equal_options_builders};
 use crate::num::{LexicalInteger, UnsignedInteger};
 use crate::options::{self, Options, OptionsBuilder, WriteOptions};
 use std::test::Fail;
@@ -46,34 +47,6 @@ fn compared<T: UnsignedInteger>(below: T, above: T) -> [bool; 3] {
         above.is_at_least(above),
         above.is_at_least(below),
     ]
-}
-
-// Two formats, and two builders, are equal where their parts are.
-
-fn same_format(a: &NumberFormat, b: &NumberFormat) -> bool
-    ensures { IsTrue result ↔ (a.now ≡ b.now) }
-{
-    a == b
-}
-
-fn same_builder(a: &NumberFormatBuilder, b: &NumberFormatBuilder) -> bool
-    ensures { IsTrue result ↔ (a.now ≡ b.now) }
-{
-    a == b
-}
-
-// All options are equal, and so are all builders of options.
-
-fn same_options(a: &Options, b: &Options) -> bool
-    ensures { IsTrue result }
-{
-    a == b
-}
-
-fn same_options_builder(a: &OptionsBuilder, b: &OptionsBuilder) -> bool
-    ensures { IsTrue result }
-{
-    a == b
 }
 
 // What a caller has of options through the bound alone.
@@ -192,7 +165,7 @@ fn build_tells_the_fault_of_the_groups(rt: HostRuntime) -> Result<(), Fail> {
     assert_eq!(rt; ones.digit_grouping(), Some((1, 32)));
     let long = NumberFormatBuilder::new().digit_grouping(64, 126).build()?;
     assert_eq!(rt; long.digit_grouping(), Some((64, 126)));
-    assert!(rt; !same_format(&ones, &long));
+    assert!(rt; !equal_formats(&ones, &long));
     assert_eq!(rt; STANDARD.digit_grouping(), None);
     Ok(())
 }
@@ -209,9 +182,9 @@ fn build_keeps_the_parts(rt: HostRuntime) -> Result<(), Fail> {
         .required_mantissa_sign(true)
         .build_strict();
     assert!(rt; signed.required_mantissa_sign());
-    assert!(rt; !same_format(&signed, &STANDARD));
-    assert!(rt; same_format(&built(10, 10)?, &STANDARD));
-    assert!(rt; same_format(&NumberFormatBuilder::binary(), &built(2, 2)?));
+    assert!(rt; !equal_formats(&signed, &STANDARD));
+    assert!(rt; equal_formats(&built(10, 10)?, &STANDARD));
+    assert!(rt; equal_formats(&NumberFormatBuilder::binary(), &built(2, 2)?));
     Ok(())
 }
 
@@ -223,7 +196,7 @@ fn mantissa_and_exponent_stand_apart(rt: HostRuntime) -> Result<(), Fail> {
     assert_eq!(rt; mantissa_alone.exponent_radix(), 10);
     assert_eq!(rt; both.mantissa_radix(), 16);
     assert_eq!(rt; both.exponent_radix(), 16);
-    assert!(rt; !same_format(&mantissa_alone, &both));
+    assert!(rt; !equal_formats(&mantissa_alone, &both));
     Ok(())
 }
 
@@ -235,8 +208,8 @@ fn a_builder_is_used_again(rt: HostRuntime) -> Result<(), Fail> {
     let format = builder.mantissa_radix(2).build()?;
     assert_eq!(rt; format.mantissa_radix(), 2);
     assert_eq!(rt; format.exponent_radix(), 10);
-    assert!(rt; !same_builder(&builder, &NumberFormatBuilder::new()));
-    assert!(rt; same_builder(&NumberFormatBuilder::default(), &NumberFormatBuilder::new()));
+    assert!(rt; !equal_builders(&builder, &NumberFormatBuilder::new()));
+    assert!(rt; equal_builders(&NumberFormatBuilder::default(), &NumberFormatBuilder::new()));
     Ok(())
 }
 
@@ -245,18 +218,18 @@ fn options_are_valid_and_equal(rt: HostRuntime) -> Result<(), Fail> {
     let options = Options::new();
     assert!(rt; options.is_valid());
     assert!(rt; WriteOptions::is_valid(&options));
-    assert!(rt; same_options(&options, &Options::default()));
-    assert!(rt; same_options(&options, &options::STANDARD));
-    assert!(rt; same_options(&options, &Options::from_radix(36)));
-    assert!(rt; same_options(&options, &options.clone()?));
+    assert!(rt; equal_options(&options, &Options::default()));
+    assert!(rt; equal_options(&options, &options::STANDARD));
+    assert!(rt; equal_options(&options, &Options::from_radix(36)));
+    assert!(rt; equal_options(&options, &options.clone()?));
     let builder = OptionsBuilder::new();
     assert!(rt; builder.is_valid());
     assert!(rt; OptionsBuilder::default().is_valid());
-    assert!(rt; same_options(&options, &builder.build()?));
-    assert!(rt; same_options(&options, &OptionsBuilder::default().build()?));
-    assert!(rt; same_options(&builder.build_strict(), &builder.build_unchecked()));
-    assert!(rt; same_options_builder(&options.rebuild(), &Options::builder()));
-    assert!(rt; same_options_builder(&builder, &builder.clone()?));
+    assert!(rt; equal_options(&options, &builder.build()?));
+    assert!(rt; equal_options(&options, &OptionsBuilder::default().build()?));
+    assert!(rt; equal_options(&builder.build_strict(), &builder.build_unchecked()));
+    assert!(rt; equal_options_builders(&options.rebuild(), &Options::builder()));
+    assert!(rt; equal_options_builders(&builder, &builder.clone()?));
     assert!(rt; options <= options::STANDARD);
     Ok(())
 }

@@ -2,7 +2,7 @@
 
 ghost use Rattle.std.specs.Prelude.{◌≡◌, ℕ, pos, negsuc, ◌+◌, ◌-◌, ◌/◌, ◌^◌, ◌<◌, ◌≤◌, ◌++◌, length, map};
 ghost use Rattle.std.proofs.Common.{lit≤};
-ghost use Rattle.lexical_num.specs.DecimalWidth.{IsDecimalWidth, signed_decimal_width};
+ghost use Rattle.lexical_num.specs.DecimalWidth.{IsDecimalWidth, is_decimal_width};
 ghost use Rattle.lexical_write_integer.specs.Buffer.{WritesDigits};
 ghost use Rattle.lexical_write_integer.specs.DecimalTurns.{decimal_notes};
 ghost use Rattle.lexical_write_integer.specs.DigitCount.{digit_count};
@@ -187,7 +187,7 @@ impl Decimal for u8 {
 
     ghost SIGNED_WIDTH = { 3 };
 
-    ghost signed_width = { signed_decimal_width (2 ^ 7 - 1) 3 (lit≤ tt) (lit≤ tt) (lit≤ tt) };
+    ghost signed_width = { is_decimal_width (lit≤ tt) (lit≤ tt) (lit≤ tt) (lit≤ tt) };
 
     fn decimal_signed(self, buffer: &mut [u8]) -> usize {
         from_u8(self, buffer)
@@ -203,7 +203,7 @@ impl Decimal for u16 {
 
     ghost SIGNED_WIDTH = { 5 };
 
-    ghost signed_width = { signed_decimal_width (2 ^ 15 - 1) 5 (lit≤ tt) (lit≤ tt) (lit≤ tt) };
+    ghost signed_width = { is_decimal_width (lit≤ tt) (lit≤ tt) (lit≤ tt) (lit≤ tt) };
 
     fn decimal_signed(self, buffer: &mut [u8]) -> usize {
         from_u16(self, buffer)
@@ -219,7 +219,7 @@ impl Decimal for u32 {
 
     ghost SIGNED_WIDTH = { 10 };
 
-    ghost signed_width = { signed_decimal_width (2 ^ 31 - 1) 10 (lit≤ tt) (lit≤ tt) (lit≤ tt) };
+    ghost signed_width = { is_decimal_width (lit≤ tt) (lit≤ tt) (lit≤ tt) (lit≤ tt) };
 
     fn decimal_signed(self, buffer: &mut [u8]) -> usize {
         from_u32(self, buffer)
@@ -235,7 +235,7 @@ impl Decimal for u64 {
 
     ghost SIGNED_WIDTH = { 19 };
 
-    ghost signed_width = { signed_decimal_width (2 ^ 63 - 1) 19 (lit≤ tt) (lit≤ tt) (lit≤ tt) };
+    ghost signed_width = { is_decimal_width (lit≤ tt) (lit≤ tt) (lit≤ tt) (lit≤ tt) };
 
     fn decimal_signed(self, buffer: &mut [u8]) -> usize {
         from_i64(self, buffer)
@@ -252,7 +252,7 @@ impl Decimal for usize {
 
     ghost SIGNED_WIDTH = { 19 };
 
-    ghost signed_width = { signed_decimal_width (2 ^ 63 - 1) 19 (lit≤ tt) (lit≤ tt) (lit≤ tt) };
+    ghost signed_width = { is_decimal_width (lit≤ tt) (lit≤ tt) (lit≤ tt) (lit≤ tt) };
 
     fn decimal_signed(self, buffer: &mut [u8]) -> usize {
         from_i64(self as u64, buffer)
