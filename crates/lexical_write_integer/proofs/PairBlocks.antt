@@ -15,11 +15,23 @@ pub WritesBlock-table : (r pair at : ℕ) (list table : List ℕ) → 0 < r → 
 WritesBlock-table r pair at list table some is small room =
     rw (is, slice_index-pairs_first r pair small, slice_index-pairs_second r pair small) (WritesBlock-two r pair at list some small room)
 
--- a number of 64 bits has no more digits than 20
-pub digit_count-widest : (n : ℕ) → n < 2 ^ 64 → digit_count 10 n ≤ 20
-digit_count-widest n fits = digit_count-le 10 n 20 (omega arith) (omega arith)
+-- how many digits the numbers of a type have at most
+pub digit_count-le_3 : (n : ℕ) → n < 2 ^ 8 → digit_count 10 n ≤ 3
+digit_count-le_3 n fits = digit_count-le 10 n 3 (omega arith) (omega arith)
 
-pub ruleset widest = (digit_count-widest)
+pub digit_count-le_5 : (n : ℕ) → n < 2 ^ 16 → digit_count 10 n ≤ 5
+digit_count-le_5 n fits = digit_count-le 10 n 5 (omega arith) (omega arith)
+
+pub digit_count-le_10 : (n : ℕ) → n < 2 ^ 32 → digit_count 10 n ≤ 10
+digit_count-le_10 n fits = digit_count-le 10 n 10 (omega arith) (omega arith)
+
+pub digit_count-le_19 : (n : ℕ) → n < 10 ^ 19 → digit_count 10 n ≤ 19
+digit_count-le_19 n fits = digit_count-le 10 n 19 (omega arith) (omega arith)
+
+pub digit_count-le_20 : (n : ℕ) → n < 2 ^ 64 → digit_count 10 n ≤ 20
+digit_count-le_20 n fits = digit_count-le 10 n 20 (omega arith) (omega arith)
+
+pub ruleset widths = (digit_count-le_3, digit_count-le_5, digit_count-le_10, digit_count-le_19, digit_count-le_20)
 
 -- fewer pairs need no more room
 pub room_for_carried : (y i k room : ℕ) → i ≤ k → digit_count 10 (carried y k) ≤ room → digit_count 10 (carried y i) ≤ room

@@ -1,7 +1,17 @@
 -- The notes of the decimal writers, one for each pair of digits after the first, and of the writer of every radix.
-use Rattle.std.specs.Prelude.{ℕ, ◌-◌, ◌*◌, ◌/◌, ◌%◌, ◌^◌, List, [], ◌++◌, map, nat_lt, if◌then◌else◌, ◌==◌}
+use Rattle.std.specs.Prelude.{◌≡◌, ℕ, ◌+◌, ◌-◌, ◌*◌, ◌/◌, ◌%◌, ◌^◌, List, [], ◌++◌, length, map, nat_lt, if◌then◌else◌, ◌==◌}
 use Rattle.std.specs.List.{range_with_len}
+use Rattle.lexical_write_integer.specs.Buffer.{WritesDigits}
+use Rattle.lexical_write_integer.specs.DigitCount.{digit_count}
 use Rattle.lexical_write_integer.specs.LoopTurns.{table_notes, table_turns}
+
+-- what a decimal writer that counts its turns promises: it writes the digits of the number and returns how many they are,
+-- and each pair after the first is a turn, with its note
+pub record WritesDecimal (number : ℕ) (notes before after turns turned : List ℕ) (answer : ℕ) : Type 0 where
+  pub digits : WritesDigits 10 number before after answer
+  pub count : answer ≡ digit_count 10 number
+  pub noted : turned ≡ turns ++ notes
+  pub half : length turned ≡ length turns + (answer - 1) / 2
 
 -- 100 times what stands after the point of a fraction, where it has 32 bits: of the fraction, of 100 times it, and so on
 abbrev pub products : ℕ → ℕ → List ℕ

@@ -3,7 +3,7 @@
 ghost use Rattle.std.specs.Prelude.{◌≡◌, ◌+◌, ◌-◌, ◌*◌, ◌/◌, ◌%◌, ◌^◌, ◌<◌, ◌≤◌, [], ◌∷◌, ◌++◌, length};
 ghost use Rattle.lexical_write_integer.specs.Buffer.{WritesBlock, WritesDigits};
 ghost use Rattle.lexical_write_integer.specs.Carries.{carried};
-ghost use Rattle.lexical_write_integer.specs.DecimalTurns.{products, pairs_from_back};
+ghost use Rattle.lexical_write_integer.specs.DecimalTurns.{WritesDecimal, products, pairs_from_back};
 ghost use Rattle.lexical_write_integer.specs.DigitCount.{digit_count};
 
 use crate::kernels::next2;
@@ -56,10 +56,8 @@ pub(crate) fn write_pairs(
     requires first { 1 ≤ fraction / 2 ^ 32 }
     requires below { fraction / 2 ^ 32 < 100 }
     requires room { digit_count 10 (carried fraction pair_count) ≤ length buffer.old }
-    ensures digits { WritesDigits 10 (carried fraction pair_count) buffer.old buffer.new result }
-    ensures count { result ≡ digit_count 10 (carried fraction pair_count) }
-    ensures notes { turns.new ≡ turns.old ++ products fraction pair_count }
-    ensures half { length turns.new ≡ length turns.old + (result - 1) / 2 }
+    ensures { WritesDecimal (carried fraction pair_count) (products fraction pair_count)
+        buffer.old buffer.new turns.old turns.new result }
 {
     let mut count = write_first_pair((fraction >> 32) as u32, buffer);
     let mut rest = fraction;

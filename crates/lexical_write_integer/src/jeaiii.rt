@@ -6,10 +6,11 @@
 //!
 //! Each counted call does what its plain call does, and counts one turn for each pair of digits
 //! after the first: at most 9.
+#![tactic(auto, using(crate::proofs::PairBlocks::widths), unfolding(crate::specs::DecimalTurns::decimal_notes_32))]
 
 ghost use Rattle.std.specs.Prelude.{◌≡◌, ◌+◌, ◌-◌, ◌/◌, ◌^◌, ◌<◌, ◌≤◌, ◌++◌, length};
 ghost use Rattle.lexical_write_integer.specs.Buffer.{WritesDigits};
-ghost use Rattle.lexical_write_integer.specs.DecimalTurns.{decimal_notes_32, decimal_notes_64};
+ghost use Rattle.lexical_write_integer.specs.DecimalTurns.{WritesDecimal, decimal_notes_32, decimal_notes_64};
 ghost use Rattle.lexical_write_integer.specs.DigitCount.{digit_count};
 
 use crate::decimal_pairs::{write_first_pair, write_last_ten, write_pairs};
@@ -19,14 +20,9 @@ pub use crate::kernels::{
 use crate::turns::Turns;
 
 // Writes the digits of a number of up to 32 bits.
-#[tactic(auto, using(crate::proofs::PairBlocks::widest), unfolding(crate::specs::DecimalTurns::decimal_notes_32))]
 fn write_32(n: u32, buffer: &mut [u8], turns: &mut Turns) -> usize
     requires { digit_count 10 n ≤ length buffer.old }
-    ensures digits { WritesDigits 10 n buffer.old buffer.new result }
-    ensures count { result ≡ digit_count 10 n }
-    ensures notes { turns.new ≡ turns.old ++ decimal_notes_32 n }
-    ensures half { length turns.new ≡ length turns.old + (result - 1) / 2 }
-    ensures few { length turns.new ≤ length turns.old + 9 }
+    ensures { WritesDecimal n (decimal_notes_32 n) buffer.old buffer.new turns.old turns.new result }
 {
     if n < 100 {
         write_first_pair(n, buffer)
@@ -36,26 +32,19 @@ fn write_32(n: u32, buffer: &mut [u8], turns: &mut Turns) -> usize
         write_pairs(fixed_4(n), 2, buffer, turns)
     } else if n < 100_000_000 {
         write_pairs(fixed_6(n), 3, buffer, turns)
+    } else if n < 1_000_000_000 {
+        write_pairs(fixed_8_nine(n), 4, buffer, turns)
     } else {
-        let fraction = if n < 1_000_000_000 {
-            fixed_8_nine(n)
-        } else {
-            fixed_8_ten(n)
-        };
-        write_pairs(fraction, 4, buffer, turns)
+        write_pairs(fixed_8_ten(n), 4, buffer, turns)
     }
 }
 
 // Writes the digits of a number. From 11 digits on the last ten are written by division, after
 // those before them.
-#[tactic(auto, using(crate::proofs::PairBlocks::widest), unfolding(crate::specs::DecimalTurns::decimal_notes_64))]
+#[tactic(auto, using(crate::proofs::PairBlocks::widths), unfolding(crate::specs::DecimalTurns::decimal_notes_64))]
 fn write_64(n: u64, buffer: &mut [u8], turns: &mut Turns) -> usize
     requires { digit_count 10 n ≤ length buffer.old }
-    ensures digits { WritesDigits 10 n buffer.old buffer.new result }
-    ensures count { result ≡ digit_count 10 n }
-    ensures notes { turns.new ≡ turns.old ++ decimal_notes_64 n }
-    ensures half { length turns.new ≡ length turns.old + (result - 1) / 2 }
-    ensures few { length turns.new ≤ length turns.old + 9 }
+    ensures { WritesDecimal n (decimal_notes_64 n) buffer.old buffer.new turns.old turns.new result }
 {
     if n < 1_000_000_000 {
         write_32(n as u32, buffer, turns)
@@ -120,7 +109,6 @@ pub fn from_i64(n: u64, buffer: &mut [u8]) -> usize
 }
 
 /// `from_u8`, under the same condition, with its turns counted.
-#[tactic(auto, using(crate::proofs::PairBlocks::widest), unfolding(crate::specs::DecimalTurns::decimal_notes_32))]
 pub fn from_u8_counted(n: u8, buffer: &mut [u8], turns: &mut Turns) -> usize
     requires { 3 ≤ length buffer.old }
     ensures digits { WritesDigits 10 n buffer.old buffer.new result }

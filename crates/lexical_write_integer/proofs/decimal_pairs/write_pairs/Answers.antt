@@ -48,13 +48,14 @@ loop-preserved c =
       count = omega arith;
     }
 
-pub returns-clause-count : goal.returns-clause-count
-returns-clause-count c =
-    let all : c.loop.counter ≡ c.args.pair_count = omega arith in
-    WritesDigits-count (omega arith) (rw all at c.loop.invariant.digits)
-
-pub returns-clause-half : goal.returns-clause-half
-returns-clause-half c =
+pub returns : goal.returns
+returns c =
     let all : c.loop.counter ≡ c.args.pair_count = omega arith in
     let longer = ap length c.loop.invariant.notes ∙ length-append c.args.turns.now (products c.args.fraction c.loop.counter) in
-    omega (arith, length-products c.args.fraction c.loop.counter)
+    let digits = rw all at c.loop.invariant.digits in
+    record {
+      digits = digits;
+      count = WritesDigits-count (omega arith) digits;
+      noted = rw all at c.loop.invariant.notes;
+      half = omega (arith, length-products c.args.fraction c.loop.counter);
+    }

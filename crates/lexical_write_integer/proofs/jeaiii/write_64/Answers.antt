@@ -1,9 +1,8 @@
-use Rattle.std.proofs.Common.{◌^◌, ◌≤◌, ◌++◌, length, ap, ◌∙◌, arith, append_assoc, length-append}
+use Rattle.std.proofs.Common.{◌/◌, ◌^◌, ◌≤◌, ◌++◌, length, ap, ◌∙◌, arith, append_assoc, length-append}
 use Rattle.std.proofs.lemmas.Bool.{le-ltb}
 use Rattle.lexical_write_integer.specs.DecimalTurns.{decimal_notes_64, pairs_from_back}
 use Rattle.lexical_write_integer.proofs.BlocksAfter.{WritesDigits-after}
-use Rattle.lexical_write_integer.proofs.DigitCounts.{digit_count-split}
-use Rattle.lexical_write_integer.proofs.PairBlocks.{digit_count-widest}
+use Rattle.lexical_write_integer.proofs.DigitCounts.{digit_count-pos, digit_count-split}
 use Rattle.lexical_write_integer.proofs.jeaiii.write_64.Goals as goal
 
 pub write_32-front-requires : goal.write_32-front-requires
@@ -12,22 +11,18 @@ write_32-front-requires c = omega (arith, digit_count-split 10 10 c.args.n (omeg
 pub write_last_ten-requires : goal.write_last_ten-requires
 write_last_ten-requires c = omega (arith, digit_count-split 10 10 c.args.n (omega arith) c.if-n-lt10000000000.false)
 
-pub returns-else-n-lt10000000000-clause-digits : goal.returns-else-n-lt10000000000-clause-digits
-returns-else-n-lt10000000000-clause-digits c =
-    WritesDigits-after 10 c.args.n 10 _ _ _ _ (omega arith) c.if-n-lt10000000000.false c.requires c.write_32-front.ensures.digits c.write_last_ten.ensures.block
-
-pub returns-else-n-lt10000000000-clause-count : goal.returns-else-n-lt10000000000-clause-count
-returns-else-n-lt10000000000-clause-count c = omega (arith, digit_count-split 10 10 c.args.n (omega arith) c.if-n-lt10000000000.false)
-
-pub returns-else-n-lt10000000000-clause-few : goal.returns-else-n-lt10000000000-clause-few
-returns-else-n-lt10000000000-clause-few c =
-    let five_more = ap length c.write_last_ten.ensures.notes ∙ length-append c.write_32-front.new.turns _ in
-    omega (arith, digit_count-split 10 10 c.args.n (omega arith) c.if-n-lt10000000000.false, digit_count-widest c.args.n c.ranges.n.fits)
-
-pub returns-else-n-lt10000000000-clause-notes : goal.returns-else-n-lt10000000000-clause-notes
+pub returns-else-n-lt10000000000 : goal.returns-else-n-lt10000000000
 unfolding decimal_notes_64
-returns-else-n-lt10000000000-clause-notes c =
+returns-else-n-lt10000000000 c =
     let n = c.args.n in
     let long : 10 ^ 9 ≤ n = omega arith in
-    let following = c.write_last_ten.ensures.notes ∙ ap (λ notes. notes ++ pairs_from_back n 5) c.write_32-front.ensures.notes in
-    rw (le-ltb n (10 ^ 9) long, le-ltb n (10 ^ 10) c.if-n-lt10000000000.false) (rw append_assoc at following)
+    let front = c.write_32-front.ensures in
+    let count = digit_count-split 10 10 n (omega arith) c.if-n-lt10000000000.false in
+    let five_more = ap length c.write_last_ten.ensures.notes ∙ length-append c.write_32-front.new.turns _ in
+    let following = c.write_last_ten.ensures.notes ∙ ap (λ notes. notes ++ pairs_from_back n 5) front.noted in
+    record {
+      digits = WritesDigits-after 10 n 10 _ _ _ _ (omega arith) c.if-n-lt10000000000.false c.requires front.digits c.write_last_ten.ensures.block;
+      count = omega (arith, front.count, count);
+      noted = rw (le-ltb n (10 ^ 9) long, le-ltb n (10 ^ 10) c.if-n-lt10000000000.false) (rw append_assoc at following);
+      half = omega (arith, five_more, front.half, front.count, digit_count-pos 10 (n / 10 ^ 10));
+    }

@@ -1,6 +1,0 @@
-use Rattle.std.proofs.Common.{arith}
-use Rattle.lexical_write_integer.proofs.DigitCounts.{digit_count-le}
-use Rattle.lexical_write_integer.proofs.jeaiii.from_u32_counted.Goals as goal
-
-pub write_32-requires : goal.write_32-requires
-write_32-requires c = omega (arith, digit_count-le 10 c.args.n 10 (omega arith) (omega arith))
