@@ -9,6 +9,8 @@ mod counts;
 #[cfg(test)]
 mod groups;
 #[cfg(test)]
+mod known_texts;
+#[cfg(test)]
 mod powers;
 #[cfg(test)]
 mod tables;
