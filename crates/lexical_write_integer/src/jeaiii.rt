@@ -32,10 +32,14 @@ fn write_32(n: u32, buffer: &mut [u8], turns: &mut Turns) -> usize
         write_pairs(fixed_4(n), 2, buffer, turns)
     } else if n < 100_000_000 {
         write_pairs(fixed_6(n), 3, buffer, turns)
-    } else if n < 1_000_000_000 {
-        write_pairs(fixed_8_nine(n), 4, buffer, turns)
     } else {
-        write_pairs(fixed_8_ten(n), 4, buffer, turns)
+        // One call for both, so that the compiler has one copy of its body.
+        let fraction = if n < 1_000_000_000 {
+            fixed_8_nine(n)
+        } else {
+            fixed_8_ten(n)
+        };
+        write_pairs(fraction, 4, buffer, turns)
     }
 }
 
