@@ -1,14 +1,21 @@
 //! The integer types, their sizes, and the formats in which they are written.
 #![tactic(auto)]
 
-pub mod constants;
+// The types of numbers, and the characters of digits.
 pub mod digit;
+pub mod num;
+
+// A format, how it is built, and why it may be refused.
 pub mod error;
 pub mod format;
 pub mod format_builder;
-pub mod laws;
-pub mod num;
+
+// How many bytes are enough.
+pub mod constants;
 pub mod options;
+
+// Facts for callers.
+pub mod laws;
 #[cfg(test)]
 mod tests;
 

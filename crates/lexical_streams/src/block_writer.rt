@@ -38,7 +38,7 @@ impl<W: Write, const SIZE: usize> BlockWriter<W, SIZE> {
         }
     }
 
-    /// Gives the writer back. The bytes that are held, which a flush hands on, are lost.
+    /// Gives the writer back. The bytes that are held, which a flush would have written, are lost.
     pub fn into_inner(self) -> W
         ensures { result ≡ writer_inner self }
     {

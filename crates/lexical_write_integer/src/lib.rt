@@ -1,28 +1,45 @@
 //! Integers to text, in every radix from 2 to 36.
 #![tactic(auto)]
 
-pub mod algorithm;
+// A number with its sign, in a format: the calls that most callers want.
 mod api;
-pub mod buffer;
-pub mod compact;
+pub mod options;
+
+// The digits of a number, by the writer of the radix.
+pub mod write;
+
+// In radix 10: `decimal` goes by `jeaiii`, whose kernels give two digits at a time.
 pub mod decimal;
 mod decimal_pairs;
-pub mod digit_count;
-mod groups;
 pub mod jeaiii;
 mod kernels;
-pub mod laws;
-mod logarithm;
-pub mod options;
+
+// In every other radix: `radix` goes by `algorithm`, which writes four digits at a time from a table.
+pub mod algorithm;
 mod quotients;
 pub mod radix;
 pub mod table;
 mod table_digits;
 mod table_pairs;
+
+// In every radix, by little code.
+pub mod compact;
+
+// How many digits a number has.
+pub mod digit_count;
+mod logarithm;
+
+// What is written gets its groups, and is handed back.
+pub mod buffer;
+mod groups;
+
+// The turns of the loops, which contracts alone see.
+pub mod turns;
+
+// Facts for callers.
+pub mod laws;
 #[cfg(test)]
 mod tests;
-pub mod turns;
-pub mod write;
 
 pub use api::{ToLexical, ToLexicalWithOptions};
 pub use lexical_num::constants::{BUFFER_SIZE, FormattedSize};

@@ -49,7 +49,7 @@ fn check_short<T: ToLexicalWithOptions>(
 }
 
 #[test]
-fn zero_leaves_the_bytes_behind_it(rt: HostRuntime) {
+fn zero_leaves_the_bytes_after_it(rt: HostRuntime) {
     let mut buffer = [7, 7, 7];
     assert_eq!(rt; &*0u8.to_lexical(&mut buffer), b"0".as_slice());
     assert_eq!(rt; buffer, [48, 7, 7]);
