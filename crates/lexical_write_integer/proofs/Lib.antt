@@ -6,6 +6,7 @@ pub mod Computed
 pub mod DecimalTables
 pub mod DigitCounts
 pub mod Fractions
+pub mod Fronts
 pub mod GroupedDigits
 pub mod HandedFronts
 pub mod Heads

@@ -1,6 +1,6 @@
 -- A sign, and the digits after it.
-use Rattle.std.proofs.Common.{◌≡◌, Option, ℕ, ◌+◌, ◌-◌, ◌^◌, ◌<◌, ◌≤◌, ◌≤ℤ◌, ◌==◌, List, ◌++◌, length, take, drop, refl, sym, ap, subst, ◌∙◌, arith, ℤ, unsigned_abs, length-append, append_assoc}
-use Rattle.std.proofs.lemmas.List.{drop-drop, take_at, drop_at, length-take, length-drop, drop-append-le, take-append-drop}
+use Rattle.std.proofs.Common.{◌≡◌, Option, ℕ, ◌+◌, ◌-◌, ◌^◌, ◌<◌, ◌≤◌, ◌≤ℤ◌, ◌==◌, List, ◌++◌, length, take, drop, refl, sym, ap, ◌∙◌, arith, ℤ, unsigned_abs, length-append}
+use Rattle.std.proofs.lemmas.List.{drop-drop, length-take, length-drop, take-append-drop}
 use Rattle.std.proofs.lemmas.Bool.{cond_both, eqb-true}
 use Rattle.std.proofs.lemmas.Slice.{drop-append-drop}
 use Rattle.lexical_num.specs.DecimalWidth.{IsDecimalWidth}
@@ -15,47 +15,7 @@ use Rattle.lexical_write_integer.specs.SizeBound.{grouped_length-ge, grouped_len
 use Rattle.lexical_write_integer.proofs.DigitCounts.{digit_count-pos}
 use Rattle.std.specs.Prelude.{Bool, true, false, if◌then◌else◌}
 use borrow.Rule.Slice.PartMut.{put_mid}
-
--- what is written after a text, into so much room of what the text left of the buffer
-pub Front-after : (before between part text following : List ℕ) (count room : ℕ) → count ≡ length text → Front before between text → Front (take room (drop count between)) part following → Front before (put_mid count room between part) (text ++ following)
-Front-after before between part text following count room e front back =
-    let rest : drop count between ≡ drop count before = ap (drop count) front.written ∙ drop_at text (drop (length text) before) count (sym e) ∙ ap (λ k. drop k before) (sym e) in
-    let first : take count between ≡ text = ap (take count) front.written ∙ take_at text (drop (length text) before) count (sym e) in
-    let lent = take room (drop count between) in
-    let left : drop (length following) lent ++ drop room (drop count between) ≡ drop (length following) (drop count between) =
-    sym (drop-append-le (length following) lent (drop room (drop count between)) back.fits) ∙ ap (drop (length following)) (take-append-drop room (drop count between)) in
-    let written : part ++ drop room (drop count between) ≡ following ++ drop (count + length following) before =
-    ap (λ xs. xs ++ drop room (drop count between)) back.written ∙ append_assoc following _ _ ∙ ap (λ xs. following ++ xs) (left ∙ ap (drop (length following)) rest ∙ drop-drop (length following) count before) in
-    let long : length (text ++ following) ≡ count + length following = length-append text following ∙ ap (λ k. k + length following) (sym e) in
-    record {
-      fits = omega (arith, long, front.fits, back.fits, length-take room (drop count between), ap length rest, length-drop count before);
-      written = (λ i. first i ++ written i) ∙ sym (append_assoc text following (drop (count + length following) before)) ∙ ap (λ k. (text ++ following) ++ drop k before) (sym long);
-    }
-
-pub length-after : (text following : List ℕ) (count answer : ℕ) → count ≡ length text → answer ≡ length following → count + answer ≡ length (text ++ following)
-length-after text following count answer e f = omega (arith, length-append text following)
-
--- the text that is written
-take-Writes : {Is : List ℕ → Type 0} (before after : List ℕ) (answer : ℕ) (w : Writes Is before after answer) → take answer after ≡ w.text
-take-Writes before after answer w = ap (take answer) w.front.written ∙ take_at w.text (drop (length w.text) before) answer (sym w.count)
-
-pub Writes-is : {Is : List ℕ → Type 0} (before after : List ℕ) (answer : ℕ) → Writes Is before after answer → Is (take answer after)
-Writes-is before after answer w = rw (take-Writes before after answer w) w.is
-
--- what more is known of it
-pub Writes-and : {Is Also : List ℕ → Type 0} (before after : List ℕ) (answer : ℕ) → Writes Is before after answer → Also (take answer after) → Writes (λ text. Is text × Also text) before after answer
-Writes-and {Is} {Also} before after answer w also =
-    record { text = w.text; is = (w.is, subst Also (take-Writes before after answer w) also); front = w.front; count = w.count }
-
--- the same of texts of some kind
-pub Writes-after : {IsAfter IsWhole : List ℕ → Type 0} (text before between after : List ℕ) (count room answer : ℕ) → count ≡ length text → Front before between text → ((following : List ℕ) → IsAfter following → IsWhole (text ++ following)) → Writes IsAfter (take room (drop count between)) after answer → Writes IsWhole before (put_mid count room between after) (count + answer)
-Writes-after text before between after count room answer e front whole w =
-    record {
-      text = text ++ w.text;
-      is = whole w.text w.is;
-      front = Front-after before between after text w.text count room e front w.front;
-      count = length-after text w.text count answer e w.count;
-    }
+use Rattle.lexical_write_integer.proofs.Fronts.{Writes-after, take-Writes}
 
 -- ---- digits in groups, after the sign
 

@@ -1,6 +1,7 @@
 use Rattle.std.proofs.Common.{arith}
 use Rattle.lexical_write_integer.proofs.DigitCounts.{digit_count-pos}
-use Rattle.lexical_write_integer.proofs.Signs.{grouped_length-le_need, need-pos, Writes-is, WritesText-over}
+use Rattle.lexical_write_integer.proofs.Fronts.{Writes-is}
+use Rattle.lexical_write_integer.proofs.Signs.{grouped_length-le_need, need-pos, WritesText-over}
 use Rattle.lexical_write_integer.proofs.api.write_signed.Goals as goal
 
 pub write_sign-sign-requires-clause-room : goal.write_sign-sign-requires-clause-room

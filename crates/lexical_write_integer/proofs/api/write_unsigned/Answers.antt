@@ -1,7 +1,8 @@
 use Rattle.std.proofs.Common.{ap, arith, sym}
 use Rattle.std.specs.Prelude.{unsigned_abs}
 use Rattle.lexical_write_integer.proofs.DigitCounts.{digit_count-pos}
-use Rattle.lexical_write_integer.proofs.Signs.{grouped_length-le_need, need-pos, Writes-is, WritesText-over}
+use Rattle.lexical_write_integer.proofs.Fronts.{Writes-is}
+use Rattle.lexical_write_integer.proofs.Signs.{grouped_length-le_need, need-pos, WritesText-over}
 use Rattle.lexical_write_integer.proofs.api.write_unsigned.Goals as goal
 
 pub write_sign-sign-requires-clause-room : goal.write_sign-sign-requires-clause-room
