@@ -194,7 +194,7 @@ fn write_by_divisions<T: UnsignedInteger>(
     }
 }
 
-// Writes a number in any radix. From radix 16 on a byte has two digits at most, and from radix 32 on a
+// Writes a number in any radix. From radix 16 on a byte has two digits at most, and above radix 32 a
 // number below 1024; and a number of up to 32 bits is divided as such.
 fn write_number<T: UnsignedInteger>(
     value: T,
@@ -215,11 +215,11 @@ fn write_number<T: UnsignedInteger>(
     if T::BITS == 8 && radix >= 16 {
         return write_short(number as u32, radix, table, buffer, turns);
     }
-    if number < 1024 && radix >= 32 {
-        return write_short(number as u32, radix, table, buffer, turns);
-    }
     match radix {
         2 | 4 | 8 | 10 | 16 | 32 => write_at_once(number as u64, radix, table, buffer, turns),
+        _ if radix > 32 && number < 1024 => {
+            write_short(number as u32, radix, table, buffer, turns)
+        }
         _ if T::BITS <= 32 => write_by_divisions(number as u32, radix, table, buffer, turns),
         _ => write_by_divisions(number as u64, radix, table, buffer, turns),
     }
