@@ -36,15 +36,19 @@ pub WritesDigits-block : (r n count : ℕ) (before after : List ℕ) → 2 ≤ r
 WritesDigits-block r n count before after two few room b =
     let long = length-map b.digits digit_char ∙ b.block.counted in
     record {
-      text = map digit_char b.digits;
-      is = record { digits = b.digits; numeral = IsNumeralOf-block r n count b.digits two few b.block; characters = refl };
-      front = record { fits = rw long room; written = rw (zero-add, ← long) at b.written };
-      count = sym long;
+      writes = record {
+        text = map digit_char b.digits;
+        is = record { digits = b.digits; numeral = IsNumeralOf-block r n count b.digits two few b.block; characters = refl };
+        front = record { fits = rw long room; written = rw (zero-add, ← long) at b.written };
+        count = sym long;
+      };
+      count = sym few;
     }
 
 -- the digits of a number at the front are a block
 WritesBlock-digits : (r n count : ℕ) (before after : List ℕ) → WritesDigits r n before after count → WritesBlock r count n 0 before after
-WritesBlock-digits r n count before after w =
+WritesBlock-digits r n count before after written =
+    let w = written.writes in
     let long : length w.is.digits ≡ count = sym (w.count ∙ ap length w.is.characters ∙ length-map w.is.digits digit_char) in
     record {
       digits = w.is.digits;
@@ -53,13 +57,9 @@ WritesBlock-digits r n count before after w =
       kept = refl;
     }
 
--- the result of a writer is the digit count
-pub WritesDigits-count : {r n count : ℕ} {before after : List ℕ} → 2 ≤ r → WritesDigits r n before after count → count ≡ digit_count r n
-WritesDigits-count {r} {n} two w = w.count ∙ length-IsDigits r n w.text two w.is
-
 -- the last digits of a number, after the digits of what stands before them
 pub WritesDigits-after : (r n count at : ℕ) (before between after : List ℕ) → 2 ≤ r → r ^ count ≤ n → digit_count r n ≤ length before → WritesDigits r (n / r ^ count) before between at → WritesBlock r count (n % r ^ count) at between after → WritesDigits r n before after (at + count)
 WritesDigits-after r n count at before between after two long room first last =
-    let counted : digit_count r n ≡ at + count = omega (arith, digit_count-split r count n two long, WritesDigits-count two first) in
+    let counted : digit_count r n ≡ at + count = omega (arith, digit_count-split r count n two long, first.count) in
     let block = WritesBlock-after r at count (n / r ^ count) (n % r ^ count) 0 before between after (WritesBlock-digits r (n / r ^ count) at before between first) (rw zero-add last) in
     WritesDigits-block r n (at + count) before after two counted (omega arith) (rw (div-add-mod' n (r ^ count)) at block)

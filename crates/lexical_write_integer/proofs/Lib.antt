@@ -8,6 +8,7 @@ pub mod DigitCounts
 pub mod Fractions
 pub mod Fronts
 pub mod GroupedDigits
+pub mod GroupedTexts
 pub mod HandedFronts
 pub mod Heads
 pub mod Lengths

@@ -8,13 +8,13 @@ use Rattle.lexical_write_integer.specs.Groups.{mark_before, in_groups, from_righ
 use Rattle.lexical_write_integer.proofs.GroupedDigits.{length-in_groups, length-mark_before, mark_before-whole}
 
 -- a longer text has the bytes of its end at the same places
-from_right-append : (front text : List ℕ) (right : ℕ) → right < length text → from_right (front ++ text) right ≡ from_right text right
+pub from_right-append : (front text : List ℕ) (right : ℕ) → right < length text → from_right (front ++ text) right ≡ from_right text right
 from_right-append front text right inside =
     let long = length-append front text in
     get_or-append_right front text (length front) (length (front ++ text) - 1 - right) 0 refl (omega arith)
     ∙ ap (λ n. get_or text n 0) (let e : length (front ++ text) - 1 - right - length front ≡ length text - 1 - right = omega arith in e)
 
-div-monotone : (m n k : ℕ) → 0 < k → m ≤ n → m / k ≤ n / k
+pub div-monotone : (m n k : ℕ) → 0 < k → m ≤ n → m / k ≤ n / k
 div-monotone m n k some less = le-div (m / k) n k some (omega (arith, div-mul-le_self m k))
 
 -- to the right of a digit stand the digits to its right, and a mark for each whole group of them

@@ -61,7 +61,7 @@ pub WritesText-after : (x : ℤ) (format : Format) (magnitude : ℕ) (before bet
 WritesText-after x format magnitude before between written after count digits answer long front same w groups answered =
     Writes-after _ before between after count (length between - count) answer long front
     (λ text is. record { digits = is.digits; magnitude = is.is; whole = ap (λ following. sign_of x format.required_mantissa_sign ++ following) is.whole })
-    (Writes-grouped format.digit_grouping _ written after digits answer (rw same at w) groups answered)
+    (Writes-grouped format.digit_grouping _ written after digits answer (rw same at w.writes) groups answered)
 
 -- ---- a sign that may be none, and a first byte that is written in any case
 
@@ -85,7 +85,7 @@ WritesText-over x format magnitude before between written after count digits ans
       fits = omega (arith, ap length sign, length-take count between);
       written = sym (take-append-drop count between) ∙ ap (λ xs. xs ++ drop count between) sign ∙ ap (λ k. sign_of x format.required_mantissa_sign ++ drop k between) long;
     } in
-    let all = ap length (take-Writes _ written digits w) in
+    let all = ap length (take-Writes _ written digits w.writes) in
     let more = length-grouped_ge format.digit_grouping (take digits written) in
     Writes-over before between _ _ same rest (omega (arith, w.count)) (WritesText-after x format magnitude between between written after count digits answer long front is w groups answered)
 

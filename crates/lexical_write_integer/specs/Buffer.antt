@@ -2,6 +2,7 @@
 use Rattle.std.specs.Prelude.{◌≡◌, ℕ, ◌+◌, ◌≤◌, List, ◌++◌, length, map, take, drop, ℤ}
 use Rattle.lexical_num.specs.Digit.{digit_char}
 use Rattle.lexical_num.specs.Format.{Format}
+use Rattle.lexical_write_integer.specs.DigitCount.{digit_count}
 use Rattle.lexical_write_integer.specs.Numeral.{IsBlockOf}
 use Rattle.lexical_write_integer.specs.Text.{IsDigits, IsText}
 
@@ -17,9 +18,10 @@ pub record Writes (IsWritten : List ℕ → Type 0) (before after : List ℕ) (a
   pub front : Front before after text
   pub count : answer ≡ length text
 
--- the digits of the number stand at the front, and the result is how many they are
-abbrev pub WritesDigits : ℕ → ℕ → List ℕ → List ℕ → ℕ → Type 0
-WritesDigits r number = Writes (IsDigits r number)
+-- the digits of the number stand at the front, and the result is the digit count
+pub record WritesDigits (r number : ℕ) (before after : List ℕ) (answer : ℕ) : Type 0 where
+  pub writes : Writes (IsDigits r number) before after answer
+  pub count : answer ≡ digit_count r number
 
 -- the text of the number stands at the front, and the result is its length
 abbrev pub WritesText : ℤ → Format → List ℕ → List ℕ → ℕ → Type 0

@@ -9,7 +9,6 @@ use Rattle.lexical_write_integer.specs.LoopTurns.{table_notes, table_turns}
 -- and each pair after the first is a turn, with its note
 pub record WritesDecimal (number : ℕ) (notes before after turns turned : List ℕ) (answer : ℕ) : Type 0 where
   pub digits : WritesDigits 10 number before after answer
-  pub count : answer ≡ digit_count 10 number
   pub noted : turned ≡ turns ++ notes
   pub half : length turned ≡ length turns + (answer - 1) / 2
 

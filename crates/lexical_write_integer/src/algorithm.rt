@@ -24,7 +24,6 @@ fn write_short(value: u32, radix: u32, table: &[u8], buffer: &mut [u8], turns: &
     requires table { BeginsWithPairs radix table.now }
     requires room { digit_count radix value ≤ length buffer.old }
     ensures digits { WritesDigits radix value buffer.old buffer.new result }
-    ensures count { result ≡ digit_count radix value }
     ensures notes { turns.new ≡ turns.old ++ table_notes radix value }
 {
     let count = count_short(value, radix, turns);
@@ -50,7 +49,6 @@ fn write_slow<T: UnsignedInteger, const R: u32, const QUOTIENTS: usize>(
     requires table { BeginsWithPairs radix table.now }
     requires room { digit_count radix (T.magnitude value) ≤ length buffer.old }
     ensures digits { WritesDigits radix (T.magnitude value) buffer.old buffer.new result }
-    ensures count { result ≡ digit_count radix (T.magnitude value) }
     ensures notes { turns.new ≡ turns.old ++ table_notes radix (T.magnitude value) }
 {
     let number = value.as_usize() as u64;
@@ -106,7 +104,6 @@ fn write_bits<const R: u32, const K: usize>(
     requires table { BeginsWithPairs radix table.now }
     requires room { digit_count radix value ≤ length buffer.old }
     ensures digits { WritesDigits radix value buffer.old buffer.new result }
-    ensures count { result ≡ digit_count radix value }
     ensures notes { turns.new ≡ turns.old ++ table_notes radix value }
 {
     let count = fast_log2(value) / K + 1;
@@ -127,7 +124,6 @@ fn write_at_once(
     requires table { BeginsWithPairs radix table.now }
     requires room { digit_count radix value ≤ length buffer.old }
     ensures digits { WritesDigits radix value buffer.old buffer.new result }
-    ensures count { result ≡ digit_count radix value }
     ensures notes { turns.new ≡ turns.old ++ table_notes radix value }
 {
     match radix {
@@ -158,7 +154,6 @@ fn write_by_divisions<T: UnsignedInteger>(
     requires table { BeginsWithPairs radix table.now }
     requires room { digit_count radix (T.magnitude value) ≤ length buffer.old }
     ensures digits { WritesDigits radix (T.magnitude value) buffer.old buffer.new result }
-    ensures count { result ≡ digit_count radix (T.magnitude value) }
     ensures notes { turns.new ≡ turns.old ++ table_notes radix (T.magnitude value) }
 {
     match radix {
@@ -207,7 +202,6 @@ fn write_number<T: UnsignedInteger>(
     requires table { BeginsWithPairs radix table.now }
     requires room { digit_count radix (T.magnitude value) ≤ length buffer.old }
     ensures digits { WritesDigits radix (T.magnitude value) buffer.old buffer.new result }
-    ensures count { result ≡ digit_count radix (T.magnitude value) }
     ensures notes { turns.new ≡ turns.old ++ table_notes radix (T.magnitude value) }
 {
     value.fits_bits();
@@ -240,7 +234,6 @@ pub fn algorithm_counted<T: DigitCount>(
     requires table { BeginsWithPairs radix table.now }
     requires room { digit_count radix (T.magnitude value) ≤ length buffer.old }
     ensures digits { WritesDigits radix (T.magnitude value) buffer.old buffer.new result }
-    ensures count { result ≡ digit_count radix (T.magnitude value) }
     ensures notes { turns.new ≡ turns.old ++ table_notes radix (T.magnitude value) }
     ensures turns { length turns.new ≡ length turns.old + table_turns radix result }
     ensures few_turns { length turns.new ≤ length turns.old + 21 }
@@ -257,7 +250,6 @@ pub fn algorithm<T: DigitCount>(value: T, radix: u32, table: &[u8], buffer: &mut
     requires table { BeginsWithPairs radix table.now }
     requires room { digit_count radix (T.magnitude value) ≤ length buffer.old }
     ensures digits { WritesDigits radix (T.magnitude value) buffer.old buffer.new result }
-    ensures count { result ≡ digit_count radix (T.magnitude value) }
 {
     algorithm_counted(value, radix, table, buffer, &mut Turns::new())
 }

@@ -1,12 +1,12 @@
 //! Writing a number of any integer type.
 
-ghost use Rattle.std.specs.Prelude.{◌≡◌, ◌≤◌, ◌-◌, ◌^◌, ℤ, pos, negsuc, ◌<ℤ◌, ◌≤ℤ◌, ◌↔◌, IsTrue, length, take, drop, unsigned_abs};
+ghost use Rattle.std.specs.Prelude.{◌≡◌, ◌≤◌, ◌-◌, ◌^◌, ℤ, pos, ◌<ℤ◌, ◌≤ℤ◌, ◌↔◌, IsTrue, length, take, drop, unsigned_abs};
 ghost use Rattle.std.specs.Borrow.{sem};
 ghost use Rattle.std.proofs.Common.{lit≤};
 ghost use Rattle.lexical_num.specs.Format.{Format, IsRadix, standard, without_groups};
 ghost use Rattle.lexical_num.specs.Sign.{sign_of};
 ghost use Rattle.lexical_num.specs.Size.{size_in};
-ghost use Rattle.lexical_write_integer.specs.Buffer.{Front, WritesText};
+ghost use Rattle.lexical_write_integer.specs.Buffer.{WritesText};
 ghost use Rattle.lexical_write_integer.specs.Groups.{without_marks};
 ghost use Rattle.lexical_write_integer.specs.Lending.{LendsFront};
 ghost use Rattle.lexical_write_integer.specs.Text.{IsText, need};
@@ -25,33 +25,33 @@ use lexical_num::options::{Options, WriteOptions};
 pub trait ToLexical: LexicalInteger + FormattedSize {
     /// Writes the number to the front of the buffer, and returns the length of its text: `-` below
     /// 0, and then the digits. The buffer has `DECIMAL_WIDTH` bytes, and one more for a `-`.
-    fn write_lexical(self, bytes: &mut [u8]) -> usize
-        requires { need (Self.number self) Self.DECIMAL_WIDTH standard ≤ length bytes.old }
-        ensures text { WritesText (Self.number self) standard bytes.old bytes.new result }
+    fn write_lexical(self, buffer: &mut [u8]) -> usize
+        requires { need (Self.number self) Self.DECIMAL_WIDTH standard ≤ length buffer.old }
+        ensures text { WritesText (Self.number self) standard buffer.old buffer.new result }
         ensures short { result ≤ need (Self.number self) Self.DECIMAL_WIDTH standard }
     {
-        self.write_text(bytes, &STANDARD)
+        self.write_text(buffer, &STANDARD)
     }
 
     /// Writes the text of the number in the format to the front of the buffer, and returns its
     /// length. This is the one method that a type writes itself; all others go by it.
-    fn write_text(self, bytes: &mut [u8], format: &NumberFormat) -> usize
-        requires { need (Self.number self) Self.DECIMAL_WIDTH format.now ≤ length bytes.old }
-        ensures text { WritesText (Self.number self) format.now bytes.old bytes.new result }
+    fn write_text(self, buffer: &mut [u8], format: &NumberFormat) -> usize
+        requires { need (Self.number self) Self.DECIMAL_WIDTH format.now ≤ length buffer.old }
+        ensures text { WritesText (Self.number self) format.now buffer.old buffer.new result }
         ensures short { result ≤ need (Self.number self) Self.DECIMAL_WIDTH format.now }
         ensures plain { IsText (Self.number self) (without_groups format.now)
-            (without_marks format.now.digit_grouping (take result bytes.new)) };
+            (without_marks format.now.digit_grouping (take result buffer.new)) };
 
     /// Writes the number as `write_lexical` does, and hands back its text for writing: what the
     /// caller leaves in it is left in those bytes of the buffer, and every other is unchanged.
-    final fn to_lexical(self, bytes: &mut [u8]) -> &mut [u8]
-        requires { need (Self.number self) Self.DECIMAL_WIDTH standard ≤ length bytes.old }
-        ensures* lends { sem 𝓛 (LendsFront bytes.entry (length result.now) result) }
+    final fn to_lexical(self, buffer: &mut [u8]) -> &mut [u8]
+        requires { need (Self.number self) Self.DECIMAL_WIDTH standard ≤ length buffer.old }
+        ensures* lends { sem 𝓛 (LendsFront buffer.entry (length result.now) result) }
         ensures text { IsText (Self.number self) standard result.now }
         ensures short { length result.now ≤ need (Self.number self) Self.DECIMAL_WIDTH standard }
     {
-        let count = self.write_lexical(bytes);
-        front_mut(bytes, count)
+        let count = self.write_lexical(buffer);
+        front_mut(buffer, count)
     }
 }
 
@@ -66,17 +66,17 @@ pub trait ToLexicalWithOptions: ToLexical {
     /// the marks between the groups of that many digits. The options have no effect.
     fn write_lexical_with_options(
         self,
-        bytes: &mut [u8],
+        buffer: &mut [u8],
         format: &NumberFormat,
         _options: &Self::Options,
     ) -> usize
-        requires { need (Self.number self) Self.DECIMAL_WIDTH format.now ≤ length bytes.old }
-        ensures text { WritesText (Self.number self) format.now bytes.old bytes.new result }
+        requires { need (Self.number self) Self.DECIMAL_WIDTH format.now ≤ length buffer.old }
+        ensures text { WritesText (Self.number self) format.now buffer.old buffer.new result }
         ensures short { result ≤ need (Self.number self) Self.DECIMAL_WIDTH format.now }
         ensures plain { IsText (Self.number self) (without_groups format.now)
-            (without_marks format.now.digit_grouping (take result bytes.new)) }
+            (without_marks format.now.digit_grouping (take result buffer.new)) }
     {
-        self.write_text(bytes, format)
+        self.write_text(buffer, format)
     }
 
     // The size of the type in a format is enough for each of its numbers.
@@ -88,19 +88,19 @@ pub trait ToLexicalWithOptions: ToLexical {
     /// before.
     final fn to_lexical_with_options<'a>(
         self,
-        bytes: &'a mut [u8],
+        buffer: &'a mut [u8],
         format: &NumberFormat,
         options: &Self::Options,
     ) -> &'a mut [u8]
-        requires { need (Self.number self) Self.DECIMAL_WIDTH format.now ≤ length bytes.old }
-        ensures* lends { sem 𝓛 (LendsFront bytes.entry (length result.now) result) }
+        requires { need (Self.number self) Self.DECIMAL_WIDTH format.now ≤ length buffer.old }
+        ensures* lends { sem 𝓛 (LendsFront buffer.entry (length result.now) result) }
         ensures text { IsText (Self.number self) format.now result.now }
         ensures short { length result.now ≤ need (Self.number self) Self.DECIMAL_WIDTH format.now }
         ensures plain { IsText (Self.number self) (without_groups format.now)
             (without_marks format.now.digit_grouping result.now) }
     {
-        let count = self.write_lexical_with_options(bytes, format, options);
-        front_mut(bytes, count)
+        let count = self.write_lexical_with_options(buffer, format, options);
+        front_mut(buffer, count)
     }
 }
 
@@ -109,32 +109,32 @@ pub trait ToLexicalWithOptions: ToLexical {
 fn write_sign<T: LexicalInteger>(
     number: T,
     is_negative: bool,
-    bytes: &mut [u8],
+    buffer: &mut [u8],
     format: &NumberFormat,
 ) -> usize
     requires sign { IsTrue is_negative ↔ T.number number <ℤ pos 0 }
-    requires room { 1 ≤ length bytes.old }
-    ensures sign { take result bytes.new ≡ sign_of (T.number number) format.now.required_mantissa_sign }
+    requires room { 1 ≤ length buffer.old }
+    ensures sign { take result buffer.new ≡ sign_of (T.number number) format.now.required_mantissa_sign }
     ensures count { result ≡ length (sign_of (T.number number) format.now.required_mantissa_sign) }
-    ensures rest { drop 1 bytes.new ≡ drop 1 bytes.old }
+    ensures rest { drop 1 buffer.new ≡ drop 1 buffer.old }
 {
-    bytes[0] = if is_negative { b'-' } else { b'+' };
+    buffer[0] = if is_negative { b'-' } else { b'+' };
     (is_negative | format.required_mantissa_sign()) as usize
 }
 
 // Writes a number of an unsigned type.
-fn write_unsigned<T: WriteInteger>(number: T, bytes: &mut [u8], format: &NumberFormat) -> usize
-    requires { need (T.number number) T.DECIMAL_WIDTH format.now ≤ length bytes.old }
-    ensures text { WritesText (T.number number) format.now bytes.old bytes.new result }
+fn write_unsigned<T: WriteInteger>(number: T, buffer: &mut [u8], format: &NumberFormat) -> usize
+    requires { need (T.number number) T.DECIMAL_WIDTH format.now ≤ length buffer.old }
+    ensures text { WritesText (T.number number) format.now buffer.old buffer.new result }
     ensures short { result ≤ need (T.number number) T.DECIMAL_WIDTH format.now }
     ensures plain { IsText (T.number number) (without_groups format.now)
-        (without_marks format.now.digit_grouping (take result bytes.new)) }
+        (without_marks format.now.digit_grouping (take result buffer.new)) }
 {
     text_without_marks(number, format);
     text_fits(number, format);
     number.in_range();
-    let sign = write_sign(number, false, bytes, format);
-    let digits = &mut bytes[sign..];
+    let sign = write_sign(number, false, buffer, format);
+    let digits = &mut buffer[sign..];
     let count = number.write_mantissa(format, digits);
     sign + group_digits(count, format, digits)
 }
@@ -144,30 +144,30 @@ fn write_signed<T: LexicalInteger, U: WriteInteger>(
     number: T,
     is_negative: bool,
     magnitude: U,
-    bytes: &mut [u8],
+    buffer: &mut [u8],
     format: &NumberFormat,
 ) -> usize
     requires sign { IsTrue is_negative ↔ T.number number <ℤ pos 0 }
     requires magnitude { U.magnitude magnitude ≡ unsigned_abs (T.number number) }
     requires width { U.SIGNED_WIDTH ≡ T.DECIMAL_WIDTH }
-    requires room { need (T.number number) T.DECIMAL_WIDTH format.now ≤ length bytes.old }
-    ensures text { WritesText (T.number number) format.now bytes.old bytes.new result }
+    requires room { need (T.number number) T.DECIMAL_WIDTH format.now ≤ length buffer.old }
+    ensures text { WritesText (T.number number) format.now buffer.old buffer.new result }
     ensures short { result ≤ need (T.number number) T.DECIMAL_WIDTH format.now }
     ensures plain { IsText (T.number number) (without_groups format.now)
-        (without_marks format.now.digit_grouping (take result bytes.new)) }
+        (without_marks format.now.digit_grouping (take result buffer.new)) }
 {
     text_without_marks(number, format);
     text_fits(number, format);
     number.in_range();
-    let sign = write_sign(number, is_negative, bytes, format);
-    let digits = &mut bytes[sign..];
+    let sign = write_sign(number, is_negative, buffer, format);
+    let digits = &mut buffer[sign..];
     let count = magnitude.write_mantissa_signed(format, digits);
     sign + group_digits(count, format, digits)
 }
 
 impl ToLexical for u8 {
-    fn write_text(self, bytes: &mut [u8], format: &NumberFormat) -> usize {
-        write_unsigned(self, bytes, format)
+    fn write_text(self, buffer: &mut [u8], format: &NumberFormat) -> usize {
+        write_unsigned(self, buffer, format)
     }
 }
 
@@ -178,8 +178,8 @@ impl ToLexicalWithOptions for u8 {
 }
 
 impl ToLexical for u16 {
-    fn write_text(self, bytes: &mut [u8], format: &NumberFormat) -> usize {
-        write_unsigned(self, bytes, format)
+    fn write_text(self, buffer: &mut [u8], format: &NumberFormat) -> usize {
+        write_unsigned(self, buffer, format)
     }
 }
 
@@ -190,8 +190,8 @@ impl ToLexicalWithOptions for u16 {
 }
 
 impl ToLexical for u32 {
-    fn write_text(self, bytes: &mut [u8], format: &NumberFormat) -> usize {
-        write_unsigned(self, bytes, format)
+    fn write_text(self, buffer: &mut [u8], format: &NumberFormat) -> usize {
+        write_unsigned(self, buffer, format)
     }
 }
 
@@ -202,8 +202,8 @@ impl ToLexicalWithOptions for u32 {
 }
 
 impl ToLexical for u64 {
-    fn write_text(self, bytes: &mut [u8], format: &NumberFormat) -> usize {
-        write_unsigned(self, bytes, format)
+    fn write_text(self, buffer: &mut [u8], format: &NumberFormat) -> usize {
+        write_unsigned(self, buffer, format)
     }
 }
 
@@ -214,8 +214,8 @@ impl ToLexicalWithOptions for u64 {
 }
 
 impl ToLexical for usize {
-    fn write_text(self, bytes: &mut [u8], format: &NumberFormat) -> usize {
-        write_unsigned(self, bytes, format)
+    fn write_text(self, buffer: &mut [u8], format: &NumberFormat) -> usize {
+        write_unsigned(self, buffer, format)
     }
 }
 
@@ -226,9 +226,9 @@ impl ToLexicalWithOptions for usize {
 }
 
 impl ToLexical for i8 {
-    fn write_text(self, bytes: &mut [u8], format: &NumberFormat) -> usize {
+    fn write_text(self, buffer: &mut [u8], format: &NumberFormat) -> usize {
         // The magnitude of the least value fits the unsigned type alone.
-        write_signed(self, self < 0, self.unsigned_abs(), bytes, format)
+        write_signed(self, self < 0, self.unsigned_abs(), buffer, format)
     }
 }
 
@@ -239,8 +239,8 @@ impl ToLexicalWithOptions for i8 {
 }
 
 impl ToLexical for i16 {
-    fn write_text(self, bytes: &mut [u8], format: &NumberFormat) -> usize {
-        write_signed(self, self < 0, self.unsigned_abs(), bytes, format)
+    fn write_text(self, buffer: &mut [u8], format: &NumberFormat) -> usize {
+        write_signed(self, self < 0, self.unsigned_abs(), buffer, format)
     }
 }
 
@@ -251,8 +251,8 @@ impl ToLexicalWithOptions for i16 {
 }
 
 impl ToLexical for i32 {
-    fn write_text(self, bytes: &mut [u8], format: &NumberFormat) -> usize {
-        write_signed(self, self < 0, self.unsigned_abs(), bytes, format)
+    fn write_text(self, buffer: &mut [u8], format: &NumberFormat) -> usize {
+        write_signed(self, self < 0, self.unsigned_abs(), buffer, format)
     }
 }
 
@@ -263,8 +263,8 @@ impl ToLexicalWithOptions for i32 {
 }
 
 impl ToLexical for i64 {
-    fn write_text(self, bytes: &mut [u8], format: &NumberFormat) -> usize {
-        write_signed(self, self < 0, self.unsigned_abs(), bytes, format)
+    fn write_text(self, buffer: &mut [u8], format: &NumberFormat) -> usize {
+        write_signed(self, self < 0, self.unsigned_abs(), buffer, format)
     }
 }
 
@@ -275,8 +275,8 @@ impl ToLexicalWithOptions for i64 {
 }
 
 impl ToLexical for isize {
-    fn write_text(self, bytes: &mut [u8], format: &NumberFormat) -> usize {
-        write_signed(self, self < 0, self.unsigned_abs(), bytes, format)
+    fn write_text(self, buffer: &mut [u8], format: &NumberFormat) -> usize {
+        write_signed(self, self < 0, self.unsigned_abs(), buffer, format)
     }
 }
 

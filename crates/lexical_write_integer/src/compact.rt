@@ -143,7 +143,6 @@ pub fn compact_counted<T: UnsignedInteger>(
     requires radix { IsRadix radix }
     requires room { digit_count radix (T.magnitude value) ≤ length buffer.old }
     ensures digits { WritesDigits radix (T.magnitude value) buffer.old buffer.new result }
-    ensures count { result ≡ digit_count radix (T.magnitude value) }
     ensures notes { turns.new ≡ turns.old ++ compact_notes radix (T.magnitude value) }
     ensures turns { length turns.new ≡ length turns.old + compact_turns result }
 {
@@ -161,8 +160,7 @@ pub trait Compact: UnsignedInteger + FormattedSize {
     fn compact(self, radix: u32, buffer: &mut [u8]) -> usize
         requires radix { IsRadix radix }
         requires room { digit_count radix (Self.magnitude self) ≤ length buffer.old }
-        ensures digits { WritesDigits radix (Self.magnitude self) buffer.old buffer.new result }
-        ensures count { result ≡ digit_count radix (Self.magnitude self) };
+        ensures digits { WritesDigits radix (Self.magnitude self) buffer.old buffer.new result };
 }
 
 impl Compact for u8 {

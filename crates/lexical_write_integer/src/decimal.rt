@@ -155,7 +155,6 @@ pub trait Decimal: DecimalCount {
     fn decimal(self, buffer: &mut [u8]) -> usize
         requires { Self.DECIMAL_WIDTH ≤ length buffer.old }
         ensures digits { WritesDigits 10 (Self.magnitude self) buffer.old buffer.new result }
-        ensures count { result ≡ digit_count 10 (Self.magnitude self) }
     {
         self.decimal_counted(buffer, &mut Turns::new())
     }
@@ -165,15 +164,13 @@ pub trait Decimal: DecimalCount {
     fn decimal_signed(self, buffer: &mut [u8]) -> usize
         requires number { Self.magnitude self < 10 ^ SIGNED_WIDTH }
         requires room { SIGNED_WIDTH ≤ length buffer.old }
-        ensures digits { WritesDigits 10 (Self.magnitude self) buffer.old buffer.new result }
-        ensures count { result ≡ digit_count 10 (Self.magnitude self) };
+        ensures digits { WritesDigits 10 (Self.magnitude self) buffer.old buffer.new result };
 
     /// `decimal`, under the same condition, with its turns counted: one for each pair of digits
     /// after the first.
     fn decimal_counted(self, buffer: &mut [u8], turns: &mut Turns) -> usize
         requires { Self.DECIMAL_WIDTH ≤ length buffer.old }
         ensures digits { WritesDigits 10 (Self.magnitude self) buffer.old buffer.new result }
-        ensures count { result ≡ digit_count 10 (Self.magnitude self) }
         ensures notes { turns.new ≡ turns.old ++ decimal_notes Self.BITS (Self.magnitude self) }
         ensures half { length turns.new ≡ length turns.old + (result - 1) / 2 }
         ensures few { length turns.new ≤ length turns.old + 9 };

@@ -30,7 +30,6 @@ pub(crate) fn write_first_pair(pair: u32, buffer: &mut [u8]) -> usize
     requires pair { pair < 100 }
     requires room { digit_count 10 pair ≤ length buffer.old }
     ensures digits { WritesDigits 10 pair buffer.old buffer.new result }
-    ensures count { result ≡ digit_count 10 pair }
     ensures few { (1 ≤ result) × (result ≤ 2) }
 {
     // A digit that stands alone is the second of its pair: it is written twice, to the same place.

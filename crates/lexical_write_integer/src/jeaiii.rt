@@ -66,7 +66,6 @@ fn write_64(n: u64, buffer: &mut [u8], turns: &mut Turns) -> usize
 pub fn from_u8(n: u8, buffer: &mut [u8]) -> usize
     requires { 3 ≤ length buffer.old }
     ensures digits { WritesDigits 10 n buffer.old buffer.new result }
-    ensures count { result ≡ digit_count 10 n }
 {
     from_u8_counted(n, buffer, &mut Turns::new())
 }
@@ -76,7 +75,6 @@ pub fn from_u8(n: u8, buffer: &mut [u8]) -> usize
 pub fn from_u16(n: u16, buffer: &mut [u8]) -> usize
     requires { 5 ≤ length buffer.old }
     ensures digits { WritesDigits 10 n buffer.old buffer.new result }
-    ensures count { result ≡ digit_count 10 n }
 {
     from_u16_counted(n, buffer, &mut Turns::new())
 }
@@ -86,7 +84,6 @@ pub fn from_u16(n: u16, buffer: &mut [u8]) -> usize
 pub fn from_u32(n: u32, buffer: &mut [u8]) -> usize
     requires { 10 ≤ length buffer.old }
     ensures digits { WritesDigits 10 n buffer.old buffer.new result }
-    ensures count { result ≡ digit_count 10 n }
 {
     from_u32_counted(n, buffer, &mut Turns::new())
 }
@@ -96,7 +93,6 @@ pub fn from_u32(n: u32, buffer: &mut [u8]) -> usize
 pub fn from_u64(n: u64, buffer: &mut [u8]) -> usize
     requires { 20 ≤ length buffer.old }
     ensures digits { WritesDigits 10 n buffer.old buffer.new result }
-    ensures count { result ≡ digit_count 10 n }
 {
     from_u64_counted(n, buffer, &mut Turns::new())
 }
@@ -107,7 +103,6 @@ pub fn from_i64(n: u64, buffer: &mut [u8]) -> usize
     requires number { n < 10 ^ 19 }
     requires room { 19 ≤ length buffer.old }
     ensures digits { WritesDigits 10 n buffer.old buffer.new result }
-    ensures count { result ≡ digit_count 10 n }
 {
     from_i64_counted(n, buffer, &mut Turns::new())
 }
@@ -116,7 +111,6 @@ pub fn from_i64(n: u64, buffer: &mut [u8]) -> usize
 pub fn from_u8_counted(n: u8, buffer: &mut [u8], turns: &mut Turns) -> usize
     requires { 3 ≤ length buffer.old }
     ensures digits { WritesDigits 10 n buffer.old buffer.new result }
-    ensures count { result ≡ digit_count 10 n }
     ensures notes { turns.new ≡ turns.old ++ decimal_notes_32 n }
     ensures half { length turns.new ≡ length turns.old + (result - 1) / 2 }
     ensures few { length turns.new ≤ length turns.old + 9 }
@@ -133,7 +127,6 @@ pub fn from_u8_counted(n: u8, buffer: &mut [u8], turns: &mut Turns) -> usize
 pub fn from_u16_counted(n: u16, buffer: &mut [u8], turns: &mut Turns) -> usize
     requires { 5 ≤ length buffer.old }
     ensures digits { WritesDigits 10 n buffer.old buffer.new result }
-    ensures count { result ≡ digit_count 10 n }
     ensures notes { turns.new ≡ turns.old ++ decimal_notes_32 n }
     ensures half { length turns.new ≡ length turns.old + (result - 1) / 2 }
     ensures few { length turns.new ≤ length turns.old + 9 }
@@ -145,7 +138,6 @@ pub fn from_u16_counted(n: u16, buffer: &mut [u8], turns: &mut Turns) -> usize
 pub fn from_u32_counted(n: u32, buffer: &mut [u8], turns: &mut Turns) -> usize
     requires { 10 ≤ length buffer.old }
     ensures digits { WritesDigits 10 n buffer.old buffer.new result }
-    ensures count { result ≡ digit_count 10 n }
     ensures notes { turns.new ≡ turns.old ++ decimal_notes_32 n }
     ensures half { length turns.new ≡ length turns.old + (result - 1) / 2 }
     ensures few { length turns.new ≤ length turns.old + 9 }
@@ -157,7 +149,6 @@ pub fn from_u32_counted(n: u32, buffer: &mut [u8], turns: &mut Turns) -> usize
 pub fn from_u64_counted(n: u64, buffer: &mut [u8], turns: &mut Turns) -> usize
     requires { 20 ≤ length buffer.old }
     ensures digits { WritesDigits 10 n buffer.old buffer.new result }
-    ensures count { result ≡ digit_count 10 n }
     ensures notes { turns.new ≡ turns.old ++ decimal_notes_64 n }
     ensures half { length turns.new ≡ length turns.old + (result - 1) / 2 }
     ensures few { length turns.new ≤ length turns.old + 9 }
@@ -170,7 +161,6 @@ pub fn from_i64_counted(n: u64, buffer: &mut [u8], turns: &mut Turns) -> usize
     requires number { n < 10 ^ 19 }
     requires room { 19 ≤ length buffer.old }
     ensures digits { WritesDigits 10 n buffer.old buffer.new result }
-    ensures count { result ≡ digit_count 10 n }
     ensures notes { turns.new ≡ turns.old ++ decimal_notes_64 n }
     ensures half { length turns.new ≡ length turns.old + (result - 1) / 2 }
     ensures few { length turns.new ≤ length turns.old + 9 }

@@ -3,8 +3,7 @@
 //! crate `uses` turn callers that rest on a law.
 
 ghost use Rattle.std.specs.Prelude.{◌≡◌, ℕ, ◌+◌, ◌-◌, ◌*◌, ◌/◌, ◌%◌, ◌^◌, ◌<◌, ◌≤◌, ◌↔◌, pos, ◌<ℤ◌, ◌≤ℤ◌, List, ◌++◌, length};
-ghost use Rattle.lexical_num.specs.Format.{IsRadix, without_groups};
-ghost use Rattle.lexical_write_integer.specs.Groups.{in_groups, without_marks, from_right};
+ghost use Rattle.lexical_num.specs.Format.{IsRadix};
 ghost use Rattle.lexical_write_integer.specs.DigitCount.{digit_count};
 ghost use Rattle.lexical_write_integer.specs.Numeral.{IsNumeral, IsNumeralOf, IsBlockOf, value_of};
 ghost use Rattle.lexical_write_integer.specs.Order.{ComesBefore};
@@ -12,10 +11,12 @@ ghost use Rattle.lexical_write_integer.specs.Text.{IsDigits, IsText};
 
 mod bytes;
 mod comparison;
+mod groups;
 mod room;
 
 pub use bytes::{digits_computed, text_computed, text_is_ascii, text_is_decimal};
 pub use comparison::{digits_tell, texts_tell};
+pub use groups::{text_in_groups, text_without_marks};
 use lexical_num::format::NumberFormat;
 use lexical_num::num::{LexicalInteger, UnsignedInteger};
 pub use room::{size_is_enough, text_fits};
@@ -93,34 +94,6 @@ pub fn numeral_split(radix: u32, count: u32, value: u64)
     ensures digits { digit_count radix value
         ≡ digit_count radix (value / radix ^ count) + count }
 {}
-
-/// Where digits and marks stand when digits are written in groups. Places are counted from the
-/// right: a digit keeps the digits to its right, with a mark for each whole group of them; a mark
-/// stands before each number of whole groups; and these are all the bytes. Digits that are no more
-/// than the size stand without a mark.
-pub fn places_in_groups(digits: &[u8], size: u8, mark: u8)
-    requires { 1 ≤ size }
-    ensures one_group { length digits.now ≤ size → in_groups (size, mark) digits.now ≡ digits.now }
-    ensures length { length (in_groups (size, mark) digits.now)
-        ≡ length digits.now + (length digits.now - 1) / size }
-    ensures digits { (right : ℕ) → right < length digits.now
-        → from_right (in_groups (size, mark) digits.now) (right + right / size)
-        ≡ from_right digits.now right }
-    ensures marks { (groups : ℕ) → 1 ≤ groups → groups * size < length digits.now
-        → from_right (in_groups (size, mark) digits.now) (groups * size + groups - 1) ≡ mark }
-{}
-
-/// The text of a number without the marks between its groups is its text in the same format
-/// without groups.
-pub fn text_without_marks<T: LexicalInteger>(number: T, format: &NumberFormat)
-    ensures { (text : List ℕ) → IsText (T.number number) format.now text
-        → IsText (T.number number) (without_groups format.now)
-        (without_marks format.now.digit_grouping text) }
-{
-    // Their contracts say that the radix is at most 36, and that the mark is no character of a text.
-    format.mantissa_radix();
-    format.digit_grouping();
-}
 
 /// Two numbers with one text in a format are the same number.
 pub fn equal_texts<T: LexicalInteger>(a: T, b: T, format: &NumberFormat)

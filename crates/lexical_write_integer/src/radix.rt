@@ -1,6 +1,6 @@
 //! Numbers to text in every radix, by the tables of pairs.
 
-ghost use Rattle.std.specs.Prelude.{◌≡◌, ◌≤◌, length};
+ghost use Rattle.std.specs.Prelude.{◌≤◌, length};
 ghost use Rattle.lexical_num.specs.Format.{IsRadix};
 ghost use Rattle.lexical_write_integer.specs.Buffer.{WritesDigits};
 ghost use Rattle.lexical_write_integer.specs.DigitCount.{digit_count};
@@ -15,7 +15,6 @@ fn write_by_table<T: DigitCount>(value: T, radix: u32, buffer: &mut [u8]) -> usi
     requires radix { IsRadix radix }
     requires room { digit_count radix (T.magnitude value) ≤ length buffer.old }
     ensures digits { WritesDigits radix (T.magnitude value) buffer.old buffer.new result }
-    ensures count { result ≡ digit_count radix (T.magnitude value) }
 {
     algorithm(value, radix, get_table(radix), buffer)
 }
@@ -27,8 +26,7 @@ pub trait Radix: UnsignedInteger {
     fn radix(self, radix: u32, buffer: &mut [u8]) -> usize
         requires radix { IsRadix radix }
         requires room { digit_count radix (Self.magnitude self) ≤ length buffer.old }
-        ensures digits { WritesDigits radix (Self.magnitude self) buffer.old buffer.new result }
-        ensures count { result ≡ digit_count radix (Self.magnitude self) };
+        ensures digits { WritesDigits radix (Self.magnitude self) buffer.old buffer.new result };
 }
 
 impl Radix for u8 {

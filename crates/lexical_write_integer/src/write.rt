@@ -28,7 +28,6 @@ pub fn write_integer_counted<T: Decimal + DigitCount>(
     requires radix { IsRadix radix }
     requires room { digits_need radix (T.magnitude value) T.DECIMAL_WIDTH ≤ length buffer.old }
     ensures digits { WritesDigits radix (T.magnitude value) buffer.old buffer.new result }
-    ensures count { result ≡ digit_count radix (T.magnitude value) }
     ensures notes { turns.new ≡ turns.old ++ write_notes T.BITS radix (T.magnitude value) }
     ensures turns { length turns.new ≡ length turns.old + write_turns radix result }
     ensures few_turns { length turns.new ≤ length turns.old + 21 }
@@ -47,7 +46,6 @@ fn write_magnitude<T: Decimal + Radix>(value: T, radix: u32, buffer: &mut [u8]) 
     requires number { radix ≡ 10 → T.magnitude value < 10 ^ T.SIGNED_WIDTH }
     requires room { digits_need radix (T.magnitude value) T.SIGNED_WIDTH ≤ length buffer.old }
     ensures digits { WritesDigits radix (T.magnitude value) buffer.old buffer.new result }
-    ensures count { result ≡ digit_count radix (T.magnitude value) }
 {
     if radix == 10 {
         value.decimal_signed(buffer)
@@ -66,8 +64,7 @@ pub trait WriteInteger: Decimal + Radix {
         requires radix { IsRadix radix }
         requires room { digits_need radix (Self.magnitude self) Self.DECIMAL_WIDTH
             ≤ length buffer.old }
-        ensures digits { WritesDigits radix (Self.magnitude self) buffer.old buffer.new result }
-        ensures count { result ≡ digit_count radix (Self.magnitude self) };
+        ensures digits { WritesDigits radix (Self.magnitude self) buffer.old buffer.new result };
 
     /// In a radix from 2 to 36, of the magnitude of a signed number.
     fn write_integer_signed(self, radix: u32, buffer: &mut [u8]) -> usize
@@ -75,8 +72,7 @@ pub trait WriteInteger: Decimal + Radix {
         requires number { radix ≡ 10 → Self.magnitude self < 10 ^ Self.SIGNED_WIDTH }
         requires room { digits_need radix (Self.magnitude self) Self.SIGNED_WIDTH
             ≤ length buffer.old }
-        ensures digits { WritesDigits radix (Self.magnitude self) buffer.old buffer.new result }
-        ensures count { result ≡ digit_count radix (Self.magnitude self) };
+        ensures digits { WritesDigits radix (Self.magnitude self) buffer.old buffer.new result };
 
     /// In the mantissa radix of the format.
     fn write_mantissa(self, format: &NumberFormat, buffer: &mut [u8]) -> usize
@@ -84,7 +80,6 @@ pub trait WriteInteger: Decimal + Radix {
             ≤ length buffer.old }
         ensures digits { WritesDigits format.now.mantissa_radix (Self.magnitude self)
             buffer.old buffer.new result }
-        ensures count { result ≡ digit_count format.now.mantissa_radix (Self.magnitude self) }
     {
         self.write_integer(format.mantissa_radix(), buffer)
     }
@@ -97,7 +92,6 @@ pub trait WriteInteger: Decimal + Radix {
             ≤ length buffer.old }
         ensures digits { WritesDigits format.now.mantissa_radix (Self.magnitude self)
             buffer.old buffer.new result }
-        ensures count { result ≡ digit_count format.now.mantissa_radix (Self.magnitude self) }
     {
         self.write_integer_signed(format.mantissa_radix(), buffer)
     }
@@ -108,7 +102,6 @@ pub trait WriteInteger: Decimal + Radix {
             ≤ length buffer.old }
         ensures digits { WritesDigits format.now.exponent_radix (Self.magnitude self)
             buffer.old buffer.new result }
-        ensures count { result ≡ digit_count format.now.exponent_radix (Self.magnitude self) }
     {
         self.write_integer(format.exponent_radix(), buffer)
     }
@@ -121,7 +114,6 @@ pub trait WriteInteger: Decimal + Radix {
             ≤ length buffer.old }
         ensures digits { WritesDigits format.now.exponent_radix (Self.magnitude self)
             buffer.old buffer.new result }
-        ensures count { result ≡ digit_count format.now.exponent_radix (Self.magnitude self) }
     {
         self.write_integer_signed(format.exponent_radix(), buffer)
     }

@@ -1,13 +1,24 @@
 //! An amount of money, in groups of three digits.
 
-ghost use Rattle.std.specs.Prelude.{Some, codes};
+ghost use Rattle.std.specs.Prelude.{◌≡◌, List, ℕ, Some, codes, length, pos};
 ghost use Rattle.lexical_num.specs.Format.{standard};
 ghost use Rattle.lexical_write_integer.specs.Buffer.{Writes};
 ghost use Rattle.lexical_write_integer.specs.Sequence.{IsExactly, Then};
 ghost use Rattle.lexical_write_integer.specs.Text.{IsText};
 
 use lexical_write_integer::buffer::copy_to_front;
-use lexical_write_integer::{NumberFormatBuilder, Options, ToLexicalWithOptions};
+use lexical_write_integer::digit_count::DigitCount;
+use lexical_write_integer::laws::{digit_count_is_least, text_in_groups};
+use lexical_write_integer::{NumberFormat, NumberFormatBuilder, Options, ToLexicalWithOptions};
+
+// Decimal, with a comma between two groups of three digits.
+fn in_thousands() -> NumberFormat
+    ensures { result ≡ record standard { digit_grouping = Some (3, 44) } }
+{
+    NumberFormatBuilder::new()
+        .digit_grouping(3, b',')
+        .build_strict()
+}
 
 /// Writes `$` and the amount in decimal, with a comma between two groups of three digits, to the
 /// front of the array, and returns how many bytes they are. The bytes after them are as before.
@@ -18,9 +29,20 @@ pub fn write_amount(dollars: i64, buffer: &mut [u8; 27]) -> usize
         (IsText dollars (record standard { digit_grouping = Some (3, 44) })))
         buffer.old buffer.new result }
 {
-    let format = NumberFormatBuilder::new()
-        .digit_grouping(3, b',')
-        .build_strict();
     let start = copy_to_front(b"$", buffer);
-    start + dollars.write_lexical_with_options(&mut buffer[start..], &format, &Options::new())
+    start
+        + dollars.write_lexical_with_options(&mut buffer[start..], &in_thousands(), &Options::new())
+}
+
+/// Returns how many bytes an amount that is not negative takes without the `$`, so that amounts can
+/// be written one below the other.
+pub fn width_of_amount(dollars: u64) -> usize
+    ensures { (text : List ℕ)
+        → IsText (pos dollars) (record standard { digit_grouping = Some (3, 44) }) text
+        → length text ≡ result }
+{
+    text_in_groups(dollars, &in_thousands(), 3, b',');
+    digit_count_is_least(10, dollars);
+    let digits = dollars.digit_count(10);
+    digits + (digits - 1) / 3
 }

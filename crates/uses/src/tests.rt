@@ -1,4 +1,4 @@
-use crate::amount::write_amount;
+use crate::amount::{width_of_amount, write_amount};
 use crate::any_format::{have_same_text, text_if_room, text_of_any, text_of_i64};
 use crate::csv_row::write_row;
 use crate::fixed_texts::{million, white};
@@ -215,6 +215,14 @@ fn amounts(rt: HostRuntime) {
     assert!(rt; buffer.starts_with(b"$1,234,567\x07"));
     assert_eq!(rt; write_amount(-9223372036854775808, &mut buffer), 27);
     assert_eq!(rt; buffer, *b"$-9,223,372,036,854,775,808");
+}
+
+#[test]
+fn widths_of_amounts(rt: HostRuntime) {
+    assert_eq!(rt; width_of_amount(0), 1);
+    assert_eq!(rt; width_of_amount(999), 3);
+    assert_eq!(rt; width_of_amount(1000), 5);
+    assert_eq!(rt; width_of_amount(18446744073709551615), 26);
 }
 
 #[test]

@@ -12,13 +12,13 @@ write_sign-sign-requires-clause-room g c =
 pub group_digits-requires-clause-room : goal.group_digits-requires-clause-room
 group_digits-requires-clause-room g c =
     let magnitude = ap unsigned_abs (sym (g.met.T.UnsignedInteger.number_is_magnitude c.args.number)) in
-    omega (arith, grouped_length-le_need (g.T.LexicalInteger.number c.args.number) _ _ c.args.format.now _ _ _ g.met.T.LexicalInteger.decimal_width c.in_range.ensures.at_least c.in_range.ensures.at_most magnitude c.write_mantissa-count.ensures.count)
+    omega (arith, grouped_length-le_need (g.T.LexicalInteger.number c.args.number) _ _ c.args.format.now _ _ _ g.met.T.LexicalInteger.decimal_width c.in_range.ensures.at_least c.in_range.ensures.at_most magnitude c.write_mantissa-count.ensures.digits.count)
 
 pub returns-clause-text : goal.returns-clause-text
 returns-clause-text g c =
     let magnitude = ap unsigned_abs (sym (g.met.T.UnsignedInteger.number_is_magnitude c.args.number)) in
     let some = digit_count-pos c.args.format.now.mantissa_radix (g.T.UnsignedInteger.magnitude c.args.number) in
-    WritesText-over _ _ _ _ _ _ _ _ _ _ c.write_sign-sign.ensures.count c.write_sign-sign.ensures.sign c.write_sign-sign.auto.bytes c.write_sign-sign.ensures.rest (omega (arith, c.write_mantissa-count.ensures.count, some)) magnitude c.write_mantissa-count.ensures.digits c.group_digits.ensures.groups c.group_digits.ensures.count
+    WritesText-over _ _ _ _ _ _ _ _ _ _ c.write_sign-sign.ensures.count c.write_sign-sign.ensures.sign c.write_sign-sign.auto.buffer c.write_sign-sign.ensures.rest (omega (arith, c.write_mantissa-count.ensures.digits.count, some)) magnitude c.write_mantissa-count.ensures.digits c.group_digits.ensures.groups c.group_digits.ensures.count
 
 pub returns-clause-short : goal.returns-clause-short
 returns-clause-short g c =

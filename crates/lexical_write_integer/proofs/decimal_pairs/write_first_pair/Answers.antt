@@ -40,6 +40,3 @@ bounds-buffer-0 c = omega (arith, digit_count-pos 10 c.args.pair, length-set {A 
 
 pub returns-clause-digits : goal.returns-clause-digits
 returns-clause-digits c = digits c.args.pair _ c.args.buffer.now _ c.get_table-table.ensures.table c.requires.pair c.requires.room refl
-
-pub returns-clause-count : goal.returns-clause-count
-returns-clause-count c = counted c.args.pair _ c.requires.pair refl

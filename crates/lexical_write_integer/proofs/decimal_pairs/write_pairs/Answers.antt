@@ -3,7 +3,6 @@ use Rattle.std.proofs.lemmas.List.{append-nil}
 use Rattle.std.proofs.lemmas.List.FromFn.{map-range_with_len_more, length-map-range_with_len}
 use Rattle.lexical_write_integer.specs.Carries.{carried}
 use Rattle.lexical_write_integer.specs.DecimalTurns.{products}
-use Rattle.lexical_write_integer.proofs.BlocksAfter.{WritesDigits-count}
 use Rattle.lexical_write_integer.proofs.Fractions.{rest-more}
 use Rattle.lexical_write_integer.proofs.PairBlocks.{WritesDigits-pair, digit_count-carried, room_for_carried}
 use Rattle.lexical_write_integer.proofs.decimal_pairs.write_pairs.Goals as goal
@@ -33,7 +32,7 @@ loop-init c =
 pub write_two_digits-requires-clause-room : goal.write_two_digits-requires-clause-room
 write_two_digits-requires-clause-room c =
     let room = room_for_carried c.args.fraction (c.loop.counter + 1) c.args.pair_count _ (omega arith) c.requires.room in
-    omega (arith, digit_count-carried c.args.fraction c.loop.counter c.requires.first, WritesDigits-count (omega arith) c.loop.invariant.digits)
+    omega (arith, digit_count-carried c.args.fraction c.loop.counter c.requires.first, c.loop.invariant.digits.count)
 
 pub loop-preserved : goal.loop-preserved
 loop-preserved c =
@@ -55,7 +54,6 @@ returns c =
     let digits = rw all at c.loop.invariant.digits in
     record {
       digits = digits;
-      count = WritesDigits-count (omega arith) digits;
       noted = rw all at c.loop.invariant.notes;
       half = omega (arith, length-products c.args.fraction c.loop.counter);
     }

@@ -10,7 +10,7 @@ digits_are g c = digit_count-is _ _ _ c.requires.radix.at_least_two c.requires.s
 pub returns-clause-table_turns : goal.returns-clause-table_turns
 returns-clause-table_turns g c =
     let digits = digits_are g (goal.at.returns-clause-table_turns g c).After-compact_counted in
-    c.algorithm_counted.ensures.turns ∙ rw (c.new-table.ensures, c.algorithm_counted.ensures.count, digits) (omega arith)
+    c.algorithm_counted.ensures.turns ∙ rw (c.new-table.ensures, c.algorithm_counted.ensures.digits.count, digits) (omega arith)
 
 pub returns-clause-slow_turns : goal.returns-clause-slow_turns
 returns-clause-slow_turns g c =
@@ -20,4 +20,4 @@ returns-clause-slow_turns g c =
 pub returns-clause-compact_turns : goal.returns-clause-compact_turns
 returns-clause-compact_turns g c =
     let digits = digits_are g (goal.at.returns-clause-compact_turns g c).After-compact_counted in
-    c.compact_counted.ensures.turns ∙ rw (c.new-compact.ensures, c.compact_counted.ensures.count, digits) (omega arith)
+    c.compact_counted.ensures.turns ∙ rw (c.new-compact.ensures, c.compact_counted.ensures.digits.count, digits) (omega arith)

@@ -5,4 +5,4 @@ use Rattle.write_integer_tests.proofs.turn_lists.written_turns_of.Goals as goal
 pub returns : goal.returns
 returns g c =
     let digits = digit_count-is _ _ _ c.requires.radix.at_least_two c.requires.some c.requires.enough c.requires.needed in
-    c.write_integer_counted.ensures.turns ∙ rw (c.new-turns.ensures, c.write_integer_counted.ensures.count, digits) (omega arith)
+    c.write_integer_counted.ensures.turns ∙ rw (c.new-turns.ensures, c.write_integer_counted.ensures.digits.count, digits) (omega arith)

@@ -163,7 +163,7 @@ module _ (T : Able) {M : Type 1} {𝓤 : Ura M} (𝓛 : Logic 𝓤) (at_mem : Me
         move ! (1 ∷ []) $ split3 ! $ learn ! (λ lives. drop ! $ learn ! (λ options_live. drop ! $ learn ! (λ le. drop ! $ split ! $
         enter ! 𝓣.C 𝓣.Λ (function T) _ _ $
         alloc_all ! (λ l. pass_all ! refl (typed.0, ((tt, (tt, (record { fits = room.0 }, tt))), ((tt, tt), ((tt, tt), tt)))) $
-        -- let p = &mut *bytes, with its count
+        -- let p = &mut *buffer, with its count
         sets ! (addr ! (from ! (fld ! refl (hop ! (look_in_at ! 2 (sub ! 0 refl (whole !))) (stop !))))) refl (tt, tt) $
         sets ! (agg ! (and_then ! (get ! refl) (and_then ! (get_in ! (fld ! refl (stop !)) (sub ! 1 refl (whole !))) (no_more !)))) refl (tt, (tt, (record { fits = room.0 }, tt))) $
         split ! $ move ! (2 ∷ []) $ split3 ! $

@@ -1,5 +1,5 @@
 use Rattle.lexical_write_integer.proofs.PlainTexts.{IsText-without_marks}
-use Rattle.lexical_write_integer.proofs.laws.text_without_marks.Goals as goal
+use Rattle.lexical_write_integer.proofs.laws.groups.text_without_marks.Goals as goal
 
 pub returns : goal.returns
 returns g c = λ text.
