@@ -1,5 +1,5 @@
 -- How many bytes a caller lends for any number of a type.
-use Rattle.std.specs.Prelude.{ℕ, ◌+◌, if◌then◌else◌, ◌==◌}
+use Rattle.std.specs.Prelude.{ℕ, ◌+◌, ◌*◌, ◌≤◌, if◌then◌else◌, ◌==◌}
 use Rattle.lexical_num.specs.Format.{Format, grouped_length}
 
 -- of a type with these two sizes: in radix 10 the decimal one, with the marks of groups, and a byte more for a required sign,
@@ -9,3 +9,11 @@ size_in formatted_size formatted_size_decimal format =
     if format.mantissa_radix == 10
     then grouped_length format.digit_grouping formatted_size_decimal + (if format.required_mantissa_sign then 1 else 0)
     else formatted_size
+
+-- a buffer of this length has room for each number of a type with these two sizes: in decimal for groups of one digit,
+-- which have as many marks as digits
+pub record IsWithin (room formatted_size formatted_size_decimal : ℕ) : Type 0 where
+  pub some : 1 ≤ formatted_size
+  pub fits : formatted_size ≤ room
+  pub some_decimal : 1 ≤ formatted_size_decimal
+  pub fits_decimal : 2 * formatted_size_decimal ≤ room

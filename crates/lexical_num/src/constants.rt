@@ -1,8 +1,9 @@
 //! How many bytes a number takes at most.
 
-ghost use Rattle.std.specs.Prelude.{ℕ, ◌*◌, ◌≤◌};
+ghost use Rattle.std.specs.Prelude.{ℕ};
 ghost use Rattle.std.proofs.Common.{lit≤};
 ghost use Rattle.lexical_num.specs.declared.constants.TheConstants.{BUFFER_SIZE};
+ghost use Rattle.lexical_num.specs.Size.{IsWithin};
 
 /// The size of a buffer that has room for each number of each type, in each format.
 pub const BUFFER_SIZE: usize = 128;
@@ -19,10 +20,7 @@ pub trait FormattedSize {
 
     ghost FORMATTED_SIZE_DECIMAL: { ℕ };
 
-    ghost size_within_buffer: { (1 ≤ FORMATTED_SIZE) × (FORMATTED_SIZE ≤ BUFFER_SIZE) };
-
-    // Groups of one digit have as many marks as digits.
-    ghost decimal_size_within_buffer: { (1 ≤ FORMATTED_SIZE_DECIMAL) × (2 * FORMATTED_SIZE_DECIMAL ≤ BUFFER_SIZE) };
+    ghost within_buffer: { IsWithin BUFFER_SIZE FORMATTED_SIZE FORMATTED_SIZE_DECIMAL };
 }
 
 impl FormattedSize for u8 {
@@ -34,9 +32,7 @@ impl FormattedSize for u8 {
 
     ghost FORMATTED_SIZE_DECIMAL = { 3 };
 
-    ghost size_within_buffer = { (lit≤ tt, lit≤ tt) };
-
-    ghost decimal_size_within_buffer = { (lit≤ tt, lit≤ tt) };
+    ghost within_buffer = { record { some = lit≤ tt; fits = lit≤ tt; some_decimal = lit≤ tt; fits_decimal = lit≤ tt } };
 }
 
 impl FormattedSize for u16 {
@@ -48,9 +44,7 @@ impl FormattedSize for u16 {
 
     ghost FORMATTED_SIZE_DECIMAL = { 5 };
 
-    ghost size_within_buffer = { (lit≤ tt, lit≤ tt) };
-
-    ghost decimal_size_within_buffer = { (lit≤ tt, lit≤ tt) };
+    ghost within_buffer = { record { some = lit≤ tt; fits = lit≤ tt; some_decimal = lit≤ tt; fits_decimal = lit≤ tt } };
 }
 
 impl FormattedSize for u32 {
@@ -62,9 +56,7 @@ impl FormattedSize for u32 {
 
     ghost FORMATTED_SIZE_DECIMAL = { 10 };
 
-    ghost size_within_buffer = { (lit≤ tt, lit≤ tt) };
-
-    ghost decimal_size_within_buffer = { (lit≤ tt, lit≤ tt) };
+    ghost within_buffer = { record { some = lit≤ tt; fits = lit≤ tt; some_decimal = lit≤ tt; fits_decimal = lit≤ tt } };
 }
 
 impl FormattedSize for u64 {
@@ -76,9 +68,7 @@ impl FormattedSize for u64 {
 
     ghost FORMATTED_SIZE_DECIMAL = { 20 };
 
-    ghost size_within_buffer = { (lit≤ tt, lit≤ tt) };
-
-    ghost decimal_size_within_buffer = { (lit≤ tt, lit≤ tt) };
+    ghost within_buffer = { record { some = lit≤ tt; fits = lit≤ tt; some_decimal = lit≤ tt; fits_decimal = lit≤ tt } };
 }
 
 impl FormattedSize for usize {
@@ -90,9 +80,7 @@ impl FormattedSize for usize {
 
     ghost FORMATTED_SIZE_DECIMAL = { 20 };
 
-    ghost size_within_buffer = { (lit≤ tt, lit≤ tt) };
-
-    ghost decimal_size_within_buffer = { (lit≤ tt, lit≤ tt) };
+    ghost within_buffer = { record { some = lit≤ tt; fits = lit≤ tt; some_decimal = lit≤ tt; fits_decimal = lit≤ tt } };
 }
 
 impl FormattedSize for i8 {
@@ -104,9 +92,7 @@ impl FormattedSize for i8 {
 
     ghost FORMATTED_SIZE_DECIMAL = { 4 };
 
-    ghost size_within_buffer = { (lit≤ tt, lit≤ tt) };
-
-    ghost decimal_size_within_buffer = { (lit≤ tt, lit≤ tt) };
+    ghost within_buffer = { record { some = lit≤ tt; fits = lit≤ tt; some_decimal = lit≤ tt; fits_decimal = lit≤ tt } };
 }
 
 impl FormattedSize for i16 {
@@ -118,9 +104,7 @@ impl FormattedSize for i16 {
 
     ghost FORMATTED_SIZE_DECIMAL = { 6 };
 
-    ghost size_within_buffer = { (lit≤ tt, lit≤ tt) };
-
-    ghost decimal_size_within_buffer = { (lit≤ tt, lit≤ tt) };
+    ghost within_buffer = { record { some = lit≤ tt; fits = lit≤ tt; some_decimal = lit≤ tt; fits_decimal = lit≤ tt } };
 }
 
 impl FormattedSize for i32 {
@@ -132,9 +116,7 @@ impl FormattedSize for i32 {
 
     ghost FORMATTED_SIZE_DECIMAL = { 11 };
 
-    ghost size_within_buffer = { (lit≤ tt, lit≤ tt) };
-
-    ghost decimal_size_within_buffer = { (lit≤ tt, lit≤ tt) };
+    ghost within_buffer = { record { some = lit≤ tt; fits = lit≤ tt; some_decimal = lit≤ tt; fits_decimal = lit≤ tt } };
 }
 
 impl FormattedSize for i64 {
@@ -146,9 +128,7 @@ impl FormattedSize for i64 {
 
     ghost FORMATTED_SIZE_DECIMAL = { 20 };
 
-    ghost size_within_buffer = { (lit≤ tt, lit≤ tt) };
-
-    ghost decimal_size_within_buffer = { (lit≤ tt, lit≤ tt) };
+    ghost within_buffer = { record { some = lit≤ tt; fits = lit≤ tt; some_decimal = lit≤ tt; fits_decimal = lit≤ tt } };
 }
 
 impl FormattedSize for isize {
@@ -160,7 +140,5 @@ impl FormattedSize for isize {
 
     ghost FORMATTED_SIZE_DECIMAL = { 20 };
 
-    ghost size_within_buffer = { (lit≤ tt, lit≤ tt) };
-
-    ghost decimal_size_within_buffer = { (lit≤ tt, lit≤ tt) };
+    ghost within_buffer = { record { some = lit≤ tt; fits = lit≤ tt; some_decimal = lit≤ tt; fits_decimal = lit≤ tt } };
 }

@@ -4,8 +4,8 @@
 ghost use Rattle.std.specs.Prelude.{◌≡◌, ℕ, ℤ, pos, negsuc, ◌-◌, ◌/◌, ◌%◌, ◌^◌, ◌<◌, ◌≤◌, ◌≤ℤ◌, ◌↔◌, IsTrue, refl};
 ghost use Rattle.std.proofs.Common.{rules, lit≤};
 ghost use Rattle.lexical_num.specs.DecimalWidth.{IsDecimalWidth, is_decimal_width};
-ghost use Rattle.lexical_num.specs.Range.{IsRange, unsigned, signed};
-ghost use Rattle.lexical_num.specs.BitWidth.{IsBitWidth, is_8, is_16, is_32, is_64};
+ghost use Rattle.lexical_num.specs.Range.{IsRange, IsUnsigned, unsigned, signed};
+ghost use Rattle.lexical_num.specs.BitWidth.{is_8, is_16, is_32, is_64};
 
 /// An integer type whose numbers can be written.
 pub trait LexicalInteger: Copy {
@@ -302,13 +302,9 @@ pub trait UnsignedInteger: LexicalInteger {
 
     ghost number_is_magnitude: { (x : Self) → Self.number x ≡ pos (magnitude x) };
 
-    ghost least_is_zero: { Self.least ≡ pos 0 };
-
-    ghost greatest_by_bits: { Self.greatest ≡ pos (2 ^ Self.BITS - 1) };
+    ghost range: { IsUnsigned Self.BITS Self.least Self.greatest };
 
     ghost equal_by_number: { (x y : Self) → Self.number x ≡ Self.number y → x ≡ y };
-
-    ghost width_of_bits: { IsBitWidth Self.BITS };
 
     /// Does nothing: its contract tells generic code that the bits of the type hold the number.
     final fn fits_bits(self)
@@ -323,13 +319,9 @@ impl UnsignedInteger for u8 {
 
     ghost number_is_magnitude = { λ _. refl };
 
-    ghost least_is_zero = { refl };
-
-    ghost greatest_by_bits = { refl };
+    ghost range = { record { width = is_8; from_zero = refl; to_greatest = refl } };
 
     ghost equal_by_number = { Prim.search rules };
-
-    ghost width_of_bits = { is_8 };
 
     fn from_u32(value: u32) -> u8 {
         value as u8
@@ -353,13 +345,9 @@ impl UnsignedInteger for u16 {
 
     ghost number_is_magnitude = { λ _. refl };
 
-    ghost least_is_zero = { refl };
-
-    ghost greatest_by_bits = { refl };
+    ghost range = { record { width = is_16; from_zero = refl; to_greatest = refl } };
 
     ghost equal_by_number = { Prim.search rules };
-
-    ghost width_of_bits = { is_16 };
 
     fn from_u32(value: u32) -> u16 {
         value as u16
@@ -383,13 +371,9 @@ impl UnsignedInteger for u32 {
 
     ghost number_is_magnitude = { λ _. refl };
 
-    ghost least_is_zero = { refl };
-
-    ghost greatest_by_bits = { refl };
+    ghost range = { record { width = is_32; from_zero = refl; to_greatest = refl } };
 
     ghost equal_by_number = { Prim.search rules };
-
-    ghost width_of_bits = { is_32 };
 
     fn from_u32(value: u32) -> u32 {
         value
@@ -413,13 +397,9 @@ impl UnsignedInteger for u64 {
 
     ghost number_is_magnitude = { λ _. refl };
 
-    ghost least_is_zero = { refl };
-
-    ghost greatest_by_bits = { refl };
+    ghost range = { record { width = is_64; from_zero = refl; to_greatest = refl } };
 
     ghost equal_by_number = { Prim.search rules };
-
-    ghost width_of_bits = { is_64 };
 
     fn from_u32(value: u32) -> u64 {
         value as u64
@@ -444,13 +424,9 @@ impl UnsignedInteger for usize {
 
     ghost number_is_magnitude = { λ _. refl };
 
-    ghost least_is_zero = { refl };
-
-    ghost greatest_by_bits = { refl };
+    ghost range = { record { width = is_64; from_zero = refl; to_greatest = refl } };
 
     ghost equal_by_number = { Prim.search rules };
-
-    ghost width_of_bits = { is_64 };
 
     fn from_u32(value: u32) -> usize {
         value as usize

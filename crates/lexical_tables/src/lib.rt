@@ -41,57 +41,66 @@ pub fn get_table(radix: u32) -> &'static [u8]
     ensures second { (i : ℕ) → i < radix * radix
         → slice_index result.now (2 * i + 1) ≡ digit_char (i % radix) }
 {
-    written_table(radix)
+    if radix <= 18 {
+        table_to_18(radix)
+    } else {
+        table_from_19(radix)
+    }
 }
 
-// The table of a radix, as it is written out.
-fn written_table(radix: u32) -> &'static [u8]
+// The table of a radix from 2 to 18, as it is written out.
+fn table_to_18(radix: u32) -> &'static [u8]
     requires at_least_two { 2 ≤ radix }
+    requires at_most_18 { radix ≤ 18 }
+    ensures { result.now ≡ pairs radix }
+{
+    match radix {
+        2 => &DIGIT_TO_BASE2_SQUARED,
+        3 => &DIGIT_TO_BASE3_SQUARED,
+        4 => &DIGIT_TO_BASE4_SQUARED,
+        5 => &DIGIT_TO_BASE5_SQUARED,
+        6 => &DIGIT_TO_BASE6_SQUARED,
+        7 => &DIGIT_TO_BASE7_SQUARED,
+        8 => &DIGIT_TO_BASE8_SQUARED,
+        9 => &DIGIT_TO_BASE9_SQUARED,
+        10 => &DIGIT_TO_BASE10_SQUARED,
+        11 => &DIGIT_TO_BASE11_SQUARED,
+        12 => &DIGIT_TO_BASE12_SQUARED,
+        13 => &DIGIT_TO_BASE13_SQUARED,
+        14 => &DIGIT_TO_BASE14_SQUARED,
+        15 => &DIGIT_TO_BASE15_SQUARED,
+        16 => &DIGIT_TO_BASE16_SQUARED,
+        17 => &DIGIT_TO_BASE17_SQUARED,
+        18 => &DIGIT_TO_BASE18_SQUARED,
+        _ => unreachable!(),
+    }
+}
+
+// The table of a radix from 19 to 36, as it is written out.
+fn table_from_19(radix: u32) -> &'static [u8]
+    requires at_least_19 { 19 ≤ radix }
     requires at_most_36 { radix ≤ 36 }
     ensures { result.now ≡ pairs radix }
 {
-    if radix <= 18 {
-        match radix {
-            2 => &DIGIT_TO_BASE2_SQUARED,
-            3 => &DIGIT_TO_BASE3_SQUARED,
-            4 => &DIGIT_TO_BASE4_SQUARED,
-            5 => &DIGIT_TO_BASE5_SQUARED,
-            6 => &DIGIT_TO_BASE6_SQUARED,
-            7 => &DIGIT_TO_BASE7_SQUARED,
-            8 => &DIGIT_TO_BASE8_SQUARED,
-            9 => &DIGIT_TO_BASE9_SQUARED,
-            10 => &DIGIT_TO_BASE10_SQUARED,
-            11 => &DIGIT_TO_BASE11_SQUARED,
-            12 => &DIGIT_TO_BASE12_SQUARED,
-            13 => &DIGIT_TO_BASE13_SQUARED,
-            14 => &DIGIT_TO_BASE14_SQUARED,
-            15 => &DIGIT_TO_BASE15_SQUARED,
-            16 => &DIGIT_TO_BASE16_SQUARED,
-            17 => &DIGIT_TO_BASE17_SQUARED,
-            18 => &DIGIT_TO_BASE18_SQUARED,
-            _ => unreachable!(),
-        }
-    } else {
-        match radix {
-            19 => &DIGIT_TO_BASE19_SQUARED,
-            20 => &DIGIT_TO_BASE20_SQUARED,
-            21 => &DIGIT_TO_BASE21_SQUARED,
-            22 => &DIGIT_TO_BASE22_SQUARED,
-            23 => &DIGIT_TO_BASE23_SQUARED,
-            24 => &DIGIT_TO_BASE24_SQUARED,
-            25 => &DIGIT_TO_BASE25_SQUARED,
-            26 => &DIGIT_TO_BASE26_SQUARED,
-            27 => &DIGIT_TO_BASE27_SQUARED,
-            28 => &DIGIT_TO_BASE28_SQUARED,
-            29 => &DIGIT_TO_BASE29_SQUARED,
-            30 => &DIGIT_TO_BASE30_SQUARED,
-            31 => &DIGIT_TO_BASE31_SQUARED,
-            32 => &DIGIT_TO_BASE32_SQUARED,
-            33 => &DIGIT_TO_BASE33_SQUARED,
-            34 => &DIGIT_TO_BASE34_SQUARED,
-            35 => &DIGIT_TO_BASE35_SQUARED,
-            36 => &DIGIT_TO_BASE36_SQUARED,
-            _ => unreachable!(),
-        }
+    match radix {
+        19 => &DIGIT_TO_BASE19_SQUARED,
+        20 => &DIGIT_TO_BASE20_SQUARED,
+        21 => &DIGIT_TO_BASE21_SQUARED,
+        22 => &DIGIT_TO_BASE22_SQUARED,
+        23 => &DIGIT_TO_BASE23_SQUARED,
+        24 => &DIGIT_TO_BASE24_SQUARED,
+        25 => &DIGIT_TO_BASE25_SQUARED,
+        26 => &DIGIT_TO_BASE26_SQUARED,
+        27 => &DIGIT_TO_BASE27_SQUARED,
+        28 => &DIGIT_TO_BASE28_SQUARED,
+        29 => &DIGIT_TO_BASE29_SQUARED,
+        30 => &DIGIT_TO_BASE30_SQUARED,
+        31 => &DIGIT_TO_BASE31_SQUARED,
+        32 => &DIGIT_TO_BASE32_SQUARED,
+        33 => &DIGIT_TO_BASE33_SQUARED,
+        34 => &DIGIT_TO_BASE34_SQUARED,
+        35 => &DIGIT_TO_BASE35_SQUARED,
+        36 => &DIGIT_TO_BASE36_SQUARED,
+        _ => unreachable!(),
     }
 }

@@ -15,6 +15,6 @@ returns-clause-turns g c = turns_are g (goal.at.returns-clause-turns g c).After-
 
 pub returns-clause-few_turns : goal.returns-clause-few_turns
 returns-clause-few_turns g c =
-    let fits : g.T.UnsignedInteger.magnitude c.args.value < 2 ^ 64 = omega (arith, c.fits_bits.ensures, pow-le-pow_right {n = 2} (omega arith) {i = g.T.LexicalInteger.BITS} {j = 64} (width-le_64 _ g.met.T.UnsignedInteger.width_of_bits)) in
+    let fits : g.T.UnsignedInteger.magnitude c.args.value < 2 ^ 64 = omega (arith, c.fits_bits.ensures, pow-le-pow_right {n = 2} (omega arith) {i = g.T.LexicalInteger.BITS} {j = 64} (width-le_64 _ g.met.T.UnsignedInteger.range.width)) in
     let few = rw (← c.write_number.ensures.digits.count) at (table_turns-le_21 c.args.radix (g.T.UnsignedInteger.magnitude c.args.value) c.requires.radix.at_least_two fits) in
     omega (arith, turns_are g (goal.at.returns-clause-few_turns g c).After-write_number, few)

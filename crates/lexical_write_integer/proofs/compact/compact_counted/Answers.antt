@@ -6,7 +6,7 @@ use Rattle.lexical_write_integer.proofs.compact.compact_counted.Goals as goal
 
 pub write_in_radix-index-requires-clause-room : goal.write_in_radix-index-requires-clause-room
 write_in_radix-index-requires-clause-room g c =
-    rw c.as_usize.ensures (omega (arith, digit_count-le_64 _ _ _ c.requires.radix.at_least_two g.met.T.UnsignedInteger.width_of_bits c.fits_bits.ensures))
+    rw c.as_usize.ensures (omega (arith, digit_count-le_64 _ _ _ c.requires.radix.at_least_two g.met.T.UnsignedInteger.range.width c.fits_bits.ensures))
 
 pub returns-clause-turns : goal.returns-clause-turns
 returns-clause-turns g c =

@@ -23,11 +23,11 @@ one_more g c =
 
 pub overflow_add-result : goal.overflow_add-result
 overflow_add-result g c =
-    omega (arith, two_more g c, digit_count-le_64 10 (g.T.UnsignedInteger.magnitude c.args.x) g.T.LexicalInteger.BITS (omega arith) g.met.T.UnsignedInteger.width_of_bits c.fits_bits.ensures)
+    omega (arith, two_more g c, digit_count-le_64 10 (g.T.UnsignedInteger.magnitude c.args.x) g.T.LexicalInteger.BITS (omega arith) g.met.T.UnsignedInteger.range.width c.fits_bits.ensures)
 
 pub overflow_add-result-else-log10-table : goal.overflow_add-result-else-log10-table
 overflow_add-result-else-log10-table g c =
-    omega (arith, one_more g c, digit_count-le_64 10 (g.T.UnsignedInteger.magnitude c.args.x) g.T.LexicalInteger.BITS (omega arith) g.met.T.UnsignedInteger.width_of_bits c.fits_bits.ensures)
+    omega (arith, one_more g c, digit_count-le_64 10 (g.T.UnsignedInteger.magnitude c.args.x) g.T.LexicalInteger.BITS (omega arith) g.met.T.UnsignedInteger.range.width c.fits_bits.ensures)
 
 pub returns-then-is_at_least : goal.returns-then-is_at_least
 returns-then-is_at_least g c = two_more g c

@@ -20,7 +20,7 @@ divide_once-left-requires g c = omega (arith, c.in-Some.ensures.power, power-gt_
 
 pub overflow_add-taken : goal.overflow_add-taken
 overflow_add-taken g c =
-    let narrow = digit_count-le_64 _ _ _ c.requires.radix.at_least_two g.met.T.UnsignedInteger.width_of_bits c.fits_bits.ensures in
+    let narrow = digit_count-le_64 _ _ _ c.requires.radix.at_least_two g.met.T.UnsignedInteger.range.width c.fits_bits.ensures in
     omega (arith, c.loop-power.invariant.fewer, step-le_4 _ c.requires.step)
 
 pub loop-power-smaller : goal.loop-power-smaller

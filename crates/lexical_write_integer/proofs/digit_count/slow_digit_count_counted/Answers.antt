@@ -14,11 +14,11 @@ notes_are g c = slow_notes-are c.requires.at_least_two c.divide_while_long-left.
 
 pub overflow_add-result-2 : goal.overflow_add-result-2
 overflow_add-result-2 g c =
-    omega (arith, count_is g c, digit_count-le_64 _ _ _ c.requires.at_least_two g.met.T.UnsignedInteger.width_of_bits c.fits_bits.ensures)
+    omega (arith, count_is g c, digit_count-le_64 _ _ _ c.requires.at_least_two g.met.T.UnsignedInteger.range.width c.fits_bits.ensures)
 
 pub overflow_add-result-3 : goal.overflow_add-result-3
 overflow_add-result-3 g c =
-    omega (arith, count_is g c, digit_count-le_64 _ _ _ c.requires.at_least_two g.met.T.UnsignedInteger.width_of_bits c.fits_bits.ensures)
+    omega (arith, count_is g c, digit_count-le_64 _ _ _ c.requires.at_least_two g.met.T.UnsignedInteger.range.width c.fits_bits.ensures)
 
 pub returns-clause-count : goal.returns-clause-count
 returns-clause-count g c = count_is g c

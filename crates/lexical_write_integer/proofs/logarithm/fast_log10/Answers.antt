@@ -5,7 +5,7 @@ use Rattle.lexical_write_integer.proofs.logarithm.fast_log10.Goals as goal
 
 pub returns : goal.returns
 returns g c =
-    let narrow = width-le_64 g.T.LexicalInteger.BITS g.met.T.UnsignedInteger.width_of_bits in
+    let narrow = width-le_64 g.T.LexicalInteger.BITS g.met.T.UnsignedInteger.range.width in
     record {
       log2 = c.fast_log2.result;
       is_log2 = c.fast_log2.ensures.log2;

@@ -53,6 +53,6 @@ returns-clause-within g c =
             | inr none ↦
                 let one = number_of_none g c (omega arith) in
                 let first = place_of_one k (rw one at (at_least g c (omega (arith, one)))) in
-                absurd (omega (arith, first, width-some bits g.met.T.UnsignedInteger.width_of_bits))
+                absurd (omega (arith, first, width-some bits g.met.T.UnsignedInteger.range.width))
           ]
     ]

@@ -34,8 +34,8 @@ returns-clause-notes g c = slow_notes-are c.requires.radix.at_least_two c.keep_q
 
 pub overflow_add-result-2 : goal.overflow_add-result-2
 overflow_add-result-2 g c =
-    omega (arith, count_is g (goal.at.overflow_add-result-2 g c).After-divide_last-by_one, digit_count-le_64 _ _ _ c.requires.radix.at_least_two g.met.T.UnsignedInteger.width_of_bits c.fits_bits.ensures)
+    omega (arith, count_is g (goal.at.overflow_add-result-2 g c).After-divide_last-by_one, digit_count-le_64 _ _ _ c.requires.radix.at_least_two g.met.T.UnsignedInteger.range.width c.fits_bits.ensures)
 
 pub overflow_add-result-3 : goal.overflow_add-result-3
 overflow_add-result-3 g c =
-    omega (arith, count_is g (goal.at.overflow_add-result-3 g c).After-divide_last-by_one, digit_count-le_64 _ _ _ c.requires.radix.at_least_two g.met.T.UnsignedInteger.width_of_bits c.fits_bits.ensures)
+    omega (arith, count_is g (goal.at.overflow_add-result-3 g c).After-divide_last-by_one, digit_count-le_64 _ _ _ c.requires.radix.at_least_two g.met.T.UnsignedInteger.range.width c.fits_bits.ensures)

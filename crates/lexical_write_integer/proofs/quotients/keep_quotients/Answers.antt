@@ -19,7 +19,7 @@ few g c =
 
 narrow : (g : _) (c : In-loop-power g) → c.loop-power.count < 16
 narrow g c =
-    omega (arith, c.loop-power.invariant.divided.fewer, digit_count-le_64 _ _ _ c.requires.radix.at_least_two g.met.T.UnsignedInteger.width_of_bits c.fits_bits.ensures)
+    omega (arith, c.loop-power.invariant.divided.fewer, digit_count-le_64 _ _ _ c.requires.radix.at_least_two g.met.T.UnsignedInteger.range.width c.fits_bits.ensures)
 
 pub from_u32-power-requires : goal.from_u32-power-requires
 from_u32-power-requires g c =

@@ -8,5 +8,5 @@ returns-clause-size g c =
 
 pub returns-clause-buffer : goal.returns-clause-buffer
 returns-clause-buffer g c =
-    let size = g.T.FormattedSize in
-    size_in-within g.T.FormattedSize.FORMATTED_SIZE g.T.FormattedSize.FORMATTED_SIZE_DECIMAL c.args.format.now size.size_within_buffer.1 size.decimal_size_within_buffer.0 size.decimal_size_within_buffer.1
+    let room = g.T.FormattedSize.within_buffer in
+    size_in-within g.T.FormattedSize.FORMATTED_SIZE g.T.FormattedSize.FORMATTED_SIZE_DECIMAL c.args.format.now room.fits room.some_decimal room.fits_decimal
