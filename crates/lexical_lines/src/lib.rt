@@ -27,8 +27,6 @@ mod space;
 
 // The laws of lines and answers, for callers.
 pub mod laws;
-#[cfg(test)]
-mod tests;
 
 pub use exit_status::status;
 pub use joined::{join, write_joined};

@@ -1,3 +1,5 @@
+mod formats;
+
 ghost use Rattle.std.specs.Prelude.{◌≡◌, ◌^◌, ◌<◌};
 ghost use Rattle.lexical_num.specs.Size.{size_in};
 

@@ -38,8 +38,6 @@ pub mod turns;
 
 // Facts for callers.
 pub mod laws;
-#[cfg(test)]
-mod tests;
 
 pub use api::{ToLexical, ToLexicalWithOptions};
 pub use lexical_num::constants::{BUFFER_SIZE, FormattedSize};

@@ -1,29 +1,41 @@
 // Single calls on known numbers, each in a buffer of a known length.
 
-use crate::texts::{check_in, check_standard};
-use lexical_num::options::{Options, WriteOptions};
+use crate::texts::{check_decimal, check_in, check_standard};
 use lexical_write_integer::format::STANDARD;
 use lexical_write_integer::laws::digit_count_at_most;
 use lexical_write_integer::write::WriteInteger;
-use lexical_write_integer::{NumberFormatBuilder, ToLexical, ToLexicalWithOptions};
+use lexical_write_integer::{
+    BUFFER_SIZE, NumberFormatBuilder, Options, ToLexical, ToLexicalWithOptions, WriteOptions,
+};
 
 #[test]
 fn buffers_of_the_decimal_width(rt: HostRuntime) {
-    let mut three = [7; 3];
-    assert_eq!(rt; &*255u8.to_lexical(&mut three), b"255".as_slice());
-    assert_eq!(rt; three, *b"255");
-    let mut twenty = [7; 20];
-    assert_eq!(rt;
-        &*u64::MAX.to_lexical(&mut twenty),
-        b"18446744073709551615".as_slice()
-    );
-    assert_eq!(rt; twenty, *b"18446744073709551615");
-    let options = Options::new();
+    check_decimal(&rt, 255u8, 3, b"255");
+    check_decimal(&rt, u64::MAX, 20, b"18446744073709551615");
     let decimal = NumberFormatBuilder::new().radix(10).build_strict();
-    let mut ten = [7; 10];
-    let front = 4294967295u32.to_lexical_with_options(&mut ten, &decimal, &options);
-    assert_eq!(rt; &*front, b"4294967295".as_slice());
-    assert_eq!(rt; ten, *b"4294967295");
+    check_in(
+        &rt,
+        4294967295u32,
+        &decimal,
+        &Options::new(),
+        10,
+        b"4294967295",
+    );
+    let mut three = [7; 3];
+    assert_eq!(rt; 255u8.write_lexical(&mut three), 3);
+    assert_eq!(rt; three, *b"255");
+}
+
+#[test]
+fn what_is_left_in_the_front_is_left_in_the_buffer(rt: HostRuntime) {
+    let mut buffer = [7; 21];
+    let front = 1234u64.to_lexical(&mut buffer);
+    assert_eq!(rt; &*front, b"1234".as_slice());
+    front[0] = 57;
+    assert_eq!(rt;
+        buffer,
+        *b"9234\x07\x07\x07\x07\x07\x07\x07\x07\x07\x07\x07\x07\x07\x07\x07\x07\x07"
+    );
 }
 
 #[test]
@@ -138,6 +150,12 @@ fn sizes_in_four_formats(rt: HostRuntime) {
 }
 
 #[test]
+fn names_at_the_root(rt: HostRuntime) {
+    assert_eq!(rt; NumberFormatBuilder::new().build_strict(), STANDARD);
+    assert_eq!(rt; BUFFER_SIZE, 128);
+}
+
+#[test]
 fn options_test(rt: HostRuntime) {
     let options = Options::new();
     check_in(&rt, 0u8, &STANDARD, &options, 128, b"0");
@@ -152,18 +170,10 @@ fn options_test(rt: HostRuntime) {
 
 #[test]
 fn zero_leaves_the_rest_of_a_wider_buffer(rt: HostRuntime) {
-    let mut five = [7; 5];
-    assert_eq!(rt; &*0i16.to_lexical(&mut five), b"0".as_slice());
-    assert_eq!(rt; five, [48, 7, 7, 7, 7]);
-    let mut ten = [7; 10];
-    assert_eq!(rt; &*0i32.to_lexical(&mut ten), b"0".as_slice());
-    assert_eq!(rt; ten, [48, 7, 7, 7, 7, 7, 7, 7, 7, 7]);
-    let mut nineteen = [7; 19];
-    assert_eq!(rt; &*0i64.to_lexical(&mut nineteen), b"0".as_slice());
-    assert_eq!(rt;
-        nineteen,
-        *b"0\x07\x07\x07\x07\x07\x07\x07\x07\x07\x07\x07\x07\x07\x07\x07\x07\x07\x07"
-    );
+    check_decimal(&rt, 0u8, 3, b"0");
+    check_decimal(&rt, 0i16, 5, b"0");
+    check_decimal(&rt, 0i32, 10, b"0");
+    check_decimal(&rt, 0i64, 19, b"0");
 }
 
 #[test]

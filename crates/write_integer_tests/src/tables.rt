@@ -1,6 +1,8 @@
 //! The table writer and the plain writer.
 
+ghost use Rattle.std.specs.Prelude.{◌≤◌};
 ghost use Rattle.lexical_num.specs.Format.{IsRadix};
+ghost use Rattle.lexical_write_integer.specs.DigitCount.{digit_count};
 
 use crate::buffers::check_front;
 use lexical_num::num::UnsignedInteger;
@@ -12,19 +14,29 @@ use lexical_write_integer::radix::Radix;
 use lexical_write_integer::table::get_table;
 use std::process::Abort;
 
-// Both writers write the text into room of just its length.
+// Both writers write the text into `room` bytes.
+fn check_in<T: Radix + Compact>(rt: &impl Abort, value: T, radix: u32, room: usize, text: &[u8])
+    requires radix { IsRadix radix }
+    requires digits { digit_count radix (T.magnitude value) ≤ room }
+    requires room { room ≤ 67 }
+{
+    let mut buffer = [7u8; 67];
+    assert_eq!(rt; value.radix(radix, &mut buffer[..room]), text.len());
+    check_front(rt, &buffer, text);
+    let mut buffer = [7u8; 67];
+    assert_eq!(rt; value.compact(radix, &mut buffer[..room]), text.len());
+    check_front(rt, &buffer, text);
+}
+
+// Both writers write the text into room of just its length, and into more.
 fn check<T: DigitCount + Radix + Compact>(rt: &impl Abort, value: T, radix: u32, text: &[u8])
     requires { IsRadix radix }
 {
     digit_count_is_least(radix, value.as_usize() as u64);
     let count = value.digit_count(radix);
     assert_eq!(rt; count, text.len());
-    let mut buffer = [7u8; 67];
-    assert_eq!(rt; value.radix(radix, &mut buffer[..count]), count);
-    check_front(rt, &buffer, text);
-    let mut buffer = [7u8; 67];
-    assert_eq!(rt; value.compact(radix, &mut buffer[..count]), count);
-    check_front(rt, &buffer, text);
+    check_in(rt, value, radix, count, text);
+    check_in(rt, value, radix, 67, text);
 }
 
 // The texts of a number in the radices from 2 to 36, in order.
@@ -76,6 +88,7 @@ fn numbers_in_each_radix(rt: HostRuntime) {
 
 #[test]
 fn small_numbers_in_binary(rt: HostRuntime) {
+    check(&rt, 0u8, 2, b"0");
     check(&rt, 0u64, 2, b"0");
     check(&rt, 1u64, 2, b"1");
     check(&rt, 5u64, 2, b"101");
@@ -90,7 +103,9 @@ fn greatest_numbers(rt: HostRuntime) {
     check(&rt, 255u8, 16, b"FF");
     check(&rt, 65535u16, 15, b"14640");
     check(&rt, 65535u16, 16, b"FFFF");
+    check(&rt, u64::MAX, 2, &[b'1'; 64]);
     check(&rt, u64::MAX, 16, b"FFFFFFFFFFFFFFFF");
+    check(&rt, usize::MAX, 16, b"FFFFFFFFFFFFFFFF");
     check(&rt, u64::MAX, 36, b"3W5E11264SGSF");
     check(&rt, usize::MAX, 36, b"3W5E11264SGSF");
 }

@@ -8,17 +8,25 @@ use crate::buffers::check_front;
 use lexical_num::num::LexicalInteger;
 use lexical_num::options::{Options, WriteOptions};
 use lexical_write_integer::format::STANDARD;
-use lexical_write_integer::laws::digit_count_at_most;
+use lexical_write_integer::laws::{digit_count_at_most, equal_texts, order};
 use lexical_write_integer::{NumberFormat, NumberFormatBuilder, ToLexical, ToLexicalWithOptions};
 use std::process::Abort;
+
+// Writes in the standard format into `room` bytes.
+pub(crate) fn check_decimal<T: ToLexical>(rt: &impl Abort, value: T, room: usize, text: &[u8])
+    requires need { need (T.number value) T.DECIMAL_WIDTH standard ≤ room }
+    requires room { room ≤ 20 }
+{
+    let mut buffer = [7u8; 20];
+    assert_eq!(rt; &*value.to_lexical(&mut buffer[..room]), text);
+    check_front(rt, &buffer, text);
+}
 
 // Writes in the standard format into 20 bytes.
 pub(crate) fn check_standard<T: ToLexical>(rt: &impl Abort, value: T, text: &[u8])
     requires { need (T.number value) T.DECIMAL_WIDTH standard ≤ 20 }
 {
-    let mut buffer = [7u8; 20];
-    assert_eq!(rt; &*value.to_lexical(&mut buffer), text);
-    check_front(rt, &buffer, text);
+    check_decimal(rt, value, 20, text);
 }
 
 // More than the length of each text.
@@ -181,4 +189,23 @@ fn buffers_of_just_the_need(rt: HostRuntime) {
     least[1] = b'1';
     digit_count_at_most(2, 9223372036854775808, 64);
     check_in(&rt, -9223372036854775808i64, &binary, &options, 65, &least);
+}
+
+#[test]
+fn texts_are_in_the_order_of_the_numbers(rt: HostRuntime) {
+    let format = NumberFormatBuilder::from_radix(36);
+    let options = Options::new();
+    digit_count_at_most(36, 9, 1);
+    digit_count_at_most(36, 10, 1);
+    digit_count_at_most(36, 35, 1);
+    digit_count_at_most(36, 36, 2);
+    order(9u8, 10, &format);
+    check_in(&rt, 9u8, &format, &options, 2, b"9");
+    check_in(&rt, 10u8, &format, &options, 2, b"A");
+    order(35i32, 36, &format);
+    check_in(&rt, 35i32, &format, &options, 2, b"Z");
+    check_in(&rt, 36i32, &format, &options, 2, b"10");
+    equal_texts(-10i64, 10, &format);
+    check_in(&rt, -10i64, &format, &options, 2, b"-A");
+    check_in(&rt, 10i64, &format, &options, 2, b"A");
 }

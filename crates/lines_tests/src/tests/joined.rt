@@ -1,4 +1,6 @@
-use crate::{join, write_joined};
+// The texts of several numbers.
+
+use lexical_lines::{join, write_joined};
 use lexical_num::format::STANDARD;
 use lexical_num::format_builder::NumberFormatBuilder;
 use lexical_num::options::Options;

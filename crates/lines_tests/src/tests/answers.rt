@@ -1,32 +1,9 @@
-use crate::{SliceSink, SliceSource, answer_slice, run, status};
+// The answers to known lines, and the exit status.
+
+use crate::tests::runs::{check, outcome, run_from};
+use lexical_lines::{SliceSource, answer_slice, status};
 use std::io;
 use std::io::ErrorKind;
-use std::process::Abort;
-
-// Runs over the input into a buffer of `room` bytes, which takes exactly the output; every byte after
-// it is unchanged.
-fn run_over(rt: &impl Abort, input: &[u8], room: usize, output: &[u8]) -> io::Result<bool> {
-    let mut buffer = [b'.'; 256];
-    assert!(rt; room <= 256);
-    let mut source = SliceSource::new(input);
-    let mut sink = SliceSink::new(&mut buffer[..room]);
-    let ran = run(&mut source, &mut sink);
-    let count = sink.len();
-    assert!(rt; count <= 255);
-    assert_eq!(rt; &buffer[..count], output);
-    assert_eq!(rt; buffer[count], b'.');
-    ran
-}
-
-// A run, and the call over slices: both write the output.
-fn check(rt: &impl Abort, input: &[u8], output: &[u8], all_good: bool) {
-    let ran = run_over(rt, input, 256, output);
-    assert!(rt; matches!(ran, Ok(good) if good == all_good));
-    let mut buffer = [b'.'; 256];
-    let answered = answer_slice(input, &mut buffer);
-    assert_eq!(rt; answered, Some(output.len()));
-    assert!(rt; buffer.starts_with(output));
-}
 
 #[test]
 fn lines_are_answered(rt: HostRuntime) {
@@ -88,21 +65,12 @@ fn bad_types_radices_and_values(rt: HostRuntime) {
 }
 
 #[test]
-fn lines_of_64_and_65_bytes(rt: HostRuntime) {
-    check(
-        &rt,
-        b"u8 10 0000000000000000000000000000000000000000000000000000000005\n\
-          u8 10 00000000000000000000000000000000000000000000000000000000005",
-        b"5\nbad line 2\n",
-        false,
-    );
-}
-
-#[test]
-fn a_full_sink(rt: HostRuntime) {
-    let ran = run_over(&rt, b"i8 10 -128", 3, b"-12");
+fn full_sinks(rt: HostRuntime) {
+    let ran = run_from(&rt, &mut SliceSource::new(b"u8 10 256"), 5, b"bad l");
+    assert_eq!(&rt; outcome(ran), Err(ErrorKind::WriteZero));
+    let ran = run_from(&rt, &mut SliceSource::new(b"i8 10 -128"), 3, b"-12");
     assert_eq!(&rt; status(&ran, true), 2);
-    assert!(&rt; matches!(ran, Err(error) if error.kind() == ErrorKind::WriteZero));
+    assert_eq!(&rt; outcome(ran), Err(ErrorKind::WriteZero));
     let mut buffer = [b'.'; 3];
     assert_eq!(&rt; answer_slice(b"i8 10 -128", &mut buffer), None);
     assert_eq!(&rt; buffer, *b"-12");

@@ -1,7 +1,9 @@
+mod answers;
 mod devices;
 mod faults;
-mod formats;
+mod joined;
 mod lines;
 mod memory;
 mod runs;
 mod single_runs;
+mod streams;

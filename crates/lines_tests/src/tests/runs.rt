@@ -1,0 +1,46 @@
+// How a run ended, and what it put.
+
+use lexical_lines::{ByteSource, SliceSink, SliceSource, answer_slice, run};
+use std::io;
+use std::io::ErrorKind;
+use std::process::Abort;
+
+/// Whether all lines were good ones, or which kind of error ended the run.
+pub fn outcome(ran: io::Result<bool>) -> Result<bool, ErrorKind> {
+    match ran {
+        Ok(all_good) => Ok(all_good),
+        Err(error) => Err(error.kind()),
+    }
+}
+
+/// The output stands at the front of the buffer, and every byte after it is unchanged.
+pub fn check_front(rt: &impl Abort, buffer: &[u8], output: &[u8]) {
+    assert!(rt; buffer.starts_with(output));
+    assert!(rt; buffer[output.len()..].iter().all(|byte| *byte == b'.'));
+}
+
+/// Runs into a buffer of this number of bytes, at most 256. The output is what was put, and the bytes
+/// after it are unchanged. Returns how the run ended.
+pub fn run_from<S: ByteSource>(
+    rt: &impl Abort,
+    source: &mut S,
+    room: usize,
+    output: &[u8],
+) -> io::Result<bool> {
+    let mut buffer = [b'.'; 256];
+    assert!(rt; room <= 256);
+    let mut sink = SliceSink::new(&mut buffer[..room]);
+    let ran = run(source, &mut sink);
+    assert_eq!(rt; sink.len(), output.len());
+    check_front(rt, &buffer, output);
+    ran
+}
+
+/// Runs over the input, and answers it as a slice: both write this output, of at most 256 bytes.
+pub fn check(rt: &impl Abort, input: &[u8], output: &[u8], all_good: bool) {
+    let ran = run_from(rt, &mut SliceSource::new(input), 256, output);
+    assert_eq!(rt; outcome(ran), Ok(all_good));
+    let mut buffer = [b'.'; 256];
+    assert_eq!(rt; answer_slice(input, &mut buffer), Some(output.len()));
+    check_front(rt, &buffer, output);
+}
