@@ -105,19 +105,19 @@ size_t lexical_write_u64(uint64_t value, uint32_t radix, bool required_sign,
 size_t lexical_write_size(size_t value, uint32_t radix, bool required_sign,
                           char *buffer, size_t length);
 
-/* Writes a int8_t. */
+/* Writes an int8_t. */
 size_t lexical_write_i8(int8_t value, uint32_t radix, bool required_sign,
                         char *buffer, size_t length);
 
-/* Writes a int16_t. */
+/* Writes an int16_t. */
 size_t lexical_write_i16(int16_t value, uint32_t radix, bool required_sign,
                          char *buffer, size_t length);
 
-/* Writes a int32_t. */
+/* Writes an int32_t. */
 size_t lexical_write_i32(int32_t value, uint32_t radix, bool required_sign,
                          char *buffer, size_t length);
 
-/* Writes a int64_t. */
+/* Writes an int64_t. */
 size_t lexical_write_i64(int64_t value, uint32_t radix, bool required_sign,
                          char *buffer, size_t length);
 
@@ -172,22 +172,22 @@ size_t lexical_write_grouped_size(size_t value, uint32_t radix,
                                   bool required_sign, uint32_t group_size,
                                   uint32_t mark, char *buffer, size_t length);
 
-/* Writes a int8_t in groups. */
+/* Writes an int8_t in groups. */
 size_t lexical_write_grouped_i8(int8_t value, uint32_t radix,
                                 bool required_sign, uint32_t group_size,
                                 uint32_t mark, char *buffer, size_t length);
 
-/* Writes a int16_t in groups. */
+/* Writes an int16_t in groups. */
 size_t lexical_write_grouped_i16(int16_t value, uint32_t radix,
                                  bool required_sign, uint32_t group_size,
                                  uint32_t mark, char *buffer, size_t length);
 
-/* Writes a int32_t in groups. */
+/* Writes an int32_t in groups. */
 size_t lexical_write_grouped_i32(int32_t value, uint32_t radix,
                                  bool required_sign, uint32_t group_size,
                                  uint32_t mark, char *buffer, size_t length);
 
-/* Writes a int64_t in groups. */
+/* Writes an int64_t in groups. */
 size_t lexical_write_grouped_i64(int64_t value, uint32_t radix,
                                  bool required_sign, uint32_t group_size,
                                  uint32_t mark, char *buffer, size_t length);

@@ -1,2 +1,3 @@
+pub mod Buffer
+pub mod BufferSize
 pub mod Format
-pub mod Room

@@ -1,25 +1,18 @@
 //! The size of buffer that is enough for each number of a type.
 
-ghost use Rattle.std.specs.Prelude.{◌≡◌, ◌<◌, ◌≤◌, ◌↔◌, None, Some};
-ghost use Rattle.lexical_num.specs.Format.{IsValid};
-ghost use Rattle.lexical_num.specs.Size.{size_in};
+ghost use Rattle.lexical_c.specs.BufferSize.{IsBufferSize};
 ghost use Rattle.lexical_c.specs.Format.{format_of};
-ghost use Rattle.lexical_c.specs.Room.{IsEnough};
 
 use crate::format::format_of;
 use crate::integer::CInteger;
 use lexical_num::num::LexicalInteger;
-use lexical_write_integer::{BUFFER_SIZE, FormattedSize, Options, WriteOptions};
+use lexical_write_integer::{FormattedSize, Options, WriteOptions};
 
 // Returns the size that is enough for each number of the type in the format of these parts, and 0
 // where no number can be written in it.
 fn buffer_size<T: CInteger>(radix: u32, required_sign: bool, grouping: Option<(u32, u32)>) -> usize
-    ensures accepts { 0 < result ↔ IsValid (format_of radix required_sign grouping) }
-    ensures size { 0 < result → result ≡ size_in T.FORMATTED_SIZE T.FORMATTED_SIZE_DECIMAL
-        (format_of radix required_sign grouping) }
-    ensures enough { 0 < result → IsEnough T.least T.greatest T.DECIMAL_WIDTH
-        (format_of radix required_sign grouping) result }
-    ensures within { result ≤ BUFFER_SIZE }
+    ensures { IsBufferSize T.least T.greatest T.DECIMAL_WIDTH
+        T.FORMATTED_SIZE T.FORMATTED_SIZE_DECIMAL (format_of radix required_sign grouping) result }
 {
     match format_of(radix, required_sign, grouping) {
         Some(format) => Options::new().buffer_size::<T>(&format),
@@ -30,14 +23,10 @@ fn buffer_size<T: CInteger>(radix: u32, required_sign: bool, grouping: Option<(u
 /// Returns the size for each `uint8_t`, as `buffer_size` does, without groups.
 #[unsafe(no_mangle)]
 pub extern "C" fn lexical_buffer_size_u8(radix: u32, required_sign: bool) -> usize
-    ensures accepts { 0 < result ↔ IsValid (format_of radix required_sign None) }
-    ensures size { 0 < result → result ≡ size_in ⟦<u8 as FormattedSize>⟧.FORMATTED_SIZE
+    ensures { IsBufferSize ⟦<u8 as LexicalInteger>⟧.least ⟦<u8 as LexicalInteger>⟧.greatest
+        ⟦<u8 as LexicalInteger>⟧.DECIMAL_WIDTH ⟦<u8 as FormattedSize>⟧.FORMATTED_SIZE
         ⟦<u8 as FormattedSize>⟧.FORMATTED_SIZE_DECIMAL
-        (format_of radix required_sign None) }
-    ensures enough { 0 < result → IsEnough ⟦<u8 as LexicalInteger>⟧.least
-        ⟦<u8 as LexicalInteger>⟧.greatest ⟦<u8 as LexicalInteger>⟧.DECIMAL_WIDTH
         (format_of radix required_sign None) result }
-    ensures within { result ≤ BUFFER_SIZE }
 {
     buffer_size::<u8>(radix, required_sign, None)
 }
@@ -45,14 +34,10 @@ pub extern "C" fn lexical_buffer_size_u8(radix: u32, required_sign: bool) -> usi
 /// Returns the size for each `uint16_t`, as `buffer_size` does, without groups.
 #[unsafe(no_mangle)]
 pub extern "C" fn lexical_buffer_size_u16(radix: u32, required_sign: bool) -> usize
-    ensures accepts { 0 < result ↔ IsValid (format_of radix required_sign None) }
-    ensures size { 0 < result → result ≡ size_in ⟦<u16 as FormattedSize>⟧.FORMATTED_SIZE
+    ensures { IsBufferSize ⟦<u16 as LexicalInteger>⟧.least ⟦<u16 as LexicalInteger>⟧.greatest
+        ⟦<u16 as LexicalInteger>⟧.DECIMAL_WIDTH ⟦<u16 as FormattedSize>⟧.FORMATTED_SIZE
         ⟦<u16 as FormattedSize>⟧.FORMATTED_SIZE_DECIMAL
-        (format_of radix required_sign None) }
-    ensures enough { 0 < result → IsEnough ⟦<u16 as LexicalInteger>⟧.least
-        ⟦<u16 as LexicalInteger>⟧.greatest ⟦<u16 as LexicalInteger>⟧.DECIMAL_WIDTH
         (format_of radix required_sign None) result }
-    ensures within { result ≤ BUFFER_SIZE }
 {
     buffer_size::<u16>(radix, required_sign, None)
 }
@@ -60,14 +45,10 @@ pub extern "C" fn lexical_buffer_size_u16(radix: u32, required_sign: bool) -> us
 /// Returns the size for each `uint32_t`, as `buffer_size` does, without groups.
 #[unsafe(no_mangle)]
 pub extern "C" fn lexical_buffer_size_u32(radix: u32, required_sign: bool) -> usize
-    ensures accepts { 0 < result ↔ IsValid (format_of radix required_sign None) }
-    ensures size { 0 < result → result ≡ size_in ⟦<u32 as FormattedSize>⟧.FORMATTED_SIZE
+    ensures { IsBufferSize ⟦<u32 as LexicalInteger>⟧.least ⟦<u32 as LexicalInteger>⟧.greatest
+        ⟦<u32 as LexicalInteger>⟧.DECIMAL_WIDTH ⟦<u32 as FormattedSize>⟧.FORMATTED_SIZE
         ⟦<u32 as FormattedSize>⟧.FORMATTED_SIZE_DECIMAL
-        (format_of radix required_sign None) }
-    ensures enough { 0 < result → IsEnough ⟦<u32 as LexicalInteger>⟧.least
-        ⟦<u32 as LexicalInteger>⟧.greatest ⟦<u32 as LexicalInteger>⟧.DECIMAL_WIDTH
         (format_of radix required_sign None) result }
-    ensures within { result ≤ BUFFER_SIZE }
 {
     buffer_size::<u32>(radix, required_sign, None)
 }
@@ -75,14 +56,10 @@ pub extern "C" fn lexical_buffer_size_u32(radix: u32, required_sign: bool) -> us
 /// Returns the size for each `uint64_t`, as `buffer_size` does, without groups.
 #[unsafe(no_mangle)]
 pub extern "C" fn lexical_buffer_size_u64(radix: u32, required_sign: bool) -> usize
-    ensures accepts { 0 < result ↔ IsValid (format_of radix required_sign None) }
-    ensures size { 0 < result → result ≡ size_in ⟦<u64 as FormattedSize>⟧.FORMATTED_SIZE
+    ensures { IsBufferSize ⟦<u64 as LexicalInteger>⟧.least ⟦<u64 as LexicalInteger>⟧.greatest
+        ⟦<u64 as LexicalInteger>⟧.DECIMAL_WIDTH ⟦<u64 as FormattedSize>⟧.FORMATTED_SIZE
         ⟦<u64 as FormattedSize>⟧.FORMATTED_SIZE_DECIMAL
-        (format_of radix required_sign None) }
-    ensures enough { 0 < result → IsEnough ⟦<u64 as LexicalInteger>⟧.least
-        ⟦<u64 as LexicalInteger>⟧.greatest ⟦<u64 as LexicalInteger>⟧.DECIMAL_WIDTH
         (format_of radix required_sign None) result }
-    ensures within { result ≤ BUFFER_SIZE }
 {
     buffer_size::<u64>(radix, required_sign, None)
 }
@@ -90,14 +67,10 @@ pub extern "C" fn lexical_buffer_size_u64(radix: u32, required_sign: bool) -> us
 /// Returns the size for each `size_t`, as `buffer_size` does, without groups.
 #[unsafe(no_mangle)]
 pub extern "C" fn lexical_buffer_size_size(radix: u32, required_sign: bool) -> usize
-    ensures accepts { 0 < result ↔ IsValid (format_of radix required_sign None) }
-    ensures size { 0 < result → result ≡ size_in ⟦<usize as FormattedSize>⟧.FORMATTED_SIZE
+    ensures { IsBufferSize ⟦<usize as LexicalInteger>⟧.least ⟦<usize as LexicalInteger>⟧.greatest
+        ⟦<usize as LexicalInteger>⟧.DECIMAL_WIDTH ⟦<usize as FormattedSize>⟧.FORMATTED_SIZE
         ⟦<usize as FormattedSize>⟧.FORMATTED_SIZE_DECIMAL
-        (format_of radix required_sign None) }
-    ensures enough { 0 < result → IsEnough ⟦<usize as LexicalInteger>⟧.least
-        ⟦<usize as LexicalInteger>⟧.greatest ⟦<usize as LexicalInteger>⟧.DECIMAL_WIDTH
         (format_of radix required_sign None) result }
-    ensures within { result ≤ BUFFER_SIZE }
 {
     buffer_size::<usize>(radix, required_sign, None)
 }
@@ -105,14 +78,10 @@ pub extern "C" fn lexical_buffer_size_size(radix: u32, required_sign: bool) -> u
 /// Returns the size for each `int8_t`, as `buffer_size` does, without groups.
 #[unsafe(no_mangle)]
 pub extern "C" fn lexical_buffer_size_i8(radix: u32, required_sign: bool) -> usize
-    ensures accepts { 0 < result ↔ IsValid (format_of radix required_sign None) }
-    ensures size { 0 < result → result ≡ size_in ⟦<i8 as FormattedSize>⟧.FORMATTED_SIZE
+    ensures { IsBufferSize ⟦<i8 as LexicalInteger>⟧.least ⟦<i8 as LexicalInteger>⟧.greatest
+        ⟦<i8 as LexicalInteger>⟧.DECIMAL_WIDTH ⟦<i8 as FormattedSize>⟧.FORMATTED_SIZE
         ⟦<i8 as FormattedSize>⟧.FORMATTED_SIZE_DECIMAL
-        (format_of radix required_sign None) }
-    ensures enough { 0 < result → IsEnough ⟦<i8 as LexicalInteger>⟧.least
-        ⟦<i8 as LexicalInteger>⟧.greatest ⟦<i8 as LexicalInteger>⟧.DECIMAL_WIDTH
         (format_of radix required_sign None) result }
-    ensures within { result ≤ BUFFER_SIZE }
 {
     buffer_size::<i8>(radix, required_sign, None)
 }
@@ -120,14 +89,10 @@ pub extern "C" fn lexical_buffer_size_i8(radix: u32, required_sign: bool) -> usi
 /// Returns the size for each `int16_t`, as `buffer_size` does, without groups.
 #[unsafe(no_mangle)]
 pub extern "C" fn lexical_buffer_size_i16(radix: u32, required_sign: bool) -> usize
-    ensures accepts { 0 < result ↔ IsValid (format_of radix required_sign None) }
-    ensures size { 0 < result → result ≡ size_in ⟦<i16 as FormattedSize>⟧.FORMATTED_SIZE
+    ensures { IsBufferSize ⟦<i16 as LexicalInteger>⟧.least ⟦<i16 as LexicalInteger>⟧.greatest
+        ⟦<i16 as LexicalInteger>⟧.DECIMAL_WIDTH ⟦<i16 as FormattedSize>⟧.FORMATTED_SIZE
         ⟦<i16 as FormattedSize>⟧.FORMATTED_SIZE_DECIMAL
-        (format_of radix required_sign None) }
-    ensures enough { 0 < result → IsEnough ⟦<i16 as LexicalInteger>⟧.least
-        ⟦<i16 as LexicalInteger>⟧.greatest ⟦<i16 as LexicalInteger>⟧.DECIMAL_WIDTH
         (format_of radix required_sign None) result }
-    ensures within { result ≤ BUFFER_SIZE }
 {
     buffer_size::<i16>(radix, required_sign, None)
 }
@@ -135,14 +100,10 @@ pub extern "C" fn lexical_buffer_size_i16(radix: u32, required_sign: bool) -> us
 /// Returns the size for each `int32_t`, as `buffer_size` does, without groups.
 #[unsafe(no_mangle)]
 pub extern "C" fn lexical_buffer_size_i32(radix: u32, required_sign: bool) -> usize
-    ensures accepts { 0 < result ↔ IsValid (format_of radix required_sign None) }
-    ensures size { 0 < result → result ≡ size_in ⟦<i32 as FormattedSize>⟧.FORMATTED_SIZE
+    ensures { IsBufferSize ⟦<i32 as LexicalInteger>⟧.least ⟦<i32 as LexicalInteger>⟧.greatest
+        ⟦<i32 as LexicalInteger>⟧.DECIMAL_WIDTH ⟦<i32 as FormattedSize>⟧.FORMATTED_SIZE
         ⟦<i32 as FormattedSize>⟧.FORMATTED_SIZE_DECIMAL
-        (format_of radix required_sign None) }
-    ensures enough { 0 < result → IsEnough ⟦<i32 as LexicalInteger>⟧.least
-        ⟦<i32 as LexicalInteger>⟧.greatest ⟦<i32 as LexicalInteger>⟧.DECIMAL_WIDTH
         (format_of radix required_sign None) result }
-    ensures within { result ≤ BUFFER_SIZE }
 {
     buffer_size::<i32>(radix, required_sign, None)
 }
@@ -150,14 +111,10 @@ pub extern "C" fn lexical_buffer_size_i32(radix: u32, required_sign: bool) -> us
 /// Returns the size for each `int64_t`, as `buffer_size` does, without groups.
 #[unsafe(no_mangle)]
 pub extern "C" fn lexical_buffer_size_i64(radix: u32, required_sign: bool) -> usize
-    ensures accepts { 0 < result ↔ IsValid (format_of radix required_sign None) }
-    ensures size { 0 < result → result ≡ size_in ⟦<i64 as FormattedSize>⟧.FORMATTED_SIZE
+    ensures { IsBufferSize ⟦<i64 as LexicalInteger>⟧.least ⟦<i64 as LexicalInteger>⟧.greatest
+        ⟦<i64 as LexicalInteger>⟧.DECIMAL_WIDTH ⟦<i64 as FormattedSize>⟧.FORMATTED_SIZE
         ⟦<i64 as FormattedSize>⟧.FORMATTED_SIZE_DECIMAL
-        (format_of radix required_sign None) }
-    ensures enough { 0 < result → IsEnough ⟦<i64 as LexicalInteger>⟧.least
-        ⟦<i64 as LexicalInteger>⟧.greatest ⟦<i64 as LexicalInteger>⟧.DECIMAL_WIDTH
         (format_of radix required_sign None) result }
-    ensures within { result ≤ BUFFER_SIZE }
 {
     buffer_size::<i64>(radix, required_sign, None)
 }
@@ -170,14 +127,10 @@ pub extern "C" fn lexical_buffer_size_grouped_u8(
     group_size: u32,
     mark: u32,
 ) -> usize
-    ensures accepts { 0 < result ↔ IsValid (format_of radix required_sign (Some (group_size, mark))) }
-    ensures size { 0 < result → result ≡ size_in ⟦<u8 as FormattedSize>⟧.FORMATTED_SIZE
+    ensures { IsBufferSize ⟦<u8 as LexicalInteger>⟧.least ⟦<u8 as LexicalInteger>⟧.greatest
+        ⟦<u8 as LexicalInteger>⟧.DECIMAL_WIDTH ⟦<u8 as FormattedSize>⟧.FORMATTED_SIZE
         ⟦<u8 as FormattedSize>⟧.FORMATTED_SIZE_DECIMAL
-        (format_of radix required_sign (Some (group_size, mark))) }
-    ensures enough { 0 < result → IsEnough ⟦<u8 as LexicalInteger>⟧.least
-        ⟦<u8 as LexicalInteger>⟧.greatest ⟦<u8 as LexicalInteger>⟧.DECIMAL_WIDTH
         (format_of radix required_sign (Some (group_size, mark))) result }
-    ensures within { result ≤ BUFFER_SIZE }
 {
     buffer_size::<u8>(radix, required_sign, Some((group_size, mark)))
 }
@@ -190,14 +143,10 @@ pub extern "C" fn lexical_buffer_size_grouped_u16(
     group_size: u32,
     mark: u32,
 ) -> usize
-    ensures accepts { 0 < result ↔ IsValid (format_of radix required_sign (Some (group_size, mark))) }
-    ensures size { 0 < result → result ≡ size_in ⟦<u16 as FormattedSize>⟧.FORMATTED_SIZE
+    ensures { IsBufferSize ⟦<u16 as LexicalInteger>⟧.least ⟦<u16 as LexicalInteger>⟧.greatest
+        ⟦<u16 as LexicalInteger>⟧.DECIMAL_WIDTH ⟦<u16 as FormattedSize>⟧.FORMATTED_SIZE
         ⟦<u16 as FormattedSize>⟧.FORMATTED_SIZE_DECIMAL
-        (format_of radix required_sign (Some (group_size, mark))) }
-    ensures enough { 0 < result → IsEnough ⟦<u16 as LexicalInteger>⟧.least
-        ⟦<u16 as LexicalInteger>⟧.greatest ⟦<u16 as LexicalInteger>⟧.DECIMAL_WIDTH
         (format_of radix required_sign (Some (group_size, mark))) result }
-    ensures within { result ≤ BUFFER_SIZE }
 {
     buffer_size::<u16>(radix, required_sign, Some((group_size, mark)))
 }
@@ -210,14 +159,10 @@ pub extern "C" fn lexical_buffer_size_grouped_u32(
     group_size: u32,
     mark: u32,
 ) -> usize
-    ensures accepts { 0 < result ↔ IsValid (format_of radix required_sign (Some (group_size, mark))) }
-    ensures size { 0 < result → result ≡ size_in ⟦<u32 as FormattedSize>⟧.FORMATTED_SIZE
+    ensures { IsBufferSize ⟦<u32 as LexicalInteger>⟧.least ⟦<u32 as LexicalInteger>⟧.greatest
+        ⟦<u32 as LexicalInteger>⟧.DECIMAL_WIDTH ⟦<u32 as FormattedSize>⟧.FORMATTED_SIZE
         ⟦<u32 as FormattedSize>⟧.FORMATTED_SIZE_DECIMAL
-        (format_of radix required_sign (Some (group_size, mark))) }
-    ensures enough { 0 < result → IsEnough ⟦<u32 as LexicalInteger>⟧.least
-        ⟦<u32 as LexicalInteger>⟧.greatest ⟦<u32 as LexicalInteger>⟧.DECIMAL_WIDTH
         (format_of radix required_sign (Some (group_size, mark))) result }
-    ensures within { result ≤ BUFFER_SIZE }
 {
     buffer_size::<u32>(radix, required_sign, Some((group_size, mark)))
 }
@@ -230,14 +175,10 @@ pub extern "C" fn lexical_buffer_size_grouped_u64(
     group_size: u32,
     mark: u32,
 ) -> usize
-    ensures accepts { 0 < result ↔ IsValid (format_of radix required_sign (Some (group_size, mark))) }
-    ensures size { 0 < result → result ≡ size_in ⟦<u64 as FormattedSize>⟧.FORMATTED_SIZE
+    ensures { IsBufferSize ⟦<u64 as LexicalInteger>⟧.least ⟦<u64 as LexicalInteger>⟧.greatest
+        ⟦<u64 as LexicalInteger>⟧.DECIMAL_WIDTH ⟦<u64 as FormattedSize>⟧.FORMATTED_SIZE
         ⟦<u64 as FormattedSize>⟧.FORMATTED_SIZE_DECIMAL
-        (format_of radix required_sign (Some (group_size, mark))) }
-    ensures enough { 0 < result → IsEnough ⟦<u64 as LexicalInteger>⟧.least
-        ⟦<u64 as LexicalInteger>⟧.greatest ⟦<u64 as LexicalInteger>⟧.DECIMAL_WIDTH
         (format_of radix required_sign (Some (group_size, mark))) result }
-    ensures within { result ≤ BUFFER_SIZE }
 {
     buffer_size::<u64>(radix, required_sign, Some((group_size, mark)))
 }
@@ -250,14 +191,10 @@ pub extern "C" fn lexical_buffer_size_grouped_size(
     group_size: u32,
     mark: u32,
 ) -> usize
-    ensures accepts { 0 < result ↔ IsValid (format_of radix required_sign (Some (group_size, mark))) }
-    ensures size { 0 < result → result ≡ size_in ⟦<usize as FormattedSize>⟧.FORMATTED_SIZE
+    ensures { IsBufferSize ⟦<usize as LexicalInteger>⟧.least ⟦<usize as LexicalInteger>⟧.greatest
+        ⟦<usize as LexicalInteger>⟧.DECIMAL_WIDTH ⟦<usize as FormattedSize>⟧.FORMATTED_SIZE
         ⟦<usize as FormattedSize>⟧.FORMATTED_SIZE_DECIMAL
-        (format_of radix required_sign (Some (group_size, mark))) }
-    ensures enough { 0 < result → IsEnough ⟦<usize as LexicalInteger>⟧.least
-        ⟦<usize as LexicalInteger>⟧.greatest ⟦<usize as LexicalInteger>⟧.DECIMAL_WIDTH
         (format_of radix required_sign (Some (group_size, mark))) result }
-    ensures within { result ≤ BUFFER_SIZE }
 {
     buffer_size::<usize>(radix, required_sign, Some((group_size, mark)))
 }
@@ -270,14 +207,10 @@ pub extern "C" fn lexical_buffer_size_grouped_i8(
     group_size: u32,
     mark: u32,
 ) -> usize
-    ensures accepts { 0 < result ↔ IsValid (format_of radix required_sign (Some (group_size, mark))) }
-    ensures size { 0 < result → result ≡ size_in ⟦<i8 as FormattedSize>⟧.FORMATTED_SIZE
+    ensures { IsBufferSize ⟦<i8 as LexicalInteger>⟧.least ⟦<i8 as LexicalInteger>⟧.greatest
+        ⟦<i8 as LexicalInteger>⟧.DECIMAL_WIDTH ⟦<i8 as FormattedSize>⟧.FORMATTED_SIZE
         ⟦<i8 as FormattedSize>⟧.FORMATTED_SIZE_DECIMAL
-        (format_of radix required_sign (Some (group_size, mark))) }
-    ensures enough { 0 < result → IsEnough ⟦<i8 as LexicalInteger>⟧.least
-        ⟦<i8 as LexicalInteger>⟧.greatest ⟦<i8 as LexicalInteger>⟧.DECIMAL_WIDTH
         (format_of radix required_sign (Some (group_size, mark))) result }
-    ensures within { result ≤ BUFFER_SIZE }
 {
     buffer_size::<i8>(radix, required_sign, Some((group_size, mark)))
 }
@@ -290,14 +223,10 @@ pub extern "C" fn lexical_buffer_size_grouped_i16(
     group_size: u32,
     mark: u32,
 ) -> usize
-    ensures accepts { 0 < result ↔ IsValid (format_of radix required_sign (Some (group_size, mark))) }
-    ensures size { 0 < result → result ≡ size_in ⟦<i16 as FormattedSize>⟧.FORMATTED_SIZE
+    ensures { IsBufferSize ⟦<i16 as LexicalInteger>⟧.least ⟦<i16 as LexicalInteger>⟧.greatest
+        ⟦<i16 as LexicalInteger>⟧.DECIMAL_WIDTH ⟦<i16 as FormattedSize>⟧.FORMATTED_SIZE
         ⟦<i16 as FormattedSize>⟧.FORMATTED_SIZE_DECIMAL
-        (format_of radix required_sign (Some (group_size, mark))) }
-    ensures enough { 0 < result → IsEnough ⟦<i16 as LexicalInteger>⟧.least
-        ⟦<i16 as LexicalInteger>⟧.greatest ⟦<i16 as LexicalInteger>⟧.DECIMAL_WIDTH
         (format_of radix required_sign (Some (group_size, mark))) result }
-    ensures within { result ≤ BUFFER_SIZE }
 {
     buffer_size::<i16>(radix, required_sign, Some((group_size, mark)))
 }
@@ -310,14 +239,10 @@ pub extern "C" fn lexical_buffer_size_grouped_i32(
     group_size: u32,
     mark: u32,
 ) -> usize
-    ensures accepts { 0 < result ↔ IsValid (format_of radix required_sign (Some (group_size, mark))) }
-    ensures size { 0 < result → result ≡ size_in ⟦<i32 as FormattedSize>⟧.FORMATTED_SIZE
+    ensures { IsBufferSize ⟦<i32 as LexicalInteger>⟧.least ⟦<i32 as LexicalInteger>⟧.greatest
+        ⟦<i32 as LexicalInteger>⟧.DECIMAL_WIDTH ⟦<i32 as FormattedSize>⟧.FORMATTED_SIZE
         ⟦<i32 as FormattedSize>⟧.FORMATTED_SIZE_DECIMAL
-        (format_of radix required_sign (Some (group_size, mark))) }
-    ensures enough { 0 < result → IsEnough ⟦<i32 as LexicalInteger>⟧.least
-        ⟦<i32 as LexicalInteger>⟧.greatest ⟦<i32 as LexicalInteger>⟧.DECIMAL_WIDTH
         (format_of radix required_sign (Some (group_size, mark))) result }
-    ensures within { result ≤ BUFFER_SIZE }
 {
     buffer_size::<i32>(radix, required_sign, Some((group_size, mark)))
 }
@@ -330,14 +255,10 @@ pub extern "C" fn lexical_buffer_size_grouped_i64(
     group_size: u32,
     mark: u32,
 ) -> usize
-    ensures accepts { 0 < result ↔ IsValid (format_of radix required_sign (Some (group_size, mark))) }
-    ensures size { 0 < result → result ≡ size_in ⟦<i64 as FormattedSize>⟧.FORMATTED_SIZE
+    ensures { IsBufferSize ⟦<i64 as LexicalInteger>⟧.least ⟦<i64 as LexicalInteger>⟧.greatest
+        ⟦<i64 as LexicalInteger>⟧.DECIMAL_WIDTH ⟦<i64 as FormattedSize>⟧.FORMATTED_SIZE
         ⟦<i64 as FormattedSize>⟧.FORMATTED_SIZE_DECIMAL
-        (format_of radix required_sign (Some (group_size, mark))) }
-    ensures enough { 0 < result → IsEnough ⟦<i64 as LexicalInteger>⟧.least
-        ⟦<i64 as LexicalInteger>⟧.greatest ⟦<i64 as LexicalInteger>⟧.DECIMAL_WIDTH
         (format_of radix required_sign (Some (group_size, mark))) result }
-    ensures within { result ≤ BUFFER_SIZE }
 {
     buffer_size::<i64>(radix, required_sign, Some((group_size, mark)))
 }

@@ -1,9 +1,8 @@
 //! Writing a number.
 
-ghost use Rattle.std.specs.Prelude.{◌≡◌, ◌<◌, ◌↔◌, None, length, pos};
-ghost use Rattle.lexical_write_integer.specs.Buffer.{WritesText};
+ghost use Rattle.std.specs.Prelude.{pos};
+ghost use Rattle.lexical_c.specs.Buffer.{WritesOrRefuses};
 ghost use Rattle.lexical_c.specs.Format.{format_of};
-ghost use Rattle.lexical_c.specs.Room.{IsWritable};
 
 use crate::format::format_of;
 use crate::integer::CInteger;
@@ -21,11 +20,8 @@ pub fn write<T: CInteger>(
     grouping: Option<(u32, u32)>,
     buffer: &mut [u8],
 ) -> usize
-    ensures accepts { 0 < result ↔ IsWritable (T.number value) T.DECIMAL_WIDTH
-        (format_of radix required_sign grouping) (length buffer.old) }
-    ensures text { 0 < result → WritesText (T.number value)
+    ensures { WritesOrRefuses (T.number value) T.DECIMAL_WIDTH
         (format_of radix required_sign grouping) buffer.old buffer.new result }
-    ensures refused { result ≡ 0 → buffer.new ≡ buffer.old }
 {
     match format_of(radix, required_sign, grouping) {
         Some(format) if has_room(value, &format, buffer.len()) => {
@@ -43,11 +39,8 @@ pub extern "C" fn lexical_write_u8(
     required_sign: bool,
     buffer: &mut [u8],
 ) -> usize
-    ensures accepts { 0 < result ↔ IsWritable (pos value) ⟦<u8 as LexicalInteger>⟧.DECIMAL_WIDTH
-        (format_of radix required_sign None) (length buffer.old) }
-    ensures text { 0 < result → WritesText (pos value)
+    ensures { WritesOrRefuses (pos value) ⟦<u8 as LexicalInteger>⟧.DECIMAL_WIDTH
         (format_of radix required_sign None) buffer.old buffer.new result }
-    ensures refused { result ≡ 0 → buffer.new ≡ buffer.old }
 {
     write::<u8>(value, radix, required_sign, None, buffer)
 }
@@ -60,11 +53,8 @@ pub extern "C" fn lexical_write_u16(
     required_sign: bool,
     buffer: &mut [u8],
 ) -> usize
-    ensures accepts { 0 < result ↔ IsWritable (pos value) ⟦<u16 as LexicalInteger>⟧.DECIMAL_WIDTH
-        (format_of radix required_sign None) (length buffer.old) }
-    ensures text { 0 < result → WritesText (pos value)
+    ensures { WritesOrRefuses (pos value) ⟦<u16 as LexicalInteger>⟧.DECIMAL_WIDTH
         (format_of radix required_sign None) buffer.old buffer.new result }
-    ensures refused { result ≡ 0 → buffer.new ≡ buffer.old }
 {
     write::<u16>(value, radix, required_sign, None, buffer)
 }
@@ -77,11 +67,8 @@ pub extern "C" fn lexical_write_u32(
     required_sign: bool,
     buffer: &mut [u8],
 ) -> usize
-    ensures accepts { 0 < result ↔ IsWritable (pos value) ⟦<u32 as LexicalInteger>⟧.DECIMAL_WIDTH
-        (format_of radix required_sign None) (length buffer.old) }
-    ensures text { 0 < result → WritesText (pos value)
+    ensures { WritesOrRefuses (pos value) ⟦<u32 as LexicalInteger>⟧.DECIMAL_WIDTH
         (format_of radix required_sign None) buffer.old buffer.new result }
-    ensures refused { result ≡ 0 → buffer.new ≡ buffer.old }
 {
     write::<u32>(value, radix, required_sign, None, buffer)
 }
@@ -94,11 +81,8 @@ pub extern "C" fn lexical_write_u64(
     required_sign: bool,
     buffer: &mut [u8],
 ) -> usize
-    ensures accepts { 0 < result ↔ IsWritable (pos value) ⟦<u64 as LexicalInteger>⟧.DECIMAL_WIDTH
-        (format_of radix required_sign None) (length buffer.old) }
-    ensures text { 0 < result → WritesText (pos value)
+    ensures { WritesOrRefuses (pos value) ⟦<u64 as LexicalInteger>⟧.DECIMAL_WIDTH
         (format_of radix required_sign None) buffer.old buffer.new result }
-    ensures refused { result ≡ 0 → buffer.new ≡ buffer.old }
 {
     write::<u64>(value, radix, required_sign, None, buffer)
 }
@@ -111,16 +95,13 @@ pub extern "C" fn lexical_write_size(
     required_sign: bool,
     buffer: &mut [u8],
 ) -> usize
-    ensures accepts { 0 < result ↔ IsWritable (pos value) ⟦<usize as LexicalInteger>⟧.DECIMAL_WIDTH
-        (format_of radix required_sign None) (length buffer.old) }
-    ensures text { 0 < result → WritesText (pos value)
+    ensures { WritesOrRefuses (pos value) ⟦<usize as LexicalInteger>⟧.DECIMAL_WIDTH
         (format_of radix required_sign None) buffer.old buffer.new result }
-    ensures refused { result ≡ 0 → buffer.new ≡ buffer.old }
 {
     write::<usize>(value, radix, required_sign, None, buffer)
 }
 
-/// Writes a `int8_t` as `write` does, without groups.
+/// Writes an `int8_t` as `write` does, without groups.
 #[unsafe(no_mangle)]
 pub extern "C" fn lexical_write_i8(
     value: i8,
@@ -128,16 +109,13 @@ pub extern "C" fn lexical_write_i8(
     required_sign: bool,
     buffer: &mut [u8],
 ) -> usize
-    ensures accepts { 0 < result ↔ IsWritable value ⟦<i8 as LexicalInteger>⟧.DECIMAL_WIDTH
-        (format_of radix required_sign None) (length buffer.old) }
-    ensures text { 0 < result → WritesText value
+    ensures { WritesOrRefuses value ⟦<i8 as LexicalInteger>⟧.DECIMAL_WIDTH
         (format_of radix required_sign None) buffer.old buffer.new result }
-    ensures refused { result ≡ 0 → buffer.new ≡ buffer.old }
 {
     write::<i8>(value, radix, required_sign, None, buffer)
 }
 
-/// Writes a `int16_t` as `write` does, without groups.
+/// Writes an `int16_t` as `write` does, without groups.
 #[unsafe(no_mangle)]
 pub extern "C" fn lexical_write_i16(
     value: i16,
@@ -145,16 +123,13 @@ pub extern "C" fn lexical_write_i16(
     required_sign: bool,
     buffer: &mut [u8],
 ) -> usize
-    ensures accepts { 0 < result ↔ IsWritable value ⟦<i16 as LexicalInteger>⟧.DECIMAL_WIDTH
-        (format_of radix required_sign None) (length buffer.old) }
-    ensures text { 0 < result → WritesText value
+    ensures { WritesOrRefuses value ⟦<i16 as LexicalInteger>⟧.DECIMAL_WIDTH
         (format_of radix required_sign None) buffer.old buffer.new result }
-    ensures refused { result ≡ 0 → buffer.new ≡ buffer.old }
 {
     write::<i16>(value, radix, required_sign, None, buffer)
 }
 
-/// Writes a `int32_t` as `write` does, without groups.
+/// Writes an `int32_t` as `write` does, without groups.
 #[unsafe(no_mangle)]
 pub extern "C" fn lexical_write_i32(
     value: i32,
@@ -162,16 +137,13 @@ pub extern "C" fn lexical_write_i32(
     required_sign: bool,
     buffer: &mut [u8],
 ) -> usize
-    ensures accepts { 0 < result ↔ IsWritable value ⟦<i32 as LexicalInteger>⟧.DECIMAL_WIDTH
-        (format_of radix required_sign None) (length buffer.old) }
-    ensures text { 0 < result → WritesText value
+    ensures { WritesOrRefuses value ⟦<i32 as LexicalInteger>⟧.DECIMAL_WIDTH
         (format_of radix required_sign None) buffer.old buffer.new result }
-    ensures refused { result ≡ 0 → buffer.new ≡ buffer.old }
 {
     write::<i32>(value, radix, required_sign, None, buffer)
 }
 
-/// Writes a `int64_t` as `write` does, without groups.
+/// Writes an `int64_t` as `write` does, without groups.
 #[unsafe(no_mangle)]
 pub extern "C" fn lexical_write_i64(
     value: i64,
@@ -179,11 +151,8 @@ pub extern "C" fn lexical_write_i64(
     required_sign: bool,
     buffer: &mut [u8],
 ) -> usize
-    ensures accepts { 0 < result ↔ IsWritable value ⟦<i64 as LexicalInteger>⟧.DECIMAL_WIDTH
-        (format_of radix required_sign None) (length buffer.old) }
-    ensures text { 0 < result → WritesText value
+    ensures { WritesOrRefuses value ⟦<i64 as LexicalInteger>⟧.DECIMAL_WIDTH
         (format_of radix required_sign None) buffer.old buffer.new result }
-    ensures refused { result ≡ 0 → buffer.new ≡ buffer.old }
 {
     write::<i64>(value, radix, required_sign, None, buffer)
 }

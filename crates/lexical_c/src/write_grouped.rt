@@ -1,9 +1,8 @@
 //! Writing a number with its digits in groups.
 
-ghost use Rattle.std.specs.Prelude.{◌≡◌, ◌<◌, ◌↔◌, Some, length, pos};
-ghost use Rattle.lexical_write_integer.specs.Buffer.{WritesText};
+ghost use Rattle.std.specs.Prelude.{pos};
+ghost use Rattle.lexical_c.specs.Buffer.{WritesOrRefuses};
 ghost use Rattle.lexical_c.specs.Format.{format_of};
-ghost use Rattle.lexical_c.specs.Room.{IsWritable};
 
 use crate::write::write;
 use lexical_num::num::LexicalInteger;
@@ -18,11 +17,8 @@ pub extern "C" fn lexical_write_grouped_u8(
     mark: u32,
     buffer: &mut [u8],
 ) -> usize
-    ensures accepts { 0 < result ↔ IsWritable (pos value) ⟦<u8 as LexicalInteger>⟧.DECIMAL_WIDTH
-        (format_of radix required_sign (Some (group_size, mark))) (length buffer.old) }
-    ensures text { 0 < result → WritesText (pos value)
+    ensures { WritesOrRefuses (pos value) ⟦<u8 as LexicalInteger>⟧.DECIMAL_WIDTH
         (format_of radix required_sign (Some (group_size, mark))) buffer.old buffer.new result }
-    ensures refused { result ≡ 0 → buffer.new ≡ buffer.old }
 {
     let grouping = Some((group_size, mark));
     write::<u8>(value, radix, required_sign, grouping, buffer)
@@ -38,11 +34,8 @@ pub extern "C" fn lexical_write_grouped_u16(
     mark: u32,
     buffer: &mut [u8],
 ) -> usize
-    ensures accepts { 0 < result ↔ IsWritable (pos value) ⟦<u16 as LexicalInteger>⟧.DECIMAL_WIDTH
-        (format_of radix required_sign (Some (group_size, mark))) (length buffer.old) }
-    ensures text { 0 < result → WritesText (pos value)
+    ensures { WritesOrRefuses (pos value) ⟦<u16 as LexicalInteger>⟧.DECIMAL_WIDTH
         (format_of radix required_sign (Some (group_size, mark))) buffer.old buffer.new result }
-    ensures refused { result ≡ 0 → buffer.new ≡ buffer.old }
 {
     let grouping = Some((group_size, mark));
     write::<u16>(value, radix, required_sign, grouping, buffer)
@@ -58,11 +51,8 @@ pub extern "C" fn lexical_write_grouped_u32(
     mark: u32,
     buffer: &mut [u8],
 ) -> usize
-    ensures accepts { 0 < result ↔ IsWritable (pos value) ⟦<u32 as LexicalInteger>⟧.DECIMAL_WIDTH
-        (format_of radix required_sign (Some (group_size, mark))) (length buffer.old) }
-    ensures text { 0 < result → WritesText (pos value)
+    ensures { WritesOrRefuses (pos value) ⟦<u32 as LexicalInteger>⟧.DECIMAL_WIDTH
         (format_of radix required_sign (Some (group_size, mark))) buffer.old buffer.new result }
-    ensures refused { result ≡ 0 → buffer.new ≡ buffer.old }
 {
     let grouping = Some((group_size, mark));
     write::<u32>(value, radix, required_sign, grouping, buffer)
@@ -78,11 +68,8 @@ pub extern "C" fn lexical_write_grouped_u64(
     mark: u32,
     buffer: &mut [u8],
 ) -> usize
-    ensures accepts { 0 < result ↔ IsWritable (pos value) ⟦<u64 as LexicalInteger>⟧.DECIMAL_WIDTH
-        (format_of radix required_sign (Some (group_size, mark))) (length buffer.old) }
-    ensures text { 0 < result → WritesText (pos value)
+    ensures { WritesOrRefuses (pos value) ⟦<u64 as LexicalInteger>⟧.DECIMAL_WIDTH
         (format_of radix required_sign (Some (group_size, mark))) buffer.old buffer.new result }
-    ensures refused { result ≡ 0 → buffer.new ≡ buffer.old }
 {
     let grouping = Some((group_size, mark));
     write::<u64>(value, radix, required_sign, grouping, buffer)
@@ -98,17 +85,14 @@ pub extern "C" fn lexical_write_grouped_size(
     mark: u32,
     buffer: &mut [u8],
 ) -> usize
-    ensures accepts { 0 < result ↔ IsWritable (pos value) ⟦<usize as LexicalInteger>⟧.DECIMAL_WIDTH
-        (format_of radix required_sign (Some (group_size, mark))) (length buffer.old) }
-    ensures text { 0 < result → WritesText (pos value)
+    ensures { WritesOrRefuses (pos value) ⟦<usize as LexicalInteger>⟧.DECIMAL_WIDTH
         (format_of radix required_sign (Some (group_size, mark))) buffer.old buffer.new result }
-    ensures refused { result ≡ 0 → buffer.new ≡ buffer.old }
 {
     let grouping = Some((group_size, mark));
     write::<usize>(value, radix, required_sign, grouping, buffer)
 }
 
-/// Writes a `int8_t` as `write` does, in groups.
+/// Writes an `int8_t` as `write` does, in groups.
 #[unsafe(no_mangle)]
 pub extern "C" fn lexical_write_grouped_i8(
     value: i8,
@@ -118,17 +102,14 @@ pub extern "C" fn lexical_write_grouped_i8(
     mark: u32,
     buffer: &mut [u8],
 ) -> usize
-    ensures accepts { 0 < result ↔ IsWritable value ⟦<i8 as LexicalInteger>⟧.DECIMAL_WIDTH
-        (format_of radix required_sign (Some (group_size, mark))) (length buffer.old) }
-    ensures text { 0 < result → WritesText value
+    ensures { WritesOrRefuses value ⟦<i8 as LexicalInteger>⟧.DECIMAL_WIDTH
         (format_of radix required_sign (Some (group_size, mark))) buffer.old buffer.new result }
-    ensures refused { result ≡ 0 → buffer.new ≡ buffer.old }
 {
     let grouping = Some((group_size, mark));
     write::<i8>(value, radix, required_sign, grouping, buffer)
 }
 
-/// Writes a `int16_t` as `write` does, in groups.
+/// Writes an `int16_t` as `write` does, in groups.
 #[unsafe(no_mangle)]
 pub extern "C" fn lexical_write_grouped_i16(
     value: i16,
@@ -138,17 +119,14 @@ pub extern "C" fn lexical_write_grouped_i16(
     mark: u32,
     buffer: &mut [u8],
 ) -> usize
-    ensures accepts { 0 < result ↔ IsWritable value ⟦<i16 as LexicalInteger>⟧.DECIMAL_WIDTH
-        (format_of radix required_sign (Some (group_size, mark))) (length buffer.old) }
-    ensures text { 0 < result → WritesText value
+    ensures { WritesOrRefuses value ⟦<i16 as LexicalInteger>⟧.DECIMAL_WIDTH
         (format_of radix required_sign (Some (group_size, mark))) buffer.old buffer.new result }
-    ensures refused { result ≡ 0 → buffer.new ≡ buffer.old }
 {
     let grouping = Some((group_size, mark));
     write::<i16>(value, radix, required_sign, grouping, buffer)
 }
 
-/// Writes a `int32_t` as `write` does, in groups.
+/// Writes an `int32_t` as `write` does, in groups.
 #[unsafe(no_mangle)]
 pub extern "C" fn lexical_write_grouped_i32(
     value: i32,
@@ -158,17 +136,14 @@ pub extern "C" fn lexical_write_grouped_i32(
     mark: u32,
     buffer: &mut [u8],
 ) -> usize
-    ensures accepts { 0 < result ↔ IsWritable value ⟦<i32 as LexicalInteger>⟧.DECIMAL_WIDTH
-        (format_of radix required_sign (Some (group_size, mark))) (length buffer.old) }
-    ensures text { 0 < result → WritesText value
+    ensures { WritesOrRefuses value ⟦<i32 as LexicalInteger>⟧.DECIMAL_WIDTH
         (format_of radix required_sign (Some (group_size, mark))) buffer.old buffer.new result }
-    ensures refused { result ≡ 0 → buffer.new ≡ buffer.old }
 {
     let grouping = Some((group_size, mark));
     write::<i32>(value, radix, required_sign, grouping, buffer)
 }
 
-/// Writes a `int64_t` as `write` does, in groups.
+/// Writes an `int64_t` as `write` does, in groups.
 #[unsafe(no_mangle)]
 pub extern "C" fn lexical_write_grouped_i64(
     value: i64,
@@ -178,11 +153,8 @@ pub extern "C" fn lexical_write_grouped_i64(
     mark: u32,
     buffer: &mut [u8],
 ) -> usize
-    ensures accepts { 0 < result ↔ IsWritable value ⟦<i64 as LexicalInteger>⟧.DECIMAL_WIDTH
-        (format_of radix required_sign (Some (group_size, mark))) (length buffer.old) }
-    ensures text { 0 < result → WritesText value
+    ensures { WritesOrRefuses value ⟦<i64 as LexicalInteger>⟧.DECIMAL_WIDTH
         (format_of radix required_sign (Some (group_size, mark))) buffer.old buffer.new result }
-    ensures refused { result ≡ 0 → buffer.new ≡ buffer.old }
 {
     let grouping = Some((group_size, mark));
     write::<i64>(value, radix, required_sign, grouping, buffer)
