@@ -12,8 +12,6 @@ mod block_reader;
 mod block_writer;
 mod flushing_reader;
 mod shared_writer;
-#[cfg(test)]
-mod tests;
 
 pub use answering::{answer_lines, answer_stream};
 pub use block_reader::BlockReader;

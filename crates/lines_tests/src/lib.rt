@@ -1,4 +1,5 @@
-//! Tests of lines, answers and joined texts: known values, hostile lines, and devices that fail.
+//! Tests of lines, answers, joined texts and streams: known values, hostile lines, and devices that
+//! fail.
 #![tactic(auto)]
 
 #[cfg(test)]

@@ -1,4 +1,5 @@
 mod answers;
+mod blocks;
 mod devices;
 mod faults;
 mod joined;

@@ -6,8 +6,13 @@
 mod buffers;
 #[cfg(test)]
 mod counts;
+pub mod decimal_turns;
+#[cfg(test)]
+mod decimal_values;
 #[cfg(test)]
 mod groups;
+#[cfg(test)]
+mod kernel_values;
 #[cfg(test)]
 mod known_texts;
 #[cfg(test)]

@@ -3,8 +3,8 @@ mod devices;
 
 ghost use Rattle.std.specs.Prelude.{◌≡◌, IfOk};
 
-use crate::{BlockReader, BlockWriter, FlushingReader, SharedWriter};
 use devices::{Fault, Giver, Taker};
+use lexical_streams::{BlockReader, BlockWriter, FlushingReader, SharedWriter};
 use std::alloc::Global;
 use std::cell::RefCell;
 use std::io;
@@ -59,7 +59,7 @@ fn write_whole(alloc: Global, bytes: &[u8]) -> io::Result<Vec<u8>>
 }
 
 #[test]
-fn passes_all_bytes_on(rt: HostRuntime) -> Result<(), Fail> {
+fn all_bytes_pass_into_a_vector(rt: HostRuntime) -> Result<(), Fail> {
     assert_eq!(rt; read_whole(rt.alloc(), TEXT)?.as_slice(), TEXT);
     assert_eq!(rt; write_whole(rt.alloc(), TEXT)?.as_slice(), TEXT);
     Ok(())

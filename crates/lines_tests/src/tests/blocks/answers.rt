@@ -1,7 +1,7 @@
 // Lines answered from a reader to a writer, each of which fails at one of its calls.
 
-use crate::answer_stream;
-use crate::tests::devices::{Fault, Taker};
+use crate::tests::blocks::devices::{Fault, Taker};
+use lexical_streams::answer_stream;
 use std::cell::Cell;
 use std::io;
 use std::io::{ErrorKind, Read, Write};
