@@ -1,5 +1,5 @@
 -- What the exit status tells of the lines of a reader.
-use Rattle.std.proofs.Common.{◌≡◌, ℕ, Bool, true, false, List, [], ◌++◌, take, Option, Some, None, IfSome, OnOk, IfOk, IsTrue, Result, Ok, Err, refl, sym, ap, subst, ◌∙◌}
+use Rattle.std.proofs.Common.{◌≡◌, ℕ, Bool, true, false, List, [], ◌++◌, take, Option, Some, None, IfSome, OnOk, IfOk, IsTrue, Result, Ok, Err, refl, ap, subst}
 use Rattle.std.specs.Io.KnownBytes.{prepend_known}
 use Rattle.lexical_lines.proofs.Readers.{all-given}
 use Rattle.lexical_lines.specs.Running.{added, TellsAllGood}

@@ -6,7 +6,7 @@ use Rattle.lexical_num.specs.Digit.{digit_char}
 use Rattle.lexical_write_integer.specs.Buffer.{WritesBlock, WritesDigits}
 use Rattle.lexical_write_integer.specs.DigitCount.{digit_count}
 use Rattle.lexical_write_integer.proofs.DigitCounts.{digit_count-split}
-use Rattle.lexical_write_integer.proofs.Numerals.{IsBlockOf-append, IsNumeralOf-block, length-IsDigits}
+use Rattle.lexical_write_integer.proofs.Numerals.{IsBlockOf-append, IsNumeralOf-block}
 
 -- a write after a text leaves the text
 text_kept : (at count : ℕ) (before between after text : List ℕ) → length text ≡ count → drop at between ≡ text ++ drop (at + count) before → take (at + count) after ≡ take (at + count) between → drop at after ≡ text ++ drop (at + count) after
