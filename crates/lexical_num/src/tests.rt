@@ -168,6 +168,8 @@ fn build_tells_the_fault_of_the_groups(rt: HostRuntime) -> Result<(), Fail> {
     let long = NumberFormatBuilder::new().digit_grouping(64, 126).build()?;
     assert_eq!(rt; long.digit_grouping(), Some((64, 126)));
     assert!(rt; !equal_formats(&ones, &long));
+    let other = NumberFormatBuilder::new().digit_grouping(1, 33).build()?;
+    assert!(rt; !equal_formats(&ones, &other));
     assert_eq!(rt; STANDARD.digit_grouping(), None);
     Ok(())
 }
