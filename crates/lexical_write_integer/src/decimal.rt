@@ -1,10 +1,10 @@
 //! Decimal digits: how many a number has, and the writer of each type.
 
-ghost use Rattle.std.specs.Prelude.{◌≡◌, ℕ, pos, negsuc, ◌+◌, ◌-◌, ◌/◌, ◌^◌, ◌<◌, ◌≤◌, ◌++◌, length, map};
+ghost use Rattle.std.specs.Prelude.{◌≡◌, ℕ, pos, negsuc, ◌+◌, ◌-◌, ◌/◌, ◌^◌, ◌<◌, ◌≤◌, length, map};
 ghost use Rattle.std.proofs.Common.{lit≤};
 ghost use Rattle.lexical_num.specs.DecimalWidth.{IsDecimalWidth, is_decimal_width};
 ghost use Rattle.lexical_write_integer.specs.Buffer.{WritesDigits};
-ghost use Rattle.lexical_write_integer.specs.DecimalTurns.{decimal_notes};
+ghost use Rattle.lexical_write_integer.specs.DecimalTurns.{WritesDecimal, decimal_notes};
 ghost use Rattle.lexical_write_integer.specs.DigitCount.{digit_count};
 ghost use Rattle.lexical_write_integer.specs.PowersOfTen.{IsPowersOfTen};
 
@@ -170,9 +170,8 @@ pub trait Decimal: DecimalCount {
     /// after the first.
     fn decimal_counted(self, buffer: &mut [u8], turns: &mut Turns) -> usize
         requires { Self.DECIMAL_WIDTH ≤ length buffer.old }
-        ensures digits { WritesDigits 10 (Self.magnitude self) buffer.old buffer.new result }
-        ensures notes { turns.new ≡ turns.old ++ decimal_notes Self.BITS (Self.magnitude self) }
-        ensures half { length turns.new ≡ length turns.old + (result - 1) / 2 }
+        ensures writes { WritesDecimal (Self.magnitude self) (decimal_notes Self.BITS (Self.magnitude self))
+            buffer.old buffer.new turns.old turns.new result }
         ensures few { length turns.new ≤ length turns.old + 9 };
 
     ghost signed_width: { let greatest = 2 ^ (Self.BITS - 1) - 1 in

@@ -8,7 +8,7 @@
 //! after the first: at most 9.
 #![tactic(auto, using(crate::proofs::PairBlocks::widths), unfolding(crate::specs::DecimalTurns::decimal_notes_32))]
 
-ghost use Rattle.std.specs.Prelude.{◌≡◌, ◌+◌, ◌-◌, ◌/◌, ◌^◌, ◌<◌, ◌≤◌, ◌++◌, length};
+ghost use Rattle.std.specs.Prelude.{◌+◌, ◌-◌, ◌/◌, ◌^◌, ◌<◌, ◌≤◌, length};
 ghost use Rattle.lexical_write_integer.specs.Buffer.{WritesDigits};
 ghost use Rattle.lexical_write_integer.specs.DecimalTurns.{WritesDecimal, decimal_notes_32, decimal_notes_64};
 ghost use Rattle.lexical_write_integer.specs.DigitCount.{digit_count};
@@ -110,9 +110,7 @@ pub fn from_i64(n: u64, buffer: &mut [u8]) -> usize
 /// `from_u8`, under the same condition, with its turns counted.
 pub fn from_u8_counted(n: u8, buffer: &mut [u8], turns: &mut Turns) -> usize
     requires { 3 ≤ length buffer.old }
-    ensures digits { WritesDigits 10 n buffer.old buffer.new result }
-    ensures notes { turns.new ≡ turns.old ++ decimal_notes_32 n }
-    ensures half { length turns.new ≡ length turns.old + (result - 1) / 2 }
+    ensures writes { WritesDecimal n (decimal_notes_32 n) buffer.old buffer.new turns.old turns.new result }
     ensures few { length turns.new ≤ length turns.old + 9 }
 {
     let number = u32::from(n);
@@ -126,9 +124,7 @@ pub fn from_u8_counted(n: u8, buffer: &mut [u8], turns: &mut Turns) -> usize
 /// `from_u16`, under the same condition, with its turns counted.
 pub fn from_u16_counted(n: u16, buffer: &mut [u8], turns: &mut Turns) -> usize
     requires { 5 ≤ length buffer.old }
-    ensures digits { WritesDigits 10 n buffer.old buffer.new result }
-    ensures notes { turns.new ≡ turns.old ++ decimal_notes_32 n }
-    ensures half { length turns.new ≡ length turns.old + (result - 1) / 2 }
+    ensures writes { WritesDecimal n (decimal_notes_32 n) buffer.old buffer.new turns.old turns.new result }
     ensures few { length turns.new ≤ length turns.old + 9 }
 {
     write_32(u32::from(n), buffer, turns)
@@ -137,9 +133,7 @@ pub fn from_u16_counted(n: u16, buffer: &mut [u8], turns: &mut Turns) -> usize
 /// `from_u32`, under the same condition, with its turns counted.
 pub fn from_u32_counted(n: u32, buffer: &mut [u8], turns: &mut Turns) -> usize
     requires { 10 ≤ length buffer.old }
-    ensures digits { WritesDigits 10 n buffer.old buffer.new result }
-    ensures notes { turns.new ≡ turns.old ++ decimal_notes_32 n }
-    ensures half { length turns.new ≡ length turns.old + (result - 1) / 2 }
+    ensures writes { WritesDecimal n (decimal_notes_32 n) buffer.old buffer.new turns.old turns.new result }
     ensures few { length turns.new ≤ length turns.old + 9 }
 {
     write_32(n, buffer, turns)
@@ -148,9 +142,7 @@ pub fn from_u32_counted(n: u32, buffer: &mut [u8], turns: &mut Turns) -> usize
 /// `from_u64`, under the same condition, with its turns counted.
 pub fn from_u64_counted(n: u64, buffer: &mut [u8], turns: &mut Turns) -> usize
     requires { 20 ≤ length buffer.old }
-    ensures digits { WritesDigits 10 n buffer.old buffer.new result }
-    ensures notes { turns.new ≡ turns.old ++ decimal_notes_64 n }
-    ensures half { length turns.new ≡ length turns.old + (result - 1) / 2 }
+    ensures writes { WritesDecimal n (decimal_notes_64 n) buffer.old buffer.new turns.old turns.new result }
     ensures few { length turns.new ≤ length turns.old + 9 }
 {
     write_64(n, buffer, turns)
@@ -160,9 +152,7 @@ pub fn from_u64_counted(n: u64, buffer: &mut [u8], turns: &mut Turns) -> usize
 pub fn from_i64_counted(n: u64, buffer: &mut [u8], turns: &mut Turns) -> usize
     requires number { n < 10 ^ 19 }
     requires room { 19 ≤ length buffer.old }
-    ensures digits { WritesDigits 10 n buffer.old buffer.new result }
-    ensures notes { turns.new ≡ turns.old ++ decimal_notes_64 n }
-    ensures half { length turns.new ≡ length turns.old + (result - 1) / 2 }
+    ensures writes { WritesDecimal n (decimal_notes_64 n) buffer.old buffer.new turns.old turns.new result }
     ensures few { length turns.new ≤ length turns.old + 9 }
 {
     write_64(n, buffer, turns)
