@@ -1,3 +1,4 @@
+pub mod Added
 pub mod Answers
 pub mod Buffers
 pub mod Decimals
@@ -13,3 +14,4 @@ pub mod Sinks
 pub mod Slices
 pub mod Steps
 pub mod UniqueAnswers
+pub mod Writers

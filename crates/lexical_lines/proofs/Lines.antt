@@ -27,6 +27,13 @@ IsCut-byte {ended = ended} {rest = rest} byte inside h = record {
   rest_inside = All-push IsInside rest byte h.rest_inside inside;
 }
 
+pub IsCut-more : {bytes : List ℕ} {ended : List (List ℕ)} {rest : List ℕ} (more : List ℕ) → NoNewline more → IsCut bytes ended rest → IsCut (bytes ++ more) ended (rest ++ more)
+IsCut-more {ended = ended} {rest = rest} more inside h = record {
+  whole = ap (λ xs. xs ++ more) h.whole ∙ append_assoc (with_newlines ended) rest more;
+  each = h.each;
+  rest_inside = All-append IsInside rest more h.rest_inside inside;
+}
+
 pub IsCut-newline : {bytes : List ℕ} {ended : List (List ℕ)} {rest : List ℕ} → IsCut bytes ended rest → IsCut (bytes ++ 10 ∷ []) (ended ++ rest ∷ []) []
 IsCut-newline {ended = ended} {rest = rest} h = record {
   whole = ap (λ xs. xs ++ 10 ∷ []) h.whole ∙ simp (flat_map-append, append_assoc, append-nil);
@@ -144,3 +151,14 @@ AreLines-append bytes more all others (front, ends) p q =
       cut = IsCut-append first q.cut;
       are = (λ i. same i ++ q.are i) ∙ sym (append_assoc (ended ++ rest ∷ []) q.ended (rest_line q.rest));
     }
+
+-- the lines that ended are the first ones of a longer input
+pub AreLines-longer : {bytes : List ℕ} {ended : List (List ℕ)} {rest : List ℕ} (more : List ℕ) → IsCut bytes ended rest → (others : List (List ℕ)) × AreLines (bytes ++ more) (ended ++ others)
+AreLines-longer {bytes = bytes} {ended = ended} {rest = rest} more cut =
+    let (others, last, further) = IsCut-exists (rest ++ more) in
+    let front : IsCut (with_newlines ended) ended [] = record { whole = sym (append-nil (with_newlines ended)); each = cut.each; rest_inside = All-nil IsInside } in
+    let same : with_newlines ended ++ (rest ++ more) ≡ bytes ++ more = sym (append_assoc (with_newlines ended) rest more) ∙ ap (λ xs. xs ++ more) (sym cut.whole) in
+    let both = IsCut-append front further in (
+      others ++ rest_line last,
+      record { ended = ended ++ others; rest = last; cut = rw same at both; are = sym (append_assoc ended others (rest_line last)) },
+    )

@@ -5,7 +5,7 @@ use Rattle.std.specs.Io.KnownBytes.{Consumes, IsAtEnd}
 use Rattle.lexical_lines.specs.Running.{added}
 use Rattle.lexical_lines.specs.Stream.{StreamReading, KeepsReader}
 
-given-of : (before after : Option (List ℕ)) (given : List ℕ) (limit left : ℕ) → Consumes before after given → left + length given ≡ limit
+pub given-of : (before after : Option (List ℕ)) (given : List ℕ) (limit left : ℕ) → Consumes before after given → left + length given ≡ limit
     → (IsSome before → (left ≡ 0) ⊎ IsAtEnd after) → IfSome before (λ bytes. given ≡ take limit bytes)
 given-of None after given limit left gave count used_up = tt
 given-of (Some xs) None given limit left gave count used_up = absurd gave

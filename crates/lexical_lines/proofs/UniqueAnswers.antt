@@ -5,7 +5,7 @@ use Rattle.lexical_write_integer.specs.Text.{IsText}
 use Rattle.lexical_num.specs.Sign.{sign_of}
 use Rattle.lexical_write_integer.proofs.Numerals.{digits_unique}
 use Rattle.lexical_lines.specs.declared.integer_type.IntegerType.{IntegerType}
-use Rattle.lexical_lines.specs.Answer.{IsAnswer, WithNewline, IsBadLine, AreAnswersFrom, AnswersAll, format_of}
+use Rattle.lexical_lines.specs.Answer.{IsAnswer, WithNewline, IsBadLine, AreAnswersFrom, AnswersAll, AnswersEnded, format_of}
 use Rattle.lexical_lines.specs.IntegerType.{signed}
 use Rattle.lexical_lines.specs.Lines.{AreLines, EndsLine}
 use Rattle.lexical_lines.proofs.Runs.{AreAnswersFrom-push}
@@ -13,7 +13,7 @@ use Rattle.std.proofs.lemmas.List.{append-nil}
 use Rattle.lexical_lines.specs.Request.{IsRequest, IsValue}
 use Rattle.lexical_lines.specs.Running.{BreaksOff}
 use Rattle.lexical_lines.specs.Sink.{IsBeginning}
-use Rattle.lexical_lines.proofs.Lines.{AreLines-append, AreLines-exist, AreLines-unique}
+use Rattle.lexical_lines.proofs.Lines.{AreLines-append, AreLines-exist, AreLines-longer, AreLines-unique}
 use Rattle.lexical_lines.proofs.Decimals.{IsDecimal-bytes, IsDecimal-value, IsDecimal-from_digits}
 use Rattle.lexical_lines.proofs.Requests.{IsRequest-name, IsRequest-parts, no_space-name, no_space-signed, radix_bytes, whole_as}
 use Rattle.lexical_lines.proofs.Signs.{signs_unique}
@@ -97,3 +97,11 @@ BreaksOff-begins is_ended bytes left put text none broke (all, are, answers) =
   where
     regroup : (a b c d : List ℕ) → (a ++ (b ++ c)) ++ d ≡ (a ++ b) ++ (c ++ d)
     regroup a b c d = simp append_assoc
+
+-- the answers to the lines that ended are a beginning of those to a longer input
+pub AnswersEnded-begins : (bytes more put text : List ℕ) → AnswersEnded bytes put → AnswersAll (bytes ++ more) text → (rest : List ℕ) × (text ≡ put ++ rest)
+AnswersEnded-begins bytes more put text (ended, rest, cut, answered) (all, are, answers) =
+    let (others, lines) = AreLines-longer more cut in
+    let same = AreLines-unique (bytes ++ more) all (ended ++ others) are lines in
+    let (first, last, answer, whole) = AreAnswersFrom-split 1 ended others text (rw same at answers) in
+    (last, whole ∙ ap (λ front. front ++ last) (AreAnswersFrom-unique 1 ended first put answer answered))

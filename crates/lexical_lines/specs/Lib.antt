@@ -1,4 +1,5 @@
 pub mod Answer
+pub mod Answerer
 pub mod Decimal
 pub mod ExitStatus
 pub mod IntegerType

@@ -1,9 +1,9 @@
 -- What contracts see of the devices over readers and writers.
-use Rattle.std.specs.Prelude.{◌≡◌, ◌⊎◌, ℕ, ◌+◌, Bool, true, List, length, Option, Some, None, IsSome, refl}
+use Rattle.std.specs.Prelude.{◌≡◌, ◌⊎◌, ℕ, ◌+◌, Bool, true, List, [], ◌++◌, length, Option, Some, None, IsSome, refl}
 use Rattle.std.specs.Io.{StartsWith}
-use Rattle.std.specs.Io.KnownBytes.{Consumes, IsAtEnd}
-use Rattle.std.proofs.Common.{◌∙◌, sym, subst}
-use Rattle.std.proofs.KnownBytes.{Consumes-nil, Consumes-more}
+use Rattle.std.specs.Io.KnownBytes.{Consumes, Appends, IsAtEnd}
+use Rattle.std.proofs.Common.{◌∙◌, sym, ap, subst, append-nil, append_assoc}
+use Rattle.std.proofs.KnownBytes.{Consumes-nil, Consumes-more, Appends-nil, Appends-trans}
 use Rattle.std.proofs.Math.Seq.{take-length, drop-length}
 use Rattle.std.proofs.Transfers.{starts_with_trans}
 use Rattle.lexical_lines.specs.Running.{added}
@@ -57,4 +57,22 @@ KeepsReader-transitive remaining a b c p q = record {
   left = q.left ∙ p.left;
   bytes = Consumes-more _ _ _ a.given b.given c.given p.longer q.longer p.bytes q.bytes;
   at_end = λ told used. q.at_end (still-told _ _ _ p.bytes told) (p.at_end told used);
+}
+
+-- ---- what calls of a sink over a writer keep
+
+-- what was taken grows by what the writer was given
+pub record KeepsWriter {W : Type 0} (contents : W → Option (List ℕ)) (a b : StreamWriting W) : Type 0 where
+  pub more : List ℕ
+  pub longer : b.taken ≡ a.taken ++ more
+  pub bytes : Appends (contents a.writer) (contents b.writer) more
+
+pub KeepsWriter-reflexive : {W : Type 0} (contents : W → Option (List ℕ)) (a : StreamWriting W) → KeepsWriter contents a a
+KeepsWriter-reflexive contents a = record { more = []; longer = sym (append-nil a.taken); bytes = Appends-nil (contents a.writer) }
+
+pub KeepsWriter-transitive : {W : Type 0} (contents : W → Option (List ℕ)) (a b c : StreamWriting W) → KeepsWriter contents a b → KeepsWriter contents b c → KeepsWriter contents a c
+KeepsWriter-transitive contents a b c p q = record {
+  more = p.more ++ q.more;
+  longer = q.longer ∙ ap (λ front. front ++ q.more) p.longer ∙ append_assoc a.taken p.more q.more;
+  bytes = Appends-trans _ _ _ _ _ p.bytes q.bytes;
 }

@@ -6,10 +6,9 @@ ghost use Rattle.lexical_num.specs.declared.constants.TheConstants.{BUFFER_SIZE}
 ghost use Rattle.lexical_write_integer.specs.Buffer.{Writes};
 ghost use Rattle.lexical_write_integer.specs.Text.{IsText};
 ghost use Rattle.lexical_lines.specs.Answer.{IsAnswer, WithNewline, IsBadLine, format_of};
-ghost use Rattle.lexical_lines.specs.Line.{held};
+ghost use Rattle.lexical_lines.specs.Line.{held, seen};
 ghost use Rattle.lexical_lines.specs.Request.{IsGood, Asks, number_of};
 
-use crate::line::Line;
 use crate::request::{Number, Request, parse};
 use lexical_num::constants::BUFFER_SIZE;
 use lexical_num::format::{NumberFormat, STANDARD};
@@ -24,12 +23,14 @@ pub const MAX_ANSWER: usize = BUFFER_SIZE + 11;
 
 /// Writes the answer to a line to the front of the buffer, and returns its length and whether the
 /// line is a good one.
-pub fn write_answer(line: &Line, line_number: u64, buffer: &mut [u8]) -> (usize, bool)
-    requires { BUFFER_SIZE + 11 ≤ length buffer.old }
+pub fn write_answer(line: Option<&[u8]>, line_number: u64, buffer: &mut [u8]) -> (usize, bool)
+    requires short { IfSome line (λ bytes. length bytes.now ≤ 64) }
+    requires room { BUFFER_SIZE + 11 ≤ length buffer.old }
     ensures within { result.0 ≤ length buffer.new }
-    ensures answer { (bytes : List ℕ) → line.now ≡ held bytes
+    ensures answer { (bytes : List ℕ) → seen line.entry ≡ held bytes
         → Writes (IsAnswer line_number bytes) buffer.old buffer.new result.0 }
-    ensures good { (bytes : List ℕ) → line.now ≡ held bytes → IsTrue result.1 ↔ IsGood bytes }
+    ensures good { (bytes : List ℕ) → seen line.entry ≡ held bytes
+        → IsTrue result.1 ↔ IsGood bytes }
 {
     match requested(line) {
         Some(request) => (write_text(&request, buffer), true),
@@ -38,13 +39,15 @@ pub fn write_answer(line: &Line, line_number: u64, buffer: &mut [u8]) -> (usize,
 }
 
 // What the line asks for, where it is a good one.
-fn requested(line: &Line) -> Option<Request>
+fn requested(line: Option<&[u8]>) -> Option<Request>
+    requires { IfSome line (λ bytes. length bytes.now ≤ 64) }
     ensures radix { IfSome result (λ request. IsRadix request.radix) }
-    ensures found { IfSome result (λ request. (bytes : List ℕ) → line.now ≡ held bytes
+    ensures found { IfSome result (λ request. (bytes : List ℕ) → seen line.entry ≡ held bytes
         → Asks bytes request) }
-    ensures none { IfNone result ((bytes : List ℕ) → line.now ≡ held bytes → IsGood bytes → ⊥) }
+    ensures none { IfNone result ((bytes : List ℕ) → seen line.entry ≡ held bytes
+        → IsGood bytes → ⊥) }
 {
-    parse(line.as_slice()?)
+    parse(line?)
 }
 
 // Writes the text that is asked for and a byte 10, and returns their length.

@@ -6,6 +6,7 @@
 mod joined;
 
 // A run over the lines of an input, and how the program ends.
+mod answerer;
 mod exit_status;
 mod running;
 
@@ -21,6 +22,7 @@ mod answer;
 mod decimal;
 mod integer_type;
 mod line;
+mod newline;
 mod request;
 mod sign;
 mod space;
@@ -28,6 +30,7 @@ mod space;
 // The laws of lines and answers, for callers.
 pub mod laws;
 
+pub use answerer::Answerer;
 pub use exit_status::status;
 pub use joined::{join, write_joined};
 pub use running::run;

@@ -1,11 +1,12 @@
 // The line that is being read.
 
-ghost use Rattle.std.specs.Prelude.{◌≡◌, ℕ, ◌≤◌, List, [], ◌∷◌, ◌++◌, ◌↔◌, take, Option, Some, None, IsTrue, if◌then◌else◌, nat_le, option_map, IfSome, length};
-ghost use Rattle.lexical_lines.specs.Line.{held};
+ghost use Rattle.std.specs.Prelude.{◌≡◌, ℕ, ◌≤◌, List, [], ◌∷◌, ◌++◌, ◌↔◌, take, Option, Some, None, IsTrue, if◌then◌else◌, nat_le, IfSome, length};
+ghost use Rattle.lexical_lines.specs.Line.{held, seen};
 
 use std::marker::Model;
 
-const MAX_LENGTH: usize = 64;
+/// The most bytes that are held of a line.
+pub const MAX_LENGTH: usize = 64;
 
 /// The bytes that are held of a line: all of them, or none where they are more than 64.
 #[derive(Drop)]
@@ -53,6 +54,15 @@ impl Line {
         }
     }
 
+    /// Adds bytes to the line.
+    pub fn push_all(&mut self, bytes: &[u8])
+        ensures { (line : List ℕ) → self.old ≡ held line → self.new ≡ held (line ++ bytes.now) }
+    {
+        for byte in bytes {
+            self.push(*byte);
+        }
+    }
+
     /// Whether the line has no bytes.
     pub fn is_empty(&self) -> bool
         ensures { IsTrue result ↔ (self.now ≡ held []) }
@@ -62,7 +72,7 @@ impl Line {
 
     /// The bytes of the line, where they are no more than 64.
     pub fn as_slice(&self) -> Option<&[u8]>
-        ensures value { option_map (λ bytes. bytes.now) result ≡ self.now }
+        ensures value { seen result ≡ self.now }
         ensures short { IfSome result (λ bytes. length bytes.now ≤ 64) }
     {
         if self.count <= MAX_LENGTH {

@@ -1,19 +1,13 @@
 // A run over the lines of an input.
 
-ghost use Rattle.std.specs.Prelude.{◌≡◌, ◌⊎◌, ℕ, ◌+◌, List, ◌++◌, ◌↔◌, IsTrue, IfOk, OnOk, OnErr};
-ghost use Rattle.lexical_lines.specs.Answer.{IsAnswer, AnswersAll, AnswersEnded};
-ghost use Rattle.lexical_lines.specs.Line.{held};
-ghost use Rattle.lexical_lines.specs.Request.{IsGood};
+ghost use Rattle.std.specs.Prelude.{◌≡◌, ◌⊎◌, ◌+◌, ◌++◌, IsTrue, IfOk, OnOk, OnErr};
+ghost use Rattle.lexical_lines.specs.Answer.{AnswersAll, AnswersEnded};
 ghost use Rattle.lexical_lines.specs.Running.{added, TellsAllGood, BreaksOff};
-ghost use Rattle.lexical_lines.specs.Sink.{IsBeginning};
 
-use crate::answer::{MAX_ANSWER, write_answer};
-use crate::line::Line;
-use crate::sink::{ByteSink, put_all};
+use crate::answerer::Answerer;
+use crate::sink::ByteSink;
 use crate::source::ByteSource;
 use std::io;
-
-const NEWLINE: u8 = b'\n';
 
 /// Reads lines, and puts the answer to each before it asks for the next byte. Returns whether all
 /// lines are good ones, or the error of the device that failed, of kind `WriteZero` where the sink
@@ -56,40 +50,9 @@ pub fn run<S: ByteSource, K: ByteSink>(source: &mut S, sink: &mut K) -> io::Resu
         ⊎ ((S.faults source.new ≡ S.faults source.old) × (K.faults sink.new ≡ K.faults sink.old + 1)
         × BreaksOff (S.is_ended source.new) bytes put)) }
 {
-    let mut line = Line::new();
-    let mut line_number: u64 = 1;
-    let mut all_good = true;
+    let mut answerer = Answerer::new();
     while let Some(byte) = source.next()? {
-        if byte == NEWLINE {
-            all_good &= put_answer(&line, line_number, sink)?;
-            line_number = line_number.saturating_add(1);
-            line.clear();
-        } else {
-            line.push(byte);
-        }
+        answerer.push(byte, sink)?;
     }
-    if !line.is_empty() {
-        all_good &= put_answer(&line, line_number, sink)?;
-    }
-    Ok(all_good)
-}
-
-// Puts the answer to a line, and returns whether the line is a good one.
-fn put_answer<K: ByteSink>(line: &Line, line_number: u64, sink: &mut K) -> io::Result<bool>
-    ensures ok { OnOk result ((bytes : List ℕ) → line.now ≡ held bytes
-        → (answer : List ℕ) × IsAnswer line_number bytes answer
-        × (K.taken sink.new ≡ K.taken sink.old ++ answer)) }
-    ensures good { IfOk result (λ good. (bytes : List ℕ) → line.now ≡ held bytes
-        → IsTrue good ↔ IsGood bytes) }
-    ensures ok_faults { OnOk result (K.faults sink.new ≡ K.faults sink.old) }
-    ensures err { OnErr result ((bytes : List ℕ) → line.now ≡ held bytes
-        → (answer : List ℕ) × (part : List ℕ) × IsAnswer line_number bytes answer
-        × IsBeginning part answer × (K.taken sink.new ≡ K.taken sink.old ++ part)) }
-    ensures err_faults { OnErr result (K.faults sink.new ≡ K.faults sink.old + 1) }
-    ensures kept { K.keeps sink.old sink.new }
-{
-    let mut buffer = [0u8; MAX_ANSWER];
-    let (count, is_good) = write_answer(line, line_number, &mut buffer);
-    put_all(sink, &buffer[..count])?;
-    Ok(is_good)
+    answerer.finish(sink)
 }

@@ -3,6 +3,7 @@
 ghost use Rattle.std.specs.Prelude.{◌≡◌, ℕ, ◌+◌, ◌≤◌, List, ◌++◌, length, take, IfOk, OnOk, OnErr};
 ghost use Rattle.lexical_lines.specs.Sink.{taken_by, put_faults, IsBeginning};
 
+use crate::trace::Trace;
 use std::io;
 
 /// A device that takes bytes, some at a time, and may fail.
@@ -48,4 +49,17 @@ pub fn put_all<K: ByteSink>(sink: &mut K, bytes: &[u8]) -> io::Result<()>
         rest = &rest[count..];
     }
     Ok(())
+}
+
+/// Notes what a call of a sink took of a piece, and its fault if it is one.
+pub fn note_put(trace: &mut Trace, bytes: &[u8], outcome: &io::Result<usize>)
+    requires { IfOk outcome.now (λ count. count ≤ length bytes.now) }
+    ensures bytes { trace.new.bytes ≡ trace.old.bytes ++ take (taken_by outcome.now) bytes.now }
+    ensures faults { trace.new.faults ≡ trace.old.faults + put_faults outcome.now bytes.now }
+{
+    match outcome {
+        Ok(0) if bytes.is_empty() => {}
+        Ok(0) | Err(_) => trace.fault(),
+        Ok(count) => trace.note(&bytes[..*count]),
+    }
 }

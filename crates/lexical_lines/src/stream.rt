@@ -5,7 +5,7 @@ ghost use Rattle.std.specs.Io.KnownBytes.{Consumes, IsAtEnd, WriteAppends};
 ghost use Rattle.lexical_lines.specs.Sink.{taken_by, put_faults};
 ghost use Rattle.lexical_lines.specs.Source.{given_by, tells_end, faults_of};
 
-use crate::sink::ByteSink;
+use crate::sink::{ByteSink, note_put};
 use crate::source::ByteSource;
 use crate::trace::Trace;
 use std::io;
@@ -151,37 +151,29 @@ impl<W: Write> Writing<W> {
 }
 
 impl<W: Write> ByteSink for Writing<W> {
+    ghost use Rattle.lexical_lines.specs.Stream.{KeepsWriter, KeepsWriter-reflexive, KeepsWriter-transitive};
+
     ghost taken = { λ s. s.taken };
 
     ghost faults = { λ s. s.faults };
 
-    ghost keeps = { λ a b. Unit {0} };
+    ghost keeps = { KeepsWriter W.contents };
 
-    ghost keeps_reflexive = { λ a. tt };
+    ghost keeps_reflexive = { KeepsWriter-reflexive W.contents };
 
-    ghost keeps_transitive = { λ a b c p q. tt };
+    ghost keeps_transitive = { KeepsWriter-transitive W.contents };
 
     /// Takes the bytes that the writer has written.
     fn put(&mut self, bytes: &[u8]) -> io::Result<usize>
         ensures within { IfOk result (λ count. count ≤ length bytes.now) }
         ensures taken { self.new.taken ≡ self.old.taken ++ take (taken_by result) bytes.now }
         ensures faults { self.new.faults ≡ self.old.faults + put_faults result bytes.now }
-        ensures kept { Unit {0} }
+        ensures kept { KeepsWriter W.contents self.old self.new }
         ensures bytes { WriteAppends (W.contents self.old.writer) (W.contents self.new.writer)
             result bytes.now }
     {
-        match self.writer.write(bytes) {
-            Ok(count) => {
-                if count == 0 && !bytes.is_empty() {
-                    self.trace.fault();
-                }
-                self.trace.note(&bytes[..count]);
-                Ok(count)
-            }
-            Err(error) => {
-                self.trace.fault();
-                Err(error)
-            }
-        }
+        let outcome = self.writer.write(bytes);
+        note_put(&mut self.trace, bytes, &outcome);
+        outcome
     }
 }

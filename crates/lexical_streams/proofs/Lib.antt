@@ -1,1 +1,3 @@
+mod Begun
+mod Failures
 mod Statuses

@@ -1,10 +1,18 @@
--- What the exit status tells of the lines of a reader.
-use Rattle.std.proofs.Common.{◌≡◌, ℕ, Bool, true, false, List, [], ◌++◌, take, Option, Some, None, IfSome, OnOk, IfOk, IsTrue, Result, Ok, Err, refl, ap, subst}
-use Rattle.std.specs.Io.KnownBytes.{prepend_known}
-use Rattle.lexical_lines.proofs.Readers.{all-given}
-use Rattle.lexical_lines.specs.Running.{added, TellsAllGood}
-use Rattle.lexical_lines.specs.Stream.{StreamReading, KeepsReader}
+-- What the exit status tells.
+use Rattle.std.proofs.Common.{◌≡◌, ◌⊎◌, ℕ, ◌+◌, ◌≤◌, Bool, true, false, List, [], ◌∷◌, ◌++◌, Option, Result, Ok, Err, OnOk, OnErr, refl, sym, ap, subst, ◌∙◌, inl, inr, arith, append-nil, length, length-append}
+use Rattle.std.specs.Prelude.{is_ok}
+use Rattle.std.specs.Io.KnownBytes.{Appends}
+use Rattle.std.proofs.KnownBytes.{starts_with_rest}
 use Rattle.lexical_lines.specs.ExitStatus.{status_of}
+use Rattle.lexical_lines.specs.Running.{added}
+use Rattle.lexical_lines.specs.Source.{faults_of}
+use Rattle.lexical_lines.specs.Stream.{StreamReading, KeepsReader}
+use Rattle.lexical_lines.proofs.Readers.{given-of}
+use Rattle.lexical_streams.specs.declared.block_reader.BlockReader.{BlockReader}
+use Rattle.lexical_streams.specs.declared.block_writer.BlockWriter.{BlockWriter}
+use Rattle.lexical_streams.specs.Answering.{HandedAll, AllAnswered, ReaderFailed, WriterFailed, ReadIsAnswered, ReadFails, WriteFails, bytes_read, bytes_put}
+use Rattle.lexical_streams.specs.Blocks.{reading, inner, held, taken, faults, HandsOn, HandsOn-both, KeepsBytes}
+use Rattle.lexical_streams.proofs.Begun.{begins-all}
 
 pub all-good : {E : Type 0} (ran : Result Bool E) (flushed : Bool) → status_of ran flushed ≡ 0 → ran ≡ Ok true
 all-good (Err e) flushed is_0 = absurd (cc is_0)
@@ -20,20 +28,84 @@ one-bad (Ok false) false is_1 = absurd (cc is_1)
 one-bad (Ok true) true is_1 = absurd (cc is_1)
 one-bad (Ok false) true is_1 = refl
 
-on-some : (known : Option (List ℕ)) (P Q : List ℕ → Type 0) → ((bytes : List ℕ) → P bytes → Q bytes) → IfSome known P → IfSome known Q
-on-some None P Q f p = tt
-on-some (Some bytes) P Q f p = f bytes p
+-- the run and the flush both succeeded
+pub no-fault : {E : Type 0} {P : Type 0} (ran : Result Bool E) (flushed : Bool) → status_of ran flushed ≤ 1 → OnOk ran P → P × (flushed ≡ true)
+no-fault (Err e) flushed low p = absurd (omega arith)
+no-fault (Ok true) false low p = absurd (omega arith)
+no-fault (Ok false) false low p = absurd (omega arith)
+no-fault (Ok true) true low p = (p, refl)
+no-fault (Ok false) true low p = (p, refl)
 
--- a run over a reader that tells its bytes answered them, up to the limit of the source
-pub answered : {R E : Type 0} {remaining : R → Option (List ℕ)} {a b : StreamReading R} {ran : Result Bool E} {all_good : Bool} → ran ≡ Ok all_good → a.given ≡ [] → a.is_ended ≡ false
-    → KeepsReader remaining a b → OnOk ran (IsTrue b.is_ended) → IfOk ran (λ good. TellsAllGood (added a.given b.given) good) → IfSome (remaining a.reader) (λ bytes. TellsAllGood (take a.left bytes) all_good)
-answered {R} {E} {remaining} {a} {b} {ran} {all_good} ok none unended kept ended good =
-    let told : IsTrue b.is_ended = subst (λ r. OnOk r (IsTrue b.is_ended)) ok ended in
-    let bytes : TellsAllGood b.given all_good = subst (λ front. TellsAllGood (added front b.given) all_good) none (subst (λ r. IfOk r (λ good. TellsAllGood (added a.given b.given) good)) ok good) in
-    on-some (remaining a.reader) _ _ (λ read given. subst (λ l. TellsAllGood l all_good) given bytes) (all-given remaining a b none unended kept told)
+-- the run failed, or the flush after it
+pub some-fault : {E : Type 0} {P Q : Type 0} (ran : Result Bool E) (flushed : Bool) → status_of ran flushed ≡ 2 → OnOk ran P → OnErr ran Q → Q ⊎ (P × (flushed ≡ false))
+some-fault (Err e) flushed is_2 p q = inl q
+some-fault (Ok true) false is_2 p q = inr (p, refl)
+some-fault (Ok false) false is_2 p q = inr (p, refl)
+some-fault (Ok true) true is_2 p q = absurd (cc is_2)
+some-fault (Ok false) true is_2 p q = absurd (cc is_2)
 
--- where nothing is unread, what is left is what the reader tells
-pub nothing-unread : (limit : ℕ) (all_good : Bool) (known : Option (List ℕ)) (unread : List ℕ) → unread ≡ [] → IfSome (prepend_known unread known) (λ bytes. TellsAllGood (take limit bytes) all_good)
-    → IfSome known (λ bytes. TellsAllGood (take limit bytes) all_good)
-nothing-unread limit all_good None unread none told = tt
-nothing-unread limit all_good (Some bytes) unread none told = subst (λ l. TellsAllGood (take limit l) all_good) (ap (λ front. front ++ bytes) none) told
+pub flush-ok : {A E P : Type 0} (flushed : Result A E) → is_ok flushed ≡ true → OnOk flushed P → P × (faults_of flushed ≡ 0)
+flush-ok (Ok a) ok p = (p, refl)
+flush-ok (Err e) ok p = absurd (cc ok)
+
+pub flush-failed : {A E : Type 0} (flushed : Result A E) → is_ok flushed ≡ false → faults_of flushed ≡ 1
+flush-failed (Ok a) ok = absurd (cc ok)
+flush-failed (Err e) ok = refl
+
+-- ---- the last flush
+
+-- the bytes that were taken before a flush are those taken after it
+same-put : {W : Type 0} {n : ℕ} (c d e : BlockWriter W n) → taken e ≡ taken d → bytes_put c e ≡ bytes_put c d
+same-put c d e same = ap (λ bytes. added (taken c) bytes) same
+
+-- a writer that holds nothing was given all that it took
+handed-all : {W : Type 0} {n : ℕ} (contents : W → Option (List ℕ)) (c d e : BlockWriter W n) → KeepsBytes contents c d → HandsOn contents d e [] → taken e ≡ taken d → held e ≡ [] → HandedAll contents c e
+handed-all contents c d e kept flushed same empty =
+    let both = HandsOn-both contents c d e (bytes_put c d) [] kept.hands_on flushed in
+    let whole = sym (ap (λ rest. both.handed ++ rest) empty ∙ append-nil both.handed) in
+    let handed = sym (whole ∙ sym both.whole ∙ ap (λ more. held c ++ more) (append-nil (bytes_put c d) ∙ sym (same-put c d e same))) in
+    subst (Appends (contents (inner c)) (contents (inner e))) (sym handed) both.bytes
+
+append-empty_right : (xs ys : List ℕ) → xs ++ ys ≡ [] → ys ≡ []
+append-empty_right [] ys e = e
+append-empty_right (x ∷ xs) ys e = absurd (cc e)
+
+-- a flush of nothing leaves nothing
+still-empty : {W : Type 0} {n : ℕ} (contents : W → Option (List ℕ)) (d e : BlockWriter W n) → held d ≡ [] → HandsOn contents d e [] → held e ≡ []
+still-empty contents d e empty flushed =
+    let none : flushed.handed ++ held e ≡ [] = sym flushed.whole ∙ append-nil (held d) ∙ empty in
+    append-empty_right flushed.handed (held e) none
+
+-- each byte that was given counts towards the limit
+given-left : {R : Type 0} (remaining : R → Option (List ℕ)) (a b : StreamReading R) → KeepsReader remaining a b → b.left + length (added a.given b.given) ≡ a.left
+given-left remaining a b kept =
+    let whole = ap length (starts_with_rest b.given a.given kept.longer) ∙ length-append a.given (added a.given b.given) in
+    omega (arith, whole, kept.left)
+
+module _ {R W : Type 0} {n : ℕ} (remaining : R → Option (List ℕ)) (contents : W → Option (List ℕ)) (a b : BlockReader R) (c d e : BlockWriter W n)
+    (same : taken e ≡ taken d) (kept : KeepsBytes contents c d) (flushed : HandsOn contents d e []) where
+  pub all-answered : KeepsReader remaining (reading a) (reading b) → ReadIsAnswered a b c d → faults e ≡ faults d → held e ≡ [] → AllAnswered remaining contents a b c e
+  all-answered read h flush_fault empty = record {
+    no_fault = (h.no_fault.0, flush_fault ∙ h.no_fault.1);
+    ended = h.ended;
+    all = λ unended. given-of _ _ (bytes_read a b) (reading a).left (reading b).left read.bytes (given-left remaining (reading a) (reading b) read) (λ told. read.at_end told (λ wrong. cc (wrong, unended)) h.ended);
+    answers = rw (same-put c d e same) h.answers;
+    handed = handed-all contents c d e kept flushed same empty;
+  }
+
+  pub reader-failed : ReadFails a b c d → ReaderFailed contents a b c e
+  reader-failed h = record {
+    fault = h.fault.0;
+    answers = rw (same-put c d e same) h.answers;
+    handed = handed-all contents c d e kept flushed same (still-empty contents d e h.empty flushed);
+  }
+
+  pub writer-failed : faults d ≤ faults e → WriteFails a b c d → WriterFailed a b c e
+  writer-failed more h = record { reader = h.fault.0; fault = omega (arith, more, h.fault.1); begins = rw (same-put c d e same) h.begins }
+
+  pub flush-was-lost : faults e ≡ faults d + 1 → ReadIsAnswered a b c d → WriterFailed a b c e
+  flush-was-lost more h = record {
+    reader = h.no_fault.0;
+    fault = omega (arith, more, h.no_fault.1);
+    begins = rw (same-put c d e same) (begins-all (reading b).is_ended (bytes_read a b) (bytes_put c d) h.ended h.answers);
+  }

@@ -1,3 +1,2 @@
+pub mod Answering
 pub mod Blocks
-pub mod Flushing
-pub mod Shared

@@ -1,57 +1,111 @@
 //! Lines of a reader, answered to a writer.
 
-ghost use Rattle.std.specs.Prelude.{◌≡◌, ◌-◌, ◌^◌, ◌≤◌, true, false, take, IfSome};
+ghost use Rattle.std.specs.Prelude.{◌≡◌, ◌⊎◌, ◌≤◌, true, false, length, [], ◌++◌, take, Ok, IfOk, OnOk, OnErr};
 ghost use Rattle.lexical_lines.specs.Running.{TellsAllGood};
+ghost use Rattle.lexical_lines.specs.Sink.{taken_by};
+ghost use Rattle.lexical_lines.specs.Stream.{KeepsReader};
+ghost use Rattle.lexical_streams.specs.Answering.{bytes_read, NoFault, FaultOfReader, FaultOfWriter, AllAnswered, ReaderFailed, WriterFailed, ReadIsAnswered, ReadFails, WriteFails};
+ghost use Rattle.lexical_streams.specs.Blocks.{reading, lent_reader, held, taken, KeepsBytes};
 
 use crate::block_reader::BlockReader;
 use crate::block_writer::BlockWriter;
-use crate::flushing_reader::FlushingReader;
-use crate::shared_writer::SharedWriter;
-use lexical_lines::{Reading, Writing, run, status};
-use std::cell::RefCell;
+use lexical_lines::{Answerer, status};
 use std::io;
 use std::io::{Read, Write};
-
-// The greatest number of bytes that are read.
-const LIMIT: u64 = 9_223_372_036_854_775_807;
 
 // A flush comes before each read, so few reads are few short writes.
 const READ_BLOCK: usize = 128 * 1024;
 
 const WRITE_BLOCK: usize = 16 * 1024;
 
-/// Answers the lines of standard input on standard output, and returns the exit status, both as
-/// `answer_stream` does.
+/// Answers the lines of standard input on standard output, as `answer_stream` does, and returns its
+/// exit status. The standard streams are read in blocks of 128 KiB and written in blocks of 16 KiB.
 pub fn answer_lines(rt: HostRuntime) -> u8
     ensures { result ≤ 2 }
 {
-    answer_stream(&mut rt.reader(), &mut io::writer(&rt))
+    let mut input = rt.reader();
+    let mut output = io::writer(&rt);
+    let mut reader = BlockReader::new(&mut input);
+    let mut writer = BlockWriter::<_, WRITE_BLOCK>::new(&mut output);
+    answer_stream(&mut reader, &mut writer)
 }
 
 /// Reads lines and writes their answers, as `lexical_lines::run` does, and then flushes the writer.
-/// It returns the exit status: 0 where all lines are good, 1 where one is bad, and 2 where reading,
-/// writing or flushing failed. It reads at most 2^63 - 1 bytes.
+/// Returns the exit status: 0 if all lines are good ones, 1 if one is bad, and 2 if a read, a write
+/// or a flush failed.
 ///
-/// The reader is read in blocks of 128 KiB and the writer is given blocks of 16 KiB. Both blocks
-/// lie on the stack, of which a call takes some 160 KB, or 500 KB as Rattle's own compiler builds
-/// it; it takes no other memory. The writer is flushed before each read, so an answer never waits
-/// for the next line.
-///
-/// The status and the bytes read are in the contract. That the writer is given the answers is not:
-/// it stands in a cell, of whose content no contract can speak.
-pub fn answer_stream<R: Read, W: Write>(reader: &mut R, writer: &mut W) -> u8
+/// The writer holds nothing when a read begins, so an answer never waits for the next line. The block
+/// that is read into lies on the stack, of which a call with a writer of 16 KiB takes some 160 KB, or
+/// 500 KB as Rattle's own compiler builds it; it takes no other memory.
+pub fn answer_stream<R: Read, W: Write, const SIZE: usize>(
+    reader: &mut BlockReader<'_, R>,
+    writer: &mut BlockWriter<'_, W, SIZE>,
+) -> u8
     ensures range { result ≤ 2 }
-    ensures good { result ≡ 0 → IfSome (R.remaining reader.old)
-        (λ bytes. TellsAllGood (take (2 ^ 63 - 1) bytes) true) }
-    ensures bad { result ≡ 1 → IfSome (R.remaining reader.old)
-        (λ bytes. TellsAllGood (take (2 ^ 63 - 1) bytes) false) }
+    // What the reader gave is what it lost, and what the writer took was handed on in order, or is
+    // held.
+    ensures read { KeepsReader R.remaining (reading reader.old) (reading reader.new) }
+    ensures lent { lent_reader reader.new ≡ lent_reader reader.old }
+    ensures written { KeepsBytes W.contents writer.old writer.new }
+    // No device failed, and the answers to all lines were handed on.
+    ensures answered { result ≤ 1
+        → AllAnswered R.remaining W.contents reader.old reader.new writer.old writer.new }
+    ensures good { result ≡ 0 → TellsAllGood (bytes_read reader.old reader.new) true }
+    ensures bad { result ≡ 1 → TellsAllGood (bytes_read reader.old reader.new) false }
+    // A device failed, and a beginning of the answers was handed on.
+    ensures failed { result ≡ 2
+        → ReaderFailed W.contents reader.old reader.new writer.old writer.new
+        ⊎ WriterFailed reader.old reader.new writer.old writer.new }
 {
-    // The writer is shared, so that what it holds is written before the reader waits.
-    let output = RefCell::new(BlockWriter::<_, WRITE_BLOCK>::new(writer));
-    let input = FlushingReader::new(reader, SharedWriter::new(&output));
-    let mut source = Reading::new(BlockReader::<_, READ_BLOCK>::new(input), LIMIT);
-    let mut sink = Writing::new(SharedWriter::new(&output));
-    let ran = run(&mut source, &mut sink);
-    let flushed = sink.into_inner().flush().is_ok();
+    let ran = answer_blocks(reader, writer);
+    let flushed = writer.flush().is_ok();
     status(&ran, flushed)
+}
+
+// Answers all lines of the reader, up to its limit, or up to the first fault of a device. Returns
+// whether all lines are good ones.
+fn answer_blocks<R: Read, W: Write, const SIZE: usize>(
+    reader: &mut BlockReader<'_, R>,
+    writer: &mut BlockWriter<'_, W, SIZE>,
+) -> io::Result<bool>
+    ensures ok { OnOk result (ReadIsAnswered reader.old reader.new writer.old writer.new) }
+    ensures good { IfOk result (λ all_good. TellsAllGood (bytes_read reader.old reader.new) all_good) }
+    ensures err { OnErr result
+        (ReadFails reader.old reader.new writer.old writer.new
+        ⊎ WriteFails reader.old reader.new writer.old writer.new) }
+    ensures read { KeepsReader R.remaining (reading reader.old) (reading reader.new) }
+    ensures lent { lent_reader reader.new ≡ lent_reader reader.old }
+    ensures written { KeepsBytes W.contents writer.old writer.new }
+{
+    let mut block = [0u8; READ_BLOCK];
+    let mut answerer = Answerer::new();
+    let mut count = read_block(reader, writer, &mut block)?;
+    while count > 0 {
+        answerer.push_all(&block[..count], writer)?;
+        count = read_block(reader, writer, &mut block)?;
+    }
+    answerer.finish(writer)
+}
+
+// Flushes the writer, and then reads a block.
+fn read_block<R: Read, W: Write, const SIZE: usize>(
+    reader: &mut BlockReader<'_, R>,
+    writer: &mut BlockWriter<'_, W, SIZE>,
+    block: &mut [u8],
+) -> io::Result<usize>
+    requires { 1 ≤ length block.old }
+    ensures within { IfOk result (λ count. count ≤ length block.new) }
+    ensures given { (reading reader.new).given ≡ (reading reader.old).given ++ take (taken_by result) block.new }
+    ensures ended { result ≡ Ok 0 → (reading reader.new).is_ended ≡ true }
+    ensures ok { OnOk result (NoFault reader.old reader.new writer.old writer.new) }
+    ensures err { OnErr result
+        (FaultOfReader reader.old reader.new writer.old writer.new × (held writer.new ≡ [])
+        ⊎ FaultOfWriter reader.old reader.new writer.old writer.new) }
+    ensures read { KeepsReader R.remaining (reading reader.old) (reading reader.new) }
+    ensures lent { lent_reader reader.new ≡ lent_reader reader.old }
+    ensures taken { taken writer.new ≡ taken writer.old }
+    ensures written { KeepsBytes W.contents writer.old writer.new }
+{
+    writer.flush()?;
+    reader.read(block, writer)
 }

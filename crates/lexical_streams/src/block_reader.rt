@@ -1,109 +1,77 @@
-// A block of bytes before a reader.
+// A reader of blocks of bytes.
 
-ghost use Rattle.std.specs.Prelude.{◌≡◌, ◌+◌, ◌-◌, ◌<◌, ◌≤◌, min, [], ◌++◌, length, take, drop, Ok, OnOk, OnErr};
-ghost use Rattle.std.specs.Io.{ReadsAtMost};
-ghost use Rattle.std.specs.Io.KnownBytes.{Keeps, IsAtEnd, ReadConsumes};
+ghost use Rattle.std.specs.Prelude.{◌≡◌, ◌+◌, ◌-◌, ◌^◌, ◌≤◌, true, false, [], ◌++◌, length, take, Ok, IfOk};
+ghost use Rattle.lexical_lines.specs.Sink.{taken_by};
+ghost use Rattle.lexical_lines.specs.Source.{faults_of};
+ghost use Rattle.lexical_lines.specs.Stream.{KeepsReader};
 
+use crate::block_writer::BlockWriter;
+use lexical_lines::Trace;
 use std::io;
 use std::io::Read;
 
-/// Gives the bytes of a reader, which it reads in blocks of up to `SIZE` bytes. Each byte is given
-/// once and in order, also after an error. The value itself has room for a block.
+// The largest number of bytes that a reader of blocks gives.
+const LIMIT: u64 = 9_223_372_036_854_775_807;
+
+/// Gives the bytes of a reader in blocks, up to the limit of 2^63 - 1 bytes, and counts the faults
+/// of the reader, for contracts only.
 #[derive(Drop)]
-pub struct BlockReader<R, const SIZE: usize> {
-    reader: R,
-    // The bytes from `start` to `end` are read and not yet given.
-    block: [u8; SIZE],
-    start: usize,
-    end: usize,
-    ghost nonempty: { 0 < SIZE },
-    ghost ordered: { start ≤ end },
-    ghost within: { end ≤ SIZE },
+pub struct BlockReader<'a, R> {
+    reader: &'a mut R,
+    // The number of bytes that it may still give.
+    left: u64,
+    is_ended: bool,
+    trace: Trace,
 }
 
-impl<R: Read, const SIZE: usize> BlockReader<R, SIZE> {
-    ghost use Rattle.lexical_streams.specs.Blocks.{reader_inner, unread, reader_remaining};
+impl<'a, R: Read> BlockReader<'a, R> {
+    ghost use Rattle.lexical_streams.specs.Blocks.{reading, lent_reader, held};
 
-    /// A reader over another one, of which nothing is read yet. A block has a byte at least.
-    pub fn new(reader: R) -> BlockReader<R, SIZE>
-        requires { 0 < SIZE }
-        ensures inner { reader_inner result ≡ reader }
-        ensures unread { unread result ≡ [] }
+    /// A reader of blocks that has given no byte.
+    pub fn new(reader: &'a mut R) -> BlockReader<'a, R>
+        ensures start { reading result ≡ record { reader = reader.entry.now; left = 2 ^ 63 - 1; is_ended = false; given = []; faults = 0 } }
+        ensures lent { lent_reader result ≡ reader.entry.ghost_name }
     {
         BlockReader {
             reader,
-            block: [0; SIZE],
-            start: 0,
-            end: 0,
+            left: LIMIT,
+            is_ended: false,
+            trace: Trace::new(),
         }
     }
 
-    /// Gives the reader back. The bytes that are read and not yet given are lost.
-    pub fn into_inner(self) -> R
-        ensures { result ≡ reader_inner self }
+    /// Reads bytes to the start of the block, by one call of the reader, and returns how many they
+    /// are. An `Ok` of 0 tells the end: the reader gave no byte, or the limit is reached.
+    ///
+    /// A read may wait for its bytes, so the writer, which is only looked at, must hold nothing.
+    pub fn read<W, const SIZE: usize>(
+        &mut self,
+        block: &mut [u8],
+        writer: &BlockWriter<'_, W, SIZE>,
+    ) -> io::Result<usize>
+        requires room { 1 ≤ length block.old }
+        requires flushed { held writer.now ≡ [] }
+        ensures within { IfOk result (λ count. count ≤ length block.new) }
+        ensures given { (reading self.new).given ≡ (reading self.old).given ++ take (taken_by result) block.new }
+        ensures ended { result ≡ Ok 0 → (reading self.new).is_ended ≡ true }
+        ensures faults { (reading self.new).faults ≡ (reading self.old).faults + faults_of result }
+        ensures kept { KeepsReader R.remaining (reading self.old) (reading self.new) }
+        ensures lent { lent_reader self.new ≡ lent_reader self.old }
     {
-        self.reader
-    }
-
-    // Reads a block where none is left. An error leaves none.
-    fn fill(&mut self) -> io::Result<()>
-        requires { unread self.old ≡ [] }
-        ensures bytes { Keeps (reader_remaining R.remaining self.old) (reader_remaining R.remaining self.new) }
-        ensures end { OnOk result (unread self.new ≡ [] → IsAtEnd (reader_remaining R.remaining self.new)) }
-        ensures err { OnErr result (unread self.new ≡ []) }
-    {
-        let count = self.reader.read(&mut self.block)?;
-        self.start = 0;
-        self.end = count;
-        Ok(())
-    }
-
-    // Gives the first bytes of the block, as many as there are and as have room.
-    fn give(&mut self, buffer: &mut [u8]) -> usize
-        ensures count { result ≡ min (length (unread self.old)) (length buffer.old) }
-        ensures bytes { unread self.old ≡ take result buffer.new ++ unread self.new }
-        ensures after { drop result buffer.new ≡ drop result buffer.old }
-        ensures inner { reader_inner self.new ≡ reader_inner self.old }
-    {
-        let start = self.start;
-        let count = buffer.len().min(self.end - start);
-        let block = &self.block[..];
-        copy_bytes(&block[start..start + count], &mut buffer[..count]);
-        self.start = start + count;
-        count
-    }
-}
-
-impl<R: Read, const SIZE: usize> Read for BlockReader<R, SIZE> {
-    ghost use Rattle.lexical_streams.specs.Blocks.{reader_inner, unread, reader_remaining};
-
-    ghost remaining = { reader_remaining R.remaining };
-
-    // Where a byte is unread, the reader is not called.
-    fn read(&mut self, buffer: &mut [u8]) -> io::Result<usize>
-        ensures bound { ReadsAtMost result buffer.new }
-        ensures bytes { ReadConsumes (reader_remaining R.remaining self.old)
-            (reader_remaining R.remaining self.new) result buffer.new }
-        ensures count { 0 < length (unread self.old)
-            → result ≡ Ok (min (length (unread self.old)) (length buffer.old)) }
-        ensures inner { 0 < length (unread self.old) → reader_inner self.new ≡ reader_inner self.old }
-        ensures err { OnErr result (unread self.new ≡ []) }
-    {
-        if self.start == self.end && !buffer.is_empty() {
-            self.fill()?;
+        let size = self.left.min(block.len() as u64) as usize;
+        match self.reader.read(&mut block[..size]) {
+            Ok(count) => {
+                if count == 0 {
+                    self.is_ended = true;
+                }
+                self.left -= count as u64;
+                self.trace.note(&block[..count]);
+                Ok(count)
+            }
+            Err(error) => {
+                self.trace.fault();
+                Err(error)
+            }
         }
-        Ok(self.give(buffer))
-    }
-}
-
-// Copies bytes over as many. One byte alone is moved without a call.
-fn copy_bytes(bytes: &[u8], buffer: &mut [u8])
-    requires { length bytes.now ≡ length buffer.old }
-    ensures { buffer.new ≡ bytes.now }
-{
-    if bytes.len() == 1 {
-        buffer[0] = bytes[0];
-    } else {
-        buffer.copy_from_slice(bytes);
     }
 }

@@ -1,9 +1,11 @@
 // A block of bytes before a writer.
 
 ghost use Rattle.std.specs.Prelude.{◌≡◌, ◌+◌, ◌-◌, ◌<◌, ◌≤◌, min, [], ◌++◌, length, take, Ok, IfOk, OnOk};
-ghost use Rattle.std.specs.Io.{WritesAtMost};
-ghost use Rattle.std.specs.Io.KnownBytes.{Keeps, Appends, WriteAppends};
+ghost use Rattle.std.specs.Io.KnownBytes.{Appends};
+ghost use Rattle.lexical_lines.specs.Sink.{taken_by, put_faults};
+ghost use Rattle.lexical_lines.specs.Source.{faults_of};
 
+use lexical_lines::{ByteSink, Trace};
 use std::io;
 use std::io::Write;
 
@@ -13,46 +15,61 @@ use std::io::Write;
 ///
 /// A flush flushes the writer too, which is in no contract: tests show it.
 #[derive(Drop)]
-pub struct BlockWriter<W, const SIZE: usize> {
-    writer: W,
+pub struct BlockWriter<'a, W, const SIZE: usize> {
+    writer: &'a mut W,
     // The bytes before `end` are taken and not yet handed on.
     block: [u8; SIZE],
     end: usize,
+    trace: Trace,
     ghost nonempty: { 0 < SIZE },
     ghost within: { end ≤ SIZE },
 }
 
-impl<W: Write, const SIZE: usize> BlockWriter<W, SIZE> {
-    ghost use Rattle.lexical_streams.specs.Blocks.{writer_inner, held, writer_contents};
+impl<'a, W: Write, const SIZE: usize> BlockWriter<'a, W, SIZE> {
+    ghost use Rattle.lexical_streams.specs.Blocks.{inner, loan, held, taken, faults, HandsOn};
 
-    /// A writer over another one, with nothing held. A block has a byte at least.
-    pub fn new(writer: W) -> BlockWriter<W, SIZE>
+    /// A sink before a writer, with nothing taken. A block has a byte at least.
+    pub fn new(writer: &'a mut W) -> BlockWriter<'a, W, SIZE>
         requires { 0 < SIZE }
-        ensures inner { writer_inner result ≡ writer }
+        ensures inner { inner result ≡ writer.entry.now }
+        ensures loan { loan result ≡ writer.entry.ghost_name }
         ensures held { held result ≡ [] }
+        ensures taken { taken result ≡ [] }
+        ensures faults { faults result ≡ 0 }
     {
         BlockWriter {
             writer,
             block: [0; SIZE],
             end: 0,
+            trace: Trace::new(),
         }
     }
 
-    /// Gives the writer back. The bytes that are held, which a flush would have written, are lost.
-    pub fn into_inner(self) -> W
-        ensures { result ≡ writer_inner self }
+    /// Hands on what is held, and flushes the writer. After it nothing is held, or the error is told
+    /// and what was not handed on is still held.
+    pub fn flush(&mut self) -> io::Result<()>
+        ensures ok { OnOk result (held self.new ≡ []) }
+        ensures bytes { HandsOn W.contents self.old self.new [] }
+        ensures taken { taken self.new ≡ taken self.old }
+        ensures faults { faults self.new ≡ faults self.old + faults_of result }
     {
-        self.writer
+        self.hand_on()?;
+        let flushed = self.writer.flush();
+        note_fault(&mut self.trace, &flushed);
+        flushed
     }
 
     // Hands on what is held. What an error leaves is still held.
     fn hand_on(&mut self) -> io::Result<()>
         ensures ok { OnOk result (held self.new ≡ []) }
-        ensures bytes { Keeps (writer_contents W.contents self.old) (writer_contents W.contents self.new) }
+        ensures bytes { HandsOn W.contents self.old self.new [] }
+        ensures taken { taken self.new ≡ taken self.old }
+        ensures faults { faults self.new ≡ faults self.old + faults_of result }
     {
-        let (count, result) = write_while_taken(&self.block[..self.end], &mut self.writer);
+        let (count, result) = write_while_taken(&self.block[..self.end], self.writer);
         self.block.copy_within(count..self.end, 0);
         self.end -= count;
+        note_fault(&mut self.trace, &result);
         result
     }
 
@@ -60,45 +77,58 @@ impl<W: Write, const SIZE: usize> BlockWriter<W, SIZE> {
     fn hold(&mut self, bytes: &[u8]) -> usize
         ensures count { result ≡ min (length bytes.now) (SIZE - length (held self.old)) }
         ensures held { held self.new ≡ held self.old ++ take result bytes.now }
-        ensures inner { writer_inner self.new ≡ writer_inner self.old }
+        ensures inner { inner self.new ≡ inner self.old }
+        ensures loan { loan self.new ≡ loan self.old }
+        ensures taken { taken self.new ≡ taken self.old ++ take result bytes.now }
+        ensures faults { faults self.new ≡ faults self.old }
     {
         let end = self.end;
         let count = bytes.len().min(SIZE - end);
         let block = &mut self.block[..];
         block[end..end + count].copy_from_slice(&bytes[..count]);
         self.end = end + count;
+        self.trace.note(&bytes[..count]);
         count
     }
 }
 
-impl<W: Write, const SIZE: usize> Write for BlockWriter<W, SIZE> {
-    ghost use Rattle.lexical_streams.specs.Blocks.{writer_inner, held, writer_contents};
+impl<W: Write, const SIZE: usize> ByteSink for BlockWriter<'_, W, SIZE> {
+    ghost use Rattle.lexical_streams.specs.Blocks.{inner, loan, held, taken, faults, HandsOn, KeepsBytes, KeepsBytes-reflexive, KeepsBytes-transitive};
 
-    ghost contents = { writer_contents W.contents };
+    ghost taken = { taken };
 
-    // Where the block has room, the writer is not called.
-    fn write(&mut self, bytes: &[u8]) -> io::Result<usize>
-        ensures bound { WritesAtMost result bytes.now }
-        ensures bytes { WriteAppends (writer_contents W.contents self.old)
-            (writer_contents W.contents self.new) result bytes.now }
-        ensures some { IfOk result (λ count. 0 < length bytes.now → 0 < count) }
+    ghost faults = { faults };
+
+    ghost keeps = { KeepsBytes W.contents };
+
+    ghost keeps_reflexive = { KeepsBytes-reflexive W.contents };
+
+    ghost keeps_transitive = { KeepsBytes-transitive W.contents };
+
+    /// Takes the bytes that the block has room for. Where it has some, the writer is not called.
+    fn put(&mut self, bytes: &[u8]) -> io::Result<usize>
+        ensures within { IfOk result (λ count. count ≤ length bytes.now) }
+        ensures taken { taken self.new ≡ taken self.old ++ take (taken_by result) bytes.now }
+        ensures faults { faults self.new ≡ faults self.old + put_faults result bytes.now }
+        ensures kept { KeepsBytes W.contents self.old self.new }
         ensures count { length (held self.old) < SIZE
             → result ≡ Ok (min (length bytes.now) (SIZE - length (held self.old))) }
-        ensures inner { length (held self.old) < SIZE → writer_inner self.new ≡ writer_inner self.old }
+        ensures inner { length (held self.old) < SIZE → inner self.new ≡ inner self.old }
     {
         if self.end == SIZE {
             self.hand_on()?;
         }
         Ok(self.hold(bytes))
     }
+}
 
-    // After it nothing is held, or the error is told and what was not handed on is still held.
-    fn flush(&mut self) -> io::Result<()>
-        ensures bytes { Keeps (writer_contents W.contents self.old) (writer_contents W.contents self.new) }
-        ensures ok { OnOk result (held self.new ≡ []) }
-    {
-        self.hand_on()?;
-        self.writer.flush()
+// Counts a fault if the result is an error.
+fn note_fault(trace: &mut Trace, outcome: &io::Result<()>)
+    ensures bytes { trace.new.bytes ≡ trace.old.bytes }
+    ensures faults { trace.new.faults ≡ trace.old.faults + faults_of outcome.now }
+{
+    if outcome.is_err() {
+        trace.fault();
     }
 }
 

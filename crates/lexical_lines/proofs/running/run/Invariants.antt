@@ -1,5 +1,6 @@
-use Rattle.std.proofs.Common.{◌≡◌}
-use Rattle.lexical_lines.proofs.Runs.{HasRead}
+use Rattle.std.proofs.Common.{◌≡◌, ◌++◌}
+use Rattle.lexical_lines.specs.Answerer.{HasAnswered}
+use Rattle.lexical_lines.specs.Running.{added}
 use Rattle.lexical_lines.proofs.running.run.Given as goal
 
 abbrev pub invariant-loop-byte : goal.invariant-loop-byte
@@ -7,7 +8,8 @@ invariant-loop-byte g l =
     let source = g.S.ByteSource in
     let sink = g.K.ByteSink in
     record {
-      read : HasRead (source.given l.fn.source) (source.given l.source) (sink.taken l.fn.sink) (sink.taken l.sink) l.line_number l.all_good l.line;
+      given : source.given l.source ≡ source.given l.fn.source ++ added (source.given l.fn.source) (source.given l.source);
+      read : HasAnswered (sink.taken l.fn.sink) (added (source.given l.fn.source) (source.given l.source)) (sink.taken l.sink) l.answerer;
       source_faults : source.faults l.source ≡ source.faults l.fn.source;
       sink_faults : sink.faults l.sink ≡ sink.faults l.fn.sink;
       source_kept : source.keeps l.fn.source l.source;

@@ -1,19 +1,41 @@
-use Rattle.std.proofs.Common.{◌-◌, ◌^◌, true, false, sym, ◌∙◌}
-use Rattle.lexical_streams.proofs.Statuses.{all-good, one-bad, answered, nothing-unread}
+use Rattle.std.proofs.Common.{◌+◌, sym, ap, ◌∙◌, inl, inr, arith}
+use Rattle.std.proofs.lemmas.Result.{IfOk-at_ok}
+use Rattle.lexical_streams.specs.Blocks.{faults, KeepsBytes-transitive, KeepsBytes-flush}
+use Rattle.lexical_streams.proofs.Statuses.{all-good, one-bad, no-fault, some-fault, flush-ok, flush-failed, all-answered, reader-failed, writer-failed, flush-was-lost}
 use Rattle.lexical_streams.proofs.answering.answer_stream.Goals as goal
 
+pub returns-clause-written : goal.returns-clause-written
+returns-clause-written g c = KeepsBytes-transitive g.W.Write.contents _ _ _ c.answer_blocks-ran.ensures.written
+    (KeepsBytes-flush g.W.Write.contents c.answer_blocks-ran.new.writer c.flush.new.self c.flush.ensures.taken c.flush.ensures.bytes)
+
 pub returns-clause-good : goal.returns-clause-good
-returns-clause-good g c is_0 =
-    let source = c.new-source.ensures in
-    let ran = c.run-ran.ensures in
-    let told = answered (all-good _ _ (sym c.status.ensures ∙ is_0)) source.given source.ended ran.kept_source ran.ok_end ran.ok_good in
-    nothing-unread (2 ^ 63 - 1) true (g.R.Read.remaining c.args.reader.now) _ c.new-3.ensures.unread
-    (rw (source.reader, source.left, c.new-3.ensures.inner, c.new-input.ensures.reader) at told)
+returns-clause-good g c is_0 = IfOk-at_ok _ (all-good _ _ (sym c.status.ensures ∙ is_0)) c.answer_blocks-ran.ensures.good
 
 pub returns-clause-bad : goal.returns-clause-bad
-returns-clause-bad g c is_1 =
-    let source = c.new-source.ensures in
-    let ran = c.run-ran.ensures in
-    let told = answered (one-bad _ _ (sym c.status.ensures ∙ is_1)) source.given source.ended ran.kept_source ran.ok_end ran.ok_good in
-    nothing-unread (2 ^ 63 - 1) false (g.R.Read.remaining c.args.reader.now) _ c.new-3.ensures.unread
-    (rw (source.reader, source.left, c.new-3.ensures.inner, c.new-input.ensures.reader) at told)
+returns-clause-bad g c is_1 = IfOk-at_ok _ (one-bad _ _ (sym c.status.ensures ∙ is_1)) c.answer_blocks-ran.ensures.good
+
+pub returns-clause-answered : goal.returns-clause-answered
+returns-clause-answered g c low =
+    let ran = c.answer_blocks-ran.ensures in
+    let flush = c.flush.ensures in
+    let (answered, flushed) = no-fault c.answer_blocks-ran.result c.is_ok-flushed.result (rw c.status.ensures at low) ran.ok in
+    let (empty, none) = flush-ok c.flush.result (sym c.is_ok-flushed.ensures.value ∙ flushed) flush.ok in
+    all-answered g.R.Read.remaining g.W.Write.contents c.args.reader.now c.answer_blocks-ran.new.reader c.args.writer.now c.answer_blocks-ran.new.writer c.flush.new.self
+    flush.taken ran.written flush.bytes ran.read answered (omega (arith, flush.faults, none)) empty
+
+pub returns-clause-failed : goal.returns-clause-failed
+returns-clause-failed g c is_2 =
+    let ran = c.answer_blocks-ran.ensures in
+    let flush = c.flush.ensures in
+    let before = c.answer_blocks-ran.new in
+    elim (some-fault c.answer_blocks-ran.result c.is_ok-flushed.result (sym c.status.ensures ∙ is_2) ran.ok ran.err) [
+      | inl failed ↦ elim failed [
+        | inl read ↦ inl (reader-failed g.R.Read.remaining g.W.Write.contents c.args.reader.now before.reader c.args.writer.now before.writer c.flush.new.self flush.taken ran.written flush.bytes read)
+        | inr write ↦ inr (writer-failed g.R.Read.remaining g.W.Write.contents c.args.reader.now before.reader c.args.writer.now before.writer c.flush.new.self flush.taken ran.written flush.bytes
+            (omega (arith, flush.faults)) write)
+      ]
+      | inr done ↦
+          let lost = flush-failed c.flush.result (sym c.is_ok-flushed.ensures.value ∙ done.1) in
+          inr (flush-was-lost g.R.Read.remaining g.W.Write.contents c.args.reader.now before.reader c.args.writer.now before.writer c.flush.new.self flush.taken ran.written flush.bytes
+          (flush.faults ∙ ap (λ more. faults before.writer + more) lost) done.0)
+    ]

@@ -1,7 +1,7 @@
 // Lines answered from a reader to a writer, each of which fails at one of its calls.
 
 use crate::tests::blocks::devices::{Fault, Taker};
-use lexical_streams::answer_stream;
+use lexical_streams::{BlockReader, BlockWriter, answer_stream};
 use std::cell::Cell;
 use std::io;
 use std::io::{ErrorKind, Read, Write};
@@ -81,6 +81,13 @@ const NONE: Faults = Faults {
     flush: None,
 };
 
+// Answers the lines and returns the exit status.
+fn answered(reader: &mut LineGiver<'_>, writer: &mut Flushed<'_>) -> u8 {
+    let mut input = BlockReader::new(reader);
+    let mut output = BlockWriter::<_, 64>::new(writer);
+    answer_stream(&mut input, &mut output)
+}
+
 // Answers the lines; the output is what the writer took in the end. Returns the exit status.
 fn status_of(rt: &impl Abort, lines: &[u8], faults: Faults, output: &[u8]) -> u8 {
     let flushed = Cell::new(0);
@@ -102,7 +109,7 @@ fn status_of(rt: &impl Abort, lines: &[u8], faults: Faults, output: &[u8]) -> u8
         flushed: &flushed,
         flushes: 0,
     };
-    let status = answer_stream(&mut reader, &mut writer);
+    let status = answered(&mut reader, &mut writer);
     assert_eq!(rt; writer.taker.taken(), output);
     status
 }
@@ -133,7 +140,7 @@ fn each_answer_is_flushed_before_the_next_read(rt: HostRuntime) {
         flushed: &flushed,
         flushes: 0,
     };
-    assert_eq!(rt; answer_stream(&mut reader, &mut writer), 0);
+    assert_eq!(rt; answered(&mut reader, &mut writer), 0);
     assert_eq!(rt; reader.seen, ANSWERED);
     // One for each line, one for the end, and the last flush of the writer.
     assert_eq!(rt; reader.reads, 4);

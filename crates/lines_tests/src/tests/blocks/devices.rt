@@ -1,32 +1,9 @@
-// A reader and a writer that do little at a call, and fail once in mid-stream or for good.
+// A writer that does little at a call, and fails once in mid-stream or for good.
 
 ghost use Rattle.std.specs.Prelude.{◌≤◌};
 
 use std::io;
-use std::io::{ErrorKind, Read, Write};
-
-/// Gives a slice by pieces, and is interrupted before one of the calls.
-#[derive(Drop)]
-pub struct Giver<'a> {
-    pub bytes: &'a [u8],
-    pub piece: usize,
-    // How many calls come before the error, which comes once.
-    pub before_error: Option<u32>,
-    pub calls: u32,
-}
-
-impl Read for Giver<'_> {
-    fn read(&mut self, buffer: &mut [u8]) -> io::Result<usize> {
-        self.calls = self.calls.saturating_add(1);
-        if self.before_error == Some(0) {
-            self.before_error = None;
-            return Err(io::Error::from(ErrorKind::Interrupted));
-        }
-        self.before_error = self.before_error.map(|calls| calls.saturating_sub(1));
-        let count = buffer.len().min(self.piece);
-        self.bytes.read(&mut buffer[..count])
-    }
-}
+use std::io::{ErrorKind, Write};
 
 /// What a writer does at the call that is a fault.
 #[derive(Clone, Copy)]

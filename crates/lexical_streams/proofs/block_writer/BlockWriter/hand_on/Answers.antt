@@ -1,9 +1,9 @@
-use Rattle.std.proofs.Common.{◌≡◌, ℕ, ◌+◌, ◌-◌, ◌≤◌, List, ◌++◌, length, take, drop, sym, ap, ◌∙◌, arith, length-take, length-drop, take-append-drop}
+use Rattle.std.proofs.Common.{◌≡◌, ℕ, ◌+◌, ◌-◌, ◌≤◌, List, ◌++◌, length, take, drop, refl, sym, ap, ◌∙◌, arith, length-take, take-append-drop}
 use Rattle.std.specs.List.{copy_within}
-use Rattle.std.proofs.lemmas.List.{drop-take}
+use Rattle.std.proofs.lemmas.List.{append-nil, drop-take}
 use Rattle.std.proofs.lemmas.List.Edits.{take-paste}
-use Rattle.std.proofs.KnownBytes.{append_known-moved}
 use Rattle.lexical_streams.proofs.block_writer.BlockWriter.hand_on.Goals as goal
+use Rattle.std.proofs.Common.{length-drop}
 
 -- what stood after the first bytes stands at the front
 take-copy_within : (xs : List ℕ) (count end : ℕ) → count ≤ end → end ≤ length xs
@@ -28,4 +28,9 @@ returns-clause-bytes g c =
     let w = c.args.self.now in
     let count = c.write_while_taken-count.result.0 in
     let bound : count ≤ w.end = omega (arith, c.write_while_taken-count.ensures.bound, length-take w.end w.block) in
-    append_known-moved _ _ _ _ _ c.write_while_taken-count.ensures.bytes (parted w.block c.copy_within.new.self count w.end bound (omega arith) c.copy_within.ensures.after)
+    record {
+      same = refl;
+      handed = take count (take w.end w.block);
+      bytes = c.write_while_taken-count.ensures.bytes;
+      whole = append-nil _ ∙ parted w.block c.copy_within.new.self count w.end bound (omega arith) c.copy_within.ensures.after;
+    }

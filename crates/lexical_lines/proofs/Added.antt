@@ -1,0 +1,19 @@
+-- What a list has gained.
+use Rattle.std.proofs.Common.{◌≡◌, ℕ, List, ◌++◌, length, drop, sym, ap, ◌∙◌, append_assoc}
+use Rattle.std.proofs.Math.Seq.{drop-append_seam}
+use Rattle.lexical_lines.specs.Running.{added}
+
+pub added-is : (before after more : List ℕ) → after ≡ before ++ more → added before after ≡ more
+added-is before after more e = ap (drop (length before)) e ∙ drop-append_seam before more
+
+-- what was added twice was added
+pub grown : (a b c x y : List ℕ) → b ≡ a ++ x → c ≡ b ++ y → c ≡ a ++ added a c
+grown a b c x y e f =
+    let whole = f ∙ ap (λ front. front ++ y) e ∙ append_assoc a x y in
+    whole ∙ ap (λ more. a ++ more) (sym (added-is a c (x ++ y) whole))
+
+pub grown-once : (a b x : List ℕ) → b ≡ a ++ x → b ≡ a ++ added a b
+grown-once a b x e = e ∙ ap (λ more. a ++ more) (sym (added-is a b x e))
+
+pub added-more : (a b c x : List ℕ) → b ≡ a ++ added a b → c ≡ b ++ x → added a c ≡ added a b ++ x
+added-more a b c x e f = added-is a c (added a b ++ x) (f ∙ ap (λ front. front ++ x) e ∙ append_assoc a (added a b) x)

@@ -1,0 +1,161 @@
+//! Lines that are answered as their bytes come.
+
+ghost use Rattle.std.specs.Prelude.{◌≡◌, ◌≤◌, length, IfSome, ℕ, ◌+◌, List, [], ◌∷◌, ◌++◌, false, true, IfOk, OnOk, OnErr};
+ghost use Rattle.std.specs.Io.{StartsWith};
+ghost use Rattle.lexical_num.specs.declared.constants.TheConstants.{BUFFER_SIZE};
+ghost use Rattle.lexical_lines.specs.Answer.{AnswersAll};
+ghost use Rattle.lexical_lines.specs.Answerer.{HasAnswered, PutsMore, PutsAnswer};
+ghost use Rattle.lexical_lines.specs.Line.{held, seen};
+ghost use Rattle.lexical_lines.specs.Lines.{NoNewline};
+ghost use Rattle.lexical_lines.specs.Running.{added, TellsAllGood, BreaksOff};
+
+use crate::answer::{MAX_ANSWER, write_answer};
+use crate::line::{Line, MAX_LENGTH};
+use crate::newline::{NEWLINE, split_at_newline};
+use crate::sink::{ByteSink, put_all};
+use std::io;
+
+/// Answers the lines of the bytes that it is given. It puts the answer to a line into a sink as soon
+/// as it is given the byte that ends the line.
+///
+/// An answerer holds the line that has not ended, the number of that line, and whether all lines
+/// before it are good ones. It has no further use after an error.
+#[derive(Drop)]
+pub struct Answerer {
+    line: Line,
+    line_number: u64,
+    all_good: bool,
+    // The room for an answer. It is a field, so that it is cleared once and not for each line.
+    answer: [u8; MAX_ANSWER],
+}
+
+impl Answerer {
+    /// An answerer that was given no byte.
+    pub fn new() -> Answerer
+        ensures { (taken : List ℕ) → HasAnswered taken [] taken result }
+    {
+        Answerer {
+            line: Line::new(),
+            line_number: 1,
+            all_good: true,
+            answer: [0; MAX_ANSWER],
+        }
+    }
+
+    /// Takes the next byte. If it ends a line, the answer to that line is put.
+    pub fn push<K: ByteSink>(&mut self, byte: u8, sink: &mut K) -> io::Result<()>
+        ensures ok { OnOk result ((before read : List ℕ)
+            → HasAnswered before read (K.taken sink.old) self.old
+            → HasAnswered before (read ++ byte ∷ []) (K.taken sink.new) self.new) }
+        ensures err { OnErr result ((before read : List ℕ)
+            → HasAnswered before read (K.taken sink.old) self.old
+            → BreaksOff false (read ++ byte ∷ []) (added before (K.taken sink.new))) }
+        ensures puts { PutsMore K.taken K.faults K.keeps sink.old sink.new result }
+    {
+        if byte == NEWLINE {
+            self.end_line(&[], sink)
+        } else {
+            self.line.push(byte);
+            Ok(())
+        }
+    }
+
+    /// Takes the next bytes, as `push` takes each of them. It stops at the first error, in the
+    /// answer to a line that ended in these bytes.
+    pub fn push_all<K: ByteSink>(&mut self, bytes: &[u8], sink: &mut K) -> io::Result<()>
+        ensures ok { OnOk result ((before read : List ℕ)
+            → HasAnswered before read (K.taken sink.old) self.old
+            → HasAnswered before (read ++ bytes.now) (K.taken sink.new) self.new) }
+        ensures err { OnErr result ((before read : List ℕ)
+            → HasAnswered before read (K.taken sink.old) self.old
+            → (front : List ℕ) × StartsWith bytes.now front
+            × BreaksOff false (read ++ front) (added before (K.taken sink.new))) }
+        ensures puts { PutsMore K.taken K.faults K.keeps sink.old sink.new result }
+    {
+        let mut rest = bytes;
+        while let Some((end, more)) = split_at_newline(rest) {
+            self.end_line(end, sink)?;
+            rest = more;
+        }
+        self.line.push_all(rest);
+        Ok(())
+    }
+
+    // Takes the last bytes of a line and the byte 10 after them, and puts the answer to the line.
+    fn end_line<K: ByteSink>(&mut self, end: &[u8], sink: &mut K) -> io::Result<()>
+        requires { NoNewline end.now }
+        ensures ok { OnOk result ((before read : List ℕ)
+            → HasAnswered before read (K.taken sink.old) self.old
+            → HasAnswered before (read ++ (end.now ++ 10 ∷ [])) (K.taken sink.new) self.new) }
+        ensures err { OnErr result ((before read : List ℕ)
+            → HasAnswered before read (K.taken sink.old) self.old
+            → BreaksOff false (read ++ (end.now ++ 10 ∷ [])) (added before (K.taken sink.new))) }
+        ensures puts { PutsMore K.taken K.faults K.keeps sink.old sink.new result }
+    {
+        let is_good = put_line(&mut self.line, end, self.line_number, &mut self.answer, sink)?;
+        self.line.clear();
+        self.line_number = self.line_number.saturating_add(1);
+        self.all_good &= is_good;
+        Ok(())
+    }
+
+    /// Puts the answer to the last line if there are bytes after the last byte 10, and returns
+    /// whether all lines are good ones.
+    pub fn finish<K: ByteSink>(&mut self, sink: &mut K) -> io::Result<bool>
+        ensures ok { OnOk result ((before read : List ℕ)
+            → HasAnswered before read (K.taken sink.old) self.old
+            → AnswersAll read (added before (K.taken sink.new))) }
+        ensures good { IfOk result (λ all_good. (before read : List ℕ)
+            → HasAnswered before read (K.taken sink.old) self.old → TellsAllGood read all_good) }
+        ensures err { OnErr result ((before read : List ℕ)
+            → HasAnswered before read (K.taken sink.old) self.old
+            → BreaksOff true read (added before (K.taken sink.new))) }
+        ensures puts { PutsMore K.taken K.faults K.keeps sink.old sink.new result }
+    {
+        if self.line.is_empty() {
+            return Ok(self.all_good);
+        }
+        let line = self.line.as_slice();
+        let is_good = put_answer(line, self.line_number, &mut self.answer, sink)?;
+        Ok(self.all_good & is_good)
+    }
+}
+
+// Puts the answer to a line, given the line without its last bytes, and these bytes. Returns whether
+// the line is a good one. A line that lies whole in those bytes is read there, with no copy.
+fn put_line<K: ByteSink>(
+    line: &mut Line,
+    end: &[u8],
+    line_number: u64,
+    buffer: &mut [u8],
+    sink: &mut K,
+) -> io::Result<bool>
+    requires { BUFFER_SIZE + 11 ≤ length buffer.old }
+    ensures answer { (rest : List ℕ) → line.old ≡ held rest
+        → PutsAnswer line_number (rest ++ end.now) (K.taken sink.old) (K.taken sink.new) result }
+    ensures puts { PutsMore K.taken K.faults K.keeps sink.old sink.new result }
+{
+    if line.is_empty() && end.len() <= MAX_LENGTH {
+        return put_answer(Some(end), line_number, buffer, sink);
+    }
+    line.push_all(end);
+    put_answer(line.as_slice(), line_number, buffer, sink)
+}
+
+// Puts the answer to a line, by way of the buffer, and returns whether the line is a good one.
+fn put_answer<K: ByteSink>(
+    line: Option<&[u8]>,
+    line_number: u64,
+    buffer: &mut [u8],
+    sink: &mut K,
+) -> io::Result<bool>
+    requires short { IfSome line (λ bytes. length bytes.now ≤ 64) }
+    requires room { BUFFER_SIZE + 11 ≤ length buffer.old }
+    ensures answer { (bytes : List ℕ) → seen line.entry ≡ held bytes
+        → PutsAnswer line_number bytes (K.taken sink.old) (K.taken sink.new) result }
+    ensures puts { PutsMore K.taken K.faults K.keeps sink.old sink.new result }
+{
+    let (count, is_good) = write_answer(line, line_number, buffer);
+    put_all(sink, &buffer[..count])?;
+    Ok(is_good)
+}

@@ -1,0 +1,20 @@
+// Where a line ends.
+
+ghost use Rattle.std.specs.Prelude.{◌≡◌, ◌∷◌, ◌++◌, IfSome, IfNone};
+ghost use Rattle.lexical_lines.specs.Lines.{NoNewline};
+
+pub const NEWLINE: u8 = b'\n';
+
+/// The bytes before the first byte 10, and those after it.
+pub fn split_at_newline(bytes: &[u8]) -> Option<(&[u8], &[u8])>
+    ensures found { IfSome result (λ parts. bytes.now ≡ parts.0.now ++ 10 ∷ parts.1.now) }
+    ensures first { IfSome result (λ parts. NoNewline parts.0.now) }
+    ensures none { IfNone result (NoNewline bytes.now) }
+{
+    for (i, byte) in bytes.iter().enumerate() {
+        if *byte == NEWLINE {
+            return Some((&bytes[..i], &bytes[i + 1..]));
+        }
+    }
+    None
+}
