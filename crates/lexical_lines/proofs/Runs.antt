@@ -1,8 +1,7 @@
 -- How far a run has come.
-use Rattle.std.proofs.Common.{rules, ◌≡◌, ◌↔◌, ℕ, ◌+◌, ◌-◌, ◌^◌, min, Bool, true, false, List, [], ◌∷◌, ◌++◌, length, drop, ◌≤◌, Some, refl, sym, ap, ◌∙◌, arith, append_assoc, IsTrue, length-append, inl, inr, ◌&&◌, ◌⊎◌}
+use Rattle.std.proofs.Common.{rules, ◌≡◌, ◌↔◌, ℕ, ◌+◌, ◌-◌, ◌^◌, min, Bool, true, false, List, [], ◌∷◌, ◌++◌, length, ◌≤◌, Some, refl, sym, ap, ◌∙◌, arith, append_assoc, IsTrue, length-append, inl, inr, ◌&&◌, ◌⊎◌}
 use Rattle.std.specs.List.{All}
 use Rattle.std.specs.Prelude.{nat_le}
-use Rattle.std.proofs.Math.Seq.{drop-append_seam}
 use Rattle.std.proofs.lemmas.Option.{cond_some}
 use Rattle.std.proofs.lemmas.List.Elements.{All-nil, All-cons, All-head, All-tail, All-push}
 use Rattle.lexical_lines.specs.declared.answerer.Answerer.{Answerer}

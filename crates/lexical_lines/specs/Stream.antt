@@ -1,9 +1,9 @@
 -- What contracts see of the devices over readers and writers.
-use Rattle.std.specs.Prelude.{◌≡◌, ◌⊎◌, ℕ, ◌+◌, Bool, true, List, [], ◌++◌, length, Option, Some, None, IsSome, refl}
+use Rattle.std.specs.Prelude.{◌≡◌, ◌⊎◌, ℕ, ◌+◌, Bool, true, List, ◌++◌, length, Option, Some, None, IsSome, refl}
 use Rattle.std.specs.Io.{StartsWith}
-use Rattle.std.specs.Io.KnownBytes.{Consumes, Appends, IsAtEnd}
-use Rattle.std.proofs.Common.{◌∙◌, sym, ap, subst, append-nil, append_assoc}
-use Rattle.std.proofs.KnownBytes.{Consumes-nil, Consumes-more, Appends-nil, Appends-trans}
+use Rattle.std.specs.Io.KnownBytes.{Consumes, IsAtEnd}
+use Rattle.std.proofs.Common.{◌∙◌, sym, subst}
+use Rattle.std.proofs.KnownBytes.{Consumes-nil, Consumes-more}
 use Rattle.std.proofs.Math.Seq.{take-length, drop-length}
 use Rattle.std.proofs.Transfers.{starts_with_trans}
 use Rattle.lexical_lines.specs.Running.{added}
@@ -61,18 +61,13 @@ KeepsReader-transitive remaining a b c p q = record {
 
 -- ---- what calls of a sink over a writer keep
 
--- what was taken grows by what the writer was given
-pub record KeepsWriter {W : Type 0} (contents : W → Option (List ℕ)) (a b : StreamWriting W) : Type 0 where
-  pub more : List ℕ
-  pub longer : b.taken ≡ a.taken ++ more
-  pub bytes : Appends (contents a.writer) (contents b.writer) more
+-- a writer that held some bytes, and then those that the sink had taken, still holds the same bytes, and then those that
+-- the sink has taken now
+abbrev pub KeepsWriter : {W : Type 0} → (W → Option (List ℕ)) → StreamWriting W → StreamWriting W → Type 0
+KeepsWriter contents a b = (before : List ℕ) → contents a.writer ≡ Some (before ++ a.taken) → contents b.writer ≡ Some (before ++ b.taken)
 
 pub KeepsWriter-reflexive : {W : Type 0} (contents : W → Option (List ℕ)) (a : StreamWriting W) → KeepsWriter contents a a
-KeepsWriter-reflexive contents a = record { more = []; longer = sym (append-nil a.taken); bytes = Appends-nil (contents a.writer) }
+KeepsWriter-reflexive contents a before holds = holds
 
 pub KeepsWriter-transitive : {W : Type 0} (contents : W → Option (List ℕ)) (a b c : StreamWriting W) → KeepsWriter contents a b → KeepsWriter contents b c → KeepsWriter contents a c
-KeepsWriter-transitive contents a b c p q = record {
-  more = p.more ++ q.more;
-  longer = q.longer ∙ ap (λ front. front ++ q.more) p.longer ∙ append_assoc a.taken p.more q.more;
-  bytes = Appends-trans _ _ _ _ _ p.bytes q.bytes;
-}
+KeepsWriter-transitive contents a b c p q before holds = q before (p before holds)

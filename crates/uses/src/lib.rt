@@ -3,6 +3,7 @@
 #![tactic(auto)]
 
 pub mod amount;
+pub mod answers;
 pub mod any_format;
 pub mod csv_row;
 pub mod fixed_texts;
