@@ -1,9 +1,8 @@
 //! Lines answered from a reader to a writer, which are called once for a block of bytes. No call
 //! takes memory; the blocks lie on the stack.
 //!
-//! A caller may rely on what the contracts say: which bytes `BlockWriter` has handed on and which it
-//! still holds, which bytes `answer_stream` reads and writes, and what its exit status tells of the
-//! lines read. No contract can say when a flush comes: the tests show it.
+//! The contracts say which bytes the reader gave, which the writer was given, and which device failed.
+//! That a flush flushes the writer itself too is in no contract: the tests show it.
 #![tactic(auto)]
 
 mod answering;
