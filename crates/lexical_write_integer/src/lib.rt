@@ -18,6 +18,7 @@ mod kernels;
 pub mod algorithm;
 mod quotients;
 pub mod radix;
+mod radixes;
 pub mod table;
 mod table_digits;
 mod table_pairs;
