@@ -16,12 +16,10 @@ mod kernels;
 
 // In every other radix: `radix` goes by `algorithm`, which writes four digits at a time from a table.
 pub mod algorithm;
-mod quotients;
 pub mod radix;
 mod radixes;
 pub mod table;
-mod table_digits;
-mod table_pairs;
+mod table_writer;
 
 // In every radix, by little code.
 pub mod compact;
