@@ -9,19 +9,34 @@ ghost use Rattle.lexical_write_integer.specs.LoopTurns.{table_notes, table_turns
 
 use crate::digit_count::DigitCount;
 use crate::radixes::by_radix;
-use crate::table_writer::write_digits;
+use crate::table_writer::{write_digits, write_short};
 use crate::turns::Turns;
 use lexical_num::num::UnsignedInteger;
 
-// Writes a number of any type, as one of 64 bits.
-fn write_number(value: u64, radix: u32, table: &[u8], buffer: &mut [u8], turns: &mut Turns) -> usize
+// Writes a number in any radix, as one of 64 bits. From radix 16 on a byte has two digits at most, and
+// above radix 32 a number below 1024.
+fn write_number<T: UnsignedInteger>(
+    value: T,
+    radix: u32,
+    table: &[u8],
+    buffer: &mut [u8],
+    turns: &mut Turns,
+) -> usize
     requires radix { IsRadix radix }
     requires table { BeginsWithPairs radix table.now }
-    requires room { digit_count radix value ≤ length buffer.old }
-    ensures digits { WritesDigits radix value buffer.old buffer.new result }
-    ensures notes { turns.new ≡ turns.old ++ table_notes radix value }
+    requires room { digit_count radix (T.magnitude value) ≤ length buffer.old }
+    ensures digits { WritesDigits radix (T.magnitude value) buffer.old buffer.new result }
+    ensures notes { turns.new ≡ turns.old ++ table_notes radix (T.magnitude value) }
 {
-    by_radix!(radix, write_digits(value, table, buffer, turns))
+    value.fits_bits();
+    let number = value.as_usize() as u64;
+    if T::BITS == 8 && radix >= 16 {
+        return write_short(number as u32, radix, table, buffer, turns);
+    }
+    if radix > 32 && number < 1024 {
+        return write_short(number as u32, radix, table, buffer, turns);
+    }
+    by_radix!(radix, write_digits(number, table, buffer, turns))
 }
 
 /// Writes the digits of the number to the front of the buffer, and returns how many they are. The
@@ -44,7 +59,7 @@ pub fn algorithm_counted<T: DigitCount>(
     ensures few_turns { length turns.new ≤ length turns.old + 21 }
 {
     value.fits_bits();
-    write_number(value.as_usize() as u64, radix, table, buffer, turns)
+    write_number(value, radix, table, buffer, turns)
 }
 
 /// Writes the digits of the number to the front of the buffer, and returns how many they are. The

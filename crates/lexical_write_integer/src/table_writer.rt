@@ -5,7 +5,7 @@ ghost use Rattle.lexical_num.specs.Format.{IsRadix};
 ghost use Rattle.lexical_write_integer.specs.Buffer.{WritesBlock, WritesDigits};
 ghost use Rattle.lexical_write_integer.specs.DigitCount.{digit_count};
 ghost use Rattle.lexical_write_integer.specs.Table.{BeginsWithPairs};
-ghost use Rattle.lexical_write_integer.specs.LoopTurns.{TakesDigits, digits_after_first, is_counted_at_once, table_notes};
+ghost use Rattle.lexical_write_integer.specs.LoopTurns.{TakesDigits, count_notes, digits_after_first, is_counted_at_once, table_notes};
 
 use crate::digit_count::digit_count_counted;
 use crate::turns::Turns;
@@ -72,12 +72,12 @@ fn take_two<const R: u32>(number: u32, turns: &mut Turns) -> (u32, usize)
 
 // Takes one digit off a number of up to two digits, if that leaves something, and returns how many
 // digits were taken.
-fn take_last<const R: u32>(number: u32, turns: &mut Turns) -> usize
-    requires radix { IsRadix R }
-    requires short { number < R ^ 2 }
-    ensures { (left : ℕ) × TakesDigits R number 1 result left turns.old turns.new }
+fn take_last(number: u32, radix: u32, turns: &mut Turns) -> usize
+    requires radix { IsRadix radix }
+    requires short { number < radix ^ 2 }
+    ensures { (left : ℕ) × TakesDigits radix number 1 result left turns.old turns.new }
 {
-    let left = number / R;
+    let left = number / radix;
     if left > 0 {
         turns.tick(u64::from(left));
         1
@@ -164,23 +164,20 @@ fn write_fours<const R: u32>(
 
 // Writes the one or two digits of a number to the front, without a branch: if it has one digit, this
 // is written twice.
-fn write_first<const R: u32>(
-    number: u32,
-    digits: usize,
-    table: &RadixTable<'_, R>,
-    buffer: &mut [u8],
-)
-    requires short { number < R * R }
-    requires digits { digits ≡ digit_count R number }
+fn write_first(number: u32, digits: usize, radix: u32, table: &[u8], buffer: &mut [u8])
+    requires radix { IsRadix radix }
+    requires table { BeginsWithPairs radix table.now }
+    requires short { number < radix * radix }
+    requires digits { digits ≡ digit_count radix number }
     requires room { digits ≤ length buffer.old }
-    ensures { WritesBlock R digits number 0 buffer.old buffer.new }
+    ensures { WritesBlock radix digits number 0 buffer.old buffer.new }
 {
     let index = 2 * number as usize;
-    let first = table.pairs[index];
-    let second = table.pairs[index + 1];
+    let first = table[index];
+    let second = table[index + 1];
     // Both bytes are read before one is written, so that the choice is no branch.
     buffer[digits - 1] = second;
-    let front = if number < R { second } else { first };
+    let front = if number < radix { second } else { first };
     buffer[0] = front;
 }
 
@@ -220,7 +217,7 @@ fn write_head<const R: u32>(
 {
     let (left, taken) = take_two::<R>(number, turns);
     write_last_pair(number, digits, table, buffer);
-    write_first(left, digits - taken, table, buffer);
+    write_first(left, digits - taken, R, table.pairs, buffer);
 }
 
 // Writes a number that is counted by divisions, whose quotients are kept for the writer.
@@ -241,7 +238,7 @@ fn write_by_divisions<const R: u32, const QUOTIENTS: usize>(
     let mut kept = [0; QUOTIENTS];
     let (left, fours) = keep_quotients::<R>(value, &mut kept, turns);
     let (short, by_two) = take_two::<R>(left, turns);
-    let head = 1 + by_two + take_last::<R>(short, turns);
+    let head = 1 + by_two + take_last(short, R, turns);
     let count = 4 * fours + head;
     let digits = &mut buffer[..count];
     write_kept(value, &kept[..fours], table, digits, turns);
@@ -292,4 +289,40 @@ pub(crate) fn write_digits<const R: u32>(
     } else {
         write_by_divisions::<R, 10>(value, &table, buffer, turns)
     }
+}
+
+// How many digits a number of one or two digits has, in a radix from 16 on. Of these all but two count
+// by a division.
+fn count_short(value: u32, radix: u32, turns: &mut Turns) -> usize
+    requires radix { IsRadix radix }
+    requires great { 16 ≤ radix }
+    requires short { value < radix ^ 2 }
+    ensures count { result ≡ digit_count radix value }
+    ensures notes { turns.new ≡ turns.old ++ count_notes radix value }
+{
+    if radix == 16 || radix == 32 {
+        return if value < radix { 1 } else { 2 };
+    }
+    1 + take_last(value, radix, turns)
+}
+
+// Writes a number of one or two digits, in a radix from 16 on.
+pub(crate) fn write_short(
+    value: u32,
+    radix: u32,
+    table: &[u8],
+    buffer: &mut [u8],
+    turns: &mut Turns,
+) -> usize
+    requires radix { IsRadix radix }
+    requires great { 16 ≤ radix }
+    requires short { value < radix ^ 2 }
+    requires table { BeginsWithPairs radix table.now }
+    requires room { digit_count radix value ≤ length buffer.old }
+    ensures digits { WritesDigits radix value buffer.old buffer.new result }
+    ensures notes { turns.new ≡ turns.old ++ table_notes radix value }
+{
+    let count = count_short(value, radix, turns);
+    write_first(value, count, radix, table, buffer);
+    count
 }

@@ -9,18 +9,18 @@ use Rattle.lexical_write_integer.proofs.Values.{pow-one}
 use Rattle.lexical_write_integer.proofs.table_writer.take_last.Goals as goal
 
 pub returns-then-left-gt0 : goal.returns-then-left-gt0
-returns-then-left-gt0 g c =
-    let radix = sym (pow-one g.row.R) in
-    let long : g.row.R ≤ c.args.number = elim (cases_lt c.args.number g.row.R) [
+returns-then-left-gt0 c =
+    let radix = sym (pow-one c.args.radix) in
+    let long : c.args.radix ≤ c.args.number = elim (cases_lt c.args.number c.args.radix) [
       | inl less ↦ absurd (omega (arith, div-eq_of_lt less))
       | inr more ↦ more
     ] in
-    (c.args.number / g.row.R, TakesDigits-once g.row.R c.args.number 1 _ _ _ c.requires.radix.at_least_two takes_one (rw pow-one long) c.requires.short (ap (λ k. c.args.number / k) radix) (rw c.from.ensures at c.tick.ensures))
+    (c.args.number / c.args.radix, TakesDigits-once c.args.radix c.args.number 1 _ _ _ c.requires.radix.at_least_two takes_one (rw pow-one long) c.requires.short (ap (λ k. c.args.number / k) radix) (rw c.from.ensures at c.tick.ensures))
 
 pub returns-else-left-gt0 : goal.returns-else-left-gt0
-returns-else-left-gt0 g c =
-    let short : c.args.number < g.row.R = elim (cases_lt c.args.number g.row.R) [
+returns-else-left-gt0 c =
+    let short : c.args.number < c.args.radix = elim (cases_lt c.args.number c.args.radix) [
       | inl less ↦ less
-      | inr more ↦ absurd (omega (arith, le-div 1 c.args.number g.row.R (omega (arith, c.requires.radix.at_least_two)) (omega arith)))
+      | inr more ↦ absurd (omega (arith, le-div 1 c.args.number c.args.radix (omega (arith, c.requires.radix.at_least_two)) (omega arith)))
     ] in
-    (c.args.number, TakesDigits-none g.row.R c.args.number 1 _ c.requires.radix.at_least_two takes_one (rw pow-one short))
+    (c.args.number, TakesDigits-none c.args.radix c.args.number 1 _ c.requires.radix.at_least_two takes_one (rw pow-one short))

@@ -7,11 +7,11 @@ use Rattle.lexical_write_integer.proofs.table_writer.write_head.Goals as goal
 pub write_last_pair-requires : goal.write_last_pair-requires
 write_last_pair-requires g c = (lit< tt, (omega (arith, c.requires.digits, digit_count-pos g.row.R c.args.number), c.requires.room))
 
-pub write_first-requires : goal.write_first-requires
-write_first-requires g c =
-    let two = c.args.table.now.is_radix.at_least_two in
-    let short = head-left two c.requires.short c.take_two-left.ensures in
-    (lit< tt, (short, (omega (arith, c.requires.digits, TakesDigits-counts two c.take_two-left.ensures), omega (arith, c.requires.room, c.write_last_pair.auto.buffer))))
+pub write_first-requires-clause-short : goal.write_first-requires-clause-short
+write_first-requires-clause-short g c = head-left c.args.table.now.is_radix.at_least_two c.requires.short c.take_two-left.ensures
+
+pub write_first-requires-clause-digits : goal.write_first-requires-clause-digits
+write_first-requires-clause-digits g c = omega (arith, c.requires.digits, TakesDigits-counts c.args.table.now.is_radix.at_least_two c.take_two-left.ensures)
 
 pub returns-clause-written : goal.returns-clause-written
 returns-clause-written g c =
