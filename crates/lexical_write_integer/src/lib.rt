@@ -18,8 +18,9 @@ mod kernels;
 pub mod algorithm;
 pub mod radix;
 mod radixes;
-pub mod table;
 mod table_writer;
+
+pub use lexical_tables as table;
 
 // In every radix, by little code.
 pub mod compact;

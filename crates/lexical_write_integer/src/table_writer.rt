@@ -181,27 +181,8 @@ fn write_first(number: u32, digits: usize, radix: u32, table: &[u8], buffer: &mu
     buffer[0] = front;
 }
 
-// Writes the last two digits of a number to the end of its digits, without a branch: if it has one or
-// two digits, they are to be written over these.
-fn write_last_pair<const R: u32>(
-    number: u32,
-    digits: usize,
-    table: &RadixTable<'_, R>,
-    buffer: &mut [u8],
-)
-    requires some { 1 ≤ digits }
-    requires room { digits ≤ length buffer.old }
-    ensures pair { 2 ≤ digits → WritesBlock R 2 (number % (R * R)) (digits - 2) buffer.old buffer.new }
-    ensures following { drop digits buffer.new ≡ drop digits buffer.old }
-{
-    let index = 2 * (number % (R * R)) as usize;
-    let first = table.pairs[index];
-    let second = table.pairs[index + 1];
-    buffer[digits - 1] = second;
-    buffer[digits.saturating_sub(2)] = first;
-}
-
-// Writes the one to four digits of a number to the front, without a branch that guesses how many.
+// Writes the one to four digits of a number to the front, without a branch that guesses how many: the
+// last two first, and over these, if it has no more, its one or two digits.
 fn write_head<const R: u32>(
     number: u32,
     digits: usize,
@@ -216,7 +197,11 @@ fn write_head<const R: u32>(
     ensures taken { (taken left : ℕ) × TakesDigits R number 2 taken left turns.old turns.new }
 {
     let (left, taken) = take_two::<R>(number, turns);
-    write_last_pair(number, digits, table, buffer);
+    let index = 2 * (number % (R * R)) as usize;
+    let first = table.pairs[index];
+    let second = table.pairs[index + 1];
+    buffer[digits - 1] = second;
+    buffer[digits.saturating_sub(2)] = first;
     write_first(left, digits - taken, R, table.pairs, buffer);
 }
 
@@ -264,8 +249,8 @@ fn write_counted<const R: u32>(
     count
 }
 
-// Writes a number in a radix whose table begins with its pairs of digits. A number of up to eight
-// digits has one quotient to be kept at most, and one of 64 bits has ten, in radix 3.
+// Writes a number in a radix whose table begins with its pairs of digits. At most one quotient is to be
+// kept of a number of up to eight digits, and of one of 64 bits ten, in radix 3; from radix 17 on three.
 pub(crate) fn write_digits<const R: u32>(
     value: u64,
     table: &[u8],
@@ -286,6 +271,8 @@ pub(crate) fn write_digits<const R: u32>(
     let power = square * square;
     if value < power * power {
         write_by_divisions::<R, 1>(value, &table, buffer, turns)
+    } else if R > 16 {
+        write_by_divisions::<R, 3>(value, &table, buffer, turns)
     } else {
         write_by_divisions::<R, 10>(value, &table, buffer, turns)
     }
