@@ -1,14 +1,15 @@
 -- Numbers of one to four digits, which are written without a loop.
-use Rattle.std.proofs.Common.{◌≡◌, ℕ, ◌+◌, ◌-◌, ◌*◌, ◌/◌, ◌%◌, ◌^◌, ◌<◌, ◌≤◌, List, [], ◌∷◌, ◌++◌, length, drop, inl, inr, arith}
+use Rattle.std.proofs.Common.{◌≡◌, ℕ, ◌+◌, ◌-◌, ◌*◌, ◌/◌, ◌%◌, ◌^◌, ◌<◌, ◌≤◌, List, [], ◌∷◌, ◌++◌, length, drop, refl, sym, ◌∙◌, inl, inr, arith}
 use Rattle.std.proofs.Math.Nat.{pow-zero, div-one, pow-le-pow_right}
 use Rattle.std.proofs.lemmas.Bool.{cases_lt}
 use Rattle.std.proofs.lemmas.Nat.{pow-add, div_below}
-use Rattle.lexical_write_integer.specs.Buffer.{WritesBlock}
+use Rattle.lexical_write_integer.specs.Buffer.{WritesBlock, WritesDigits}
 use Rattle.lexical_write_integer.specs.DigitCount.{digit_count}
 use Rattle.lexical_write_integer.specs.Text.{IsDigits}
 use Rattle.lexical_write_integer.specs.LoopTurns.{IsStep, TakesDigits}
 use Rattle.lexical_write_integer.proofs.Blocks.{WritesBlock-whole, IsDigits-block}
 use Rattle.lexical_write_integer.proofs.Loops.{IsDivided-start, IsDivided-more, TakesDigits-end, TakesDigits-counts}
+use Rattle.lexical_write_integer.proofs.Numerals.{length-IsDigits}
 use Rattle.lexical_write_integer.proofs.RadixPowers.{power-gt_one, pow-two}
 use Rattle.lexical_write_integer.proofs.DigitCounts.{digit_count-fits, digit_count-le, digit_count-pos}
 
@@ -75,3 +76,12 @@ more-long r n more = elim (cases_lt n (r ^ 4)) [
   | inl less ↦ absurd (omega (arith, digit_count-le r n 4 (omega arith) less))
   | inr long ↦ long
 ]
+
+-- digits over a front of just their count
+pub WritesDigits-cut : (r n count : ℕ) (before text : List ℕ) → 2 ≤ r → count ≡ digit_count r n → count ≤ length before → IsDigits r n text → WritesDigits r n before (text ++ drop count before) count
+WritesDigits-cut r n count before text two is room digits =
+    let long : length text ≡ count = length-IsDigits r n text two digits ∙ sym is in
+    record {
+      writes = record { text = text; is = digits; front = record { fits = rw long room; written = rw long refl }; count = sym long };
+      count = is;
+    }

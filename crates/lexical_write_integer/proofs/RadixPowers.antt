@@ -65,3 +65,6 @@ pow-two r = rw (pow-suc r 1, pow-one) refl
 
 pub pow-four : (r : ℕ) → r ^ 4 ≡ r * r * (r * r)
 pow-four r = rw (pow-add r 2 2, pow-two) refl
+
+pub pow-eight : (r : ℕ) → r ^ 8 ≡ r * r * (r * r) * (r * r * (r * r))
+pow-eight r = rw (pow-add r 4 4, pow-four) refl

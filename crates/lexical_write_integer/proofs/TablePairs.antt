@@ -1,5 +1,5 @@
 -- Pairs of digits, which are read from a table that begins with the pairs of the radix.
-use Rattle.std.proofs.Common.{◌≡◌, ℕ, ◌+◌, ◌*◌, ◌/◌, ◌%◌, ◌^◌, ◌<◌, ◌≤◌, List, length, get_or, set, refl, sym, ap, ◌∙◌, arith, length-take, length-set}
+use Rattle.std.proofs.Common.{◌≡◌, ℕ, ◌+◌, ◌*◌, ◌/◌, ◌%◌, ◌^◌, ◌<◌, ◌≤◌, List, length, get_or, set, refl, sym, ap, subst, ◌∙◌, arith, length-take, length-set}
 use Rattle.std.proofs.Math.Nat.{mod-lt, div-add-mod'}
 use Rattle.std.proofs.lemmas.List.{get_or-take}
 use Rattle.std.proofs.lemmas.Nat.{div_below}
@@ -15,6 +15,10 @@ use Rattle.lexical_write_integer.proofs.Values.{pow-one}
 -- the tables are made of the characters that the writers write
 same_characters : (digit : ℕ) → Tables.digit_char digit ≡ digit_char digit
 same_characters digit = refl
+
+-- of a radix by another name
+pub begins_in_arm : {radix r : ℕ} {table : List ℕ} → BeginsWithPairs radix table → radix ≡ r → BeginsWithPairs r table
+begins_in_arm {table = table} t is = subst (λ k. BeginsWithPairs k table) is t
 
 pub length-table : (r : ℕ) (table : List ℕ) → BeginsWithPairs r table → 2 * (r * r) ≤ length table
 length-table r table t = omega (arith, length-pairs r, ap length t.first, length-take (2 * (r * r)) table)

@@ -16,11 +16,11 @@ mod kernels;
 
 // In every other radix: `radix` goes by `algorithm`, which writes four digits at a time from a table.
 pub mod algorithm;
-mod quotients;
 pub mod radix;
-pub mod table;
-mod table_digits;
-mod table_pairs;
+mod radixes;
+mod table_writer;
+
+pub use lexical_tables as table;
 
 // In every radix, by little code.
 pub mod compact;

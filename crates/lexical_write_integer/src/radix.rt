@@ -7,8 +7,8 @@ ghost use Rattle.lexical_write_integer.specs.DigitCount.{digit_count};
 
 use crate::algorithm::algorithm;
 use crate::digit_count::DigitCount;
-use crate::table::get_table;
 use lexical_num::num::UnsignedInteger;
+use lexical_tables::get_table;
 
 // Lends the table writer the table of the radix.
 fn write_by_table<T: DigitCount>(value: T, radix: u32, buffer: &mut [u8]) -> usize
