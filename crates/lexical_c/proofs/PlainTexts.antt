@@ -10,7 +10,9 @@ use Rattle.lexical_write_integer.proofs.Signs.{WritesText-over}
 use borrow.Rule.Slice.PartMut.{put_mid}
 
 -- the digits of a number that is not negative are its text
-pub digits_alone : (format : Format) (magnitude : ℕ) (before after : List ℕ) (answer : ℕ) → format.required_mantissa_sign ≡ false → format.digit_grouping ≡ None → WritesDigits format.mantissa_radix magnitude before after answer → WritesText (pos magnitude) format before after answer
+pub digits_alone : (format : Format) (magnitude : ℕ) (before after : List ℕ) (answer : ℕ) →
+    format.required_mantissa_sign ≡ false → format.digit_grouping ≡ None →
+    WritesDigits format.mantissa_radix magnitude before after answer → WritesText (pos magnitude) format before after answer
 digits_alone format magnitude before after answer none plain w = record {
   text = w.writes.text;
   is = record { digits = w.writes.text; magnitude = w.writes.is; whole = rw (none, plain) refl };
@@ -28,7 +30,12 @@ own_front before written count w =
     }
 
 -- the digits of the magnitude after the sign are the text
-pub after_sign : (x : ℤ) (format : Format) (magnitude : ℕ) (before between written : List ℕ) (count digits : ℕ) → format.required_mantissa_sign ≡ false → format.digit_grouping ≡ None → count ≡ length (sign_of x false) → take count between ≡ sign_of x false → length between ≡ length before → drop 1 between ≡ drop 1 before → 1 ≤ digits → magnitude ≡ unsigned_abs x → WritesDigits format.mantissa_radix magnitude (take (length between - count) (drop count between)) written digits → WritesText x format before (put_mid count (length between - count) between written) (count + digits)
+pub after_sign : (x : ℤ) (format : Format) (magnitude : ℕ) (before between written : List ℕ) (count digits : ℕ) →
+    format.required_mantissa_sign ≡ false → format.digit_grouping ≡ None →
+    count ≡ length (sign_of x false) → take count between ≡ sign_of x false →
+    length between ≡ length before → drop 1 between ≡ drop 1 before → 1 ≤ digits → magnitude ≡ unsigned_abs x →
+    WritesDigits format.mantissa_radix magnitude (take (length between - count) (drop count between)) written digits →
+    WritesText x format before (put_mid count (length between - count) between written) (count + digits)
 after_sign x format magnitude before between written count digits plus none long sign same rest some is w =
     WritesText-over x format magnitude before between written written count digits digits (rw plus long) (rw plus sign) same rest some is w
     (rw none (own_front _ written digits w.writes))

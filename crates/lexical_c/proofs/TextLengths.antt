@@ -17,22 +17,28 @@ use Rattle.lexical_write_integer.proofs.Numerals.{length-IsDigits}
 use Rattle.lexical_write_integer.proofs.Printed.{IsRange-small}
 
 -- the text of each number of a type fits a buffer as long as its writer asks for
-pub text_of-le_need : (x least greatest : ℤ) (bits width : ℕ) (format : Format) → IsValid format → IsDecimalWidth least greatest width → IsRange bits least greatest → least ≤ℤ x → x ≤ℤ greatest → length (text_of x format) ≤ need x width format
+pub text_of-le_need : (x least greatest : ℤ) (bits width : ℕ) (format : Format) → IsValid format →
+    IsDecimalWidth least greatest width → IsRange bits least greatest → least ≤ℤ x → x ≤ℤ greatest →
+    length (text_of x format) ≤ need x width format
 text_of-le_need x least greatest bits width format valid decimal range at_least at_most =
     let two = valid.mantissa.at_least_two in
     let small = IsRange-small _ _ _ x range at_least at_most in
     let is = (text_computed x format (text_of x format) two small).1 refl in
     length-IsText x least greatest format width (text_of x format) two valid.groups decimal at_least at_most is
 
-length-grouped : (grouping : Option (ℕ × ℕ)) (digits : List ℕ) → ForSome grouping IsGrouping → length (grouped grouping digits) ≡ grouped_length grouping (length digits)
+length-grouped : (grouping : Option (ℕ × ℕ)) (digits : List ℕ) → ForSome grouping IsGrouping →
+    length (grouped grouping digits) ≡ grouped_length grouping (length digits)
 length-grouped None digits good = refl
 length-grouped (Some grouping) digits good = length-in_groups grouping digits (good grouping refl).size.at_least_one
 
 -- the text of a number has its sign, its digits, and the marks between them
-pub length-text_of : (x : ℤ) (format : Format) → IsValid format → unsigned_abs x < 2 ^ 64 → length (text_of x format) ≡ length (sign_of x format.required_mantissa_sign) + grouped_length format.digit_grouping (digit_count format.mantissa_radix (unsigned_abs x))
+pub length-text_of : (x : ℤ) (format : Format) → IsValid format → unsigned_abs x < 2 ^ 64 →
+    length (text_of x format) ≡
+    length (sign_of x format.required_mantissa_sign) + grouped_length format.digit_grouping (digit_count format.mantissa_radix (unsigned_abs x))
 length-text_of x format valid small =
     let two = valid.mantissa.at_least_two in
     let is : IsText x format (text_of x format) = (text_computed x format (text_of x format) two small).1 refl in
     let counted = length-IsDigits format.mantissa_radix (unsigned_abs x) is.digits two is.magnitude in
     ap length is.whole ∙ length-append (sign_of x format.required_mantissa_sign) (grouped format.digit_grouping is.digits)
-    ∙ ap (λ n. length (sign_of x format.required_mantissa_sign) + n) (length-grouped format.digit_grouping is.digits valid.groups ∙ ap (grouped_length format.digit_grouping) counted)
+    ∙ ap (λ n. length (sign_of x format.required_mantissa_sign) + n)
+    (length-grouped format.digit_grouping is.digits valid.groups ∙ ap (grouped_length format.digit_grouping) counted)

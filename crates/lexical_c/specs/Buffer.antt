@@ -9,8 +9,8 @@ pub record IsWritable (number : ℤ) (format : Format) (room : ℕ) : Type 0 whe
   pub valid : IsValid format
   pub fits : length (text_of number format) ≤ room
 
--- if the number can be written, its text is at the start of the buffer and the result is the length of the text; otherwise
--- the result is 0 and the buffer is unchanged
+-- if the number can be written, its text is at the start of the buffer and the result is the length of the text;
+-- otherwise the result is 0 and the buffer is unchanged
 pub record WritesOrRefuses (number : ℤ) (format : Format) (before after : List ℕ) (result : ℕ) : Type 0 where
   pub accepts : 0 < result ↔ IsWritable number format (length before)
   pub text : 0 < result → WritesText number format before after result

@@ -11,7 +11,8 @@ IsEnough smallest largest format size =
     (number : ℤ) → smallest ≤ℤ number → number ≤ℤ largest → length (text_of number format) ≤ size
 
 -- the size of a type if numbers can be written in the format, with room for each number of the type; otherwise 0
-pub record IsBufferSize (smallest largest : ℤ) (formatted_size formatted_size_decimal : ℕ) (format : Format) (result : ℕ) : Type 0 where
+pub record IsBufferSize (smallest largest : ℤ) (formatted_size formatted_size_decimal : ℕ) (format : Format)
+    (result : ℕ) : Type 0 where
   pub accepts : 0 < result ↔ IsValid format
   pub size : 0 < result → result ≡ size_in formatted_size formatted_size_decimal format
   pub enough : 0 < result → IsEnough smallest largest format result

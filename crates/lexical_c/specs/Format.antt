@@ -9,4 +9,8 @@ grouping_of size mark = if size == 0 then None else Some (size, mark)
 
 -- the format of these parts, valid or not; a required sign of 0 asks for no `+`
 abbrev pub format_of : CFormat → Format
-format_of format = record standard { mantissa_radix = format.radix; required_mantissa_sign = not (format.required_sign == 0); digit_grouping = grouping_of format.group_size format.mark }
+format_of format = record standard {
+  mantissa_radix = format.radix;
+  required_mantissa_sign = not (format.required_sign == 0);
+  digit_grouping = grouping_of format.group_size format.mark;
+}

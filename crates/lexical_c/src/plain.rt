@@ -1,6 +1,7 @@
 //! Numbers with no required sign and no groups, in a buffer with room for each number of the type.
 
-ghost use Rattle.std.specs.Prelude.{◌≡◌, ◌≤◌, ◌↔◌, pos, ◌<ℤ◌, IsTrue, IfSome, false, None, length, take, drop, unsigned_abs};
+ghost use Rattle.std.specs.Prelude.{◌≡◌, ◌≤◌, ◌↔◌, pos, ◌<ℤ◌, unsigned_abs, length, take, drop};
+ghost use Rattle.std.specs.Prelude.{false, None, IsTrue, IfSome};
 ghost use Rattle.lexical_num.specs.Sign.{sign_of};
 ghost use Rattle.lexical_num.specs.Size.{size_in};
 ghost use Rattle.lexical_write_integer.specs.Buffer.{WritesText};
