@@ -1,40 +1,47 @@
+/* SPDX-License-Identifier: MIT OR Apache-2.0 */
 /*
  * lexical.h: integers to text, in every radix from 2 to 36.
  *
  * Each function of this library is proved: it writes the text of the number and
- * nothing else, or it refuses, returns 0 and writes nothing. The proof begins at
- * the arguments: a buffer has to be what "Buffers" below says.
+ * nothing else, or it refuses, returns 0 and leaves the buffer unchanged. The
+ * proof begins at the arguments, which must be what "Format" and "Buffer" below
+ * say.
  *
- * Text. The sign: '-' for a number below 0; '+' for any other where
- * required_sign is true; else none. Then the digits '0' to '9' and 'A' to 'Z',
- * the most significant first, with no needless zero in front. No byte 0 stands
- * after the text: its length is what the function returns.
+ * Text. First the sign: '-' for a number below 0; '+' for any other number if
+ * the format requires a sign. Then the digits '0' to '9' and 'A' to 'Z', the
+ * most significant first, with no leading zeros, and with a mark between two
+ * groups of digits if the format asks for groups.
  *
- * Buffers. `buffer` points to `length` bytes that the call may write, and that
- * no other thread reads or writes during the call. It is never NULL, not with a
- * length of 0 either: what size is enough is told by the functions
- * lexical_buffer_size_... and not by a call without a buffer. The call keeps no
- * pointer to the buffer.
+ * Format. `format` points to a struct lexical_format, which the call only
+ * reads. It must not be NULL. The fields may hold any numbers: a format that is
+ * not valid is refused, and lexical_check_format says which field is wrong.
  *
- * Need. A buffer shorter than the need of the number is refused. The need is
- *   - a byte for the sign, where there is one;
- *   - in radix 10 the most digits that a number of the type has, whatever the
- *     number: 3 for 8 bits, 5 for 16, 10 for 32, 20 for uint64_t and size_t, 19
- *     for int64_t; in other radices the digits of the number;
- *   - in groups, the marks between as many digits.
+ * Buffer. `buffer` points to `length` bytes that the call may write, that do not
+ * overlap the format, and that no other thread uses during the call. With a
+ * length of 0 it may be NULL. No object is longer than PTRDIFF_MAX bytes, so a
+ * greater length is not allowed. The call does not read what the buffer held,
+ * writes nothing outside it, and keeps no pointer to it.
+ *
+ * Room. A call writes whenever the text fits, and otherwise returns 0.
  * LEXICAL_BUFFER_SIZE bytes are enough for every number of every type in every
- * radix, with a sign and groups or not.
+ * format. A buffer of the size of its type (LEXICAL_BUFFER_SIZE_.. below) also
+ * takes the fast path; one that is shorter is written by way of an array on the
+ * stack.
  *
- * Numbers that are too great. radix, group_size and mark are of type uint32_t,
- * so that a value above 255 is refused as it stands, and is not cut to a byte.
+ * No terminating 0 is written: the length of the text is what the function
+ * returns. A string needs one more byte, which the call must not be offered:
  *
- * Threads. The functions have no state, take no memory and do not touch errno: any
- * thread may call them.
+ *     char text[LEXICAL_BUFFER_SIZE_DECIMAL_I32 + 1];
+ *     size_t count = lexical_write_i32(-42, &lexical_standard_format,
+ *                                      text, sizeof text - 1);
+ *     text[count] = '\0';
+ *
+ * Threads and signals. The functions have no state, allocate nothing, and do
+ * not touch errno: any thread and any signal handler may call them.
  */
 #ifndef LEXICAL_H
 #define LEXICAL_H
 
-#include <stdbool.h>
 #include <stddef.h>
 #include <stdint.h>
 
@@ -42,274 +49,223 @@
 #error "lexical_c is built for a size_t of 64 bits"
 #endif
 
+/* What the compiler can be told of the functions below. */
+#if defined(__GNUC__)
+#define LEXICAL_HAS(list) __attribute__(list)
+#else
+#define LEXICAL_HAS(list)
+#endif
+#if defined(__has_attribute)
+#if __has_attribute(access)
+#define LEXICAL_ACCESS(list) __attribute__((access list))
+#endif
+#endif
+#ifndef LEXICAL_ACCESS
+#define LEXICAL_ACCESS(list)
+#endif
+#if defined(__cplusplus) && __cplusplus >= 201103L
+#define LEXICAL_NOEXCEPT noexcept
+#else
+#define LEXICAL_NOEXCEPT
+#endif
+/* (value, format, buffer, length): writes to the buffer; its result counts. */
+#define LEXICAL_WRITES                                                         \
+    LEXICAL_HAS((nothrow, nonnull(2), warn_unused_result))                     \
+    LEXICAL_ACCESS((read_only, 2)) LEXICAL_ACCESS((write_only, 3, 4))
+/* (value, format) and (format): read the format and write nothing. */
+#define LEXICAL_READS(n)                                                       \
+    LEXICAL_HAS((nothrow, pure, nonnull(n), warn_unused_result))               \
+    LEXICAL_ACCESS((read_only, n))
+
 #ifdef __cplusplus
 extern "C" {
 #endif
-
-/* A size of buffer that is enough for every number in every format, in bytes. */
-#define LEXICAL_BUFFER_SIZE 128
 
 /*
  * The version of this header: 1000000 times the major number, plus 1000 times
  * the minor number, plus the patch number.
  */
-#define LEXICAL_VERSION 1000000
+#define LEXICAL_VERSION 2000000
+
+/* Returns the version of the library, in the form of LEXICAL_VERSION. */
+LEXICAL_HAS((nothrow, const)) uint32_t lexical_version(void) LEXICAL_NOEXCEPT;
+
+/* ---- formats ------------------------------------------------------------- */
+
+/* How a number is to be written. */
+struct lexical_format {
+    uint32_t radix;         /* from 2 to 36 */
+    uint32_t required_sign; /* 0 for no '+'; any other number for a '+' */
+    uint32_t group_size;    /* digits in a group, from 1 to 64; 0 for no groups */
+    uint32_t mark;          /* the byte between two groups; unused if group_size
+                               is 0. From 32 to 126, and no letter, digit, '+'
+                               or '-' */
+};
 
 /*
- * lexical_version: the version of the library that the program is linked with.
+ * Decimal, with no '+' and no groups: as an initializer, and as an object.
  *
- * Returns the number in the form of LEXICAL_VERSION. The two are equal where
- * the header belongs to the library.
+ * Groups are counted from the right: { 10, 0, 3, ',' } writes 1,234,567. A field
+ * is a number and no byte, so a value above 255 is refused and never cut.
  */
-uint32_t lexical_version(void);
+#define LEXICAL_STANDARD_FORMAT { 10, 0, 0, 0 }
+static const struct lexical_format lexical_standard_format = LEXICAL_STANDARD_FORMAT;
+
+/* What lexical_check_format returns for a format that is not valid. */
+#define LEXICAL_INVALID_RADIX 1
+#define LEXICAL_INVALID_GROUP_SIZE 2
+#define LEXICAL_INVALID_GROUP_MARK 3
 
 /*
- * lexical_write_...: write a number.
- *
- *   value          the number
- *   radix          the radix, from 2 to 36
- *   required_sign  whether '+' stands before a number that is not below 0
- *   buffer         where the text goes ("Buffers" above)
- *   length         how many bytes the buffer has
- *
- * Returns the length of the text, which is at least 1. The text stands at the
- * front of the buffer, and every byte after it is as before.
- *
- * Returns 0 where the radix is not from 2 to 36, or where the buffer is shorter
- * than the need of the number ("Need" above). The buffer is then as before.
- *
- *     char buffer[LEXICAL_BUFFER_SIZE];
- *     size_t count = lexical_write_i32(-42, 10, false, buffer, sizeof buffer);
- *     printf("%.*s\n", (int)count, buffer);
- *
- * prints -42.
+ * Returns 0 if numbers can be written in the format, and otherwise its first
+ * invalid field: the radix is checked first, then the group size, then the mark.
  */
+LEXICAL_READS(1)
+uint32_t lexical_check_format(const struct lexical_format *format) LEXICAL_NOEXCEPT;
 
-/* Writes a uint8_t. */
-size_t lexical_write_u8(uint8_t value, uint32_t radix, bool required_sign,
-                        char *buffer, size_t length);
+/* ---- sizes --------------------------------------------------------------- */
 
-/* Writes a uint16_t. */
-size_t lexical_write_u16(uint16_t value, uint32_t radix, bool required_sign,
-                         char *buffer, size_t length);
+/* A size of buffer that is enough for every number of every type in every
+   format, in bytes. */
+#define LEXICAL_BUFFER_SIZE 128
 
-/* Writes a uint32_t. */
-size_t lexical_write_u32(uint32_t value, uint32_t radix, bool required_sign,
-                         char *buffer, size_t length);
+/* The same for one type. */
+#define LEXICAL_BUFFER_SIZE_U8 16
+#define LEXICAL_BUFFER_SIZE_U16 32
+#define LEXICAL_BUFFER_SIZE_U32 64
+#define LEXICAL_BUFFER_SIZE_U64 128
+#define LEXICAL_BUFFER_SIZE_SIZE 128
+#define LEXICAL_BUFFER_SIZE_I8 16
+#define LEXICAL_BUFFER_SIZE_I16 32
+#define LEXICAL_BUFFER_SIZE_I32 64
+#define LEXICAL_BUFFER_SIZE_I64 128
 
-/* Writes a uint64_t. */
-size_t lexical_write_u64(uint64_t value, uint32_t radix, bool required_sign,
-                         char *buffer, size_t length);
-
-/* Writes a size_t. */
-size_t lexical_write_size(size_t value, uint32_t radix, bool required_sign,
-                          char *buffer, size_t length);
-
-/* Writes an int8_t. */
-size_t lexical_write_i8(int8_t value, uint32_t radix, bool required_sign,
-                        char *buffer, size_t length);
-
-/* Writes an int16_t. */
-size_t lexical_write_i16(int16_t value, uint32_t radix, bool required_sign,
-                         char *buffer, size_t length);
-
-/* Writes an int32_t. */
-size_t lexical_write_i32(int32_t value, uint32_t radix, bool required_sign,
-                         char *buffer, size_t length);
-
-/* Writes an int64_t. */
-size_t lexical_write_i64(int64_t value, uint32_t radix, bool required_sign,
-                         char *buffer, size_t length);
+/* The same for one type in the standard format. */
+#define LEXICAL_BUFFER_SIZE_DECIMAL_U8 3
+#define LEXICAL_BUFFER_SIZE_DECIMAL_U16 5
+#define LEXICAL_BUFFER_SIZE_DECIMAL_U32 10
+#define LEXICAL_BUFFER_SIZE_DECIMAL_U64 20
+#define LEXICAL_BUFFER_SIZE_DECIMAL_SIZE 20
+#define LEXICAL_BUFFER_SIZE_DECIMAL_I8 4
+#define LEXICAL_BUFFER_SIZE_DECIMAL_I16 6
+#define LEXICAL_BUFFER_SIZE_DECIMAL_I32 11
+#define LEXICAL_BUFFER_SIZE_DECIMAL_I64 20
 
 /*
- * lexical_write_grouped_...: write a number with its digits in groups.
+ * lexical_buffer_size_T: a size of buffer that is enough for every number of the
+ * type in the format, its sign and its marks included.
  *
- *   value, radix, required_sign, buffer, length
- *                  as for lexical_write_...
- *   group_size     how many digits a group has, from 1 to 64
- *   mark           the byte between two groups, from 32 to 126, and no letter,
- *                  digit, '+' or '-'
- *
- * Groups are counted from the right: in groups of 3 with the mark ',' the number
- * 1234567 is written 1,234,567. A number of one group has no mark.
- *
- * Returns the length of the text, which is at least 1, its marks included. The
- * text stands at the front of the buffer, and every byte after it is as before.
- *
- * Returns 0 where the radix, the size or the mark is not as above, or where the
- * buffer is shorter than the need of the number. The buffer is then as before.
- *
- *     char buffer[LEXICAL_BUFFER_SIZE];
- *     size_t count = lexical_write_grouped_u32(1234567, 10, false, 3, ',',
- *                                              buffer, sizeof buffer);
- *     printf("%.*s\n", (int)count, buffer);
- *
- * prints 1,234,567.
- */
-
-/* Writes a uint8_t in groups. */
-size_t lexical_write_grouped_u8(uint8_t value, uint32_t radix,
-                                bool required_sign, uint32_t group_size,
-                                uint32_t mark, char *buffer, size_t length);
-
-/* Writes a uint16_t in groups. */
-size_t lexical_write_grouped_u16(uint16_t value, uint32_t radix,
-                                 bool required_sign, uint32_t group_size,
-                                 uint32_t mark, char *buffer, size_t length);
-
-/* Writes a uint32_t in groups. */
-size_t lexical_write_grouped_u32(uint32_t value, uint32_t radix,
-                                 bool required_sign, uint32_t group_size,
-                                 uint32_t mark, char *buffer, size_t length);
-
-/* Writes a uint64_t in groups. */
-size_t lexical_write_grouped_u64(uint64_t value, uint32_t radix,
-                                 bool required_sign, uint32_t group_size,
-                                 uint32_t mark, char *buffer, size_t length);
-
-/* Writes a size_t in groups. */
-size_t lexical_write_grouped_size(size_t value, uint32_t radix,
-                                  bool required_sign, uint32_t group_size,
-                                  uint32_t mark, char *buffer, size_t length);
-
-/* Writes an int8_t in groups. */
-size_t lexical_write_grouped_i8(int8_t value, uint32_t radix,
-                                bool required_sign, uint32_t group_size,
-                                uint32_t mark, char *buffer, size_t length);
-
-/* Writes an int16_t in groups. */
-size_t lexical_write_grouped_i16(int16_t value, uint32_t radix,
-                                 bool required_sign, uint32_t group_size,
-                                 uint32_t mark, char *buffer, size_t length);
-
-/* Writes an int32_t in groups. */
-size_t lexical_write_grouped_i32(int32_t value, uint32_t radix,
-                                 bool required_sign, uint32_t group_size,
-                                 uint32_t mark, char *buffer, size_t length);
-
-/* Writes an int64_t in groups. */
-size_t lexical_write_grouped_i64(int64_t value, uint32_t radix,
-                                 bool required_sign, uint32_t group_size,
-                                 uint32_t mark, char *buffer, size_t length);
-
-/*
- * lexical_buffer_size_...: a size of buffer that is enough.
- *
- *   radix          the radix, from 2 to 36
- *   required_sign  whether '+' stands before a number that is not below 0
- *
- * Returns how many bytes are enough for every number of the type in the radix,
- * its sign included: at least 1 and at most LEXICAL_BUFFER_SIZE. With a buffer
- * of as many bytes lexical_write_... of the same type, radix and sign never
+ * Returns a size from 1 to LEXICAL_BUFFER_SIZE, and 0 if the format is not
+ * valid. With a buffer of that size lexical_write_T in the same format never
  * returns 0.
- *
- * Returns 0 where the radix is not from 2 to 36.
- *
- *     char *buffer = malloc(lexical_buffer_size_u64(10, false));
- *
- * takes 20 bytes.
  */
-
-/* Returns the size that is enough for every uint8_t. */
-size_t lexical_buffer_size_u8(uint32_t radix, bool required_sign);
-
-/* Returns the size that is enough for every uint16_t. */
-size_t lexical_buffer_size_u16(uint32_t radix, bool required_sign);
-
-/* Returns the size that is enough for every uint32_t. */
-size_t lexical_buffer_size_u32(uint32_t radix, bool required_sign);
-
-/* Returns the size that is enough for every uint64_t. */
-size_t lexical_buffer_size_u64(uint32_t radix, bool required_sign);
-
-/* Returns the size that is enough for every size_t. */
-size_t lexical_buffer_size_size(uint32_t radix, bool required_sign);
-
-/* Returns the size that is enough for every int8_t. */
-size_t lexical_buffer_size_i8(uint32_t radix, bool required_sign);
-
-/* Returns the size that is enough for every int16_t. */
-size_t lexical_buffer_size_i16(uint32_t radix, bool required_sign);
-
-/* Returns the size that is enough for every int32_t. */
-size_t lexical_buffer_size_i32(uint32_t radix, bool required_sign);
-
-/* Returns the size that is enough for every int64_t. */
-size_t lexical_buffer_size_i64(uint32_t radix, bool required_sign);
+LEXICAL_READS(1)
+size_t lexical_buffer_size_u8(const struct lexical_format *format) LEXICAL_NOEXCEPT;
+LEXICAL_READS(1)
+size_t lexical_buffer_size_u16(const struct lexical_format *format) LEXICAL_NOEXCEPT;
+LEXICAL_READS(1)
+size_t lexical_buffer_size_u32(const struct lexical_format *format) LEXICAL_NOEXCEPT;
+LEXICAL_READS(1)
+size_t lexical_buffer_size_u64(const struct lexical_format *format) LEXICAL_NOEXCEPT;
+LEXICAL_READS(1)
+size_t lexical_buffer_size_size(const struct lexical_format *format) LEXICAL_NOEXCEPT;
+LEXICAL_READS(1)
+size_t lexical_buffer_size_i8(const struct lexical_format *format) LEXICAL_NOEXCEPT;
+LEXICAL_READS(1)
+size_t lexical_buffer_size_i16(const struct lexical_format *format) LEXICAL_NOEXCEPT;
+LEXICAL_READS(1)
+size_t lexical_buffer_size_i32(const struct lexical_format *format) LEXICAL_NOEXCEPT;
+LEXICAL_READS(1)
+size_t lexical_buffer_size_i64(const struct lexical_format *format) LEXICAL_NOEXCEPT;
 
 /*
- * lexical_buffer_size_grouped_...: a size of buffer that is enough in groups.
+ * lexical_length_T: the length of the text of a number in the format.
  *
- *   radix, required_sign
- *                  as for lexical_buffer_size_...
- *   group_size, mark
- *                  as for lexical_write_grouped_...
- *
- * Returns how many bytes are enough for every number of the type in these
- * groups, its sign and its marks included: at least 1 and at most
- * LEXICAL_BUFFER_SIZE. With a buffer of as many bytes lexical_write_grouped_...
- * of the same type and format never returns 0.
- *
- * Returns 0 where the radix, the size or the mark is refused.
- *
- *     char *buffer = malloc(lexical_buffer_size_grouped_u64(10, false, 3, ','));
- *
- * takes 26 bytes.
+ * Returns a length from 1 to LEXICAL_BUFFER_SIZE, and 0 if the format is not
+ * valid. It is what lexical_write_T returns for a buffer of that length or more.
  */
+LEXICAL_READS(2)
+size_t lexical_length_u8(uint8_t value,
+                         const struct lexical_format *format) LEXICAL_NOEXCEPT;
+LEXICAL_READS(2)
+size_t lexical_length_u16(uint16_t value,
+                          const struct lexical_format *format) LEXICAL_NOEXCEPT;
+LEXICAL_READS(2)
+size_t lexical_length_u32(uint32_t value,
+                          const struct lexical_format *format) LEXICAL_NOEXCEPT;
+LEXICAL_READS(2)
+size_t lexical_length_u64(uint64_t value,
+                          const struct lexical_format *format) LEXICAL_NOEXCEPT;
+LEXICAL_READS(2)
+size_t lexical_length_size(size_t value,
+                           const struct lexical_format *format) LEXICAL_NOEXCEPT;
+LEXICAL_READS(2)
+size_t lexical_length_i8(int8_t value,
+                         const struct lexical_format *format) LEXICAL_NOEXCEPT;
+LEXICAL_READS(2)
+size_t lexical_length_i16(int16_t value,
+                          const struct lexical_format *format) LEXICAL_NOEXCEPT;
+LEXICAL_READS(2)
+size_t lexical_length_i32(int32_t value,
+                          const struct lexical_format *format) LEXICAL_NOEXCEPT;
+LEXICAL_READS(2)
+size_t lexical_length_i64(int64_t value,
+                          const struct lexical_format *format) LEXICAL_NOEXCEPT;
 
-/* Returns the size that is enough for every uint8_t in groups. */
-size_t lexical_buffer_size_grouped_u8(uint32_t radix, bool required_sign,
-                                      uint32_t group_size, uint32_t mark);
-
-/* Returns the size that is enough for every uint16_t in groups. */
-size_t lexical_buffer_size_grouped_u16(uint32_t radix, bool required_sign,
-                                       uint32_t group_size, uint32_t mark);
-
-/* Returns the size that is enough for every uint32_t in groups. */
-size_t lexical_buffer_size_grouped_u32(uint32_t radix, bool required_sign,
-                                       uint32_t group_size, uint32_t mark);
-
-/* Returns the size that is enough for every uint64_t in groups. */
-size_t lexical_buffer_size_grouped_u64(uint32_t radix, bool required_sign,
-                                       uint32_t group_size, uint32_t mark);
-
-/* Returns the size that is enough for every size_t in groups. */
-size_t lexical_buffer_size_grouped_size(uint32_t radix, bool required_sign,
-                                        uint32_t group_size, uint32_t mark);
-
-/* Returns the size that is enough for every int8_t in groups. */
-size_t lexical_buffer_size_grouped_i8(uint32_t radix, bool required_sign,
-                                      uint32_t group_size, uint32_t mark);
-
-/* Returns the size that is enough for every int16_t in groups. */
-size_t lexical_buffer_size_grouped_i16(uint32_t radix, bool required_sign,
-                                       uint32_t group_size, uint32_t mark);
-
-/* Returns the size that is enough for every int32_t in groups. */
-size_t lexical_buffer_size_grouped_i32(uint32_t radix, bool required_sign,
-                                       uint32_t group_size, uint32_t mark);
-
-/* Returns the size that is enough for every int64_t in groups. */
-size_t lexical_buffer_size_grouped_i64(uint32_t radix, bool required_sign,
-                                       uint32_t group_size, uint32_t mark);
+/* ---- writing ------------------------------------------------------------- */
 
 /*
- * lexical_digit_count: how many digits a number has.
+ * lexical_write_T: writes a number.
  *
- *   value          the number; of a negative number, its magnitude
- *   radix          the radix, from 2 to 36
+ * Returns the length of the text, which is at least 1. The text is at the start
+ * of the buffer, and every byte after it is unchanged.
  *
- * Returns the number of digits, from 1 to 64. Returns 0 where the radix is not
- * from 2 to 36.
+ * Returns 0 if and only if the format is not valid or the text does not fit. The
+ * buffer is then unchanged.
  *
- *     lexical_digit_count(255, 16)
+ *     const struct lexical_format format = { 16, 0, 0, 0 };
+ *     char buffer[LEXICAL_BUFFER_SIZE];
+ *     size_t count = lexical_write_u32(48879, &format, buffer, sizeof buffer);
+ *     printf("%.*s\n", (int)count, buffer);
  *
- * is 2.
+ * prints BEEF.
  */
-size_t lexical_digit_count(uint64_t value, uint32_t radix);
+LEXICAL_WRITES
+size_t lexical_write_u8(uint8_t value, const struct lexical_format *format,
+                        char *buffer, size_t length) LEXICAL_NOEXCEPT;
+LEXICAL_WRITES
+size_t lexical_write_u16(uint16_t value, const struct lexical_format *format,
+                         char *buffer, size_t length) LEXICAL_NOEXCEPT;
+LEXICAL_WRITES
+size_t lexical_write_u32(uint32_t value, const struct lexical_format *format,
+                         char *buffer, size_t length) LEXICAL_NOEXCEPT;
+LEXICAL_WRITES
+size_t lexical_write_u64(uint64_t value, const struct lexical_format *format,
+                         char *buffer, size_t length) LEXICAL_NOEXCEPT;
+LEXICAL_WRITES
+size_t lexical_write_size(size_t value, const struct lexical_format *format,
+                          char *buffer, size_t length) LEXICAL_NOEXCEPT;
+LEXICAL_WRITES
+size_t lexical_write_i8(int8_t value, const struct lexical_format *format,
+                        char *buffer, size_t length) LEXICAL_NOEXCEPT;
+LEXICAL_WRITES
+size_t lexical_write_i16(int16_t value, const struct lexical_format *format,
+                         char *buffer, size_t length) LEXICAL_NOEXCEPT;
+LEXICAL_WRITES
+size_t lexical_write_i32(int32_t value, const struct lexical_format *format,
+                         char *buffer, size_t length) LEXICAL_NOEXCEPT;
+LEXICAL_WRITES
+size_t lexical_write_i64(int64_t value, const struct lexical_format *format,
+                         char *buffer, size_t length) LEXICAL_NOEXCEPT;
 
 #ifdef __cplusplus
 }
 #endif
+
+#undef LEXICAL_HAS
+#undef LEXICAL_ACCESS
+#undef LEXICAL_NOEXCEPT
+#undef LEXICAL_WRITES
+#undef LEXICAL_READS
 
 #endif

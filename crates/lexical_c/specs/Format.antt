@@ -1,7 +1,16 @@
--- The format that C asks for.
-use Rattle.std.specs.Prelude.{ℕ, Bool, Option}
+-- The format that a C caller asks for.
+use Rattle.std.specs.Prelude.{ℕ, Option, None, Some, not, if◌then◌else◌, ◌==◌}
 use Rattle.lexical_num.specs.Format.{Format, standard}
+use Rattle.lexical_c.specs.declared.format.CFormat.{CFormat}
 
--- the radix, whether a `+` is required, and the size of a group and its mark where there are groups; any numbers
-abbrev pub format_of : ℕ → Bool → Option (ℕ × ℕ) → Format
-format_of radix required_sign grouping = record standard { mantissa_radix = radix; required_mantissa_sign = required_sign; digit_grouping = grouping }
+-- groups of this size with this mark between them; no groups if the size is 0
+abbrev pub grouping_of : ℕ → ℕ → Option (ℕ × ℕ)
+grouping_of size mark = if size == 0 then None else Some (size, mark)
+
+-- the format of these parts, valid or not; a required sign of 0 asks for no `+`
+abbrev pub format_of : CFormat → Format
+format_of format = record standard {
+  mantissa_radix = format.radix;
+  required_mantissa_sign = not (format.required_sign == 0);
+  digit_grouping = grouping_of format.group_size format.mark;
+}

@@ -1,3 +1,4 @@
 pub mod Buffer
 pub mod BufferSize
 pub mod Format
+pub mod Length

@@ -1,29 +1,85 @@
-//! The format that C asks for.
+//! The format that a C caller asks for.
 
-ghost use Rattle.std.specs.Prelude.{◌≡◌, ◌↔◌, IsSome, IfSome};
-ghost use Rattle.lexical_num.specs.Format.{IsValid};
+ghost use Rattle.std.specs.Prelude.{◌≡◌, ◌≢◌, ◌↔◌, IsTrue, IsSome, IfSome};
+ghost use Rattle.lexical_num.specs.Format.{IsRadix, IsGroupSize, IsMark, IsValid};
 ghost use Rattle.lexical_c.specs.Format.{format_of};
 
 use lexical_write_integer::{NumberFormat, NumberFormatBuilder};
 
-/// Returns the format of these parts: the radix, whether a `+` is required, and where there are
-/// groups their size and the mark. Returns nothing where no number can be written in it.
-pub fn format_of(
-    radix: u32,
-    required_sign: bool,
-    grouping: Option<(u32, u32)>,
-) -> Option<NumberFormat>
-    ensures valid { IsSome result ↔ IsValid (format_of radix required_sign grouping) }
-    ensures format { IfSome result (λ format. format ≡ format_of radix required_sign grouping) }
+/// How a number is to be written, by four numbers of any values. A `required_sign` of 0 asks for no
+/// `+`, and any other value for one. A `group_size` of 0 asks for no groups, and `mark` is then not
+/// read.
+#[repr(C)]
+pub struct CFormat {
+    pub radix: u32,
+    pub required_sign: u32,
+    pub group_size: u32,
+    pub mark: u32,
+}
+
+/// The radix is not from 2 to 36.
+pub const INVALID_RADIX: u32 = 1;
+/// The group size is greater than 64.
+pub const INVALID_GROUP_SIZE: u32 = 2;
+/// The mark between groups is not printable ASCII, or is a letter, a digit, `+` or `-`.
+pub const INVALID_GROUP_MARK: u32 = 3;
+
+/// Returns 0 if numbers can be written in the format, and otherwise its first invalid part: the radix
+/// is checked first, then the group size, then the mark.
+#[unsafe(no_mangle)]
+pub extern "C" fn lexical_check_format(format: &CFormat) -> u32
+    ensures valid { result ≡ 0 ↔ IsValid (format_of format.now) }
+    ensures radix { result ≡ INVALID_RADIX ↔ ¬ IsRadix format.now.radix }
+    ensures group_size { result ≡ INVALID_GROUP_SIZE
+        ↔ (IsRadix format.now.radix × (format.now.group_size ≢ 0) × ¬ IsGroupSize format.now.group_size) }
+    ensures group_mark { result ≡ INVALID_GROUP_MARK
+        ↔ (IsRadix format.now.radix × IsGroupSize format.now.group_size × ¬ IsMark format.now.mark) }
+{
+    if format.radix < 2 || format.radix > 36 {
+        INVALID_RADIX
+    } else if format.group_size == 0 {
+        0
+    } else if format.group_size > 64 {
+        INVALID_GROUP_SIZE
+    } else if !is_mark(format.mark) {
+        INVALID_GROUP_MARK
+    } else {
+        0
+    }
+}
+
+// Whether the number is a byte that can separate two groups. 43 is `+`, and 45 is `-`.
+fn is_mark(mark: u32) -> bool
+    ensures { IsTrue result ↔ IsMark mark }
+{
+    32 <= mark && mark <= 126 && !(mark as u8).is_ascii_alphanumeric() && mark != 43 && mark != 45
+}
+
+/// The format of these parts, in which numbers can be written.
+pub fn valid_format(format: &CFormat) -> NumberFormat
+    requires { IsValid (format_of format.now) }
+    ensures { result ≡ format_of format.now }
 {
     let builder = NumberFormatBuilder::new()
-        .mantissa_radix(u8::try_from(radix).ok()?)
-        .required_mantissa_sign(required_sign);
-    match grouping {
-        Some((size, mark)) => builder
-            .digit_grouping(u8::try_from(size).ok()?, u8::try_from(mark).ok()?)
-            .build()
-            .ok(),
-        None => builder.build().ok(),
+        .mantissa_radix(format.radix as u8)
+        .required_mantissa_sign(format.required_sign != 0);
+    if format.group_size == 0 {
+        builder.build_strict()
+    } else {
+        builder
+            .digit_grouping(format.group_size as u8, format.mark as u8)
+            .build_strict()
+    }
+}
+
+/// The format of these parts, or `None` if no number can be written in it.
+pub fn number_format(format: &CFormat) -> Option<NumberFormat>
+    ensures valid { IsSome result ↔ IsValid (format_of format.now) }
+    ensures format { IfSome result (λ made. made ≡ format_of format.now) }
+{
+    if lexical_check_format(format) == 0 {
+        Some(valid_format(format))
+    } else {
+        None
     }
 }

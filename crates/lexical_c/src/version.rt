@@ -3,7 +3,7 @@
 ghost use Rattle.std.specs.Prelude.{◌≡◌};
 
 /// The version: 1000000 times the major number, 1000 times the minor number, and the patch number.
-pub const VERSION: u32 = 1000000;
+pub const VERSION: u32 = 2000000;
 
 /// Returns the version, which C compares with the one of its header.
 #[unsafe(no_mangle)]

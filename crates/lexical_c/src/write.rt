@@ -1,158 +1,128 @@
-//! Writing a number.
+//! Writing a number. Each function returns the length of the text, or returns 0 and leaves the buffer
+//! unchanged if no number can be written in the format or the text does not fit.
 
-ghost use Rattle.std.specs.Prelude.{pos};
+ghost use Rattle.std.specs.Prelude.{◌≡◌, pos, unsigned_abs};
 ghost use Rattle.lexical_c.specs.Buffer.{WritesOrRefuses};
 ghost use Rattle.lexical_c.specs.Format.{format_of};
 
-use crate::format::format_of;
-use crate::integer::CInteger;
-use crate::need::has_room;
-use lexical_num::num::LexicalInteger;
-use lexical_write_integer::Options;
+use crate::format::CFormat;
+use crate::general::write_if_it_fits;
+use crate::plain::{plain_format, write_digits, write_sign_and_digits};
+use lexical_write_integer::ToLexicalWithOptions;
+use lexical_write_integer::laws::{size_is_enough, text_computed};
+use lexical_write_integer::write::WriteInteger;
 
-/// Writes the number to the front of the buffer, in the format of these parts, and returns the
-/// length of its text. Returns 0 and leaves the buffer as it was where no number can be written in
-/// the format, or the buffer is shorter than the need of the number.
-pub fn write<T: CInteger>(
+// Writes a number of an unsigned type.
+fn write_unsigned<T: WriteInteger + ToLexicalWithOptions>(
     value: T,
-    radix: u32,
-    required_sign: bool,
-    grouping: Option<(u32, u32)>,
+    format: &CFormat,
     buffer: &mut [u8],
 ) -> usize
-    ensures { WritesOrRefuses (T.number value) T.DECIMAL_WIDTH
-        (format_of radix required_sign grouping) buffer.old buffer.new result }
+    ensures { WritesOrRefuses (T.number value) (format_of format.now) buffer.old buffer.new result }
 {
-    match format_of(radix, required_sign, grouping) {
-        Some(format) if has_room(value, &format, buffer.len()) => {
-            value.write_lexical_with_options(buffer, &format, &Options::new())
+    match plain_format::<T>(format, buffer.len()) {
+        Some(format) => {
+            size_is_enough(value, &format);
+            let count = write_digits(value, &format, buffer);
+            text_computed(value, &format, &buffer[..count]);
+            count
         }
-        _ => 0,
+        None => write_if_it_fits(value.as_usize(), format, buffer),
     }
 }
 
-/// Writes a `uint8_t` as `write` does, without groups.
-#[unsafe(no_mangle)]
-pub extern "C" fn lexical_write_u8(
-    value: u8,
-    radix: u32,
-    required_sign: bool,
+// Writes a number of a signed type. `wide` is the same number, and `magnitude` is its magnitude.
+fn write_signed<T: ToLexicalWithOptions, U: WriteInteger>(
+    value: T,
+    wide: isize,
+    magnitude: U,
+    format: &CFormat,
     buffer: &mut [u8],
 ) -> usize
-    ensures { WritesOrRefuses (pos value) ⟦<u8 as LexicalInteger>⟧.DECIMAL_WIDTH
-        (format_of radix required_sign None) buffer.old buffer.new result }
+    requires wide { wide ≡ T.number value }
+    requires magnitude { U.magnitude magnitude ≡ unsigned_abs wide }
+    requires width { U.SIGNED_WIDTH ≡ T.DECIMAL_WIDTH }
+    ensures { WritesOrRefuses (T.number value) (format_of format.now) buffer.old buffer.new result }
 {
-    write::<u8>(value, radix, required_sign, None, buffer)
+    match plain_format::<T>(format, buffer.len()) {
+        Some(format) => {
+            size_is_enough(value, &format);
+            let count = write_sign_and_digits(value, wide < 0, magnitude, &format, buffer);
+            text_computed(value, &format, &buffer[..count]);
+            count
+        }
+        None => write_if_it_fits(wide, format, buffer),
+    }
 }
 
-/// Writes a `uint16_t` as `write` does, without groups.
+/// Writes a `uint8_t`.
 #[unsafe(no_mangle)]
-pub extern "C" fn lexical_write_u16(
-    value: u16,
-    radix: u32,
-    required_sign: bool,
-    buffer: &mut [u8],
-) -> usize
-    ensures { WritesOrRefuses (pos value) ⟦<u16 as LexicalInteger>⟧.DECIMAL_WIDTH
-        (format_of radix required_sign None) buffer.old buffer.new result }
+pub extern "C" fn lexical_write_u8(value: u8, format: &CFormat, buffer: &mut [u8]) -> usize
+    ensures { WritesOrRefuses (pos value) (format_of format.now) buffer.old buffer.new result }
 {
-    write::<u16>(value, radix, required_sign, None, buffer)
+    write_unsigned::<u8>(value, format, buffer)
 }
 
-/// Writes a `uint32_t` as `write` does, without groups.
+/// Writes a `uint16_t`.
 #[unsafe(no_mangle)]
-pub extern "C" fn lexical_write_u32(
-    value: u32,
-    radix: u32,
-    required_sign: bool,
-    buffer: &mut [u8],
-) -> usize
-    ensures { WritesOrRefuses (pos value) ⟦<u32 as LexicalInteger>⟧.DECIMAL_WIDTH
-        (format_of radix required_sign None) buffer.old buffer.new result }
+pub extern "C" fn lexical_write_u16(value: u16, format: &CFormat, buffer: &mut [u8]) -> usize
+    ensures { WritesOrRefuses (pos value) (format_of format.now) buffer.old buffer.new result }
 {
-    write::<u32>(value, radix, required_sign, None, buffer)
+    write_unsigned::<u16>(value, format, buffer)
 }
 
-/// Writes a `uint64_t` as `write` does, without groups.
+/// Writes a `uint32_t`.
 #[unsafe(no_mangle)]
-pub extern "C" fn lexical_write_u64(
-    value: u64,
-    radix: u32,
-    required_sign: bool,
-    buffer: &mut [u8],
-) -> usize
-    ensures { WritesOrRefuses (pos value) ⟦<u64 as LexicalInteger>⟧.DECIMAL_WIDTH
-        (format_of radix required_sign None) buffer.old buffer.new result }
+pub extern "C" fn lexical_write_u32(value: u32, format: &CFormat, buffer: &mut [u8]) -> usize
+    ensures { WritesOrRefuses (pos value) (format_of format.now) buffer.old buffer.new result }
 {
-    write::<u64>(value, radix, required_sign, None, buffer)
+    write_unsigned::<u32>(value, format, buffer)
 }
 
-/// Writes a `size_t` as `write` does, without groups.
+/// Writes a `uint64_t`.
 #[unsafe(no_mangle)]
-pub extern "C" fn lexical_write_size(
-    value: usize,
-    radix: u32,
-    required_sign: bool,
-    buffer: &mut [u8],
-) -> usize
-    ensures { WritesOrRefuses (pos value) ⟦<usize as LexicalInteger>⟧.DECIMAL_WIDTH
-        (format_of radix required_sign None) buffer.old buffer.new result }
+pub extern "C" fn lexical_write_u64(value: u64, format: &CFormat, buffer: &mut [u8]) -> usize
+    ensures { WritesOrRefuses (pos value) (format_of format.now) buffer.old buffer.new result }
 {
-    write::<usize>(value, radix, required_sign, None, buffer)
+    write_unsigned::<u64>(value, format, buffer)
 }
 
-/// Writes an `int8_t` as `write` does, without groups.
+/// Writes a `size_t`.
 #[unsafe(no_mangle)]
-pub extern "C" fn lexical_write_i8(
-    value: i8,
-    radix: u32,
-    required_sign: bool,
-    buffer: &mut [u8],
-) -> usize
-    ensures { WritesOrRefuses value ⟦<i8 as LexicalInteger>⟧.DECIMAL_WIDTH
-        (format_of radix required_sign None) buffer.old buffer.new result }
+pub extern "C" fn lexical_write_size(value: usize, format: &CFormat, buffer: &mut [u8]) -> usize
+    ensures { WritesOrRefuses (pos value) (format_of format.now) buffer.old buffer.new result }
 {
-    write::<i8>(value, radix, required_sign, None, buffer)
+    write_unsigned::<usize>(value, format, buffer)
 }
 
-/// Writes an `int16_t` as `write` does, without groups.
+/// Writes an `int8_t`.
 #[unsafe(no_mangle)]
-pub extern "C" fn lexical_write_i16(
-    value: i16,
-    radix: u32,
-    required_sign: bool,
-    buffer: &mut [u8],
-) -> usize
-    ensures { WritesOrRefuses value ⟦<i16 as LexicalInteger>⟧.DECIMAL_WIDTH
-        (format_of radix required_sign None) buffer.old buffer.new result }
+pub extern "C" fn lexical_write_i8(value: i8, format: &CFormat, buffer: &mut [u8]) -> usize
+    ensures { WritesOrRefuses value (format_of format.now) buffer.old buffer.new result }
 {
-    write::<i16>(value, radix, required_sign, None, buffer)
+    write_signed::<i8, u8>(value, value as isize, value.unsigned_abs(), format, buffer)
 }
 
-/// Writes an `int32_t` as `write` does, without groups.
+/// Writes an `int16_t`.
 #[unsafe(no_mangle)]
-pub extern "C" fn lexical_write_i32(
-    value: i32,
-    radix: u32,
-    required_sign: bool,
-    buffer: &mut [u8],
-) -> usize
-    ensures { WritesOrRefuses value ⟦<i32 as LexicalInteger>⟧.DECIMAL_WIDTH
-        (format_of radix required_sign None) buffer.old buffer.new result }
+pub extern "C" fn lexical_write_i16(value: i16, format: &CFormat, buffer: &mut [u8]) -> usize
+    ensures { WritesOrRefuses value (format_of format.now) buffer.old buffer.new result }
 {
-    write::<i32>(value, radix, required_sign, None, buffer)
+    write_signed::<i16, u16>(value, value as isize, value.unsigned_abs(), format, buffer)
 }
 
-/// Writes an `int64_t` as `write` does, without groups.
+/// Writes an `int32_t`.
 #[unsafe(no_mangle)]
-pub extern "C" fn lexical_write_i64(
-    value: i64,
-    radix: u32,
-    required_sign: bool,
-    buffer: &mut [u8],
-) -> usize
-    ensures { WritesOrRefuses value ⟦<i64 as LexicalInteger>⟧.DECIMAL_WIDTH
-        (format_of radix required_sign None) buffer.old buffer.new result }
+pub extern "C" fn lexical_write_i32(value: i32, format: &CFormat, buffer: &mut [u8]) -> usize
+    ensures { WritesOrRefuses value (format_of format.now) buffer.old buffer.new result }
 {
-    write::<i64>(value, radix, required_sign, None, buffer)
+    write_signed::<i32, u32>(value, value as isize, value.unsigned_abs(), format, buffer)
+}
+
+/// Writes an `int64_t`.
+#[unsafe(no_mangle)]
+pub extern "C" fn lexical_write_i64(value: i64, format: &CFormat, buffer: &mut [u8]) -> usize
+    ensures { WritesOrRefuses value (format_of format.now) buffer.old buffer.new result }
+{
+    write_signed::<i64, u64>(value, value as isize, value.unsigned_abs(), format, buffer)
 }

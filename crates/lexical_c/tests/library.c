@@ -1,66 +1,54 @@
 /*
  * Calls each function of the library as a C program does, and compares with
  * values from outside it: rows that are written out, snprintf, and a plain
- * conversion of this file's own. Prints how many checks passed and failed.
+ * conversion of this file's own. Each buffer lies between pages that may not be
+ * touched. Prints how many tests passed and failed.
  */
+#define _DEFAULT_SOURCE
 #include "lexical.h"
 
 #include <inttypes.h>
+#include <stdbool.h>
 #include <stdio.h>
 #include <stdlib.h>
 #include <string.h>
+#include <sys/mman.h>
+#include <unistd.h>
 
-static unsigned long long passed, failed;
+/* The checks of the test that runs, of which many make one test. */
+static unsigned long long checks, failures;
 
 static bool check(bool is_good, const char *what)
 {
-    if (is_good) {
-        passed++;
-    } else if (failed++ < 20) {
+    checks++;
+    if (!is_good && failures++ < 5)
         printf("failed: %s\n", what);
-    }
     return is_good;
 }
 
 /* ---- the types ---------------------------------------------------------- */
-
-/* How a number is to be written; a group_size of 0 stands for no groups. */
-struct format {
-    uint32_t radix;
-    bool required_sign;
-    uint32_t group_size;
-    uint32_t mark;
-};
 
 /* A type: what is known of it from outside, and its functions by its bits. */
 struct type {
     const char *name;
     bool is_signed;
     unsigned bits;
-    size_t decimal_width;
     size_t size;
     size_t decimal_size;
-    size_t (*write)(uint64_t, const struct format *, char *, size_t);
-    size_t (*buffer_size)(const struct format *);
+    size_t (*write)(uint64_t, const struct lexical_format *, char *, size_t);
+    size_t (*length)(uint64_t, const struct lexical_format *);
+    size_t (*buffer_size)(const struct lexical_format *);
 };
 
 #define FUNCTIONS(NAME, TYPE)                                                  \
-    static size_t write_##NAME(uint64_t bits, const struct format *f,          \
+    static size_t write_##NAME(uint64_t bits, const struct lexical_format *f,  \
                                char *buffer, size_t length)                    \
     {                                                                          \
-        if (f->group_size == 0)                                                \
-            return lexical_write_##NAME((TYPE)bits, f->radix,                  \
-                                        f->required_sign, buffer, length);     \
-        return lexical_write_grouped_##NAME((TYPE)bits, f->radix,              \
-                                            f->required_sign, f->group_size,   \
-                                            f->mark, buffer, length);          \
+        return lexical_write_##NAME((TYPE)bits, f, buffer, length);            \
     }                                                                          \
-    static size_t buffer_size_##NAME(const struct format *f)                   \
+    static size_t length_##NAME(uint64_t bits, const struct lexical_format *f) \
     {                                                                          \
-        if (f->group_size == 0)                                                \
-            return lexical_buffer_size_##NAME(f->radix, f->required_sign);     \
-        return lexical_buffer_size_grouped_##NAME(f->radix, f->required_sign,  \
-                                                  f->group_size, f->mark);     \
+        return lexical_length_##NAME((TYPE)bits, f);                           \
     }
 FUNCTIONS(u8, uint8_t)
 FUNCTIONS(u16, uint16_t)
@@ -72,19 +60,20 @@ FUNCTIONS(i16, int16_t)
 FUNCTIONS(i32, int32_t)
 FUNCTIONS(i64, int64_t)
 
-#define TYPE(NAME, SIGNED, BITS, WIDTH, SIZE, DECIMAL_SIZE)                    \
-    { #NAME, SIGNED, BITS, WIDTH, SIZE, DECIMAL_SIZE, write_##NAME,            \
-      buffer_size_##NAME }
+#define TYPE(NAME, SIGNED, BITS, SIZE, DECIMAL_SIZE)                           \
+    { #NAME, SIGNED, BITS, SIZE, DECIMAL_SIZE, write_##NAME, length_##NAME,    \
+      lexical_buffer_size_##NAME }
 static const struct type TYPES[] = {
-    TYPE(u8, false, 8, 3, 16, 3),     TYPE(u16, false, 16, 5, 32, 5),
-    TYPE(u32, false, 32, 10, 64, 10), TYPE(u64, false, 64, 20, 128, 20),
-    TYPE(size, false, 64, 20, 128, 20),
-    TYPE(i8, true, 8, 3, 16, 4),      TYPE(i16, true, 16, 5, 32, 6),
-    TYPE(i32, true, 32, 10, 64, 11),  TYPE(i64, true, 64, 19, 128, 20),
+    TYPE(u8, false, 8, 16, 3),     TYPE(u16, false, 16, 32, 5),
+    TYPE(u32, false, 32, 64, 10),  TYPE(u64, false, 64, 128, 20),
+    TYPE(size, false, 64, 128, 20),
+    TYPE(i8, true, 8, 16, 4),      TYPE(i16, true, 16, 32, 6),
+    TYPE(i32, true, 32, 64, 11),   TYPE(i64, true, 64, 128, 20),
 };
 #define TYPE_COUNT (sizeof TYPES / sizeof TYPES[0])
+enum { U8, U16, U32, U64, SIZE, I8, I16, I32, I64 };
 
-static uint64_t greatest_bits(const struct type *type)
+static uint64_t largest_bits(const struct type *type)
 {
     return UINT64_MAX >> (64 - type->bits);
 }
@@ -96,34 +85,20 @@ static bool is_negative(const struct type *type, uint64_t bits)
 
 static uint64_t magnitude(const struct type *type, uint64_t bits)
 {
-    return is_negative(type, bits) ? (0 - bits) & greatest_bits(type) : bits;
+    return is_negative(type, bits) ? (0 - bits) & largest_bits(type) : bits;
 }
 
 /* ---- the plain conversion ----------------------------------------------- */
 
-/* The text of a number, and the need of it. */
+/* The text of a number. */
 struct expected {
     char text[160];
     size_t count;
-    size_t need;
 };
-
-static size_t digit_count(uint64_t number, uint32_t radix)
-{
-    size_t count = 1;
-    for (; number >= radix; number /= radix)
-        count++;
-    return count;
-}
-
-static size_t mark_count(const struct format *format, size_t digits)
-{
-    return format->group_size == 0 ? 0 : (digits - 1) / format->group_size;
-}
 
 /* Writes from the right to the left, as a person does on paper. */
 static struct expected plain_text(const struct type *type, uint64_t bits,
-                                  const struct format *format)
+                                  const struct lexical_format *format)
 {
     static const char DIGITS[] = "0123456789ABCDEFGHIJKLMNOPQRSTUVWXYZ";
     struct expected expected;
@@ -137,12 +112,10 @@ static struct expected plain_text(const struct type *type, uint64_t bits,
         digits++;
         rest /= format->radix;
     } while (rest != 0);
-    size_t width = format->radix == 10 ? type->decimal_width : digits;
-    expected.need = width + mark_count(format, width);
-    if (is_negative(type, bits) || format->required_sign) {
-        reversed[count++] = is_negative(type, bits) ? '-' : '+';
-        expected.need++;
-    }
+    if (is_negative(type, bits))
+        reversed[count++] = '-';
+    else if (format->required_sign != 0)
+        reversed[count++] = '+';
     for (size_t i = 0; i < count; i++)
         expected.text[i] = reversed[count - 1 - i];
     expected.text[count] = 0;
@@ -152,8 +125,22 @@ static struct expected plain_text(const struct type *type, uint64_t bits,
 
 /* ---- one call ----------------------------------------------------------- */
 
-/* Bytes that no text holds: in the buffer before the call, and on both sides. */
-#define BEFORE 0x5a
+/* Memory between two pages that may not be touched. */
+struct island {
+    char *start, *end;
+};
+
+static struct island new_island(void)
+{
+    size_t page = (size_t)sysconf(_SC_PAGESIZE);
+    char *map = (char *)mmap(NULL, 3 * page, PROT_NONE, MAP_PRIVATE | MAP_ANONYMOUS, -1, 0);
+    if (map == (char *)MAP_FAILED || mprotect(map + page, page, PROT_READ | PROT_WRITE) != 0)
+        exit(EXIT_FAILURE);
+    struct island island = { map + page, map + 2 * page };
+    return island;
+}
+static struct island buffers, formats;
+
 #define GUARD 0xa5
 #define GUARD_SIZE 32
 
@@ -166,47 +153,74 @@ static bool all_are(const char *bytes, size_t count, int byte)
 }
 
 /*
- * Calls the writer on `length` bytes between guards: the text is to stand at
- * the front, and every other byte to be as before. `expected` is NULL where the
- * call is to refuse.
+ * Calls the writer on `length` bytes: the text is to be at the start, and every
+ * other byte to be unchanged. `expected` is NULL if the call is to refuse. One
+ * side of the buffer, and one of the format, is a page that may not be touched;
+ * sides and bytes differ from call to call.
  */
 static void check_call(const struct type *type, uint64_t bits,
-                       const struct format *format, size_t length,
+                       const struct lexical_format *format, size_t length,
                        const struct expected *expected)
 {
-    static char room[LEXICAL_BUFFER_SIZE + 2 * GUARD_SIZE];
-    char *buffer = room + GUARD_SIZE, *end = buffer + length;
-    memset(room, GUARD, sizeof room);
-    memset(buffer, BEFORE, length);
-    size_t count = type->write(bits, format, buffer, length);
+    static const int BEFORE[] = { 0x5a, 0xff, 0x00, '7' };
+    static uint32_t random;
+    random = random * 1664525 + 1013904223;
+    int before = BEFORE[random >> 29 & 3];
+    bool at_end = random >> 31 == 1;
+    char *buffer = at_end ? buffers.end - length : buffers.start;
+    char *guard = at_end ? buffer - GUARD_SIZE : buffer + length;
+    char *lent = at_end ? formats.start : formats.end - sizeof *format;
+    memset(buffer, before, length);
+    memset(guard, GUARD, GUARD_SIZE);
+    memcpy(lent, format, sizeof *format);
+    size_t count = type->write(bits, (const struct lexical_format *)lent, buffer, length);
     size_t wanted = expected == NULL ? 0 : expected->count;
     bool is_good = count == wanted
         && (wanted == 0 || memcmp(buffer, expected->text, wanted) == 0)
-        && all_are(buffer + wanted, length - wanted, BEFORE)
-        && all_are(room, GUARD_SIZE, GUARD) && all_are(end, GUARD_SIZE, GUARD);
-    if (!check(is_good, "a writer") && failed < 20)
-        printf("    %s %016" PRIx64 ", radix %u, sign %d, groups of %u by %u, "
+        && all_are(buffer + wanted, length - wanted, before)
+        && all_are(guard, GUARD_SIZE, GUARD) && memcmp(lent, format, sizeof *format) == 0;
+    if (!check(is_good, "a writer") && failures < 5)
+        printf("    %s %016" PRIx64 ", radix %u, sign %u, groups of %u by %u, "
                "%zu bytes: %zu, %.*s\n", type->name, bits, format->radix,
                format->required_sign, format->group_size, format->mark, length,
                count, (int)(count < length ? count : length), buffer);
 }
 
-/* A buffer of exactly the need, one byte less, and the greatest. */
+/*
+ * A buffer of exactly the text and one byte less; of the size of the type in the
+ * format and one byte less, which decide on the way that is taken; and the
+ * largest. The length of the text.
+ */
 static void check_number(const struct type *type, uint64_t bits,
-                         const struct format *format)
+                         const struct lexical_format *format)
 {
     struct expected expected = plain_text(type, bits, format);
-    check_call(type, bits, format, expected.need, &expected);
-    check_call(type, bits, format, expected.need - 1, NULL);
+    size_t size = type->buffer_size(format);
+    check_call(type, bits, format, expected.count, &expected);
+    check_call(type, bits, format, expected.count - 1, NULL);
+    check_call(type, bits, format, size, &expected);
+    if (size > expected.count)
+        check_call(type, bits, format, size - 1, &expected);
     check_call(type, bits, format, LEXICAL_BUFFER_SIZE, &expected);
+    check(type->length(bits, format) == expected.count, "a length");
+}
+
+/* A format that is not valid: nothing is written, and no size or length is told. */
+static void check_refused(const struct type *type, const struct lexical_format *format, uint32_t reason)
+{
+    check_call(type, 100, format, LEXICAL_BUFFER_SIZE, NULL);
+    check_call(type, 100, format, 0, NULL);
+    check(type->length(100, format) == 0, "the length in an invalid format");
+    check(type->buffer_size(format) == 0, "the size in an invalid format");
+    check(lexical_check_format(format) == reason, "what is wrong with a format");
 }
 
 /* ---- numbers ------------------------------------------------------------ */
 
 /* The numbers around 0, the ends of the type, and the powers of the radix. */
-static void check_edges(const struct type *type, const struct format *format)
+static void check_edges(const struct type *type, const struct lexical_format *format)
 {
-    uint64_t mask = greatest_bits(type), middle = mask / 2;
+    uint64_t mask = largest_bits(type), middle = mask / 2;
     for (uint64_t step = 0; step < 3; step++) {
         check_number(type, step & mask, format);
         check_number(type, (0 - step) & mask, format);
@@ -226,8 +240,8 @@ static void check_all_edges(void)
 {
     for (size_t t = 0; t < TYPE_COUNT; t++)
         for (uint32_t radix = 2; radix <= 36; radix++)
-            for (int sign = 0; sign < 2; sign++) {
-                struct format format = { radix, sign == 1, 0, 0 };
+            for (uint32_t sign = 0; sign < 2; sign++) {
+                struct lexical_format format = { radix, sign, 0, 0 };
                 check_edges(&TYPES[t], &format);
             }
 }
@@ -239,10 +253,11 @@ static void check_short_types(void)
         if (TYPES[t].bits > 16)
             continue;
         for (uint32_t radix = 2; radix <= 36; radix++) {
-            struct format format = { radix, false, 0, 0 };
-            for (uint64_t bits = 0; bits <= greatest_bits(&TYPES[t]); bits++) {
+            struct lexical_format format = { radix, 0, 0, 0 };
+            for (uint64_t bits = 0; bits <= largest_bits(&TYPES[t]); bits++) {
                 struct expected expected = plain_text(&TYPES[t], bits, &format);
-                check_call(&TYPES[t], bits, &format, expected.need, &expected);
+                check_call(&TYPES[t], bits, &format, expected.count, &expected);
+                check_call(&TYPES[t], bits, &format, TYPES[t].size, &expected);
             }
         }
     }
@@ -252,7 +267,7 @@ static void check_short_types(void)
 
 static void check_printed(const struct type *type, uint64_t bits, uint32_t radix)
 {
-    struct format format = { radix, false, 0, 0 };
+    struct lexical_format format = { radix, 0, 0, 0 };
     struct expected expected = plain_text(type, bits, &format);
     const char *sign = is_negative(type, bits) ? "-" : "";
     uint64_t digits = magnitude(type, bits);
@@ -262,7 +277,8 @@ static void check_printed(const struct type *type, uint64_t bits, uint32_t radix
         : radix == 10      ? snprintf(text, size, "%s%" PRIu64, sign, digits)
                            : snprintf(text, size, "%s%" PRIX64, sign, digits);
     expected.count = (size_t)count;
-    check_call(type, bits, &format, expected.need, &expected);
+    check_call(type, bits, &format, LEXICAL_BUFFER_SIZE, &expected);
+    check_call(type, bits, &format, expected.count, &expected);
 }
 
 /* The ends of each type, the powers of 2 and of 10, and numbers at random. */
@@ -271,7 +287,7 @@ static void check_against_snprintf(void)
     static const uint32_t RADICES[] = { 8, 10, 16 };
     for (size_t t = 0; t < TYPE_COUNT; t++)
         for (size_t r = 0; r < 3; r++) {
-            uint64_t mask = greatest_bits(&TYPES[t]), random = 88172645463325252u;
+            uint64_t mask = largest_bits(&TYPES[t]), random = 88172645463325252u;
             for (unsigned shift = 0; shift < 64; shift++)
                 for (uint64_t step = 0; step < 3; step++)
                     check_printed(&TYPES[t], (((uint64_t)1 << shift) + step - 1) & mask, RADICES[r]);
@@ -289,9 +305,9 @@ static void check_signed_decimals(void)
 {
     static const int64_t NUMBERS[] = { INT64_MIN, INT64_MIN + 1, INT32_MIN, -1000, -1, 0, 1, INT64_MAX };
     for (size_t i = 0; i < sizeof NUMBERS / sizeof NUMBERS[0]; i++) {
-        char expected[32], buffer[LEXICAL_BUFFER_SIZE];
+        char expected[32], buffer[LEXICAL_BUFFER_SIZE_DECIMAL_I64];
         int wanted = snprintf(expected, sizeof expected, "%" PRId64, NUMBERS[i]);
-        size_t count = lexical_write_i64(NUMBERS[i], 10, false, buffer, sizeof buffer);
+        size_t count = lexical_write_i64(NUMBERS[i], &lexical_standard_format, buffer, sizeof buffer);
         check(count == (size_t)wanted && memcmp(buffer, expected, count) == 0, expected);
     }
 }
@@ -301,42 +317,45 @@ static void check_signed_decimals(void)
 struct row {
     size_t type;
     uint64_t bits;
-    struct format format;
+    struct lexical_format format;
     size_t length;
     const char *text;
 };
-enum { U8, U16, U32, U64, SIZE, I8, I16, I32, I64 };
 
 static const struct row ROWS[] = {
-    { U8, 0, { 10, false, 0, 0 }, 3, "0" },
-    { U64, 1234, { 10, false, 0, 0 }, 20, "1234" },
-    { U64, 1234, { 2, false, 0, 0 }, 11, "10011010010" },
-    { U64, 1234, { 12, false, 0, 0 }, 3, "86A" },
-    { I64, (uint64_t)INT64_MIN, { 10, false, 0, 0 }, 20, "-9223372036854775808" },
-    { U64, UINT64_MAX, { 10, true, 0, 0 }, 21, "+18446744073709551615" },
-    { SIZE, SIZE_MAX, { 16, false, 0, 0 }, 16, "FFFFFFFFFFFFFFFF" },
-    { I8, 0, { 10, true, 0, 0 }, 4, "+0" },
-    { I8, 255, { 10, true, 0, 0 }, 4, "-1" },
-    { I8, 1, { 10, true, 0, 0 }, 4, "+1" },
-    { U32, 4294967295, { 10, false, 0, 0 }, 10, "4294967295" },
-    { U64, 9999999999, { 10, false, 0, 0 }, 128, "9999999999" },
-    { U64, 10000000000, { 10, false, 0, 0 }, 128, "10000000000" },
-    { U8, 128, { 12, false, 0, 0 }, 2, "A8" },
-    { U8, 255, { 3, false, 0, 0 }, 128, "100110" },
-    { U8, 255, { 4, false, 0, 0 }, 128, "3333" },
-    { U8, 255, { 15, false, 0, 0 }, 128, "120" },
-    { U8, 255, { 16, false, 0, 0 }, 128, "FF" },
-    { U16, 65535, { 15, false, 0, 0 }, 128, "14640" },
-    { U16, 65535, { 16, false, 0, 0 }, 128, "FFFF" },
-    { U64, UINT64_MAX, { 36, false, 0, 0 }, 13, "3W5E11264SGSF" },
-    { I8, 128, { 2, false, 0, 0 }, 9, "-10000000" },
-    { I8, 128, { 36, false, 0, 0 }, 3, "-3K" },
-    { I16, 32768, { 10, false, 0, 0 }, 6, "-32768" },
-    { I32, 2147483648, { 10, false, 0, 0 }, 11, "-2147483648" },
-    { U32, 1234567, { 10, false, 3, ',' }, 13, "1,234,567" },
-    { I32, (uint32_t)-1234567, { 10, false, 3, ' ' }, 14, "-1 234 567" },
-    { U16, 0xbeef, { 2, false, 4, '_' }, 19, "1011_1110_1110_1111" },
-    { U64, 999, { 10, true, 3, '.' }, 27, "+999" },
+    { U8, 0, { 10, 0, 0, 0 }, 3, "0" },
+    { U64, 1234, { 10, 0, 0, 0 }, 20, "1234" },
+    { U64, 1234, { 2, 0, 0, 0 }, 11, "10011010010" },
+    { U64, 1234, { 12, 0, 0, 0 }, 3, "86A" },
+    { I64, (uint64_t)INT64_MIN, { 10, 0, 0, 0 }, 20, "-9223372036854775808" },
+    { U64, UINT64_MAX, { 10, 1, 0, 0 }, 21, "+18446744073709551615" },
+    { SIZE, SIZE_MAX, { 16, 0, 0, 0 }, 16, "FFFFFFFFFFFFFFFF" },
+    { I8, 0, { 10, 1, 0, 0 }, 4, "+0" },
+    { I8, 255, { 10, 1, 0, 0 }, 4, "-1" },
+    { I8, 1, { 10, 1, 0, 0 }, 4, "+1" },
+    { U32, 4294967295, { 10, 0, 0, 0 }, 10, "4294967295" },
+    { U64, 9999999999, { 10, 0, 0, 0 }, 128, "9999999999" },
+    { U64, 10000000000, { 10, 0, 0, 0 }, 128, "10000000000" },
+    { U8, 128, { 12, 0, 0, 0 }, 2, "A8" },
+    { U8, 255, { 3, 0, 0, 0 }, 128, "100110" },
+    { U8, 255, { 4, 0, 0, 0 }, 128, "3333" },
+    { U8, 255, { 15, 0, 0, 0 }, 128, "120" },
+    { U8, 255, { 16, 0, 0, 0 }, 128, "FF" },
+    { U16, 65535, { 15, 0, 0, 0 }, 128, "14640" },
+    { U16, 65535, { 16, 0, 0, 0 }, 128, "FFFF" },
+    { U64, UINT64_MAX, { 36, 0, 0, 0 }, 13, "3W5E11264SGSF" },
+    { I8, 128, { 2, 0, 0, 0 }, 9, "-10000000" },
+    { I8, 128, { 36, 0, 0, 0 }, 3, "-3K" },
+    { I16, 32768, { 10, 0, 0, 0 }, 6, "-32768" },
+    { I32, 2147483648, { 10, 0, 0, 0 }, 11, "-2147483648" },
+    { U32, 1234567, { 10, 0, 3, ',' }, 13, "1,234,567" },
+    { I32, (uint32_t)-1234567, { 10, 0, 3, ' ' }, 14, "-1 234 567" },
+    { U16, 0xbeef, { 2, 0, 4, '_' }, 19, "1011_1110_1110_1111" },
+    { U64, 999, { 10, 1, 3, '.' }, 27, "+999" },
+    { U64, 7, { 10, 0, 0, 0 }, 1, "7" },
+    { I32, (uint32_t)-42, { 10, 0, 0, 0 }, 3, "-42" },
+    { U16, 1000, { 10, UINT32_MAX, 3, ',' }, 6, "+1,000" },
+    { U8, 5, { 2, 0, 0, UINT32_MAX }, 3, "101" },
 };
 
 static void check_rows(void)
@@ -353,7 +372,7 @@ static void check_rows(void)
 /* A text of 128 bytes: a sign, and 64 digits `1` with a mark between neighbours. */
 static void check_longest_text(void)
 {
-    struct format format = { 2, true, 1, '_' };
+    struct lexical_format format = { 2, 1, 1, '_' };
     struct expected expected;
     expected.count = 128;
     for (size_t i = 0; i < 128; i++)
@@ -362,7 +381,35 @@ static void check_longest_text(void)
     check_call(&TYPES[U64], UINT64_MAX, &format, 127, NULL);
 }
 
-/* ---- what is refused ---------------------------------------------------- */
+/* ---- what fits, and what is refused -------------------------------------- */
+
+/* Every length of buffer, from none to one that each number fits. */
+static void check_every_length(void)
+{
+    static const struct lexical_format FORMATS[] = {
+        { 10, 0, 0, 0 }, { 10, 1, 0, 0 }, { 10, 0, 3, ',' }, { 2, 0, 0, 0 },
+        { 16, 2, 4, '_' }, { 36, 0, 0, 0 }, { 3, 0, 1, ' ' }, { 7, 256, 64, '~' },
+    };
+    for (size_t t = 0; t < TYPE_COUNT; t++)
+        for (size_t f = 0; f < sizeof FORMATS / sizeof FORMATS[0]; f++)
+            for (uint64_t shift = 0; shift < TYPES[t].bits; shift += 7) {
+                uint64_t bits = largest_bits(&TYPES[t]) >> shift;
+                struct expected expected = plain_text(&TYPES[t], bits, &FORMATS[f]);
+                for (size_t length = 0; length <= LEXICAL_BUFFER_SIZE; length++)
+                    check_call(&TYPES[t], bits, &FORMATS[f], length,
+                               expected.count <= length ? &expected : NULL);
+            }
+}
+
+/* No buffer at all. */
+static void check_null(void)
+{
+    for (size_t t = 0; t < TYPE_COUNT; t++)
+        for (uint32_t radix = 0; radix < 40; radix++) {
+            struct lexical_format format = { radix, 1, radix % 3, ',' };
+            check(TYPES[t].write(1, &format, NULL, 0) == 0, "a NULL buffer");
+        }
+}
 
 static bool is_radix(uint32_t radix)
 {
@@ -375,22 +422,16 @@ static void check_radices(void)
     static const uint32_t GREAT[] = { 256, 256 + 10, 65536 + 2, 0x7fffffff, 0x80000010, UINT32_MAX };
     for (uint32_t i = 0; i < 256 + sizeof GREAT / sizeof GREAT[0]; i++) {
         uint32_t radix = i < 256 ? i : GREAT[i - 256];
-        size_t digits = is_radix(radix) ? digit_count(77, radix) : 0;
-        check(lexical_digit_count(77, radix) == digits, "lexical_digit_count of 77");
         for (size_t t = 0; t < TYPE_COUNT; t++)
             for (uint32_t group_size = 0; group_size < 4; group_size++) {
-                struct format format = { radix, false, group_size, '_' };
-                if (is_radix(radix)) {
+                struct lexical_format format = { radix, 0, group_size, '_' };
+                if (is_radix(radix))
                     check_number(&TYPES[t], 77, &format);
-                    continue;
-                }
-                check_call(&TYPES[t], 77, &format, LEXICAL_BUFFER_SIZE, NULL);
-                check(TYPES[t].buffer_size(&format) == 0, "the size in a bad radix");
+                else
+                    check_refused(&TYPES[t], &format, LEXICAL_INVALID_RADIX);
             }
     }
 }
-
-/* ---- groups ------------------------------------------------------------- */
 
 static bool is_mark(uint32_t mark)
 {
@@ -399,37 +440,64 @@ static bool is_mark(uint32_t mark)
         && !('a' <= mark && mark <= 'z');
 }
 
-/* Every byte as the size and as the mark; a size of 0 is called by its own. */
+/* Every byte as the group size and as the mark. */
 static void check_group_bytes(void)
 {
     static const uint32_t GREAT[] = { 256, 256 + 3, 256 + ',', UINT32_MAX, UINT32_MAX - 3 };
     for (uint32_t i = 0; i < 256 + sizeof GREAT / sizeof GREAT[0]; i++) {
         uint32_t byte = i < 256 ? i : GREAT[i - 256];
         for (size_t t = 0; t < TYPE_COUNT; t++) {
-            struct format by_size = { 10, false, byte, ',' }, by_mark = { 10, false, 3, byte };
-            if (1 <= byte && byte <= 64)
+            struct lexical_format by_size = { 10, 0, byte, ',' }, by_mark = { 10, 0, 3, byte };
+            if (byte <= 64)
                 check_number(&TYPES[t], 100, &by_size);
-            else if (byte != 0)
-                check_call(&TYPES[t], 100, &by_size, LEXICAL_BUFFER_SIZE, NULL);
+            else
+                check_refused(&TYPES[t], &by_size, LEXICAL_INVALID_GROUP_SIZE);
             if (is_mark(byte))
                 check_number(&TYPES[t], 100, &by_mark);
             else
-                check_call(&TYPES[t], 100, &by_mark, LEXICAL_BUFFER_SIZE, NULL);
+                check_refused(&TYPES[t], &by_mark, LEXICAL_INVALID_GROUP_MARK);
         }
     }
 }
 
-/* A size of 0, which stands for no groups in this file alone. */
-static void check_groups_of_none(void)
+/* Which of several invalid fields is named, and that a valid format has none. */
+static void check_order(void)
 {
-    char buffer[LEXICAL_BUFFER_SIZE];
-    memset(buffer, BEFORE, sizeof buffer);
-    check(lexical_write_grouped_u8(1, 10, false, 0, ',', buffer, sizeof buffer) == 0, "u8 in groups of 0");
-    check(lexical_write_grouped_i64(1, 2, true, 0, ',', buffer, sizeof buffer) == 0, "i64 in groups of 0");
-    check(all_are(buffer, sizeof buffer, BEFORE), "the buffer after groups of 0");
-    check(lexical_buffer_size_grouped_u8(10, false, 0, ',') == 0, "the size of u8 in groups of 0");
-    check(lexical_buffer_size_grouped_i64(2, true, 0, ',') == 0, "the size of i64 in groups of 0");
+    static const struct lexical_format RADIX = { 1, 0, 65, '+' }, SIZE_FIRST = { 2, 9, 65, '+' },
+                                       MARK = { 36, 0, 64, '+' }, NONE = { 36, 0, 0, '+' };
+    check(lexical_check_format(&RADIX) == LEXICAL_INVALID_RADIX, "the radix first");
+    check(lexical_check_format(&SIZE_FIRST) == LEXICAL_INVALID_GROUP_SIZE, "the group size next");
+    check(lexical_check_format(&MARK) == LEXICAL_INVALID_GROUP_MARK, "the mark last");
+    check(lexical_check_format(&NONE) == 0, "a mark without groups");
+    check(lexical_check_format(&lexical_standard_format) == 0, "the standard format");
 }
+
+/* Formats of bytes at random: each is valid or refused, and nothing else happens. */
+static void check_random_formats(void)
+{
+    uint64_t random = 88172645463325252u;
+    for (int i = 0; i < 200000; i++) {
+        uint32_t fields[4];
+        for (int f = 0; f < 4; f++) {
+            random ^= random << 13;
+            random ^= random >> 7;
+            random ^= random << 17;
+            fields[f] = (uint32_t)(random >> 16) & (i % 3 == 0 ? UINT32_MAX : f == 0 ? 63 : 127);
+        }
+        struct lexical_format format = { fields[0], fields[1], fields[2], fields[3] };
+        const struct type *type = &TYPES[i % TYPE_COUNT];
+        if (!is_radix(format.radix))
+            check_refused(type, &format, LEXICAL_INVALID_RADIX);
+        else if (format.group_size > 64)
+            check_refused(type, &format, LEXICAL_INVALID_GROUP_SIZE);
+        else if (format.group_size != 0 && !is_mark(format.mark))
+            check_refused(type, &format, LEXICAL_INVALID_GROUP_MARK);
+        else
+            check_number(type, random & largest_bits(type), &format);
+    }
+}
+
+/* ---- groups and sizes ---------------------------------------------------- */
 
 static void check_grouped_edges(void)
 {
@@ -437,13 +505,11 @@ static void check_grouped_edges(void)
     for (size_t t = 0; t < TYPE_COUNT; t++)
         for (size_t r = 0; r < sizeof RADICES / sizeof RADICES[0]; r++)
             for (size_t s = 0; s < sizeof SIZES / sizeof SIZES[0]; s++)
-                for (int sign = 0; sign < 2; sign++) {
-                    struct format format = { RADICES[r], sign == 1, SIZES[s], s % 2 == 0 ? '_' : ' ' };
+                for (uint32_t sign = 0; sign < 2; sign++) {
+                    struct lexical_format format = { RADICES[r], sign, SIZES[s], s % 2 == 0 ? '_' : ' ' };
                     check_edges(&TYPES[t], &format);
                 }
 }
-
-/* ---- sizes, counts and the version -------------------------------------- */
 
 /* In radix 10 the decimal size, the marks and a required sign; else the other. */
 static void check_sizes(void)
@@ -451,55 +517,50 @@ static void check_sizes(void)
     for (size_t t = 0; t < TYPE_COUNT; t++)
         for (uint32_t radix = 2; radix <= 36; radix++)
             for (uint32_t group_size = 0; group_size <= 64; group_size++)
-                for (int sign = 0; sign < 2; sign++) {
-                    struct format format = { radix, sign == 1, group_size, '_' };
+                for (uint32_t sign = 0; sign < 2; sign++) {
+                    struct lexical_format format = { radix, sign, group_size, '_' };
                     size_t digits = TYPES[t].decimal_size;
-                    size_t size = radix != 10 ? TYPES[t].size
-                        : digits + mark_count(&format, digits) + (sign == 1 ? 1 : 0);
+                    size_t marks = group_size == 0 ? 0 : (digits - 1) / group_size;
+                    size_t size = radix != 10 ? TYPES[t].size : digits + marks + sign;
                     check(TYPES[t].buffer_size(&format) == size, "a size");
-                    check(size <= LEXICAL_BUFFER_SIZE, "LEXICAL_BUFFER_SIZE");
                 }
-    check(lexical_buffer_size_u8(10, false) == 3, "the size of u8");
-    check(lexical_buffer_size_u8(10, true) == 4, "the size of u8 with a sign");
-    check(lexical_buffer_size_i64(2, false) == 128, "the size of i64 in radix 2");
-    check(lexical_buffer_size_i8(16, true) == 16, "the size of i8 in radix 16 with a sign");
-    check(lexical_buffer_size_u64(10, true) == 21, "the size of u64 with a sign");
-    check(lexical_buffer_size_grouped_u64(10, false, 3, ',') == 26, "the size of u64 in groups of 3");
 }
 
-static void check_digit_counts(void)
+/* ---- all ----------------------------------------------------------------- */
+
+static unsigned passed, failed;
+
+static void run(const char *name, void (*test)(void))
 {
-    for (uint32_t radix = 2; radix <= 36; radix++) {
-        check(lexical_digit_count(0, radix) == 1, "lexical_digit_count of 0");
-        check(lexical_digit_count(UINT64_MAX, radix) == digit_count(UINT64_MAX, radix), "of the greatest");
-        for (uint64_t power = radix;; power *= radix) {
-            for (uint64_t step = 0; step < 3; step++) {
-                uint64_t number = power + step - 1;
-                check(lexical_digit_count(number, radix) == digit_count(number, radix), "near a power");
-            }
-            if (power > UINT64_MAX / radix)
-                break;
-        }
-    }
-    check(lexical_digit_count(1023, 32) == 2, "lexical_digit_count of 1023");
-    check(lexical_digit_count(1024, 32) == 3, "lexical_digit_count of 1024");
+    unsigned long long before = checks;
+    failures = 0;
+    test();
+    if (failures == 0)
+        passed++;
+    else
+        failed++;
+    printf("%s %s: %llu checks\n", failures == 0 ? "passed" : "failed", name, checks - before);
+    fflush(stdout);
 }
 
 int main(void)
 {
-    check(lexical_version() == LEXICAL_VERSION, "lexical_version");
-    check_rows();
-    check_longest_text();
-    check_all_edges();
-    check_short_types();
-    check_against_snprintf();
-    check_signed_decimals();
-    check_radices();
-    check_group_bytes();
-    check_groups_of_none();
-    check_grouped_edges();
-    check_sizes();
-    check_digit_counts();
-    printf("%llu passed, %llu failed\n", passed, failed);
+    buffers = new_island();
+    formats = new_island();
+    run("rows that are written out", check_rows);
+    run("the longest text", check_longest_text);
+    run("the ends of types and the powers of radices", check_all_edges);
+    run("all numbers of 8 and 16 bits", check_short_types);
+    run("snprintf", check_against_snprintf);
+    run("snprintf of signed numbers", check_signed_decimals);
+    run("every length of buffer", check_every_length);
+    run("no buffer", check_null);
+    run("every byte as the radix", check_radices);
+    run("every byte as the group size and the mark", check_group_bytes);
+    run("the order of invalid fields", check_order);
+    run("formats at random", check_random_formats);
+    run("groups", check_grouped_edges);
+    run("sizes", check_sizes);
+    printf("%u passed, %u failed\n", passed, failed);
     return failed == 0 ? EXIT_SUCCESS : EXIT_FAILURE;
 }

@@ -1,0 +1,42 @@
+-- Texts with no required sign and no groups.
+use Rattle.std.proofs.Common.{◌≡◌, None, ℕ, ◌-◌, ◌+◌, ◌≤◌, ℤ, pos, unsigned_abs, List, ◌++◌, length, take, drop, refl, sym, ap, ◌∙◌, arith}
+use Rattle.std.specs.Prelude.{false}
+use Rattle.std.proofs.lemmas.List.{length-take, take-append-drop}
+use Rattle.lexical_num.specs.Format.{Format}
+use Rattle.lexical_num.specs.Sign.{sign_of}
+use Rattle.lexical_write_integer.specs.Buffer.{Front, Writes, WritesDigits, WritesText}
+use Rattle.lexical_write_integer.proofs.Fronts.{take-Writes}
+use Rattle.lexical_write_integer.proofs.Signs.{WritesText-over}
+use borrow.Rule.Slice.PartMut.{put_mid}
+
+-- the digits of a number that is not negative are its text
+pub digits_alone : (format : Format) (magnitude : ℕ) (before after : List ℕ) (answer : ℕ) →
+    format.required_mantissa_sign ≡ false → format.digit_grouping ≡ None →
+    WritesDigits format.mantissa_radix magnitude before after answer → WritesText (pos magnitude) format before after answer
+digits_alone format magnitude before after answer none plain w = record {
+  text = w.writes.text;
+  is = record { digits = w.writes.text; magnitude = w.writes.is; whole = rw (none, plain) refl };
+  front = w.writes.front;
+  count = w.writes.count;
+}
+
+-- digits that stand at the front are their own front
+own_front : {Is : List ℕ → Type 0} (before written : List ℕ) (count : ℕ) → Writes Is before written count → Front written written (take count written)
+own_front before written count w =
+    let long : length (take count written) ≡ count = ap length (take-Writes before written count w) ∙ sym w.count in
+    record {
+      fits = omega (arith, length-take count written);
+      written = sym (take-append-drop count written) ∙ ap (λ k. take count written ++ drop k written) (sym long);
+    }
+
+-- the digits of the magnitude after the sign are the text
+pub after_sign : (x : ℤ) (format : Format) (magnitude : ℕ) (before between written : List ℕ) (count digits : ℕ) →
+    format.required_mantissa_sign ≡ false → format.digit_grouping ≡ None →
+    count ≡ length (sign_of x false) → take count between ≡ sign_of x false →
+    length between ≡ length before → drop 1 between ≡ drop 1 before → 1 ≤ digits → magnitude ≡ unsigned_abs x →
+    WritesDigits format.mantissa_radix magnitude (take (length between - count) (drop count between)) written digits →
+    WritesText x format before (put_mid count (length between - count) between written) (count + digits)
+after_sign x format magnitude before between written count digits plus none long sign same rest some is w =
+    WritesText-over x format magnitude before between written written count digits digits (rw plus long) (rw plus sign) same rest some is w
+    (rw none (own_front _ written digits w.writes))
+    (rw none (w.writes.count ∙ sym (ap length (take-Writes _ written digits w.writes))))
