@@ -5,6 +5,8 @@
 pub mod amount;
 pub mod any_format;
 pub mod csv_row;
+pub mod date_time;
+pub mod dump_line;
 pub mod fixed_texts;
 pub mod float_format;
 pub mod float_parts;
@@ -12,10 +14,14 @@ pub mod hex_dump;
 pub mod hexadecimal;
 pub mod identifier;
 pub mod key_value;
+pub mod log_entry;
 pub mod log_line;
+pub mod number_list;
 pub mod printed;
+pub mod reading;
 pub mod record;
 pub mod sorted_keys;
+pub mod table_row;
 #[cfg(test)]
 mod tests;
 pub mod weight;
