@@ -3,6 +3,7 @@
 
 // A number with its sign, in a format: the calls that most callers want.
 mod api;
+mod integers;
 pub mod options;
 
 // The digits of a number, by the writer of the radix.

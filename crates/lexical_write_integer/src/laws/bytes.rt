@@ -16,9 +16,7 @@ pub fn text_is_ascii<T: LexicalInteger>(number: T, format: &NumberFormat, text: 
     ensures ascii { IsAscii text.now }
     ensures utf8 { IsUtf8 text.now }
 {
-    // Their contracts say that the radix is at most 36, and that the mark is printable.
-    format.mantissa_radix();
-    format.digit_grouping();
+    format.is_valid();
 }
 
 /// The text of a number in decimal, without a required sign and without groups, is what `{}` prints.
@@ -41,6 +39,5 @@ pub fn text_computed<T: LexicalInteger>(number: T, format: &NumberFormat, text: 
         ↔ (text.now ≡ text_of (T.number number) format.now) }
 {
     number.in_range();
-    // Its contract says that the radix is 2 or more.
-    format.mantissa_radix();
+    format.is_valid();
 }
