@@ -26,6 +26,9 @@ mod table_pairs;
 // In every radix, by little code.
 pub mod compact;
 
+// In every radix, with leading zeros to a fixed width.
+pub mod padded;
+
 // How many digits a number has.
 pub mod digit_count;
 mod logarithm;
