@@ -4,13 +4,16 @@ ghost use Rattle.lexical_c.specs.BufferSize.{IsBufferSize};
 ghost use Rattle.lexical_c.specs.Format.{format_of};
 
 use crate::format::format_of;
-use crate::integer::CInteger;
 use lexical_num::num::LexicalInteger;
-use lexical_write_integer::{FormattedSize, Options, WriteOptions};
+use lexical_write_integer::{FormattedSize, Options, ToLexicalWithOptions, WriteOptions};
 
 // Returns the size that is enough for each number of the type in the format of these parts, and 0
 // where no number can be written in it.
-fn buffer_size<T: CInteger>(radix: u32, required_sign: bool, grouping: Option<(u32, u32)>) -> usize
+fn buffer_size<T: ToLexicalWithOptions>(
+    radix: u32,
+    required_sign: bool,
+    grouping: Option<(u32, u32)>,
+) -> usize
     ensures { IsBufferSize T.least T.greatest T.DECIMAL_WIDTH
         T.FORMATTED_SIZE T.FORMATTED_SIZE_DECIMAL (format_of radix required_sign grouping) result }
 {

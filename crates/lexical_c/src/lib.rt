@@ -6,7 +6,6 @@
 mod buffer_size;
 mod digit_count;
 mod format;
-mod integer;
 mod need;
 mod version;
 mod write;

@@ -5,15 +5,14 @@ ghost use Rattle.lexical_c.specs.Buffer.{WritesOrRefuses};
 ghost use Rattle.lexical_c.specs.Format.{format_of};
 
 use crate::format::format_of;
-use crate::integer::CInteger;
 use crate::need::has_room;
 use lexical_num::num::LexicalInteger;
-use lexical_write_integer::Options;
+use lexical_write_integer::{Options, ToLexicalWithOptions};
 
 /// Writes the number to the front of the buffer, in the format of these parts, and returns the
 /// length of its text. Returns 0 and leaves the buffer as it was where no number can be written in
 /// the format, or the buffer is shorter than the need of the number.
-pub fn write<T: CInteger>(
+pub fn write<T: ToLexicalWithOptions<Options = Options>>(
     value: T,
     radix: u32,
     required_sign: bool,
