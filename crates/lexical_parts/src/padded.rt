@@ -1,32 +1,20 @@
 //! Numbers of a fixed width, with leading zeros.
 
-ghost use Rattle.std.specs.Prelude.{◌^◌, ◌<◌, length};
+ghost use Rattle.std.specs.Prelude.{◌^◌, ◌<◌};
 ghost use Rattle.lexical_num.specs.Format.{IsRadix};
-ghost use Rattle.lexical_parts.specs.Padded.{IsPadded};
+ghost use Rattle.lexical_write_integer.specs.Padded.{IsPadded};
 
 use crate::part::Part;
-use lexical_num::digit::digit_to_char;
-use lexical_num::num::UnsignedInteger;
-
-// Writes the digits of the number over the whole buffer, the last digit first.
-fn fill_with_digits(number: usize, radix: usize, buffer: &mut [u8])
-    requires radix { IsRadix radix }
-    requires fits { number < radix ^ length buffer.old }
-    ensures { IsPadded radix (length buffer.old) number buffer.new }
-{
-    let mut rest = number;
-    for index in (0..buffer.len()).rev() {
-        buffer[index] = digit_to_char((rest % radix) as u32);
-        rest /= radix;
-    }
-}
+use lexical_write_integer::digit_count::DigitCount;
+use lexical_write_integer::padded::write_padded;
+use lexical_write_integer::radix::Radix;
 
 /// The digits of an unsigned number in a radix from 2 to 36, with leading zeros up to the width. The
 /// number is below the radix to the power of the width.
 #[derive(Clone, Copy, Drop)]
 pub struct PaddedDigits<T>(pub u32, pub T, pub usize);
 
-impl<T: UnsignedInteger> Part for PaddedDigits<T> {
+impl<T: DigitCount + Radix> Part for PaddedDigits<T> {
     ghost is_text = { λ part. IsPadded part.0 part.2 (T.magnitude part.1) };
 
     ghost is_valid = { λ part. IsRadix part.0 × (T.magnitude part.1 < part.0 ^ part.2) };
@@ -38,9 +26,7 @@ impl<T: UnsignedInteger> Part for PaddedDigits<T> {
     }
 
     fn write_to(self, buffer: &mut [u8]) -> usize {
-        let digits = &mut buffer[..self.2];
-        fill_with_digits(self.1.as_usize(), self.0 as usize, digits);
-        self.2
+        write_padded(self.1, self.0, &mut buffer[..self.2])
     }
 }
 
@@ -49,7 +35,7 @@ impl<T: UnsignedInteger> Part for PaddedDigits<T> {
 #[derive(Clone, Copy, Drop)]
 pub struct Padded<T>(pub T, pub usize);
 
-impl<T: UnsignedInteger> Part for Padded<T> {
+impl<T: DigitCount + Radix> Part for Padded<T> {
     ghost is_text = { λ part. IsPadded 10 part.1 (T.magnitude part.0) };
 
     ghost is_valid = { λ part. T.magnitude part.0 < 10 ^ part.1 };

@@ -1,6 +1,6 @@
 -- A date and a time of day.
 use Rattle.std.specs.Prelude.{ℕ, List}
-use Rattle.lexical_parts.specs.Padded.{IsPadded}
+use Rattle.lexical_write_integer.specs.Padded.{IsPadded}
 use Rattle.lexical_parts.specs.Sequence.{◌then◌, IsStr}
 use Rattle.uses.specs.declared.date_time.DateTime.{DateTime}
 

@@ -1,6 +1,6 @@
 -- A line of a dump.
 use Rattle.std.specs.Prelude.{ℕ, List, slice_index}
-use Rattle.lexical_parts.specs.Padded.{IsPadded}
+use Rattle.lexical_write_integer.specs.Padded.{IsPadded}
 use Rattle.lexical_parts.specs.Sequence.{◌then◌, IsStr}
 
 -- a byte of a list in two hexadecimal digits

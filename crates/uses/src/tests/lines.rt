@@ -7,7 +7,7 @@ use crate::log_line::Level;
 use crate::number_list::{try_write_list, write_entries};
 use crate::reading::write_reading;
 use crate::table_row::write_table_row;
-use lexical_parts::{Byte, Bytes, Decimal, Left, Part};
+use lexical_parts::{Byte, Bytes, Decimal, Left, Padded, PaddedDigits, Part};
 use std::process::Abort;
 
 const NOON: DateTime = DateTime {
@@ -117,11 +117,14 @@ fn settings_without_a_number(rt: HostRuntime) {
     check(&rt, &buffer, 7, b"limit=\n");
 }
 
+// The first line of parts that the README shows, and a write to its text.
 #[test]
 fn texts_for_writing(rt: HostRuntime) {
-    let mut buffer = [7; 8];
-    let text = ("n=", Decimal(40u8)).to_text(&mut buffer);
-    assert_eq!(rt; &*text, b"n=40".as_slice());
-    text[0] = b'm';
-    check(&rt, &buffer, 4, b"m=40");
+    let mut buffer = [7; 40];
+    let date = (Padded(2026u16, 4), "-", Padded(11u8, 2), "-", Padded(3u8, 2));
+    let flags = PaddedDigits(16, 255u32, 2);
+    let text = (date, " ", Decimal(-12i32), " kg 0x", flags, ";").to_text(&mut buffer);
+    assert_eq!(rt; &*text, b"2026-11-03 -12 kg 0xFF;".as_slice());
+    text[4] = b'.';
+    check(&rt, &buffer, 23, b"2026.11-03 -12 kg 0xFF;");
 }
