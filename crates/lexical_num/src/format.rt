@@ -1,8 +1,8 @@
 //! How a number is to be written.
 
-ghost use Rattle.std.specs.Prelude.{◌≡◌, IsTrue};
+ghost use Rattle.std.specs.Prelude.{◌≡◌, ◌^◌, ◌<◌, IsTrue};
 ghost use Rattle.std.specs.Option.{ForSome};
-ghost use Rattle.lexical_num.specs.Format.{IsRadix, IsGrouping};
+ghost use Rattle.lexical_num.specs.Format.{IsRadix, IsGrouping, IsValid, grouped_length};
 
 use std::marker::Model;
 
@@ -87,10 +87,26 @@ impl NumberFormat {
         self.parts.digit_grouping
     }
 
-    /// Whether numbers can be written in the format: always, since no other format exists.
-    pub fn is_valid(&self) -> bool
-        ensures { IsTrue result }
+    /// How many bytes `count` digits take in the format: in groups a mark stands before each group
+    /// but the first. The count is below 2^63.
+    pub fn grouped_len(&self, count: usize) -> usize
+        requires { count < 2 ^ 63 }
+        ensures { result ≡ grouped_length self.now.digit_grouping count }
     {
+        match self.digit_grouping() {
+            Some((size, _)) => count + count.saturating_sub(1) / usize::from(size),
+            None => count,
+        }
+    }
+
+    /// Whether numbers can be written in the format: always, since no other format exists. Code that
+    /// rests on the parts of a format has their ranges from this call.
+    pub fn is_valid(&self) -> bool
+        ensures always { IsTrue result }
+        ensures valid { IsValid self.now }
+    {
+        // What is invariant of the parts is known where they are read.
+        let _ = &self.parts;
         true
     }
 }

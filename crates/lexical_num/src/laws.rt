@@ -1,14 +1,12 @@
 //! What `==`, `<` and `clone` say of formats, builders and options. The traits are derived; each
 //! function here is one call of them, with a contract over the parts.
 
-ghost use Rattle.std.specs.Prelude.{◌≡◌, ◌↔◌, IsTrue, IfOk};
-ghost use Rattle.std.specs.declared.cmp.Ordering.TheVariants.{Equal};
+ghost use Rattle.std.specs.Prelude.{◌≡◌, ◌↔◌, IsTrue, Ok};
 
 use crate::format::NumberFormat;
 use crate::format_builder::NumberFormatBuilder;
 use crate::options::{Options, OptionsBuilder};
 use std::alloc::AllocError;
-use std::cmp::Ordering;
 
 /// Whether two formats are equal: exactly where all their parts are.
 pub fn equal_formats(a: &NumberFormat, b: &NumberFormat) -> bool
@@ -38,23 +36,30 @@ pub fn equal_options_builders(a: &OptionsBuilder, b: &OptionsBuilder) -> bool
     a == b
 }
 
-/// The order of two options: they are equal.
-pub fn order_of_options(a: &Options, b: &Options) -> Ordering
-    ensures { result ≡ Equal }
-{
-    a.cmp(b)
-}
-
-/// The order of two builders of options: they are equal.
-pub fn order_of_options_builders(a: &OptionsBuilder, b: &OptionsBuilder) -> Ordering
-    ensures { result ≡ Equal }
-{
-    a.cmp(b)
-}
-
-/// A clone of a format, which equals it.
+/// A clone of a format: an equal one.
 pub fn clone_of_format(format: &NumberFormat) -> Result<NumberFormat, AllocError>
-    ensures { IfOk result (λ clone. clone ≡ format.now) }
+    ensures { result ≡ Ok format.now }
 {
     format.clone()
+}
+
+/// A clone of a builder: an equal one.
+pub fn clone_of_builder(builder: &NumberFormatBuilder) -> Result<NumberFormatBuilder, AllocError>
+    ensures { result ≡ Ok builder.now }
+{
+    builder.clone()
+}
+
+/// A clone of options.
+pub fn clone_of_options(options: &Options) -> Result<Options, AllocError>
+    ensures { result ≡ Ok options.now }
+{
+    options.clone()
+}
+
+/// A clone of a builder of options.
+pub fn clone_of_options_builder(builder: &OptionsBuilder) -> Result<OptionsBuilder, AllocError>
+    ensures { result ≡ Ok builder.now }
+{
+    builder.clone()
 }

@@ -1,7 +1,7 @@
 //! The integer types, as contracts and generic code see them.
 #![tactic(auto, using(crate::proofs::LeadingZeros::leading_zeros))]
 
-ghost use Rattle.std.specs.Prelude.{◌≡◌, ℕ, ℤ, pos, negsuc, ◌-◌, ◌/◌, ◌%◌, ◌^◌, ◌<◌, ◌≤◌, ◌≤ℤ◌, ◌↔◌, IsTrue, refl};
+ghost use Rattle.std.specs.Prelude.{◌≡◌, ℕ, ℤ, pos, negsuc, ◌-◌, ◌/◌, ◌%◌, ◌^◌, ◌<◌, ◌≤◌, ◌≤ℤ◌, ◌<ℤ◌, ◌↔◌, IsTrue, refl};
 ghost use Rattle.std.proofs.Common.{rules, lit≤};
 ghost use Rattle.lexical_num.specs.DecimalWidth.{IsDecimalWidth, is_decimal_width};
 ghost use Rattle.lexical_num.specs.Range.{IsRange, IsUnsigned, unsigned, signed};
@@ -32,6 +32,10 @@ pub trait LexicalInteger: Copy {
         ensures at_least { least ≤ℤ number self }
         ensures at_most { number self ≤ℤ greatest };
 
+    /// Whether the number is below 0.
+    fn is_negative(self) -> bool
+        ensures { IsTrue result ↔ number self <ℤ pos 0 };
+
     ghost decimal_width: { IsDecimalWidth least greatest DECIMAL_WIDTH };
 
     ghost range_of_bits: { IsRange BITS least greatest };
@@ -57,6 +61,10 @@ impl LexicalInteger for u8 {
     ghost range_of_bits = { unsigned 8 is_8 };
 
     fn in_range(self) {}
+
+    fn is_negative(self) -> bool {
+        false
+    }
 }
 
 impl LexicalInteger for u16 {
@@ -79,6 +87,10 @@ impl LexicalInteger for u16 {
     ghost range_of_bits = { unsigned 16 is_16 };
 
     fn in_range(self) {}
+
+    fn is_negative(self) -> bool {
+        false
+    }
 }
 
 impl LexicalInteger for u32 {
@@ -101,6 +113,10 @@ impl LexicalInteger for u32 {
     ghost range_of_bits = { unsigned 32 is_32 };
 
     fn in_range(self) {}
+
+    fn is_negative(self) -> bool {
+        false
+    }
 }
 
 impl LexicalInteger for u64 {
@@ -123,6 +139,10 @@ impl LexicalInteger for u64 {
     ghost range_of_bits = { unsigned 64 is_64 };
 
     fn in_range(self) {}
+
+    fn is_negative(self) -> bool {
+        false
+    }
 }
 
 impl LexicalInteger for usize {
@@ -145,6 +165,10 @@ impl LexicalInteger for usize {
     ghost range_of_bits = { unsigned 64 is_64 };
 
     fn in_range(self) {}
+
+    fn is_negative(self) -> bool {
+        false
+    }
 }
 
 impl LexicalInteger for i8 {
@@ -167,6 +191,11 @@ impl LexicalInteger for i8 {
     ghost range_of_bits = { signed 8 is_8 };
 
     fn in_range(self) {}
+
+    fn is_negative(self) -> bool {
+        // Neither 0 nor any number above it is.
+        self < 0
+    }
 }
 
 impl LexicalInteger for i16 {
@@ -189,6 +218,10 @@ impl LexicalInteger for i16 {
     ghost range_of_bits = { signed 16 is_16 };
 
     fn in_range(self) {}
+
+    fn is_negative(self) -> bool {
+        self < 0
+    }
 }
 
 impl LexicalInteger for i32 {
@@ -211,6 +244,10 @@ impl LexicalInteger for i32 {
     ghost range_of_bits = { signed 32 is_32 };
 
     fn in_range(self) {}
+
+    fn is_negative(self) -> bool {
+        self < 0
+    }
 }
 
 impl LexicalInteger for i64 {
@@ -233,6 +270,10 @@ impl LexicalInteger for i64 {
     ghost range_of_bits = { signed 64 is_64 };
 
     fn in_range(self) {}
+
+    fn is_negative(self) -> bool {
+        self < 0
+    }
 }
 
 impl LexicalInteger for isize {
@@ -255,6 +296,10 @@ impl LexicalInteger for isize {
     ghost range_of_bits = { signed 64 is_64 };
 
     fn in_range(self) {}
+
+    fn is_negative(self) -> bool {
+        self < 0
+    }
 }
 
 /// An unsigned integer type, with the arithmetic that writing digits takes.

@@ -61,13 +61,8 @@ impl Options {
         if format.mantissa_radix() != 10 {
             return T::FORMATTED_SIZE;
         }
-        let digits = T::FORMATTED_SIZE_DECIMAL;
-        let marks = match format.digit_grouping() {
-            Some((size, _)) => (digits - 1) / usize::from(size),
-            None => 0,
-        };
         let sign = usize::from(format.required_mantissa_sign());
-        digits + marks + sign
+        sign + format.grouped_len(T::FORMATTED_SIZE_DECIMAL)
     }
 
     /// A builder of the options.

@@ -1,6 +1,6 @@
--- The text of a number in groups: how long it is, and where its bytes stand.
+-- The text of a number in groups: where its bytes stand.
 use Rattle.std.proofs.lemmas.Nat.{le-div}
-use Rattle.std.proofs.Common.{◌≡◌, Some, ℕ, ◌+◌, ◌-◌, ◌*◌, ◌/◌, ◌<◌, ◌≤◌, List, ◌++◌, length, sym, ap, ◌∙◌, arith, ℤ, unsigned_abs, length-append}
+use Rattle.std.proofs.Common.{◌≡◌, Some, ℕ, ◌+◌, ◌-◌, ◌*◌, ◌/◌, ◌<◌, ◌≤◌, List, ◌++◌, length, sym, ap, ◌∙◌, arith, ℤ, unsigned_abs}
 use Rattle.lexical_num.specs.Format.{Format, without_groups}
 use Rattle.lexical_num.specs.Sign.{sign_of}
 use Rattle.lexical_write_integer.specs.DigitCount.{digit_count}
@@ -22,12 +22,6 @@ counted x format text two is = length-IsDigits format.mantissa_radix (unsigned_a
 
 long : (x : ℤ) (format : Format) (grouping : ℕ × ℕ) (text : List ℕ) → 2 ≤ format.mantissa_radix → 0 < grouping.0 → (is : IsText x format text) → length (in_groups grouping is.digits) ≡ count_of x format + (count_of x format - 1) / grouping.0
 long x format grouping text two some is = length-in_groups grouping is.digits some ∙ ap (λ n. n + (n - 1) / grouping.0) (counted x format text two is)
-
-pub length-IsText_groups : (x : ℤ) (format : Format) (grouping : ℕ × ℕ) (text : List ℕ) → 2 ≤ format.mantissa_radix → 0 < grouping.0 → format.digit_grouping ≡ Some grouping → IsText x format text → length text ≡ length (sign_of x format.required_mantissa_sign) + (count_of x format + (count_of x format - 1) / grouping.0)
-length-IsText_groups x format grouping text two some groups is =
-    ap length (whole x format grouping text groups is)
-    ∙ length-append (sign_of x format.required_mantissa_sign) (in_groups grouping is.digits)
-    ∙ ap (λ n. length (sign_of x format.required_mantissa_sign) + n) (long x format grouping text two some is)
 
 -- one group stands without a mark
 pub IsText-one_group : (x : ℤ) (format : Format) (grouping : ℕ × ℕ) (text : List ℕ) → 2 ≤ format.mantissa_radix → format.digit_grouping ≡ Some grouping → IsText x format text → count_of x format ≤ grouping.0 → IsText x (without_groups format) text

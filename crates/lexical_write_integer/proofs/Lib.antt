@@ -17,6 +17,7 @@ pub mod LoopNotes
 pub mod Loops
 pub mod Numerals
 pub mod Orders
+pub mod PaddedDigits
 pub mod PairBlocks
 pub mod Places
 pub mod PlainTexts

@@ -1,37 +1,21 @@
 -- A sign, and the digits after it.
-use Rattle.std.proofs.Common.{◌≡◌, Option, ℕ, ◌+◌, ◌-◌, ◌^◌, ◌<◌, ◌≤◌, ◌≤ℤ◌, ◌==◌, List, ◌++◌, length, take, drop, refl, sym, ap, ◌∙◌, arith, ℤ, unsigned_abs, length-append}
+use Rattle.std.proofs.Common.{◌≡◌, Option, ℕ, ◌+◌, ◌-◌, ◌≤◌, ◌==◌, List, ◌++◌, length, take, drop, refl, sym, ap, ◌∙◌, arith, ℤ, unsigned_abs, length-append}
 use Rattle.std.proofs.lemmas.List.{drop-drop, length-take, length-drop, take-append-drop}
-use Rattle.std.proofs.lemmas.Bool.{cond_both, eqb-true}
 use Rattle.std.proofs.lemmas.Slice.{drop-append-drop}
-use Rattle.lexical_num.specs.DecimalWidth.{IsDecimalWidth}
-use Rattle.lexical_num.specs.Format.{Format, grouped_length}
+use Rattle.lexical_num.specs.Format.{Format}
 use Rattle.lexical_num.specs.Sign.{sign_of}
 use Rattle.lexical_write_integer.specs.Buffer.{Front, Writes, WritesDigits, WritesText}
-use Rattle.lexical_write_integer.specs.DigitCount.{digit_count-le, digit_count}
+use Rattle.lexical_write_integer.specs.DigitCount.{digit_count}
 use Rattle.lexical_write_integer.specs.Groups.{grouped}
 use Rattle.lexical_write_integer.specs.Text.{digits_need, need}
 use Rattle.lexical_write_integer.proofs.GroupedDigits.{length-grouped_ge}
-use Rattle.lexical_write_integer.specs.SizeBound.{grouped_length-ge, grouped_length-more}
+use Rattle.lexical_write_integer.specs.SizeBound.{grouped_length-ge}
 use Rattle.lexical_write_integer.proofs.DigitCounts.{digit_count-pos}
 use Rattle.std.specs.Prelude.{Bool, true, false, if◌then◌else◌}
 use borrow.Rule.Slice.PartMut.{put_mid}
 use Rattle.lexical_write_integer.proofs.Fronts.{Writes-after, take-Writes}
 
 -- ---- digits in groups, after the sign
-
--- a number of the type has no more digits than its need has room for
-digit_count-le_need : (r n width : ℕ) → 1 ≤ width → n < 10 ^ width → digit_count r n ≤ digits_need r n width
-digit_count-le_need r n width some fits =
-    cond_both (r == 10) width (digit_count r n) (λ k. digit_count r n ≤ k)
-    (λ e. digit_count-le r n width some (rw (eqb-true r 10 e) fits))
-    (λ _. omega arith)
-
--- nor in groups
-pub grouped_length-le_need : (x least greatest : ℤ) (format : Format) (width magnitude count : ℕ) → IsDecimalWidth least greatest width → least ≤ℤ x → x ≤ℤ greatest → magnitude ≡ unsigned_abs x → count ≡ digit_count format.mantissa_radix magnitude → length (sign_of x format.required_mantissa_sign) + grouped_length format.digit_grouping count ≤ need x width format
-grouped_length-le_need x least greatest format width magnitude count decimal low high same counted =
-    let few = digit_count-le_need format.mantissa_radix (unsigned_abs x) width decimal.some (decimal.enough x low high) in
-    let count_is : count ≡ digit_count format.mantissa_radix (unsigned_abs x) = counted ∙ ap (digit_count format.mantissa_radix) same in
-    omega (arith, grouped_length-more format.digit_grouping count (digits_need format.mantissa_radix (unsigned_abs x) width) 0 (omega (arith, few, count_is)))
 
 -- a text of some kind, in groups
 record IsGrouped (grouping : Option (ℕ × ℕ)) (Is : List ℕ → Type 0) (text : List ℕ) : Type 0 where
@@ -57,11 +41,11 @@ Writes-grouped grouping before between after count answer w front long =
     }
 
 -- the digits of the magnitude after the sign, in the groups of the format, are the text
-pub WritesText-after : (x : ℤ) (format : Format) (magnitude : ℕ) (before between written after : List ℕ) (count digits answer : ℕ) → count ≡ length (sign_of x format.required_mantissa_sign) → Front before between (sign_of x format.required_mantissa_sign) → magnitude ≡ unsigned_abs x → WritesDigits format.mantissa_radix magnitude (take (length between - count) (drop count between)) written digits → Front written after (grouped format.digit_grouping (take digits written)) → answer ≡ length (grouped format.digit_grouping (take digits written)) → WritesText x format before (put_mid count (length between - count) between after) (count + answer)
-WritesText-after x format magnitude before between written after count digits answer long front same w groups answered =
+pub WritesText-after : (x : ℤ) (format : Format) (before between written after : List ℕ) (count digits answer : ℕ) → count ≡ length (sign_of x format.required_mantissa_sign) → Front before between (sign_of x format.required_mantissa_sign) → WritesDigits format.mantissa_radix (unsigned_abs x) (take (length between - count) (drop count between)) written digits → Front written after (grouped format.digit_grouping (take digits written)) → answer ≡ length (grouped format.digit_grouping (take digits written)) → WritesText x format before (put_mid count (length between - count) between after) (count + answer)
+WritesText-after x format before between written after count digits answer long front w groups answered =
     Writes-after _ before between after count (length between - count) answer long front
     (λ text is. record { digits = is.digits; magnitude = is.is; whole = ap (λ following. sign_of x format.required_mantissa_sign ++ following) is.whole })
-    (Writes-grouped format.digit_grouping _ written after digits answer (rw same at w.writes) groups answered)
+    (Writes-grouped format.digit_grouping _ written after digits answer w.writes groups answered)
 
 -- ---- a sign that may be none, and a first byte that is written in any case
 
@@ -79,15 +63,15 @@ Writes-over before between after answer long rest some w =
       count = w.count;
     }
 
-pub WritesText-over : (x : ℤ) (format : Format) (magnitude : ℕ) (before between written after : List ℕ) (count digits answer : ℕ) → count ≡ length (sign_of x format.required_mantissa_sign) → take count between ≡ sign_of x format.required_mantissa_sign → length between ≡ length before → drop 1 between ≡ drop 1 before → 1 ≤ digits → magnitude ≡ unsigned_abs x → WritesDigits format.mantissa_radix magnitude (take (length between - count) (drop count between)) written digits → Front written after (grouped format.digit_grouping (take digits written)) → answer ≡ length (grouped format.digit_grouping (take digits written)) → WritesText x format before (put_mid count (length between - count) between after) (count + answer)
-WritesText-over x format magnitude before between written after count digits answer long sign same rest some is w groups answered =
+pub WritesText-over : (x : ℤ) (format : Format) (before between written after : List ℕ) (count digits answer : ℕ) → count ≡ length (sign_of x format.required_mantissa_sign) → take count between ≡ sign_of x format.required_mantissa_sign → length between ≡ length before → drop 1 between ≡ drop 1 before → 1 ≤ digits → WritesDigits format.mantissa_radix (unsigned_abs x) (take (length between - count) (drop count between)) written digits → Front written after (grouped format.digit_grouping (take digits written)) → answer ≡ length (grouped format.digit_grouping (take digits written)) → WritesText x format before (put_mid count (length between - count) between after) (count + answer)
+WritesText-over x format before between written after count digits answer long sign same rest some w groups answered =
     let front : Front between between (sign_of x format.required_mantissa_sign) = record {
       fits = omega (arith, ap length sign, length-take count between);
       written = sym (take-append-drop count between) ∙ ap (λ xs. xs ++ drop count between) sign ∙ ap (λ k. sign_of x format.required_mantissa_sign ++ drop k between) long;
     } in
     let all = ap length (take-Writes _ written digits w.writes) in
     let more = length-grouped_ge format.digit_grouping (take digits written) in
-    Writes-over before between _ _ same rest (omega (arith, w.count)) (WritesText-after x format magnitude between between written after count digits answer long front is w groups answered)
+    Writes-over before between _ _ same rest (omega (arith, w.count)) (WritesText-after x format between between written after count digits answer long front w groups answered)
 
 -- a text has at least one byte
 one_of : (b : Bool) (m n : ℕ) → 1 ≤ m → 1 ≤ n → 1 ≤ (if b then m else n)

@@ -9,6 +9,7 @@ pub mod Logarithm
 pub mod LoopTurns
 pub mod Numeral
 pub mod Order
+pub mod Padded
 pub mod PowersOfTen
 pub mod Sequence
 pub mod SizeBound

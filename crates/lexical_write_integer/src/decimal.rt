@@ -155,6 +155,7 @@ pub trait Decimal: DecimalCount {
     fn decimal(self, buffer: &mut [u8]) -> usize
         requires { Self.DECIMAL_WIDTH ≤ length buffer.old }
         ensures digits { WritesDigits 10 (Self.magnitude self) buffer.old buffer.new result }
+        ensures short { result ≤ Self.DECIMAL_WIDTH }
     {
         self.decimal_counted(buffer, &mut Turns::new())
     }
@@ -164,7 +165,8 @@ pub trait Decimal: DecimalCount {
     fn decimal_signed(self, buffer: &mut [u8]) -> usize
         requires number { Self.magnitude self < 10 ^ SIGNED_WIDTH }
         requires room { SIGNED_WIDTH ≤ length buffer.old }
-        ensures digits { WritesDigits 10 (Self.magnitude self) buffer.old buffer.new result };
+        ensures digits { WritesDigits 10 (Self.magnitude self) buffer.old buffer.new result }
+        ensures short { result ≤ SIGNED_WIDTH };
 
     /// `decimal`, under the same condition, with its turns counted: one for each pair of digits
     /// after the first.
@@ -172,6 +174,7 @@ pub trait Decimal: DecimalCount {
         requires { Self.DECIMAL_WIDTH ≤ length buffer.old }
         ensures writes { WritesDecimal (Self.magnitude self) (decimal_notes Self.BITS (Self.magnitude self))
             buffer.old buffer.new turns.old turns.new result }
+        ensures short { result ≤ Self.DECIMAL_WIDTH }
         ensures few { length turns.new ≤ length turns.old + 9 };
 
     ghost signed_width: { let greatest = 2 ^ (Self.BITS - 1) - 1 in

@@ -86,6 +86,8 @@ fn divide_while_long<T: UnsignedInteger>(
 pub fn slow_digit_count_counted<T: UnsignedInteger>(x: T, radix: u32, turns: &mut Turns) -> usize
     requires { IsRadix radix }
     ensures count { result ≡ digit_count radix (T.magnitude x) }
+    ensures some { 1 ≤ result }
+    ensures at_most_64 { result ≤ 64 }
     ensures notes { turns.new ≡ turns.old ++ slow_notes radix (T.magnitude x) }
     ensures turns { length turns.new ≡ length turns.old + slow_turns result }
 {
@@ -102,9 +104,12 @@ pub fn slow_digit_count_counted<T: UnsignedInteger>(x: T, radix: u32, turns: &mu
 pub fn digit_count_counted<T: DecimalCount>(x: T, radix: u32, turns: &mut Turns) -> usize
     requires { IsRadix radix }
     ensures count { result ≡ digit_count radix (T.magnitude x) }
+    ensures some { 1 ≤ result }
+    ensures at_most_64 { result ≤ 64 }
     ensures notes { turns.new ≡ turns.old ++ count_notes radix (T.magnitude x) }
     ensures turns { length turns.new ≡ length turns.old + count_turns radix result }
 {
+    x.fits_bits();
     match radix {
         2 => fast_log2(x) + 1,
         4 => fast_log2(x) / 2 + 1,
@@ -121,12 +126,16 @@ pub trait DigitCount: DecimalCount {
     /// How many digits the number has. The radix is from 2 to 36.
     fn digit_count(self, radix: u32) -> usize
         requires { IsRadix radix }
-        ensures { result ≡ digit_count radix (Self.magnitude self) };
+        ensures count { result ≡ digit_count radix (Self.magnitude self) }
+        ensures some { 1 ≤ result }
+        ensures at_most_64 { result ≤ 64 };
 
     /// How many digits the number has, by divisions in every radix. The radix is from 2 to 36.
     fn slow_digit_count(self, radix: u32) -> usize
         requires { IsRadix radix }
-        ensures { result ≡ digit_count radix (Self.magnitude self) };
+        ensures count { result ≡ digit_count radix (Self.magnitude self) }
+        ensures some { 1 ≤ result }
+        ensures at_most_64 { result ≤ 64 };
 }
 
 impl DigitCount for u8 {

@@ -15,6 +15,7 @@ pub fn group_digits(count: usize, format: &NumberFormat, buffer: &mut [u8]) -> u
     ensures groups { Front buffer.old buffer.new
         (grouped format.now.digit_grouping (take count buffer.old)) }
     ensures count { result ≡ length (grouped format.now.digit_grouping (take count buffer.old)) }
+    ensures total { result ≡ grouped_length format.now.digit_grouping count }
 {
     match format.digit_grouping() {
         Some((size, mark)) => spread(count, usize::from(size), mark, buffer),
@@ -34,6 +35,7 @@ fn spread(count: usize, size: usize, mark: u8, buffer: &mut [u8]) -> usize
     requires room { count + (count - 1) / size ≤ length buffer.old }
     ensures groups { Front buffer.old buffer.new (in_groups (size, mark) (take count buffer.old)) }
     ensures count { result ≡ length (in_groups (size, mark) (take count buffer.old)) }
+    ensures total { result ≡ count + (count - 1) / size }
 {
     let total = count + (count - 1) / size;
     let mut left = count;

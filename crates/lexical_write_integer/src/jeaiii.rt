@@ -66,6 +66,7 @@ fn write_64(n: u64, buffer: &mut [u8], turns: &mut Turns) -> usize
 pub fn from_u8(n: u8, buffer: &mut [u8]) -> usize
     requires { 3 ≤ length buffer.old }
     ensures digits { WritesDigits 10 n buffer.old buffer.new result }
+    ensures short { result ≤ 3 }
 {
     from_u8_counted(n, buffer, &mut Turns::new())
 }
@@ -75,6 +76,7 @@ pub fn from_u8(n: u8, buffer: &mut [u8]) -> usize
 pub fn from_u16(n: u16, buffer: &mut [u8]) -> usize
     requires { 5 ≤ length buffer.old }
     ensures digits { WritesDigits 10 n buffer.old buffer.new result }
+    ensures short { result ≤ 5 }
 {
     from_u16_counted(n, buffer, &mut Turns::new())
 }
@@ -84,6 +86,7 @@ pub fn from_u16(n: u16, buffer: &mut [u8]) -> usize
 pub fn from_u32(n: u32, buffer: &mut [u8]) -> usize
     requires { 10 ≤ length buffer.old }
     ensures digits { WritesDigits 10 n buffer.old buffer.new result }
+    ensures short { result ≤ 10 }
 {
     from_u32_counted(n, buffer, &mut Turns::new())
 }
@@ -93,6 +96,7 @@ pub fn from_u32(n: u32, buffer: &mut [u8]) -> usize
 pub fn from_u64(n: u64, buffer: &mut [u8]) -> usize
     requires { 20 ≤ length buffer.old }
     ensures digits { WritesDigits 10 n buffer.old buffer.new result }
+    ensures short { result ≤ 20 }
 {
     from_u64_counted(n, buffer, &mut Turns::new())
 }
@@ -103,6 +107,7 @@ pub fn from_i64(n: u64, buffer: &mut [u8]) -> usize
     requires number { n < 10 ^ 19 }
     requires room { 19 ≤ length buffer.old }
     ensures digits { WritesDigits 10 n buffer.old buffer.new result }
+    ensures short { result ≤ 19 }
 {
     from_i64_counted(n, buffer, &mut Turns::new())
 }
@@ -111,6 +116,7 @@ pub fn from_i64(n: u64, buffer: &mut [u8]) -> usize
 pub fn from_u8_counted(n: u8, buffer: &mut [u8], turns: &mut Turns) -> usize
     requires { 3 ≤ length buffer.old }
     ensures writes { WritesDecimal n (decimal_notes_32 n) buffer.old buffer.new turns.old turns.new result }
+    ensures short { result ≤ 3 }
     ensures few { length turns.new ≤ length turns.old + 9 }
 {
     let number = u32::from(n);
@@ -125,6 +131,7 @@ pub fn from_u8_counted(n: u8, buffer: &mut [u8], turns: &mut Turns) -> usize
 pub fn from_u16_counted(n: u16, buffer: &mut [u8], turns: &mut Turns) -> usize
     requires { 5 ≤ length buffer.old }
     ensures writes { WritesDecimal n (decimal_notes_32 n) buffer.old buffer.new turns.old turns.new result }
+    ensures short { result ≤ 5 }
     ensures few { length turns.new ≤ length turns.old + 9 }
 {
     write_32(u32::from(n), buffer, turns)
@@ -134,6 +141,7 @@ pub fn from_u16_counted(n: u16, buffer: &mut [u8], turns: &mut Turns) -> usize
 pub fn from_u32_counted(n: u32, buffer: &mut [u8], turns: &mut Turns) -> usize
     requires { 10 ≤ length buffer.old }
     ensures writes { WritesDecimal n (decimal_notes_32 n) buffer.old buffer.new turns.old turns.new result }
+    ensures short { result ≤ 10 }
     ensures few { length turns.new ≤ length turns.old + 9 }
 {
     write_32(n, buffer, turns)
@@ -143,6 +151,7 @@ pub fn from_u32_counted(n: u32, buffer: &mut [u8], turns: &mut Turns) -> usize
 pub fn from_u64_counted(n: u64, buffer: &mut [u8], turns: &mut Turns) -> usize
     requires { 20 ≤ length buffer.old }
     ensures writes { WritesDecimal n (decimal_notes_64 n) buffer.old buffer.new turns.old turns.new result }
+    ensures short { result ≤ 20 }
     ensures few { length turns.new ≤ length turns.old + 9 }
 {
     write_64(n, buffer, turns)
@@ -153,6 +162,7 @@ pub fn from_i64_counted(n: u64, buffer: &mut [u8], turns: &mut Turns) -> usize
     requires number { n < 10 ^ 19 }
     requires room { 19 ≤ length buffer.old }
     ensures writes { WritesDecimal n (decimal_notes_64 n) buffer.old buffer.new turns.old turns.new result }
+    ensures short { result ≤ 19 }
     ensures few { length turns.new ≤ length turns.old + 9 }
 {
     write_64(n, buffer, turns)

@@ -14,12 +14,12 @@ mod comparison;
 mod groups;
 mod room;
 
-pub use bytes::{digits_computed, text_computed, text_is_ascii, text_is_decimal};
+pub use bytes::{digits_computed, padded_computed, text_computed, text_is_ascii, text_is_decimal};
 pub use comparison::{digits_tell, texts_tell};
-pub use groups::{text_in_groups, text_without_marks};
+pub use groups::text_in_groups;
 use lexical_num::format::NumberFormat;
 use lexical_num::num::{LexicalInteger, UnsignedInteger};
-pub use room::{size_is_enough, text_fits};
+pub use room::{size_is_enough, text_length};
 
 /// The digit count of a number is the least count, of 1 or more, whose power of the radix the
 /// number is below. It is at most 64.
@@ -63,36 +63,9 @@ pub fn numeral_unique(radix: u32, a: &[u8], b: &[u8])
     ensures { a.now ≡ b.now }
 {}
 
-/// A number has one text in a radix, whose length is its digit count.
-pub fn digits_unique(radix: u32, value: u64, a: &[u8], b: &[u8])
-    requires radix { IsRadix radix }
-    requires a { IsDigits radix value a.now }
-    requires b { IsDigits radix value b.now }
-    ensures same { a.now ≡ b.now }
-    ensures count { length a.now ≡ digit_count radix value }
-{}
-
 /// Two numbers with the same digits in a radix are the same number.
 pub fn equal_digits(radix: u32, a: u64, b: u64)
     ensures { (digits : List ℕ) → IsDigits radix a digits → IsDigits radix b digits → a ≡ b }
-{}
-
-/// The value of two lists of digits, one after the other.
-pub fn value_of_append(radix: u32, front: &[u8], back: &[u8])
-    ensures { value_of radix (front.now ++ back.now)
-        ≡ value_of radix front.now * radix ^ length back.now + value_of radix back.now }
-{}
-
-/// The numeral of a number that is not below the radix to `count` is the numeral of its quotient
-/// by that, and then `count` digits with the remainder as their value.
-pub fn numeral_split(radix: u32, count: u32, value: u64)
-    requires radix { IsRadix radix }
-    requires long { radix ^ count ≤ value }
-    ensures numeral { (front back : List ℕ) → IsNumeralOf radix (value / radix ^ count) front
-        → IsBlockOf radix count (value % radix ^ count) back
-        → IsNumeralOf radix value (front ++ back) }
-    ensures digits { digit_count radix value
-        ≡ digit_count radix (value / radix ^ count) + count }
 {}
 
 /// Two numbers with one text in a format are the same number.
@@ -110,6 +83,5 @@ pub fn order<T: LexicalInteger>(a: T, b: T, format: &NumberFormat)
         → IsText (T.number b) format.now t
         → (T.number a <ℤ T.number b) ↔ ComesBefore s t }
 {
-    // Its contract says that the radix is 2 or more.
-    format.mantissa_radix();
+    format.is_valid();
 }

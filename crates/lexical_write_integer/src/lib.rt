@@ -3,6 +3,7 @@
 
 // A number with its sign, in a format: the calls that most callers want.
 mod api;
+mod integers;
 pub mod options;
 
 // The digits of a number, by the writer of the radix.
@@ -24,6 +25,9 @@ pub use lexical_tables as table;
 
 // In every radix, by little code.
 pub mod compact;
+
+// In every radix, with leading zeros to a fixed width.
+pub mod padded;
 
 // How many digits a number has.
 pub mod digit_count;

@@ -28,6 +28,7 @@ pub fn write_integer_counted<T: Decimal + DigitCount>(
     requires radix { IsRadix radix }
     requires room { digits_need radix (T.magnitude value) T.DECIMAL_WIDTH ≤ length buffer.old }
     ensures digits { WritesDigits radix (T.magnitude value) buffer.old buffer.new result }
+    ensures short { result ≤ digits_need radix (T.magnitude value) T.DECIMAL_WIDTH }
     ensures notes { turns.new ≡ turns.old ++ write_notes T.BITS radix (T.magnitude value) }
     ensures turns { length turns.new ≡ length turns.old + write_turns radix result }
     ensures few_turns { length turns.new ≤ length turns.old + 21 }
@@ -46,6 +47,7 @@ fn write_magnitude<T: Decimal + Radix>(value: T, radix: u32, buffer: &mut [u8]) 
     requires number { radix ≡ 10 → T.magnitude value < 10 ^ T.SIGNED_WIDTH }
     requires room { digits_need radix (T.magnitude value) T.SIGNED_WIDTH ≤ length buffer.old }
     ensures digits { WritesDigits radix (T.magnitude value) buffer.old buffer.new result }
+    ensures short { result ≤ digits_need radix (T.magnitude value) T.SIGNED_WIDTH }
 {
     if radix == 10 {
         value.decimal_signed(buffer)
@@ -64,7 +66,8 @@ pub trait WriteInteger: Decimal + Radix {
         requires radix { IsRadix radix }
         requires room { digits_need radix (Self.magnitude self) Self.DECIMAL_WIDTH
             ≤ length buffer.old }
-        ensures digits { WritesDigits radix (Self.magnitude self) buffer.old buffer.new result };
+        ensures digits { WritesDigits radix (Self.magnitude self) buffer.old buffer.new result }
+        ensures short { result ≤ digits_need radix (Self.magnitude self) Self.DECIMAL_WIDTH };
 
     /// In a radix from 2 to 36, of the magnitude of a signed number.
     fn write_integer_signed(self, radix: u32, buffer: &mut [u8]) -> usize
@@ -72,7 +75,8 @@ pub trait WriteInteger: Decimal + Radix {
         requires number { radix ≡ 10 → Self.magnitude self < 10 ^ Self.SIGNED_WIDTH }
         requires room { digits_need radix (Self.magnitude self) Self.SIGNED_WIDTH
             ≤ length buffer.old }
-        ensures digits { WritesDigits radix (Self.magnitude self) buffer.old buffer.new result };
+        ensures digits { WritesDigits radix (Self.magnitude self) buffer.old buffer.new result }
+        ensures short { result ≤ digits_need radix (Self.magnitude self) Self.SIGNED_WIDTH };
 
     /// In the mantissa radix of the format.
     fn write_mantissa(self, format: &NumberFormat, buffer: &mut [u8]) -> usize
@@ -80,6 +84,8 @@ pub trait WriteInteger: Decimal + Radix {
             ≤ length buffer.old }
         ensures digits { WritesDigits format.now.mantissa_radix (Self.magnitude self)
             buffer.old buffer.new result }
+        ensures short { result
+            ≤ digits_need format.now.mantissa_radix (Self.magnitude self) Self.DECIMAL_WIDTH }
     {
         self.write_integer(format.mantissa_radix(), buffer)
     }
@@ -92,6 +98,8 @@ pub trait WriteInteger: Decimal + Radix {
             ≤ length buffer.old }
         ensures digits { WritesDigits format.now.mantissa_radix (Self.magnitude self)
             buffer.old buffer.new result }
+        ensures short { result
+            ≤ digits_need format.now.mantissa_radix (Self.magnitude self) Self.SIGNED_WIDTH }
     {
         self.write_integer_signed(format.mantissa_radix(), buffer)
     }
@@ -102,6 +110,8 @@ pub trait WriteInteger: Decimal + Radix {
             ≤ length buffer.old }
         ensures digits { WritesDigits format.now.exponent_radix (Self.magnitude self)
             buffer.old buffer.new result }
+        ensures short { result
+            ≤ digits_need format.now.exponent_radix (Self.magnitude self) Self.DECIMAL_WIDTH }
     {
         self.write_integer(format.exponent_radix(), buffer)
     }
@@ -114,6 +124,8 @@ pub trait WriteInteger: Decimal + Radix {
             ≤ length buffer.old }
         ensures digits { WritesDigits format.now.exponent_radix (Self.magnitude self)
             buffer.old buffer.new result }
+        ensures short { result
+            ≤ digits_need format.now.exponent_radix (Self.magnitude self) Self.SIGNED_WIDTH }
     {
         self.write_integer_signed(format.exponent_radix(), buffer)
     }

@@ -1,15 +1,15 @@
 //! An amount of money, in groups of three digits.
 
-ghost use Rattle.std.specs.Prelude.{◌≡◌, List, ℕ, Some, codes, length, pos};
+ghost use Rattle.std.specs.Prelude.{◌≡◌, List, ℕ, Some, length, pos};
 ghost use Rattle.lexical_num.specs.Format.{standard};
 ghost use Rattle.lexical_write_integer.specs.Buffer.{Writes};
-ghost use Rattle.lexical_write_integer.specs.Sequence.{IsExactly, Then};
 ghost use Rattle.lexical_write_integer.specs.Text.{IsText};
+ghost use Rattle.lexical_parts.specs.Sequence.{◌then◌, IsStr};
 
-use lexical_write_integer::buffer::copy_to_front;
+use lexical_parts::{Formatted, Part};
 use lexical_write_integer::digit_count::DigitCount;
 use lexical_write_integer::laws::{digit_count_is_least, text_in_groups};
-use lexical_write_integer::{NumberFormat, NumberFormatBuilder, Options, ToLexicalWithOptions};
+use lexical_write_integer::{NumberFormat, NumberFormatBuilder};
 
 // Decimal, with a comma between two groups of three digits.
 fn in_thousands() -> NumberFormat
@@ -21,17 +21,13 @@ fn in_thousands() -> NumberFormat
 }
 
 /// Writes `$` and the amount in decimal, with a comma between two groups of three digits, to the
-/// front of the array, and returns how many bytes they are. The bytes after them are as before.
-#[tactic(auto, using(lexical_write_integer::proofs::Sequences::in_order))]
+/// start of the array, and returns how many bytes they are. The bytes after them are unchanged.
 pub fn write_amount(dollars: i64, buffer: &mut [u8; 27]) -> usize
     ensures { Writes
-        (Then (IsExactly (codes "$"))
-        (IsText dollars (record standard { digit_grouping = Some (3, 44) })))
+        (IsStr "$" then IsText dollars (record standard { digit_grouping = Some (3, 44) }))
         buffer.old buffer.new result }
 {
-    let start = copy_to_front(b"$", buffer);
-    start
-        + dollars.write_lexical_with_options(&mut buffer[start..], &in_thousands(), &Options::new())
+    ("$", Formatted(dollars, &in_thousands())).write_to(buffer)
 }
 
 /// Returns how many bytes an amount that is not negative takes without the `$`, so that amounts can

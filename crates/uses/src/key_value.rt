@@ -1,27 +1,35 @@
 //! A line of settings: a key, `=` and a number.
 
-ghost use Rattle.std.specs.Prelude.{◌+◌, ◌≤◌, codes, length};
-ghost use Rattle.lexical_num.specs.Format.{standard};
+ghost use Rattle.std.specs.Prelude.{◌≡◌, ◌+◌, ◌≤◌, IfNone, IfSome, length};
 ghost use Rattle.lexical_write_integer.specs.Buffer.{Writes};
-ghost use Rattle.lexical_write_integer.specs.Sequence.{IsExactly, Then};
-ghost use Rattle.lexical_write_integer.specs.Text.{IsText};
+ghost use Rattle.lexical_write_integer.specs.Sequence.{IsExactly};
+ghost use Rattle.lexical_parts.specs.Optional.{IsOptional};
+ghost use Rattle.lexical_parts.specs.Sequence.{◌then◌, IsDecimal, IsStr};
 
-use lexical_write_integer::ToLexical;
-use lexical_write_integer::buffer::copy_to_front;
+use lexical_parts::{Bytes, Decimal, Part};
 
-/// Writes the key, `=`, the number in decimal and a newline to the front of the buffer, and returns
-/// how many bytes they are. The bytes after them are as before. Beside the key the buffer has 22
-/// bytes.
-#[tactic(auto, using(lexical_write_integer::proofs::Sequences::in_order))]
+/// Writes the key, `=`, the number in decimal and a newline to the start of the buffer, and returns
+/// how many bytes they are. The bytes after them are unchanged. In addition to the key, the buffer
+/// has 22 bytes.
 pub fn write_setting(key: &[u8], number: i64, buffer: &mut [u8]) -> usize
     requires { length key.now + 22 ≤ length buffer.old }
-    ensures { Writes
-        (Then (Then (Then (IsExactly key.now) (IsExactly (codes "="))) (IsText number standard))
-        (IsExactly (codes "\n")))
+    ensures { Writes (IsExactly key.now then IsStr "=" then IsDecimal number then IsStr "\n")
         buffer.old buffer.new result }
 {
-    let name = copy_to_front(key, buffer);
-    let start = name + copy_to_front(b"=", &mut buffer[name..]);
-    let end = start + number.write_lexical(&mut buffer[start..]);
-    end + copy_to_front(b"\n", &mut buffer[end..])
+    (Bytes(key), "=", Decimal(number), "\n").write_to(buffer)
+}
+
+/// Writes a setting as `write_setting` does, without a number if there is none. If the buffer does
+/// not have the room, returns `None`, and the buffer is unchanged.
+pub fn try_write_setting(
+    key: &str,
+    number: Option<Decimal<i64>>,
+    buffer: &mut [u8],
+) -> Option<usize>
+    ensures text { IfSome result (Writes
+        (IsExactly key.now then IsStr "=" then IsOptional (λ d. IsDecimal d.0) number
+        then IsStr "\n") buffer.old buffer.new) }
+    ensures none { IfNone result (buffer.new ≡ buffer.old) }
+{
+    (key, "=", number, "\n").try_write_to(buffer)
 }

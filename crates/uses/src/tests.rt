@@ -1,6 +1,7 @@
+mod lines;
+
 use crate::amount::{width_of_amount, write_amount};
 use crate::any_format::{have_same_text, text_if_room, text_of_any, text_of_i64};
-use crate::csv_row::write_row;
 use crate::fixed_texts::{million, white};
 use crate::float_format::float_format;
 use crate::float_parts::write_parts;
@@ -186,13 +187,6 @@ fn compared_identifiers(rt: HostRuntime) {
     assert_eq!(rt; identifier(71, &mut buffer), b"1Z".as_slice());
     assert!(rt; have_same_identifier(71, 71));
     assert!(rt; !have_same_identifier(71, 72));
-}
-
-#[test]
-fn rows_of_a_table(rt: HostRuntime) {
-    let mut buffer = [7; 36];
-    assert_eq!(rt; write_row(&[-1, 0, 23], &mut buffer), 8);
-    assert!(rt; buffer.starts_with(b"-1,0,23\n\x07"));
 }
 
 #[test]

@@ -1,10 +1,11 @@
 //! Which bytes the text of a number is.
 
-ghost use Rattle.std.specs.Prelude.{◌≡◌, ◌↔◌};
+ghost use Rattle.std.specs.Prelude.{◌≡◌, ◌^◌, ◌<◌, ◌↔◌};
 ghost use Rattle.std.specs.Fmt.{signed_decimal};
 ghost use Rattle.std.specs.Str.{IsAscii, IsUtf8};
 ghost use Rattle.lexical_num.specs.Format.{IsRadix, standard};
-ghost use Rattle.lexical_write_integer.specs.Computed.{digits_text, text_of};
+ghost use Rattle.lexical_write_integer.specs.Computed.{digits_text, padded_text, text_of};
+ghost use Rattle.lexical_write_integer.specs.Padded.{IsPadded};
 ghost use Rattle.lexical_write_integer.specs.Text.{IsDigits, IsText};
 
 use lexical_num::format::NumberFormat;
@@ -16,9 +17,7 @@ pub fn text_is_ascii<T: LexicalInteger>(number: T, format: &NumberFormat, text: 
     ensures ascii { IsAscii text.now }
     ensures utf8 { IsUtf8 text.now }
 {
-    // Their contracts say that the radix is at most 36, and that the mark is printable.
-    format.mantissa_radix();
-    format.digit_grouping();
+    format.is_valid();
 }
 
 /// The text of a number in decimal, without a required sign and without groups, is what `{}` prints.
@@ -41,6 +40,13 @@ pub fn text_computed<T: LexicalInteger>(number: T, format: &NumberFormat, text: 
         ↔ (text.now ≡ text_of (T.number number) format.now) }
 {
     number.in_range();
-    // Its contract says that the radix is 2 or more.
-    format.mantissa_radix();
+    format.is_valid();
 }
+
+/// The text of a number with leading zeros is the list that `padded_text` computes, and no other. The
+/// number is below the radix to the width.
+pub fn padded_computed(radix: u32, width: usize, value: u64, text: &[u8])
+    requires radix { IsRadix radix }
+    requires fits { value < radix ^ width }
+    ensures { IsPadded radix width value text.now ↔ (text.now ≡ padded_text radix width value) }
+{}

@@ -21,6 +21,5 @@ pub fn texts_tell<T: LexicalInteger>(a: T, b: T, format: &NumberFormat, s: &[u8]
     requires t { IsText (T.number b) format.now t.now }
     ensures { (s.now ≡ t.now) ↔ (T.number a ≡ T.number b) }
 {
-    // Its contract says that the radix is 2 or more.
-    format.mantissa_radix();
+    format.is_valid();
 }

@@ -10,16 +10,12 @@ ghost use Rattle.lexical_write_integer.specs.Text.{IsText};
 use lexical_num::format::NumberFormat;
 use lexical_num::num::LexicalInteger;
 
-/// The length of a text in groups of `size` digits, and where its bytes stand. A number of at most
+/// Where the bytes of a text in groups of `size` digits stand. A number of at most
 /// `size` digits has the text that it has without groups. Places are counted from the right: a
 /// digit keeps the digits to its right, with a mark for each whole group of them, and a mark stands
 /// before each number of whole groups.
 pub fn text_in_groups<T: LexicalInteger>(number: T, format: &NumberFormat, size: u8, mark: u8)
     requires { format.now.digit_grouping ≡ Some (size, mark) }
-    ensures length { (text : List ℕ) → IsText (T.number number) format.now text
-        → length text ≡ length (sign_of (T.number number) format.now.required_mantissa_sign)
-        + grouped_length (Some (size, mark))
-        (digit_count format.now.mantissa_radix (unsigned_abs (T.number number))) }
     ensures one_group { (text : List ℕ) → IsText (T.number number) format.now text
         → digit_count format.now.mantissa_radix (unsigned_abs (T.number number)) ≤ size
         → IsText (T.number number) (without_groups format.now) text }
@@ -33,19 +29,5 @@ pub fn text_in_groups<T: LexicalInteger>(number: T, format: &NumberFormat, size:
         → groups * size < digit_count format.now.mantissa_radix (unsigned_abs (T.number number))
         → from_right text (groups * size + groups - 1) ≡ mark }
 {
-    // Their contracts say that the radix is 2 or more, and that a group has a digit or more.
-    format.mantissa_radix();
-    format.digit_grouping();
-}
-
-/// The text of a number without the marks between its groups is its text in the same format
-/// without groups.
-pub fn text_without_marks<T: LexicalInteger>(number: T, format: &NumberFormat)
-    ensures { (text : List ℕ) → IsText (T.number number) format.now text
-        → IsText (T.number number) (without_groups format.now)
-        (without_marks format.now.digit_grouping text) }
-{
-    // Their contracts say that the radix is at most 36, and that the mark is no character of a text.
-    format.mantissa_radix();
-    format.digit_grouping();
+    format.is_valid();
 }

@@ -1,8 +1,11 @@
 //! How much room the text of a number takes.
 
-ghost use Rattle.std.specs.Prelude.{◌≤◌, List, ℕ, length};
+ghost use Rattle.std.specs.Prelude.{◌≡◌, ◌+◌, ◌≤◌, List, ℕ, length, unsigned_abs};
+ghost use Rattle.lexical_num.specs.Format.{grouped_length};
+ghost use Rattle.lexical_num.specs.Sign.{sign_of};
 ghost use Rattle.lexical_num.specs.Size.{size_in};
 ghost use Rattle.lexical_num.specs.declared.constants.TheConstants.{BUFFER_SIZE};
+ghost use Rattle.lexical_write_integer.specs.DigitCount.{digit_count};
 ghost use Rattle.lexical_write_integer.specs.Text.{IsText, need};
 
 use crate::api::ToLexicalWithOptions;
@@ -17,17 +20,15 @@ pub fn size_is_enough<T: ToLexicalWithOptions>(value: T, format: &NumberFormat)
     ensures buffer { size_in T.FORMATTED_SIZE T.FORMATTED_SIZE_DECIMAL format.now ≤ BUFFER_SIZE }
 {
     value.in_range();
-    // Its contract says that the radix is from 2 to 36.
-    format.mantissa_radix();
+    format.is_valid();
 }
 
-/// The text of a number is no longer than the buffer that its writer asks for.
-pub fn text_fits<T: LexicalInteger>(number: T, format: &NumberFormat)
+/// How long the text of a number is: its sign, its digits and the marks between their groups.
+pub fn text_length<T: LexicalInteger>(number: T, format: &NumberFormat)
     ensures { (text : List ℕ) → IsText (T.number number) format.now text
-        → length text ≤ need (T.number number) T.DECIMAL_WIDTH format.now }
+        → length text ≡ length (sign_of (T.number number) format.now.required_mantissa_sign)
+        + grouped_length format.now.digit_grouping
+        (digit_count format.now.mantissa_radix (unsigned_abs (T.number number))) }
 {
-    number.in_range();
-    // Their contracts say that the radix is 2 or more, and that a group has a digit or more.
-    format.mantissa_radix();
-    format.digit_grouping();
+    format.is_valid();
 }

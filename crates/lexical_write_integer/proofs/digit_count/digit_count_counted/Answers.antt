@@ -1,5 +1,6 @@
 use Rattle.std.proofs.Common.{refl, sym, arith}
 use Rattle.std.proofs.Math.Nat.{div-one}
+use Rattle.lexical_write_integer.proofs.DigitCounts.{digit_count-le_64, digit_count-pos}
 use Rattle.lexical_write_integer.proofs.Logarithms.{digit_count-log2}
 use Rattle.lexical_write_integer.proofs.LoopNotes.{none_noted, slow_noted, not_at_once}
 use Rattle.lexical_write_integer.proofs.digit_count.digit_count_counted.Goals as goal
@@ -18,6 +19,13 @@ returns-in-16-clause-count g c = rw c.in-16.is (sym (digit_count-log2 (g.T.Unsig
 
 pub returns-in-32-clause-count : goal.returns-in-32-clause-count
 returns-in-32-clause-count g c = rw c.in-32.is (sym (digit_count-log2 (g.T.UnsignedInteger.magnitude c.args.x) c.fast_log2-in-32.result 5 (omega arith) c.fast_log2-in-32.ensures.log2))
+
+pub returns-in-10-clause-some : goal.returns-in-10-clause-some
+returns-in-10-clause-some g c = omega (arith, c.decimal_count.ensures, digit_count-pos 10 (g.T.UnsignedInteger.magnitude c.args.x))
+
+pub returns-in-10-clause-at_most_64 : goal.returns-in-10-clause-at_most_64
+returns-in-10-clause-at_most_64 g c =
+    omega (arith, c.decimal_count.ensures, digit_count-le_64 10 _ _ (omega arith) g.met.T.UnsignedInteger.range.width c.fits_bits.ensures)
 
 pub returns-in-2-clause-notes : goal.returns-in-2-clause-notes
 returns-in-2-clause-notes g c = none_noted _ _ _ (rw c.in-2.is refl)

@@ -1,4 +1,4 @@
-use Rattle.std.proofs.Common.{◌≡◌, ◌+◌, ◌++◌, arith}
+use Rattle.std.proofs.Common.{◌≡◌, ◌+◌, ◌≤◌, ◌++◌, arith}
 use Rattle.lexical_write_integer.specs.DigitCount.{digit_count}
 use Rattle.lexical_write_integer.specs.LoopTurns.{slow_notes}
 use Rattle.lexical_write_integer.proofs.DigitCounts.{digit_count-le_64}
@@ -12,16 +12,23 @@ count_is g c = slow_count-is c.requires.at_least_two c.divide_while_long-left.en
 notes_are : (g : _) (c : After-divide_while_long-by_one g) → c.divide_while_long-by_one.new.turns ≡ c.args.turns.now ++ slow_notes c.args.radix (g.T.UnsignedInteger.magnitude c.args.x)
 notes_are g c = slow_notes-are c.requires.at_least_two c.divide_while_long-left.ensures c.divide_while_long-left-2.ensures c.divide_while_long-by_one.ensures
 
+at_most_64 : (g : _) (c : After-divide_while_long-by_one g) → digit_count c.args.radix (g.T.UnsignedInteger.magnitude c.args.x) ≤ 64
+at_most_64 g c = digit_count-le_64 _ _ _ c.requires.at_least_two g.met.T.UnsignedInteger.range.width c.fits_bits.ensures
+
 pub overflow_add-result-2 : goal.overflow_add-result-2
-overflow_add-result-2 g c =
-    omega (arith, count_is g c, digit_count-le_64 _ _ _ c.requires.at_least_two g.met.T.UnsignedInteger.range.width c.fits_bits.ensures)
+overflow_add-result-2 g c = omega (arith, count_is g c, at_most_64 g c)
 
 pub overflow_add-result-3 : goal.overflow_add-result-3
-overflow_add-result-3 g c =
-    omega (arith, count_is g c, digit_count-le_64 _ _ _ c.requires.at_least_two g.met.T.UnsignedInteger.range.width c.fits_bits.ensures)
+overflow_add-result-3 g c = omega (arith, count_is g c, at_most_64 g c)
 
 pub returns-clause-count : goal.returns-clause-count
 returns-clause-count g c = count_is g c
+
+pub returns-clause-some : goal.returns-clause-some
+returns-clause-some g c = omega arith
+
+pub returns-clause-at_most_64 : goal.returns-clause-at_most_64
+returns-clause-at_most_64 g c = omega (arith, count_is g c, at_most_64 g c)
 
 pub returns-clause-notes : goal.returns-clause-notes
 returns-clause-notes g c = notes_are g c

@@ -1,0 +1,14 @@
+-- A text in a column.
+use Rattle.std.specs.Prelude.{◌≡◌, ℕ, ◌-◌, List, ◌++◌, length, replicate}
+
+-- a text of the kind, and spaces after it up to the width
+pub record IsAtLeft (width : ℕ) (Is : List ℕ → Type 0) (text : List ℕ) : Type 0 where
+  pub cell : List ℕ
+  pub is : Is cell
+  pub whole : text ≡ cell ++ replicate (width - length cell) 32
+
+-- spaces, and then a text of the kind up to the width
+pub record IsAtRight (width : ℕ) (Is : List ℕ → Type 0) (text : List ℕ) : Type 0 where
+  pub cell : List ℕ
+  pub is : Is cell
+  pub whole : text ≡ replicate (width - length cell) 32 ++ cell

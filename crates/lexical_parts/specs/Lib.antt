@@ -1,0 +1,4 @@
+pub mod Column
+pub mod Joined
+pub mod Optional
+pub mod Sequence

@@ -1,0 +1,77 @@
+//! Parts that are numbers.
+
+ghost use Rattle.std.specs.Prelude.{⊤};
+ghost use Rattle.lexical_num.specs.Format.{IsRadix, standard};
+ghost use Rattle.lexical_num.specs.Size.{size_in};
+ghost use Rattle.lexical_write_integer.specs.DigitCount.{digit_count};
+ghost use Rattle.lexical_write_integer.specs.Text.{IsDigits, IsText};
+
+use crate::part::Part;
+use lexical_num::options::STANDARD as OPTIONS;
+use lexical_write_integer::digit_count::DigitCount;
+use lexical_write_integer::format::STANDARD;
+use lexical_write_integer::laws::size_is_enough;
+use lexical_write_integer::radix::Radix;
+use lexical_write_integer::{NumberFormat, ToLexicalWithOptions};
+
+/// A number in decimal, with a `-` if it is negative.
+#[derive(Clone, Copy, Drop)]
+pub struct Decimal<T>(pub T);
+
+impl<T: ToLexicalWithOptions> Part for Decimal<T> {
+    ghost is_text = { λ part. IsText (T.number part.0) standard };
+
+    ghost is_valid = { λ _. ⊤ };
+
+    ghost room = { λ _. T.FORMATTED_SIZE_DECIMAL };
+
+    fn room(self) -> usize {
+        T::FORMATTED_SIZE_DECIMAL
+    }
+
+    fn write_to(self, buffer: &mut [u8]) -> usize {
+        size_is_enough(self.0, &STANDARD);
+        self.0.write_lexical(buffer)
+    }
+}
+
+/// The digits of an unsigned number in a radix from 2 to 36.
+#[derive(Clone, Copy, Drop)]
+pub struct Digits<T>(pub u32, pub T);
+
+impl<T: Radix + DigitCount> Part for Digits<T> {
+    ghost is_text = { λ part. IsDigits part.0 (T.magnitude part.1) };
+
+    ghost is_valid = { λ part. IsRadix part.0 };
+
+    ghost room = { λ part. digit_count part.0 (T.magnitude part.1) };
+
+    fn room(self) -> usize {
+        self.1.digit_count(self.0)
+    }
+
+    fn write_to(self, buffer: &mut [u8]) -> usize {
+        self.1.radix(self.0, buffer)
+    }
+}
+
+/// A number in a format.
+#[derive(Clone, Copy, Drop)]
+pub struct Formatted<'a, T>(pub T, pub &'a NumberFormat);
+
+impl<T: ToLexicalWithOptions> Part for Formatted<'_, T> {
+    ghost is_text = { λ part. IsText (T.number part.0) part.1.now };
+
+    ghost is_valid = { λ _. ⊤ };
+
+    ghost room = { λ part. size_in T.FORMATTED_SIZE T.FORMATTED_SIZE_DECIMAL part.1.now };
+
+    fn room(self) -> usize {
+        OPTIONS.buffer_size_const::<T>(self.1)
+    }
+
+    fn write_to(self, buffer: &mut [u8]) -> usize {
+        size_is_enough(self.0, self.1);
+        self.0.write_text(buffer, self.1)
+    }
+}

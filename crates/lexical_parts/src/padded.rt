@@ -1,0 +1,52 @@
+//! Numbers of a fixed width, with leading zeros.
+
+ghost use Rattle.std.specs.Prelude.{◌^◌, ◌<◌};
+ghost use Rattle.lexical_num.specs.Format.{IsRadix};
+ghost use Rattle.lexical_write_integer.specs.Padded.{IsPadded};
+
+use crate::part::Part;
+use lexical_write_integer::digit_count::DigitCount;
+use lexical_write_integer::padded::write_padded;
+use lexical_write_integer::radix::Radix;
+
+/// The digits of an unsigned number in a radix from 2 to 36, with leading zeros up to the width. The
+/// number is below the radix to the power of the width.
+#[derive(Clone, Copy, Drop)]
+pub struct PaddedDigits<T>(pub u32, pub T, pub usize);
+
+impl<T: DigitCount + Radix> Part for PaddedDigits<T> {
+    ghost is_text = { λ part. IsPadded part.0 part.2 (T.magnitude part.1) };
+
+    ghost is_valid = { λ part. IsRadix part.0 × (T.magnitude part.1 < part.0 ^ part.2) };
+
+    ghost room = { λ part. part.2 };
+
+    fn room(self) -> usize {
+        self.2
+    }
+
+    fn write_to(self, buffer: &mut [u8]) -> usize {
+        write_padded(self.1, self.0, &mut buffer[..self.2])
+    }
+}
+
+/// An unsigned number in decimal, with leading zeros up to the width. The number is below ten to the
+/// power of the width.
+#[derive(Clone, Copy, Drop)]
+pub struct Padded<T>(pub T, pub usize);
+
+impl<T: DigitCount + Radix> Part for Padded<T> {
+    ghost is_text = { λ part. IsPadded 10 part.1 (T.magnitude part.0) };
+
+    ghost is_valid = { λ part. T.magnitude part.0 < 10 ^ part.1 };
+
+    ghost room = { λ part. part.1 };
+
+    fn room(self) -> usize {
+        self.1
+    }
+
+    fn write_to(self, buffer: &mut [u8]) -> usize {
+        PaddedDigits(10, self.0, self.1).write_to(buffer)
+    }
+}

@@ -1,0 +1,63 @@
+//! Parts that are bytes already.
+
+ghost use Rattle.std.specs.Prelude.{ℕ, [], ◌∷◌, length, ⊤};
+ghost use Rattle.lexical_write_integer.specs.Sequence.{IsExactly};
+
+use crate::part::Part;
+use lexical_write_integer::buffer::copy_to_front;
+
+impl Part for &str {
+    ghost is_text = { λ part. IsExactly part.now };
+
+    ghost is_valid = { λ _. ⊤ };
+
+    ghost room = { λ part. length part.now };
+
+    fn room(self) -> usize {
+        self.len()
+    }
+
+    fn write_to(self, buffer: &mut [u8]) -> usize {
+        copy_to_front(self.as_bytes(), buffer)
+    }
+}
+
+/// These bytes.
+#[derive(Clone, Copy, Drop)]
+pub struct Bytes<'a>(pub &'a [u8]);
+
+impl Part for Bytes<'_> {
+    ghost is_text = { λ part. IsExactly part.0.now };
+
+    ghost is_valid = { λ _. ⊤ };
+
+    ghost room = { λ part. length part.0.now };
+
+    fn room(self) -> usize {
+        self.0.len()
+    }
+
+    fn write_to(self, buffer: &mut [u8]) -> usize {
+        copy_to_front(self.0, buffer)
+    }
+}
+
+/// This byte.
+#[derive(Clone, Copy, Drop)]
+pub struct Byte(pub u8);
+
+impl Part for Byte {
+    ghost is_text = { λ part. IsExactly (part.0 ∷ []) };
+
+    ghost is_valid = { λ _. ⊤ };
+
+    ghost room = { λ _. 1 };
+
+    fn room(self) -> usize {
+        1
+    }
+
+    fn write_to(self, buffer: &mut [u8]) -> usize {
+        copy_to_front(&[self.0], buffer)
+    }
+}

@@ -1,0 +1,303 @@
+//! Tuples of parts: their texts, in order.
+
+ghost use Rattle.std.specs.Prelude.{◌+◌};
+ghost use Rattle.lexical_parts.specs.Sequence.{◌then◌};
+
+use crate::part::Part;
+
+impl<A: Part, B: Part> Part for (A, B) {
+    ghost is_text = { λ p. A.is_text p.0 then B.is_text p.1 };
+
+    ghost is_valid = { λ p. A.is_valid p.0 × B.is_valid p.1 };
+
+    ghost room = { λ p. A.room p.0 + B.room p.1 };
+
+    fn room(self) -> usize {
+        self.0.room().saturating_add(self.1.room())
+    }
+
+    #[tactic(auto, using(lexical_write_integer::proofs::Sequences::in_order))]
+    fn write_to(self, buffer: &mut [u8]) -> usize {
+        let first = self.0.write_to(buffer);
+        first + self.1.write_to(&mut buffer[first..])
+    }
+}
+
+impl<A: Part, B: Part, C: Part> Part for (A, B, C) {
+    ghost is_text = { λ p. A.is_text p.0 then B.is_text p.1 then C.is_text p.2 };
+
+    ghost is_valid = { λ p. A.is_valid p.0 × (B.is_valid p.1 × C.is_valid p.2) };
+
+    ghost room = { λ p. A.room p.0 + (B.room p.1 + C.room p.2) };
+
+    fn room(self) -> usize {
+        (self.0, (self.1, self.2)).room()
+    }
+
+    fn write_to(self, buffer: &mut [u8]) -> usize {
+        (self.0, (self.1, self.2)).write_to(buffer)
+    }
+}
+
+impl<A: Part, B: Part, C: Part, D: Part> Part for (A, B, C, D) {
+    ghost is_text = { λ p. A.is_text p.0 then B.is_text p.1 then C.is_text p.2 then D.is_text p.3 };
+
+    ghost is_valid = { λ p. A.is_valid p.0 × (B.is_valid p.1 × (C.is_valid p.2 × D.is_valid p.3)) };
+
+    ghost room = { λ p. A.room p.0 + (B.room p.1 + (C.room p.2 + D.room p.3)) };
+
+    fn room(self) -> usize {
+        (self.0, (self.1, self.2, self.3)).room()
+    }
+
+    fn write_to(self, buffer: &mut [u8]) -> usize {
+        (self.0, (self.1, self.2, self.3)).write_to(buffer)
+    }
+}
+
+impl<A: Part, B: Part, C: Part, D: Part, E: Part> Part for (A, B, C, D, E) {
+    ghost is_text = { λ p. A.is_text p.0 then B.is_text p.1 then C.is_text p.2 then D.is_text p.3
+        then E.is_text p.4 };
+
+    ghost is_valid = { λ p. A.is_valid p.0 × (B.is_valid p.1 × (C.is_valid p.2 × (D.is_valid p.3
+        × E.is_valid p.4))) };
+
+    ghost room = { λ p. A.room p.0 + (B.room p.1 + (C.room p.2 + (D.room p.3 + E.room p.4))) };
+
+    fn room(self) -> usize {
+        (self.0, (self.1, self.2, self.3, self.4)).room()
+    }
+
+    fn write_to(self, buffer: &mut [u8]) -> usize {
+        (self.0, (self.1, self.2, self.3, self.4)).write_to(buffer)
+    }
+}
+
+impl<A: Part, B: Part, C: Part, D: Part, E: Part, F: Part> Part for (A, B, C, D, E, F) {
+    ghost is_text = { λ p. A.is_text p.0 then B.is_text p.1 then C.is_text p.2 then D.is_text p.3
+        then E.is_text p.4 then F.is_text p.5 };
+
+    ghost is_valid = { λ p. A.is_valid p.0 × (B.is_valid p.1 × (C.is_valid p.2 × (D.is_valid p.3
+        × (E.is_valid p.4 × F.is_valid p.5)))) };
+
+    ghost room = { λ p. A.room p.0 + (B.room p.1 + (C.room p.2 + (D.room p.3 + (E.room p.4
+        + F.room p.5)))) };
+
+    fn room(self) -> usize {
+        (self.0, (self.1, self.2, self.3, self.4, self.5)).room()
+    }
+
+    fn write_to(self, buffer: &mut [u8]) -> usize {
+        (self.0, (self.1, self.2, self.3, self.4, self.5)).write_to(buffer)
+    }
+}
+
+impl<A: Part, B: Part, C: Part, D: Part, E: Part, F: Part, G: Part> Part for (A, B, C, D, E, F, G) {
+    ghost is_text = { λ p. A.is_text p.0 then B.is_text p.1 then C.is_text p.2 then D.is_text p.3
+        then E.is_text p.4 then F.is_text p.5 then G.is_text p.6 };
+
+    ghost is_valid = { λ p. A.is_valid p.0 × (B.is_valid p.1 × (C.is_valid p.2 × (D.is_valid p.3
+        × (E.is_valid p.4 × (F.is_valid p.5 × G.is_valid p.6))))) };
+
+    ghost room = { λ p. A.room p.0 + (B.room p.1 + (C.room p.2 + (D.room p.3 + (E.room p.4
+        + (F.room p.5 + G.room p.6))))) };
+
+    fn room(self) -> usize {
+        (self.0, (self.1, self.2, self.3, self.4, self.5, self.6)).room()
+    }
+
+    fn write_to(self, buffer: &mut [u8]) -> usize {
+        (self.0, (self.1, self.2, self.3, self.4, self.5, self.6)).write_to(buffer)
+    }
+}
+
+impl<A: Part, B: Part, C: Part, D: Part, E: Part, F: Part, G: Part, H: Part> Part
+    for (A, B, C, D, E, F, G, H) {
+    ghost is_text = { λ p. A.is_text p.0 then B.is_text p.1 then C.is_text p.2 then D.is_text p.3
+        then E.is_text p.4 then F.is_text p.5 then G.is_text p.6 then H.is_text p.7 };
+
+    ghost is_valid = { λ p. A.is_valid p.0 × (B.is_valid p.1 × (C.is_valid p.2 × (D.is_valid p.3
+        × (E.is_valid p.4 × (F.is_valid p.5 × (G.is_valid p.6 × H.is_valid p.7)))))) };
+
+    ghost room = { λ p. A.room p.0 + (B.room p.1 + (C.room p.2 + (D.room p.3 + (E.room p.4
+        + (F.room p.5 + (G.room p.6 + H.room p.7)))))) };
+
+    fn room(self) -> usize {
+        (
+            self.0,
+            (self.1, self.2, self.3, self.4, self.5, self.6, self.7),
+        )
+            .room()
+    }
+
+    fn write_to(self, buffer: &mut [u8]) -> usize {
+        (
+            self.0,
+            (self.1, self.2, self.3, self.4, self.5, self.6, self.7),
+        )
+            .write_to(buffer)
+    }
+}
+
+impl<A: Part, B: Part, C: Part, D: Part, E: Part, F: Part, G: Part, H: Part, I: Part> Part
+    for (A, B, C, D, E, F, G, H, I) {
+    ghost is_text = { λ p. A.is_text p.0 then B.is_text p.1 then C.is_text p.2 then D.is_text p.3
+        then E.is_text p.4 then F.is_text p.5 then G.is_text p.6 then H.is_text p.7
+        then I.is_text p.8 };
+
+    ghost is_valid = { λ p. A.is_valid p.0 × (B.is_valid p.1 × (C.is_valid p.2 × (D.is_valid p.3
+        × (E.is_valid p.4 × (F.is_valid p.5 × (G.is_valid p.6 × (H.is_valid p.7
+        × I.is_valid p.8))))))) };
+
+    ghost room = { λ p. A.room p.0 + (B.room p.1 + (C.room p.2 + (D.room p.3 + (E.room p.4
+        + (F.room p.5 + (G.room p.6 + (H.room p.7 + I.room p.8))))))) };
+
+    fn room(self) -> usize {
+        (
+            self.0,
+            (
+                self.1, self.2, self.3, self.4, self.5, self.6, self.7, self.8,
+            ),
+        )
+            .room()
+    }
+
+    fn write_to(self, buffer: &mut [u8]) -> usize {
+        (
+            self.0,
+            (
+                self.1, self.2, self.3, self.4, self.5, self.6, self.7, self.8,
+            ),
+        )
+            .write_to(buffer)
+    }
+}
+
+impl<A: Part, B: Part, C: Part, D: Part, E: Part, F: Part, G: Part, H: Part, I: Part, J: Part> Part
+    for (A, B, C, D, E, F, G, H, I, J) {
+    ghost is_text = { λ p. A.is_text p.0 then B.is_text p.1 then C.is_text p.2 then D.is_text p.3
+        then E.is_text p.4 then F.is_text p.5 then G.is_text p.6 then H.is_text p.7
+        then I.is_text p.8 then J.is_text p.9 };
+
+    ghost is_valid = { λ p. A.is_valid p.0 × (B.is_valid p.1 × (C.is_valid p.2 × (D.is_valid p.3
+        × (E.is_valid p.4 × (F.is_valid p.5 × (G.is_valid p.6 × (H.is_valid p.7 × (I.is_valid p.8
+        × J.is_valid p.9)))))))) };
+
+    ghost room = { λ p. A.room p.0 + (B.room p.1 + (C.room p.2 + (D.room p.3 + (E.room p.4
+        + (F.room p.5 + (G.room p.6 + (H.room p.7 + (I.room p.8 + J.room p.9)))))))) };
+
+    fn room(self) -> usize {
+        (
+            self.0,
+            (
+                self.1, self.2, self.3, self.4, self.5, self.6, self.7, self.8, self.9,
+            ),
+        )
+            .room()
+    }
+
+    fn write_to(self, buffer: &mut [u8]) -> usize {
+        (
+            self.0,
+            (
+                self.1, self.2, self.3, self.4, self.5, self.6, self.7, self.8, self.9,
+            ),
+        )
+            .write_to(buffer)
+    }
+}
+
+impl<
+    A: Part,
+    B: Part,
+    C: Part,
+    D: Part,
+    E: Part,
+    F: Part,
+    G: Part,
+    H: Part,
+    I: Part,
+    J: Part,
+    K: Part,
+> Part for (A, B, C, D, E, F, G, H, I, J, K) {
+    ghost is_text = { λ p. A.is_text p.0 then B.is_text p.1 then C.is_text p.2 then D.is_text p.3
+        then E.is_text p.4 then F.is_text p.5 then G.is_text p.6 then H.is_text p.7
+        then I.is_text p.8 then J.is_text p.9 then K.is_text p.10 };
+
+    ghost is_valid = { λ p. A.is_valid p.0 × (B.is_valid p.1 × (C.is_valid p.2 × (D.is_valid p.3
+        × (E.is_valid p.4 × (F.is_valid p.5 × (G.is_valid p.6 × (H.is_valid p.7 × (I.is_valid p.8
+        × (J.is_valid p.9 × K.is_valid p.10))))))))) };
+
+    ghost room = { λ p. A.room p.0 + (B.room p.1 + (C.room p.2 + (D.room p.3 + (E.room p.4
+        + (F.room p.5 + (G.room p.6 + (H.room p.7 + (I.room p.8 + (J.room p.9
+        + K.room p.10))))))))) };
+
+    fn room(self) -> usize {
+        (
+            self.0,
+            (
+                self.1, self.2, self.3, self.4, self.5, self.6, self.7, self.8, self.9, self.10,
+            ),
+        )
+            .room()
+    }
+
+    fn write_to(self, buffer: &mut [u8]) -> usize {
+        (
+            self.0,
+            (
+                self.1, self.2, self.3, self.4, self.5, self.6, self.7, self.8, self.9, self.10,
+            ),
+        )
+            .write_to(buffer)
+    }
+}
+
+impl<
+    A: Part,
+    B: Part,
+    C: Part,
+    D: Part,
+    E: Part,
+    F: Part,
+    G: Part,
+    H: Part,
+    I: Part,
+    J: Part,
+    K: Part,
+    L: Part,
+> Part for (A, B, C, D, E, F, G, H, I, J, K, L) {
+    ghost is_text = { λ p. A.is_text p.0 then B.is_text p.1 then C.is_text p.2 then D.is_text p.3
+        then E.is_text p.4 then F.is_text p.5 then G.is_text p.6 then H.is_text p.7
+        then I.is_text p.8 then J.is_text p.9 then K.is_text p.10 then L.is_text p.11 };
+
+    ghost is_valid = { λ p. A.is_valid p.0 × (B.is_valid p.1 × (C.is_valid p.2 × (D.is_valid p.3
+        × (E.is_valid p.4 × (F.is_valid p.5 × (G.is_valid p.6 × (H.is_valid p.7 × (I.is_valid p.8
+        × (J.is_valid p.9 × (K.is_valid p.10 × L.is_valid p.11)))))))))) };
+
+    ghost room = { λ p. A.room p.0 + (B.room p.1 + (C.room p.2 + (D.room p.3 + (E.room p.4
+        + (F.room p.5 + (G.room p.6 + (H.room p.7 + (I.room p.8 + (J.room p.9 + (K.room p.10
+        + L.room p.11)))))))))) };
+
+    fn room(self) -> usize {
+        (
+            self.0,
+            (
+                self.1, self.2, self.3, self.4, self.5, self.6, self.7, self.8, self.9, self.10,
+                self.11,
+            ),
+        )
+            .room()
+    }
+
+    fn write_to(self, buffer: &mut [u8]) -> usize {
+        (
+            self.0,
+            (
+                self.1, self.2, self.3, self.4, self.5, self.6, self.7, self.8, self.9, self.10,
+                self.11,
+            ),
+        )
+            .write_to(buffer)
+    }
+}

@@ -1,0 +1,11 @@
+use Rattle.lexical_write_integer.specs.Text.{IsText}
+use Rattle.lexical_write_integer.proofs.Fronts.{Writes-is}
+use Rattle.lexical_write_integer.proofs.PlainTexts.{IsText-without_marks}
+use Rattle.lexical_write_integer.proofs.api.ToLexicalWithOptions.write_lexical_with_options.Goals as goal
+
+pub returns-clause-plain : goal.returns-clause-plain
+returns-clause-plain g c =
+    let x = g.Self.LexicalInteger.number c.args.self in
+    let format = c.args.format.now in
+    let valid = c.is_valid.ensures.valid in
+    IsText-without_marks x format _ valid.mantissa.at_most_36 valid.groups (Writes-is {Is = IsText x format} _ _ _ c.write_text.ensures.text)

@@ -1,0 +1,7 @@
+use Rattle.lexical_write_integer.proofs.Lengths.{length-IsText}
+use Rattle.lexical_write_integer.proofs.laws.room.text_length.Goals as goal
+
+pub returns : goal.returns
+returns g c = λ text.
+    let valid = c.is_valid.ensures.valid in
+    length-IsText (g.T.LexicalInteger.number c.args.number) c.args.format.now text valid.mantissa.at_least_two valid.groups

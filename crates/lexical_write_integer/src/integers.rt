@@ -1,0 +1,172 @@
+//! The ten integer types, as writers of their numbers.
+
+ghost use Rattle.std.specs.Prelude.{◌-◌, ◌^◌};
+ghost use Rattle.std.proofs.Common.{lit≤};
+ghost use Rattle.lexical_write_integer.specs.SizeBound.{unsigned_need-le, signed_need-le};
+
+use crate::api::{ToLexical, ToLexicalWithOptions};
+use crate::digit_count::DigitCount;
+use crate::write::WriteInteger;
+use lexical_num::format::NumberFormat;
+use lexical_num::options::Options;
+
+impl ToLexical for u8 {
+    fn write_magnitude(self, format: &NumberFormat, buffer: &mut [u8]) -> usize {
+        self.write_mantissa(format, buffer)
+    }
+
+    fn magnitude_digits(self, radix: u32) -> usize {
+        self.digit_count(radix)
+    }
+}
+
+impl ToLexicalWithOptions for u8 {
+    type Options = Options;
+
+    ghost size_is_enough = { unsigned_need-le (2 ^ 8 - 1) 8 3 16 3 (lit≤ tt) (lit≤ tt) (lit≤ tt) (lit≤ tt) };
+}
+
+impl ToLexical for u16 {
+    fn write_magnitude(self, format: &NumberFormat, buffer: &mut [u8]) -> usize {
+        self.write_mantissa(format, buffer)
+    }
+
+    fn magnitude_digits(self, radix: u32) -> usize {
+        self.digit_count(radix)
+    }
+}
+
+impl ToLexicalWithOptions for u16 {
+    type Options = Options;
+
+    ghost size_is_enough = { unsigned_need-le (2 ^ 16 - 1) 16 5 32 5 (lit≤ tt) (lit≤ tt) (lit≤ tt) (lit≤ tt) };
+}
+
+impl ToLexical for u32 {
+    fn write_magnitude(self, format: &NumberFormat, buffer: &mut [u8]) -> usize {
+        self.write_mantissa(format, buffer)
+    }
+
+    fn magnitude_digits(self, radix: u32) -> usize {
+        self.digit_count(radix)
+    }
+}
+
+impl ToLexicalWithOptions for u32 {
+    type Options = Options;
+
+    ghost size_is_enough = { unsigned_need-le (2 ^ 32 - 1) 32 10 64 10 (lit≤ tt) (lit≤ tt) (lit≤ tt) (lit≤ tt) };
+}
+
+impl ToLexical for u64 {
+    fn write_magnitude(self, format: &NumberFormat, buffer: &mut [u8]) -> usize {
+        self.write_mantissa(format, buffer)
+    }
+
+    fn magnitude_digits(self, radix: u32) -> usize {
+        self.digit_count(radix)
+    }
+}
+
+impl ToLexicalWithOptions for u64 {
+    type Options = Options;
+
+    ghost size_is_enough = { unsigned_need-le (2 ^ 64 - 1) 64 20 128 20 (lit≤ tt) (lit≤ tt) (lit≤ tt) (lit≤ tt) };
+}
+
+impl ToLexical for usize {
+    fn write_magnitude(self, format: &NumberFormat, buffer: &mut [u8]) -> usize {
+        self.write_mantissa(format, buffer)
+    }
+
+    fn magnitude_digits(self, radix: u32) -> usize {
+        self.digit_count(radix)
+    }
+}
+
+impl ToLexicalWithOptions for usize {
+    type Options = Options;
+
+    ghost size_is_enough = { unsigned_need-le (2 ^ 64 - 1) 64 20 128 20 (lit≤ tt) (lit≤ tt) (lit≤ tt) (lit≤ tt) };
+}
+
+impl ToLexical for i8 {
+    fn write_magnitude(self, format: &NumberFormat, buffer: &mut [u8]) -> usize {
+        // The magnitude of the least value fits the unsigned type alone.
+        self.unsigned_abs().write_mantissa_signed(format, buffer)
+    }
+
+    fn magnitude_digits(self, radix: u32) -> usize {
+        self.unsigned_abs().digit_count(radix)
+    }
+}
+
+impl ToLexicalWithOptions for i8 {
+    type Options = Options;
+
+    ghost size_is_enough = { signed_need-le (2 ^ 7 - 1) 8 3 16 4 (lit≤ tt) (lit≤ tt) (lit≤ tt) (lit≤ tt) };
+}
+
+impl ToLexical for i16 {
+    fn write_magnitude(self, format: &NumberFormat, buffer: &mut [u8]) -> usize {
+        self.unsigned_abs().write_mantissa_signed(format, buffer)
+    }
+
+    fn magnitude_digits(self, radix: u32) -> usize {
+        self.unsigned_abs().digit_count(radix)
+    }
+}
+
+impl ToLexicalWithOptions for i16 {
+    type Options = Options;
+
+    ghost size_is_enough = { signed_need-le (2 ^ 15 - 1) 16 5 32 6 (lit≤ tt) (lit≤ tt) (lit≤ tt) (lit≤ tt) };
+}
+
+impl ToLexical for i32 {
+    fn write_magnitude(self, format: &NumberFormat, buffer: &mut [u8]) -> usize {
+        self.unsigned_abs().write_mantissa_signed(format, buffer)
+    }
+
+    fn magnitude_digits(self, radix: u32) -> usize {
+        self.unsigned_abs().digit_count(radix)
+    }
+}
+
+impl ToLexicalWithOptions for i32 {
+    type Options = Options;
+
+    ghost size_is_enough = { signed_need-le (2 ^ 31 - 1) 32 10 64 11 (lit≤ tt) (lit≤ tt) (lit≤ tt) (lit≤ tt) };
+}
+
+impl ToLexical for i64 {
+    fn write_magnitude(self, format: &NumberFormat, buffer: &mut [u8]) -> usize {
+        self.unsigned_abs().write_mantissa_signed(format, buffer)
+    }
+
+    fn magnitude_digits(self, radix: u32) -> usize {
+        self.unsigned_abs().digit_count(radix)
+    }
+}
+
+impl ToLexicalWithOptions for i64 {
+    type Options = Options;
+
+    ghost size_is_enough = { signed_need-le (2 ^ 63 - 1) 64 19 128 20 (lit≤ tt) (lit≤ tt) (lit≤ tt) (lit≤ tt) };
+}
+
+impl ToLexical for isize {
+    fn write_magnitude(self, format: &NumberFormat, buffer: &mut [u8]) -> usize {
+        self.unsigned_abs().write_mantissa_signed(format, buffer)
+    }
+
+    fn magnitude_digits(self, radix: u32) -> usize {
+        self.unsigned_abs().digit_count(radix)
+    }
+}
+
+impl ToLexicalWithOptions for isize {
+    type Options = Options;
+
+    ghost size_is_enough = { signed_need-le (2 ^ 63 - 1) 64 19 128 20 (lit≤ tt) (lit≤ tt) (lit≤ tt) (lit≤ tt) };
+}

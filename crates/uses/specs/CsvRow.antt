@@ -1,0 +1,8 @@
+-- A row of numbers.
+use Rattle.std.specs.Prelude.{ℕ, ℤ, List, codes}
+use Rattle.lexical_parts.specs.Joined.{AreJoined}
+use Rattle.lexical_parts.specs.Sequence.{◌then◌, IsDecimal, IsStr}
+
+-- the numbers with commas between them, and a newline
+abbrev pub IsRow : List ℤ → List ℕ → Type 0
+IsRow numbers = AreJoined IsDecimal (codes ",") numbers then IsStr "\n"

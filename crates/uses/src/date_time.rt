@@ -1,0 +1,59 @@
+//! A date and a time of day: a part of the caller's own.
+
+ghost use Rattle.std.specs.Prelude.{◌<◌, ⊤};
+
+use lexical_parts::{Padded, Part};
+
+/// A date and a time of day.
+#[derive(Clone, Copy, Drop)]
+pub struct DateTime {
+    /// The year, of at most four digits.
+    pub year: u16,
+    /// The month.
+    pub month: u8,
+    /// The day of the month.
+    pub day: u8,
+    /// The hour of the day.
+    pub hour: u8,
+    /// The minute of the hour.
+    pub minute: u8,
+    /// The second of the minute.
+    pub second: u8,
+    ghost year_fits: { year < 10000 },
+    ghost month_fits: { month < 100 },
+    ghost day_fits: { day < 100 },
+    ghost hour_fits: { hour < 100 },
+    ghost minute_fits: { minute < 100 },
+    ghost second_fits: { second < 100 },
+}
+
+impl Part for DateTime {
+    ghost use Rattle.uses.specs.DateTime.{IsDateTime};
+
+    ghost is_text = { IsDateTime };
+
+    ghost is_valid = { λ _. ⊤ };
+
+    ghost room = { λ _. 19 };
+
+    fn room(self) -> usize {
+        19
+    }
+
+    fn write_to(self, buffer: &mut [u8]) -> usize {
+        (
+            Padded(self.year, 4),
+            "-",
+            Padded(self.month, 2),
+            "-",
+            Padded(self.day, 2),
+            "T",
+            Padded(self.hour, 2),
+            ":",
+            Padded(self.minute, 2),
+            ":",
+            Padded(self.second, 2),
+        )
+            .write_to(buffer)
+    }
+}

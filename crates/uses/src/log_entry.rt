@@ -1,0 +1,30 @@
+//! An entry of a log: when, how much it matters, what, and how many.
+
+ghost use Rattle.std.specs.Prelude.{◌+◌, ◌≤◌, length};
+ghost use Rattle.lexical_write_integer.specs.Buffer.{Writes};
+ghost use Rattle.lexical_write_integer.specs.Sequence.{IsExactly};
+ghost use Rattle.lexical_parts.specs.Sequence.{◌then◌, IsDecimal, IsStr};
+ghost use Rattle.uses.specs.DateTime.{IsDateTime};
+ghost use Rattle.uses.specs.LogLine.{name_of};
+
+use crate::date_time::DateTime;
+use crate::log_line::{Level, level_name};
+use lexical_parts::{Bytes, Decimal, Part};
+
+/// Writes the entry to the start of the buffer, and returns its length. The buffer has 49 bytes and
+/// those of the message.
+pub fn write_entry(
+    at: DateTime,
+    level: Level,
+    message: &str,
+    number: i64,
+    buffer: &mut [u8],
+) -> usize
+    requires { length message.now + 49 ≤ length buffer.old }
+    ensures { Writes (IsDateTime at then IsStr " " then IsExactly (name_of level) then IsStr " "
+        then IsExactly message.now then IsStr ": " then IsDecimal number then IsStr "\n")
+        buffer.old buffer.new result }
+{
+    let level = Bytes(level_name(level));
+    (at, " ", level, " ", message, ": ", Decimal(number), "\n").write_to(buffer)
+}
