@@ -1,4 +1,4 @@
-//! The size of buffer that has room for each number of a type.
+//! The size of buffer that has room for each number of a type, and 0 if the format is invalid.
 
 ghost use Rattle.std.specs.Prelude.{◌-◌, ◌^◌, pos, negsuc};
 ghost use Rattle.lexical_c.specs.BufferSize.{IsBufferSize};

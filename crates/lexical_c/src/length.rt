@@ -1,4 +1,4 @@
-//! The length of the text of a number.
+//! The length of the text of a number, and 0 if no number can be written in the format.
 
 ghost use Rattle.std.specs.Prelude.{◌≡◌, ℕ, ◌+◌, ◌<◌, ◌≤◌, ◌↔◌, ◌==◌, not, length, IsTrue, pos, ◌<ℤ◌, unsigned_abs};
 ghost use Rattle.lexical_num.specs.Format.{grouped_length};
