@@ -70,8 +70,8 @@ fn take_two<const R: u32>(number: u32, turns: &mut Turns) -> (u32, usize)
     }
 }
 
-// Takes one digit off a number of up to two digits, if that leaves something, and returns how many
-// digits were taken.
+// Takes one digit off a number of up to two digits, if the quotient is not 0, and returns how many digits
+// were taken.
 fn take_last(number: u32, radix: u32, turns: &mut Turns) -> usize
     requires radix { IsRadix radix }
     requires short { number < radix ^ 2 }
