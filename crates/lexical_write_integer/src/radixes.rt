@@ -1,7 +1,7 @@
 // The choice of the code for a radix.
 
-// Calls a function over a constant radix with the radix of a number, which is from 2 to 36: each has
-// divisions of its own.
+// Calls a function that is generic over the radix, in the arm of this radix, which is from 2 to 36: so it
+// divides by a constant.
 macro_rules! by_radix {
     ($radix:expr, $run:ident($($argument:expr),*)) => {
         match $radix {

@@ -70,8 +70,8 @@ fn take_two<const R: u32>(number: u32, turns: &mut Turns) -> (u32, usize)
     }
 }
 
-// Takes one digit off a number of up to two digits, if that leaves something, and returns how many
-// digits were taken.
+// Takes one digit off a number of up to two digits, if the quotient is not 0, and returns how many digits
+// were taken.
 fn take_last(number: u32, radix: u32, turns: &mut Turns) -> usize
     requires radix { IsRadix radix }
     requires short { number < radix ^ 2 }
@@ -131,35 +131,6 @@ fn write_kept<const R: u32>(
         write_turn(left, *next, table, buffer, at, turns);
         left = *next;
     }
-}
-
-// Writes four digits a turn before the buffer's end, while the number has more. It returns what is
-// left, and how many digits that has.
-fn write_fours<const R: u32>(
-    value: u64,
-    table: &RadixTable<'_, R>,
-    buffer: &mut [u8],
-    turns: &mut Turns,
-) -> (u32, usize)
-    requires { length buffer.old ≡ digit_count R value }
-    ensures digits { result.1 ≡ digit_count R result.0 }
-    ensures few { result.1 ≤ 4 }
-    ensures within { result.1 ≤ length buffer.old }
-    ensures written { WritesBlock R (length buffer.old - result.1)
-        (value % R ^ (length buffer.old - result.1)) result.1 buffer.old buffer.new }
-    ensures taken { TakesDigits R value 4 (length buffer.old - result.1) result.0 turns.old turns.new }
-{
-    let square = R * R;
-    let power = u64::from(square * square);
-    let mut left = value;
-    let mut at = buffer.len();
-    while at > 4 {
-        let next = left / power;
-        at -= 4;
-        write_turn(left, next, table, buffer, at, turns);
-        left = next;
-    }
-    (left as u32, at)
 }
 
 // Writes the one or two digits of a number to the front, without a branch: if it has one digit, this
@@ -231,7 +202,8 @@ fn write_by_divisions<const R: u32, const QUOTIENTS: usize>(
     count
 }
 
-// Writes a number after its digits are counted.
+// Writes a number after its digits are counted: four digits a turn, while it has more, and then what is
+// left.
 fn write_counted<const R: u32>(
     value: u64,
     table: &RadixTable<'_, R>,
@@ -243,9 +215,17 @@ fn write_counted<const R: u32>(
     ensures notes { turns.new ≡ turns.old ++ table_notes R value }
 {
     let count = digit_count_counted(value, R, turns);
-    let digits = &mut buffer[..count];
-    let (left, few) = write_fours(value, table, digits, turns);
-    write_head(left, few, table, digits, turns);
+    let square = R * R;
+    let power = u64::from(square * square);
+    let mut left = value;
+    let mut at = count;
+    while at > 4 {
+        let next = left / power;
+        at -= 4;
+        write_turn(left, next, table, buffer, at, turns);
+        left = next;
+    }
+    write_head(left as u32, at, table, buffer, turns);
     count
 }
 

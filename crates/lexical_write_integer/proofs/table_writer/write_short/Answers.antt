@@ -1,4 +1,4 @@
-use Rattle.std.proofs.Common.{◌^◌, ◌<◌, ◌≤◌, arith}
+use Rattle.std.proofs.Common.{◌^◌, ◌<◌, arith}
 use Rattle.std.proofs.Math.Nat.{pow-le-pow_right}
 use Rattle.lexical_write_integer.specs.LoopTurns.{takes_two, takes_four}
 use Rattle.lexical_write_integer.proofs.BlocksAfter.{WritesDigits-block}
