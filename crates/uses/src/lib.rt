@@ -2,9 +2,13 @@
 //! proved over the contracts of the calls alone.
 #![tactic(auto)]
 
+pub mod address;
 pub mod amount;
 pub mod any_format;
+pub mod arena;
+pub mod column;
 pub mod csv_row;
+pub mod date;
 pub mod fixed_texts;
 pub mod float_format;
 pub mod float_parts;
@@ -13,6 +17,7 @@ pub mod hexadecimal;
 pub mod identifier;
 pub mod key_value;
 pub mod log_line;
+pub mod percentage;
 pub mod printed;
 pub mod record;
 pub mod sorted_keys;
