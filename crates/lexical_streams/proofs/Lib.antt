@@ -1,3 +1,4 @@
 mod Begun
 mod Failures
+pub mod Known
 mod Statuses
