@@ -43,8 +43,7 @@ impl<P: Part> Part for Left<P> {
 
     fn write_to(self, buffer: &mut [u8]) -> usize {
         let count = self.0.write_to(buffer);
-        let spaces = self.1.saturating_sub(count);
-        count + write_spaces(spaces, &mut buffer[count..])
+        count + write_spaces(self.1.saturating_sub(count), &mut buffer[count..])
     }
 }
 
