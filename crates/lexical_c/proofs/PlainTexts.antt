@@ -37,6 +37,6 @@ pub after_sign : (x : ℤ) (format : Format) (magnitude : ℕ) (before between w
     WritesDigits format.mantissa_radix magnitude (take (length between - count) (drop count between)) written digits →
     WritesText x format before (put_mid count (length between - count) between written) (count + digits)
 after_sign x format magnitude before between written count digits plus none long sign same rest some is w =
-    WritesText-over x format magnitude before between written written count digits digits (rw plus long) (rw plus sign) same rest some is w
+    WritesText-over x format before between written written count digits digits (rw plus long) (rw plus sign) same rest some (rw is at w)
     (rw none (own_front _ written digits w.writes))
     (rw none (w.writes.count ∙ sym (ap length (take-Writes _ written digits w.writes))))

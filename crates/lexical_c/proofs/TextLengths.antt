@@ -1,5 +1,5 @@
 -- How long a text is.
-use Rattle.std.proofs.Common.{◌≡◌, None, Some, ℕ, ℤ, List, ◌+◌, ◌^◌, ◌<◌, ◌≤◌, length, length-append, unsigned_abs, refl, ap, ◌∙◌}
+use Rattle.std.proofs.Common.{◌≡◌, None, Some, ℕ, ℤ, List, ◌+◌, ◌^◌, ◌<◌, ◌≤◌, length, length-append, unsigned_abs, refl, arith}
 use Rattle.std.specs.Option.{ForSome}
 use Rattle.std.specs.Prelude.{◌≤ℤ◌, Option}
 use Rattle.lexical_num.specs.DecimalWidth.{IsDecimalWidth}
@@ -11,25 +11,9 @@ use Rattle.lexical_write_integer.specs.DigitCount.{digit_count}
 use Rattle.lexical_write_integer.specs.Groups.{grouped}
 use Rattle.lexical_write_integer.specs.Text.{IsText, need}
 use Rattle.lexical_write_integer.proofs.Computed.{text_computed}
-use Rattle.lexical_write_integer.proofs.GroupedDigits.{length-in_groups}
 use Rattle.lexical_write_integer.proofs.Lengths.{length-IsText}
-use Rattle.lexical_write_integer.proofs.Numerals.{length-IsDigits}
 use Rattle.lexical_write_integer.proofs.Printed.{IsRange-small}
-
--- the text of each number of a type fits a buffer as long as its writer asks for
-pub text_of-le_need : (x least greatest : ℤ) (bits width : ℕ) (format : Format) → IsValid format →
-    IsDecimalWidth least greatest width → IsRange bits least greatest → least ≤ℤ x → x ≤ℤ greatest →
-    length (text_of x format) ≤ need x width format
-text_of-le_need x least greatest bits width format valid decimal range at_least at_most =
-    let two = valid.mantissa.at_least_two in
-    let small = IsRange-small _ _ _ x range at_least at_most in
-    let is = (text_computed x format (text_of x format) two small).1 refl in
-    length-IsText x least greatest format width (text_of x format) two valid.groups decimal at_least at_most is
-
-length-grouped : (grouping : Option (ℕ × ℕ)) (digits : List ℕ) → ForSome grouping IsGrouping →
-    length (grouped grouping digits) ≡ grouped_length grouping (length digits)
-length-grouped None digits good = refl
-length-grouped (Some grouping) digits good = length-in_groups grouping digits (good grouping refl).size.at_least_one
+use Rattle.lexical_write_integer.proofs.Signs.{grouped_length-le_need}
 
 -- the text of a number has its sign, its digits, and the marks between them
 pub length-text_of : (x : ℤ) (format : Format) → IsValid format → unsigned_abs x < 2 ^ 64 →
@@ -37,8 +21,14 @@ pub length-text_of : (x : ℤ) (format : Format) → IsValid format → unsigned
     length (sign_of x format.required_mantissa_sign) + grouped_length format.digit_grouping (digit_count format.mantissa_radix (unsigned_abs x))
 length-text_of x format valid small =
     let two = valid.mantissa.at_least_two in
-    let is : IsText x format (text_of x format) = (text_computed x format (text_of x format) two small).1 refl in
-    let counted = length-IsDigits format.mantissa_radix (unsigned_abs x) is.digits two is.magnitude in
-    ap length is.whole ∙ length-append (sign_of x format.required_mantissa_sign) (grouped format.digit_grouping is.digits)
-    ∙ ap (λ n. length (sign_of x format.required_mantissa_sign) + n)
-    (length-grouped format.digit_grouping is.digits valid.groups ∙ ap (grouped_length format.digit_grouping) counted)
+    length-IsText x format (text_of x format) two valid.groups ((text_computed x format (text_of x format) two small).1 refl)
+
+-- the text of each number of a type fits a buffer as long as its writer asks for
+pub text_of-le_need : (x least greatest : ℤ) (bits width : ℕ) (format : Format) → IsValid format →
+    IsDecimalWidth least greatest width → IsRange bits least greatest → least ≤ℤ x → x ≤ℤ greatest →
+    length (text_of x format) ≤ need x width format
+text_of-le_need x least greatest bits width format valid decimal range at_least at_most =
+    let small = IsRange-small _ _ _ x range at_least at_most in
+    let count = digit_count format.mantissa_radix (unsigned_abs x) in
+    let fewer = grouped_length-le_need x least greatest format width count decimal at_least at_most refl in
+    omega (arith, length-text_of x format valid small, fewer)

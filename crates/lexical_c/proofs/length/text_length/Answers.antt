@@ -12,10 +12,10 @@ returns g c =
     let small = IsRange-small _ _ _ (g.T.LexicalInteger.number c.args.value) g.met.T.LexicalInteger.range_of_bits
     c.in_range.ensures.at_least c.in_range.ensures.at_most in
     let text = length-text_of (g.T.LexicalInteger.number c.args.value) (format_of c.args.format.now) valid small in
-    let counted = c.digit_count-digits.ensures ∙ ap (digit_count c.args.format.now.radix) (c.as_usize-magnitude.ensures ∙ c.requires.magnitude) in
+    let counted = c.digit_count-digits.ensures.count ∙ ap (digit_count c.args.format.now.radix) (c.as_usize-magnitude.ensures ∙ c.requires.magnitude) in
     let groups = c.mark_count.ensures.length c.args.format.now.mark ∙
     ap (grouped_length (grouping_of c.args.format.now.group_size c.args.format.now.mark)) counted in
     record {
-      accepts = (λ _. valid, λ _. omega (arith, c.digit_count_is_least.ensures.at_least_one, c.digit_count-digits.ensures));
+      accepts = (λ _. valid, λ _. omega (arith, c.digit_count-digits.ensures.some));
       count = λ _. omega (arith, text, groups, c.sign_length-sign.ensures.length);
     }
