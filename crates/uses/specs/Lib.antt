@@ -1,2 +1,3 @@
 pub mod FloatParts
+pub mod JsonArray
 pub mod LogLine
