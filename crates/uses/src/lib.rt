@@ -18,6 +18,7 @@ pub mod float_parts;
 pub mod hex_dump;
 pub mod hexadecimal;
 pub mod identifier;
+pub mod json_array;
 pub mod key_value;
 pub mod log_entry;
 pub mod log_line;

@@ -13,6 +13,7 @@ use crate::float_parts::write_parts;
 use crate::hex_dump::write_dump;
 use crate::hexadecimal::{hexadecimal, write_hexadecimal};
 use crate::identifier::{have_same_identifier, identifier, same_counter, write_identifier};
+use crate::json_array::write_array;
 use crate::key_value::write_setting;
 use crate::log_line::{Level, level_name, write_line};
 use crate::percentage::write_percentage;
@@ -271,6 +272,17 @@ fn columns(rt: HostRuntime) {
     assert_eq!(rt; column, *b"          -5");
     write_column(-2147483648, &mut column);
     assert_eq!(rt; column, *b" -2147483648");
+}
+
+#[test]
+fn arrays_in_json(rt: HostRuntime) {
+    let mut buffer = [7; 9];
+    assert_eq!(rt; write_array(&[1, 0, 234], &mut buffer), Some(9));
+    assert_eq!(rt; buffer, *b"[1,0,234]");
+    assert_eq!(rt; write_array(&[1, 0, 2345], &mut buffer), None);
+    assert_eq!(rt; write_array(&[18446744073709551615], &mut buffer), None);
+    assert_eq!(rt; write_array(&[], &mut buffer), Some(2));
+    assert_eq!(rt; write_array(&[], &mut buffer[..1]), None);
 }
 
 #[test]
