@@ -1,6 +1,7 @@
 -- What is written after a text makes one text with it.
-use Rattle.std.proofs.Common.{ℕ, ◌+◌, List, ◌++◌, take, drop, refl}
+use Rattle.std.proofs.Common.{◌≡◌, ℕ, ◌+◌, List, ◌++◌, length, take, drop, refl, sym, ap, ◌∙◌, arith, append_assoc}
 use Rattle.std.proofs.lemmas.Int.{to_z-of_z}
+use Rattle.std.proofs.lemmas.List.{drop-append-le, length-take, take-append-drop}
 use Rattle.lexical_write_integer.specs.Buffer.{Writes}
 use Rattle.lexical_write_integer.specs.Sequence.{Then}
 use Rattle.lexical_write_integer.proofs.Fronts.{Front-after, length-after}
@@ -17,3 +18,18 @@ written_then IsFirst IsSecond before between part count room more a b = record {
 -- what a caller that writes texts one after another names in its `#[tactic(auto, using(..))]`: the lemma, and that a
 -- signed number is the whole number that contracts see
 pub ruleset in_order = (written_then, to_z-of_z)
+
+-- a text is written into the first bytes alone: what a caller names that lends just the width of `write_padded`
+pub written_first : (Is : List ℕ → Type 0) (before part : List ℕ) (count room : ℕ) → Writes Is (take room before) part count → Writes Is before (part ++ drop room before) count
+written_first Is before part count room w =
+    let left : drop (length w.text) (take room before) ++ drop room before ≡ drop (length w.text) before =
+    sym (drop-append-le (length w.text) (take room before) (drop room before) w.front.fits) ∙ ap (drop (length w.text)) (take-append-drop room before) in
+    record {
+      text = w.text;
+      is = w.is;
+      front = record {
+        fits = omega (arith, w.front.fits, length-take {A = ℕ});
+        written = ap (λ xs. xs ++ drop room before) w.front.written ∙ append_assoc w.text _ _ ∙ ap (λ xs. w.text ++ xs) left;
+      };
+      count = w.count;
+    }

@@ -1,21 +1,37 @@
 -- A sign, and the digits after it.
-use Rattle.std.proofs.Common.{◌≡◌, Option, ℕ, ◌+◌, ◌-◌, ◌≤◌, ◌==◌, List, ◌++◌, length, take, drop, refl, sym, ap, ◌∙◌, arith, ℤ, unsigned_abs, length-append}
+use Rattle.std.proofs.Common.{◌≡◌, Option, ℕ, ◌+◌, ◌-◌, ◌^◌, ◌<◌, ◌≤◌, ◌≤ℤ◌, ◌==◌, List, ◌++◌, length, take, drop, refl, sym, ap, ◌∙◌, arith, ℤ, unsigned_abs, length-append}
+use Rattle.std.proofs.lemmas.Bool.{cond_both, eqb-true}
 use Rattle.std.proofs.lemmas.List.{drop-drop, length-take, length-drop, take-append-drop}
 use Rattle.std.proofs.lemmas.Slice.{drop-append-drop}
-use Rattle.lexical_num.specs.Format.{Format}
+use Rattle.lexical_num.specs.DecimalWidth.{IsDecimalWidth}
+use Rattle.lexical_num.specs.Format.{Format, grouped_length}
 use Rattle.lexical_num.specs.Sign.{sign_of}
 use Rattle.lexical_write_integer.specs.Buffer.{Front, Writes, WritesDigits, WritesText}
-use Rattle.lexical_write_integer.specs.DigitCount.{digit_count}
+use Rattle.lexical_write_integer.specs.DigitCount.{digit_count-le, digit_count}
 use Rattle.lexical_write_integer.specs.Groups.{grouped}
 use Rattle.lexical_write_integer.specs.Text.{digits_need, need}
 use Rattle.lexical_write_integer.proofs.GroupedDigits.{length-grouped_ge}
-use Rattle.lexical_write_integer.specs.SizeBound.{grouped_length-ge}
+use Rattle.lexical_write_integer.specs.SizeBound.{grouped_length-ge, grouped_length-more}
 use Rattle.lexical_write_integer.proofs.DigitCounts.{digit_count-pos}
 use Rattle.std.specs.Prelude.{Bool, true, false, if◌then◌else◌}
 use borrow.Rule.Slice.PartMut.{put_mid}
 use Rattle.lexical_write_integer.proofs.Fronts.{Writes-after, take-Writes}
 
 -- ---- digits in groups, after the sign
+
+-- a number of a type has no more digits than its need has room for
+digit_count-le_need : (r n width : ℕ) → 1 ≤ width → n < 10 ^ width → digit_count r n ≤ digits_need r n width
+digit_count-le_need r n width some fits =
+    cond_both (r == 10) width (digit_count r n) (λ k. digit_count r n ≤ k)
+    (λ e. digit_count-le r n width some (rw (eqb-true r 10 e) fits))
+    (λ _. omega arith)
+
+-- nor in groups
+pub grouped_length-le_need : (x least greatest : ℤ) (format : Format) (width count : ℕ) → IsDecimalWidth least greatest width → least ≤ℤ x → x ≤ℤ greatest → count ≡ digit_count format.mantissa_radix (unsigned_abs x)
+    → length (sign_of x format.required_mantissa_sign) + grouped_length format.digit_grouping count ≤ need x width format
+grouped_length-le_need x least greatest format width count decimal low high counted =
+    let few = digit_count-le_need format.mantissa_radix (unsigned_abs x) width decimal.some (decimal.enough x low high) in
+    omega (arith, grouped_length-more format.digit_grouping count (digits_need format.mantissa_radix (unsigned_abs x) width) 0 (omega (arith, few, counted)))
 
 -- a text of some kind, in groups
 record IsGrouped (grouping : Option (ℕ × ℕ)) (Is : List ℕ → Type 0) (text : List ℕ) : Type 0 where

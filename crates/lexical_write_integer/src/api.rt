@@ -38,9 +38,7 @@ pub trait ToLexical: LexicalInteger + FormattedSize {
         requires { digits_need format.now.mantissa_radix (unsigned_abs (Self.number self)) Self.DECIMAL_WIDTH
             ≤ length buffer.old }
         ensures digits { WritesDigits format.now.mantissa_radix (unsigned_abs (Self.number self))
-            buffer.old buffer.new result }
-        ensures short { result
-            ≤ digits_need format.now.mantissa_radix (unsigned_abs (Self.number self)) Self.DECIMAL_WIDTH };
+            buffer.old buffer.new result };
 
     /// Returns how many digits the absolute value has in the radix, which is from 2 to 36.
     fn magnitude_digits(self, radix: u32) -> usize
@@ -54,6 +52,7 @@ pub trait ToLexical: LexicalInteger + FormattedSize {
         ensures text { WritesText (Self.number self) format.now buffer.old buffer.new result }
         ensures short { result ≤ need (Self.number self) Self.DECIMAL_WIDTH format.now }
     {
+        self.in_range();
         let sign = write_sign(self, buffer, format);
         let digits = &mut buffer[sign..];
         let count = self.write_magnitude(format, digits);

@@ -28,12 +28,13 @@ pub fn write_integer_counted<T: Decimal + DigitCount>(
     requires radix { IsRadix radix }
     requires room { digits_need radix (T.magnitude value) T.DECIMAL_WIDTH ≤ length buffer.old }
     ensures digits { WritesDigits radix (T.magnitude value) buffer.old buffer.new result }
-    ensures short { result ≤ digits_need radix (T.magnitude value) T.DECIMAL_WIDTH }
+    ensures short { result ≤ T.BITS }
     ensures notes { turns.new ≡ turns.old ++ write_notes T.BITS radix (T.magnitude value) }
     ensures turns { length turns.new ≡ length turns.old + write_turns radix result }
     ensures few_turns { length turns.new ≤ length turns.old + 21 }
     ensures few_decimal_turns { radix ≡ 10 → length turns.new ≤ length turns.old + 9 }
 {
+    value.fits_bits();
     if radix == 10 {
         value.decimal_counted(buffer, turns)
     } else {
@@ -47,8 +48,9 @@ fn write_magnitude<T: Decimal + Radix>(value: T, radix: u32, buffer: &mut [u8]) 
     requires number { radix ≡ 10 → T.magnitude value < 10 ^ T.SIGNED_WIDTH }
     requires room { digits_need radix (T.magnitude value) T.SIGNED_WIDTH ≤ length buffer.old }
     ensures digits { WritesDigits radix (T.magnitude value) buffer.old buffer.new result }
-    ensures short { result ≤ digits_need radix (T.magnitude value) T.SIGNED_WIDTH }
+    ensures short { result ≤ T.BITS }
 {
+    value.fits_bits();
     if radix == 10 {
         value.decimal_signed(buffer)
     } else {
@@ -67,7 +69,7 @@ pub trait WriteInteger: Decimal + Radix {
         requires room { digits_need radix (Self.magnitude self) Self.DECIMAL_WIDTH
             ≤ length buffer.old }
         ensures digits { WritesDigits radix (Self.magnitude self) buffer.old buffer.new result }
-        ensures short { result ≤ digits_need radix (Self.magnitude self) Self.DECIMAL_WIDTH };
+        ensures short { result ≤ Self.BITS };
 
     /// In a radix from 2 to 36, of the magnitude of a signed number.
     fn write_integer_signed(self, radix: u32, buffer: &mut [u8]) -> usize
@@ -76,7 +78,7 @@ pub trait WriteInteger: Decimal + Radix {
         requires room { digits_need radix (Self.magnitude self) Self.SIGNED_WIDTH
             ≤ length buffer.old }
         ensures digits { WritesDigits radix (Self.magnitude self) buffer.old buffer.new result }
-        ensures short { result ≤ digits_need radix (Self.magnitude self) Self.SIGNED_WIDTH };
+        ensures short { result ≤ Self.BITS };
 
     /// In the mantissa radix of the format.
     fn write_mantissa(self, format: &NumberFormat, buffer: &mut [u8]) -> usize
@@ -84,8 +86,7 @@ pub trait WriteInteger: Decimal + Radix {
             ≤ length buffer.old }
         ensures digits { WritesDigits format.now.mantissa_radix (Self.magnitude self)
             buffer.old buffer.new result }
-        ensures short { result
-            ≤ digits_need format.now.mantissa_radix (Self.magnitude self) Self.DECIMAL_WIDTH }
+        ensures short { result ≤ Self.BITS }
     {
         self.write_integer(format.mantissa_radix(), buffer)
     }
@@ -98,8 +99,7 @@ pub trait WriteInteger: Decimal + Radix {
             ≤ length buffer.old }
         ensures digits { WritesDigits format.now.mantissa_radix (Self.magnitude self)
             buffer.old buffer.new result }
-        ensures short { result
-            ≤ digits_need format.now.mantissa_radix (Self.magnitude self) Self.SIGNED_WIDTH }
+        ensures short { result ≤ Self.BITS }
     {
         self.write_integer_signed(format.mantissa_radix(), buffer)
     }
@@ -110,8 +110,7 @@ pub trait WriteInteger: Decimal + Radix {
             ≤ length buffer.old }
         ensures digits { WritesDigits format.now.exponent_radix (Self.magnitude self)
             buffer.old buffer.new result }
-        ensures short { result
-            ≤ digits_need format.now.exponent_radix (Self.magnitude self) Self.DECIMAL_WIDTH }
+        ensures short { result ≤ Self.BITS }
     {
         self.write_integer(format.exponent_radix(), buffer)
     }
@@ -124,8 +123,7 @@ pub trait WriteInteger: Decimal + Radix {
             ≤ length buffer.old }
         ensures digits { WritesDigits format.now.exponent_radix (Self.magnitude self)
             buffer.old buffer.new result }
-        ensures short { result
-            ≤ digits_need format.now.exponent_radix (Self.magnitude self) Self.SIGNED_WIDTH }
+        ensures short { result ≤ Self.BITS }
     {
         self.write_integer_signed(format.exponent_radix(), buffer)
     }

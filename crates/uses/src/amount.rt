@@ -8,7 +8,7 @@ ghost use Rattle.lexical_parts.specs.Sequence.{◌then◌, IsStr};
 
 use lexical_parts::{Formatted, Part};
 use lexical_write_integer::digit_count::DigitCount;
-use lexical_write_integer::laws::{digit_count_is_least, text_in_groups};
+use lexical_write_integer::laws::text_length;
 use lexical_write_integer::{NumberFormat, NumberFormatBuilder};
 
 // Decimal, with a comma between two groups of three digits.
@@ -37,8 +37,7 @@ pub fn width_of_amount(dollars: u64) -> usize
         → IsText (pos dollars) (record standard { digit_grouping = Some (3, 44) }) text
         → length text ≡ result }
 {
-    text_in_groups(dollars, &in_thousands(), 3, b',');
-    digit_count_is_least(10, dollars);
-    let digits = dollars.digit_count(10);
-    digits + (digits - 1) / 3
+    let format = in_thousands();
+    text_length(dollars, &format);
+    format.grouped_len(dollars.digit_count(10))
 }

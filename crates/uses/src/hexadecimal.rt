@@ -1,12 +1,13 @@
 //! A number in hexadecimal after `0x`.
 
-ghost use Rattle.std.specs.Prelude.{codes};
+ghost use Rattle.std.specs.Prelude.{◌≡◌, ◌++◌, codes};
 ghost use Rattle.lexical_write_integer.specs.Buffer.{Writes};
+ghost use Rattle.lexical_write_integer.specs.Computed.{digits_text};
 ghost use Rattle.lexical_write_integer.specs.Sequence.{IsExactly, Then};
 ghost use Rattle.lexical_write_integer.specs.Text.{IsDigits};
 
 use lexical_write_integer::buffer::copy_to_front;
-use lexical_write_integer::laws::digit_count_at_most;
+use lexical_write_integer::laws::{digit_count_at_most, digits_computed};
 use lexical_write_integer::radix::Radix;
 
 /// Writes `0x` and the number in radix 16 to the front of the array, and returns how many bytes
@@ -19,4 +20,14 @@ pub fn write_hexadecimal(number: u32, buffer: &mut [u8; 10]) -> usize
     digit_count_at_most(16, u64::from(number), 8);
     let start = copy_to_front(b"0x", buffer);
     start + number.radix(16, &mut buffer[start..])
+}
+
+/// `0x` and the number in radix 16, which borrow the array.
+pub fn hexadecimal(number: u32, buffer: &mut [u8; 10]) -> &[u8]
+    ensures { result.now ≡ codes "0x" ++ digits_text 16 number }
+{
+    let count = write_hexadecimal(number, buffer);
+    let text = &buffer[..count];
+    digits_computed(16, u64::from(number), &text[2..]);
+    text
 }

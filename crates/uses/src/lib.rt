@@ -2,9 +2,13 @@
 //! proved over the contracts of the calls alone.
 #![tactic(auto)]
 
+pub mod address;
 pub mod amount;
 pub mod any_format;
+pub mod arena;
+pub mod column;
 pub mod csv_row;
+pub mod date;
 pub mod date_time;
 pub mod dump_line;
 pub mod fixed_texts;
@@ -17,6 +21,7 @@ pub mod key_value;
 pub mod log_entry;
 pub mod log_line;
 pub mod number_list;
+pub mod percentage;
 pub mod printed;
 pub mod reading;
 pub mod record;

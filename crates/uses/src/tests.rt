@@ -1,15 +1,20 @@
 mod lines;
 
+use crate::address::write_address;
 use crate::amount::{width_of_amount, write_amount};
 use crate::any_format::{have_same_text, text_if_room, text_of_any, text_of_i64};
+use crate::arena::{have_same_kept_texts, keep_text};
+use crate::column::write_column;
+use crate::date::write_date;
 use crate::fixed_texts::{million, white};
 use crate::float_format::float_format;
 use crate::float_parts::write_parts;
 use crate::hex_dump::write_dump;
-use crate::hexadecimal::write_hexadecimal;
+use crate::hexadecimal::{hexadecimal, write_hexadecimal};
 use crate::identifier::{have_same_identifier, identifier, same_counter, write_identifier};
 use crate::key_value::write_setting;
 use crate::log_line::{Level, level_name, write_line};
+use crate::percentage::write_percentage;
 use crate::printed::printed;
 use crate::record::write_record;
 use crate::sorted_keys::{are_sorted, comes_before, is_earlier_key};
@@ -198,8 +203,8 @@ fn settings(rt: HostRuntime) {
 
 #[test]
 fn printed_numbers(rt: HostRuntime) {
-    assert_eq!(rt; printed(-2147483648, &mut [7; 11]), Some("-2147483648"));
-    assert_eq!(rt; printed(0, &mut [7; 11]), Some("0"));
+    assert_eq!(rt; printed(-2147483648, &mut [7; 11]), "-2147483648");
+    assert_eq!(rt; printed(0, &mut [7; 11]), "0");
 }
 
 #[test]
@@ -223,6 +228,62 @@ fn widths_of_amounts(rt: HostRuntime) {
 fn texts_that_are_written_out(rt: HostRuntime) {
     assert_eq!(rt; white(&mut [7; 6]), b"FFFFFF".as_slice());
     assert_eq!(rt; million(&mut [7; 14]), b"+1,000,000".as_slice());
+}
+
+#[test]
+fn hexadecimal_as_an_equation(rt: HostRuntime) {
+    assert_eq!(rt; hexadecimal(0, &mut [7; 10]), b"0x0".as_slice());
+    assert_eq!(rt; hexadecimal(48879, &mut [7; 10]), b"0xBEEF".as_slice());
+}
+
+#[test]
+fn dates(rt: HostRuntime) {
+    let mut date = [7; 10];
+    assert_eq!(rt; write_date(2026, 11, 23, &mut date), 10);
+    assert_eq!(rt; date, *b"2026-11-23");
+    assert_eq!(rt; write_date(33, 4, 3, &mut date), 10);
+    assert_eq!(rt; date, *b"0033-04-03");
+}
+
+#[test]
+fn addresses(rt: HostRuntime) {
+    let mut buffer = [7; 15];
+    assert_eq!(rt; write_address(255, 255, 255, 255, &mut buffer), 15);
+    assert_eq!(rt; buffer, *b"255.255.255.255");
+    assert_eq!(rt; write_address(10, 0, 0, 1, &mut buffer), 8);
+    assert_eq!(rt; buffer, *b"10.0.0.1255.255");
+}
+
+#[test]
+fn percentages(rt: HostRuntime) {
+    let mut buffer = [7; 14];
+    assert_eq!(rt; write_percentage(1205, &mut buffer), 6);
+    assert!(rt; buffer.starts_with(b"12.05%\x07"));
+    assert_eq!(rt; write_percentage(4294967295, &mut buffer), 12);
+    assert!(rt; buffer.starts_with(b"42949672.95%\x07"));
+}
+
+#[test]
+fn columns(rt: HostRuntime) {
+    let mut column = [7; 12];
+    write_column(-5, &mut column);
+    assert_eq!(rt; column, *b"          -5");
+    write_column(-2147483648, &mut column);
+    assert_eq!(rt; column, *b" -2147483648");
+}
+
+#[test]
+fn texts_in_an_arena(rt: HostRuntime) {
+    let mut arena = [7; 43];
+    let (first, rest) = keep_text(123, &mut arena);
+    let (second, rest) = keep_text(0, rest);
+    let (third, rest) = keep_text(18446744073709551615, rest);
+    assert_eq!(rt; &*first, b"123".as_slice());
+    assert_eq!(rt; &*second, b"0".as_slice());
+    assert_eq!(rt; &*third, b"18446744073709551615".as_slice());
+    assert_eq!(rt; rest.len(), 19);
+    assert!(rt; have_same_kept_texts(12, 12));
+    assert!(rt; !have_same_kept_texts(12, 21));
 }
 
 // The first use that the README shows.

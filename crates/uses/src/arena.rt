@@ -1,0 +1,33 @@
+//! Texts in one buffer, which are kept as slices.
+
+ghost use Rattle.std.specs.Prelude.{◌≡◌, ◌+◌, ◌≤◌, ◌↔◌, IsTrue, length, pos};
+ghost use Rattle.lexical_num.specs.Format.{standard};
+ghost use Rattle.lexical_write_integer.specs.Text.{IsText};
+
+use lexical_write_integer::ToLexical;
+use lexical_write_integer::format::STANDARD;
+use lexical_write_integer::laws::texts_tell;
+
+/// Writes the number in decimal to the front of the arena, of at least 20 bytes, and returns its
+/// text and the bytes after it.
+pub fn keep_text(number: u64, arena: &mut [u8]) -> (&mut [u8], &mut [u8])
+    requires { 20 ≤ length arena.old }
+    ensures text { IsText (pos number) standard result.0.now }
+    ensures short { length result.0.now ≤ 20 }
+    ensures rest { length result.0.now + length result.1.now ≡ length arena.old }
+{
+    let count = number.write_lexical(arena);
+    arena.split_at_mut(count)
+}
+
+/// Whether the texts of two numbers, both kept in one arena, are the same: they are exactly if the
+/// numbers are.
+pub fn have_same_kept_texts(a: u64, b: u64) -> bool
+    ensures { IsTrue result ↔ (a ≡ b) }
+{
+    let mut arena = [0; 40];
+    let (first, rest) = keep_text(a, &mut arena);
+    let (second, _) = keep_text(b, rest);
+    texts_tell(a, b, &STANDARD, first, second);
+    *first == *second
+}
