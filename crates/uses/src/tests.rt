@@ -5,7 +5,6 @@ use crate::amount::{width_of_amount, write_amount};
 use crate::any_format::{have_same_text, text_if_room, text_of_any, text_of_i64};
 use crate::arena::{have_same_kept_texts, keep_text};
 use crate::column::write_column;
-use crate::csv_row::write_row;
 use crate::date::write_date;
 use crate::fixed_texts::{million, white};
 use crate::float_format::float_format;

@@ -121,7 +121,13 @@ fn settings_without_a_number(rt: HostRuntime) {
 #[test]
 fn texts_for_writing(rt: HostRuntime) {
     let mut buffer = [7; 40];
-    let date = (Padded(2026u16, 4), "-", Padded(11u8, 2), "-", Padded(3u8, 2));
+    let date = (
+        Padded(2026u16, 4),
+        "-",
+        Padded(11u8, 2),
+        "-",
+        Padded(3u8, 2),
+    );
     let flags = PaddedDigits(16, 255u32, 2);
     let text = (date, " ", Decimal(-12i32), " kg 0x", flags, ";").to_text(&mut buffer);
     assert_eq!(rt; &*text, b"2026-11-03 -12 kg 0xFF;".as_slice());
