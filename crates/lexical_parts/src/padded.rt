@@ -26,7 +26,9 @@ impl<T: DigitCount + Radix> Part for PaddedDigits<T> {
     }
 
     fn write_to(self, buffer: &mut [u8]) -> usize {
-        write_padded(self.1, self.0, &mut buffer[..self.2])
+        write_padded(self.1, self.0, &mut buffer[..self.2]);
+        // The same number, so that what follows has a fixed position if the width is a constant.
+        self.2
     }
 }
 
