@@ -7,8 +7,8 @@ use Rattle.lexical_streams.specs.declared.block_writer.BlockWriter.{BlockWriter}
 use Rattle.lexical_streams.specs.Answering.{AllAnswered, bytes_read, bytes_put}
 use Rattle.lexical_streams.specs.Blocks.{reading, inner, held}
 
-known-all : (known : Option (List ℕ)) {P : List ℕ → Type 0} (bytes : List ℕ) → known ≡ Some bytes → IfSome known P → P bytes
-known-all known {P = P} bytes is all = subst (λ o. IfSome o P) is all
+known-all : (known : Option (List ℕ)) (P : List ℕ → Type 0) (bytes : List ℕ) → known ≡ Some bytes → IfSome known P → P bytes
+known-all known P bytes is all = subst (λ o. IfSome o P) is all
 
 known-text : (old new : Option (List ℕ)) (more items : List ℕ) → old ≡ Some [] → new ≡ Some items → Appends old new more → items ≡ more
 known-text None new more items none some appends = absurd (cc none)
@@ -23,6 +23,6 @@ pub answers-known : {R W : Type 0} {n : ℕ} (remaining : R → Option (List ℕ
     → AllAnswered remaining contents a b c d → (reading a).is_ended ≡ false → remaining (reading a).reader ≡ Some bytes → held c ≡ [] → contents (inner c) ≡ Some [] → contents (inner d) ≡ Some items
     → AnswersAll (take (reading a).left bytes) items
 answers-known remaining contents a b c d bytes items h unended known empty none some =
-    let read = known-all _ bytes known (h.all unended) in
+    let read = known-all _ (λ xs. bytes_read a b ≡ take (reading a).left xs) bytes known (h.all unended) in
     let put = known-text _ _ (held c ++ bytes_put c d) items none some h.handed ∙ ap (λ front. front ++ bytes_put c d) empty in
     subst (λ text. AnswersAll (take (reading a).left bytes) text) (sym put) (subst (λ xs. AnswersAll xs (bytes_put c d)) read h.answers)
