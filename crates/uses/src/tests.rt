@@ -286,14 +286,14 @@ fn arrays_in_json(rt: HostRuntime) {
 
 #[test]
 fn texts_in_an_arena(rt: HostRuntime) {
-    let mut arena = [7; 43];
+    let mut arena = [7; 60];
     let (first, rest) = keep_text(123, &mut arena);
     let (second, rest) = keep_text(0, rest);
     let (third, rest) = keep_text(18446744073709551615, rest);
     assert_eq!(rt; &*first, b"123".as_slice());
     assert_eq!(rt; &*second, b"0".as_slice());
     assert_eq!(rt; &*third, b"18446744073709551615".as_slice());
-    assert_eq!(rt; rest.len(), 19);
+    assert_eq!(rt; rest.len(), 36);
     assert!(rt; have_same_kept_texts(12, 12));
     assert!(rt; !have_same_kept_texts(12, 21));
 }
