@@ -92,7 +92,13 @@ impl Answerer {
             → BreaksOff false (read ++ (end.now ++ 10 ∷ [])) (added before (K.taken sink.new))) }
         ensures puts { PutsMore K.taken K.faults K.keeps sink.old sink.new result }
     {
-        let is_good = put_line(&mut self.line, end, self.line_number, &mut self.answer, sink)?;
+        let is_good = put_line(
+            &mut self.line,
+            end,
+            self.line_number,
+            &mut self.answer,
+            sink,
+        )?;
         self.line.clear();
         self.line_number = self.line_number.saturating_add(1);
         self.all_good &= is_good;
