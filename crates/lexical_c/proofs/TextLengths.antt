@@ -1,15 +1,13 @@
 -- How long a text is.
-use Rattle.std.proofs.Common.{◌≡◌, None, Some, ℕ, ℤ, List, ◌+◌, ◌^◌, ◌<◌, ◌≤◌, length, length-append, unsigned_abs, refl, arith}
-use Rattle.std.specs.Option.{ForSome}
-use Rattle.std.specs.Prelude.{◌≤ℤ◌, Option}
+use Rattle.std.proofs.Common.{◌≡◌, ℕ, ℤ, ◌+◌, ◌^◌, ◌<◌, ◌≤◌, length, unsigned_abs, refl, arith}
+use Rattle.std.specs.Prelude.{◌≤ℤ◌}
 use Rattle.lexical_num.specs.DecimalWidth.{IsDecimalWidth}
-use Rattle.lexical_num.specs.Format.{Format, IsGrouping, IsValid, grouped_length}
+use Rattle.lexical_num.specs.Format.{Format, IsValid, grouped_length}
 use Rattle.lexical_num.specs.Range.{IsRange}
 use Rattle.lexical_num.specs.Sign.{sign_of}
 use Rattle.lexical_write_integer.specs.Computed.{text_of}
 use Rattle.lexical_write_integer.specs.DigitCount.{digit_count}
-use Rattle.lexical_write_integer.specs.Groups.{grouped}
-use Rattle.lexical_write_integer.specs.Text.{IsText, need}
+use Rattle.lexical_write_integer.specs.Text.{need}
 use Rattle.lexical_write_integer.proofs.Computed.{text_computed}
 use Rattle.lexical_write_integer.proofs.Lengths.{length-IsText}
 use Rattle.lexical_write_integer.proofs.Printed.{IsRange-small}
