@@ -57,6 +57,7 @@ pub fn algorithm_counted<T: DigitCount>(
     ensures notes { turns.new ≡ turns.old ++ table_notes radix (T.magnitude value) }
     ensures turns { length turns.new ≡ length turns.old + table_turns radix result }
     ensures few_turns { length turns.new ≤ length turns.old + 21 }
+    ensures short { result ≤ T.BITS }
 {
     value.fits_bits();
     write_number(value, radix, table, buffer, turns)
@@ -70,6 +71,7 @@ pub fn algorithm<T: DigitCount>(value: T, radix: u32, table: &[u8], buffer: &mut
     requires table { BeginsWithPairs radix table.now }
     requires room { digit_count radix (T.magnitude value) ≤ length buffer.old }
     ensures digits { WritesDigits radix (T.magnitude value) buffer.old buffer.new result }
+    ensures short { result ≤ T.BITS }
 {
     algorithm_counted(value, radix, table, buffer, &mut Turns::new())
 }

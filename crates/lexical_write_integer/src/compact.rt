@@ -66,6 +66,7 @@ pub fn compact_counted<T: UnsignedInteger>(
     ensures digits { WritesDigits radix (T.magnitude value) buffer.old buffer.new result }
     ensures notes { turns.new ≡ turns.old ++ compact_notes radix (T.magnitude value) }
     ensures turns { length turns.new ≡ length turns.old + compact_turns result }
+    ensures short { result ≤ T.BITS }
 {
     value.fits_bits();
     // The digits are made from the last one on, so they go to a temporary first.
@@ -81,7 +82,8 @@ pub trait Compact: UnsignedInteger + FormattedSize {
     fn compact(self, radix: u32, buffer: &mut [u8]) -> usize
         requires radix { IsRadix radix }
         requires room { digit_count radix (Self.magnitude self) ≤ length buffer.old }
-        ensures digits { WritesDigits radix (Self.magnitude self) buffer.old buffer.new result };
+        ensures digits { WritesDigits radix (Self.magnitude self) buffer.old buffer.new result }
+        ensures short { result ≤ Self.BITS };
 }
 
 impl Compact for u8 {

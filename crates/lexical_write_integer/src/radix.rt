@@ -15,6 +15,7 @@ fn write_by_table<T: DigitCount>(value: T, radix: u32, buffer: &mut [u8]) -> usi
     requires radix { IsRadix radix }
     requires room { digit_count radix (T.magnitude value) ≤ length buffer.old }
     ensures digits { WritesDigits radix (T.magnitude value) buffer.old buffer.new result }
+    ensures short { result ≤ T.BITS }
 {
     algorithm(value, radix, get_table(radix), buffer)
 }
@@ -26,7 +27,8 @@ pub trait Radix: UnsignedInteger {
     fn radix(self, radix: u32, buffer: &mut [u8]) -> usize
         requires radix { IsRadix radix }
         requires room { digit_count radix (Self.magnitude self) ≤ length buffer.old }
-        ensures digits { WritesDigits radix (Self.magnitude self) buffer.old buffer.new result };
+        ensures digits { WritesDigits radix (Self.magnitude self) buffer.old buffer.new result }
+        ensures short { result ≤ Self.BITS };
 }
 
 impl Radix for u8 {

@@ -1,7 +1,7 @@
 use Rattle.std.proofs.Common.{◌≡◌, ◌+◌, ◌^◌, ◌<◌, length, arith}
 use Rattle.std.proofs.Math.Nat.{pow-le-pow_right}
 use Rattle.lexical_write_integer.specs.LoopTurns.{table_turns}
-use Rattle.lexical_write_integer.proofs.DigitCounts.{width-le_64}
+use Rattle.lexical_write_integer.proofs.DigitCounts.{digit_count-le_width, width-le_64}
 use Rattle.lexical_write_integer.proofs.LoopNotes.{length-more, length-table_notes, table_turns-le_21}
 use Rattle.lexical_write_integer.proofs.algorithm.algorithm_counted.Goals as goal
 use Rattle.lexical_write_integer.proofs.algorithm.algorithm_counted.Goals.{After-write_number}
@@ -18,3 +18,6 @@ returns-clause-few_turns g c =
     let fits : g.T.UnsignedInteger.magnitude c.args.value < 2 ^ 64 = omega (arith, c.fits_bits.ensures, pow-le-pow_right {n = 2} (omega arith) {i = g.T.LexicalInteger.BITS} {j = 64} (width-le_64 _ g.met.T.UnsignedInteger.range.width)) in
     let few = rw (← c.write_number.ensures.digits.count) at (table_turns-le_21 c.args.radix (g.T.UnsignedInteger.magnitude c.args.value) c.requires.radix.at_least_two fits) in
     omega (arith, turns_are g (goal.at.returns-clause-few_turns g c).After-write_number, few)
+
+pub returns-clause-short : goal.returns-clause-short
+returns-clause-short g c = omega (arith, c.write_number.ensures.digits.count, digit_count-le_width _ _ _ c.requires.radix.at_least_two g.met.T.UnsignedInteger.range.width c.fits_bits.ensures)

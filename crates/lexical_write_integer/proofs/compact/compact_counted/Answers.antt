@@ -1,6 +1,6 @@
 use Rattle.std.proofs.Common.{◌≡◌, arith}
 use Rattle.lexical_write_integer.specs.DigitCount.{digit_count}
-use Rattle.lexical_write_integer.proofs.DigitCounts.{digit_count-le_64}
+use Rattle.lexical_write_integer.proofs.DigitCounts.{digit_count-le_64, digit_count-le_width}
 use Rattle.lexical_write_integer.proofs.LoopNotes.{length-more, length-compact_notes}
 use Rattle.lexical_write_integer.proofs.compact.compact_counted.Goals as goal
 
@@ -15,3 +15,10 @@ returns-clause-turns g c =
     let notes = rw c.as_usize.ensures at c.write_in_radix-index.ensures.notes in
     let count : c.copy_to_front.result ≡ digit_count c.args.radix magnitude = omega (arith, c.copy_to_front.ensures.count) in
     rw count (length-more _ _ _ _ notes (length-compact_notes c.args.radix magnitude))
+
+pub returns-clause-short : goal.returns-clause-short
+returns-clause-short g c =
+    let magnitude = g.T.UnsignedInteger.magnitude c.args.value in
+    let place = rw c.as_usize.ensures at c.write_in_radix-index.ensures.place in
+    let count : c.copy_to_front.result ≡ digit_count c.args.radix magnitude = omega (arith, c.copy_to_front.ensures.count) in
+    omega (arith, count, digit_count-le_width c.args.radix magnitude _ c.requires.radix.at_least_two g.met.T.UnsignedInteger.range.width c.fits_bits.ensures)
