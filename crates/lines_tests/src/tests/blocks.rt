@@ -27,7 +27,7 @@ fn answered(alloc: Global, bytes: &[u8]) -> (u8, Vec<u8>)
 }
 
 #[test]
-fn a_vector_gets_the_answers(rt: HostRuntime) {
+fn answers_go_into_a_vector(rt: HostRuntime) {
     let (status, answers) = answered(rt.alloc(), b"u8 10 5\nu8 2 256\ni8 16 -128");
     assert_eq!(rt; status, 1);
     assert_eq!(rt; answers.as_slice(), b"5\nbad line 2\n-80\n".as_slice());
