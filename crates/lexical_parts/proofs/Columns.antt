@@ -7,11 +7,11 @@ use Rattle.lexical_write_integer.proofs.Fronts.{Front-after, length-after, take-
 use Rattle.lexical_parts.specs.Column.{IsAtLeft, IsAtRight}
 
 -- spaces written after a text
-pub written_left : {Is : List ℕ → Type 0} {width : ℕ} {before between part : List ℕ} {count room more : ℕ} →
+pub written_left : {Is : List ℕ → Type 0} {width : ℕ} {before between part : List ℕ} {count more : ℕ} (room : ℕ) →
     Writes Is before between count →
     Writes (IsExactly (replicate (width - count) 32)) (take room (drop count between)) part more →
     Writes (IsAtLeft width Is) before (take count between ++ (part ++ drop room (drop count between))) (count + more)
-written_left {Is} {width} {before} {between} {part} {count} {room} {more} a b = record {
+written_left {Is} {width} {before} {between} {part} {count} {more} room a b = record {
   text = a.text ++ b.text;
   is = record {
     cell = a.text;
@@ -32,14 +32,14 @@ written_right {Is} {width} {before} {between} {after} {count} a b =
     let whole : List ℕ = spaces ++ a.text in
     let spaced : spaces ++ take count between ≡ whole = ap (λ text. spaces ++ text) cell in
     let long : length whole ≡ count + (width - count) =
-        omega (arith, length-append spaces a.text, length-replicate {A = ℕ} (width - count) 32, a.count) in
+    omega (arith, length-append spaces a.text, length-replicate {A = ℕ} (width - count) 32, a.count) in
     let rest : drop count between ≡ drop count before =
-        ap (drop count) a.front.written ∙ drop_at a.text (drop (length a.text) before) count (sym a.count)
-        ∙ ap (λ k. drop k before) (sym a.count) in
+    ap (drop count) a.front.written ∙ drop_at a.text (drop (length a.text) before) count (sym a.count)
+    ∙ ap (λ k. drop k before) (sym a.count) in
     let kept : drop (count + (width - count)) between ≡ drop (count + (width - count)) before =
-        sym (drop-drop (width - count) count between) ∙ ap (drop (width - count)) rest ∙ drop-drop (width - count) count before in
+    sym (drop-drop (width - count) count between) ∙ ap (drop (width - count)) rest ∙ drop-drop (width - count) count before in
     let same_length : length between ≡ length before =
-        omega (arith, ap length a.front.written, length-append a.text (drop (length a.text) before), length-drop (length a.text) before, a.front.fits) in
+    omega (arith, ap length a.front.written, length-append a.text (drop (length a.text) before), length-drop (length a.text) before, a.front.fits) in
     let b' = rw spaced at b in
     record {
       text = whole;
@@ -47,7 +47,7 @@ written_right {Is} {width} {before} {between} {after} {count} a b =
       front = record {
         fits = omega (arith, b'.fits, same_length);
         written = b'.written ∙ ap (λ n. whole ++ drop n between) long ∙ ap (λ xs. whole ++ xs) kept
-        ∙ ap (λ n. whole ++ drop n before) (sym long);
+            ∙ ap (λ n. whole ++ drop n before) (sym long);
       };
       count = sym long;
     }

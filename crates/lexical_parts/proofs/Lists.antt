@@ -19,12 +19,12 @@ AreEach-push IsOf (y ∷ ys) x s t each is = record {
 }
 
 -- a loop of the caller's writes the text of element `i` after the texts of the elements before it
-pub written_each : {A : Type 0} (IsOf : A → List ℕ → Type 0) {xs : List A} {i : ℕ} (d : A)
-    {before between part : List ℕ} {count room more : ℕ} →
+pub written_each : {A : Type 0} (IsOf : A → List ℕ → Type 0) (xs : List A) {i : ℕ} (d : A)
+    {before between part : List ℕ} {count more : ℕ} (room : ℕ) →
     i < length xs → Writes (AreEach IsOf (take i xs)) before between count →
     Writes (IsOf (get_or xs i d)) (take room (drop count between)) part more →
     Writes (AreEach IsOf (take (i + 1) xs)) before (take count between ++ (part ++ drop room (drop count between))) (count + more)
-written_each IsOf {xs} {i} d {before} {between} {part} {count} {room} {more} inside a b = rw (take_more xs i d inside) (record {
+written_each IsOf xs {i} d {before} {between} {part} {count} {more} room inside a b = rw (take_more xs i d inside) (record {
   text = a.text ++ b.text;
   is = AreEach-push IsOf (take i xs) (get_or xs i d) a.text b.text a.is b.is;
   front = Front-after before between part a.text b.text count room a.count a.front b.front;
@@ -63,12 +63,12 @@ AreJoined-push IsOf separator lead (x ∷ z ∷ xs) y s t leads was is =
     }
 
 -- element `i` is written after the texts of the elements before it, and after the separator unless it is the first
-pub written_joined : {A : Type 0} (IsOf : A → List ℕ → Type 0) (separator lead : List ℕ) {xs : List A} {i : ℕ} {y : A}
-    {before between part : List ℕ} {count room more : ℕ} →
+pub written_joined : {A : Type 0} (IsOf : A → List ℕ → Type 0) (separator lead : List ℕ) (xs : List A) {i : ℕ} {y : A}
+    {before between part : List ℕ} {count more : ℕ} (room : ℕ) →
     i < length xs → y ≡ get_or xs i y → Leads separator i lead → Writes (AreJoined IsOf separator (take i xs)) before between count →
     Writes (IsExactly lead then IsOf y) (take room (drop count between)) part more →
     Writes (AreJoined IsOf separator (take (i + 1) xs)) before (take count between ++ (part ++ drop room (drop count between))) (count + more)
-written_joined IsOf separator lead {xs} {i} {y} {before} {between} {part} {count} {room} {more} inside is leads a b =
+written_joined IsOf separator lead xs {i} {y} {before} {between} {part} {count} {more} room inside is leads a b =
     let one_longer : take (i + 1) xs ≡ take i xs ++ y ∷ [] = take_more xs i y inside ∙ ap (λ x. take i xs ++ x ∷ []) (sym is) in
     let leads' : Leads separator (length (take i xs)) lead = rw (length-take-le i xs (omega arith)) leads in
     rw one_longer (record {

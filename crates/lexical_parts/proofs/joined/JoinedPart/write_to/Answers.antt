@@ -28,7 +28,7 @@ loop-index-preserved g c =
           rw w.separator-is (omega (arith, c.loop-index.invariant.within, none, mul-le-mul_right (size + length separator) none))
     ] in
     record {
-      written = written_joined (λ x. IsText (g.T.LexicalInteger.number x) standard) separator lead
-      c.loop-index-test.true c.number-item.is leads c.loop-index.invariant.written c.write_to-count.ensures.text;
+      written = written_joined (λ x. IsText (g.T.LexicalInteger.number x) standard) separator lead _ _
+          c.loop-index-test.true c.number-item.is leads c.loop-index.invariant.written c.write_to-count.ensures.text;
       within = omega (arith, within, c.write_to-count.ensures.short);
     }

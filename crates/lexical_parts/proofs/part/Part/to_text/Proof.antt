@@ -127,7 +127,7 @@ module _ (T : Able) {M : Type 1} {𝓤 : Ura M} (𝓛 : Logic 𝓤) (at_mem : Me
 
     walk : Room u8 (length xs) → Typed (layout T.row ∷ []) (x_vals T x)
         → ent 𝓤 ((walk_of 𝓛 (ended T) (stayed T) clauses).pre bound)
-          (WpFn 𝓤 H 𝓣.C 𝓣.Λ (function T) ((walk_of 𝓛 (ended T) (stayed T) clauses).args bound) ((walk_of 𝓛 (ended T) (stayed T) clauses).post bound))
+        (WpFn 𝓤 H 𝓣.C 𝓣.Λ (function T) ((walk_of 𝓛 (ended T) (stayed T) clauses).args bound) ((walk_of 𝓛 (ended T) (stayed T) clauses).post bound))
     walk room typed =
         qed 𝓛 (((‵ (flft κ q) ⊛ ‵ tokens) ⊛ (‵ ((R T).own_val x (x_vals T x)) ⊛ ‵ ((MutSlice (named 0) κ u8).own_val self (mut_slice_vals self)) ⊛ ‵ ftrue)) ∷
         (given (κT ⊑ T.row.lives) (‵ ftrue) ⊛ given (T.g.is_valid x) (‵ ftrue) ⊛ given (room_for ≤ length xs) (‵ ftrue)) ∷ []) ∵
@@ -137,7 +137,7 @@ module _ (T : Able) {M : Type 1} {𝓤 : Ura M} (𝓛 : Logic 𝓤) (at_mem : Me
         -- let p = &mut *buffer, with its count
         sets ! (addr ! (from ! (fld ! refl (hop ! (look_in_at ! 2 (sub ! 0 refl (whole !))) (stop !))))) refl (tt, tt) $
         sets ! (agg ! (and_then ! (get ! refl) (and_then ! (get_in ! (fld ! refl (stop !)) (sub ! 1 refl (whole !))) (no_more !)))) refl
-          (tt, (tt, (record { fits = room.0 }, tt))) $
+        (tt, (tt, (record { fits = room.0 }, tt))) $
         split ! $ move ! (2 ∷ []) $ split3 ! $
         -- [the value; the slice; nothing; the token of κ; the other token]
         lft_new ! tt (λ α. move ! (2 ∷ 4 ∷ []) $
@@ -151,7 +151,7 @@ module _ (T : Able) {M : Type 1} {𝓤 : Ura M} (𝓛 : Logic 𝓤) (at_mem : Me
         calls_at ! (fm_of 𝓤 H 𝓛.laws 𝓣) Writes writes z (and_then ! (get ! refl) (and_then ! (get ! refl) (no_more !))) (λ v.
         use1 𝓛 (later (some (λ (n : ℕ). ((‵ (flft (α ∷ []) full_share) ⊛ ‵ tokens) ⊛ ‵ (usize.own_val n (v ∷ []))) ⊛
         some (λ (ws : Unit {0} × (List ℕ × Unit {0})). ‵ (lasts (W.ended T.row T.g T.d T.gc T.dc) z.0.0 z.0.3 ws) ⊛
-          (raw (fact 𝓤 (Written Text xs ws.1.0 n)) ⊛ raw (fact 𝓤 (n ≤ room_for))))))) (id⊢ 𝓤 _) $
+        (raw (fact 𝓤 (Written Text xs ws.1.0 n)) ⊛ raw (fact 𝓤 (n ≤ room_for))))))) (id⊢ 𝓤 _) $
         await ! tt $ pick ! (λ n. split ! $ split ! $ split ! $ lft_end ! tt $ move ! (2 ∷ 3 ∷ []) $ fsplit ! $ feq_l ! (λ is. flt_l ! (λ fits.
         pick ! (λ ws. split3 ! $ move ! (1 ∷ []) $ heard ! _ (λ text. move ! (1 ∷ []) $ heard ! _ (λ short.
         fsplit ! $ drop ! $ fsplit ! $ move ! (2 ∷ 4 ∷ 0 ∷ []) $
@@ -163,7 +163,7 @@ module _ (T : Able) {M : Type 1} {𝓤 : Ura M} (𝓛 : Logic 𝓤) (at_mem : Me
         lands_as ! (ap only is) refl (tt, record { fits = fits }) $
         sets ! (addr ! (from ! (fld ! refl (hop ! (look_in_at ! 2 (sub ! 0 refl (whole !))) (stop !))))) refl (tt, tt) $
         sets ! (agg ! (and_then ! (get ! refl) (and_then ! (get_in ! (fld ! refl (stop !)) (sub ! 1 refl (whole !))) (no_more !)))) refl
-          (tt, (tt, (record { fits = room.0 }, tt))) $
+        (tt, (tt, (record { fits = room.0 }, tt))) $
         let y : (Fronts 𝓛 at_mem run).Ghost = called 𝓛 at_mem run κ q b o γ xs ys n in
         use2 𝓛 (raw ((Fronts 𝓛 at_mem run).pre y)) (asks 𝓛 at_mem run κ q b o γ xs ys n wrote fits long) $
         calls_at ! (fm_of 𝓤 H 𝓛.laws 𝓣) (Fronts 𝓛 at_mem run) fronts y (and_then ! (get ! refl) (and_then ! (get ! refl) (no_more !))) (λ v'.
