@@ -1,4 +1,4 @@
-//! Tests of the formats, the tables, the counts and the writers against known values.
+//! Tests of the formats, the tables, the digit counts and the writers against known values.
 #![tactic(auto)]
 
 #[cfg(test)]
