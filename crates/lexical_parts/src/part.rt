@@ -26,7 +26,7 @@ pub trait Part: Copy {
         ensures { result ≡ min (room self) usize.MAX };
 
     /// Writes the text to the start of the buffer, and returns its length. Every byte after the
-    /// text is unchanged. The part must be valid, and the buffer must have at least `room` bytes.
+    /// text is unchanged. The part must be valid, and the buffer must have `room` bytes or more.
     fn write_to(self, buffer: &mut [u8]) -> usize
         requires valid { is_valid self }
         requires room { room self ≤ length buffer.old }
@@ -35,7 +35,7 @@ pub trait Part: Copy {
 
     /// Writes the text to the start of the buffer, and returns those bytes of the buffer, which the
     /// caller may read and change. Every byte after the text is unchanged. The part must be valid,
-    /// and the buffer must have at least `room` bytes.
+    /// and the buffer must have `room` bytes or more.
     final fn to_text(self, buffer: &mut [u8]) -> &mut [u8]
         requires valid { is_valid self }
         requires room { room self ≤ length buffer.old }
@@ -47,8 +47,8 @@ pub trait Part: Copy {
         front_mut(buffer, count)
     }
 
-    /// Writes the text to the start of the buffer and returns its length if the buffer has at least
-    /// `room` bytes. Otherwise returns `None`, and the buffer is unchanged. The part must be valid.
+    /// Writes the text to the start of the buffer and returns its length if the buffer has `room`
+    /// bytes or more. Otherwise returns `None`, and the buffer is unchanged. The part must be valid.
     final fn try_write_to(self, buffer: &mut [u8]) -> Option<usize>
         requires { is_valid self }
         ensures fits { IsSome result ↔ (room self ≤ length buffer.old) }

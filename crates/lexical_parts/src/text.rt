@@ -1,4 +1,4 @@
-//! Parts whose text is given as bytes.
+//! Parts that are strings or bytes, whose text is the same bytes.
 
 ghost use Rattle.std.specs.Prelude.{ℕ, [], ◌∷◌, length, ⊤};
 ghost use Rattle.lexical_write_integer.specs.Sequence.{IsExactly};
