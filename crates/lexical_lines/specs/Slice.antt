@@ -1,4 +1,4 @@
--- What contracts see of the devices over memory.
+-- The states of `SliceSource` and `SliceSink` in contracts. Ghost members cite the proofs that are here.
 use Rattle.std.specs.Prelude.{◌≡◌, ◌⊎◌, ℕ, ◌+◌, ◌-◌, ◌≤◌, Bool, true, List, [], ◌++◌, length, take, drop, refl}
 use Rattle.std.proofs.Common.{arith, sym, ap, ◌∙◌, inl, inr}
 use Rattle.std.proofs.lemmas.List.{drop-drop}
@@ -8,13 +8,13 @@ use Rattle.lexical_lines.specs.declared.slice.SliceSink.{SliceSink}
 
 -- ---- the source
 
--- the bytes given, those that are left, and whether the end was told
+-- the bytes that were yielded, those that are left, and whether the source has reported its end
 pub record SliceReading : Type 0 where
   pub given : List ℕ
   pub left : List ℕ
   pub is_ended : Bool
 
--- the bytes as a whole stay, and once the end is told, none is left
+-- the bytes as a whole are unchanged, and once the source has reported its end, none are left
 pub record KeepsBytes (a b : SliceReading) : Type 0 where
   pub whole : b.given ++ b.left ≡ a.given ++ a.left
   pub at_end : (a.is_ended ≡ true → a.left ≡ []) → b.is_ended ≡ true → b.left ≡ []
@@ -27,23 +27,23 @@ KeepsBytes-transitive a b c p q = record { whole = q.whole ∙ p.whole; at_end =
 
 -- ---- the sink
 
--- the bytes taken, which stand at the front of its buffer
+-- the bytes that were taken, which are at the start of the buffer
 abbrev pub taken_in : SliceSink → List ℕ
 taken_in sink = take sink.count sink.buffer.now
 
--- the bytes of its buffer after those
+-- the bytes of the buffer after those
 abbrev pub rest_in : SliceSink → List ℕ
 rest_in sink = drop sink.count sink.buffer.now
 
--- the loan of its buffer
+-- the loan of the buffer
 abbrev pub loan_in : SliceSink → GName
 loan_in sink = sink.buffer.ghost_name
 
--- the number of its faults
+-- the number of failures
 abbrev pub faults_in : SliceSink → ℕ
 faults_in sink = sink.trace.faults
 
--- the loan stays, and so do the bytes after those that were taken; where it failed, it is full
+-- the loan and the bytes after those that were taken are unchanged, and if the sink failed, its buffer is full
 pub record KeepsBuffer (a b : SliceSink) : Type 0 where
   pub loan : loan_in b ≡ loan_in a
   pub longer : length (taken_in a) ≤ length (taken_in b)
