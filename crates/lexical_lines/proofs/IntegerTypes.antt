@@ -1,4 +1,4 @@
--- The ranges of the types, by magnitudes.
+-- The ranges of the types, as bounds on magnitudes.
 use Rattle.std.proofs.Common.{◌≡◌, ℕ, ◌-◌, ◌^◌, ◌<◌, ◌≤◌, zero, suc, Bool, true, false, negsuc, IsTrue, arith, refl}
 use mir.Val.{bool_byte}
 use Rattle.std.proofs.lemmas.Int.{ints}
@@ -29,7 +29,7 @@ greatest-lt_signed _ s = cc
 least-signed : (kind : IntegerType) → IsTrue (is_signed kind) → least kind ≡ negsuc (greatest kind)
 least-signed kind s = rw s refl
 
--- below 0 the magnitude goes one further
+-- the magnitude of a negative number is at most one more than the largest number
 Holds-least : (kind : IntegerType) (minus : Bool) (n : ℕ) → Holds kind minus n → n - bool_byte minus ≤ greatest kind
 Holds-least kind false n h = let top = h.in_range.at_most in omega (arith, ints)
 Holds-least kind true zero h = omega arith
@@ -37,7 +37,7 @@ Holds-least kind true (suc n) h =
     let bottom = rw (least-signed kind (h.signed_type refl)) at h.in_range.at_least in
     omega (arith, ints)
 
--- no magnitude takes more than 64 bits
+-- every magnitude fits in 64 bits
 pub Holds-lt : (kind : IntegerType) (minus : Bool) (n : ℕ) → Holds kind minus n → n < 2 ^ 64
 Holds-lt kind false n h = omega (arith, Holds-least kind false n h, greatest-lt kind)
 Holds-lt kind true n h = omega (arith, Holds-least kind true n h, greatest-lt_signed kind (h.signed_type refl))

@@ -1,4 +1,4 @@
--- Joined texts grow by one text at their end.
+-- Joined texts with one more text at their end.
 use Rattle.std.proofs.Common.{◌≡◌, ℕ, ◌+◌, ◌<◌, List, [], ◌∷◌, ◌++◌, length, get_or, take, set, map, refl, sym, ap, ◌∙◌, arith, ℤ, length-append, append_assoc}
 use Rattle.std.proofs.lemmas.List.{map-append, take_more}
 use Rattle.lexical_num.specs.Format.{Format}
@@ -7,7 +7,7 @@ use Rattle.lexical_write_integer.specs.Text.{IsText}
 use Rattle.lexical_lines.proofs.Buffers.{Front-push}
 use Rattle.lexical_lines.specs.Joined.{AreTexts, IsJoined, joined}
 
--- ---- one text more
+-- ---- one more text
 
 AreTexts-push : (numbers : List ℤ) (format : Format) (texts : List (List ℕ)) (x : ℤ) (text : List ℕ) → AreTexts numbers format texts → IsText x format text → AreTexts (numbers ++ x ∷ []) format (texts ++ text ∷ [])
 AreTexts-push [] format [] x text each is = (is, tt)
@@ -45,25 +45,25 @@ IsJoined-push mark format numbers x text last some was is =
       whole = ap (λ front. (front ++ mark ∷ []) ++ last) was.whole ∙ sym (joined-push mark was.texts last (omega arith));
     }
 
--- the first numbers and the next
+-- the first i + 1 numbers are the first i and the next
 pub map-take_more : {X : Type 0} (f : X → ℤ) (xs : List X) (i : ℕ) (x : X) → i < length xs → x ≡ get_or xs i x → map f (take (i + 1) xs) ≡ map f (take i xs) ++ f x ∷ []
 map-take_more f xs i x less is = ap (map f) (take_more xs i x less) ∙ map-append f (take i xs) (get_or xs i x ∷ []) ∙ ap (λ y. map f (take i xs) ++ f y ∷ []) (sym is)
 
 -- ---- in the buffer
 
--- a text is written, and what follows it with one property makes a whole with the other
+-- a text is written, and whatever follows it with the one property makes a whole with the other
 pub record Ready (IsNext IsWhole : List ℕ → Type 0) (before between : List ℕ) (count : ℕ) : Type 0 where
   pub text : List ℕ
   pub counted : count ≡ length text
   pub front : Front before between text
   pub whole : (last : List ℕ) → IsNext last → IsWhole (text ++ last)
 
--- for the first text
+-- before the first text
 pub Ready-one : (mark : ℕ) (format : Format) (numbers : List ℤ) (x : ℤ) (before between : List ℕ) (count : ℕ) → length numbers ≡ 0 → Writes (IsJoined numbers mark format) before between count → Ready (IsText x format) (IsJoined (numbers ++ x ∷ []) mark format) before between count
 Ready-one mark format numbers x before between count none w =
     record { text = w.text; counted = w.count; front = w.front; whole = λ last. IsJoined-one mark format numbers x w.text last none w.is }
 
--- for a text after the mark
+-- before each later text, after its separator
 pub Ready-push : (mark : ℕ) (format : Format) (numbers : List ℤ) (x : ℤ) (before between : List ℕ) (count : ℕ) → 0 < length numbers → count < length before → Writes (IsJoined numbers mark format) before between count → Ready (IsText x format) (IsJoined (numbers ++ x ∷ []) mark format) before (set between count mark) (count + 1)
 Ready-push mark format numbers x before between count some less w =
     record {

@@ -1,4 +1,4 @@
--- The one way in which an input is cut into lines.
+-- An input is cut into lines in exactly one way.
 use Rattle.std.proofs.Common.{◌≡◌, ◌≢◌, ℕ, List, [], ◌∷◌, ◌++◌, refl, sym, ap, ◌∙◌, append_assoc, inl, inr}
 use Rattle.std.proofs.lemmas.Bool.{cases_eq}
 use Rattle.std.specs.List.{All}
@@ -8,14 +8,14 @@ use Rattle.std.proofs.lemmas.List.Elements.{All-nil, All-cons, All-head, All-tai
 use Rattle.lexical_lines.specs.Lines.{IsCut, AreLines, EndsLine, NoNewline, with_newlines, rest_line}
 use Rattle.lexical_lines.proofs.Separators.{Lacks-not, cut_unique}
 
--- a byte that is no byte 10
+-- the byte is not a newline
 abbrev pub IsInside : ℕ → Type 0
 IsInside byte = byte ≢ 10
 
 with_newlines-cons : (line : List ℕ) (ended : List (List ℕ)) (rest : List ℕ) → with_newlines (line ∷ ended) ++ rest ≡ line ++ 10 ∷ (with_newlines ended ++ rest)
 with_newlines-cons line ended rest = simp append_assoc
 
--- ---- one byte more
+-- ---- more bytes
 
 pub IsCut-none : IsCut [] [] []
 IsCut-none = record { whole = refl; each = All-nil NoNewline; rest_inside = All-nil IsInside }
@@ -106,7 +106,7 @@ AreLines-exist bytes =
     let (ended, rest, cut) = IsCut-exists bytes in
     (ended ++ rest_line rest, record { ended = ended; rest = rest; cut = cut; are = refl })
 
--- ---- and one only
+-- ---- no input has two cuts
 
 no_newline : (line more : List ℕ) (rest : List ℕ) → NoNewline rest → rest ≡ line ++ 10 ∷ more → ⊥
 no_newline line more rest inside e = Lacks-not 10 line more (rw e at inside)
@@ -130,7 +130,7 @@ AreLines-unique bytes all other p q =
     let same = cuts_unique p.ended q.ended p.rest q.rest p.cut.each q.cut.each p.cut.rest_inside q.cut.rest_inside (sym p.cut.whole ∙ q.cut.whole) in
     p.are ∙ ap (λ ended. ended ++ rest_line p.rest) same.0 ∙ ap (λ rest. q.ended ++ rest_line rest) same.1 ∙ sym q.are
 
--- ---- an input after another, which ends with a byte 10
+-- ---- an input after another that ends with a newline
 
 IsCut-append : {bytes more : List ℕ} {ended others : List (List ℕ)} {rest : List ℕ} → IsCut bytes ended [] → IsCut more others rest → IsCut (bytes ++ more) (ended ++ others) rest
 IsCut-append {ended = ended} {others = others} {rest = rest} p q = record {
@@ -152,7 +152,7 @@ AreLines-append bytes more all others (front, ends) p q =
       are = (λ i. same i ++ q.are i) ∙ sym (append_assoc (ended ++ rest ∷ []) q.ended (rest_line q.rest));
     }
 
--- the lines that ended are the first ones of a longer input
+-- the lines that ended are the first lines of a longer input
 pub AreLines-longer : {bytes : List ℕ} {ended : List (List ℕ)} {rest : List ℕ} (more : List ℕ) → IsCut bytes ended rest → (others : List (List ℕ)) × AreLines (bytes ++ more) (ended ++ others)
 AreLines-longer {bytes = bytes} {ended = ended} {rest = rest} more cut =
     let (others, last, further) = IsCut-exists (rest ++ more) in

@@ -12,7 +12,7 @@ use Rattle.lexical_lines.proofs.Separators.{Lacks, cut_unique}
 use Rattle.lexical_lines.proofs.Decimals.{IsDigitByte, IsDecimal-bytes, IsDecimal-from_digits}
 use Rattle.lexical_lines.proofs.Signs.{stripped_unique}
 
--- no byte is a space
+-- no byte of the text is a space
 abbrev pub NoSpace : List ℕ → Type 0
 NoSpace text = Lacks 32 text
 
@@ -52,7 +52,7 @@ no_space-optional_sign true = lacks_space-is (43 ∷ []) refl
 pub no_space-signed : (is_there : Bool) (text : List ℕ) → All IsDigitByte text → NoSpace (optional_sign is_there 43 ++ text)
 no_space-signed is_there text h = All-append (λ byte. byte ≢ 32) (optional_sign is_there 43) text (no_space-optional_sign is_there) (no_space-digits text h)
 
--- ---- what a line's parts are
+-- ---- the parts of a valid line are unique
 
 pub radix_bytes : {kind : IntegerType} {plus : Bool} {radix : ℕ} {number : ℤ} {line : List ℕ} (h : IsRequest kind plus radix number line) → All IsDigitByte h.radix_text
 radix_bytes {radix = radix} h = IsDecimal-bytes radix h.radix_text (IsDecimal-from_digits radix h.radix_text h.radix_digits)
@@ -75,12 +75,12 @@ pub IsRequest-radix : {kind : IntegerType} {plus : Bool} {radix : ℕ} {number :
 IsRequest-radix {plus = plus} h first text found is e stripped =
     (stripped_unique 43 first text h.radix_text found plus (omega arith) e stripped is (radix_bytes h)).1
 
--- the sign of a value, and its magnitude
+-- the sign of a value and its digits
 pub IsValue-parts : {kind : IntegerType} {number : ℤ} {text : List ℕ} (h : IsValue kind number text) (digits : List ℕ) (minus : Bool) → text ≡ optional_sign minus 45 ++ digits → (StartsWith text 45 → minus ≡ true) → (minus ≡ h.minus) × (digits ≡ h.digits)
 IsValue-parts {text = text} h digits minus e stripped =
     stripped_unique 45 text digits h.digits minus h.minus (omega arith) e stripped h.whole (IsDecimal-bytes h.magnitude h.digits h.decimal)
 
--- the type of a name, so that two types have two names
+-- the type with this name
 type_named : List ℕ → IntegerType
 type_named text = cond (bytes_eq text (name_of U8)) U8 (cond (bytes_eq text (name_of U16)) U16 (cond (bytes_eq text (name_of U32)) U32 (cond (bytes_eq text (name_of U64)) U64 (cond (bytes_eq text (name_of Usize)) Usize (cond (bytes_eq text (name_of I8)) I8 (cond (bytes_eq text (name_of I16)) I16 (cond (bytes_eq text (name_of I32)) I32 (cond (bytes_eq text (name_of I64)) I64 (Isize)))))))))
 

@@ -1,4 +1,4 @@
--- How far a run has come.
+-- What an answerer has done so far, and how a run ends.
 use Rattle.std.proofs.Common.{rules, ◌≡◌, ◌↔◌, ℕ, ◌+◌, ◌-◌, ◌^◌, min, Bool, true, false, List, [], ◌∷◌, ◌++◌, length, ◌≤◌, Some, refl, sym, ap, ◌∙◌, arith, append_assoc, IsTrue, length-append, inl, inr, ◌&&◌, ◌⊎◌}
 use Rattle.std.specs.List.{All}
 use Rattle.std.specs.Prelude.{nat_le}
@@ -29,7 +29,7 @@ HasAnswered-none taken answerer line number good = record {
   last = line;
 }
 
--- ---- the answer to one line more
+-- ---- the answer to one more line
 
 pub AreAnswersFrom-push : (i : ℕ) (ended : List (List ℕ)) (answers line answer : List ℕ) → AreAnswersFrom i ended answers → IsAnswer (i + length ended) line answer → AreAnswersFrom i (ended ++ line ∷ []) (answers ++ answer)
 AreAnswersFrom-push i [] answers line answer h is =
@@ -39,7 +39,7 @@ AreAnswersFrom-push i (first ∷ ended) answers line answer (a, rest, is_first, 
     let there : i + length (first ∷ ended) ≡ i + 1 + length ended = omega arith in
     (a, rest ++ answer, is_first, AreAnswersFrom-push (i + 1) ended rest line answer more (rw there at is), ap (λ xs. xs ++ answer) whole ∙ append_assoc a rest answer)
 
--- a line number stays at the greatest
+-- a line number stays at the largest number of 64 bits
 min_twice : (i top : ℕ) → min (min i top) top ≡ min i top
 min_twice i top = omega arith
 
@@ -80,7 +80,7 @@ module _ {before bytes taken : List ℕ} {answerer : Answerer} (h : HasAnswered 
   pub taken_after : (after answer : List ℕ) → after ≡ taken ++ answer → after ≡ before ++ (h.answers ++ answer)
   taken_after after answer e = e ∙ ap (λ xs. xs ++ answer) h.whole ∙ append_assoc before h.answers answer
 
-  -- one byte more of a line
+  -- one more byte of a line
   pub HasAnswered-byte : (byte : ℕ) (next : Answerer) → IsInside byte → ((line : List ℕ) → answerer.line ≡ held line → next.line ≡ held (line ++ byte ∷ [])) → next.line_number ≡ answerer.line_number → next.all_good ≡ answerer.all_good
       → HasAnswered before (bytes ++ byte ∷ []) taken next
   HasAnswered-byte byte next inside push number good = record {
@@ -109,7 +109,7 @@ module _ {before bytes taken : List ℕ} {answerer : Answerer} (h : HasAnswered 
     last = line;
   }
 
-  -- a line ended, and was answered
+  -- a line has ended and is answered
   pub HasAnswered-line : (put answer : List ℕ) (next : Answerer) (is_good : Bool) → put ≡ taken ++ answer → IsAnswer answerer.line_number h.rest answer → (IsTrue is_good ↔ IsGood h.rest)
       → next.line ≡ held [] → next.line_number ≡ min (answerer.line_number + 1) (2 ^ 64 - 1) → next.all_good ≡ (answerer.all_good && is_good) → HasAnswered before (bytes ++ 10 ∷ []) put next
   HasAnswered-line put answer next is_good e is good line number all = record {
@@ -124,7 +124,7 @@ module _ {before bytes taken : List ℕ} {answerer : Answerer} (h : HasAnswered 
     last = line;
   }
 
-  -- ---- how it ends
+  -- ---- the end of the input
 
   pub answers_are : added before taken ≡ h.answers
   answers_are = added-is before taken h.answers h.whole
@@ -133,11 +133,11 @@ module _ {before bytes taken : List ℕ} {answerer : Answerer} (h : HasAnswered 
   pub answers_ended : AnswersEnded bytes (added before taken)
   answers_ended = (h.ended, h.rest, h.cut, rw (sym answers_are) at h.answered)
 
-  -- what is left is no line
+  -- if the answerer keeps no bytes, the lines that ended are all lines
   pub lines_at_empty : answerer.line ≡ held [] → AreLines bytes h.ended
   lines_at_empty none = AreLines-ended h.cut (held_empty h.rest (sym h.last ∙ none))
 
-  -- what is left is a line
+  -- otherwise the bytes that it keeps are the last line
   pub lines_at_rest : (answerer.line ≡ held [] → ⊥) → AreLines bytes (h.ended ++ h.rest ∷ [])
   lines_at_rest some = AreLines-rest h.cut (λ empty. some (h.last ∙ ap held empty))
 
@@ -154,7 +154,7 @@ module _ {before bytes taken : List ℕ} {answerer : Answerer} (h : HasAnswered 
       let answered = answers_after answer is in
       (h.ended ++ h.rest ∷ [], lines_at_rest some, rw put_is at answered)
 
-  -- the sink failed
+  -- the sink failed during the answer to the last line
   pub BreaksOff-from : (is_ended : Bool) (read put : List ℕ) → IsTrue is_ended ⊎ EndsLine read → AreLines read (h.ended ++ h.rest ∷ []) → (answer : List ℕ) (part : List ℕ) → IsAnswer answerer.line_number h.rest answer → IsBeginning part answer → put ≡ taken ++ part
       → BreaksOff is_ended read (added before put)
   BreaksOff-from is_ended read put line_end cut answer part is begins e = record {
@@ -171,7 +171,7 @@ module _ {before bytes taken : List ℕ} {answerer : Answerer} (h : HasAnswered 
     whole = added-is before put (h.answers ++ part) (taken_after put part e);
   }
 
--- where the lines broke off does not depend on the end of the input
+-- a run that broke off after a newline also broke off if the input has ended
 pub BreaksOff-open : (is_ended : Bool) {bytes put : List ℕ} → BreaksOff false bytes put → BreaksOff is_ended bytes put
 BreaksOff-open is_ended h = record {
   line_end = elim h.line_end [

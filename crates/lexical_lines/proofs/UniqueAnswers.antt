@@ -1,4 +1,4 @@
--- Each input has one text of answers.
+-- The answers to an input are unique.
 use Rattle.std.proofs.Common.{◌≡◌, ℕ, ◌+◌, ◌-◌, ◌^◌, ◌≤◌, min, Bool, List, [], ◌∷◌, ◌++◌, refl, sym, ap, ◌∙◌, arith, ℤ, inl, inr, ◌⊎◌, IsTrue, length, length-append, append_assoc}
 use Rattle.std.specs.Prelude.{codes}
 use Rattle.lexical_write_integer.specs.Text.{IsText}
@@ -18,14 +18,14 @@ use Rattle.lexical_lines.proofs.Decimals.{IsDecimal-bytes, IsDecimal-value, IsDe
 use Rattle.lexical_lines.proofs.Requests.{IsRequest-name, IsRequest-parts, no_space-name, no_space-signed, radix_bytes, whole_as}
 use Rattle.lexical_lines.proofs.Signs.{signs_unique}
 
--- a value has one number
+-- a text is the value of one number only
 IsValue-number : {kind other : IntegerType} {number second : ℤ} {text : List ℕ} → IsValue kind number text → IsValue other second text → number ≡ second
 IsValue-number h k =
     let parts = signs_unique 45 h.minus k.minus h.digits k.digits (omega arith) (sym h.whole ∙ k.whole) (IsDecimal-bytes h.magnitude h.digits h.decimal) (IsDecimal-bytes k.magnitude k.digits k.decimal) in
     let same : h.magnitude ≡ k.magnitude = sym (IsDecimal-value h.magnitude h.digits h.decimal) ∙ IsDecimal-value k.magnitude h.digits (rw parts.1 k.decimal) in
     h.value ∙ ap (λ minus. signed minus h.magnitude) parts.0 ∙ ap (signed k.minus) same ∙ sym k.value
 
--- a line asks for one thing
+-- a line makes one request only
 IsRequest-unique : {kind other : IntegerType} {plus add : Bool} {radix base : ℕ} {number second : ℤ} {line : List ℕ} → IsRequest kind plus radix number line → IsRequest other add base second line → (plus ≡ add) × (radix ≡ base) × (number ≡ second)
 IsRequest-unique {kind = kind} {other = other} {plus = plus} {add = add} {radix = radix} {base = base} {second = second} h k =
     let first = IsRequest-name k _ _ (whole_as h) (no_space-name kind) in
@@ -40,7 +40,7 @@ IsText-unique : (number : ℤ) (radix : ℕ) (plus : Bool) (a b : List ℕ) → 
 IsText-unique number radix plus a b h p q =
     p.whole ∙ ap (λ digits. sign_of number plus ++ digits) (digits_unique radix _ p.digits q.digits h p.magnitude q.magnitude) ∙ sym q.whole
 
--- a text with a byte 10 is one text where its kind has one
+-- if texts of a kind are unique, so are the lines made of them
 WithNewline-unique : (Is : List ℕ → Type 0) (a b : List ℕ) → ((s t : List ℕ) → Is s → Is t → s ≡ t) → WithNewline Is a → WithNewline Is b → a ≡ b
 WithNewline-unique Is a b only (s, p, e) (t, q, f) = e ∙ ap (λ text. text ++ 10 ∷ []) (only s t p q) ∙ sym f
 
@@ -66,7 +66,7 @@ pub AnswersAll-unique : (bytes a b : List ℕ) → AnswersAll bytes a → Answer
 AnswersAll-unique bytes a b (all, are, answers) (other, also, others) =
     AreAnswersFrom-unique 1 all a b answers (let same = AreLines-unique bytes other all also are in rw same at others)
 
--- ---- answers that broke off are a beginning of those to the whole input
+-- ---- answers that broke off are a prefix of the answers to the whole input
 
 AreAnswersFrom-split : (i : ℕ) (front back : List (List ℕ)) (text : List ℕ) → AreAnswersFrom i (front ++ back) text → (first : List ℕ) × (rest : List ℕ) × AreAnswersFrom i front first × (text ≡ first ++ rest)
 AreAnswersFrom-split i [] back text h = ([], text, refl, refl)
@@ -74,7 +74,7 @@ AreAnswersFrom-split i (line ∷ front) back text (answer, more, is, others, who
     let (first, rest, answered, e) = AreAnswersFrom-split (i + 1) front back more others in
     (answer ++ first, rest, (answer, first, is, answered, refl), whole ∙ ap (λ bytes. answer ++ bytes) e ∙ sym (append_assoc answer first rest))
 
--- the lines of the part that was read are the first ones of the whole
+-- the lines of the part that was read are the first lines of the whole input
 lines_before : (is_ended : Bool) (bytes left : List ℕ) (all lines : List (List ℕ)) → (IsTrue is_ended → left ≡ []) → IsTrue is_ended ⊎ EndsLine bytes → AreLines bytes lines → AreLines (bytes ++ left) all → (others : List (List ℕ)) × (all ≡ lines ++ others)
 lines_before is_ended bytes left all lines none (inl ended) p q =
     let same : bytes ++ left ≡ bytes = ap (λ rest. bytes ++ rest) (none ended) ∙ append-nil bytes in
@@ -98,7 +98,7 @@ BreaksOff-begins is_ended bytes left put text none broke (all, are, answers) =
     regroup : (a b c d : List ℕ) → (a ++ (b ++ c)) ++ d ≡ (a ++ b) ++ (c ++ d)
     regroup a b c d = simp append_assoc
 
--- the answers to the lines that ended are a beginning of those to a longer input
+-- the answers to the lines that ended are a prefix of the answers to a longer input
 pub AnswersEnded-begins : (bytes more put text : List ℕ) → AnswersEnded bytes put → AnswersAll (bytes ++ more) text → (rest : List ℕ) × (text ≡ put ++ rest)
 AnswersEnded-begins bytes more put text (ended, rest, cut, answered) (all, are, answers) =
     let (others, lines) = AreLines-longer more cut in

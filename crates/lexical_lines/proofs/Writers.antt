@@ -1,4 +1,4 @@
--- What a sink over a writer has handed on.
+-- The bytes that a sink has written to a writer.
 use Rattle.std.proofs.Common.{◌≡◌, ℕ, List, [], ◌++◌, take, Option, Some, None, Result, Ok, Err, sym, ap, subst, ◌∙◌, append_assoc}
 use Rattle.std.proofs.lemmas.List.{append-nil}
 use Rattle.std.specs.Io.KnownBytes.{Appends, Keeps, WriteAppends}
@@ -26,7 +26,7 @@ KeepsWriter-put contents before after taken taken_after bytes (Ok count) longer 
 KeepsWriter-put contents before after taken taken_after bytes (Err e) longer wrote front holds =
     known-keeps _ _ (front ++ taken) holds wrote ∙ ap (λ more. Some (front ++ more)) (sym (longer ∙ append-nil taken))
 
--- a writer that held nothing holds the answers that a sink over it took
+-- if a writer was empty, it now contains the answers that its sink has taken
 pub answers_held : {bytes items taken taken_after : List ℕ} {held held_after : Option (List ℕ)} → AnswersAll bytes (added taken taken_after)
     → ((before : List ℕ) → held ≡ Some (before ++ taken) → held_after ≡ Some (before ++ taken_after)) → taken ≡ [] → held ≡ Some [] → held_after ≡ Some items → AnswersAll bytes items
 answers_held {bytes = bytes} {items = items} {taken = taken} {taken_after = taken_after} {held_after = held_after} answers keeps none empty full =

@@ -1,4 +1,4 @@
-// The texts of several numbers.
+// Several numbers with a separator between them.
 
 use lexical_lines::{join, write_joined};
 use lexical_num::format::STANDARD;

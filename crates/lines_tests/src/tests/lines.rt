@@ -1,4 +1,4 @@
-// Hostile lines: single bytes, a good line with one byte changed, and one with a byte too many.
+// Hostile lines: single bytes, a valid line with one byte changed, and one with an additional byte.
 
 use crate::tests::runs::check;
 use std::process::Abort;
@@ -18,8 +18,8 @@ fn single_bytes(rt: HostRuntime) {
     }
 }
 
-// The changes of one byte of `u8 10 5` that leave a good line, and its answer: another type, eleven
-// other radices, and nine other digits.
+// The changes of one byte of `u8 10 5` that leave the line valid, as the index of the byte and its new
+// value, with the answer: another type, eleven other radices, and nine other digits.
 const GOOD_CHANGES: [(usize, u8, &[u8]); 21] = [
     (0, b'i', b"5\n"),
     (3, b'2', b"5\n"),
@@ -44,7 +44,7 @@ const GOOD_CHANGES: [(usize, u8, &[u8]); 21] = [
     (6, b'9', b"9\n"),
 ];
 
-// The answer to `u8 10 5` with this byte in this place, where it is a good line then.
+// Returns the answer to `u8 10 5` with this byte at this index, or `None` if that line is not valid.
 fn good_answer(place: usize, byte: u8) -> Option<&'static [u8]> {
     for (good_place, good_byte, answer) in GOOD_CHANGES {
         if good_place == place && good_byte == byte {
@@ -54,7 +54,7 @@ fn good_answer(place: usize, byte: u8) -> Option<&'static [u8]> {
     None
 }
 
-// Changes one byte of `u8 10 5`. Returns whether the line is then a good one.
+// Changes one byte of `u8 10 5`, checks the answer, and returns whether the line is valid.
 fn check_change(rt: &impl Abort, place: usize, byte: u8) -> bool {
     let mut line = *b"u8 10 5\n";
     assert!(rt; place < 7);
@@ -66,7 +66,7 @@ fn check_change(rt: &impl Abort, place: usize, byte: u8) -> bool {
             true
         }
         None => {
-            // A newline makes two lines of the one.
+            // A newline splits the line into two.
             let output = if byte == b'\n' {
                 b"bad line 1\nbad line 2\n".as_slice()
             } else {
@@ -78,14 +78,14 @@ fn check_change(rt: &impl Abort, place: usize, byte: u8) -> bool {
     }
 }
 
-// How many of the 255 other bytes in this place leave a good line.
+// Returns how many of the 255 other bytes at this index leave the line valid.
 fn count_good_changes(rt: &impl Abort, place: usize, own: u8) -> usize {
     (0..=255u8)
         .filter(|byte| *byte != own && check_change(rt, place, *byte))
         .count()
 }
 
-// 7 places with 255 bytes each: 1785 lines, of which 21 are good ones.
+// 7 indices with 255 bytes each: 1785 lines, 21 of them valid.
 #[test]
 fn one_byte_changed(rt: HostRuntime) {
     for (place, own, good) in [
@@ -101,8 +101,8 @@ fn one_byte_changed(rt: HostRuntime) {
     }
 }
 
-// A digit more makes another number of the type, and a newline ends the line and leaves an empty
-// one.
+// An additional digit makes another number of the type. A newline ends the line, and an empty line
+// follows.
 #[test]
 fn one_byte_appended(rt: HostRuntime) {
     for byte in 0..=255u8 {

@@ -1,4 +1,4 @@
-// Single runs: devices that fail, stop or go slowly, and lines that are too long.
+// Single runs: devices that fail, end or are slow, and lines that are too long.
 
 use crate::tests::devices::{FailingSink, FailingSource};
 use crate::tests::runs::{check, outcome, run_from};
@@ -7,7 +7,7 @@ use std::io::ErrorKind;
 
 const TWO_LINES: &[u8] = b"u8 10 5\nu8 10 6";
 
-// Before the first newline, after it, and after the last byte.
+// The source fails before the first newline, after it, and after the last byte.
 #[test]
 fn a_source_that_fails(rt: HostRuntime) {
     let outputs: [(usize, &[u8]); 3] = [(7, b""), (8, b"5\n"), (15, b"5\n")];

@@ -1,5 +1,5 @@
--- `join` writes the joined texts and lends them. The borrow checker shows no write-back clause for a front that is returned,
--- so this proof walks the code by hand, once for every type.
+-- `join` writes the joined texts and returns them as a borrowed slice. The borrow checker proves no clause about what a
+-- caller writes to a returned prefix, so this proof goes through the code by hand, once for every type.
 use mathlib.Core.Path.{refl, ap}
 use Prim.Native.Nat.{ℕ, ◌+◌, ◌-◌, ◌*◌, ◌^◌, ◌<◌, ◌≤◌}
 use mathlib.Core.List.{List, [], ◌∷◌, map}
@@ -64,7 +64,7 @@ use Rattle.lexical_lines.specs.contracts.joined.join.Key.{name as #self}
 use Rattle.lexical_lines.proofs.joined.join.Statement as stated
 use Rattle.lexical_lines.proofs.joined.join.Code as code
 
--- the type of the values, and the type of its options
+-- the type of the values, and the type of the options
 record Able : Type 2 where
   pub row : RattleType
   pub laws : Laws row
@@ -129,15 +129,15 @@ module _ (T : Able) {M : Type 1} {𝓤 : Ura M} (𝓛 : Logic 𝓤) (at_mem : Me
     abbrev bound : (walk_of 𝓛 (ended T) (stayed T) clauses).Ghost
     bound = (((κv, (κ, (κf, (κo, (κT, (κO, tt)))))), (qv, (q, (qf, (qo, (qT, (qO, tt)))))), (outlives_values, (outlives, tt)), (values, (mark, (self, (format, (options, tt))))), words), tt)
 
-    -- the room that the call asks for
+    -- the buffer length that the call requires
     abbrev room_for : ℕ
     room_for = length values.now * (size_in T.gs.FORMATTED_SIZE T.gs.FORMATTED_SIZE_DECIMAL format.now + 1)
 
-    -- what joined texts of the numbers are
+    -- a text is the joined texts of the numbers
     abbrev Text : List ℕ → Type 0
     Text = IsJoined (map T.gn.number values.now) mark format.now
 
-    -- and how long it is
+    -- and it is at most this long
     abbrev IsShort : List ℕ → Type 0
     IsShort text = length text ≤ room_for - 1
 

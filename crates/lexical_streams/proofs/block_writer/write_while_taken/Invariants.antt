@@ -1,4 +1,4 @@
--- What was taken is with the writer, and each turn takes some.
+-- The writer has the bytes that were taken, and each iteration takes at least one.
 use Rattle.std.proofs.Common.{◌-◌, ◌≤◌, length, take}
 use Rattle.std.specs.Io.KnownBytes.{Appends}
 use Rattle.lexical_streams.proofs.block_writer.write_while_taken.Given as goal

@@ -5,7 +5,7 @@ use Rattle.std.proofs.lemmas.List.Edits.{take-paste}
 use Rattle.lexical_streams.proofs.block_writer.BlockWriter.hand_on.Goals as goal
 use Rattle.std.proofs.Common.{length-drop}
 
--- what stood after the first bytes stands at the front
+-- the bytes after the first ones are moved to the start
 take-copy_within : (xs : List ℕ) (count end : ℕ) → count ≤ end → end ≤ length xs
     → take (end - count) (copy_within xs count end 0) ≡ drop count (take end xs)
 take-copy_within xs count end ordered within =
@@ -16,7 +16,7 @@ take-copy_within xs count end ordered within =
     ∙ take-paste xs 0 (drop count xs) left (omega arith) (omega (arith, length-drop count xs))
     ∙ sym (ap (λ k. drop count (take k xs)) parts ∙ drop-take count left xs)
 
--- what was held is what was handed on, and then what is held after the move
+-- the block held the bytes that were written, followed by those that it holds after the move
 parted : (xs ys : List ℕ) (count end : ℕ) → count ≤ end → end ≤ length xs → ys ≡ copy_within xs count end 0
     → take end xs ≡ take count (take end xs) ++ take (end - count) ys
 parted xs ys count end ordered within moved =
