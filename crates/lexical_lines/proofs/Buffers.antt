@@ -5,7 +5,7 @@ use Rattle.std.proofs.lemmas.List.{set_at, take_at}
 use Rattle.lexical_write_integer.specs.Buffer.{Front, Writes}
 use Rattle.lexical_write_integer.proofs.Fronts.{Front-after}
 
--- one more byte after a text
+-- another byte after a text
 pub Front-push : (before between text : List ℕ) (count mark : ℕ) → count ≡ length text → Front before between text → count < length before → Front before (set between count mark) (text ++ mark ∷ [])
 Front-push before between text count mark e front less =
     let long : length (text ++ mark ∷ []) ≡ count + 1 = length-append text (mark ∷ []) ∙ ap (λ k. k + 1) (sym e) in

@@ -75,7 +75,7 @@ value_of-front text k =
     let split : value_of 10 (digits_in text) ≡ front * 10 ^ length back + value_of 10 back = ap (value_of 10) (digits_in-split text k) ∙ value_of-append 10 (digits_in (take k text)) back in
     omega (arith, mul-le-mul_left front (one-le-pow (length back) 10 (omega arith)))
 
--- one more digit
+-- the value of the digits up to the next one
 pub value_of-more : (text : List ℕ) (i : ℕ) → i < length text → value_of 10 (digits_in (take (i + 1) text)) ≡ value_of 10 (digits_in (take i text)) * 10 + (get_or text i 0 - 48)
 value_of-more text i h =
     ap (λ bytes. value_of 10 (digits_in bytes)) (take_more text i 0 h)

@@ -29,7 +29,7 @@ greatest-lt_signed _ s = cc
 least-signed : (kind : IntegerType) → IsTrue (is_signed kind) → least kind ≡ negsuc (greatest kind)
 least-signed kind s = rw s refl
 
--- the magnitude of a negative number is at most one more than the largest number
+-- the magnitude of a negative number is at most the largest number plus 1
 Holds-least : (kind : IntegerType) (minus : Bool) (n : ℕ) → Holds kind minus n → n - bool_byte minus ≤ greatest kind
 Holds-least kind false n h = let top = h.in_range.at_most in omega (arith, ints)
 Holds-least kind true zero h = omega arith

@@ -1,4 +1,4 @@
--- Joined texts with one more text at their end.
+-- Joined texts, and how another text is appended to them.
 use Rattle.std.proofs.Common.{◌≡◌, ℕ, ◌+◌, ◌<◌, List, [], ◌∷◌, ◌++◌, length, get_or, take, set, map, refl, sym, ap, ◌∙◌, arith, ℤ, length-append, append_assoc}
 use Rattle.std.proofs.lemmas.List.{map-append, take_more}
 use Rattle.lexical_num.specs.Format.{Format}
@@ -7,7 +7,7 @@ use Rattle.lexical_write_integer.specs.Text.{IsText}
 use Rattle.lexical_lines.proofs.Buffers.{Front-push}
 use Rattle.lexical_lines.specs.Joined.{AreTexts, IsJoined, joined}
 
--- ---- one more text
+-- ---- another text
 
 AreTexts-push : (numbers : List ℤ) (format : Format) (texts : List (List ℕ)) (x : ℤ) (text : List ℕ) → AreTexts numbers format texts → IsText x format text → AreTexts (numbers ++ x ∷ []) format (texts ++ text ∷ [])
 AreTexts-push [] format [] x text each is = (is, tt)

@@ -29,7 +29,7 @@ HasAnswered-none taken answerer line number good = record {
   last = line;
 }
 
--- ---- the answer to one more line
+-- ---- the answer to the next line
 
 pub AreAnswersFrom-push : (i : ℕ) (ended : List (List ℕ)) (answers line answer : List ℕ) → AreAnswersFrom i ended answers → IsAnswer (i + length ended) line answer → AreAnswersFrom i (ended ++ line ∷ []) (answers ++ answer)
 AreAnswersFrom-push i [] answers line answer h is =
@@ -80,7 +80,7 @@ module _ {before bytes taken : List ℕ} {answerer : Answerer} (h : HasAnswered 
   pub taken_after : (after answer : List ℕ) → after ≡ taken ++ answer → after ≡ before ++ (h.answers ++ answer)
   taken_after after answer e = e ∙ ap (λ xs. xs ++ answer) h.whole ∙ append_assoc before h.answers answer
 
-  -- one more byte of a line
+  -- the next byte of a line
   pub HasAnswered-byte : (byte : ℕ) (next : Answerer) → IsInside byte → ((line : List ℕ) → answerer.line ≡ held line → next.line ≡ held (line ++ byte ∷ [])) → next.line_number ≡ answerer.line_number → next.all_good ≡ answerer.all_good
       → HasAnswered before (bytes ++ byte ∷ []) taken next
   HasAnswered-byte byte next inside push number good = record {

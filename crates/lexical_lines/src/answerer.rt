@@ -128,7 +128,7 @@ impl Answerer {
 }
 
 // Writes the answer to the line that consists of `line` and then `end`, and returns whether that line
-// is valid. If `line` is empty, `end` is parsed in place and not copied.
+// is valid. If `line` is empty, `end` is parsed without a copy.
 fn put_line<K: ByteSink>(
     line: &mut Line,
     end: &[u8],

@@ -79,7 +79,7 @@ impl IntegerType {
     pub fn holds(self, minus: bool, magnitude: u64) -> bool
         ensures { IsTrue result ↔ Holds self minus magnitude }
     {
-        // The magnitude of the smallest number of a signed type is one more than the largest number.
+        // The magnitude of the smallest number of a signed type is the largest number plus 1.
         let over = magnitude.saturating_sub(u64::from(minus));
         (self.is_signed() || !minus) && over <= self.greatest()
     }

@@ -44,7 +44,7 @@ impl Trace {
         ensures faults { self.new.faults ≡ self.old.faults }
     {}
 
-    /// Counts one more failure.
+    /// Adds 1 to the number of failures.
     pub fn fault(&mut self)
         ensures bytes { self.new.bytes ≡ self.old.bytes }
         ensures faults { self.new.faults ≡ self.old.faults + 1 }

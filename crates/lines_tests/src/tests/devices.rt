@@ -28,7 +28,7 @@ impl<'a> FailingSource<'a> {
         }
     }
 
-    /// Whether the fault is still to come.
+    /// Returns whether the failure is still to come.
     pub fn expects_fault(&self) -> bool {
         self.until_fault.is_some()
     }
@@ -104,7 +104,7 @@ impl<'a> FailingSink<'a> {
         self.inner.len()
     }
 
-    /// Whether the fault is still to come.
+    /// Returns whether the failure is still to come.
     pub fn expects_fault(&self) -> bool {
         self.until_fault.is_some()
     }

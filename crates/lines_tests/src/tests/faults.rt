@@ -4,7 +4,7 @@
 ghost use Rattle.std.specs.Prelude.{◌≤◌};
 
 use crate::tests::devices::{FailingSink, FailingSource};
-use crate::tests::runs::{check_front, outcome, run_from};
+use crate::tests::runs::{check_prefix, outcome, run_from};
 use lexical_lines::{SliceSource, run};
 use std::io::ErrorKind;
 use std::process::Abort;
@@ -84,7 +84,7 @@ fn check_sink(rt: &impl Abort, case: Case, position: usize, piece: usize, kind: 
     assert!(rt; !sink.expects_fault());
     assert_eq!(rt; sink.len(), position);
     assert!(rt; position <= case.output.len());
-    check_front(rt, &buffer, &case.output[..position]);
+    check_prefix(rt, &buffer, &case.output[..position]);
     let wanted = kind.unwrap_or(ErrorKind::WriteZero);
     assert_eq!(rt; outcome(ran), Err(wanted));
 }

@@ -14,7 +14,7 @@ pub fn outcome(ran: io::Result<bool>) -> Result<bool, ErrorKind> {
 }
 
 /// Checks that the buffer begins with the output, and that every byte after it is unchanged.
-pub fn check_front(rt: &impl Abort, buffer: &[u8], output: &[u8]) {
+pub fn check_prefix(rt: &impl Abort, buffer: &[u8], output: &[u8]) {
     assert!(rt; buffer.starts_with(output));
     assert!(rt; buffer[output.len()..].iter().all(|byte| *byte == b'.'));
 }
@@ -32,7 +32,7 @@ pub fn run_from<S: ByteSource>(
     let mut sink = SliceSink::new(&mut buffer[..room]);
     let ran = run(source, &mut sink);
     assert_eq!(rt; sink.len(), output.len());
-    check_front(rt, &buffer, output);
+    check_prefix(rt, &buffer, output);
     ran
 }
 
@@ -43,5 +43,5 @@ pub fn check(rt: &impl Abort, input: &[u8], output: &[u8], all_good: bool) {
     assert_eq!(rt; outcome(ran), Ok(all_good));
     let mut buffer = [b'.'; 256];
     assert_eq!(rt; answer_slice(input, &mut buffer), Some(output.len()));
-    check_front(rt, &buffer, output);
+    check_prefix(rt, &buffer, output);
 }

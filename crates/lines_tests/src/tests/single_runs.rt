@@ -19,7 +19,7 @@ fn a_source_that_fails(rt: HostRuntime) {
 }
 
 #[test]
-fn a_source_that_tells_the_end(rt: HostRuntime) {
+fn a_source_that_ends(rt: HostRuntime) {
     check(&rt, TWO_LINES, b"5\n6\n", true);
 }
 

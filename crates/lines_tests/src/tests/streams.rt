@@ -1,6 +1,6 @@
 // Runs that read from a reader, up to a limit, and write to a writer.
 
-use crate::tests::runs::{check_front, outcome, run_from};
+use crate::tests::runs::{check_prefix, outcome, run_from};
 use lexical_lines::{Reading, Writing, run, status};
 use std::process::Abort;
 
@@ -13,7 +13,7 @@ fn check(rt: &impl Abort, input: &[u8], limit: u64, output: &[u8], wanted: u8) {
     let ran = run(&mut source, &mut sink);
     assert_eq!(rt; status(&ran, true), wanted);
     drop(sink);
-    check_front(rt, &buffer, output);
+    check_prefix(rt, &buffer, output);
 }
 
 #[test]

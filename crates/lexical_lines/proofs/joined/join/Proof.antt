@@ -168,10 +168,10 @@ module _ (T : Able) {M : Type 1} {𝓤 : Ura M} (𝓛 : Logic 𝓤) (at_mem : Me
         sets ! (addr ! (from ! (fld ! refl (hop ! (look_in_at ! 3 (sub ! 0 refl (whole !))) (stop !))))) refl (tt, tt) $
         sets ! (agg ! (and_then ! (get ! refl) (and_then ! (get_in ! (fld ! refl (stop !)) (sub ! 1 refl (whole !))) (no_more !)))) refl (tt, (tt, (record { fits = room.0 }, tt))) $
         split3 ! $ move ! (3 ∷ []) $ split ! $ move ! (1 ∷ []) $ split3 ! $
-        -- [the mark; the slice; the references; the values; the token of κv; the token of κ; the other tokens]
+        -- [the separator; the slice; the references; the values; the token of κv; the token of κ; the other tokens]
         lft_new ! tt (λ α. move ! (2 ∷ 6 ∷ []) $
         use2 𝓛 (lent_again 𝓛 u8 (named 1) κ q (α ∷ []) b o γ xs) (lends_again 𝓛 u8 (named 1) κ q (α ∷ []) b o γ xs room) $ await ! tt $ pick ! (λ δ. split ! $
-        -- [the loan; what the lender keeps; the token of α; the mark; the references; the values; the token of κv; the other tokens]
+        -- [the loan; what the lender keeps; the token of α; the separator; the references; the values; the token of κv; the other tokens]
         let z : Writes.Ghost = (((κv, (α ∷ [], (κf, (κo, (κT, (κO, tt)))))), (qv, (full_share, (qf, (qo, (qT, (qO, tt)))))), (outlives_values, (outlives, tt)), (values, (mark, (loan δ, (format, (options, tt))))), words), tt) in
         move ! (0 ∷ 4 ∷ []) $ join ! $ move ! (3 ∷ 0 ∷ []) $ join ! $ move ! (3 ∷ 0 ∷ []) $ join ! $ move ! (2 ∷ 4 ∷ []) $ join ! $ move ! (3 ∷ 0 ∷ []) $ join ! $ join ! $
         use0 𝓛 (raw (fact 𝓤 (room_for ≤ length xs))) (fact_i 𝓤 _ (emp 𝓤) le) $ use0 𝓛 (raw (fact 𝓤 (κO ⊑ T.options.lives))) (fact_i 𝓤 _ (emp 𝓤) options_live) $ join ! $
@@ -185,7 +185,7 @@ module _ (T : Able) {M : Type 1} {𝓤 : Ura M} (𝓛 : Logic 𝓤) (at_mem : Me
         let ys : List ℕ = ws.1.1.0 in
         let wrote : Written Both xs ys n = Writes-short (room_for - 1) xs ys n text short in
         use3 𝓛 (came_back 𝓛 u8 (named 1) κ q (α ∷ []) b o γ xs ys) (comes_back 𝓛 u8 (named 1) κ q (α ∷ []) b o γ δ xs ys) $ await ! tt $ learn ! (λ long. split ! $
-        -- [the slice, as it was written; the token of κ; the references; the token of κv; the other tokens]
+        -- [the written slice; the token of κ; the references; the token of κv; the other tokens]
         lands_as ! (ap only is) refl (tt, record { fits = fits }) $
         sets ! (addr ! (from ! (fld ! refl (hop ! (look_in_at ! 3 (sub ! 0 refl (whole !))) (stop !))))) refl (tt, tt) $
         sets ! (agg ! (and_then ! (get ! refl) (and_then ! (get_in ! (fld ! refl (stop !)) (sub ! 1 refl (whole !))) (no_more !)))) refl (tt, (tt, (record { fits = room.0 }, tt))) $
@@ -195,7 +195,7 @@ module _ (T : Able) {M : Type 1} {𝓤 : Ura M} (𝓛 : Logic 𝓤) (at_mem : Me
         use1 𝓛 (gave 𝓛 at_mem run κ q b o γ xs ys n Both v') (gives 𝓛 at_mem run κ q b o γ xs ys n Both v' wrote) $ await ! tt $ pick ! (λ r. learn ! (λ handed. split3 ! $
         lands_as ! handed.word refl (tt, (tt, (record { fits = handed.fits }, tt))) $
         returns ! (look_at ! 0 refl) $ free_all ! refl $
-        -- [the result; the token of κ; what is lent; the references; the token of κv; the other tokens]
+        -- [the result; the token of κ; the loan; the references; the token of κv; the other tokens]
         suffices ! _ (ends_at 𝓛 (ended T) (stayed T) clauses bound (slice_val r.ref_ptr (length r.now)) r (tt, (tt, (tt, (tt, (tt, tt))))) (tt, (tt, (tt, (tt, (tt, tt)))))) $
         keep ! (1 ∷ 5 ∷ 4 ∷ 0 ∷ 2 ∷ []) $ join ! $ move ! (1 ∷ 0 ∷ []) $ join ! $
         nothing ! $ nothing ! $ fjoin ! $ nothing ! $ fjoin ! $ nothing ! $ fjoin ! $ nothing ! $ fjoin ! $ nothing ! $ fjoin ! $ move ! (0 ∷ 2 ∷ []) $ join ! $ move ! (1 ∷ []) $ join ! $

@@ -1,4 +1,4 @@
-// A writer that writes little in each call, and fails once or from some call on.
+// A writer that writes little in each call, and fails once or forever.
 
 ghost use Rattle.std.specs.Prelude.{◌≤◌};
 

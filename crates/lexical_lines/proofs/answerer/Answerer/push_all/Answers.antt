@@ -7,7 +7,7 @@ use Rattle.lexical_lines.proofs.Added.{grown}
 use Rattle.lexical_lines.proofs.Runs.{HasAnswered-more}
 use Rattle.lexical_lines.proofs.answerer.Answerer.push_all.Goals as goal
 
--- one more line of the slice
+-- the next line of the slice
 line_more : (bytes front rest end more : List ℕ) → bytes ≡ front ++ rest → rest ≡ end ++ 10 ∷ more → bytes ≡ (front ++ (end ++ 10 ∷ [])) ++ more
 line_more bytes front rest end more e f = e ∙ ap (λ xs. front ++ xs) f ∙ regroup
   where
