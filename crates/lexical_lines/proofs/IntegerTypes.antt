@@ -1,10 +1,13 @@
--- The ranges of the types, as bounds on magnitudes.
-use Rattle.std.proofs.Common.{◌≡◌, ℕ, ◌-◌, ◌^◌, ◌<◌, ◌≤◌, zero, suc, Bool, true, false, negsuc, IsTrue, arith, refl}
+-- The ranges and the names of the integer types.
+use Rattle.std.proofs.Common.{◌≡◌, ℕ, ◌-◌, ◌^◌, ◌<◌, ◌≤◌, zero, suc, Bool, true, false, List, negsuc, IsTrue, arith, refl, sym, ap, ◌∙◌, cond}
+use Rattle.std.specs.Str.{bytes_eq}
 use mir.Val.{bool_byte}
 use Rattle.std.proofs.lemmas.Int.{ints}
 use Rattle.lexical_lines.specs.declared.integer_type.IntegerType.{IntegerType}
 use Rattle.lexical_lines.specs.declared.integer_type.IntegerType.TheVariants.{U8, U16, U32, U64, Usize, I8, I16, I32, I64, Isize}
-use Rattle.lexical_lines.specs.IntegerType.{least, greatest, is_signed, Holds}
+use Rattle.lexical_lines.specs.IntegerType.{name_of, least, greatest, is_signed, Holds}
+
+-- ---- ranges, as bounds on magnitudes
 
 pub greatest-lt : (kind : IntegerType) → greatest kind < 2 ^ 64
 greatest-lt U8 = omega arith
@@ -41,3 +44,30 @@ Holds-least kind true (suc n) h =
 pub Holds-lt : (kind : IntegerType) (minus : Bool) (n : ℕ) → Holds kind minus n → n < 2 ^ 64
 Holds-lt kind false n h = omega (arith, Holds-least kind false n h, greatest-lt kind)
 Holds-lt kind true n h = omega (arith, Holds-least kind true n h, greatest-lt_signed kind (h.signed_type refl))
+
+-- ---- two types have two names
+
+-- the type with this name
+type_named : List ℕ → IntegerType
+type_named text =
+    cond (bytes_eq text (name_of U8)) U8 (cond (bytes_eq text (name_of U16)) U16
+    (cond (bytes_eq text (name_of U32)) U32 (cond (bytes_eq text (name_of U64)) U64
+    (cond (bytes_eq text (name_of Usize)) Usize (cond (bytes_eq text (name_of I8)) I8
+    (cond (bytes_eq text (name_of I16)) I16 (cond (bytes_eq text (name_of I32)) I32
+    (cond (bytes_eq text (name_of I64)) I64 Isize))))))))
+
+type_named-name : (kind : IntegerType) → type_named (name_of kind) ≡ kind
+unfolding type_named
+type_named-name U8 = refl
+type_named-name U16 = refl
+type_named-name U32 = refl
+type_named-name U64 = refl
+type_named-name Usize = refl
+type_named-name I8 = refl
+type_named-name I16 = refl
+type_named-name I32 = refl
+type_named-name I64 = refl
+type_named-name Isize = refl
+
+pub name_unique : (kind other : IntegerType) → name_of kind ≡ name_of other → kind ≡ other
+name_unique kind other e = sym (type_named-name kind) ∙ ap type_named e ∙ type_named-name other

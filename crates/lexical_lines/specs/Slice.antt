@@ -1,4 +1,4 @@
--- The states of `SliceSource` and `SliceSink` in contracts. Ghost members cite the proofs that are here.
+-- The states of `SliceSource` and `SliceSink` in contracts.
 use Rattle.std.specs.Prelude.{◌≡◌, ◌⊎◌, ℕ, ◌+◌, ◌-◌, ◌≤◌, Bool, true, List, [], ◌++◌, length, take, drop, refl}
 use Rattle.std.proofs.Common.{arith, sym, ap, ◌∙◌, inl, inr}
 use Rattle.std.proofs.lemmas.List.{drop-drop}
@@ -18,12 +18,6 @@ pub record SliceReading : Type 0 where
 pub record KeepsBytes (a b : SliceReading) : Type 0 where
   pub whole : b.given ++ b.left ≡ a.given ++ a.left
   pub at_end : (a.is_ended ≡ true → a.left ≡ []) → b.is_ended ≡ true → b.left ≡ []
-
-pub KeepsBytes-reflexive : (a : SliceReading) → KeepsBytes a a
-KeepsBytes-reflexive a = record { whole = refl; at_end = λ none. none }
-
-pub KeepsBytes-transitive : (a b c : SliceReading) → KeepsBytes a b → KeepsBytes b c → KeepsBytes a c
-KeepsBytes-transitive a b c p q = record { whole = q.whole ∙ p.whole; at_end = λ none. q.at_end (p.at_end none) }
 
 -- ---- the sink
 
@@ -50,6 +44,14 @@ pub record KeepsBuffer (a b : SliceSink) : Type 0 where
   pub whole : length (taken_in b) + length (rest_in b) ≡ length (taken_in a) + length (rest_in a)
   pub rest : rest_in b ≡ drop (length (taken_in b) - length (taken_in a)) (rest_in a)
   pub full : (faults_in b ≡ faults_in a) ⊎ (rest_in b ≡ [])
+
+-- ---- proofs that ghost members cite
+
+pub KeepsBytes-reflexive : (a : SliceReading) → KeepsBytes a a
+KeepsBytes-reflexive a = record { whole = refl; at_end = λ none. none }
+
+pub KeepsBytes-transitive : (a b c : SliceReading) → KeepsBytes a b → KeepsBytes b c → KeepsBytes a c
+KeepsBytes-transitive a b c p q = record { whole = q.whole ∙ p.whole; at_end = λ none. q.at_end (p.at_end none) }
 
 pub KeepsBuffer-reflexive : (a : SliceSink) → KeepsBuffer a a
 KeepsBuffer-reflexive a =

@@ -1,4 +1,4 @@
--- The states of `Reading` and `Writing` in contracts. Ghost members cite the proofs that are here.
+-- The states of `Reading` and `Writing` in contracts.
 use Rattle.std.specs.Prelude.{◌≡◌, ◌⊎◌, ℕ, ◌+◌, Bool, true, List, ◌++◌, length, Option, Some, None, IsSome, refl}
 use Rattle.std.specs.Io.{StartsWith}
 use Rattle.std.specs.Io.KnownBytes.{Consumes, IsAtEnd}
@@ -37,6 +37,15 @@ pub record KeepsReader {R : Type 0} (remaining : R → Option (List ℕ)) (a b :
   pub bytes : Consumes (remaining a.reader) (remaining b.reader) (added a.given b.given)
   pub at_end : IsSome (remaining a.reader) → (a.is_ended ≡ true → IsUsedUp remaining a) → b.is_ended ≡ true → IsUsedUp remaining b
 
+-- ---- what calls of a sink leave unchanged
+
+-- if the contents of the writer were some bytes followed by those that the sink had taken, they are now the same bytes
+-- followed by those that the sink has taken now
+abbrev pub KeepsWriter : {W : Type 0} → (W → Option (List ℕ)) → StreamWriting W → StreamWriting W → Type 0
+KeepsWriter contents a b = (before : List ℕ) → contents a.writer ≡ Some (before ++ a.taken) → contents b.writer ≡ Some (before ++ b.taken)
+
+-- ---- proofs that ghost members cite
+
 pub KeepsReader-reflexive : {R : Type 0} (remaining : R → Option (List ℕ)) (a : StreamReading R) → KeepsReader remaining a a
 KeepsReader-reflexive remaining a = record {
   longer = take-length a.given;
@@ -58,13 +67,6 @@ KeepsReader-transitive remaining a b c p q = record {
   bytes = Consumes-more _ _ _ a.given b.given c.given p.longer q.longer p.bytes q.bytes;
   at_end = λ told used. q.at_end (still-told _ _ _ p.bytes told) (p.at_end told used);
 }
-
--- ---- what calls of a sink leave unchanged
-
--- if the contents of the writer were some bytes followed by those that the sink had taken, they are now the same bytes
--- followed by those that the sink has taken now
-abbrev pub KeepsWriter : {W : Type 0} → (W → Option (List ℕ)) → StreamWriting W → StreamWriting W → Type 0
-KeepsWriter contents a b = (before : List ℕ) → contents a.writer ≡ Some (before ++ a.taken) → contents b.writer ≡ Some (before ++ b.taken)
 
 pub KeepsWriter-reflexive : {W : Type 0} (contents : W → Option (List ℕ)) (a : StreamWriting W) → KeepsWriter contents a a
 KeepsWriter-reflexive contents a before holds = holds

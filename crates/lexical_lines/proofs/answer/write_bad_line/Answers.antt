@@ -1,5 +1,5 @@
 use Rattle.lexical_write_integer.proofs.Fronts.{Writes-after}
-use Rattle.lexical_lines.proofs.Answers.{IsBadLine-from}
+use Rattle.lexical_lines.proofs.AnswerTexts.{IsBadLine-from}
 use Rattle.lexical_lines.proofs.answer.write_bad_line.Goals as goal
 
 pub returns : goal.returns

@@ -1,6 +1,6 @@
 use Rattle.std.proofs.Common.{drop, sym, arith, length-append, length-drop}
 use Rattle.std.proofs.lemmas.List.{length-take-le}
-use Rattle.lexical_lines.proofs.Answers.{Writes-newline}
+use Rattle.lexical_lines.proofs.AnswerTexts.{Writes-newline}
 use Rattle.lexical_lines.proofs.Buffers.{Writes-front}
 use Rattle.lexical_lines.proofs.answer.write_line.Goals as goal
 

@@ -1,7 +1,8 @@
 use Rattle.std.proofs.Common.{◌≡◌, ◌++◌, sym, ◌∙◌}
 use Rattle.lexical_lines.specs.Sign.{optional_sign}
 use Rattle.lexical_lines.proofs.Separators.{Lacks-not}
-use Rattle.lexical_lines.proofs.Requests.{NoSpace, IsRequest-name, IsRequest-parts, IsRequest-radix, name_unique}
+use Rattle.lexical_lines.proofs.IntegerTypes.{name_unique}
+use Rattle.lexical_lines.proofs.Requests.{NoSpace, IsRequest-name, IsRequest-parts, IsRequest-radix}
 use Rattle.lexical_lines.proofs.request.parse.Goals as goal
 use Rattle.lexical_lines.proofs.request.parse.Goals.{In_ok-name, In_ok-signed_radix, In_ok-kind, In_ok-radix}
 
