@@ -3,26 +3,21 @@ pub mod Separators
 pub mod Lines
 pub mod AnswerTexts
 pub mod UniqueAnswers
-
 -- requests: names and ranges of types, decimal numbers, signs, and the parts of a line
 pub mod IntegerTypes
 pub mod Decimals
 pub mod Signs
 pub mod Requests
-
 -- runs: what was appended to a list, and what an answerer has done
 pub mod Added
 pub mod Runs
-
 -- devices: sources and sinks over slices, readers and writers
 pub mod Sinks
 pub mod Slices
 pub mod Readers
 pub mod Writers
-
 -- texts in a buffer, and texts with a separator between them
 pub mod Buffers
 pub mod Joins
-
 -- proofs by hand
 pub mod Steps
