@@ -8,7 +8,8 @@ use Rattle.lexical_lines.specs.Answer.{WithNewline, IsBadLine}
 use Rattle.lexical_lines.proofs.Buffers.{Front-push}
 
 -- a newline after a text
-pub Writes-newline : {Is : List ℕ → Type 0} (before after : List ℕ) (count : ℕ) → Writes Is before after count → count < length before → Writes (WithNewline Is) before (set after count 10) (count + 1)
+pub Writes-newline : {Is : List ℕ → Type 0} (before after : List ℕ) (count : ℕ) → Writes Is before after count
+    → count < length before → Writes (WithNewline Is) before (set after count 10) (count + 1)
 Writes-newline before after count w room = record {
   text = w.text ++ 10 ∷ [];
   is = (w.text, w.is, refl);

@@ -72,11 +72,13 @@ pub value_of-front : (text : List ℕ) (k : ℕ) → value_of 10 (digits_in (tak
 value_of-front text k =
     let front = value_of 10 (digits_in (take k text)) in
     let back = digits_in (drop k text) in
-    let split : value_of 10 (digits_in text) ≡ front * 10 ^ length back + value_of 10 back = ap (value_of 10) (digits_in-split text k) ∙ value_of-append 10 (digits_in (take k text)) back in
+    let split : value_of 10 (digits_in text) ≡ front * 10 ^ length back + value_of 10 back =
+    ap (value_of 10) (digits_in-split text k) ∙ value_of-append 10 (digits_in (take k text)) back in
     omega (arith, mul-le-mul_left front (one-le-pow (length back) 10 (omega arith)))
 
 -- the value of the digits up to the next one
-pub value_of-more : (text : List ℕ) (i : ℕ) → i < length text → value_of 10 (digits_in (take (i + 1) text)) ≡ value_of 10 (digits_in (take i text)) * 10 + (get_or text i 0 - 48)
+pub value_of-more : (text : List ℕ) (i : ℕ) → i < length text → value_of 10 (digits_in (take (i + 1) text))
+    ≡ value_of 10 (digits_in (take i text)) * 10 + (get_or text i 0 - 48)
 value_of-more text i h =
     ap (λ bytes. value_of 10 (digits_in bytes)) (take_more text i 0 h)
     ∙ ap (value_of 10) (map-append (λ byte. byte - 48) (take i text) (get_or text i 0 ∷ []))
@@ -88,7 +90,8 @@ pub IsDecimal-byte : (n : ℕ) (text : List ℕ) (i : ℕ) → i < length text �
 IsDecimal-byte n text i h d = All-get_or IsDigitByte text i 0 h (IsDecimal-bytes n text d)
 
 -- the value of the first bytes is at most the number
-pub IsDecimal-at_least : (n : ℕ) (text : List ℕ) (i : ℕ) → i < length text → IsDecimal n text → value_of 10 (digits_in (take i text)) * 10 + (get_or text i 0 - 48) ≤ n
+pub IsDecimal-at_least : (n : ℕ) (text : List ℕ) (i : ℕ) → i < length text → IsDecimal n text
+    → value_of 10 (digits_in (take i text)) * 10 + (get_or text i 0 - 48) ≤ n
 IsDecimal-at_least n text i h d = omega (arith, value_of-more text i h, value_of-front text (i + 1), IsDecimal-value n text d)
 
 -- ---- digits without leading zeros

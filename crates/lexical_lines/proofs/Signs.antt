@@ -6,7 +6,8 @@ use Rattle.lexical_lines.specs.Sign.{optional_sign, StartsWith}
 use Rattle.lexical_lines.proofs.Decimals.{IsDigitByte}
 
 -- a text has one reading as an optional sign and digits
-pub stripped_unique : (sign : ℕ) (text s t : List ℕ) (p q : Bool) → sign < 48 → text ≡ optional_sign p sign ++ s → (StartsWith text sign → p ≡ true) → text ≡ optional_sign q sign ++ t → All IsDigitByte t → (p ≡ q) × (s ≡ t)
+pub stripped_unique : (sign : ℕ) (text s t : List ℕ) (p q : Bool) → sign < 48 → text ≡ optional_sign p sign ++ s
+    → (StartsWith text sign → p ≡ true) → text ≡ optional_sign q sign ++ t → All IsDigitByte t → (p ≡ q) × (s ≡ t)
 stripped_unique sign text s t true true m e stripped f digits = (refl, cc)
 stripped_unique sign text s t false false m e stripped f digits = (refl, cc)
 stripped_unique sign text s t false true m e stripped f digits = absurd (let wrong : false ≡ true = stripped (record { rest = t; whole = f }) in cc)
@@ -17,7 +18,8 @@ stripped_unique sign text s (byte ∷ t) true false m e stripped f digits =
     absurd (omega arith)
 
 -- two equal texts of an optional sign and digits have the same sign and the same digits
-pub signs_unique : (sign : ℕ) (p q : Bool) (s t : List ℕ) → sign < 48 → optional_sign p sign ++ s ≡ optional_sign q sign ++ t → All IsDigitByte s → All IsDigitByte t → (p ≡ q) × (s ≡ t)
+pub signs_unique : (sign : ℕ) (p q : Bool) (s t : List ℕ) → sign < 48 → optional_sign p sign ++ s ≡ optional_sign q sign ++ t
+    → All IsDigitByte s → All IsDigitByte t → (p ≡ q) × (s ≡ t)
 signs_unique sign p q s t m e left right =
     stripped_unique sign (optional_sign p sign ++ s) s t p q m refl (λ begins. starts p s begins left) e right
   where
