@@ -40,7 +40,8 @@ IsAnswer i line answer = IsTextAnswer line answer ⊎ IsBadAnswer i line answer
 abbrev pub AreAnswersFrom : ℕ → List (List ℕ) → List ℕ → Type 0
 AreAnswersFrom i [] text = text ≡ []
 AreAnswersFrom i (line ∷ more) text =
-    (answer : List ℕ) × (rest : List ℕ) × IsAnswer i line answer × AreAnswersFrom (i + 1) more rest × (text ≡ answer ++ rest)
+    (answer : List ℕ) × (rest : List ℕ) × IsAnswer i line answer × AreAnswersFrom (i + 1) more rest
+    × (text ≡ answer ++ rest)
 
 -- the text is the answers to these lines in order, if the first line has number 1
 abbrev pub AreAnswers : List (List ℕ) → List ℕ → Type 0

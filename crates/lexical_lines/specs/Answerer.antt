@@ -1,5 +1,6 @@
 -- The state of an answerer, and what its calls do to a sink.
-use Rattle.std.specs.Prelude.{◌≡◌, ℕ, ◌+◌, ◌-◌, ◌^◌, min, Bool, List, ◌++◌, length, Result, OnOk, OnErr, IfOk, ◌↔◌, IsTrue, All}
+use Rattle.std.specs.Prelude.{◌≡◌, ℕ, ◌+◌, ◌-◌, ◌^◌, min, Bool, List, ◌++◌, length, Result, OnOk, OnErr, IfOk, ◌↔◌}
+use Rattle.std.specs.Prelude.{IsTrue, All}
 use Rattle.lexical_lines.specs.declared.answerer.Answerer.{Answerer}
 use Rattle.lexical_lines.specs.Answer.{IsAnswer, AreAnswers}
 use Rattle.lexical_lines.specs.Line.{held}
@@ -23,7 +24,8 @@ pub record HasAnswered (before bytes taken : List ℕ) (answerer : Answerer) : T
   pub last : answerer.line ≡ held rest
 
 -- the call only appends to what its sink has taken, and the sink failed once if the result is an `Err`, otherwise never
-pub record PutsMore {K A E : Type 0} (taken : K → List ℕ) (fault_count : K → ℕ) (keeps : K → K → Type 0) (old new : K) (result : Result A E) : Type 0 where
+pub record PutsMore {K A E : Type 0} (taken : K → List ℕ) (fault_count : K → ℕ) (keeps : K → K → Type 0)
+    (old new : K) (result : Result A E) : Type 0 where
   pub longer : taken new ≡ taken old ++ added (taken old) (taken new)
   pub faults : fault_count new ≡ fault_count old + faults_of result
   pub kept : keeps old new
@@ -33,4 +35,5 @@ pub record PutsMore {K A E : Type 0} (taken : K → List ℕ) (fault_count : K �
 pub record PutsAnswer {E : Type 0} (line_number : ℕ) (line old new : List ℕ) (result : Result Bool E) : Type 0 where
   pub whole : OnOk result ((answer : List ℕ) × IsAnswer line_number line answer × (new ≡ old ++ answer))
   pub good : IfOk result (λ good. IsTrue good ↔ IsGood line)
-  pub broken : OnErr result ((answer : List ℕ) × (part : List ℕ) × IsAnswer line_number line answer × IsBeginning part answer × (new ≡ old ++ part))
+  pub broken : OnErr result ((answer : List ℕ) × (part : List ℕ) × IsAnswer line_number line answer
+      × IsBeginning part answer × (new ≡ old ++ part))

@@ -56,14 +56,22 @@ KeepsBytes-transitive a b c p q = record { whole = q.whole ∙ p.whole; at_end =
 pub KeepsBuffer-reflexive : (a : SliceSink) → KeepsBuffer a a
 KeepsBuffer-reflexive a =
     let none : length (taken_in a) - length (taken_in a) ≡ 0 = omega arith in
-    record { loan = refl; longer = omega arith; whole = refl; rest = ap (λ n. drop n (rest_in a)) (sym none); full = inl refl }
+    record {
+      loan = refl;
+      longer = omega arith;
+      whole = refl;
+      rest = ap (λ n. drop n (rest_in a)) (sym none);
+      full = inl refl;
+    }
 
-full-transitive : (a b c : SliceSink) → KeepsBuffer a b → KeepsBuffer b c → (faults_in c ≡ faults_in a) ⊎ (rest_in c ≡ [])
+full-transitive : (a b c : SliceSink) → KeepsBuffer a b → KeepsBuffer b c
+    → (faults_in c ≡ faults_in a) ⊎ (rest_in c ≡ [])
 full-transitive a b c p q = elim q.full [
   | inr full ↦ inr full
   | inl same ↦ elim p.full [
     | inl before ↦ inl (same ∙ before)
-    | inr full ↦ inr (q.rest ∙ ap (drop (length (taken_in c) - length (taken_in b))) full ∙ drop-nil (length (taken_in c) - length (taken_in b)))
+    | inr full ↦ inr (q.rest ∙ ap (drop (length (taken_in c) - length (taken_in b))) full
+        ∙ drop-nil (length (taken_in c) - length (taken_in b)))
   ]
 ]
 

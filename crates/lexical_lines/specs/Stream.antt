@@ -35,18 +35,21 @@ pub record KeepsReader {R : Type 0} (remaining : R → Option (List ℕ)) (a b :
   pub longer : StartsWith b.given a.given
   pub left : b.left + length b.given ≡ a.left + length a.given
   pub bytes : Consumes (remaining a.reader) (remaining b.reader) (added a.given b.given)
-  pub at_end : IsSome (remaining a.reader) → (a.is_ended ≡ true → IsUsedUp remaining a) → b.is_ended ≡ true → IsUsedUp remaining b
+  pub at_end : IsSome (remaining a.reader) → (a.is_ended ≡ true → IsUsedUp remaining a) → b.is_ended ≡ true
+      → IsUsedUp remaining b
 
 -- ---- what calls of a sink leave unchanged
 
 -- if the contents of the writer were some bytes followed by those that the sink had taken, they are now the same bytes
 -- followed by those that the sink has taken now
 abbrev pub KeepsWriter : {W : Type 0} → (W → Option (List ℕ)) → StreamWriting W → StreamWriting W → Type 0
-KeepsWriter contents a b = (before : List ℕ) → contents a.writer ≡ Some (before ++ a.taken) → contents b.writer ≡ Some (before ++ b.taken)
+KeepsWriter contents a b = (before : List ℕ) → contents a.writer ≡ Some (before ++ a.taken)
+    → contents b.writer ≡ Some (before ++ b.taken)
 
 -- ---- proofs that ghost members cite
 
-pub KeepsReader-reflexive : {R : Type 0} (remaining : R → Option (List ℕ)) (a : StreamReading R) → KeepsReader remaining a a
+pub KeepsReader-reflexive : {R : Type 0} (remaining : R → Option (List ℕ)) (a : StreamReading R)
+    → KeepsReader remaining a a
 KeepsReader-reflexive remaining a = record {
   longer = take-length a.given;
   left = refl;
@@ -55,12 +58,14 @@ KeepsReader-reflexive remaining a = record {
 }
 
 -- if the remaining bytes of a reader are known, they are still known after it has yielded some
-still-told : (before after : Option (List ℕ)) (bytes : List ℕ) → Consumes before after bytes → IsSome before → IsSome after
+still-told : (before after : Option (List ℕ)) (bytes : List ℕ) → Consumes before after bytes → IsSome before
+    → IsSome after
 still-told None after bytes gave told = absurd (cc told)
 still-told (Some xs) None bytes gave told = absurd gave
 still-told (Some xs) (Some ys) bytes gave told = refl
 
-pub KeepsReader-transitive : {R : Type 0} (remaining : R → Option (List ℕ)) (a b c : StreamReading R) → KeepsReader remaining a b → KeepsReader remaining b c → KeepsReader remaining a c
+pub KeepsReader-transitive : {R : Type 0} (remaining : R → Option (List ℕ)) (a b c : StreamReading R)
+    → KeepsReader remaining a b → KeepsReader remaining b c → KeepsReader remaining a c
 KeepsReader-transitive remaining a b c p q = record {
   longer = starts_with_trans c.given b.given a.given q.longer p.longer;
   left = q.left ∙ p.left;
@@ -68,8 +73,10 @@ KeepsReader-transitive remaining a b c p q = record {
   at_end = λ told used. q.at_end (still-told _ _ _ p.bytes told) (p.at_end told used);
 }
 
-pub KeepsWriter-reflexive : {W : Type 0} (contents : W → Option (List ℕ)) (a : StreamWriting W) → KeepsWriter contents a a
+pub KeepsWriter-reflexive : {W : Type 0} (contents : W → Option (List ℕ)) (a : StreamWriting W)
+    → KeepsWriter contents a a
 KeepsWriter-reflexive contents a before holds = holds
 
-pub KeepsWriter-transitive : {W : Type 0} (contents : W → Option (List ℕ)) (a b c : StreamWriting W) → KeepsWriter contents a b → KeepsWriter contents b c → KeepsWriter contents a c
+pub KeepsWriter-transitive : {W : Type 0} (contents : W → Option (List ℕ)) (a b c : StreamWriting W)
+    → KeepsWriter contents a b → KeepsWriter contents b c → KeepsWriter contents a c
 KeepsWriter-transitive contents a b c p q before holds = q before (p before holds)

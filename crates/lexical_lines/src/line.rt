@@ -1,6 +1,7 @@
 // A buffer for the line that is being read.
 
-ghost use Rattle.std.specs.Prelude.{◌≡◌, ℕ, ◌≤◌, List, [], ◌∷◌, ◌++◌, ◌↔◌, take, Option, Some, None, IsTrue, if◌then◌else◌, nat_le, IfSome, length};
+ghost use Rattle.std.specs.Prelude.{◌≡◌, ℕ, ◌≤◌, List, [], ◌∷◌, ◌++◌, ◌↔◌, take, Option, Some, None, IsTrue};
+ghost use Rattle.std.specs.Prelude.{if◌then◌else◌, nat_le, IfSome, length};
 ghost use Rattle.lexical_lines.specs.Line.{held, seen};
 
 use std::marker::Model;

@@ -1,6 +1,7 @@
 //! A source that reads a slice, and a sink that fills a buffer.
 
-ghost use Rattle.std.specs.Prelude.{◌≡◌, ℕ, List, ◌+◌, ◌≤◌, false, ◌||◌, [], ◌++◌, Ok, None, Some, length, take, drop, min, IfOk, IfSome, IfNone, ◌<◌, slice_get};
+ghost use Rattle.std.specs.Prelude.{◌≡◌, ℕ, List, ◌+◌, ◌≤◌, false, ◌||◌, [], ◌++◌, Ok, None, Some, length};
+ghost use Rattle.std.specs.Prelude.{take, drop, min, IfOk, IfSome, IfNone, ◌<◌, slice_get};
 ghost use Rattle.lexical_lines.specs.Answer.{AnswersAll};
 ghost use Rattle.lexical_lines.specs.Sink.{taken_by, put_faults, IsBeginning};
 ghost use Rattle.lexical_lines.specs.Source.{given_by, tells_end, faults_of};
@@ -127,7 +128,8 @@ impl<'a> SliceSink<'a> {
 impl ByteSink for SliceSink<'_> {
     ghost use Rattle.std.specs.Prelude.{◌≡◌, ◌≤◌, ◌+◌, ◌++◌, Ok, length, take, min, IfOk};
     ghost use Rattle.lexical_lines.specs.Sink.{taken_by, put_faults};
-    ghost use Rattle.lexical_lines.specs.Slice.{taken_in, rest_in, faults_in, KeepsBuffer, KeepsBuffer-reflexive, KeepsBuffer-transitive};
+    ghost use Rattle.lexical_lines.specs.Slice.{taken_in, rest_in, faults_in, KeepsBuffer};
+    ghost use Rattle.lexical_lines.specs.Slice.{KeepsBuffer-reflexive, KeepsBuffer-transitive};
 
     ghost taken = { taken_in };
 

@@ -1,6 +1,7 @@
 //! A source that reads from a reader, and a sink that writes to a writer.
 
-ghost use Rattle.std.specs.Prelude.{◌≡◌, ◌⊎◌, ◌+◌, ◌-◌, ◌≤◌, true, false, ◌||◌, [], ◌++◌, Ok, None, length, take, drop, IfOk};
+ghost use Rattle.std.specs.Prelude.{◌≡◌, ◌⊎◌, ◌+◌, ◌-◌, ◌≤◌, true, false, ◌||◌, [], ◌++◌, Ok, None, length};
+ghost use Rattle.std.specs.Prelude.{take, drop, IfOk};
 ghost use Rattle.std.specs.Io.KnownBytes.{Consumes, IsAtEnd, WriteAppends};
 ghost use Rattle.lexical_lines.specs.Sink.{taken_by, put_faults};
 ghost use Rattle.lexical_lines.specs.Source.{given_by, tells_end, faults_of};
