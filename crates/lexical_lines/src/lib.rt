@@ -54,7 +54,7 @@ mod trace;
 
 // A line, its request, and its answer.
 mod answer;
-mod decimal;
+mod decimal_parser;
 mod integer_type;
 mod line;
 mod newline;

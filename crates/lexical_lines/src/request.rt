@@ -4,7 +4,7 @@ ghost use Rattle.std.specs.Prelude.{◌≡◌, ◌^◌, ℤ, pos, neg_ℤ, ◌�
 ghost use Rattle.lexical_num.specs.Format.{IsRadix};
 ghost use Rattle.lexical_lines.specs.Request.{IsValue, IsGood, Asks, number_of};
 
-use crate::decimal::{parse_decimal, parse_radix};
+use crate::decimal_parser::{parse_decimal, parse_radix};
 use crate::integer_type::IntegerType;
 use crate::sign::strip_sign;
 use crate::space::split_at_space;
