@@ -6,7 +6,7 @@ ghost use Rattle.std.proofs.Common.{◌∙◌};
 ghost use Rattle.lexical_lines.specs.Answer.{AnswersAll};
 ghost use Rattle.lexical_lines.specs.Lines.{AreLines};
 
-use crate::running::run;
+use crate::line_loop::run;
 use crate::sink::ByteSink;
 use crate::slice::SliceSource;
 use crate::trace::Trace;

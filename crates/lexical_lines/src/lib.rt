@@ -43,7 +43,7 @@ mod joined;
 // The loop over the lines of an input, and the exit status of the program.
 mod answerer;
 mod exit_status;
-mod running;
+mod line_loop;
 
 // The devices that the loop reads from and writes to.
 mod sink;
@@ -68,7 +68,7 @@ pub mod laws;
 pub use answerer::Answerer;
 pub use exit_status::status;
 pub use joined::{join, write_joined};
-pub use running::run;
+pub use line_loop::run;
 pub use sink::ByteSink;
 pub use slice::{SliceSink, SliceSource, answer_slice};
 pub use source::ByteSource;

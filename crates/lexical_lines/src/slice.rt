@@ -7,7 +7,7 @@ ghost use Rattle.lexical_lines.specs.Sink.{taken_by, put_faults, IsBeginning};
 ghost use Rattle.lexical_lines.specs.Source.{given_by, tells_end, faults_of};
 ghost use Rattle.lexical_write_integer.specs.Buffer.{Writes};
 
-use crate::running::run;
+use crate::line_loop::run;
 use crate::sink::ByteSink;
 use crate::source::ByteSource;
 use crate::trace::Trace;
