@@ -3,7 +3,7 @@ pub mod Answerer
 pub mod Decimal
 pub mod ExitStatus
 pub mod IntegerType
-pub mod Joined
+pub mod JoinedText
 pub mod Line
 pub mod Lines
 pub mod Request

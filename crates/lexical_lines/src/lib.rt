@@ -38,7 +38,7 @@
 #![tactic(auto)]
 
 // Several numbers with a separator between them.
-mod joined;
+mod joined_text;
 
 // The loop over the lines of an input, and the exit status of the program.
 mod answerer;
@@ -67,7 +67,7 @@ pub mod laws;
 
 pub use answerer::Answerer;
 pub use exit_status::status;
-pub use joined::{join, write_joined};
+pub use joined_text::{join, write_joined};
 pub use line_loop::run;
 pub use sink::ByteSink;
 pub use slice::{SliceSink, SliceSource, answer_slice};

@@ -5,7 +5,7 @@ ghost use Rattle.std.specs.Borrow.{sem};
 ghost use Rattle.lexical_num.specs.Size.{size_in};
 ghost use Rattle.lexical_write_integer.specs.Buffer.{Writes};
 ghost use Rattle.lexical_write_integer.specs.Lending.{LendsFront};
-ghost use Rattle.lexical_lines.specs.Joined.{IsJoined};
+ghost use Rattle.lexical_lines.specs.JoinedText.{IsJoined};
 
 use lexical_num::constants::FormattedSize;
 use lexical_num::format::NumberFormat;

@@ -4,10 +4,10 @@ use Rattle.std.proofs.lemmas.List.{length-map, length-take, length-take-le}
 use Rattle.lexical_num.specs.Size.{size_in}
 use Rattle.lexical_write_integer.specs.Text.{IsText}
 use Rattle.lexical_write_integer.proofs.Fronts.{Writes-after}
-use Rattle.lexical_lines.specs.Joined.{IsJoined}
+use Rattle.lexical_lines.specs.JoinedText.{IsJoined}
 use Rattle.lexical_lines.proofs.Joins.{map-take_more, Ready, Ready-one, Ready-push}
-use Rattle.lexical_lines.proofs.joined.write_joined.Goals as goal
-use Rattle.lexical_lines.proofs.joined.write_joined.Goals.{then-index-gt0, else-index-gt0}
+use Rattle.lexical_lines.proofs.joined_text.write_joined.Goals as goal
+use Rattle.lexical_lines.proofs.joined_text.write_joined.Goals.{then-index-gt0, else-index-gt0}
 
 pub loop-index-preserved : goal.loop-index-preserved
 loop-index-preserved g c =

@@ -55,14 +55,14 @@ use Rattle.lexical_write_integer.proofs.HandedFronts.{Fronts, called, asks, gave
 use Rattle.lexical_write_integer.proofs.Lengths.{Writes-short}
 use Rattle.lexical_write_integer.proofs.Relending.{lent_again, lends_again, came_back, comes_back}
 use Rattle.lexical_write_integer.proofs.buffer.front_mut.Met.{met as front_mut_met}
-use Rattle.lexical_lines.specs.Joined.{IsJoined}
-use Rattle.lexical_lines.specs.contracts.joined.write_joined as W
-use Rattle.lexical_lines.specs.contracts.joined.write_joined.Key.{name as #write_joined}
-use Rattle.lexical_lines.proofs.joined.write_joined.Met.{met as write_joined_met}
-use Rattle.lexical_lines.specs.contracts.joined.join as F
-use Rattle.lexical_lines.specs.contracts.joined.join.Key.{name as #self}
-use Rattle.lexical_lines.proofs.joined.join.Statement as stated
-use Rattle.lexical_lines.proofs.joined.join.Code as code
+use Rattle.lexical_lines.specs.JoinedText.{IsJoined}
+use Rattle.lexical_lines.specs.contracts.joined_text.write_joined as W
+use Rattle.lexical_lines.specs.contracts.joined_text.write_joined.Key.{name as #write_joined}
+use Rattle.lexical_lines.proofs.joined_text.write_joined.Met.{met as write_joined_met}
+use Rattle.lexical_lines.specs.contracts.joined_text.join as F
+use Rattle.lexical_lines.specs.contracts.joined_text.join.Key.{name as #self}
+use Rattle.lexical_lines.proofs.joined_text.join.Statement as stated
+use Rattle.lexical_lines.proofs.joined_text.join.Code as code
 
 -- the type of the values, and the type of the options
 record Able : Type 2 where
@@ -207,7 +207,7 @@ join_spec 𝓤 𝓛 𝓜 𝓡 wired X Y L LY C g d gl dl gn dn gc dc gs ds gt dt
     let T : Able = record { row = X; laws = L; copy = C; options = Y; g = g; d = d; gl = gl; dl = dl; gn = gn; dn = dn; gc = gc; dc = dc; gs = gs; ds = ds; gt = gt; dt = dt } in
     let 𝓣 : Tables 𝓤 𝓛.H = tables_of 𝓤 𝓛.H 𝓜 (tables 𝓤 𝓛.H 𝓜 𝓡 𝓡.env) in
     let c = clauses T 𝓛 𝓜.mem 𝓡.returns in
-    let writes = write_joined_met 𝓤 𝓛 𝓜 𝓡 (code.calls-lexical_lines::joined::write_joined 𝓡.env wired) X Y L LY C g d gl dl gn dn gc dc gs ds gt dt writes_options writes_decimal numbers clones sizes tells in
+    let writes = write_joined_met 𝓤 𝓛 𝓜 𝓡 (code.calls-lexical_lines::joined_text::write_joined 𝓡.env wired) X Y L LY C g d gl dl gn dn gc dc gs ds gt dt writes_options writes_decimal numbers clones sizes tells in
     let fronts = front_mut_met 𝓤 𝓛 𝓜 𝓡 (code.calls-lexical_write_integer::buffer::front_mut 𝓡.env wired) in
     entered 𝓤 𝓛.H (triple_of 𝓛 (F.signature X Y) (F.spec X Y g d gl dl gn dn gc dc gs ds gt dt 𝓛 𝓜.mem 𝓡.returns)) 𝓣.C 𝓣.Λ (#self (args T)) (function T) (code.unfolded 𝓤 𝓛.H 𝓜 𝓡 wired (X, (Y, tt)) d dl dn dc ds dt)
     (walk_Meets 𝓛 (ended T) (stayed T) (
