@@ -1,12 +1,13 @@
 -- The parts of a line.
 use Rattle.std.proofs.Common.{◌≡◌, ◌≢◌, ℕ, List, [], ◌∷◌, ◌++◌, Bool, true, false, not, ◌&&◌, refl, sym, ◌∙◌, ℤ, arith, ◌==◌, eq-eqb, append_assoc}
+use Rattle.std.specs.Io.{StartsWith}
 use Rattle.std.specs.List.{All}
 use Rattle.std.proofs.lemmas.List.Elements.{All-nil, All-cons, All-append, All-weaker}
 use Rattle.lexical_lines.specs.declared.integer_type.IntegerType.{IntegerType}
 use Rattle.lexical_lines.specs.declared.integer_type.IntegerType.TheVariants.{U8, U16, U32, U64, Usize, I8, I16, I32, I64, Isize}
 use Rattle.lexical_lines.specs.IntegerType.{name_of}
 use Rattle.lexical_lines.specs.Request.{IsRequest, IsValue}
-use Rattle.lexical_lines.specs.Sign.{optional_sign, StartsWith}
+use Rattle.lexical_lines.specs.Sign.{optional_sign}
 use Rattle.lexical_lines.proofs.Separators.{Lacks, cut_unique}
 use Rattle.lexical_lines.proofs.Decimals.{IsDigitByte, IsDecimal-bytes, IsDecimal-from_digits}
 use Rattle.lexical_lines.proofs.Signs.{stripped_unique}
@@ -78,12 +79,12 @@ module _ {kind : IntegerType} {plus : Bool} {radix : ℕ} {number : ℤ} {line :
       cut_unique 32 first value signed_radix h.value_text lacks (no_space-signed plus h.radix_text radix_bytes) (sym e ∙ is)
 
   pub IsRequest-radix : (first text : List ℕ) (found : Bool) → first ≡ signed_radix → first ≡ optional_sign found 43 ++ text
-      → (StartsWith first 43 → found ≡ true) → text ≡ h.radix_text
+      → (StartsWith first (43 ∷ []) → found ≡ true) → text ≡ h.radix_text
   IsRequest-radix first text found is e stripped =
       (stripped_unique 43 first text h.radix_text found plus (omega arith) e stripped is radix_bytes).1
 
 -- the sign of a value and its digits
 pub IsValue-parts : {kind : IntegerType} {number : ℤ} {text : List ℕ} (h : IsValue kind number text) (digits : List ℕ) (minus : Bool)
-    → text ≡ optional_sign minus 45 ++ digits → (StartsWith text 45 → minus ≡ true) → (minus ≡ h.minus) × (digits ≡ h.digits)
+    → text ≡ optional_sign minus 45 ++ digits → (StartsWith text (45 ∷ []) → minus ≡ true) → (minus ≡ h.minus) × (digits ≡ h.digits)
 IsValue-parts {text = text} h digits minus e stripped =
     stripped_unique 45 text digits h.digits minus h.minus (omega arith) e stripped h.whole (IsDecimal-bytes h.magnitude h.digits h.decimal)

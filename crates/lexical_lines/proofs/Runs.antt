@@ -8,7 +8,7 @@ use Rattle.std.proofs.lemmas.List.Elements.{All-nil, All-cons, All-head, All-tai
 use Rattle.lexical_lines.specs.declared.answerer.Answerer.{Answerer}
 use Rattle.lexical_lines.specs.Answer.{IsAnswer, AreAnswers, AreAnswersFrom, AnswersAll, AnswersEnded}
 use Rattle.lexical_lines.specs.Answerer.{HasAnswered}
-use Rattle.lexical_lines.specs.Line.{held}
+use Rattle.lexical_lines.specs.Line.{short_line}
 use Rattle.lexical_lines.specs.Lines.{AreLines, EndsLine, NoNewline}
 use Rattle.lexical_lines.specs.Request.{IsGood}
 use Rattle.lexical_lines.specs.Running.{added, BreaksOff}
@@ -17,7 +17,7 @@ use Rattle.lexical_lines.proofs.Added.{added-is}
 use Rattle.lexical_lines.proofs.Lines.{IsInside, IsCut-none, IsCut-byte, IsCut-more, IsCut-newline, AreLines-ended, AreLines-rest}
 use Rattle.std.proofs.lemmas.List.{append-nil}
 
-pub HasAnswered-none : (taken : List ℕ) (answerer : Answerer) → answerer.line ≡ held [] → answerer.line_number ≡ 1
+pub HasAnswered-none : (taken : List ℕ) (answerer : Answerer) → answerer.line ≡ short_line [] → answerer.line_number ≡ 1
     → answerer.all_good ≡ true → HasAnswered taken [] taken answerer
 HasAnswered-none taken answerer line number good = record {
   ended = [];
@@ -68,11 +68,11 @@ and_iff : (a b : Bool) (P Q : Type 0) → (IsTrue a ↔ P) → (IsTrue b ↔ Q) 
 and_iff true b P Q p q = (λ e. (p.0 refl, q.0 e), λ both. q.1 both.1)
 and_iff false b P Q p q = (λ e. cc, λ both. p.1 both.0)
 
-pub held_empty : (rest : List ℕ) → held rest ≡ held [] → rest ≡ []
-held_empty rest e = (cond_some (nat_le (length rest) 64) rest [] e).1
+pub short_line-empty : (rest : List ℕ) → short_line rest ≡ short_line [] → rest ≡ []
+short_line-empty rest e = (cond_some (nat_le (length rest) 64) rest [] e).1
 
-pub held_short : (line : List ℕ) → length line ≤ 64 → Some line ≡ held line
-held_short line short = search (rules, short)
+pub short_line-some : (line : List ℕ) → length line ≤ 64 → Some line ≡ short_line line
+short_line-some line short = search (rules, short)
 
 module _ {before bytes taken : List ℕ} {answerer : Answerer} (h : HasAnswered before bytes taken answerer) where
   pub answers_after : (answer : List ℕ) → IsAnswer answerer.line_number h.rest answer → AreAnswers (h.ended ++ h.rest ∷ []) (h.answers ++ answer)
@@ -91,7 +91,7 @@ module _ {before bytes taken : List ℕ} {answerer : Answerer} (h : HasAnswered 
 
   -- the next byte of a line
   pub HasAnswered-byte : (byte : ℕ) (next : Answerer) → IsInside byte
-      → ((line : List ℕ) → answerer.line ≡ held line → next.line ≡ held (line ++ byte ∷ []))
+      → ((line : List ℕ) → answerer.line ≡ short_line line → next.line ≡ short_line (line ++ byte ∷ []))
       → next.line_number ≡ answerer.line_number → next.all_good ≡ answerer.all_good
       → HasAnswered before (bytes ++ byte ∷ []) taken next
   HasAnswered-byte byte next inside push number good = record {
@@ -107,7 +107,7 @@ module _ {before bytes taken : List ℕ} {answerer : Answerer} (h : HasAnswered 
   }
 
   -- more bytes of a line
-  abbrev pub HasAnswered-more : (more : List ℕ) (next : Answerer) → NoNewline more → next.line ≡ held (h.rest ++ more)
+  abbrev pub HasAnswered-more : (more : List ℕ) (next : Answerer) → NoNewline more → next.line ≡ short_line (h.rest ++ more)
       → next.line_number ≡ answerer.line_number → next.all_good ≡ answerer.all_good → HasAnswered before (bytes ++ more) taken next
   HasAnswered-more more next inside line number good = record {
     ended = h.ended;
@@ -124,7 +124,7 @@ module _ {before bytes taken : List ℕ} {answerer : Answerer} (h : HasAnswered 
   -- a line has ended and is answered
   pub HasAnswered-line : (put answer : List ℕ) (next : Answerer) (is_good : Bool) → put ≡ taken ++ answer
       → IsAnswer answerer.line_number h.rest answer → (IsTrue is_good ↔ IsGood h.rest)
-      → next.line ≡ held [] → next.line_number ≡ min (answerer.line_number + 1) (2 ^ 64 - 1)
+      → next.line ≡ short_line [] → next.line_number ≡ min (answerer.line_number + 1) (2 ^ 64 - 1)
       → next.all_good ≡ (answerer.all_good && is_good) → HasAnswered before (bytes ++ 10 ∷ []) put next
   HasAnswered-line put answer next is_good e is good line number all = record {
     ended = h.ended ++ h.rest ∷ [];
@@ -148,21 +148,21 @@ module _ {before bytes taken : List ℕ} {answerer : Answerer} (h : HasAnswered 
   answers_ended = (h.ended, h.rest, h.cut, rw (sym answers_are) at h.answered)
 
   -- if the answerer keeps no bytes, the lines that ended are all lines
-  pub lines_at_empty : answerer.line ≡ held [] → AreLines bytes h.ended
-  lines_at_empty none = AreLines-ended h.cut (held_empty h.rest (sym h.last ∙ none))
+  pub lines_at_empty : answerer.line ≡ short_line [] → AreLines bytes h.ended
+  lines_at_empty none = AreLines-ended h.cut (short_line-empty h.rest (sym h.last ∙ none))
 
   -- otherwise the bytes that it keeps are the last line
-  pub lines_at_rest : (answerer.line ≡ held [] → ⊥) → AreLines bytes (h.ended ++ h.rest ∷ [])
-  lines_at_rest some = AreLines-rest h.cut (λ empty. some (h.last ∙ ap held empty))
+  pub lines_at_rest : (answerer.line ≡ short_line [] → ⊥) → AreLines bytes (h.ended ++ h.rest ∷ [])
+  lines_at_rest some = AreLines-rest h.cut (λ empty. some (h.last ∙ ap short_line empty))
 
   pub lines_at_newline : AreLines (bytes ++ 10 ∷ []) (h.ended ++ h.rest ∷ [])
   lines_at_newline = AreLines-ended (IsCut-newline h.cut) refl
 
   -- all lines are answered
-  pub answers_at_empty : answerer.line ≡ held [] → AnswersAll bytes (added before taken)
+  pub answers_at_empty : answerer.line ≡ short_line [] → AnswersAll bytes (added before taken)
   answers_at_empty none = (h.ended, lines_at_empty none, rw (sym answers_are) at h.answered)
 
-  pub answers_at_rest : (put answer : List ℕ) → (answerer.line ≡ held [] → ⊥) → IsAnswer answerer.line_number h.rest answer
+  pub answers_at_rest : (put answer : List ℕ) → (answerer.line ≡ short_line [] → ⊥) → IsAnswer answerer.line_number h.rest answer
       → put ≡ taken ++ answer → AnswersAll bytes (added before put)
   answers_at_rest put answer some is e =
       let put_is : h.answers ++ answer ≡ added before put = sym (added-is before put (h.answers ++ answer) (taken_after put answer e)) in

@@ -7,7 +7,7 @@ use Rattle.lexical_num.specs.Sign.{sign_of}
 use Rattle.lexical_write_integer.proofs.Numerals.{digits_unique}
 use Rattle.lexical_lines.specs.declared.integer_type.IntegerType.{IntegerType}
 use Rattle.lexical_lines.specs.Answer.{IsAnswer, WithNewline, IsBadLine, AreAnswersFrom, AnswersAll, AnswersEnded, format_of}
-use Rattle.lexical_lines.specs.IntegerType.{signed}
+use Rattle.lexical_lines.specs.IntegerType.{with_sign}
 use Rattle.lexical_lines.specs.Lines.{AreLines, EndsLine}
 use Rattle.lexical_lines.proofs.Runs.{AreAnswersFrom-push}
 use Rattle.std.proofs.lemmas.List.{append-nil}
@@ -25,7 +25,7 @@ IsValue-number h k =
     let parts = signs_unique 45 h.minus k.minus h.digits k.digits (omega arith) (sym h.whole ∙ k.whole)
     (IsDecimal-bytes h.magnitude h.digits h.decimal) (IsDecimal-bytes k.magnitude k.digits k.decimal) in
     let same : h.magnitude ≡ k.magnitude = sym (IsDecimal-value h.magnitude h.digits h.decimal) ∙ IsDecimal-value k.magnitude h.digits (rw parts.1 k.decimal) in
-    h.value ∙ ap (λ minus. signed minus h.magnitude) parts.0 ∙ ap (signed k.minus) same ∙ sym k.value
+    h.value ∙ ap (λ minus. with_sign minus h.magnitude) parts.0 ∙ ap (with_sign k.minus) same ∙ sym k.value
 
 -- a line makes one request only
 IsRequest-unique : {kind other : IntegerType} {plus add : Bool} {radix base : ℕ} {number second : ℤ} {line : List ℕ}

@@ -3,7 +3,7 @@ use Rattle.std.specs.Prelude.{◌≡◌, ℕ, ◌+◌, ◌-◌, ◌^◌, min, Bo
 use Rattle.std.specs.Prelude.{IsTrue, All}
 use Rattle.lexical_lines.specs.declared.answerer.Answerer.{Answerer}
 use Rattle.lexical_lines.specs.Answer.{IsAnswer, AreAnswers}
-use Rattle.lexical_lines.specs.Line.{held}
+use Rattle.lexical_lines.specs.Line.{short_line}
 use Rattle.lexical_lines.specs.Lines.{IsCut}
 use Rattle.lexical_lines.specs.Request.{IsGood}
 use Rattle.lexical_lines.specs.Running.{added}
@@ -21,7 +21,7 @@ pub record HasAnswered (before bytes taken : List ℕ) (answerer : Answerer) : T
   pub whole : taken ≡ before ++ answers
   pub number : answerer.line_number ≡ min (length ended + 1) (2 ^ 64 - 1)
   pub good : IsTrue answerer.all_good ↔ All IsGood ended
-  pub last : answerer.line ≡ held rest
+  pub last : answerer.line ≡ short_line rest
 
 -- the call only appends to what its sink has taken, and the sink failed once if the result is an `Err`, otherwise never
 pub record PutsMore {K A E : Type 0} (taken : K → List ℕ) (fault_count : K → ℕ) (keeps : K → K → Type 0)

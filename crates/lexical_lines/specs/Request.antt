@@ -7,7 +7,7 @@ use Rattle.lexical_lines.specs.declared.request.Number.{Number}
 use Rattle.lexical_lines.specs.declared.request.Number.TheVariants.{Unsigned, Signed}
 use Rattle.lexical_lines.specs.declared.request.Request.{Request}
 use Rattle.lexical_lines.specs.Decimal.{IsDecimal}
-use Rattle.lexical_lines.specs.IntegerType.{name_of, signed, Holds}
+use Rattle.lexical_lines.specs.IntegerType.{name_of, with_sign, Holds}
 use Rattle.lexical_lines.specs.Sign.{optional_sign}
 
 -- the text is an optional `-` and the digits of a number that the type has
@@ -18,7 +18,7 @@ pub record IsValue (kind : IntegerType) (number : ℤ) (text : List ℕ) : Type 
   pub holds : Holds kind minus magnitude
   pub decimal : IsDecimal magnitude digits
   pub whole : text ≡ optional_sign minus 45 ++ digits
-  pub value : number ≡ signed minus magnitude
+  pub value : number ≡ with_sign minus magnitude
 
 -- the line is TYPE, a space, an optional `+`, RADIX, a space and VALUE
 pub record IsRequest (kind : IntegerType) (plus : Bool) (radix : ℕ) (number : ℤ) (line : List ℕ) : Type 0 where

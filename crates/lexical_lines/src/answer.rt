@@ -6,7 +6,7 @@ ghost use Rattle.lexical_num.specs.declared.constants.TheConstants.{BUFFER_SIZE}
 ghost use Rattle.lexical_write_integer.specs.Buffer.{Writes};
 ghost use Rattle.lexical_write_integer.specs.Text.{IsText};
 ghost use Rattle.lexical_lines.specs.Answer.{IsAnswer, WithNewline, IsBadLine, format_of};
-ghost use Rattle.lexical_lines.specs.Line.{held, seen};
+ghost use Rattle.lexical_lines.specs.Line.{short_line, bytes_of};
 ghost use Rattle.lexical_lines.specs.Request.{IsGood, Asks, number_of};
 
 use crate::request::{Number, Request, parse};
@@ -28,9 +28,9 @@ pub fn write_answer(line: Option<&[u8]>, line_number: u64, buffer: &mut [u8]) ->
     requires short { IfSome line (λ bytes. length bytes.now ≤ 64) }
     requires room { BUFFER_SIZE + 11 ≤ length buffer.old }
     ensures within { result.0 ≤ length buffer.new }
-    ensures answer { (bytes : List ℕ) → seen line.entry ≡ held bytes
+    ensures answer { (bytes : List ℕ) → bytes_of line.entry ≡ short_line bytes
         → Writes (IsAnswer line_number bytes) buffer.old buffer.new result.0 }
-    ensures good { (bytes : List ℕ) → seen line.entry ≡ held bytes
+    ensures good { (bytes : List ℕ) → bytes_of line.entry ≡ short_line bytes
         → IsTrue result.1 ↔ IsGood bytes }
 {
     match requested(line) {
@@ -43,9 +43,9 @@ pub fn write_answer(line: Option<&[u8]>, line_number: u64, buffer: &mut [u8]) ->
 fn requested(line: Option<&[u8]>) -> Option<Request>
     requires { IfSome line (λ bytes. length bytes.now ≤ 64) }
     ensures radix { IfSome result (λ request. IsRadix request.radix) }
-    ensures found { IfSome result (λ request. (bytes : List ℕ) → seen line.entry ≡ held bytes
+    ensures found { IfSome result (λ request. (bytes : List ℕ) → bytes_of line.entry ≡ short_line bytes
         → Asks bytes request) }
-    ensures none { IfNone result ((bytes : List ℕ) → seen line.entry ≡ held bytes
+    ensures none { IfNone result ((bytes : List ℕ) → bytes_of line.entry ≡ short_line bytes
         → IsGood bytes → ⊥) }
 {
     parse(line?)

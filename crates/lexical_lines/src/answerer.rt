@@ -6,7 +6,7 @@ ghost use Rattle.std.specs.Io.{StartsWith};
 ghost use Rattle.lexical_num.specs.declared.constants.TheConstants.{BUFFER_SIZE};
 ghost use Rattle.lexical_lines.specs.Answer.{AnswersAll};
 ghost use Rattle.lexical_lines.specs.Answerer.{HasAnswered, PutsMore, PutsAnswer};
-ghost use Rattle.lexical_lines.specs.Line.{held, seen};
+ghost use Rattle.lexical_lines.specs.Line.{short_line, bytes_of};
 ghost use Rattle.lexical_lines.specs.Lines.{NoNewline};
 ghost use Rattle.lexical_lines.specs.Running.{added, TellsAllGood, BreaksOff};
 
@@ -138,7 +138,7 @@ fn put_line<K: ByteSink>(
     sink: &mut K,
 ) -> io::Result<bool>
     requires { BUFFER_SIZE + 11 ≤ length buffer.old }
-    ensures answer { (rest : List ℕ) → line.old ≡ held rest
+    ensures answer { (rest : List ℕ) → line.old ≡ short_line rest
         → PutsAnswer line_number (rest ++ end.now) (K.taken sink.old) (K.taken sink.new) result }
     ensures puts { PutsMore K.taken K.faults K.keeps sink.old sink.new result }
 {
@@ -159,7 +159,7 @@ fn put_answer<K: ByteSink>(
 ) -> io::Result<bool>
     requires short { IfSome line (λ bytes. length bytes.now ≤ 64) }
     requires room { BUFFER_SIZE + 11 ≤ length buffer.old }
-    ensures answer { (bytes : List ℕ) → seen line.entry ≡ held bytes
+    ensures answer { (bytes : List ℕ) → bytes_of line.entry ≡ short_line bytes
         → PutsAnswer line_number bytes (K.taken sink.old) (K.taken sink.new) result }
     ensures puts { PutsMore K.taken K.faults K.keeps sink.old sink.new result }
 {

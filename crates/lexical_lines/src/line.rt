@@ -2,7 +2,7 @@
 
 ghost use Rattle.std.specs.Prelude.{◌≡◌, ℕ, ◌≤◌, List, [], ◌∷◌, ◌++◌, ◌↔◌, take, Option, Some, None, IsTrue};
 ghost use Rattle.std.specs.Prelude.{if◌then◌else◌, nat_le, IfSome, length};
-ghost use Rattle.lexical_lines.specs.Line.{held, seen};
+ghost use Rattle.lexical_lines.specs.Line.{short_line, bytes_of};
 
 use std::marker::Model;
 
@@ -28,7 +28,7 @@ impl Model for Line {
 impl Line {
     /// Returns an empty line.
     pub fn new() -> Line
-        ensures { result ≡ held [] }
+        ensures { result ≡ short_line [] }
     {
         Line {
             bytes: [0; MAX_LENGTH],
@@ -38,14 +38,14 @@ impl Line {
 
     /// Removes all bytes, so that a new line begins.
     pub fn clear(&mut self)
-        ensures { self.new ≡ held [] }
+        ensures { self.new ≡ short_line [] }
     {
         self.count = 0;
     }
 
     /// Appends a byte to the line.
     pub fn push(&mut self, byte: u8)
-        ensures { (line : List ℕ) → self.old ≡ held line → self.new ≡ held (line ++ byte ∷ []) }
+        ensures { (line : List ℕ) → self.old ≡ short_line line → self.new ≡ short_line (line ++ byte ∷ []) }
     {
         if self.count < MAX_LENGTH {
             self.bytes[self.count] = byte;
@@ -57,7 +57,7 @@ impl Line {
 
     /// Appends bytes to the line.
     pub fn push_all(&mut self, bytes: &[u8])
-        ensures { (line : List ℕ) → self.old ≡ held line → self.new ≡ held (line ++ bytes.now) }
+        ensures { (line : List ℕ) → self.old ≡ short_line line → self.new ≡ short_line (line ++ bytes.now) }
     {
         for byte in bytes {
             self.push(*byte);
@@ -66,14 +66,14 @@ impl Line {
 
     /// Returns whether the line has no bytes.
     pub fn is_empty(&self) -> bool
-        ensures { IsTrue result ↔ (self.now ≡ held []) }
+        ensures { IsTrue result ↔ (self.now ≡ short_line []) }
     {
         self.count == 0
     }
 
     /// Returns the bytes of the line, or `None` if the line is longer than 64 bytes.
     pub fn as_slice(&self) -> Option<&[u8]>
-        ensures value { seen result ≡ self.now }
+        ensures value { bytes_of result ≡ self.now }
         ensures short { IfSome result (λ bytes. length bytes.now ≤ 64) }
     {
         if self.count <= MAX_LENGTH {
