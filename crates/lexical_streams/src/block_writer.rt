@@ -56,7 +56,7 @@ impl<'a, W: Write, const SIZE: usize> BlockWriter<'a, W, SIZE> {
         ensures taken { taken self.new ≡ taken self.old }
         ensures faults { faults self.new ≡ faults self.old + faults_of result }
     {
-        self.hand_on()?;
+        self.write_block()?;
         let flushed = self.writer.flush();
         note_fault(&mut self.trace, &flushed);
         flushed
@@ -64,13 +64,13 @@ impl<'a, W: Write, const SIZE: usize> BlockWriter<'a, W, SIZE> {
 
     // Writes the bytes in the block to the writer. After an error, the bytes that were not written are
     // still in the block.
-    fn hand_on(&mut self) -> io::Result<()>
+    fn write_block(&mut self) -> io::Result<()>
         ensures ok { OnOk result (held self.new ≡ []) }
         ensures bytes { HandsOn W.contents self.old self.new [] }
         ensures taken { taken self.new ≡ taken self.old }
         ensures faults { faults self.new ≡ faults self.old + faults_of result }
     {
-        let (count, result) = write_while_taken(&self.block[..self.end], self.writer);
+        let (count, result) = write_until_error(&self.block[..self.end], self.writer);
         self.block.copy_within(count..self.end, 0);
         self.end -= count;
         note_fault(&mut self.trace, &result);
@@ -78,7 +78,7 @@ impl<'a, W: Write, const SIZE: usize> BlockWriter<'a, W, SIZE> {
     }
 
     // Copies the prefix of `bytes` that fits into the block, and returns its length.
-    fn hold(&mut self, bytes: &[u8]) -> usize
+    fn fill_block(&mut self, bytes: &[u8]) -> usize
         ensures count { result ≡ min (length bytes.now) (SIZE - length (held self.old)) }
         ensures held { held self.new ≡ held self.old ++ take result bytes.now }
         ensures inner { inner self.new ≡ inner self.old }
@@ -97,7 +97,8 @@ impl<'a, W: Write, const SIZE: usize> BlockWriter<'a, W, SIZE> {
 }
 
 impl<W: Write, const SIZE: usize> ByteSink for BlockWriter<'_, W, SIZE> {
-    ghost use Rattle.lexical_streams.specs.Blocks.{inner, loan, held, taken, faults, HandsOn, KeepsBytes, KeepsBytes-reflexive, KeepsBytes-transitive};
+    ghost use Rattle.lexical_streams.specs.Blocks.{inner, loan, held, taken, faults, HandsOn, KeepsBytes};
+    ghost use Rattle.lexical_streams.specs.Blocks.{KeepsBytes-reflexive, KeepsBytes-transitive};
 
     ghost taken = { taken };
 
@@ -121,9 +122,9 @@ impl<W: Write, const SIZE: usize> ByteSink for BlockWriter<'_, W, SIZE> {
         ensures inner { length (held self.old) < SIZE → inner self.new ≡ inner self.old }
     {
         if self.end == SIZE {
-            self.hand_on()?;
+            self.write_block()?;
         }
-        Ok(self.hold(bytes))
+        Ok(self.fill_block(bytes))
     }
 }
 
@@ -138,7 +139,7 @@ fn note_fault(trace: &mut Trace, outcome: &io::Result<()>)
 }
 
 // Writes the bytes until all are written or a write fails, and returns how many were written.
-fn write_while_taken<W: Write>(bytes: &[u8], writer: &mut W) -> (usize, io::Result<()>)
+fn write_until_error<W: Write>(bytes: &[u8], writer: &mut W) -> (usize, io::Result<()>)
     ensures bound { result.0 ≤ length bytes.now }
     ensures all { OnOk result.1 (result.0 ≡ length bytes.now) }
     ensures bytes { Appends (W.contents writer.old) (W.contents writer.new) (take result.0 bytes.now) }

@@ -2,7 +2,7 @@ use Rattle.std.proofs.Common.{◌≡◌, ℕ, ◌+◌, ◌-◌, ◌≤◌, List,
 use Rattle.std.specs.List.{copy_within}
 use Rattle.std.proofs.lemmas.List.{append-nil, drop-take}
 use Rattle.std.proofs.lemmas.List.Edits.{take-paste}
-use Rattle.lexical_streams.proofs.block_writer.BlockWriter.hand_on.Goals as goal
+use Rattle.lexical_streams.proofs.block_writer.BlockWriter.write_block.Goals as goal
 use Rattle.std.proofs.Common.{length-drop}
 
 -- the bytes after the first ones are moved to the start
@@ -26,11 +26,11 @@ parted xs ys count end ordered within moved =
 pub returns-clause-bytes : goal.returns-clause-bytes
 returns-clause-bytes g c =
     let w = c.args.self.now in
-    let count = c.write_while_taken-count.result.0 in
-    let bound : count ≤ w.end = omega (arith, c.write_while_taken-count.ensures.bound, length-take w.end w.block) in
+    let count = c.write_until_error-count.result.0 in
+    let bound : count ≤ w.end = omega (arith, c.write_until_error-count.ensures.bound, length-take w.end w.block) in
     record {
       same = refl;
       handed = take count (take w.end w.block);
-      bytes = c.write_while_taken-count.ensures.bytes;
+      bytes = c.write_until_error-count.ensures.bytes;
       whole = append-nil _ ∙ parted w.block c.copy_within.new.self count w.end bound (omega arith) c.copy_within.ensures.after;
     }
