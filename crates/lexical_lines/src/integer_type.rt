@@ -18,7 +18,7 @@ pub enum IntegerType {
 }
 
 impl IntegerType {
-    ghost use Rattle.lexical_lines.specs.IntegerType.{name_of, is_signed, greatest, Holds};
+    ghost use Rattle.lexical_lines.specs.IntegerType.{name_of, is_signed, largest, Holds};
 
     /// Returns the type with this name in Rust, or `None` if none of the ten has it.
     pub fn from_name(name: &[u8]) -> Option<IntegerType>
@@ -59,8 +59,8 @@ impl IntegerType {
     }
 
     /// Returns the largest number of the type.
-    pub fn greatest(self) -> u64
-        ensures { result ≡ greatest self }
+    pub fn largest(self) -> u64
+        ensures { result ≡ largest self }
     {
         match self {
             IntegerType::U8 => 0xff,
@@ -81,6 +81,6 @@ impl IntegerType {
     {
         // The magnitude of the smallest number of a signed type is the largest number plus 1.
         let over = magnitude.saturating_sub(u64::from(minus));
-        (self.is_signed() || !minus) && over <= self.greatest()
+        (self.is_signed() || !minus) && over <= self.largest()
     }
 }

@@ -29,7 +29,7 @@ pub fn answers_unique(input: &[u8], a: &[u8], b: &[u8])
 pub fn answers_exist(input: &[u8])
     ensures { (text : List ℕ) × AnswersAll input.now text }
 {
-    let mut sink = Dropping {
+    let mut sink = DiscardingSink {
         trace: Trace::new(),
     };
     let _all_good = run(&mut SliceSource::new(input), &mut sink);
@@ -37,11 +37,11 @@ pub fn answers_exist(input: &[u8])
 
 // A sink that discards all bytes.
 #[derive(Drop)]
-struct Dropping {
+struct DiscardingSink {
     trace: Trace,
 }
 
-impl ByteSink for Dropping {
+impl ByteSink for DiscardingSink {
     ghost taken = { λ s. s.trace.bytes };
 
     ghost faults = { λ s. s.trace.faults };
