@@ -332,7 +332,7 @@ pub trait UnsignedInteger: LexicalInteger {
         ensures quotient { magnitude result.0 ≡ magnitude self / magnitude by }
         ensures remainder { magnitude result.1 ≡ magnitude self % magnitude by };
 
-    /// Returns whether the number is at least `other`.
+    /// Returns whether the number is `other` or larger.
     fn is_at_least(self, other: Self) -> bool
         ensures { IsTrue result ↔ (magnitude other ≤ magnitude self) }
     {

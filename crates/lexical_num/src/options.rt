@@ -1,4 +1,4 @@
-//! The options of writing an integer. There are no options yet.
+//! The options of writing an integer, which have no fields yet.
 
 ghost use Rattle.std.specs.Prelude.{◌≡◌, Bool, true, IsTrue, IsOk};
 ghost use Rattle.lexical_num.specs.Size.{size_in};
@@ -21,7 +21,7 @@ pub trait WriteOptions {
         ensures { result ≡ size_in T.FORMATTED_SIZE T.FORMATTED_SIZE_DECIMAL format.now };
 }
 
-/// The options of writing an integer. There are no options yet, so all values are equal.
+/// The options of writing an integer. They have no fields yet, so all values are equal.
 #[derive(Debug, Clone, PartialEq, Eq, PartialOrd, Ord, Drop)]
 pub struct Options {}
 
@@ -98,7 +98,7 @@ impl WriteOptions for Options {
     }
 }
 
-/// A builder of options. There are no options to set yet, so all values are equal.
+/// A builder of options. It has nothing to set yet, so all values are equal.
 #[derive(Debug, Clone, PartialEq, Eq, PartialOrd, Ord, Drop)]
 pub struct OptionsBuilder {}
 

@@ -1,4 +1,4 @@
-//! How many digits a number has.
+//! Counting the digits of a number.
 
 ghost use Rattle.std.specs.Prelude.{◌≡◌, ◌+◌, ◌/◌, ◌^◌, ◌<◌, ◌≤◌, ◌↔◌, ◌++◌, [], ◌∷◌, IsTrue, IfNone, IfSome, length};
 ghost use Rattle.lexical_num.specs.Format.{IsRadix};
@@ -11,8 +11,7 @@ pub use crate::logarithm::fast_log2;
 use crate::turns::Turns;
 use lexical_num::num::UnsignedInteger;
 
-// Whether the radix to the exponent fits a type with this number of bits. A loop by that power is open where
-// it does, and nowhere else.
+// Returns whether `radix.pow(exponent)` fits in `bits` bits. If not, a loop that divides by it never runs.
 fn power_fits(bits: usize, radix: u32, exponent: u32) -> bool
     requires bits { IsBitWidth bits }
     requires radix { IsRadix radix }
@@ -27,8 +26,8 @@ fn power_fits(bits: usize, radix: u32, exponent: u32) -> bool
     }
 }
 
-// The radix to the exponent, where it fits the type. Where it does not, no number of the type is as
-// great, and a loop by it would have no turn.
+// Returns `radix.pow(exponent)`, or `None` if it does not fit in the type. Then every number of the type
+// is smaller, and a loop that divides by it would never run.
 fn power_of<T: UnsignedInteger>(radix: u32, exponent: u32) -> Option<T>
     requires radix { IsRadix radix }
     requires exponent { IsStep exponent }
@@ -42,7 +41,7 @@ fn power_of<T: UnsignedInteger>(radix: u32, exponent: u32) -> Option<T>
     }
 }
 
-// A turn of the count: a division by a power of the radix, which notes what it leaves.
+// Returns the quotient of the number and a power of the radix, and records it in the counter.
 fn divide_once<T: UnsignedInteger>(number: T, power: T, turns: &mut Turns) -> T
     requires { 0 < T.magnitude power }
     ensures left { T.magnitude result ≡ T.magnitude number / T.magnitude power }
@@ -53,8 +52,8 @@ fn divide_once<T: UnsignedInteger>(number: T, power: T, turns: &mut Turns) -> T
     left
 }
 
-// Takes `step` digits a turn off a number while it has more. It returns what is left, and how many
-// digits were taken.
+// Removes the last `step` digits of the number per iteration, while it has more than `step` digits, and
+// records each quotient. Returns the remaining quotient and the number of digits that were removed.
 fn divide_while_long<T: UnsignedInteger>(
     value: T,
     radix: u32,
@@ -79,8 +78,8 @@ fn divide_while_long<T: UnsignedInteger>(
     (left, taken)
 }
 
-/// How many digits the number has, by divisions: a turn takes four digits off while there are more
-/// than four, then two, and then one. The counter gets a note for each division, of what it leaves.
+/// Returns the number of digits of the number, which is counted by division: four digits per iteration
+/// while more than four are left, then two, and then one. Each quotient is recorded in the counter.
 /// The radix is from 2 to 36.
 #[tactic(auto, using(crate::proofs::RadixPowers::steps))]
 pub fn slow_digit_count_counted<T: UnsignedInteger>(x: T, radix: u32, turns: &mut Turns) -> usize
@@ -98,9 +97,9 @@ pub fn slow_digit_count_counted<T: UnsignedInteger>(x: T, radix: u32, turns: &mu
     1 + by_four + by_two + by_one
 }
 
-/// How many digits the number has: by its highest bit in the radices that are powers of 2, by its
-/// decimal count in radix 10, and else by divisions, which the counter notes. The radix is from 2
-/// to 36.
+/// Returns the number of digits of the number. It is computed from the highest set bit if the radix is
+/// a power of 2, by `decimal_count` in radix 10, and otherwise by division, whose quotients are
+/// recorded in the counter. The radix is from 2 to 36.
 pub fn digit_count_counted<T: DecimalCount>(x: T, radix: u32, turns: &mut Turns) -> usize
     requires { IsRadix radix }
     ensures count { result ≡ digit_count radix (T.magnitude x) }
@@ -123,14 +122,16 @@ pub fn digit_count_counted<T: DecimalCount>(x: T, radix: u32, turns: &mut Turns)
 
 /// An unsigned integer type whose digits are counted in every radix.
 pub trait DigitCount: DecimalCount {
-    /// How many digits the number has. The radix is from 2 to 36.
+    /// Returns the number of digits of the number. The radix is from 2 to 36. `width_of_amount` in
+    /// `crates/uses/src/amount.rt` is an example.
     fn digit_count(self, radix: u32) -> usize
         requires { IsRadix radix }
         ensures count { result ≡ digit_count radix (Self.magnitude self) }
         ensures some { 1 ≤ result }
         ensures at_most_64 { result ≤ 64 };
 
-    /// How many digits the number has, by divisions in every radix. The radix is from 2 to 36.
+    /// Returns the number of digits of the number, which is counted by division in every radix. The
+    /// radix is from 2 to 36.
     fn slow_digit_count(self, radix: u32) -> usize
         requires { IsRadix radix }
         ensures count { result ≡ digit_count radix (Self.magnitude self) }
