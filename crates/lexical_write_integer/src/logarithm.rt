@@ -5,15 +5,15 @@ ghost use Rattle.lexical_write_integer.specs.Logarithm.{IsLog2, IsLog10Estimate}
 
 use lexical_num::num::UnsignedInteger;
 
-/// Returns the position of the highest set bit, counted from 0, and 0 for 0.
+/// Returns the logarithm to base 2, rounded down, which is the position of the highest set bit. It is 0
+/// for 0.
 pub fn fast_log2<T: UnsignedInteger>(x: T) -> usize
     ensures log2 { IsLog2 (T.magnitude x) result }
     ensures within { result < T.BITS }
 {
     x.fits_bits();
-    // If a 64-bit number is known not to be 0, its leading zeros take one instruction.
-    let number = (x.as_usize() as u64).max(1);
-    63 - UnsignedInteger::leading_zeros(number) as usize
+    // The logarithm of a number that is known not to be 0 is one instruction.
+    (x.as_usize() as u64).max(1).ilog2() as usize
 }
 
 /// Returns the logarithm to base 10 of the largest power of 2 that is at most the number, rounded down,
