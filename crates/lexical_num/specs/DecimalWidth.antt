@@ -10,11 +10,13 @@ pub record IsDecimalWidth (least greatest : ℤ) (width : ℕ) : Type 0 where
   pub needed : 10 ^ (width - 1) ≤ unsigned_abs greatest
 
 -- it is enough that neither end has more digits, and that `greatest` has `width`
-pub is_decimal_width : {least greatest : ℤ} {width : ℕ} → 1 ≤ width → unsigned_abs least < 10 ^ width → unsigned_abs greatest < 10 ^ width → 10 ^ (width - 1) ≤ unsigned_abs greatest → IsDecimalWidth least greatest width
+pub is_decimal_width : {least greatest : ℤ} {width : ℕ} → 1 ≤ width → unsigned_abs least < 10 ^ width
+    → unsigned_abs greatest < 10 ^ width → 10 ^ (width - 1) ≤ unsigned_abs greatest → IsDecimalWidth least greatest width
 is_decimal_width {least} {greatest} {width} some low high full =
     record { some = some; enough = λ n. between n least greatest low high; needed = full }
   where
-    between : (n least greatest : ℤ) → unsigned_abs least < 10 ^ width → unsigned_abs greatest < 10 ^ width → least ≤ℤ n → n ≤ℤ greatest → unsigned_abs n < 10 ^ width
+    between : (n least greatest : ℤ) → unsigned_abs least < 10 ^ width → unsigned_abs greatest < 10 ^ width
+        → least ≤ℤ n → n ≤ℤ greatest → unsigned_abs n < 10 ^ width
     between (pos n) least (pos greatest) low high above below = omega (arith, ints)
     between (pos n) least (negsuc greatest) low high above below = absurd (omega (arith, ints))
     between (negsuc n) (pos least) greatest low high above below = absurd (omega (arith, ints))

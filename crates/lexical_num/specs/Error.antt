@@ -2,7 +2,8 @@
 use Rattle.std.specs.Prelude.{ℕ, List, ◌++◌, codes}
 use Rattle.std.specs.Fmt.{decimal}
 use Rattle.lexical_num.specs.declared.error.Error.{Error}
-use Rattle.lexical_num.specs.declared.error.Error.TheVariants.{InvalidMantissaRadix, InvalidExponentRadix, InvalidGroupSize, InvalidGroupMark}
+use Rattle.lexical_num.specs.declared.error.Error.TheVariants.{InvalidMantissaRadix, InvalidExponentRadix}
+use Rattle.lexical_num.specs.declared.error.Error.TheVariants.{InvalidGroupSize, InvalidGroupMark}
 
 -- which part is invalid, and the invalid byte in decimal
 abbrev pub printed_text : Error → List ℕ

@@ -1,7 +1,8 @@
 //! The traits of the integer types, for contracts and for generic code.
 #![tactic(auto, using(crate::proofs::LeadingZeros::leading_zeros))]
 
-ghost use Rattle.std.specs.Prelude.{◌≡◌, ℕ, ℤ, pos, negsuc, ◌-◌, ◌/◌, ◌%◌, ◌^◌, ◌<◌, ◌≤◌, ◌≤ℤ◌, ◌<ℤ◌, ◌↔◌, IsTrue, refl};
+ghost use Rattle.std.specs.Prelude.{◌≡◌, ℕ, ◌-◌, ◌/◌, ◌%◌, ◌^◌, ◌<◌, ◌≤◌, ◌↔◌, IsTrue, refl};
+ghost use Rattle.std.specs.Prelude.{ℤ, pos, negsuc, ◌≤ℤ◌, ◌<ℤ◌};
 ghost use Rattle.std.proofs.Common.{rules, lit≤};
 ghost use Rattle.lexical_num.specs.DecimalWidth.{IsDecimalWidth, is_decimal_width};
 ghost use Rattle.lexical_num.specs.Range.{IsRange, IsUnsigned, unsigned, signed};

@@ -12,7 +12,9 @@ digits_text r number = digits_onto (min 64 (number + 1)) r true number []
 
 -- the text of a number whose magnitude is below 2 ^ 64
 abbrev pub text_of : ℤ → Format → List ℕ
-text_of number format = sign_of number format.required_mantissa_sign ++ grouped format.digit_grouping (digits_text format.mantissa_radix (unsigned_abs number))
+text_of number format =
+    sign_of number format.required_mantissa_sign
+    ++ grouped format.digit_grouping (digits_text format.mantissa_radix (unsigned_abs number))
 
 -- the characters of a number below the radix to the power of the width, with leading zeros
 abbrev pub padded_text : ℕ → ℕ → ℕ → List ℕ

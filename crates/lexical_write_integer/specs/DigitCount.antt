@@ -33,4 +33,5 @@ digit_count-le r number m = least_exponent-le r number 1 number m
 
 -- no radix needs more digits than binary
 pub digit_count-le_bits : (r n bits : ℕ) → 2 ≤ r → 1 ≤ bits → n < 2 ^ bits → digit_count r n ≤ bits
-digit_count-le_bits r n bits two one fits = digit_count-le r n bits one (omega (arith, pow-le-pow_left {n = 2} {m = r} two bits))
+digit_count-le_bits r n bits two one fits =
+    digit_count-le r n bits one (omega (arith, pow-le-pow_left {n = 2} {m = r} two bits))

@@ -1,5 +1,6 @@
 -- Digits in groups, which are counted from the right. A mark is the separator between two groups.
-use Rattle.std.specs.Prelude.{ℕ, ◌-◌, ◌%◌, List, [], ◌∷◌, ◌++◌, length, Option, None, Some, filter, not, if◌then◌else◌, ◌==◌, slice_index}
+use Rattle.std.specs.Prelude.{ℕ, ◌-◌, ◌%◌, List, [], ◌∷◌, ◌++◌, length, filter, slice_index}
+use Rattle.std.specs.Prelude.{Option, None, Some, not, if◌then◌else◌, ◌==◌}
 
 -- what is between two adjacent digits, for this number of digits to the right: the separator if these are whole groups,
 -- and otherwise nothing
@@ -10,7 +11,8 @@ mark_before grouping right = if right % grouping.0 == 0 then grouping.1 ∷ [] e
 abbrev pub in_groups : ℕ × ℕ → List ℕ → List ℕ
 in_groups grouping [] = []
 in_groups grouping (digit ∷ []) = digit ∷ []
-in_groups grouping (digit ∷ next ∷ digits) = digit ∷ mark_before grouping (length (next ∷ digits)) ++ in_groups grouping (next ∷ digits)
+in_groups grouping (digit ∷ next ∷ digits) =
+    digit ∷ mark_before grouping (length (next ∷ digits)) ++ in_groups grouping (next ∷ digits)
 
 -- the digits as a format writes them: in its groups if it has any, and otherwise unchanged
 abbrev pub grouped : Option (ℕ × ℕ) → List ℕ → List ℕ

@@ -1,6 +1,7 @@
 -- The iterations (turns) of the loops that divide by a power of the radix: the quotient that each of them records (its
 -- note), and how many iterations there are.
-use Rattle.std.specs.Prelude.{◌≡◌, ℕ, ◌+◌, ◌-◌, ◌*◌, ◌/◌, ◌%◌, ◌^◌, Bool, ◌||◌, ◌==◌, List, [], ◌∷◌, ◌++◌, map, nat_lt, if◌then◌else◌}
+use Rattle.std.specs.Prelude.{◌≡◌, ℕ, ◌+◌, ◌-◌, ◌*◌, ◌/◌, ◌%◌, ◌^◌, List, [], ◌∷◌, ◌++◌, map}
+use Rattle.std.specs.Prelude.{Bool, ◌||◌, ◌==◌, nat_lt, if◌then◌else◌}
 use Rattle.std.specs.List.{range_with_len}
 use Rattle.lexical_write_integer.specs.DigitCount.{digit_count}
 
@@ -33,7 +34,8 @@ pub record TakesDigits (r number step taken left : ℕ) (before after : List ℕ
 unfoldable pub loop_notes : ℕ → ℕ → List ℕ
 loop_notes r number =
     quotients r number 4 (digits_after_first r number / 4)
-    ++ (if nat_lt (digits_after_first r number % 4) 2 then [] else number / r ^ (4 * (digits_after_first r number / 4) + 2) ∷ [])
+    ++ (if nat_lt (digits_after_first r number % 4) 2 then []
+    else number / r ^ (4 * (digits_after_first r number / 4) + 2) ∷ [])
 
 -- `loop_notes`, and then one digit if two are left: for 255 in radix 3, 3 and 1
 unfoldable pub slow_notes : ℕ → ℕ → List ℕ

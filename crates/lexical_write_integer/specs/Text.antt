@@ -27,4 +27,5 @@ digits_need r number decimal_width = if r == 10 then decimal_width else digit_co
 -- the required length (the need) of a number: its sign, its digits and the separators between their groups
 abbrev pub need : ℤ → ℕ → Format → ℕ
 need number decimal_width format =
-    length (sign_of number format.required_mantissa_sign) + grouped_length format.digit_grouping (digits_need format.mantissa_radix (unsigned_abs number) decimal_width)
+    length (sign_of number format.required_mantissa_sign)
+    + grouped_length format.digit_grouping (digits_need format.mantissa_radix (unsigned_abs number) decimal_width)

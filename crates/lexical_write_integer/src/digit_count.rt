@@ -4,7 +4,8 @@ ghost use Rattle.std.specs.Prelude.{◌≡◌, ◌+◌, ◌/◌, ◌^◌, ◌<�
 ghost use Rattle.lexical_num.specs.Format.{IsRadix};
 ghost use Rattle.lexical_num.specs.BitWidth.{IsBitWidth};
 ghost use Rattle.lexical_write_integer.specs.DigitCount.{digit_count};
-ghost use Rattle.lexical_write_integer.specs.LoopTurns.{IsStep, TakesDigits, count_notes, count_turns, slow_notes, slow_turns};
+ghost use Rattle.lexical_write_integer.specs.LoopTurns.{IsStep, TakesDigits, count_notes, count_turns};
+ghost use Rattle.lexical_write_integer.specs.LoopTurns.{slow_notes, slow_turns};
 
 use crate::decimal::DecimalCount;
 pub use crate::logarithm::fast_log2;

@@ -1,11 +1,13 @@
 // Writing the digits of a number, four per iteration, from a table of the digit pairs of the radix.
 
-ghost use Rattle.std.specs.Prelude.{◌≡◌, ℕ, ◌+◌, ◌-◌, ◌*◌, ◌/◌, ◌%◌, ◌^◌, ◌<◌, ◌≤◌, ◌++◌, [], ◌∷◌, false, length, drop, slice_index};
+ghost use Rattle.std.specs.Prelude.{◌≡◌, ℕ, ◌+◌, ◌-◌, ◌*◌, ◌/◌, ◌%◌, ◌^◌, ◌<◌, ◌≤◌};
+ghost use Rattle.std.specs.Prelude.{◌++◌, [], ◌∷◌, false, length, slice_index};
 ghost use Rattle.lexical_num.specs.Format.{IsRadix};
 ghost use Rattle.lexical_write_integer.specs.Buffer.{WritesBlock, WritesDigits};
 ghost use Rattle.lexical_write_integer.specs.DigitCount.{digit_count};
 ghost use Rattle.lexical_write_integer.specs.Table.{BeginsWithPairs};
-ghost use Rattle.lexical_write_integer.specs.LoopTurns.{TakesDigits, count_notes, digits_after_first, is_counted_at_once, table_notes};
+ghost use Rattle.lexical_write_integer.specs.LoopTurns.{TakesDigits, count_notes, table_notes};
+ghost use Rattle.lexical_write_integer.specs.LoopTurns.{digits_after_first, is_counted_at_once};
 
 use crate::digit_count::digit_count_counted;
 use crate::turns::Turns;
