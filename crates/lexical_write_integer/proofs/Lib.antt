@@ -3,20 +3,16 @@ pub mod Powers
 pub mod RadixPowers
 pub mod Logarithms
 pub mod Fractions
-
 -- digits: their value, their numeral, and how many a number has
 pub mod DigitValues
 pub mod DigitCounts
 pub mod Numerals
 pub mod PaddedDigits
 pub mod DecimalTables
-
 -- the loops that divide by a power of the radix
 pub mod Loops
-
 -- digits in groups
 pub mod Grouping
-
 -- texts: their length, characters, order, and the same text as a function or as `{}` computes it
 pub mod Required
 pub mod Ascii
@@ -24,12 +20,10 @@ pub mod Orders
 pub mod Comparisons
 pub mod ComputedTexts
 pub mod PrintedTexts
-
 -- what is written in a buffer
 pub mod Buffers
 pub mod PairBlocks
 pub mod Sequences
-
 -- steps of the proofs by hand
 pub mod Reborrows
 pub mod HandedFronts

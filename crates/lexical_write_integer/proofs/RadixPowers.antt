@@ -57,4 +57,3 @@ power-small r step few stepped =
 
 pub power-gt_one : (r step : ℕ) → 2 ≤ r → IsStep step → 1 < r ^ step
 power-gt_one r step two stepped = omega (arith, pow-lt_more r 0 step two (step-pos step stepped), pow-zero r)
-
