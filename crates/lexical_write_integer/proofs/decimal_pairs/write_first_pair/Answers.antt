@@ -6,8 +6,8 @@ use Rattle.lexical_tables.specs.Pairs.{pairs}
 use Rattle.lexical_tables.proofs.Pairs.{slice_index-pairs_second}
 use Rattle.lexical_write_integer.specs.Buffer.{WritesDigits}
 use Rattle.lexical_write_integer.specs.DigitCount.{digit_count}
-use Rattle.lexical_write_integer.proofs.Blocks.{WritesBlock-one}
-use Rattle.lexical_write_integer.proofs.BlocksAfter.{WritesDigits-block}
+use Rattle.lexical_write_integer.proofs.Buffers.Blocks.{WritesBlock-one}
+use Rattle.lexical_write_integer.proofs.Buffers.BlocksAfter.{WritesDigits-block}
 use Rattle.lexical_write_integer.proofs.DigitCounts.{digit_count-pos, digit_count-is, digit_count-one}
 use Rattle.lexical_write_integer.proofs.PairBlocks.{WritesBlock-table}
 use Rattle.lexical_write_integer.proofs.decimal_pairs.write_first_pair.Goals as goal

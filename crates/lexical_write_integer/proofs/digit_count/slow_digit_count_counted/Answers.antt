@@ -2,7 +2,7 @@ use Rattle.std.proofs.Common.{◌≡◌, ◌+◌, ◌≤◌, ◌++◌, arith}
 use Rattle.lexical_write_integer.specs.DigitCount.{digit_count}
 use Rattle.lexical_write_integer.specs.LoopTurns.{slow_notes}
 use Rattle.lexical_write_integer.proofs.DigitCounts.{digit_count-le_64}
-use Rattle.lexical_write_integer.proofs.LoopNotes.{slow_count-is, slow_notes-are, length-more, length-slow_notes}
+use Rattle.lexical_write_integer.proofs.Loops.Records.{slow_count-is, slow_notes-are, length-more, length-slow_notes}
 use Rattle.lexical_write_integer.proofs.digit_count.slow_digit_count_counted.Goals as goal
 use Rattle.lexical_write_integer.proofs.digit_count.slow_digit_count_counted.Goals.{After-divide_while_long-by_one}
 

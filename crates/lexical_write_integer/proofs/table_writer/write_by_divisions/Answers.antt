@@ -2,10 +2,10 @@ use Rattle.std.proofs.Common.{◌≡◌, ◌+◌, ◌*◌, ◌-◌, ◌<◌, ◌
 use Rattle.std.proofs.lemmas.List.{get_or-take}
 use Rattle.lexical_write_integer.specs.DigitCount.{digit_count}
 use Rattle.lexical_write_integer.proofs.DigitCounts.{digit_count-pos, digit_count-le_bits}
-use Rattle.lexical_write_integer.proofs.Heads.{few-fits, head-left, IsDigits-head, WritesDigits-cut}
-use Rattle.lexical_write_integer.proofs.Loops.{TakesDigits-counts}
-use Rattle.lexical_write_integer.proofs.LoopNotes.{loop_notes-are, slow_noted, slow_notes-are, table_notes-are}
-use Rattle.lexical_write_integer.proofs.RadixPowers.{pow-two}
+use Rattle.lexical_write_integer.proofs.Loops.ShortNumbers.{few-fits, head-left, IsDigits-head, WritesDigits-cut}
+use Rattle.lexical_write_integer.proofs.Loops.Divisions.{TakesDigits-counts}
+use Rattle.lexical_write_integer.proofs.Loops.Records.{loop_notes-are, slow_noted, slow_notes-are, table_notes-are}
+use Rattle.lexical_write_integer.proofs.Powers.{pow-two}
 use Rattle.lexical_write_integer.proofs.table_writer.write_by_divisions.Goals as goal
 use Rattle.lexical_write_integer.proofs.table_writer.write_by_divisions.Goals.{After-keep_quotients-left, After-take_last}
 
@@ -80,8 +80,8 @@ returns-clause-digits g c =
     let place : length front - 4 * c.keep_quotients-left.result.1 ≡ head = omega (arith, room_is g c') in
     let taken = rw (fours_are g c', ← c.keep_quotients-left.ensures.taken.rest) at c.write_kept.ensures.taken in
     let written = rw (fours_are g c', place) at c.write_kept.ensures.written in
-    WritesDigits-cut g.row.R c.args.value count c.args.buffer.now c.write_head.new.buffer two (count_is g c') (omega (arith, count_is g c', c.requires.room))
-    (IsDigits-head head front c.write_kept.new.buffer c.write_head.new.buffer two (room_is g c' ∙ count_is g c') taken (head_is g c') written c.write_head.ensures.written)
+    WritesDigits-cut two (count_is g c') (omega (arith, count_is g c', c.requires.room))
+    (IsDigits-head two (room_is g c' ∙ count_is g c') taken (head_is g c') written c.write_head.ensures.written)
 
 pub returns-clause-notes : goal.returns-clause-notes
 returns-clause-notes g c =

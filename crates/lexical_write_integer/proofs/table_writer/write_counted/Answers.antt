@@ -1,13 +1,14 @@
 use Rattle.std.proofs.Common.{◌≡◌, ◌+◌, ◌-◌, ◌/◌, ◌<◌, ◌^◌, ◌++◌, refl, sym, ap, subst, ◌∙◌, lit<, arith}
 use Rattle.lexical_write_integer.specs.DigitCount.{digit_count}
 use Rattle.lexical_write_integer.specs.LoopTurns.{count_notes, takes_four}
-use Rattle.lexical_write_integer.proofs.Blocks.{IsWrittenBack, IsWrittenBack-start, IsWrittenBack-more, IsWrittenBack-last}
-use Rattle.lexical_write_integer.proofs.BlocksAfter.{WritesDigits-block}
+use Rattle.lexical_write_integer.proofs.Buffers.Blocks.{IsWrittenBack, IsWrittenBack-start, IsWrittenBack-more, IsWrittenBack-last}
+use Rattle.lexical_write_integer.proofs.Buffers.BlocksAfter.{WritesDigits-block}
 use Rattle.lexical_write_integer.proofs.DigitCounts.{digit_count-left}
-use Rattle.lexical_write_integer.proofs.Heads.{few-fits, more-long}
-use Rattle.lexical_write_integer.proofs.Loops.{IsDivided-start, IsDivided-more, TakesDigits-end}
-use Rattle.lexical_write_integer.proofs.LoopNotes.{loop_notes-are, table_notes-are}
-use Rattle.lexical_write_integer.proofs.RadixPowers.{power-small, pow-four}
+use Rattle.lexical_write_integer.proofs.Loops.ShortNumbers.{few-fits, more-long}
+use Rattle.lexical_write_integer.proofs.Loops.Divisions.{IsDivided-start, IsDivided-more, TakesDigits-end}
+use Rattle.lexical_write_integer.proofs.Loops.Records.{loop_notes-are, table_notes-are}
+use Rattle.lexical_write_integer.proofs.RadixPowers.{power-small}
+use Rattle.lexical_write_integer.proofs.Powers.{pow-four}
 use Rattle.lexical_write_integer.proofs.table_writer.write_counted.Goals as goal
 use Rattle.lexical_write_integer.proofs.table_writer.write_counted.Goals.{In-loop-at, After-loop-at}
 
@@ -16,8 +17,8 @@ loop-at-init g c =
     let count = c.digit_count_counted-count.result in
     let none : count - count ≡ 0 = omega arith in
     record {
-      divided = rw (none, c.digit_count_counted-count.ensures.notes) (IsDivided-start g.row.R c.args.value 4 (c.args.turns.now ++ count_notes g.row.R c.args.value));
-      written = rw none (IsWrittenBack-start g.row.R c.args.value count c.args.buffer.now);
+      divided = rw (none, c.digit_count_counted-count.ensures.notes) IsDivided-start;
+      written = rw none IsWrittenBack-start;
       within = omega arith;
       room = refl;
     }
@@ -39,8 +40,8 @@ loop-at-preserved g c =
     let order : 4 + taken ≡ count - (c.loop-at.at - 4) = omega (arith, c.loop-at-test.true, c.loop-at.invariant.within) in
     let place : c.loop-at.at ≡ c.loop-at.at - 4 + 4 = omega (arith, c.loop-at-test.true) in
     record {
-      divided = rw turn at (IsDivided-more g.row.R c.args.value 4 taken _ _ _ _ _ two divided long next c.write_turn.ensures.notes);
-      written = rw order at (IsWrittenBack-more g.row.R c.args.value taken c.loop-at.left 4 (c.loop-at.left / c.from-power.result) (c.loop-at.at - 4) c.args.buffer.now c.loop-at.buffer c.write_turn.new.buffer two long next
+      divided = rw turn at (IsDivided-more two divided long next c.write_turn.ensures.notes);
+      written = rw order at (IsWrittenBack-more two long next
           (subst (λ k. IsWrittenBack g.row.R c.args.value taken c.loop-at.left k c.args.buffer.now c.loop-at.buffer) place c.loop-at.invariant.written) c.write_turn.ensures.written);
       within = omega (arith, c.loop-at.invariant.within);
       room = c.write_turn.auto.buffer ∙ c.loop-at.invariant.room;
@@ -71,11 +72,11 @@ returns-clause-digits g c =
     let whole : c.loop-at.at + (count - c.loop-at.at) ≡ count = omega (arith, c.loop-at.invariant.within) in
     let place : c.loop-at.at ≡ 0 + c.loop-at.at = omega arith in
     let written = subst (λ k. IsWrittenBack g.row.R c.args.value (count - c.loop-at.at) c.loop-at.left k c.args.buffer.now c.loop-at.buffer) place c.loop-at.invariant.written in
-    let block = IsWrittenBack-last g.row.R c.args.value (count - c.loop-at.at) c.loop-at.left c.loop-at.at 0 c.args.buffer.now c.loop-at.buffer c.write_head.new.buffer written c.write_head.ensures.written in
+    let block = IsWrittenBack-last written c.write_head.ensures.written in
     WritesDigits-block g.row.R c.args.value count c.args.buffer.now c.write_head.new.buffer c.args.table.now.is_radix.at_least_two (sym is) (omega (arith, is, c.requires.room)) (rw whole at block)
 
 pub returns-clause-notes : goal.returns-clause-notes
 returns-clause-notes g c =
     let two = c.args.table.now.is_radix.at_least_two in
-    let taken = TakesDigits-end g.row.R c.args.value 4 _ _ _ _ two takes_four c.loop-at.invariant.divided (short g (goal.at.returns-clause-notes g c).After-loop-at) in
+    let taken = TakesDigits-end two takes_four c.loop-at.invariant.divided (short g (goal.at.returns-clause-notes g c).After-loop-at) in
     table_notes-are g.row.R c.args.value c.args.turns.now (c.args.turns.now ++ count_notes g.row.R c.args.value) _ refl (loop_notes-are two taken c.write_head.ensures.taken.2)

@@ -2,8 +2,9 @@ use Rattle.std.proofs.Common.{◌≡◌, ◌+◌, ◌*◌, ◌-◌, ◌%◌, ◌
 use Rattle.std.proofs.Math.Nat.{mod-lt, div-add-mod'}
 use Rattle.std.proofs.lemmas.Nat.{div_below}
 use Rattle.lexical_write_integer.specs.LoopTurns.{takes_two, takes_four}
-use Rattle.lexical_write_integer.proofs.RadixPowers.{power-small, power-gt_one, pow-two, pow-four}
-use Rattle.lexical_write_integer.proofs.TablePairs.{half, WritesBlock-pairs}
+use Rattle.lexical_write_integer.proofs.RadixPowers.{power-small, power-gt_one}
+use Rattle.lexical_write_integer.proofs.Powers.{pow-two, pow-four}
+use Rattle.lexical_write_integer.proofs.Buffers.TablePairs.{half, WritesBlock-pairs}
 use Rattle.lexical_write_integer.proofs.table_writer.write_turn.Goals as goal
 use Rattle.lexical_write_integer.proofs.table_writer.write_turn.Goals.{After-from}
 

@@ -6,9 +6,6 @@ use Rattle.std.proofs.lemmas.List.Elements.{All-head, All-tail}
 use Rattle.std.proofs.lemmas.Nat.{same_from_place, pow-add, mul-add-lt}
 use Rattle.lexical_write_integer.specs.Numeral.{value_of}
 
-pub pow-one : (r : ℕ) → r ^ 1 ≡ r
-pow-one r = rw (pow-suc r 0, pow-zero) (omega arith)
-
 pub value_of-append : (r : ℕ) (xs ys : List ℕ) → value_of r (xs ++ ys) ≡ value_of r xs * r ^ length ys + value_of r ys
 value_of-append r [] ys = omega arith
 value_of-append r (x ∷ xs) ys =

@@ -1,5 +1,5 @@
 -- Fronts of a buffer: one text after another, and what is known of the text that stands there.
-use Rattle.std.proofs.Common.{◌≡◌, ℕ, ◌+◌, List, ◌++◌, length, take, drop, sym, ap, subst, ◌∙◌, arith, length-append, append_assoc}
+use Rattle.std.proofs.Common.{◌≡◌, ℕ, ◌+◌, ◌-◌, ◌≤◌, List, ◌++◌, length, take, drop, sym, ap, subst, ◌∙◌, arith, length-append, append_assoc}
 use Rattle.std.proofs.lemmas.List.{drop-drop, take_at, drop_at, length-take, length-drop, drop-append-le, take-append-drop}
 use Rattle.lexical_write_integer.specs.Buffer.{Front, Writes}
 use borrow.Rule.Slice.PartMut.{put_mid}
@@ -43,4 +43,27 @@ Writes-after text before between after count room answer e front whole w =
       is = whole w.text w.is;
       front = Front-after before between after text w.text count room e front w.front;
       count = length-after text w.text count answer e w.count;
+    }
+
+-- what is written is as short as its count
+pub Writes-short : {Is : List ℕ → Type 0} (room : ℕ) (before after : List ℕ) (count : ℕ) → Writes Is before after count → count ≤ room → Writes (λ text. Is text × (length text ≤ room)) before after count
+Writes-short room before after count w short = record { text = w.text; is = (w.is, omega (arith, w.count)); front = w.front; count = w.count }
+
+-- a first byte that was written before is written over
+pub Writes-over : {Is : List ℕ → Type 0} {before between after : List ℕ} {count : ℕ}
+    → length between ≡ length before → drop 1 between ≡ drop 1 before → 1 ≤ count → Writes Is between after count → Writes Is before after count
+Writes-over {before = before} {between} long rest some w =
+    let counted = w.count in
+    let split : length w.text ≡ 1 + (length w.text - 1) = omega arith in
+    let same : drop (length w.text) between ≡ drop (length w.text) before =
+    ap (λ k. drop k between) split
+    ∙ sym (drop-drop (length w.text - 1) 1 between)
+    ∙ ap (drop (length w.text - 1)) rest
+    ∙ drop-drop (length w.text - 1) 1 before
+    ∙ ap (λ k. drop k before) (sym split) in
+    record {
+      text = w.text;
+      is = w.is;
+      front = record { fits = omega (arith, w.front.fits); written = w.front.written ∙ ap (λ ys. w.text ++ ys) same };
+      count = w.count;
     }

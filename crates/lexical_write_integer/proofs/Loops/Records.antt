@@ -5,8 +5,9 @@ use Rattle.std.proofs.lemmas.List.{append-nil}
 use Rattle.std.proofs.lemmas.Bool.{cond_both, ltb-true, ltb-false, eqb-true, eqb-false, or_from, ne_eqb, cases_eq}
 use Rattle.lexical_write_integer.specs.DigitCount.{digit_count}
 use Rattle.lexical_write_integer.specs.LoopTurns.{TakesDigits, digits_after_first, quotients, loop_notes, slow_notes, count_notes, table_notes, compact_notes, is_counted_at_once, loop_turns, slow_turns, count_turns, table_turns, compact_turns}
-use Rattle.lexical_write_integer.proofs.DigitCounts.{digit_count-pos, digit_count-le, div-pow_more}
-use Rattle.lexical_write_integer.proofs.Loops.{quotients-none, quotients-more, length-quotients, TakesDigits-counts}
+use Rattle.lexical_write_integer.proofs.DigitCounts.{digit_count-pos, digit_count-le}
+use Rattle.lexical_write_integer.proofs.Powers.{div-pow_more}
+use Rattle.lexical_write_integer.proofs.Loops.Divisions.{quotients-none, quotients-more, length-quotients, TakesDigits-counts}
 
 length-cond : (test : Bool) (xs ys : List ℕ) → length (cond test xs ys) ≡ cond test (length xs) (length ys)
 length-cond true xs ys = refl

@@ -10,9 +10,9 @@ use Rattle.lexical_num.specs.Format.{Format}
 use Rattle.lexical_write_integer.specs.Computed.{digits_text, text_of}
 use Rattle.lexical_write_integer.specs.Text.{IsDigits, IsText}
 use Rattle.lexical_write_integer.proofs.Comparisons.{texts_unique}
-use Rattle.lexical_write_integer.proofs.DigitCounts.{lt-pow_self, pow-lt_more}
+use Rattle.lexical_write_integer.proofs.Powers.{lt-pow_self, pow-lt_more, pow-one}
 use Rattle.lexical_write_integer.proofs.Numerals.{IsBlockOf-one, IsNumeralOf-split, digits_unique}
-use Rattle.lexical_write_integer.proofs.Values.{pow-one, value_of-one}
+use Rattle.lexical_write_integer.proofs.DigitValues.{value_of-one}
 
 -- ---- digit by digit, from the last
 

@@ -10,7 +10,7 @@ use Rattle.lexical_num.specs.Format.{standard}
 use Rattle.lexical_num.specs.Range.{IsRange, unsigned, signed}
 use Rattle.lexical_num.specs.BitWidth.{IsBitWidth, is_8, is_16, is_32, is_64}
 use Rattle.lexical_write_integer.specs.Text.{IsDigits, IsText}
-use Rattle.lexical_write_integer.proofs.Computed.{IsDigits-one, IsDigits-more}
+use Rattle.lexical_write_integer.proofs.ComputedTexts.{IsDigits-one, IsDigits-more}
 use Rattle.lexical_write_integer.proofs.Numerals.{digits_unique}
 
 -- ---- the numbers of every type fit 64 bits

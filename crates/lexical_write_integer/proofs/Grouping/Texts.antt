@@ -6,9 +6,10 @@ use Rattle.lexical_num.specs.Sign.{sign_of}
 use Rattle.lexical_write_integer.specs.DigitCount.{digit_count}
 use Rattle.lexical_write_integer.specs.Groups.{in_groups, grouped, from_right}
 use Rattle.lexical_write_integer.specs.Text.{IsText}
-use Rattle.lexical_write_integer.proofs.GroupedDigits.{in_groups-one, length-in_groups}
+use Rattle.lexical_write_integer.proofs.Grouping.Digits.{in_groups-one, length-in_groups}
 use Rattle.lexical_write_integer.proofs.Numerals.{digits_unique, length-IsDigits}
-use Rattle.lexical_write_integer.proofs.Places.{digit-from_right, from_right-append, mark-from_right, div-monotone}
+use Rattle.lexical_write_integer.proofs.Grouping.Positions.{digit-from_right, from_right-append, mark-from_right}
+use Rattle.lexical_write_integer.proofs.Powers.{div-monotone}
 
 -- how many digits the magnitude of a number has
 abbrev count_of : ℤ → Format → ℕ

@@ -1,11 +1,12 @@
 -- Where each byte of digits in groups stands, counted from the right.
 use Rattle.std.proofs.Common.{◌≡◌, ℕ, suc, ◌+◌, ◌-◌, ◌*◌, ◌/◌, ◌%◌, ◌<◌, ◌≤◌, List, [], ◌∷◌, ◌++◌, length, get_or, refl, sym, ap, ◌∙◌, inl, inr, arith, length-append}
-use Rattle.std.proofs.Math.Nat.{mul-mod_left, mul-div_cancel, mul-le-mul_left, div-mul-le_self}
+use Rattle.std.proofs.Math.Nat.{mul-mod_left, mul-div_cancel, mul-le-mul_left}
 use Rattle.std.proofs.lemmas.Bool.{cases_lt}
 use Rattle.std.proofs.lemmas.List.{get_or-append_right}
 use Rattle.std.proofs.lemmas.Nat.{le-div}
 use Rattle.lexical_write_integer.specs.Groups.{mark_before, in_groups, from_right}
-use Rattle.lexical_write_integer.proofs.GroupedDigits.{length-in_groups, length-mark_before, mark_before-whole}
+use Rattle.lexical_write_integer.proofs.Powers.{div-monotone}
+use Rattle.lexical_write_integer.proofs.Grouping.Digits.{length-in_groups, length-mark_before, mark_before-whole}
 
 -- a longer text has the bytes of its end at the same places
 pub from_right-append : (front text : List ℕ) (right : ℕ) → right < length text → from_right (front ++ text) right ≡ from_right text right
@@ -13,9 +14,6 @@ from_right-append front text right inside =
     let long = length-append front text in
     get_or-append_right front text (length front) (length (front ++ text) - 1 - right) 0 refl (omega arith)
     ∙ ap (λ n. get_or text n 0) (let e : length (front ++ text) - 1 - right - length front ≡ length text - 1 - right = omega arith in e)
-
-pub div-monotone : (m n k : ℕ) → 0 < k → m ≤ n → m / k ≤ n / k
-div-monotone m n k some less = le-div (m / k) n k some (omega (arith, div-mul-le_self m k))
 
 -- to the right of a digit stand the digits to its right, and a mark for each whole group of them
 pub digit-from_right : (grouping : ℕ × ℕ) (digits : List ℕ) (right : ℕ) → 0 < grouping.0 → right < length digits → from_right (in_groups grouping digits) (right + right / grouping.0) ≡ from_right digits right

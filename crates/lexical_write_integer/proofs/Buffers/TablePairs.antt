@@ -8,9 +8,8 @@ use Rattle.lexical_tables.specs.Pairs as Tables
 use Rattle.lexical_tables.proofs.Pairs.{length-pairs, slice_index-pairs_first, slice_index-pairs_second}
 use Rattle.lexical_write_integer.specs.Buffer.{WritesBlock}
 use Rattle.lexical_write_integer.specs.Table.{BeginsWithPairs}
-use Rattle.lexical_write_integer.proofs.Blocks.{WritesBlock-one, WritesBlock-front}
-use Rattle.lexical_write_integer.proofs.RadixPowers.{pow-two}
-use Rattle.lexical_write_integer.proofs.Values.{pow-one}
+use Rattle.lexical_write_integer.proofs.Buffers.Blocks.{WritesBlock-one, WritesBlock-front}
+use Rattle.lexical_write_integer.proofs.Powers.{pow-two, pow-one}
 
 -- the tables are made of the characters that the writers write
 same_characters : (digit : ℕ) → Tables.digit_char digit ≡ digit_char digit
@@ -40,7 +39,7 @@ WritesBlock-two r n at list some small room =
     let whole : n / r * r ^ 1 + n % r ≡ n = rw pow-one (div-add-mod' n r) in
     let last = WritesBlock-one r (n % r) (at + 1) list (mod-lt n some) (omega arith) in
     let first = WritesBlock-one r (n / r) at between (div_below n r r some small) (omega (arith, length-set list (at + 1) (digit_char (n % r)))) in
-    rw whole at (WritesBlock-front r 1 1 (n / r) (n % r) at list between (set between at (digit_char (n / r))) last first)
+    rw whole at (WritesBlock-front last first)
 
 pub WritesBlock-pair : (r place at : ℕ) (table list : List ℕ) → 0 < r → BeginsWithPairs r table → place % 2 ≡ 0 → place / 2 < r * r → at + 2 ≤ length list → WritesBlock r 2 (place / 2) at list (set (set list (at + 1) (get_or table (place + 1) 0)) at (get_or table place 0))
 WritesBlock-pair r place at table list some t even within room =
@@ -54,4 +53,4 @@ half k = omega arith
 pub WritesBlock-pairs : (r n square at : ℕ) (before between after : List ℕ) → square ≡ r * r → WritesBlock r 2 (2 * (n % square) / 2) (at + 2) before between → WritesBlock r 2 (2 * (n / square) / 2) at between after → WritesBlock r 4 n at before after
 WritesBlock-pairs r n square at before between after is last first =
     let whole : n / square * r ^ 2 + n % square ≡ n = rw (pow-two, ← is) (div-add-mod' n square) in
-    rw whole at (WritesBlock-front r 2 2 (n / square) (n % square) at before between after (rw half at last) (rw half at first))
+    rw whole at (WritesBlock-front (rw half at last) (rw half at first))

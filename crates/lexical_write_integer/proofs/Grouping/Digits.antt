@@ -68,9 +68,19 @@ length-in_groups grouping (digit ∷ next ∷ digits) some =
     let quotient : (suc right - 1) / grouping.0 ≡ right / grouping.0 = ap (λ n. n / grouping.0) (let e : suc right - 1 ≡ right = omega arith in e) in
     omega (arith, mark, rest, quotient, length-append (mark_before grouping right) (in_groups grouping (next ∷ digits)))
 
-pub length-in_groups_taken : (grouping : ℕ × ℕ) (count total : ℕ) (before : List ℕ) → 0 < grouping.0 → total ≡ count + (count - 1) / grouping.0 → total ≤ length before → length (in_groups grouping (take count before)) ≡ total
-length-in_groups_taken grouping count total before some is_total inside =
-    length-in_groups grouping (take count before) some ∙ ap (λ n. n + (n - 1) / grouping.0) (length-take-le count before (omega arith)) ∙ sym is_total
+-- the first `count` bytes of a buffer, at least one, take `total` bytes in groups, and have room for them
+pub record HasRoomInGroups (grouping : ℕ × ℕ) (count total : ℕ) (before : List ℕ) : Type 0 where
+  pub size : 0 < grouping.0
+  pub some : 0 < count
+  pub total_count : total ≡ count + (count - 1) / grouping.0
+  pub room : total ≤ length before
+
+pub length-in_groups_taken : {grouping : ℕ × ℕ} {count total : ℕ} {before : List ℕ}
+    → HasRoomInGroups grouping count total before → length (in_groups grouping (take count before)) ≡ total
+length-in_groups_taken {grouping} {count} {total} {before} h =
+    length-in_groups grouping (take count before) h.size
+    ∙ ap (λ n. n + (n - 1) / grouping.0) (length-take-le count before (omega (arith, h.total_count, h.room)))
+    ∙ sym h.total_count
 
 -- ---- digits and their groups
 
