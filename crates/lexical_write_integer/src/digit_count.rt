@@ -43,7 +43,7 @@ fn power_of<T: UnsignedInteger>(radix: u32, exponent: u32) -> Option<T>
 }
 
 // Returns the quotient of the number and a power of the radix, and records it in the counter.
-fn divide_once<T: UnsignedInteger>(number: T, power: T, turns: &mut Turns) -> T
+fn divide_and_record<T: UnsignedInteger>(number: T, power: T, turns: &mut Turns) -> T
     requires { 0 < T.magnitude power }
     ensures left { T.magnitude result ≡ T.magnitude number / T.magnitude power }
     ensures notes { turns.new ≡ turns.old ++ T.magnitude result ∷ [] }
@@ -73,7 +73,7 @@ fn divide_while_long<T: UnsignedInteger>(
     let mut left = value;
     let mut taken = 0;
     while left.is_at_least(power) {
-        left = divide_once(left, power, turns);
+        left = divide_and_record(left, power, turns);
         taken += step as usize;
     }
     (left, taken)

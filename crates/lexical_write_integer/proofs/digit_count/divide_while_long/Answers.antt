@@ -15,8 +15,8 @@ returns-in_default g c =
 pub loop-power-init : goal.loop-power-init
 loop-power-init g c = IsDivided-start
 
-pub divide_once-left-requires : goal.divide_once-left-requires
-divide_once-left-requires g c = omega (arith, c.in-Some.ensures.power, power-gt_one _ _ c.requires.radix.at_least_two c.requires.step)
+pub divide_and_record-left-requires : goal.divide_and_record-left-requires
+divide_and_record-left-requires g c = omega (arith, c.in-Some.ensures.power, power-gt_one _ _ c.requires.radix.at_least_two c.requires.step)
 
 pub overflow_add-taken : goal.overflow_add-taken
 overflow_add-taken g c =
@@ -25,11 +25,11 @@ overflow_add-taken g c =
 
 pub loop-power-smaller : goal.loop-power-smaller
 loop-power-smaller g c =
-    left-smaller c.requires.radix.at_least_two c.requires.step (long g (goal.at.loop-power-smaller g c).In-loop-power) (rw c.in-Some.ensures.power at c.divide_once-left.ensures.left)
+    left-smaller c.requires.radix.at_least_two c.requires.step (long g (goal.at.loop-power-smaller g c).In-loop-power) (rw c.in-Some.ensures.power at c.divide_and_record-left.ensures.left)
 
 pub loop-power-preserved : goal.loop-power-preserved
 loop-power-preserved g c =
-    IsDivided-more c.requires.radix.at_least_two c.loop-power.invariant (long g (goal.at.loop-power-preserved g c).In-loop-power) (rw c.in-Some.ensures.power at c.divide_once-left.ensures.left) c.divide_once-left.ensures.notes
+    IsDivided-more c.requires.radix.at_least_two c.loop-power.invariant (long g (goal.at.loop-power-preserved g c).In-loop-power) (rw c.in-Some.ensures.power at c.divide_and_record-left.ensures.left) c.divide_and_record-left.ensures.notes
 
 pub returns : goal.returns
 returns g c =
