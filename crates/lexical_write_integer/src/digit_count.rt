@@ -55,12 +55,7 @@ fn divide_and_record<T: UnsignedInteger>(number: T, power: T, turns: &mut Turns)
 
 // Removes the last `step` digits of the number per iteration, while it has more than `step` digits, and
 // records each quotient. Returns the remaining quotient and the number of digits that were removed.
-fn divide_while_long<T: UnsignedInteger>(
-    value: T,
-    radix: u32,
-    step: u32,
-    turns: &mut Turns,
-) -> (T, usize)
+fn take_digits<T: UnsignedInteger>(value: T, radix: u32, step: u32, turns: &mut Turns) -> (T, usize)
     requires radix { IsRadix radix }
     requires step { IsStep step }
     ensures { TakesDigits radix (T.magnitude value) step result.1 (T.magnitude result.0)
@@ -92,9 +87,9 @@ pub fn slow_digit_count_counted<T: UnsignedInteger>(x: T, radix: u32, turns: &mu
     ensures turns { length turns.new ≡ length turns.old + slow_turns result }
 {
     x.fits_bits();
-    let (left, by_four) = divide_while_long(x, radix, 4, turns);
-    let (left, by_two) = divide_while_long(left, radix, 2, turns);
-    let (_, by_one) = divide_while_long(left, radix, 1, turns);
+    let (left, by_four) = take_digits(x, radix, 4, turns);
+    let (left, by_two) = take_digits(left, radix, 2, turns);
+    let (_, by_one) = take_digits(left, radix, 1, turns);
     1 + by_four + by_two + by_one
 }
 

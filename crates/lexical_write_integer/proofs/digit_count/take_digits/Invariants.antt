@@ -1,5 +1,5 @@
 use Rattle.lexical_write_integer.proofs.Loops.Divisions.{IsDivided}
-use Rattle.lexical_write_integer.proofs.digit_count.divide_while_long.Given as goal
+use Rattle.lexical_write_integer.proofs.digit_count.take_digits.Given as goal
 
 abbrev pub invariant-loop-power : goal.invariant-loop-power
 invariant-loop-power g l =

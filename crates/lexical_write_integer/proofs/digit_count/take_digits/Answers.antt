@@ -2,8 +2,8 @@ use Rattle.std.proofs.Common.{◌^◌, ◌≤◌, arith}
 use Rattle.lexical_write_integer.proofs.DigitCounts.{digit_count-le_64}
 use Rattle.lexical_write_integer.proofs.Loops.Divisions.{IsDivided-start, IsDivided-more, TakesDigits-end, TakesDigits-none, left-smaller}
 use Rattle.lexical_write_integer.proofs.RadixPowers.{power-gt_one, step-le_4}
-use Rattle.lexical_write_integer.proofs.digit_count.divide_while_long.Goals as goal
-use Rattle.lexical_write_integer.proofs.digit_count.divide_while_long.Goals.{In-loop-power}
+use Rattle.lexical_write_integer.proofs.digit_count.take_digits.Goals as goal
+use Rattle.lexical_write_integer.proofs.digit_count.take_digits.Goals.{In-loop-power}
 
 long : (g : _) (c : In-loop-power g) → c.args.radix ^ c.args.step ≤ g.T.UnsignedInteger.magnitude c.loop-power.left
 long g c = rw c.in-Some.ensures.power at (c.is_at_least.ensures.0 c.loop-power-test.true)
