@@ -58,7 +58,7 @@ fn write_turn<const R: u32>(
 
 // Removes the last two digits of a number of up to four digits, if it has more than two, and records the
 // quotient. Returns the remaining number and the number of digits that were removed.
-fn take_two<const R: u32>(number: u32, turns: &mut Turns) -> (u32, usize)
+fn take_two_digits<const R: u32>(number: u32, turns: &mut Turns) -> (u32, usize)
     requires radix { IsRadix R }
     requires short { number < R ^ 4 }
     ensures { TakesDigits R number 2 result.1 result.0 turns.old turns.new }
@@ -170,7 +170,7 @@ fn write_head<const R: u32>(
     ensures written { WritesBlock R digits number 0 buffer.old buffer.new }
     ensures taken { (taken left : ℕ) × TakesDigits R number 2 taken left turns.old turns.new }
 {
-    let (left, taken) = take_two::<R>(number, turns);
+    let (left, taken) = take_two_digits::<R>(number, turns);
     let index = 2 * (number % (R * R)) as usize;
     let first = table.pairs[index];
     let second = table.pairs[index + 1];
@@ -196,7 +196,7 @@ fn write_by_divisions<const R: u32, const QUOTIENTS: usize>(
 {
     let mut kept = [0; QUOTIENTS];
     let (left, fours) = keep_quotients::<R>(value, &mut kept, turns);
-    let (short, by_two) = take_two::<R>(left, turns);
+    let (short, by_two) = take_two_digits::<R>(left, turns);
     let head = 1 + by_two + take_last(short, R, turns);
     let count = 4 * fours + head;
     let digits = &mut buffer[..count];

@@ -16,22 +16,22 @@ short g c =
     let taken = c.keep_quotients-left.ensures.taken in
     few-fits g.row.R c.keep_quotients-left.result.0 two (omega (arith, taken.count, TakesDigits-counts two taken, digit_count-pos g.row.R c.args.value))
 
-head_is : (g : _) (c : After-take_last g) → 1 + c.take_two-short.result.1 + c.take_last.result ≡ digit_count g.row.R c.keep_quotients-left.result.0
+head_is : (g : _) (c : After-take_last g) → 1 + c.take_two_digits-short.result.1 + c.take_last.result ≡ digit_count g.row.R c.keep_quotients-left.result.0
 head_is g c =
-    omega (arith, c.take_last.ensures.1.count, TakesDigits-counts c.args.table.now.is_radix.at_least_two c.take_two-short.ensures, digit_count-pos g.row.R c.take_two-short.result.0)
+    omega (arith, c.take_last.ensures.1.count, TakesDigits-counts c.args.table.now.is_radix.at_least_two c.take_two_digits-short.ensures, digit_count-pos g.row.R c.take_two_digits-short.result.0)
 
-count_is : (g : _) (c : After-take_last g) → 4 * c.keep_quotients-left.result.1 + (1 + c.take_two-short.result.1 + c.take_last.result) ≡ digit_count g.row.R c.args.value
+count_is : (g : _) (c : After-take_last g) → 4 * c.keep_quotients-left.result.1 + (1 + c.take_two_digits-short.result.1 + c.take_last.result) ≡ digit_count g.row.R c.args.value
 count_is g c = omega (arith, head_is g c, TakesDigits-counts c.args.table.now.is_radix.at_least_two c.keep_quotients-left.ensures.taken)
 
 few : (g : _) (c : After-take_last g) → digit_count g.row.R c.args.value ≤ 64
 few g c = digit_count-le_bits g.row.R c.args.value 64 c.args.table.now.is_radix.at_least_two (omega arith) (omega (arith, c.ranges.value))
 
-pub take_two-short-requires-clause-short : goal.take_two-short-requires-clause-short
-take_two-short-requires-clause-short g c = short g (goal.at.take_two-short-requires-clause-short g c).After-keep_quotients-left
+pub take_two_digits-short-requires-clause-short : goal.take_two_digits-short-requires-clause-short
+take_two_digits-short-requires-clause-short g c = short g (goal.at.take_two_digits-short-requires-clause-short g c).After-keep_quotients-left
 
 pub take_last-requires-clause-short : goal.take_last-requires-clause-short
 take_last-requires-clause-short g c =
-    rw pow-two (head-left c.args.table.now.is_radix.at_least_two (short g (goal.at.take_last-requires-clause-short g c).After-keep_quotients-left) c.take_two-short.ensures)
+    rw pow-two (head-left c.args.table.now.is_radix.at_least_two (short g (goal.at.take_last-requires-clause-short g c).After-keep_quotients-left) c.take_two_digits-short.ensures)
 
 pub overflow_add-head-2 : goal.overflow_add-head-2
 overflow_add-head-2 g c =
@@ -46,9 +46,9 @@ overflow_add-count g c =
 pub slice_bounds-digits-end : goal.slice_bounds-digits-end
 slice_bounds-digits-end g c = omega (arith, count_is g (goal.at.slice_bounds-digits-end g c).After-take_last, c.requires.room)
 
-room_is : (g : _) (c : After-take_last g) → length (take (4 * c.keep_quotients-left.result.1 + (1 + c.take_two-short.result.1 + c.take_last.result)) c.args.buffer.now) ≡ 4 * c.keep_quotients-left.result.1 + (1 + c.take_two-short.result.1 + c.take_last.result)
+room_is : (g : _) (c : After-take_last g) → length (take (4 * c.keep_quotients-left.result.1 + (1 + c.take_two_digits-short.result.1 + c.take_last.result)) c.args.buffer.now) ≡ 4 * c.keep_quotients-left.result.1 + (1 + c.take_two_digits-short.result.1 + c.take_last.result)
 room_is g c =
-    omega (arith, count_is g c, c.requires.room, length-take (4 * c.keep_quotients-left.result.1 + (1 + c.take_two-short.result.1 + c.take_last.result)) c.args.buffer.now)
+    omega (arith, count_is g c, c.requires.room, length-take (4 * c.keep_quotients-left.result.1 + (1 + c.take_two_digits-short.result.1 + c.take_last.result)) c.args.buffer.now)
 
 fours_are : (g : _) (c : After-take_last g) → length (take c.keep_quotients-left.result.1 c.keep_quotients-left.new.kept) ≡ c.keep_quotients-left.result.1
 fours_are g c =
@@ -74,7 +74,7 @@ pub returns-clause-digits : goal.returns-clause-digits
 returns-clause-digits g c =
     let c' = (goal.at.returns-clause-digits g c).After-take_last in
     let two = c.args.table.now.is_radix.at_least_two in
-    let head = 1 + c.take_two-short.result.1 + c.take_last.result in
+    let head = 1 + c.take_two_digits-short.result.1 + c.take_last.result in
     let count = 4 * c.keep_quotients-left.result.1 + head in
     let front = take count c.args.buffer.now in
     let place : length front - 4 * c.keep_quotients-left.result.1 ≡ head = omega (arith, room_is g c') in
@@ -88,5 +88,5 @@ returns-clause-notes g c =
     let c' = (goal.at.returns-clause-notes g c).After-take_last in
     let two = c.args.table.now.is_radix.at_least_two in
     let taken = rw (fours_are g c', ← c.keep_quotients-left.ensures.taken.rest) at c.write_kept.ensures.taken in
-    let counted = slow_notes-are two c.keep_quotients-left.ensures.taken c.take_two-short.ensures c.take_last.ensures.1 in
+    let counted = slow_notes-are two c.keep_quotients-left.ensures.taken c.take_two_digits-short.ensures c.take_last.ensures.1 in
     table_notes-are g.row.R c.args.value c.args.turns.now c.take_last.new.turns _ (slow_noted g.row.R c.args.value _ _ c.requires.by_turns counted) (loop_notes-are two taken c.write_head.ensures.taken.2)

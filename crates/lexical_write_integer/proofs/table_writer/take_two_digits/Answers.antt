@@ -3,7 +3,7 @@ use Rattle.lexical_write_integer.specs.LoopTurns.{takes_two}
 use Rattle.lexical_write_integer.proofs.Loops.ShortNumbers.{TakesDigits-once}
 use Rattle.lexical_write_integer.proofs.Loops.Divisions.{TakesDigits-none}
 use Rattle.lexical_write_integer.proofs.Powers.{pow-two}
-use Rattle.lexical_write_integer.proofs.table_writer.take_two.Goals as goal
+use Rattle.lexical_write_integer.proofs.table_writer.take_two_digits.Goals as goal
 
 pub returns-then-number-square : goal.returns-then-number-square
 returns-then-number-square g c =
