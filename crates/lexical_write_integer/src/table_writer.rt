@@ -75,7 +75,7 @@ fn take_two_digits<const R: u32>(number: u32, turns: &mut Turns) -> (u32, usize)
 
 // Removes the last digit of a number of up to two digits, if it has two, and records the quotient. Returns
 // the number of digits that were removed.
-fn take_last(number: u32, radix: u32, turns: &mut Turns) -> usize
+fn take_last_digit(number: u32, radix: u32, turns: &mut Turns) -> usize
     requires radix { IsRadix radix }
     requires short { number < radix ^ 2 }
     ensures { (left : ℕ) × TakesDigits radix number 1 result left turns.old turns.new }
@@ -197,7 +197,7 @@ fn write_by_divisions<const R: u32, const QUOTIENTS: usize>(
     let mut kept = [0; QUOTIENTS];
     let (left, fours) = keep_quotients::<R>(value, &mut kept, turns);
     let (short, by_two) = take_two_digits::<R>(left, turns);
-    let head = 1 + by_two + take_last(short, R, turns);
+    let head = 1 + by_two + take_last_digit(short, R, turns);
     let count = 4 * fours + head;
     let digits = &mut buffer[..count];
     write_kept(value, &kept[..fours], table, digits, turns);
@@ -274,7 +274,7 @@ fn count_short(value: u32, radix: u32, turns: &mut Turns) -> usize
     if radix == 16 || radix == 32 {
         return if value < radix { 1 } else { 2 };
     }
-    1 + take_last(value, radix, turns)
+    1 + take_last_digit(value, radix, turns)
 }
 
 // Writes a number of one or two digits, in radix 16 and above.

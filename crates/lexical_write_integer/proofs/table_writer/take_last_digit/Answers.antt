@@ -6,7 +6,7 @@ use Rattle.lexical_write_integer.specs.LoopTurns.{takes_one}
 use Rattle.lexical_write_integer.proofs.Loops.ShortNumbers.{TakesDigits-once}
 use Rattle.lexical_write_integer.proofs.Loops.Divisions.{TakesDigits-none}
 use Rattle.lexical_write_integer.proofs.Powers.{pow-one}
-use Rattle.lexical_write_integer.proofs.table_writer.take_last.Goals as goal
+use Rattle.lexical_write_integer.proofs.table_writer.take_last_digit.Goals as goal
 
 pub returns-then-left-gt0 : goal.returns-then-left-gt0
 returns-then-left-gt0 c =
