@@ -91,7 +91,7 @@ fn take_last_digit(number: u32, radix: u32, turns: &mut Turns) -> usize
 
 // Removes the last four digits of a number per iteration, while it has more than four, and saves and
 // records each quotient. Returns the remaining number and the number of quotients.
-fn keep_quotients<const R: u32>(value: u64, kept: &mut [u64], turns: &mut Turns) -> (u32, usize)
+fn save_quotients<const R: u32>(value: u64, kept: &mut [u64], turns: &mut Turns) -> (u32, usize)
     requires radix { IsRadix R }
     requires room { value < R ^ (4 * (length kept.old + 1)) }
     ensures taken { TakesDigits R value 4 (4 * result.1) result.0 turns.old turns.new }
@@ -195,7 +195,7 @@ fn write_by_divisions<const R: u32, const QUOTIENTS: usize>(
     ensures notes { turns.new ≡ turns.old ++ table_notes R value }
 {
     let mut kept = [0; QUOTIENTS];
-    let (left, fours) = keep_quotients::<R>(value, &mut kept, turns);
+    let (left, fours) = save_quotients::<R>(value, &mut kept, turns);
     let (short, by_two) = take_two_digits::<R>(left, turns);
     let head = 1 + by_two + take_last_digit(short, R, turns);
     let count = 4 * fours + head;

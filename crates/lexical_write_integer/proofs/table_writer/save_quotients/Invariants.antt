@@ -1,6 +1,6 @@
 use Rattle.std.proofs.Common.{◌≡◌, ℕ, ◌+◌, ◌*◌, ◌/◌, ◌^◌, ◌<◌, get_or}
 use Rattle.lexical_write_integer.proofs.Loops.Divisions.{IsDivided}
-use Rattle.lexical_write_integer.proofs.table_writer.keep_quotients.Given as goal
+use Rattle.lexical_write_integer.proofs.table_writer.save_quotients.Given as goal
 
 abbrev pub invariant-loop-rest : goal.invariant-loop-rest
 invariant-loop-rest g l = record {

@@ -4,8 +4,8 @@ use Rattle.lexical_write_integer.proofs.DigitCounts.{digit_count-le, digit_count
 use Rattle.lexical_write_integer.proofs.Loops.Divisions.{IsDivided-start, IsDivided-room, IsDivided-more, TakesDigits-end, left-smaller}
 use Rattle.lexical_write_integer.proofs.RadixPowers.{power-small}
 use Rattle.lexical_write_integer.proofs.Powers.{pow-four}
-use Rattle.lexical_write_integer.proofs.table_writer.keep_quotients.Goals as goal
-use Rattle.lexical_write_integer.proofs.table_writer.keep_quotients.Goals.{In-loop-rest, After-loop-rest}
+use Rattle.lexical_write_integer.proofs.table_writer.save_quotients.Goals as goal
+use Rattle.lexical_write_integer.proofs.table_writer.save_quotients.Goals.{In-loop-rest, After-loop-rest}
 
 power_is : (g : _) (c : In-loop-rest g) → c.from-power.result ≡ g.row.R ^ 4
 power_is g c = c.from-power.ensures ∙ sym (pow-four g.row.R)
