@@ -112,7 +112,7 @@ fn save_quotients<const R: u32>(value: u64, kept: &mut [u64], turns: &mut Turns)
 }
 
 // Writes, four at a time, the digits that the saved quotients determine, at the end of the buffer.
-fn write_kept<const R: u32>(
+fn write_from_quotients<const R: u32>(
     value: u64,
     kept: &[u64],
     table: &RadixTable<'_, R>,
@@ -200,7 +200,7 @@ fn write_by_divisions<const R: u32, const QUOTIENTS: usize>(
     let head = 1 + by_two + take_last_digit(short, R, turns);
     let count = 4 * fours + head;
     let digits = &mut buffer[..count];
-    write_kept(value, &kept[..fours], table, digits, turns);
+    write_from_quotients(value, &kept[..fours], table, digits, turns);
     write_head(left, head, table, digits, turns);
     count
 }

@@ -57,9 +57,9 @@ fours_are g c =
 pub slice_bounds-digits-end-2 : goal.slice_bounds-digits-end-2
 slice_bounds-digits-end-2 g c = sym (room_is g (goal.at.slice_bounds-digits-end-2 g c).After-take_last_digit)
 
-pub write_kept-requires : goal.write_kept-requires
-write_kept-requires g c =
-    let c' = (goal.at.write_kept-requires g c).After-take_last_digit in
+pub write_from_quotients-requires : goal.write_from_quotients-requires
+write_from_quotients-requires g c =
+    let c' = (goal.at.write_from_quotients-requires g c).After-take_last_digit in
     let kept = c.save_quotients-left.ensures in
     let few_kept = fours_are g c' in
     (lit< tt, (omega (arith, few_kept, kept.taken.count), (λ k h. let less : k < c.save_quotients-left.result.1 = omega (arith, few_kept, h) in get_or-take c.save_quotients-left.result.1 c.save_quotients-left.new.kept k 0 less ∙ kept.kept k less, room_is g c' ∙ count_is g c')))
@@ -68,7 +68,7 @@ pub write_head-requires : goal.write_head-requires
 write_head-requires g c =
     let at = goal.at.write_head-requires g c in
     let c' = at.After-take_last_digit in
-    (lit< tt, (short g at.After-save_quotients-left, (head_is g c', omega (arith, room_is g c', c.write_kept.auto.buffer))))
+    (lit< tt, (short g at.After-save_quotients-left, (head_is g c', omega (arith, room_is g c', c.write_from_quotients.auto.buffer))))
 
 pub returns-clause-digits : goal.returns-clause-digits
 returns-clause-digits g c =
@@ -78,8 +78,8 @@ returns-clause-digits g c =
     let count = 4 * c.save_quotients-left.result.1 + head in
     let front = take count c.args.buffer.now in
     let place : length front - 4 * c.save_quotients-left.result.1 ≡ head = omega (arith, room_is g c') in
-    let taken = rw (fours_are g c', ← c.save_quotients-left.ensures.taken.rest) at c.write_kept.ensures.taken in
-    let written = rw (fours_are g c', place) at c.write_kept.ensures.written in
+    let taken = rw (fours_are g c', ← c.save_quotients-left.ensures.taken.rest) at c.write_from_quotients.ensures.taken in
+    let written = rw (fours_are g c', place) at c.write_from_quotients.ensures.written in
     WritesDigits-cut two (count_is g c') (omega (arith, count_is g c', c.requires.room))
     (IsDigits-head two (room_is g c' ∙ count_is g c') taken (head_is g c') written c.write_head.ensures.written)
 
@@ -87,6 +87,6 @@ pub returns-clause-notes : goal.returns-clause-notes
 returns-clause-notes g c =
     let c' = (goal.at.returns-clause-notes g c).After-take_last_digit in
     let two = c.args.table.now.is_radix.at_least_two in
-    let taken = rw (fours_are g c', ← c.save_quotients-left.ensures.taken.rest) at c.write_kept.ensures.taken in
+    let taken = rw (fours_are g c', ← c.save_quotients-left.ensures.taken.rest) at c.write_from_quotients.ensures.taken in
     let counted = slow_notes-are two c.save_quotients-left.ensures.taken c.take_two_digits-short.ensures c.take_last_digit.ensures.1 in
     table_notes-are g.row.R c.args.value c.args.turns.now c.take_last_digit.new.turns _ (slow_noted g.row.R c.args.value _ _ c.requires.by_turns counted) (loop_notes-are two taken c.write_head.ensures.taken.2)

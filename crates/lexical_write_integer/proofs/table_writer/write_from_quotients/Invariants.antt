@@ -1,7 +1,7 @@
 use Rattle.std.proofs.Common.{◌≡◌, ◌-◌, ◌*◌, length}
 use Rattle.lexical_write_integer.proofs.Buffers.Blocks.{IsWrittenBack}
 use Rattle.lexical_write_integer.proofs.Loops.Divisions.{IsDivided}
-use Rattle.lexical_write_integer.proofs.table_writer.write_kept.Given as goal
+use Rattle.lexical_write_integer.proofs.table_writer.write_from_quotients.Given as goal
 
 abbrev pub invariant-loop-next : goal.invariant-loop-next
 invariant-loop-next g l = record {

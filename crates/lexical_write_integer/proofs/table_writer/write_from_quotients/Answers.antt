@@ -5,8 +5,8 @@ use Rattle.lexical_write_integer.proofs.Buffers.Blocks.{IsWrittenBack-start, IsW
 use Rattle.lexical_write_integer.proofs.DigitCounts.{digit_count-le, digit_count-left}
 use Rattle.lexical_write_integer.proofs.Powers.{div-pow_more}
 use Rattle.lexical_write_integer.proofs.Loops.Divisions.{IsDivided-start, IsDivided-more}
-use Rattle.lexical_write_integer.proofs.table_writer.write_kept.Goals as goal
-use Rattle.lexical_write_integer.proofs.table_writer.write_kept.Goals.{In-loop-next}
+use Rattle.lexical_write_integer.proofs.table_writer.write_from_quotients.Goals as goal
+use Rattle.lexical_write_integer.proofs.table_writer.write_from_quotients.Goals.{In-loop-next}
 
 within : (g : _) (c : In-loop-next g) → 4 * c.loop-next.next-index + 4 < digit_count g.row.R c.args.value
 within g c = omega (arith, c.requires.all, c.loop-next-test.true)
