@@ -138,7 +138,7 @@ fn write_from_quotients<const R: u32>(
 
 // Writes the one or two digits of a number to the start of the buffer, without a branch: a single digit is
 // written twice, to the same byte.
-fn write_first(number: u32, digits: usize, radix: u32, table: &[u8], buffer: &mut [u8])
+fn write_one_or_two(number: u32, digits: usize, radix: u32, table: &[u8], buffer: &mut [u8])
     requires radix { IsRadix radix }
     requires table { BeginsWithPairs radix table.now }
     requires short { number < radix * radix }
@@ -176,7 +176,7 @@ fn write_head<const R: u32>(
     let second = table.pairs[index + 1];
     buffer[digits - 1] = second;
     buffer[digits.saturating_sub(2)] = first;
-    write_first(left, digits - taken, R, table.pairs, buffer);
+    write_one_or_two(left, digits - taken, R, table.pairs, buffer);
 }
 
 // Writes a number whose digits are counted by division, and saves the quotients for the writer.
@@ -294,6 +294,6 @@ pub(crate) fn write_short(
     ensures notes { turns.new ≡ turns.old ++ table_notes radix value }
 {
     let count = count_short(value, radix, turns);
-    write_first(value, count, radix, table, buffer);
+    write_one_or_two(value, count, radix, table, buffer);
     count
 }

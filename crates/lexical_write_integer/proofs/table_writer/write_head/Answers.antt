@@ -39,11 +39,11 @@ pub bounds-buffer-saturating_sub : goal.bounds-buffer-saturating_sub
 bounds-buffer-saturating_sub g c =
     omega (arith, some g (goal.at.bounds-buffer-saturating_sub g c).After-take_two_digits-left, c.requires.room, c.saturating_sub.ensures, length-set c.args.buffer.now (c.args.digits - 1))
 
-pub write_first-requires-clause-short : goal.write_first-requires-clause-short
-write_first-requires-clause-short g c = head-left c.args.table.now.is_radix.at_least_two c.requires.short c.take_two_digits-left.ensures
+pub write_one_or_two-requires-clause-short : goal.write_one_or_two-requires-clause-short
+write_one_or_two-requires-clause-short g c = head-left c.args.table.now.is_radix.at_least_two c.requires.short c.take_two_digits-left.ensures
 
-pub write_first-requires-clause-digits : goal.write_first-requires-clause-digits
-write_first-requires-clause-digits g c = omega (arith, c.requires.digits, TakesDigits-counts c.args.table.now.is_radix.at_least_two c.take_two_digits-left.ensures)
+pub write_one_or_two-requires-clause-digits : goal.write_one_or_two-requires-clause-digits
+write_one_or_two-requires-clause-digits g c = omega (arith, c.requires.digits, TakesDigits-counts c.args.table.now.is_radix.at_least_two c.take_two_digits-left.ensures)
 
 pub returns-clause-written : goal.returns-clause-written
 returns-clause-written g c =
@@ -62,4 +62,4 @@ returns-clause-written g c =
     (rw half at (WritesBlock-pair g.row.R (2 * k) (digits - 2) pairs list (omega (arith, c.args.table.now.is_radix)) c.args.table.now.begins (omega arith) (rw half (pair_is g c')) (omega (arith, c.requires.room)))) in
     let following : drop digits between ≡ drop digits list =
     drop-set-lt digits last_written c.saturating_sub.result (get_or pairs (2 * k) 0) (omega (arith, least, c.saturating_sub.ensures)) ∙ drop-set-lt digits list (digits - 1) (get_or pairs (2 * k + 1) 0) (omega (arith, least)) in
-    WritesBlock-head c.args.table.now.is_radix.at_least_two c.requires.short c.requires.digits c.take_two_digits-left.ensures pair following c.write_first.ensures
+    WritesBlock-head c.args.table.now.is_radix.at_least_two c.requires.short c.requires.digits c.take_two_digits-left.ensures pair following c.write_one_or_two.ensures

@@ -7,8 +7,8 @@ use Rattle.lexical_write_integer.proofs.DigitCounts.{digit_count-one, digit_coun
 use Rattle.lexical_write_integer.proofs.Loops.ShortNumbers.{WritesBlock-over}
 use Rattle.lexical_write_integer.proofs.Powers.{pow-two, pow-one}
 use Rattle.lexical_write_integer.proofs.Buffers.TablePairs.{length-table, pair_second, WritesBlock-pair}
-use Rattle.lexical_write_integer.proofs.table_writer.write_first.Goals as goal
-use Rattle.lexical_write_integer.proofs.table_writer.write_first.Goals.{then-number-radix, else-number-radix}
+use Rattle.lexical_write_integer.proofs.table_writer.write_one_or_two.Goals as goal
+use Rattle.lexical_write_integer.proofs.table_writer.write_one_or_two.Goals.{then-number-radix, else-number-radix}
 
 pub bounds-table-index : goal.bounds-table-index
 bounds-table-index c = omega (arith, c.requires.short, length-table c.args.radix c.args.table.now c.requires.table)
