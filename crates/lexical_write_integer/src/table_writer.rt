@@ -157,7 +157,7 @@ fn write_one_or_two(number: u32, digits: usize, radix: u32, table: &[u8], buffer
 
 // Writes the one to four digits of a number to the start of the buffer, without a branch on how many there
 // are. The last two are written first. If the number has only those, they are written again.
-fn write_head<const R: u32>(
+fn write_up_to_four<const R: u32>(
     number: u32,
     digits: usize,
     table: &RadixTable<'_, R>,
@@ -201,7 +201,7 @@ fn write_by_divisions<const R: u32, const QUOTIENTS: usize>(
     let count = 4 * fours + head;
     let digits = &mut buffer[..count];
     write_from_quotients(value, &kept[..fours], table, digits, turns);
-    write_head(left, head, table, digits, turns);
+    write_up_to_four(left, head, table, digits, turns);
     count
 }
 
@@ -228,7 +228,7 @@ fn write_counted<const R: u32>(
         write_turn(left, next, table, buffer, at, turns);
         left = next;
     }
-    write_head(left as u32, at, table, buffer, turns);
+    write_up_to_four(left as u32, at, table, buffer, turns);
     count
 }
 

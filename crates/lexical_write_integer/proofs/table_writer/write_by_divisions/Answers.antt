@@ -64,9 +64,9 @@ write_from_quotients-requires g c =
     let few_kept = fours_are g c' in
     (lit< tt, (omega (arith, few_kept, kept.taken.count), (λ k h. let less : k < c.save_quotients-left.result.1 = omega (arith, few_kept, h) in get_or-take c.save_quotients-left.result.1 c.save_quotients-left.new.kept k 0 less ∙ kept.kept k less, room_is g c' ∙ count_is g c')))
 
-pub write_head-requires : goal.write_head-requires
-write_head-requires g c =
-    let at = goal.at.write_head-requires g c in
+pub write_up_to_four-requires : goal.write_up_to_four-requires
+write_up_to_four-requires g c =
+    let at = goal.at.write_up_to_four-requires g c in
     let c' = at.After-take_last_digit in
     (lit< tt, (short g at.After-save_quotients-left, (head_is g c', omega (arith, room_is g c', c.write_from_quotients.auto.buffer))))
 
@@ -81,7 +81,7 @@ returns-clause-digits g c =
     let taken = rw (fours_are g c', ← c.save_quotients-left.ensures.taken.rest) at c.write_from_quotients.ensures.taken in
     let written = rw (fours_are g c', place) at c.write_from_quotients.ensures.written in
     WritesDigits-cut two (count_is g c') (omega (arith, count_is g c', c.requires.room))
-    (IsDigits-head two (room_is g c' ∙ count_is g c') taken (head_is g c') written c.write_head.ensures.written)
+    (IsDigits-head two (room_is g c' ∙ count_is g c') taken (head_is g c') written c.write_up_to_four.ensures.written)
 
 pub returns-clause-notes : goal.returns-clause-notes
 returns-clause-notes g c =
@@ -89,4 +89,4 @@ returns-clause-notes g c =
     let two = c.args.table.now.is_radix.at_least_two in
     let taken = rw (fours_are g c', ← c.save_quotients-left.ensures.taken.rest) at c.write_from_quotients.ensures.taken in
     let counted = slow_notes-are two c.save_quotients-left.ensures.taken c.take_two_digits-short.ensures c.take_last_digit.ensures.1 in
-    table_notes-are g.row.R c.args.value c.args.turns.now c.take_last_digit.new.turns _ (slow_noted g.row.R c.args.value _ _ c.requires.by_turns counted) (loop_notes-are two taken c.write_head.ensures.taken.2)
+    table_notes-are g.row.R c.args.value c.args.turns.now c.take_last_digit.new.turns _ (slow_noted g.row.R c.args.value _ _ c.requires.by_turns counted) (loop_notes-are two taken c.write_up_to_four.ensures.taken.2)

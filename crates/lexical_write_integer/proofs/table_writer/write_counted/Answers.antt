@@ -60,9 +60,9 @@ pub overflow_cast-left : goal.overflow_cast-left
 overflow_cast-left g c =
     omega (arith, short g (goal.at.overflow_cast-left g c).After-loop-at, power-small g.row.R 4 c.args.table.now.is_radix.at_most_36 takes_four)
 
-pub write_head-requires : goal.write_head-requires
-write_head-requires g c =
-    let c' = (goal.at.write_head-requires g c).After-loop-at in
+pub write_up_to_four-requires : goal.write_up_to_four-requires
+write_up_to_four-requires g c =
+    let c' = (goal.at.write_up_to_four-requires g c).After-loop-at in
     (lit< tt, (short g c', (count_left g c', omega (arith, c.requires.room, c.digit_count_counted-count.ensures.count, c.loop-at.invariant.within, c.loop-at.invariant.room))))
 
 pub returns-clause-digits : goal.returns-clause-digits
@@ -72,11 +72,11 @@ returns-clause-digits g c =
     let whole : c.loop-at.at + (count - c.loop-at.at) ≡ count = omega (arith, c.loop-at.invariant.within) in
     let place : c.loop-at.at ≡ 0 + c.loop-at.at = omega arith in
     let written = subst (λ k. IsWrittenBack g.row.R c.args.value (count - c.loop-at.at) c.loop-at.left k c.args.buffer.now c.loop-at.buffer) place c.loop-at.invariant.written in
-    let block = IsWrittenBack-last written c.write_head.ensures.written in
-    WritesDigits-block g.row.R c.args.value count c.args.buffer.now c.write_head.new.buffer c.args.table.now.is_radix.at_least_two (sym is) (omega (arith, is, c.requires.room)) (rw whole at block)
+    let block = IsWrittenBack-last written c.write_up_to_four.ensures.written in
+    WritesDigits-block g.row.R c.args.value count c.args.buffer.now c.write_up_to_four.new.buffer c.args.table.now.is_radix.at_least_two (sym is) (omega (arith, is, c.requires.room)) (rw whole at block)
 
 pub returns-clause-notes : goal.returns-clause-notes
 returns-clause-notes g c =
     let two = c.args.table.now.is_radix.at_least_two in
     let taken = TakesDigits-end two takes_four c.loop-at.invariant.divided (short g (goal.at.returns-clause-notes g c).After-loop-at) in
-    table_notes-are g.row.R c.args.value c.args.turns.now (c.args.turns.now ++ count_notes g.row.R c.args.value) _ refl (loop_notes-are two taken c.write_head.ensures.taken.2)
+    table_notes-are g.row.R c.args.value c.args.turns.now (c.args.turns.now ++ count_notes g.row.R c.args.value) _ refl (loop_notes-are two taken c.write_up_to_four.ensures.taken.2)

@@ -9,8 +9,8 @@ use Rattle.lexical_write_integer.proofs.Loops.Divisions.{TakesDigits-counts}
 use Rattle.lexical_write_integer.proofs.Powers.{pow-two}
 use Rattle.lexical_write_integer.proofs.RadixPowers.{power-gt_one}
 use Rattle.lexical_write_integer.proofs.Buffers.TablePairs.{length-table, WritesBlock-pair, half}
-use Rattle.lexical_write_integer.proofs.table_writer.write_head.Goals as goal
-use Rattle.lexical_write_integer.proofs.table_writer.write_head.Goals.{After-take_two_digits-left}
+use Rattle.lexical_write_integer.proofs.table_writer.write_up_to_four.Goals as goal
+use Rattle.lexical_write_integer.proofs.table_writer.write_up_to_four.Goals.{After-take_two_digits-left}
 
 -- the last two digits are a pair
 pair_is : (g : _) (c : After-take_two_digits-left g) → c.args.number % (g.row.R * g.row.R) < g.row.R * g.row.R
