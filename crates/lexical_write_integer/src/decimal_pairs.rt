@@ -26,7 +26,7 @@ fn write_two_digits(pair: u32, at: usize, buffer: &mut [u8])
 
 /// Writes the one or two digits of a number below 100 to the start of the buffer, and returns their
 /// number.
-pub(crate) fn write_first_pair(pair: u32, buffer: &mut [u8]) -> usize
+pub(crate) fn write_one_or_two(pair: u32, buffer: &mut [u8]) -> usize
     requires pair { pair < 100 }
     requires room { digit_count 10 pair ≤ length buffer.old }
     ensures digits { WritesDigits 10 pair buffer.old buffer.new result }
@@ -59,7 +59,7 @@ pub(crate) fn write_pairs(
     ensures { WritesDecimal (carried fraction pair_count) (products fraction pair_count)
         buffer.old buffer.new turns.old turns.new result }
 {
-    let mut count = write_first_pair((fraction >> 32) as u32, buffer);
+    let mut count = write_one_or_two((fraction >> 32) as u32, buffer);
     let mut rest = fraction;
     for _ in 0..pair_count {
         let pair = next2(&mut rest);

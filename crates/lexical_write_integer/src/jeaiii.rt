@@ -13,7 +13,7 @@ ghost use Rattle.lexical_write_integer.specs.Buffer.{WritesDigits};
 ghost use Rattle.lexical_write_integer.specs.DecimalTurns.{WritesDecimal, decimal_notes_32, decimal_notes_64};
 ghost use Rattle.lexical_write_integer.specs.DigitCount.{digit_count};
 
-use crate::decimal_pairs::{write_first_pair, write_last_ten, write_pairs};
+use crate::decimal_pairs::{write_last_ten, write_one_or_two, write_pairs};
 pub use crate::kernels::{
     fixed_2, fixed_4, fixed_6, fixed_8_nine, fixed_8_ten, fixed_8_wide, next2,
 };
@@ -25,7 +25,7 @@ fn write_32(n: u32, buffer: &mut [u8], turns: &mut Turns) -> usize
     ensures { WritesDecimal n (decimal_notes_32 n) buffer.old buffer.new turns.old turns.new result }
 {
     if n < 100 {
-        write_first_pair(n, buffer)
+        write_one_or_two(n, buffer)
     } else if n < 10_000 {
         write_pairs(fixed_2(n), 1, buffer, turns)
     } else if n < 1_000_000 {
@@ -122,7 +122,7 @@ pub fn from_u8_counted(n: u8, buffer: &mut [u8], turns: &mut Turns) -> usize
 {
     let number = u32::from(n);
     if number < 100 {
-        write_first_pair(number, buffer)
+        write_one_or_two(number, buffer)
     } else {
         write_pairs(fixed_2(number), 1, buffer, turns)
     }

@@ -10,7 +10,7 @@ use Rattle.lexical_write_integer.proofs.Buffers.Blocks.{WritesBlock-one}
 use Rattle.lexical_write_integer.proofs.Buffers.BlocksAfter.{WritesDigits-block}
 use Rattle.lexical_write_integer.proofs.DigitCounts.{digit_count-pos, digit_count-is, digit_count-one}
 use Rattle.lexical_write_integer.proofs.PairBlocks.{WritesBlock-table}
-use Rattle.lexical_write_integer.proofs.decimal_pairs.write_first_pair.Goals as goal
+use Rattle.lexical_write_integer.proofs.decimal_pairs.write_one_or_two.Goals as goal
 use mir.Val.{bool_byte}
 
 counted : (pair : ℕ) (is_pair : Bool) → pair < 100 → leb 10 pair ≡ is_pair → 1 + bool_byte is_pair ≡ digit_count 10 pair
