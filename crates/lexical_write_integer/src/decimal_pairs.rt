@@ -11,7 +11,7 @@ use crate::turns::Turns;
 use lexical_tables::get_table;
 
 // Writes the two digits of a number below 100 at index `at`.
-fn write_two_digits(pair: u32, at: usize, buffer: &mut [u8])
+fn write_pair(pair: u32, at: usize, buffer: &mut [u8])
     requires pair { pair < 100 }
     requires room { at + 2 ≤ length buffer.old }
     ensures { WritesBlock 10 2 pair at buffer.old buffer.new }
@@ -64,7 +64,7 @@ pub(crate) fn write_pairs(
     for _ in 0..pair_count {
         let pair = next2(&mut rest);
         turns.tick(rest);
-        write_two_digits(pair, count, buffer);
+        write_pair(pair, count, buffer);
         count += 2;
     }
     count
@@ -77,7 +77,7 @@ fn write_counted_pair(pair: u32, at: usize, buffer: &mut [u8], turns: &mut Turns
     ensures block { WritesBlock 10 2 pair at buffer.old buffer.new }
     ensures notes { turns.new ≡ turns.old ++ pair ∷ [] }
 {
-    write_two_digits(pair, at, buffer);
+    write_pair(pair, at, buffer);
     turns.tick(u64::from(pair));
 }
 

@@ -1,6 +1,6 @@
 use Rattle.std.proofs.Common.{arith}
 use Rattle.lexical_write_integer.proofs.PairBlocks.{WritesBlock-table}
-use Rattle.lexical_write_integer.proofs.decimal_pairs.write_two_digits.Goals as goal
+use Rattle.lexical_write_integer.proofs.decimal_pairs.write_pair.Goals as goal
 
 pub returns : goal.returns
 returns c =
