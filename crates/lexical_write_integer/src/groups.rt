@@ -19,7 +19,7 @@ pub fn group_digits(count: usize, format: &NumberFormat, buffer: &mut [u8]) -> u
     ensures total { result ≡ grouped_length format.now.digit_grouping count }
 {
     match format.digit_grouping() {
-        Some((size, mark)) => spread(count, usize::from(size), mark, buffer),
+        Some((size, mark)) => group_in_place(count, usize::from(size), mark, buffer),
         None => count,
     }
 }
@@ -31,7 +31,7 @@ pub fn group_digits(count: usize, format: &NumberFormat, buffer: &mut [u8]) -> u
 //     1234567      the digits
 //     12345,567    after four bytes
 //     1,234,567    after all
-fn spread(count: usize, size: usize, mark: u8, buffer: &mut [u8]) -> usize
+fn group_in_place(count: usize, size: usize, mark: u8, buffer: &mut [u8]) -> usize
     requires size { 1 ≤ size }
     requires some { 1 ≤ count }
     requires room { count + (count - 1) / size ≤ length buffer.old }

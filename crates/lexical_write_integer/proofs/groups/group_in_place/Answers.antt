@@ -1,7 +1,7 @@
 use Rattle.std.proofs.Common.{ℕ, List, ◌+◌, ◌-◌, ◌/◌, ◌<◌, ◌≤◌, length, arith, refl, sym}
 use Rattle.lexical_write_integer.proofs.Grouping.Digits.{HasRoomInGroups, length-in_groups_taken}
 use Rattle.lexical_write_integer.proofs.Grouping.Spread.{IsSpread-start, IsSpread-digit, IsSpread-mark, IsSpread-end}
-use Rattle.lexical_write_integer.proofs.groups.spread.Goals as goal
+use Rattle.lexical_write_integer.proofs.groups.group_in_place.Goals as goal
 
 has_room : {size mark count : ℕ} {before : List ℕ} → 1 ≤ size → 1 ≤ count → count + (count - 1) / size ≤ length before
     → HasRoomInGroups (size, mark) count (count + (count - 1) / size) before
