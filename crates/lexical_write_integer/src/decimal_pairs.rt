@@ -71,7 +71,7 @@ pub(crate) fn write_pairs(
 }
 
 // Writes the two digits of a number below 100 at index `at`, and records the number in the counter.
-fn write_counted_pair(pair: u32, at: usize, buffer: &mut [u8], turns: &mut Turns)
+fn write_and_record_pair(pair: u32, at: usize, buffer: &mut [u8], turns: &mut Turns)
     requires pair { pair < 100 }
     requires room { at + 2 ≤ length buffer.old }
     ensures block { WritesBlock 10 2 pair at buffer.old buffer.new }
@@ -89,8 +89,8 @@ fn write_four(number: u32, at: usize, buffer: &mut [u8], turns: &mut Turns)
     ensures block { WritesBlock 10 4 number at buffer.old buffer.new }
     ensures notes { turns.new ≡ turns.old ++ pairs_from_back number 2 }
 {
-    write_counted_pair(number % 100, at + 2, buffer, turns);
-    write_counted_pair(number / 100, at, buffer, turns);
+    write_and_record_pair(number % 100, at + 2, buffer, turns);
+    write_and_record_pair(number / 100, at, buffer, turns);
 }
 
 /// Writes the last ten digits of a number at index `at`, and records each of their five pairs in the
@@ -104,5 +104,5 @@ pub(crate) fn write_last_ten(number: u64, at: usize, buffer: &mut [u8], turns: &
     let front = (low / 10_000) as u32;
     write_four((low % 10_000) as u32, at + 6, buffer, turns);
     write_four(front % 10_000, at + 2, buffer, turns);
-    write_counted_pair(front / 10_000, at, buffer, turns);
+    write_and_record_pair(front / 10_000, at, buffer, turns);
 }
