@@ -36,7 +36,7 @@ fn write_pair<const R: u32>(index: usize, table: &RadixTable<'_, R>, buffer: &mu
 
 // Writes the last four digits of a number at index `at`, as two pairs, and records `left`, which is the
 // number without them.
-fn write_turn<const R: u32>(
+fn write_last_four<const R: u32>(
     number: u64,
     left: u64,
     table: &RadixTable<'_, R>,
@@ -131,7 +131,7 @@ fn write_from_quotients<const R: u32>(
     let mut at = buffer.len();
     for next in kept {
         at -= 4;
-        write_turn(left, *next, table, buffer, at, turns);
+        write_last_four(left, *next, table, buffer, at, turns);
         left = *next;
     }
 }
@@ -225,7 +225,7 @@ fn write_counted<const R: u32>(
     while at > 4 {
         let next = left / power;
         at -= 4;
-        write_turn(left, next, table, buffer, at, turns);
+        write_last_four(left, next, table, buffer, at, turns);
         left = next;
     }
     write_up_to_four(left as u32, at, table, buffer, turns);

@@ -23,8 +23,8 @@ loop-at-init g c =
       room = refl;
     }
 
-pub write_turn-requires : goal.write_turn-requires
-write_turn-requires g c =
+pub write_last_four-requires : goal.write_last_four-requires
+write_last_four-requires g c =
     (lit< tt, (ap (λ k. c.loop-at.left / k) (c.from-power.ensures ∙ sym (pow-four g.row.R)), omega (arith, c.requires.room, c.digit_count_counted-count.ensures.count, c.loop-at.invariant.within, c.loop-at.invariant.room, c.loop-at-test.true)))
 
 pub loop-at-preserved : goal.loop-at-preserved
@@ -40,11 +40,11 @@ loop-at-preserved g c =
     let order : 4 + taken ≡ count - (c.loop-at.at - 4) = omega (arith, c.loop-at-test.true, c.loop-at.invariant.within) in
     let place : c.loop-at.at ≡ c.loop-at.at - 4 + 4 = omega (arith, c.loop-at-test.true) in
     record {
-      divided = rw turn at (IsDivided-more two divided long next c.write_turn.ensures.notes);
+      divided = rw turn at (IsDivided-more two divided long next c.write_last_four.ensures.notes);
       written = rw order at (IsWrittenBack-more two long next
-          (subst (λ k. IsWrittenBack g.row.R c.args.value taken c.loop-at.left k c.args.buffer.now c.loop-at.buffer) place c.loop-at.invariant.written) c.write_turn.ensures.written);
+          (subst (λ k. IsWrittenBack g.row.R c.args.value taken c.loop-at.left k c.args.buffer.now c.loop-at.buffer) place c.loop-at.invariant.written) c.write_last_four.ensures.written);
       within = omega (arith, c.loop-at.invariant.within);
-      room = c.write_turn.auto.buffer ∙ c.loop-at.invariant.room;
+      room = c.write_last_four.auto.buffer ∙ c.loop-at.invariant.room;
     }
 
 -- how many digits are left, which is few

@@ -29,9 +29,9 @@ next_is g c =
 pub loop-next-init : goal.loop-next-init
 loop-next-init g c = record { divided = IsDivided-start; written = IsWrittenBack-start; place = omega arith; room = refl }
 
-pub write_turn-requires : goal.write_turn-requires
-write_turn-requires g c =
-    let c' = (goal.at.write_turn-requires g c).In-loop-next in
+pub write_last_four-requires : goal.write_last_four-requires
+write_last_four-requires g c =
+    let c' = (goal.at.write_last_four-requires g c).In-loop-next in
     (lit< tt, (next_is g c', omega (arith, c.requires.room, c.loop-next.invariant.room, c.loop-next.invariant.place, within g c')))
 
 pub loop-next-preserved : goal.loop-next-preserved
@@ -43,8 +43,8 @@ loop-next-preserved g c =
     let order : 4 + 4 * i ≡ 4 * (i + 1) = omega arith in
     let place : c.loop-next.at ≡ c.loop-next.at - 4 + 4 = omega (arith, c.requires.room, c.loop-next.invariant.place, within g c') in
     record {
-      divided = rw turn at (IsDivided-more two c.loop-next.invariant.divided (long g c') (next_is g c') c.write_turn.ensures.notes);
-      written = rw order at (IsWrittenBack-more two (long g c') (next_is g c') (rw place at c.loop-next.invariant.written) c.write_turn.ensures.written);
+      divided = rw turn at (IsDivided-more two c.loop-next.invariant.divided (long g c') (next_is g c') c.write_last_four.ensures.notes);
+      written = rw order at (IsWrittenBack-more two (long g c') (next_is g c') (rw place at c.loop-next.invariant.written) c.write_last_four.ensures.written);
       place = omega (arith, c.loop-next.invariant.place);
-      room = c.write_turn.auto.buffer ∙ c.loop-next.invariant.room;
+      room = c.write_last_four.auto.buffer ∙ c.loop-next.invariant.room;
     }

@@ -5,8 +5,8 @@ use Rattle.lexical_write_integer.specs.LoopTurns.{takes_two, takes_four}
 use Rattle.lexical_write_integer.proofs.RadixPowers.{power-small, power-gt_one}
 use Rattle.lexical_write_integer.proofs.Powers.{pow-two, pow-four}
 use Rattle.lexical_write_integer.proofs.Buffers.TablePairs.{half, WritesBlock-pairs}
-use Rattle.lexical_write_integer.proofs.table_writer.write_turn.Goals as goal
-use Rattle.lexical_write_integer.proofs.table_writer.write_turn.Goals.{After-from}
+use Rattle.lexical_write_integer.proofs.table_writer.write_last_four.Goals as goal
+use Rattle.lexical_write_integer.proofs.table_writer.write_last_four.Goals.{After-from}
 
 power_is : (g : _) (c : After-from g) → c.from.result ≡ g.row.R ^ 4
 power_is g c = c.from.ensures ∙ sym (pow-four g.row.R)
