@@ -46,7 +46,7 @@ pub fn write_integer_counted<T: Decimal + DigitCount>(
 
 // Writes the digits of the magnitude of a signed number. In radix 10 the magnitude has fewer digits, and
 // the buffer has room for `SIGNED_WIDTH` bytes.
-fn write_magnitude<T: Decimal + Radix>(value: T, radix: u32, buffer: &mut [u8]) -> usize
+fn write_signed_magnitude<T: Decimal + Radix>(value: T, radix: u32, buffer: &mut [u8]) -> usize
     requires radix { IsRadix radix }
     requires number { radix ≡ 10 → T.magnitude value < 10 ^ T.SIGNED_WIDTH }
     requires room { digits_need radix (T.magnitude value) T.SIGNED_WIDTH ≤ length buffer.old }
@@ -141,7 +141,7 @@ impl WriteInteger for u8 {
     }
 
     fn write_integer_signed(self, radix: u32, buffer: &mut [u8]) -> usize {
-        write_magnitude(self, radix, buffer)
+        write_signed_magnitude(self, radix, buffer)
     }
 }
 
@@ -151,7 +151,7 @@ impl WriteInteger for u16 {
     }
 
     fn write_integer_signed(self, radix: u32, buffer: &mut [u8]) -> usize {
-        write_magnitude(self, radix, buffer)
+        write_signed_magnitude(self, radix, buffer)
     }
 }
 
@@ -161,7 +161,7 @@ impl WriteInteger for u32 {
     }
 
     fn write_integer_signed(self, radix: u32, buffer: &mut [u8]) -> usize {
-        write_magnitude(self, radix, buffer)
+        write_signed_magnitude(self, radix, buffer)
     }
 }
 
@@ -171,7 +171,7 @@ impl WriteInteger for u64 {
     }
 
     fn write_integer_signed(self, radix: u32, buffer: &mut [u8]) -> usize {
-        write_magnitude(self, radix, buffer)
+        write_signed_magnitude(self, radix, buffer)
     }
 }
 
@@ -181,6 +181,6 @@ impl WriteInteger for usize {
     }
 
     fn write_integer_signed(self, radix: u32, buffer: &mut [u8]) -> usize {
-        write_magnitude(self, radix, buffer)
+        write_signed_magnitude(self, radix, buffer)
     }
 }

@@ -1,6 +1,6 @@
 use Rattle.std.proofs.Common.{arith}
 use Rattle.lexical_write_integer.proofs.DigitCounts.{digit_count-le_width}
-use Rattle.lexical_write_integer.proofs.write.write_magnitude.Goals as goal
+use Rattle.lexical_write_integer.proofs.write.write_signed_magnitude.Goals as goal
 
 pub returns-then-radix-eq10-clause-short : goal.returns-then-radix-eq10-clause-short
 returns-then-radix-eq10-clause-short g c =
