@@ -207,7 +207,7 @@ fn write_by_divisions<const R: u32, const QUOTIENTS: usize>(
 
 // Writes a number whose digits are counted first: four digits per iteration while it has more than four, and
 // then the others.
-fn write_counted<const R: u32>(
+fn write_after_count<const R: u32>(
     value: u64,
     table: &RadixTable<'_, R>,
     buffer: &mut [u8],
@@ -249,7 +249,7 @@ pub(crate) fn write_digits<const R: u32>(
 {
     let table = RadixTable::<R> { pairs: table };
     if R == 2 || R == 4 || R == 8 || R == 10 || R == 16 || R == 32 {
-        return write_counted(value, &table, buffer, turns);
+        return write_after_count(value, &table, buffer, turns);
     }
     let square = u64::from(R * R);
     let power = square * square;

@@ -9,8 +9,8 @@ use Rattle.lexical_write_integer.proofs.Loops.Divisions.{IsDivided-start, IsDivi
 use Rattle.lexical_write_integer.proofs.Loops.Records.{loop_notes-are, table_notes-are}
 use Rattle.lexical_write_integer.proofs.RadixPowers.{power-small}
 use Rattle.lexical_write_integer.proofs.Powers.{pow-four}
-use Rattle.lexical_write_integer.proofs.table_writer.write_counted.Goals as goal
-use Rattle.lexical_write_integer.proofs.table_writer.write_counted.Goals.{In-loop-at, After-loop-at}
+use Rattle.lexical_write_integer.proofs.table_writer.write_after_count.Goals as goal
+use Rattle.lexical_write_integer.proofs.table_writer.write_after_count.Goals.{In-loop-at, After-loop-at}
 
 pub loop-at-init : goal.loop-at-init
 loop-at-init g c =

@@ -2,7 +2,7 @@ use Rattle.std.proofs.Common.{◌≡◌, ◌-◌, ◌≤◌, ◌++◌, length}
 use Rattle.lexical_write_integer.specs.LoopTurns.{count_notes}
 use Rattle.lexical_write_integer.proofs.Buffers.Blocks.{IsWrittenBack}
 use Rattle.lexical_write_integer.proofs.Loops.Divisions.{IsDivided}
-use Rattle.lexical_write_integer.proofs.table_writer.write_counted.Given as goal
+use Rattle.lexical_write_integer.proofs.table_writer.write_after_count.Given as goal
 
 abbrev pub invariant-loop-at : goal.invariant-loop-at
 invariant-loop-at g l = record {
