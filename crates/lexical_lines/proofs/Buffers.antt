@@ -4,7 +4,7 @@ use Rattle.std.proofs.Common.{append_assoc}
 use Rattle.std.proofs.Math.Seq.{drop-cons}
 use Rattle.std.proofs.lemmas.List.{set_at, take_at}
 use Rattle.lexical_write_integer.specs.Buffer.{Front, Writes}
-use Rattle.lexical_write_integer.proofs.Fronts.{Front-after}
+use Rattle.lexical_write_integer.proofs.Buffers.Prefixes.{Front-after}
 
 -- another byte after a text
 pub Front-push : (before between text : List ℕ) (count mark : ℕ) → count ≡ length text → Front before between text

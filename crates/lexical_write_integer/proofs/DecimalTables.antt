@@ -8,7 +8,8 @@ use Rattle.lexical_write_integer.specs.Logarithm.{IsLog2}
 use Rattle.lexical_write_integer.specs.DigitCount.{digit_count}
 use Rattle.lexical_write_integer.specs.PowersOfTen.{IsPowersOfTen}
 use Rattle.lexical_write_integer.specs.declared.decimal.TheConstants.{DIGITS_BY_LOG2, POWERS_OF_TEN}
-use Rattle.lexical_write_integer.proofs.DigitCounts.{digit_count-is, pow-lt_more}
+use Rattle.lexical_write_integer.proofs.DigitCounts.{digit_count-is}
+use Rattle.lexical_write_integer.proofs.Powers.{pow-lt_more}
 use Rattle.lexical_write_integer.proofs.Logarithms.{IsLog2-lt}
 
 -- ---- powers of ten

@@ -1,22 +1,12 @@
 -- How many digits a number has: the least exponent, from both sides, and what a division by a power of the radix leaves.
-use Rattle.std.proofs.Common.{◌≡◌, ℕ, zero, suc, ◌+◌, ◌-◌, ◌*◌, ◌/◌, ◌^◌, ◌<◌, ◌≤◌, ltb, sym, ap, ◌∙◌, inl, inr, arith}
-use Rattle.std.proofs.Math.Nat.{pow-zero, pow-suc, pow-le-pow_right, mul-le-mul_left, mul-le-mul_right, one-le-pow, div-lt_iff_lt-mul, div-mul-le_self, div-one, div-div-eq-div-mul, mul_comm}
+use Rattle.std.proofs.Common.{◌≡◌, ℕ, zero, suc, ◌+◌, ◌-◌, ◌*◌, ◌/◌, ◌^◌, ◌<◌, ◌≤◌, ltb, sym, inl, inr, arith}
+use Rattle.std.proofs.Math.Nat.{pow-zero, pow-le-pow_right, mul-le-mul_right, one-le-pow, div-lt_iff_lt-mul, div-mul-le_self, div-one}
 use Rattle.std.proofs.lemmas.Bool.{cases_lt, ltb-true, cond_both}
 use Rattle.std.proofs.lemmas.Nat.{pow-add}
 use Rattle.lexical_num.specs.BitWidth.{IsBitWidth, is_8, is_16, is_32, is_64}
 use Rattle.lexical_write_integer.specs.DigitCount.{digit_count, least_exponent}
 pub use Rattle.lexical_write_integer.specs.DigitCount.{digit_count-le, digit_count-le_bits}
-use Rattle.lexical_write_integer.proofs.Values.{pow-one}
-
--- a number is below 2 to itself, and so below any larger radix to itself
-pub lt-pow_self : (r n : ℕ) → 2 ≤ r → n < r ^ n
-lt-pow_self r zero two = omega (arith, pow-zero r)
-lt-pow_self r (suc n) two = omega (arith, lt-pow_self r n two, pow-suc r n, mul-le-mul_left (r ^ n) two)
-
-pub pow-lt_more : (r i j : ℕ) → 2 ≤ r → i < j → r ^ i < r ^ j
-pow-lt_more r i (suc j) two less =
-    omega (arith, pow-le-pow_right {n = r} (omega arith) {i = i} {j = j} (omega arith), pow-suc r j, mul-le-mul_left (r ^ j) two, one-le-pow j r (omega arith))
-pow-lt_more r i zero two less = absurd (omega arith)
+use Rattle.lexical_write_integer.proofs.Powers.{lt-pow_self, pow-lt_more, pow-one}
 
 -- ---- the least exponent
 
@@ -102,11 +92,6 @@ digit_count-left r n (suc taken) left two fewer is =
 pub digit_count-more : (r count n : ℕ) → 2 ≤ r → r ^ count ≤ n → count < digit_count r n
 digit_count-more r count n two long = omega (arith, digit_count-split r count n two long, digit_count-pos r (n / r ^ count))
 
--- a division more
-pub div-pow_more : (r n step taken : ℕ) → n / r ^ taken / r ^ step ≡ n / r ^ (step + taken)
-div-pow_more r n step taken =
-    div-div-eq-div-mul n (r ^ taken) (r ^ step) ∙ ap (λ p. n / p) (mul_comm (r ^ taken) (r ^ step) ∙ sym (pow-add r step taken))
-
 -- two digits
 pub digit_count-two : (r n : ℕ) → 2 ≤ r → r ≤ n → n < r ^ 2 → digit_count r n ≡ 2
 digit_count-two r n two more less = digit_count-is r n 2 two (omega arith) less (λ long. rw pow-one more)
@@ -137,3 +122,23 @@ digit_count-le_width r n bits two is_64 fits = digit_count-le_bits r n 64 two (o
 -- nor more than 64
 pub digit_count-le_64 : (r n bits : ℕ) → 2 ≤ r → IsBitWidth bits → n < 2 ^ bits → digit_count r n ≤ 64
 digit_count-le_64 r n bits two width fits = omega (arith, digit_count-le_width r n bits two width fits, width-le_64 bits width)
+
+-- ---- decimal digits, for each width
+
+pub digit_count-le_3 : (n : ℕ) → n < 2 ^ 8 → digit_count 10 n ≤ 3
+digit_count-le_3 n fits = digit_count-le 10 n 3 (omega arith) (omega arith)
+
+pub digit_count-le_5 : (n : ℕ) → n < 2 ^ 16 → digit_count 10 n ≤ 5
+digit_count-le_5 n fits = digit_count-le 10 n 5 (omega arith) (omega arith)
+
+pub digit_count-le_10 : (n : ℕ) → n < 2 ^ 32 → digit_count 10 n ≤ 10
+digit_count-le_10 n fits = digit_count-le 10 n 10 (omega arith) (omega arith)
+
+pub digit_count-le_19 : (n : ℕ) → n < 10 ^ 19 → digit_count 10 n ≤ 19
+digit_count-le_19 n fits = digit_count-le 10 n 19 (omega arith) (omega arith)
+
+pub digit_count-le_20 : (n : ℕ) → n < 2 ^ 64 → digit_count 10 n ≤ 20
+digit_count-le_20 n fits = digit_count-le 10 n 20 (omega arith) (omega arith)
+
+-- what the code names whose buffer has room for each number of a width
+pub ruleset widths = (digit_count-le_3, digit_count-le_5, digit_count-le_10, digit_count-le_19, digit_count-le_20)

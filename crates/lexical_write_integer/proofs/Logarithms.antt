@@ -1,11 +1,11 @@
 -- Logarithms, rounded down, and what they say of the number of digits.
-use Rattle.std.proofs.Common.{◌≡◌, ℕ, zero, suc, ◌+◌, ◌-◌, ◌*◌, ◌/◌, ◌^◌, ◌<◌, ◌≤◌, Bool, true, ◌&&◌, ltb, leb, refl, sym, ap, inl, inr, arith, ◌∙◌}
-use Rattle.std.proofs.Math.Nat.{pow-zero, pow-suc, pow-le-pow_right, one-le-pow, mul-le-mul_left, mod-lt, div-add-mod'}
+use Rattle.std.proofs.Common.{◌≡◌, ℕ, zero, suc, ◌+◌, ◌-◌, ◌*◌, ◌/◌, ◌^◌, ◌<◌, ◌≤◌, Bool, true, ◌&&◌, ltb, leb, refl, ap, inl, inr, arith}
+use Rattle.std.proofs.Math.Nat.{pow-suc, pow-le-pow_right, one-le-pow, mul-le-mul_left, mod-lt, div-add-mod'}
 use Rattle.std.proofs.lemmas.Bool.{and_parts, cases_lt, cases_eq, ltb-true, leb-true}
-use Rattle.std.proofs.lemmas.Nat.{pow-add}
 use Rattle.lexical_write_integer.specs.Logarithm.{IsGreatestPower, IsLog2, IsLog10Estimate}
 use Rattle.lexical_write_integer.specs.DigitCount.{digit_count}
-use Rattle.lexical_write_integer.proofs.DigitCounts.{digit_count-is, pow-lt_more}
+use Rattle.lexical_write_integer.proofs.DigitCounts.{digit_count-is}
+use Rattle.lexical_write_integer.proofs.Powers.{pow-lt_more, pow-pow}
 
 pub IsGreatestPower-between : (base number k : ℕ) → 2 ≤ base → base ^ k ≤ number → number < base ^ (k + 1) → IsGreatestPower base number k
 IsGreatestPower-between base number k two low high = record {
@@ -94,10 +94,6 @@ digit_count-estimate_more number e est above =
     digit_count-is 10 number (e + 2) (omega arith) (omega arith) (log10-lt number e est) (λ more. rw last above)
 
 -- bits, counted by several at once
-pub pow-pow : (base i j : ℕ) → (base ^ i) ^ j ≡ base ^ (i * j)
-pow-pow base i zero = let none : i * zero ≡ 0 = omega arith in pow-zero (base ^ i) ∙ sym (ap (λ k. base ^ k) none ∙ pow-zero base)
-pow-pow base i (suc j) = let more : i * suc j ≡ i * j + i = omega arith in rw (more, pow-suc (base ^ i) j, pow-add base (i * j) i, pow-pow base i j)
-
 pub digit_count-log2 : (number k step : ℕ) → 0 < step → IsLog2 number k → digit_count (2 ^ step) number ≡ k / step + 1
 digit_count-log2 number k step some log =
     let q = k / step in

@@ -12,7 +12,7 @@ use Rattle.lexical_write_integer.specs.DigitCount.{digit_count}
 use Rattle.lexical_write_integer.specs.Numeral.{IsNumeral, IsNumeralOf, IsBlockOf, value_of}
 use Rattle.lexical_write_integer.specs.Text.{IsDigits}
 use Rattle.lexical_write_integer.proofs.DigitCounts.{digit_count-is}
-use Rattle.lexical_write_integer.proofs.Values.{value_of-append, value_of-one, value_of-lt, value_of-ge, same_digits}
+use Rattle.lexical_write_integer.proofs.DigitValues.{value_of-append, value_of-one, value_of-lt, value_of-ge, same_digits}
 
 -- ---- one numeral at most
 

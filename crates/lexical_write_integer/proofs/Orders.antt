@@ -20,9 +20,9 @@ use Rattle.lexical_write_integer.specs.Numeral.{value_of}
 use Rattle.lexical_write_integer.specs.Order.{ComesBefore}
 use Rattle.lexical_write_integer.specs.Text.{IsDigits, IsText}
 use Rattle.lexical_write_integer.proofs.DigitCounts.{digit_count-monotone}
-use Rattle.lexical_write_integer.proofs.GroupedDigits.{grouped-injective, length-grouped_lt, length-grouped_same}
+use Rattle.lexical_write_integer.proofs.Grouping.Digits.{grouped-injective, length-grouped_lt, length-grouped_same}
 use Rattle.lexical_write_integer.proofs.Numerals.{length-IsDigits}
-use Rattle.lexical_write_integer.proofs.Values.{value_of-lt}
+use Rattle.lexical_write_integer.proofs.DigitValues.{value_of-lt}
 
 -- ---- one number to a text
 

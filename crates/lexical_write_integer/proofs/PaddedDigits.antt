@@ -10,7 +10,8 @@ use Rattle.lexical_write_integer.specs.Numeral.{IsBlockOf, value_of}
 use Rattle.lexical_write_integer.specs.Padded.{IsPadded}
 use Rattle.lexical_write_integer.specs.Text.{IsDigits}
 use Rattle.lexical_write_integer.proofs.Numerals.{IsBlockOf-one, IsBlockOf-append, length-IsNumeralOf}
-use Rattle.lexical_write_integer.proofs.Values.{pow-one, same_digits}
+use Rattle.lexical_write_integer.proofs.Powers.{pow-one}
+use Rattle.lexical_write_integer.proofs.DigitValues.{same_digits}
 
 value_of-zeros : (r k : ℕ) → value_of r (replicate k 0) ≡ 0
 value_of-zeros r zero = refl

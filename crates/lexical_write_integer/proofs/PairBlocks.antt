@@ -5,33 +5,16 @@ use Rattle.lexical_tables.proofs.Pairs.{slice_index-pairs_first, slice_index-pai
 use Rattle.lexical_write_integer.specs.Buffer.{WritesBlock, WritesDigits}
 use Rattle.lexical_write_integer.specs.Carries.{carried}
 use Rattle.lexical_write_integer.specs.DigitCount.{digit_count}
-use Rattle.lexical_write_integer.proofs.BlocksAfter.{WritesDigits-after}
-use Rattle.lexical_write_integer.proofs.DigitCounts.{digit_count-le, digit_count-monotone, digit_count-split}
+use Rattle.lexical_write_integer.proofs.Buffers.BlocksAfter.{WritesDigits-after}
+use Rattle.lexical_write_integer.proofs.DigitCounts.{digit_count-monotone, digit_count-split}
 use Rattle.lexical_write_integer.proofs.Fractions.{carried-more, carried-monotone}
-use Rattle.lexical_write_integer.proofs.TablePairs.{WritesBlock-two}
+use Rattle.lexical_write_integer.proofs.Buffers.TablePairs.{WritesBlock-two}
+pub use Rattle.lexical_write_integer.proofs.DigitCounts.{widths}
 
 -- a pair from the table
 pub WritesBlock-table : (r pair at : ℕ) (list table : List ℕ) → 0 < r → table ≡ pairs r → pair < r * r → at + 2 ≤ length list → WritesBlock r 2 pair at list (set (set list (at + 1) (get_or table (2 * pair + 1) 0)) at (get_or table (2 * pair) 0))
 WritesBlock-table r pair at list table some is small room =
     rw (is, slice_index-pairs_first r pair small, slice_index-pairs_second r pair small) (WritesBlock-two r pair at list some small room)
-
--- how many digits the numbers of a type have at most
-pub digit_count-le_3 : (n : ℕ) → n < 2 ^ 8 → digit_count 10 n ≤ 3
-digit_count-le_3 n fits = digit_count-le 10 n 3 (omega arith) (omega arith)
-
-pub digit_count-le_5 : (n : ℕ) → n < 2 ^ 16 → digit_count 10 n ≤ 5
-digit_count-le_5 n fits = digit_count-le 10 n 5 (omega arith) (omega arith)
-
-pub digit_count-le_10 : (n : ℕ) → n < 2 ^ 32 → digit_count 10 n ≤ 10
-digit_count-le_10 n fits = digit_count-le 10 n 10 (omega arith) (omega arith)
-
-pub digit_count-le_19 : (n : ℕ) → n < 10 ^ 19 → digit_count 10 n ≤ 19
-digit_count-le_19 n fits = digit_count-le 10 n 19 (omega arith) (omega arith)
-
-pub digit_count-le_20 : (n : ℕ) → n < 2 ^ 64 → digit_count 10 n ≤ 20
-digit_count-le_20 n fits = digit_count-le 10 n 20 (omega arith) (omega arith)
-
-pub ruleset widths = (digit_count-le_3, digit_count-le_5, digit_count-le_10, digit_count-le_19, digit_count-le_20)
 
 -- fewer pairs need no more room
 pub room_for_carried : (y i k room : ℕ) → i ≤ k → digit_count 10 (carried y k) ≤ room → digit_count 10 (carried y i) ≤ room

@@ -1,12 +1,10 @@
 -- The powers of a radix that the loops divide by: which of them fit which type.
-use Rattle.std.proofs.Common.{◌≡◌, ◌≢◌, ℕ, ◌+◌, ◌*◌, ◌^◌, ◌<◌, ◌≤◌, ◌↔◌, true, ltb, leb, IsTrue, refl, inl, inr, arith}
-use Rattle.std.proofs.Math.Nat.{pow-zero, pow-suc, pow-le-pow_left, pow-le-pow_right}
+use Rattle.std.proofs.Common.{◌≡◌, ◌≢◌, ℕ, ◌+◌, ◌^◌, ◌<◌, ◌≤◌, ◌↔◌, true, ltb, leb, IsTrue, refl, inl, inr, arith}
+use Rattle.std.proofs.Math.Nat.{pow-zero, pow-le-pow_left, pow-le-pow_right}
 use Rattle.std.proofs.lemmas.Bool.{leb-true, le-leb, ltb-true, cases_lt}
-use Rattle.std.proofs.lemmas.Nat.{pow-add}
 use Rattle.lexical_num.specs.BitWidth.{IsBitWidth, is_8, is_16, is_32, is_64}
 use Rattle.lexical_write_integer.specs.LoopTurns.{IsStep, takes_one, takes_two, takes_four}
-use Rattle.lexical_write_integer.proofs.DigitCounts.{pow-lt_more}
-use Rattle.lexical_write_integer.proofs.Values.{pow-one}
+use Rattle.lexical_write_integer.proofs.Powers.{pow-lt_more}
 
 -- where the radices up to a limit are not too large
 pub fits_up_to : (limit radix exponent bits : ℕ) → ltb (limit ^ exponent) (2 ^ bits) ≡ true → leb (2 ^ bits) ((limit + 1) ^ exponent) ≡ true → IsTrue (leb radix limit) ↔ (radix ^ exponent < 2 ^ bits)
@@ -59,12 +57,3 @@ power-small r step few stepped =
 
 pub power-gt_one : (r step : ℕ) → 2 ≤ r → IsStep step → 1 < r ^ step
 power-gt_one r step two stepped = omega (arith, pow-lt_more r 0 step two (step-pos step stepped), pow-zero r)
-
-pub pow-two : (r : ℕ) → r ^ 2 ≡ r * r
-pow-two r = rw (pow-suc r 1, pow-one) refl
-
-pub pow-four : (r : ℕ) → r ^ 4 ≡ r * r * (r * r)
-pow-four r = rw (pow-add r 2 2, pow-two) refl
-
-pub pow-eight : (r : ℕ) → r ^ 8 ≡ r * r * (r * r) * (r * r * (r * r))
-pow-eight r = rw (pow-add r 4 4, pow-four) refl

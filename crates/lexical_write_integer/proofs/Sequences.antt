@@ -4,7 +4,7 @@ use Rattle.std.proofs.lemmas.Int.{to_z-of_z}
 use Rattle.std.proofs.lemmas.List.{drop-append-le, length-take, take-append-drop}
 use Rattle.lexical_write_integer.specs.Buffer.{Writes}
 use Rattle.lexical_write_integer.specs.Sequence.{Then}
-use Rattle.lexical_write_integer.proofs.Fronts.{Front-after, length-after}
+use Rattle.lexical_write_integer.proofs.Buffers.Prefixes.{Front-after, length-after}
 
 -- a text is written, and then another into the bytes after it
 pub written_then : (IsFirst IsSecond : List ℕ → Type 0) (before between part : List ℕ) (count room more : ℕ) → Writes IsFirst before between count → Writes IsSecond (take room (drop count between)) part more → Writes (Then IsFirst IsSecond) before (take count between ++ (part ++ drop room (drop count between))) (count + more)

@@ -1,4 +1,4 @@
-//! The ten integer types, as writers of their numbers.
+//! The implementations of the writing traits for the ten integer types.
 
 ghost use Rattle.std.specs.Prelude.{◌-◌, ◌^◌};
 ghost use Rattle.std.proofs.Common.{lit≤};

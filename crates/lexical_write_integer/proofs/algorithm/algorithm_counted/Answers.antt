@@ -2,7 +2,7 @@ use Rattle.std.proofs.Common.{◌≡◌, ◌+◌, ◌^◌, ◌<◌, length, arit
 use Rattle.std.proofs.Math.Nat.{pow-le-pow_right}
 use Rattle.lexical_write_integer.specs.LoopTurns.{table_turns}
 use Rattle.lexical_write_integer.proofs.DigitCounts.{digit_count-le_width, width-le_64}
-use Rattle.lexical_write_integer.proofs.LoopNotes.{length-more, length-table_notes, table_turns-le_21}
+use Rattle.lexical_write_integer.proofs.Loops.Records.{length-more, length-table_notes, table_turns-le_21}
 use Rattle.lexical_write_integer.proofs.algorithm.algorithm_counted.Goals as goal
 use Rattle.lexical_write_integer.proofs.algorithm.algorithm_counted.Goals.{After-write_number}
 

@@ -2,7 +2,7 @@ use Rattle.std.proofs.Common.{refl, sym, arith}
 use Rattle.std.proofs.Math.Nat.{div-one}
 use Rattle.lexical_write_integer.proofs.DigitCounts.{digit_count-le_64, digit_count-pos}
 use Rattle.lexical_write_integer.proofs.Logarithms.{digit_count-log2}
-use Rattle.lexical_write_integer.proofs.LoopNotes.{none_noted, slow_noted, not_at_once}
+use Rattle.lexical_write_integer.proofs.Loops.Records.{none_noted, slow_noted, not_at_once}
 use Rattle.lexical_write_integer.proofs.digit_count.digit_count_counted.Goals as goal
 
 pub returns-in-2-clause-count : goal.returns-in-2-clause-count

@@ -3,7 +3,7 @@ use Rattle.std.proofs.lemmas.Bool.{eqb-false}
 use Rattle.std.proofs.lemmas.List.{length-replicate, length-take, length-drop, length-take-le}
 use Rattle.lexical_write_integer.specs.Buffer.{Front}
 use Rattle.lexical_write_integer.specs.DigitCount.{digit_count, digit_count-le}
-use Rattle.lexical_write_integer.proofs.Fronts.{Writes-after}
+use Rattle.lexical_write_integer.proofs.Buffers.Prefixes.{Writes-after}
 use Rattle.lexical_write_integer.proofs.PaddedDigits.{IsPadded-digits}
 use Rattle.lexical_write_integer.proofs.padded.write_padded.Goals as goal
 

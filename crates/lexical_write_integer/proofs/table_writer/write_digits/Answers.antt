@@ -1,8 +1,8 @@
 use Rattle.std.proofs.Common.{◌≡◌, false, ◌<◌, ◌≤◌, ◌^◌, lit<, arith}
 use Rattle.std.proofs.Math.Nat.{pow-le-pow_left}
 use Rattle.lexical_write_integer.specs.LoopTurns.{is_counted_at_once}
-use Rattle.lexical_write_integer.proofs.LoopNotes.{not_at_once}
-use Rattle.lexical_write_integer.proofs.RadixPowers.{pow-eight}
+use Rattle.lexical_write_integer.proofs.Loops.Records.{not_at_once}
+use Rattle.lexical_write_integer.proofs.Powers.{pow-eight}
 use Rattle.lexical_write_integer.proofs.table_writer.write_digits.Goals as goal
 use Rattle.lexical_write_integer.proofs.table_writer.write_digits.Goals.{After-from-square}
 

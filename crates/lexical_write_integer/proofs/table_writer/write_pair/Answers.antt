@@ -1,5 +1,5 @@
 use Rattle.std.proofs.Common.{arith}
-use Rattle.lexical_write_integer.proofs.TablePairs.{length-table, WritesBlock-pair}
+use Rattle.lexical_write_integer.proofs.Buffers.TablePairs.{length-table, WritesBlock-pair}
 use Rattle.lexical_write_integer.proofs.table_writer.write_pair.Goals as goal
 
 pub bounds-table-index : goal.bounds-table-index

@@ -1,7 +1,7 @@
 use Rattle.std.proofs.Common.{rules, ◌≡◌, ◌+◌, ◌≤◌, arith}
 use Rattle.lexical_num.specs.declared.constants.TheConstants.{BUFFER_SIZE}
 use Rattle.lexical_write_integer.specs.Text.{need}
-use Rattle.lexical_write_integer.proofs.Sizes.{size_in-within}
+use Rattle.lexical_write_integer.proofs.Required.{size_in-within}
 use Rattle.lexical_write_integer.proofs.api.ToLexicalWithOptions.required_len.Goals as goal
 use Rattle.lexical_write_integer.proofs.api.ToLexicalWithOptions.required_len.Goals.{After-grouped_len}
 

@@ -1,4 +1,4 @@
-use Rattle.lexical_write_integer.proofs.Sizes.{size_in-within}
+use Rattle.lexical_write_integer.proofs.Required.{size_in-within}
 use Rattle.lexical_write_integer.proofs.laws.room.size_is_enough.Goals as goal
 
 pub returns-clause-size : goal.returns-clause-size
