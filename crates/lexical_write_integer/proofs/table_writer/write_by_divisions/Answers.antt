@@ -18,9 +18,15 @@ short g c =
 
 head_is : (g : _) (c : After-take_last g) → 1 + c.take_two-short.result.1 + c.take_last.result ≡ digit_count g.row.R c.keep_quotients-left.result.0
 head_is g c =
-    omega (arith, c.take_last.ensures.1.count, TakesDigits-counts c.args.table.now.is_radix.at_least_two c.take_two-short.ensures, digit_count-pos g.row.R c.take_two-short.result.0)
+    omega (
+      arith,
+      c.take_last.ensures.1.count,
+      TakesDigits-counts c.args.table.now.is_radix.at_least_two c.take_two-short.ensures,
+      digit_count-pos g.row.R c.take_two-short.result.0,
+    )
 
-count_is : (g : _) (c : After-take_last g) → 4 * c.keep_quotients-left.result.1 + (1 + c.take_two-short.result.1 + c.take_last.result) ≡ digit_count g.row.R c.args.value
+count_is : (g : _) (c : After-take_last g)
+    → 4 * c.keep_quotients-left.result.1 + (1 + c.take_two-short.result.1 + c.take_last.result) ≡ digit_count g.row.R c.args.value
 count_is g c = omega (arith, head_is g c, TakesDigits-counts c.args.table.now.is_radix.at_least_two c.keep_quotients-left.ensures.taken)
 
 few : (g : _) (c : After-take_last g) → digit_count g.row.R c.args.value ≤ 64
@@ -31,7 +37,9 @@ take_two-short-requires-clause-short g c = short g (goal.at.take_two-short-requi
 
 pub take_last-requires-clause-short : goal.take_last-requires-clause-short
 take_last-requires-clause-short g c =
-    rw pow-two (head-left c.args.table.now.is_radix.at_least_two (short g (goal.at.take_last-requires-clause-short g c).After-keep_quotients-left) c.take_two-short.ensures)
+    rw pow-two
+    (head-left c.args.table.now.is_radix.at_least_two
+    (short g (goal.at.take_last-requires-clause-short g c).After-keep_quotients-left) c.take_two-short.ensures)
 
 pub overflow_add-head-2 : goal.overflow_add-head-2
 overflow_add-head-2 g c =
@@ -46,13 +54,21 @@ overflow_add-count g c =
 pub slice_bounds-digits-end : goal.slice_bounds-digits-end
 slice_bounds-digits-end g c = omega (arith, count_is g (goal.at.slice_bounds-digits-end g c).After-take_last, c.requires.room)
 
-room_is : (g : _) (c : After-take_last g) → length (take (4 * c.keep_quotients-left.result.1 + (1 + c.take_two-short.result.1 + c.take_last.result)) c.args.buffer.now) ≡ 4 * c.keep_quotients-left.result.1 + (1 + c.take_two-short.result.1 + c.take_last.result)
+room_is : (g : _) (c : After-take_last g)
+    → length (take (4 * c.keep_quotients-left.result.1 + (1 + c.take_two-short.result.1 + c.take_last.result)) c.args.buffer.now)
+    ≡ 4 * c.keep_quotients-left.result.1 + (1 + c.take_two-short.result.1 + c.take_last.result)
 room_is g c =
-    omega (arith, count_is g c, c.requires.room, length-take (4 * c.keep_quotients-left.result.1 + (1 + c.take_two-short.result.1 + c.take_last.result)) c.args.buffer.now)
+    let count = 4 * c.keep_quotients-left.result.1 + (1 + c.take_two-short.result.1 + c.take_last.result) in
+    omega (arith, count_is g c, c.requires.room, length-take count c.args.buffer.now)
 
 fours_are : (g : _) (c : After-take_last g) → length (take c.keep_quotients-left.result.1 c.keep_quotients-left.new.kept) ≡ c.keep_quotients-left.result.1
 fours_are g c =
-    omega (arith, c.keep_quotients-left.ensures.within, c.keep_quotients-left.auto.kept, length-take c.keep_quotients-left.result.1 c.keep_quotients-left.new.kept)
+    omega (
+      arith,
+      c.keep_quotients-left.ensures.within,
+      c.keep_quotients-left.auto.kept,
+      length-take c.keep_quotients-left.result.1 c.keep_quotients-left.new.kept,
+    )
 
 pub slice_bounds-digits-end-2 : goal.slice_bounds-digits-end-2
 slice_bounds-digits-end-2 g c = sym (room_is g (goal.at.slice_bounds-digits-end-2 g c).After-take_last)
@@ -61,8 +77,19 @@ pub write_kept-requires : goal.write_kept-requires
 write_kept-requires g c =
     let c' = (goal.at.write_kept-requires g c).After-take_last in
     let kept = c.keep_quotients-left.ensures in
-    let few_kept = fours_are g c' in
-    (lit< tt, (omega (arith, few_kept, kept.taken.count), (λ k h. let less : k < c.keep_quotients-left.result.1 = omega (arith, few_kept, h) in get_or-take c.keep_quotients-left.result.1 c.keep_quotients-left.new.kept k 0 less ∙ kept.kept k less, room_is g c' ∙ count_is g c')))
+    let fours = c.keep_quotients-left.result.1 in
+    let few_kept = fours_are g c' in (
+      lit< tt,
+      (
+        omega (arith, few_kept, kept.taken.count),
+        (
+          λ k h.
+              let less : k < fours = omega (arith, few_kept, h) in
+              get_or-take fours c.keep_quotients-left.new.kept k 0 less ∙ kept.kept k less,
+          room_is g c' ∙ count_is g c',
+        ),
+      ),
+    )
 
 pub write_head-requires : goal.write_head-requires
 write_head-requires g c =
@@ -89,4 +116,5 @@ returns-clause-notes g c =
     let two = c.args.table.now.is_radix.at_least_two in
     let taken = rw (fours_are g c', ← c.keep_quotients-left.ensures.taken.rest) at c.write_kept.ensures.taken in
     let counted = slow_notes-are two c.keep_quotients-left.ensures.taken c.take_two-short.ensures c.take_last.ensures.1 in
-    table_notes-are g.row.R c.args.value c.args.turns.now c.take_last.new.turns _ (slow_noted g.row.R c.args.value _ _ c.requires.by_turns counted) (loop_notes-are two taken c.write_head.ensures.taken.2)
+    table_notes-are g.row.R c.args.value c.args.turns.now c.take_last.new.turns _
+    (slow_noted g.row.R c.args.value _ _ c.requires.by_turns counted) (loop_notes-are two taken c.write_head.ensures.taken.2)
