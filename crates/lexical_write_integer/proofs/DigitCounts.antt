@@ -14,7 +14,8 @@ least_exponent-ge : (r number n steps : ℕ) → n ≤ least_exponent r number n
 unfolding least_exponent
 least_exponent-ge r number n zero = omega arith
 least_exponent-ge r number n (suc steps) =
-    cond_both (ltb number (r ^ n)) n (least_exponent r number (suc n) steps) (λ k. n ≤ k) (λ e. omega arith) (λ e. omega (arith, least_exponent-ge r number (suc n) steps))
+    cond_both (ltb number (r ^ n)) n (least_exponent r number (suc n) steps) (λ k. n ≤ k) (λ e. omega arith)
+    (λ e. omega (arith, least_exponent-ge r number (suc n) steps))
 
 least_exponent-fits : (r number n steps : ℕ) → number < r ^ (n + steps) → number < r ^ least_exponent r number n steps
 unfolding least_exponent

@@ -1,6 +1,7 @@
 -- What a fraction that carries a number's digits says of them: each pair stands before the point in its turn.
 use Rattle.std.proofs.Common.{◌≡◌, ℕ, ◌+◌, ◌-◌, ◌*◌, ◌/◌, ◌%◌, ◌^◌, ◌<◌, ◌≤◌, ap, ◌∙◌, arith}
-use Rattle.std.proofs.Math.Nat.{one-le-pow, mod-lt, div-add-mod', mul-le-mul_left, mul-le-mul_right, pow-le-pow_right, le_of_mul-le-mul_right, lt_of_mul-lt-mul_right, div-eq_of_lt-le}
+use Rattle.std.proofs.Math.Nat.{one-le-pow, mod-lt, div-add-mod', mul-le-mul_left, mul-le-mul_right, pow-le-pow_right}
+use Rattle.std.proofs.Math.Nat.{le_of_mul-le-mul_right, lt_of_mul-lt-mul_right, div-eq_of_lt-le}
 use Rattle.std.proofs.lemmas.Nat.{pow-add, mul-mod_first}
 use Rattle.lexical_write_integer.specs.Carries.{Carries, carried}
 

@@ -80,7 +80,15 @@ log10-lt : (number e : ℕ) → IsLog10Estimate number e → number < 10 ^ (e + 
 log10-lt number e est =
     let more : e + 2 ≡ suc (e + 1) = omega arith in
     let up : est.log2 + 1 ≡ suc est.log2 = omega arith in
-    omega (arith, IsLog2-lt number est.log2 est.is_log2, IsGreatestPower-lt 10 (2 ^ est.log2) e est.estimate, pow-suc 2 est.log2, ap (λ k. 2 ^ k) up, pow-suc 10 (e + 1), ap (λ k. 10 ^ k) more)
+    omega (
+      arith,
+      IsLog2-lt number est.log2 est.is_log2,
+      IsGreatestPower-lt 10 (2 ^ est.log2) e est.estimate,
+      pow-suc 2 est.log2,
+      ap (λ k. 2 ^ k) up,
+      pow-suc 10 (e + 1),
+      ap (λ k. 10 ^ k) more,
+    )
 
 -- a number has one digit more than its estimate, or two
 pub digit_count-estimate : (number e : ℕ) → IsLog10Estimate number e → number < 10 ^ (e + 1) → digit_count 10 number ≡ e + 1

@@ -1,5 +1,6 @@
 -- Laws of numerals: that there is one and only one, how many digits it has, and how it is made of parts.
-use Rattle.std.proofs.Common.{◌≡◌, ℕ, zero, suc, ◌+◌, ◌-◌, ◌*◌, ◌/◌, ◌%◌, ◌^◌, ◌<◌, ◌≤◌, List, [], ◌∷◌, ◌++◌, length, get_or, map, refl, sym, ap, ◌∙◌, inl, inr, arith, length-append}
+use Rattle.std.proofs.Common.{◌≡◌, ℕ, zero, suc, ◌+◌, ◌-◌, ◌*◌, ◌/◌, ◌%◌, ◌^◌, ◌<◌, ◌≤◌, List, [], ◌∷◌, ◌++◌, length, get_or, map}
+use Rattle.std.proofs.Common.{refl, sym, ap, ◌∙◌, inl, inr, arith, length-append}
 use Rattle.std.specs.Int.Digits.{digits_of, number_from_digits_after}
 use Rattle.std.proofs.Math.Nat.{pow-zero, pow-suc, one-le-pow, div-add-mod'}
 use Rattle.std.proofs.lemmas.Int.Digits.{number_digits_of, all_below_base_digits_of, first_digits_of, length-digits_of_step}
@@ -42,7 +43,8 @@ pub numeral_unique : (r : ℕ) (xs ys : List ℕ) → IsNumeral r xs → IsNumer
 numeral_unique r xs ys p q same =
     elim (cases_lt r 2) [
       | inl small ↦ only_zero r xs small p ∙ sym (only_zero r ys small q)
-      | inr two ↦ same_digits r xs ys (length-IsNumeral r xs two p ∙ ap (digit_count r) same ∙ sym (length-IsNumeral r ys two q)) p.below_radix q.below_radix same
+      | inr two ↦
+          same_digits r xs ys (length-IsNumeral r xs two p ∙ ap (digit_count r) same ∙ sym (length-IsNumeral r ys two q)) p.below_radix q.below_radix same
     ]
 
 -- ---- blocks of digits, and numerals before them
@@ -86,7 +88,9 @@ IsNumeralOf-append {r} {count} {q} {m} {xs} {ys} pos p b = record {
 }
 
 -- the numeral of a number that is not below r ^ count: that of its quotient, and then as many digits of its remainder
-pub IsNumeralOf-split : (r count n : ℕ) (front back : List ℕ) → 2 ≤ r → r ^ count ≤ n → IsNumeralOf r (n / r ^ count) front → IsBlockOf r count (n % r ^ count) back → IsNumeralOf r n (front ++ back)
+pub IsNumeralOf-split : (r count n : ℕ) (front back : List ℕ)
+    → 2 ≤ r → r ^ count ≤ n → IsNumeralOf r (n / r ^ count) front → IsBlockOf r count (n % r ^ count) back
+    → IsNumeralOf r n (front ++ back)
 IsNumeralOf-split r count n front back two long p b =
     let some = one-le-pow count r (omega arith) in
     let pos : 0 < n / r ^ count = le-div 1 n (r ^ count) some (omega arith) in

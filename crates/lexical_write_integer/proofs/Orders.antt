@@ -1,5 +1,7 @@
 -- Texts and their numbers: a text belongs to one number, and the order of texts is that of their numbers.
-use Rattle.std.proofs.Common.{◌≡◌, Option, None, Some, ℕ, suc, ◌+◌, ◌*◌, ◌^◌, ◌<◌, ◌≤◌, List, [], ◌∷◌, ◌++◌, length, get_or, map, Bool, true, false, ◌↔◌, inl, inr, refl, sym, ap, ◌∙◌, arith, ℤ, pos, negsuc, ◌<ℤ◌, ◌≤ℤ◌, length-append}
+use Rattle.std.proofs.Common.{◌≡◌, Option, None, Some, ℕ, suc, ◌+◌, ◌*◌, ◌^◌, ◌<◌, ◌≤◌, List, [], ◌∷◌, ◌++◌, length, get_or, map}
+use Rattle.std.proofs.Common.{Bool, true, false, ◌↔◌, inl, inr, refl, sym, ap, ◌∙◌, arith, ℤ, pos, negsuc, ◌<ℤ◌, ◌≤ℤ◌}
+use Rattle.std.proofs.Common.{length-append}
 use Rattle.std.specs.Cmp.{nat_cmp_is, ranks}
 use Rattle.std.specs.Cmp.Derive.Mapped.{lex_map}
 use Rattle.std.specs.Cmp.Lexicographic.{slice_cmp}
@@ -62,7 +64,8 @@ no_sign grouping sign rest digits some small e =
     differ [] first = omega arith
     differ (d ∷ digits) first = omega (arith, digit_char-ge d)
 
-signs_differ : (grouping : Option (ℕ × ℕ)) (required : Bool) (n : ℕ) (s digits : List ℕ) → 45 ∷ s ≡ sign_of (pos n) required ++ grouped grouping (map digit_char digits) → ⊥
+signs_differ : (grouping : Option (ℕ × ℕ)) (required : Bool) (n : ℕ) (s digits : List ℕ)
+    → 45 ∷ s ≡ sign_of (pos n) required ++ grouped grouping (map digit_char digits) → ⊥
 signs_differ grouping true n s digits e =
     let same : ◌≡◌ {A = ℕ} 45 43 = ap (λ text. get_or text 0 0) e in
     omega arith
@@ -71,16 +74,20 @@ signs_differ grouping false n s digits e = no_sign grouping 45 s digits (omega a
 -- a number below 0 and one that is not have no text in common
 IsText-one_sign : (m n : ℕ) (format : Format) (text : List ℕ) → IsText (negsuc m) format text → IsText (pos n) format text → ⊥
 IsText-one_sign m n format text p q =
-    signs_differ format.digit_grouping format.required_mantissa_sign n (grouped format.digit_grouping p.digits) q.magnitude.digits (sym p.whole ∙ q.whole ∙ ap (λ digits. sign_of (pos n) format.required_mantissa_sign ++ grouped format.digit_grouping digits) q.magnitude.characters)
+    signs_differ format.digit_grouping format.required_mantissa_sign n (grouped format.digit_grouping p.digits) q.magnitude.digits
+    (sym p.whole ∙ q.whole ∙ ap (λ digits. sign_of (pos n) format.required_mantissa_sign ++ grouped format.digit_grouping digits) q.magnitude.characters)
 
 pub equal_from_IsText : (m n : ℤ) (format : Format) (text : List ℕ) → IsText m format text → IsText n format text → m ≡ n
 equal_from_IsText (pos m) (pos n) format text p q =
     let grouping = format.digit_grouping in
-    let same = grouped-injective grouping p.digits q.digits (append_cancel_left (sign_of (pos m) format.required_mantissa_sign) (grouped grouping p.digits) (grouped grouping q.digits) (sym p.whole ∙ q.whole)) in
+    let same =
+    grouped-injective grouping p.digits q.digits
+    (append_cancel_left (sign_of (pos m) format.required_mantissa_sign) (grouped grouping p.digits) (grouped grouping q.digits) (sym p.whole ∙ q.whole)) in
     ap pos (equal_from_IsDigits format.mantissa_radix m n q.digits (rw same at p.magnitude) q.magnitude)
 equal_from_IsText (negsuc m) (negsuc n) format text p q =
     let grouping = format.digit_grouping in
-    let same = grouped-injective grouping p.digits q.digits (append_cancel_left (45 ∷ []) (grouped grouping p.digits) (grouped grouping q.digits) (sym p.whole ∙ q.whole)) in
+    let after_sign = append_cancel_left (45 ∷ []) (grouped grouping p.digits) (grouped grouping q.digits) (sym p.whole ∙ q.whole) in
+    let same = grouped-injective grouping p.digits q.digits after_sign in
     let abs : suc m ≡ suc n = equal_from_IsDigits format.mantissa_radix (suc m) (suc n) q.digits (rw same at p.magnitude) q.magnitude in
     ap negsuc (omega arith)
 equal_from_IsText (negsuc m) (pos n) format text p q = absurd (IsText-one_sign m n format text p q)
@@ -120,7 +127,9 @@ nat_cmp-place w c d a b small small' =
     (λ e more. rw e (nat_cmp_is (c * w + a) (d * w + b) Greater (place-less w d c b a small' more)))
 
 -- digits of one count are in the order of their values
-slice_cmp-value_of : (r : ℕ) (xs ys : List ℕ) → length xs ≡ length ys → All (λ d. d < r) xs → All (λ d. d < r) ys → slice_cmp nat_cmp xs ys ≡ nat_cmp (value_of r xs) (value_of r ys)
+slice_cmp-value_of : (r : ℕ) (xs ys : List ℕ)
+    → length xs ≡ length ys → All (λ d. d < r) xs → All (λ d. d < r) ys
+    → slice_cmp nat_cmp xs ys ≡ nat_cmp (value_of r xs) (value_of r ys)
 slice_cmp-value_of r [] [] long p q = refl
 slice_cmp-value_of r [] (y ∷ ys) long p q = absurd (omega arith)
 slice_cmp-value_of r (x ∷ xs) [] long p q = absurd (omega arith)
@@ -135,7 +144,8 @@ slice_cmp-value_of r (x ∷ xs) (y ∷ ys) long p q =
 -- texts of one length are in the order of their numbers
 slice_cmp-IsDigits : (r m n : ℕ) (s t : List ℕ) → length s ≡ length t → IsDigits r m s → IsDigits r n t → slice_cmp nat_cmp s t ≡ nat_cmp m n
 slice_cmp-IsDigits r m n s t long p q =
-    let long' : length p.digits ≡ length q.digits = sym (ap length p.characters ∙ length-map p.digits digit_char) ∙ long ∙ ap length q.characters ∙ length-map q.digits digit_char in
+    let long' : length p.digits ≡ length q.digits =
+    sym (ap length p.characters ∙ length-map p.digits digit_char) ∙ long ∙ ap length q.characters ∙ length-map q.digits digit_char in
     let values = slice_cmp-value_of r p.digits q.digits long' p.numeral.numeral.below_radix q.numeral.numeral.below_radix in
     rw (p.characters, q.characters, slice_cmp-digit_char, values, p.numeral.value, q.numeral.value)
 
@@ -179,7 +189,8 @@ ComesBefore-append front s t =
     )
 
 -- in groups digits keep their order, since those of one length have their marks at the same places
-slice_cmp-in_groups : (grouping : ℕ × ℕ) (s t : List ℕ) → length s ≡ length t → slice_cmp nat_cmp (in_groups grouping s) (in_groups grouping t) ≡ slice_cmp nat_cmp s t
+slice_cmp-in_groups : (grouping : ℕ × ℕ) (s t : List ℕ)
+    → length s ≡ length t → slice_cmp nat_cmp (in_groups grouping s) (in_groups grouping t) ≡ slice_cmp nat_cmp s t
 slice_cmp-in_groups grouping [] [] long = refl
 slice_cmp-in_groups grouping [] (c ∷ t) long = absurd (omega arith)
 slice_cmp-in_groups grouping (c ∷ s) [] long = absurd (omega arith)
@@ -194,7 +205,8 @@ slice_cmp-in_groups grouping (c ∷ next ∷ s) (d ∷ other ∷ t) long =
     ∙ slice_cmp-append mark (in_groups grouping (next ∷ s)) (in_groups grouping (other ∷ t))
     ∙ slice_cmp-in_groups grouping (next ∷ s) (other ∷ t) (omega arith))
 
-slice_cmp-grouped : (grouping : Option (ℕ × ℕ)) (s t : List ℕ) → length s ≡ length t → slice_cmp nat_cmp (grouped grouping s) (grouped grouping t) ≡ slice_cmp nat_cmp s t
+slice_cmp-grouped : (grouping : Option (ℕ × ℕ)) (s t : List ℕ)
+    → length s ≡ length t → slice_cmp nat_cmp (grouped grouping s) (grouped grouping t) ≡ slice_cmp nat_cmp s t
 slice_cmp-grouped None s t long = refl
 slice_cmp-grouped (Some grouping) s t long = slice_cmp-in_groups grouping s t long
 
@@ -219,11 +231,14 @@ ComesBefore-grouped grouping s t = (
   ],
 )
 
-pub ComesBefore-IsText : (m n : ℤ) (format : Format) (s t : List ℕ) → 2 ≤ format.mantissa_radix → pos 0 ≤ℤ m → pos 0 ≤ℤ n → IsText m format s → IsText n format t → (m <ℤ n) ↔ ComesBefore s t
+pub ComesBefore-IsText : (m n : ℤ) (format : Format) (s t : List ℕ)
+    → 2 ≤ format.mantissa_radix → pos 0 ≤ℤ m → pos 0 ≤ℤ n → IsText m format s → IsText n format t → (m <ℤ n) ↔ ComesBefore s t
 ComesBefore-IsText (pos m) (pos n) format s t two _ _ p q =
     let digits = ComesBefore-IsDigits format.mantissa_radix m n p.digits q.digits two p.magnitude q.magnitude in
     let groups = ComesBefore-grouped format.digit_grouping p.digits q.digits in
-    let whole = ComesBefore-append (sign_of (pos m) format.required_mantissa_sign) (grouped format.digit_grouping p.digits) (grouped format.digit_grouping q.digits) in
-    rw (p.whole, q.whole) (λ less. whole.0 (groups.0 (digits.0 (omega (arith, ints)))), λ before. let less = digits.1 (groups.1 (whole.1 before)) in omega (arith, ints))
+    let whole =
+    ComesBefore-append (sign_of (pos m) format.required_mantissa_sign) (grouped format.digit_grouping p.digits) (grouped format.digit_grouping q.digits) in
+    rw (p.whole, q.whole)
+    (λ less. whole.0 (groups.0 (digits.0 (omega (arith, ints)))), λ before. let less = digits.1 (groups.1 (whole.1 before)) in omega (arith, ints))
 ComesBefore-IsText (negsuc m) n format s t two low _ p q = absurd (omega (arith, ints, low))
 ComesBefore-IsText (pos m) (negsuc n) format s t two _ low p q = absurd (omega (arith, ints, low))

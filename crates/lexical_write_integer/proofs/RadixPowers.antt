@@ -7,7 +7,9 @@ use Rattle.lexical_write_integer.specs.LoopTurns.{IsStep, takes_one, takes_two, 
 use Rattle.lexical_write_integer.proofs.Powers.{pow-lt_more}
 
 -- where the radices up to a limit are not too large
-pub fits_up_to : (limit radix exponent bits : ℕ) → ltb (limit ^ exponent) (2 ^ bits) ≡ true → leb (2 ^ bits) ((limit + 1) ^ exponent) ≡ true → IsTrue (leb radix limit) ↔ (radix ^ exponent < 2 ^ bits)
+pub fits_up_to : (limit radix exponent bits : ℕ)
+    → ltb (limit ^ exponent) (2 ^ bits) ≡ true → leb (2 ^ bits) ((limit + 1) ^ exponent) ≡ true
+    → IsTrue (leb radix limit) ↔ (radix ^ exponent < 2 ^ bits)
 fits_up_to limit radix exponent bits low high = (
   λ few. omega (arith, ltb-true (limit ^ exponent) (2 ^ bits) low, pow-le-pow_left {n = radix} {m = limit} (leb-true radix limit few) exponent),
   λ fits. elim (cases_lt limit radix) [
@@ -21,7 +23,9 @@ fits_36 radix exponent bits few low =
     (λ _. omega (arith, ltb-true (36 ^ exponent) (2 ^ bits) low, pow-le-pow_left {n = radix} {m = 36} few exponent), λ _. refl)
 
 -- where no radix is too large
-pub fits_always : (radix exponent bits : ℕ) → radix ≤ 36 → IsStep exponent → IsBitWidth bits → (exponent ≡ 4 → bits ≢ 8) → (exponent ≡ 4 → bits ≢ 16) → (exponent ≡ 2 → bits ≢ 8) → IsTrue true ↔ (radix ^ exponent < 2 ^ bits)
+pub fits_always : (radix exponent bits : ℕ)
+    → radix ≤ 36 → IsStep exponent → IsBitWidth bits → (exponent ≡ 4 → bits ≢ 8) → (exponent ≡ 4 → bits ≢ 16)
+    → (exponent ≡ 2 → bits ≢ 8) → IsTrue true ↔ (radix ^ exponent < 2 ^ bits)
 fits_always radix exponent bits few takes_one is_8 four_8 four_16 two_8 = fits_36 radix 1 8 few refl
 fits_always radix exponent bits few takes_one is_16 four_8 four_16 two_8 = fits_36 radix 1 16 few refl
 fits_always radix exponent bits few takes_one is_32 four_8 four_16 two_8 = fits_36 radix 1 32 few refl

@@ -1,10 +1,13 @@
 -- What the loops note, one after the other, and how many notes these are.
-use Rattle.std.proofs.Common.{◌≡◌, ◌≢◌, ℕ, ◌+◌, ◌-◌, ◌*◌, ◌/◌, ◌%◌, ◌^◌, ◌<◌, ◌≤◌, Bool, true, false, cond, ltb, eqb, List, [], ◌∷◌, ◌++◌, length, refl, sym, ap, ◌∙◌, inl, inr, arith, append_assoc, length-append}
+use Rattle.std.proofs.Common.{◌≡◌, ◌≢◌, ℕ, ◌+◌, ◌-◌, ◌*◌, ◌/◌, ◌%◌, ◌^◌, ◌<◌, ◌≤◌, Bool, true, false, cond, ltb, eqb, List, []}
+use Rattle.std.proofs.Common.{◌∷◌, ◌++◌, length, refl, sym, ap, ◌∙◌, inl, inr, arith, append_assoc, length-append}
 use Rattle.std.proofs.Math.Nat.{pow-le-pow_left, div-one}
 use Rattle.std.proofs.lemmas.List.{append-nil}
 use Rattle.std.proofs.lemmas.Bool.{cond_both, ltb-true, ltb-false, eqb-true, eqb-false, or_from, ne_eqb, cases_eq}
 use Rattle.lexical_write_integer.specs.DigitCount.{digit_count}
-use Rattle.lexical_write_integer.specs.LoopTurns.{TakesDigits, digits_after_first, quotients, loop_notes, slow_notes, count_notes, table_notes, compact_notes, is_counted_at_once, loop_turns, slow_turns, count_turns, table_turns, compact_turns}
+use Rattle.lexical_write_integer.specs.LoopTurns.{TakesDigits, digits_after_first, quotients, loop_notes, slow_notes, count_notes}
+use Rattle.lexical_write_integer.specs.LoopTurns.{table_notes, compact_notes, is_counted_at_once, loop_turns, slow_turns}
+use Rattle.lexical_write_integer.specs.LoopTurns.{count_turns, table_turns, compact_turns}
 use Rattle.lexical_write_integer.proofs.DigitCounts.{digit_count-pos, digit_count-le}
 use Rattle.lexical_write_integer.proofs.Powers.{div-pow_more}
 use Rattle.lexical_write_integer.proofs.Loops.Divisions.{quotients-none, quotients-more, length-quotients, TakesDigits-counts}
@@ -24,30 +27,39 @@ left_left r n i j = let order : j + i ≡ i + j = omega arith in div-pow_more r 
 -- ---- the loop by the square of the radix, after that by its fourth power
 
 -- it takes two digits off once, or never
-two_notes : {r n four left : ℕ} {a b : List ℕ} → 2 ≤ r → TakesDigits r n 4 four left a b → quotients r left 2 (digits_after_first r left / 2) ≡ cond (ltb (digits_after_first r n % 4) 2) [] (n / r ^ (4 * (digits_after_first r n / 4) + 2) ∷ [])
+two_notes : {r n four left : ℕ} {a b : List ℕ}
+    → 2 ≤ r → TakesDigits r n 4 four left a b
+    → quotients r left 2 (digits_after_first r left / 2) ≡ cond (ltb (digits_after_first r n % 4) 2) [] (n / r ^ (4 * (digits_after_first r n / 4) + 2) ∷ [])
 two_notes {r} {n} {four} {left} two t =
     let following : digits_after_first r left ≡ digits_after_first r n % 4 = omega (arith, t.count, TakesDigits-counts two t, digit_count-pos r left) in
-    cond_both (ltb (digits_after_first r n % 4) 2) [] (n / r ^ (4 * (digits_after_first r n / 4) + 2) ∷ []) (λ ys. quotients r left 2 (digits_after_first r left / 2) ≡ ys)
+    cond_both (ltb (digits_after_first r n % 4) 2) [] (n / r ^ (4 * (digits_after_first r n / 4) + 2) ∷ [])
+    (λ ys. quotients r left 2 (digits_after_first r left / 2) ≡ ys)
     (λ few.
     let none : digits_after_first r left / 2 ≡ 0 = omega (arith, ltb-true (digits_after_first r n % 4) 2 few) in
     rw none (quotients-none r left 2))
     (λ more.
     let one : digits_after_first r left / 2 ≡ 1 = omega (arith, ltb-false (digits_after_first r n % 4) 2 more) in
-    rw (one, t.rest, t.count) (quotients-one r (n / r ^ (4 * (digits_after_first r n / 4))) 2 ∙ ap (λ k. k ∷ []) (left_left r n (4 * (digits_after_first r n / 4)) 2)))
+    rw (one, t.rest, t.count)
+    (quotients-one r (n / r ^ (4 * (digits_after_first r n / 4))) 2 ∙ ap (λ k. k ∷ []) (left_left r n (4 * (digits_after_first r n / 4)) 2)))
 
-pub loop_notes-are : {r n four left_four by_two left_two : ℕ} {a b c : List ℕ} → 2 ≤ r → TakesDigits r n 4 four left_four a b → TakesDigits r left_four 2 by_two left_two b c → c ≡ a ++ loop_notes r n
+pub loop_notes-are : {r n four left_four by_two left_two : ℕ} {a b c : List ℕ}
+    → 2 ≤ r → TakesDigits r n 4 four left_four a b → TakesDigits r left_four 2 by_two left_two b c → c ≡ a ++ loop_notes r n
 unfolding loop_notes
 loop_notes-are {r} {n} {a = a} two t u =
     rw (u.notes, t.notes, two_notes two t) (append_assoc a (quotients r n 4 (digits_after_first r n / 4)) _)
 
 -- ---- the slow count, which takes the last digits off one by one
 
-pub slow_count-is : {r n four left_four by_two left_two by_one left_one : ℕ} {a b c d : List ℕ} → 2 ≤ r → TakesDigits r n 4 four left_four a b → TakesDigits r left_four 2 by_two left_two b c → TakesDigits r left_two 1 by_one left_one c d → 1 + four + by_two + by_one ≡ digit_count r n
+pub slow_count-is : {r n four left_four by_two left_two by_one left_one : ℕ} {a b c d : List ℕ}
+    → 2 ≤ r → TakesDigits r n 4 four left_four a b → TakesDigits r left_four 2 by_two left_two b c
+    → TakesDigits r left_two 1 by_one left_one c d → 1 + four + by_two + by_one ≡ digit_count r n
 slow_count-is {r} {left_two = left} two t u v =
     omega (arith, v.count, TakesDigits-counts two t, TakesDigits-counts two u, digit_count-pos r left)
 
 -- it does so once where the digits are even
-last_notes : {r n four left_four by_two left_two : ℕ} {a b c : List ℕ} → 2 ≤ r → TakesDigits r n 4 four left_four a b → TakesDigits r left_four 2 by_two left_two b c → quotients r left_two 1 (digits_after_first r left_two / 1) ≡ cond (eqb (digit_count r n % 2) 0) (n / r ^ digits_after_first r n ∷ []) []
+last_notes : {r n four left_four by_two left_two : ℕ} {a b c : List ℕ}
+    → 2 ≤ r → TakesDigits r n 4 four left_four a b → TakesDigits r left_four 2 by_two left_two b c
+    → quotients r left_two 1 (digits_after_first r left_two / 1) ≡ cond (eqb (digit_count r n % 2) 0) (n / r ^ digits_after_first r n ∷ []) []
 last_notes {r} {n} {four} {left_four} {by_two} {left_two} two t u =
     let counts : digit_count r left_two + (four + by_two) ≡ digit_count r n = omega (arith, TakesDigits-counts two t, TakesDigits-counts two u) in
     let some = digit_count-pos r left_two in
@@ -63,7 +75,9 @@ last_notes {r} {n} {four} {left_four} {by_two} {left_two} two t u =
     let none : digits_after_first r left_two / 1 ≡ 0 = omega (arith, eqb-false (digit_count r n % 2) 0 odd) in
     rw none (quotients-none r left_two 1))
 
-pub slow_notes-are : {r n four left_four by_two left_two by_one left_one : ℕ} {a b c d : List ℕ} → 2 ≤ r → TakesDigits r n 4 four left_four a b → TakesDigits r left_four 2 by_two left_two b c → TakesDigits r left_two 1 by_one left_one c d → d ≡ a ++ slow_notes r n
+pub slow_notes-are : {r n four left_four by_two left_two by_one left_one : ℕ} {a b c d : List ℕ}
+    → 2 ≤ r → TakesDigits r n 4 four left_four a b → TakesDigits r left_four 2 by_two left_two b c
+    → TakesDigits r left_two 1 by_one left_one c d → d ≡ a ++ slow_notes r n
 unfolding slow_notes
 slow_notes-are {r} {n} {a = a} two t u v =
     rw (v.notes, loop_notes-are two t u, last_notes two t u) (append_assoc a (loop_notes r n) _)
@@ -86,7 +100,8 @@ slow_noted r n a b by_turns noted = rw by_turns noted
 
 pub not_at_once : (r : ℕ) → r ≢ 2 → r ≢ 4 → r ≢ 8 → r ≢ 10 → r ≢ 16 → r ≢ 32 → is_counted_at_once r ≡ false
 not_at_once r p2 p4 p8 p10 p16 p32 =
-    or_from _ _ (ne_eqb r 2 p2) (or_from _ _ (ne_eqb r 4 p4) (or_from _ _ (ne_eqb r 8 p8) (or_from _ _ (ne_eqb r 10 p10) (or_from _ _ (ne_eqb r 16 p16) (ne_eqb r 32 p32)))))
+    or_from _ _ (ne_eqb r 2 p2)
+    (or_from _ _ (ne_eqb r 4 p4) (or_from _ _ (ne_eqb r 8 p8) (or_from _ _ (ne_eqb r 10 p10) (or_from _ _ (ne_eqb r 16 p16) (ne_eqb r 32 p32)))))
 
 -- ---- the table writer
 
@@ -104,7 +119,8 @@ pub length-loop_notes : (r n : ℕ) → length (loop_notes r n) ≡ loop_turns (
 unfolding loop_notes
 length-loop_notes r n =
     let b = digits_after_first r n in
-    length-more (quotients r n 4 (b / 4)) (loop_notes r n) (cond (ltb (b % 4) 2) [] (n / r ^ (4 * (b / 4) + 2) ∷ [])) (cond (ltb (b % 4) 2) 0 1) refl (length-cond (ltb (b % 4) 2) [] _)
+    length-more (quotients r n 4 (b / 4)) (loop_notes r n) (cond (ltb (b % 4) 2) [] (n / r ^ (4 * (b / 4) + 2) ∷ []))
+    (cond (ltb (b % 4) 2) 0 1) refl (length-cond (ltb (b % 4) 2) [] _)
     ∙ ap (λ k. k + cond (ltb (b % 4) 2) 0 1) (length-quotients r n 4 (b / 4))
 
 pub length-slow_notes : (r n : ℕ) → length (slow_notes r n) ≡ slow_turns (digit_count r n)

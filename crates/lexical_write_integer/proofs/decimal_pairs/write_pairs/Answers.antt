@@ -42,7 +42,7 @@ loop-preserved c =
     let room = room_for_carried c.args.fraction (c.loop.counter + 1) c.args.pair_count _ (omega arith) c.requires.room in
     record {
       following = rw c.next2-pair.ensures.product (rest-more c.args.fraction c.loop.counter _ done.following);
-      digits = WritesDigits-pair _ _ _ _ _ _ _ c.requires.first room pair done.digits c.write_pair.ensures;
+      digits = WritesDigits-pair _ _ c.requires.first room pair done.digits c.write_pair.ensures;
       notes = let more = products-more c.args.fraction c.loop.counter in grind (arith, append_assoc);
       count = omega arith;
     }
