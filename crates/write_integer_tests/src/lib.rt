@@ -8,6 +8,8 @@ mod counts;
 #[cfg(test)]
 mod decimal_values;
 #[cfg(test)]
+mod exact_buffers;
+#[cfg(test)]
 mod formats;
 #[cfg(test)]
 mod groups;
