@@ -1,6 +1,6 @@
-//! Calls whose conditions only just hold: with a byte less, with the next number or with another
-//! radix, none of these calls passes the check. No clause speaks of a value, so that only the
-//! condition refuses a call.
+//! Calls whose conditions only just hold. With one byte less, with the next number or with another
+//! radix, the check refuses each of these calls. The functions promise nothing about their results,
+//! so only the condition of the call can be refused.
 #![tactic(auto, unfolding(lexical_write_integer::specs::DigitCount::digit_count, lexical_write_integer::specs::DigitCount::least_exponent))]
 
 ghost use Rattle.lexical_num.specs.Format.{IsRadix};
@@ -20,52 +20,51 @@ use lexical_write_integer::{
     NumberFormat, NumberFormatBuilder, Options, ToLexical, ToLexicalWithOptions,
 };
 
-/// Writes 5 in decimal into 20 bytes: the largest `u64` has 20 digits.
+/// Writes 5 in decimal to 20 bytes, the number of digits of the largest `u64`, and returns its length.
 pub fn decimal_of_a_u64() -> usize {
     5u64.decimal(&mut [0; 20])
 }
 
-/// The length of the text of -1234567, written into 20 bytes: the sign and the 19 digits of an
-/// `i64`.
+/// Writes -1234567 to 20 bytes, for the sign and the 19 digits of an `i64`, and returns its length.
 #[tactic(auto)]
 pub fn text_of_an_i64_below_0() -> usize {
     (-1234567i64).to_lexical(&mut [0; 20]).len()
 }
 
-/// The length of the text of 125, written into the 3 bytes of a `u8`.
+/// Writes 125 to 3 bytes, the number of digits of the largest `u8`, and returns its length.
 pub fn text_of_a_u8() -> usize {
     125u8.to_lexical(&mut [0; 3]).len()
 }
 
-/// The digit count of 5 in the smallest radix.
+/// Returns the digit count of 5 in the smallest radix.
 pub fn digit_count_in_the_smallest_radix() -> usize {
     5u64.digit_count(2)
 }
 
-/// Writes 37 in the largest radix.
+/// Writes 37 in the largest radix, and returns the digit count.
 pub fn compact_in_the_largest_radix() -> usize {
     37u64.compact(36, &mut [0; 64])
 }
 
-/// The length of the table of the largest radix.
+/// Returns the length of the table of the largest radix.
 pub fn table_of_the_largest_radix() -> usize {
     get_table(36).len()
 }
 
-/// The format of the smallest radix.
+/// Returns the format of the smallest radix.
 pub fn format_of_the_smallest_radix() -> NumberFormat {
     NumberFormatBuilder::from_radix(2)
 }
 
-/// The decimal format whose groups are the longest, with the last byte that can be a mark.
+/// Returns the decimal format with the largest group size and the last byte that can separate groups.
 pub fn format_with_the_longest_groups() -> NumberFormat {
     NumberFormatBuilder::new()
         .digit_grouping(64, 126)
         .build_strict()
 }
 
-/// The length of the text of 1234567 in groups of three, written into 13 bytes: the 10 digits of a
-/// `u32`, and 3 marks.
+/// Writes 1234567 in groups of three to 13 bytes, for the 10 digits of a `u32` and 3 separators, and
+/// returns the length of the text.
 #[tactic(auto)]
 pub fn text_of_a_u32_in_groups() -> usize {
     let format = NumberFormatBuilder::new()
@@ -74,7 +73,7 @@ pub fn text_of_a_u32_in_groups() -> usize {
     1234567u32.write_lexical_with_options(&mut [0; 13], &format, &Options::new())
 }
 
-// The table of a radix, which begins with the radix's pairs of digits.
+// Returns the table of a radix, which begins with the pairs of its digits.
 fn table_of(radix: u32) -> &'static [u8]
     requires { IsRadix radix }
     ensures { BeginsWithPairs radix result.now }
@@ -82,12 +81,12 @@ fn table_of(radix: u32) -> &'static [u8]
     get_table(radix)
 }
 
-/// Writes 128 by the table of its radix.
+/// Writes 128 with the table of its radix, and returns the digit count.
 pub fn digits_by_the_table_of_the_radix() -> usize {
     algorithm(128u8, 12, table_of(12), &mut [0; 2])
 }
 
-/// The digit count of 10, by all powers of ten that fit a `u32`.
+/// Returns the digit count of 10, found with all powers of ten that fit in a `u32`.
 pub fn digit_count_by_all_powers() -> usize {
     fallback_digit_count(
         10u32,
@@ -97,39 +96,39 @@ pub fn digit_count_by_all_powers() -> usize {
     )
 }
 
-/// Writes the largest number of 19 digits, as the magnitude of a signed number.
+/// Writes the largest number of 19 digits as the magnitude of a signed number, and returns its length.
 #[tactic(auto)]
 pub fn largest_magnitude_of_19_digits() -> usize {
     9999999999999999999u64.decimal_signed(&mut [0; 20])
 }
 
-/// The fraction of the largest number of its branch.
+/// Returns the fraction of the largest number that the kernel `fixed_8_wide` accepts.
 pub fn largest_of_wide() -> u64 {
     fixed_8_wide(9999999999)
 }
 
-/// The character of the largest digit.
+/// Returns the character of the largest digit.
 pub fn character_of_the_largest_digit() -> u8 {
     digit_to_char(35)
 }
 
-/// The largest `u8`.
+/// Returns the largest `u8`.
 pub fn largest_u8() -> u8 {
     u8::from_u32(255)
 }
 
-/// The quotient and the remainder of 1 by 1.
+/// Returns the quotient and the remainder of 1 and 1.
 pub fn division_by_one() -> (u8, u8) {
     1u8.div_rem(1)
 }
 
-/// The largest number of 32 bits.
+/// Returns the largest number of 32 bits.
 pub fn largest_number_of_32_bits() -> u32 {
     4294967295u64.as_u32()
 }
 
-/// The length of the texts of 1, -2 and 3 joined by commas, written into 15 bytes: for each the
-/// size of an `i8` in decimal, which is 4, and one byte more.
+/// Writes 1, -2 and 3, joined by commas, to 15 bytes, for each the 4 bytes of an `i8` and one separator,
+/// and returns the length of the text.
 pub fn length_of_joined_texts() -> usize {
     join(
         &[1i8, -2, 3],
