@@ -1,13 +1,7 @@
 //! The loop iterations of single calls of the decimal writers, which a ghost value of the type `Turns`
 //! records: one number for each iteration. A test cannot read a ghost value, so each function makes
 //! a call with a new `Turns` and returns it, and its contract says what was recorded.
-#![tactic(
-    auto,
-    unfolding(
-        lexical_write_integer::specs::DecimalTurns::decimal_notes_32,
-        lexical_write_integer::specs::DecimalTurns::decimal_notes_64
-    )
-)]
+#![tactic(auto, unfolding(lexical_write_integer::specs::DecimalTurns::decimal_notes_32, lexical_write_integer::specs::DecimalTurns::decimal_notes_64))]
 
 ghost use Rattle.std.specs.Prelude.{◌≡◌, ◌≤◌, [], ◌∷◌, length};
 ghost use Rattle.lexical_write_integer.specs.DecimalTurns.{decimal_notes};

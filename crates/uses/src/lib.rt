@@ -1,5 +1,5 @@
-//! What a caller does with the numbers that these crates write, one thing in each module, each
-//! proved over the contracts of the calls alone.
+//! Examples of callers. Each module writes something that a program may need, and is proved from
+//! nothing but the contracts of the functions that it calls.
 #![tactic(auto)]
 
 pub mod address;
@@ -10,7 +10,6 @@ pub mod arena;
 pub mod column;
 pub mod conditions;
 pub mod csv_row;
-pub mod date;
 pub mod date_time;
 pub mod decimal_turns;
 pub mod dump_line;
@@ -23,7 +22,6 @@ pub mod identifier;
 pub mod json_array;
 pub mod key_value;
 pub mod log_entry;
-pub mod log_line;
 pub mod number_list;
 pub mod percentage;
 pub mod printed;
@@ -34,4 +32,3 @@ pub mod table_row;
 #[cfg(test)]
 mod tests;
 pub mod turn_lists;
-pub mod weight;

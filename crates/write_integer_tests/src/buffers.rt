@@ -3,7 +3,7 @@
 use std::process::Abort;
 
 // Checks that the buffer begins with the text, and that every byte after it is still 7.
-pub(crate) fn check_front(rt: &impl Abort, buffer: &[u8], text: &[u8]) {
+pub(crate) fn check_buffer(rt: &impl Abort, buffer: &[u8], text: &[u8]) {
     assert!(rt; buffer.starts_with(text));
     assert!(rt; buffer[text.len()..].iter().all(|byte| *byte == 7));
 }

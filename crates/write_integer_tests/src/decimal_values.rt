@@ -2,22 +2,20 @@
 
 ghost use Rattle.std.specs.Prelude.{◌≤◌};
 
+use crate::buffers::check_buffer;
 use lexical_num::num::LexicalInteger;
 use lexical_write_integer::decimal::Decimal;
 use lexical_write_integer::jeaiii::{from_i64, from_u8, from_u16, from_u32, from_u64};
 use std::process::Abort;
 
-// Checks that the text is written to the start of the buffer, and that every byte after it is unchanged.
+// Checks that the decimal writer writes the text to the start of a buffer of 20 bytes.
 fn check<T: Decimal>(rt: &impl Abort, value: T, text: &str)
     requires { T.DECIMAL_WIDTH ≤ 20 }
 {
     let text = text.as_bytes();
-    let mut buffer = [b'.'; 20];
-    let count = value.decimal(&mut buffer);
-    assert_eq!(rt; count, text.len());
-    let (written, rest) = buffer.split_at(count);
-    assert_eq!(rt; written, text);
-    assert!(rt; rest.iter().all(|byte| *byte == b'.'));
+    let mut buffer = [7; 20];
+    assert_eq!(rt; value.decimal(&mut buffer), text.len());
+    check_buffer(rt, &buffer, text);
 }
 
 // The powers of ten, the limits of the types, and the numbers at which a writer takes another branch, each

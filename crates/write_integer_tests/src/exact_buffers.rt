@@ -1,5 +1,5 @@
-//! Every writer at 0, at 1, at the ends of its type and around the powers of each radix, in a
-//! buffer of exactly the required length.
+//! Tests of every writer with buffers of exactly the required length. The numbers are 0, 1, the smallest and
+//! the largest number of the type, and the powers of each radix with the numbers next to them.
 
 mod digits;
 mod expected;

@@ -4,7 +4,7 @@ ghost use Rattle.std.specs.Prelude.{◌≤◌};
 ghost use Rattle.lexical_num.specs.Format.{IsRadix};
 ghost use Rattle.lexical_write_integer.specs.DigitCount.{digit_count};
 
-use crate::buffers::check_front;
+use crate::buffers::check_buffer;
 use lexical_num::num::UnsignedInteger;
 use lexical_write_integer::algorithm::algorithm;
 use lexical_write_integer::compact::Compact;
@@ -22,10 +22,10 @@ fn check_in<T: Radix + Compact>(rt: &impl Abort, value: T, radix: u32, room: usi
 {
     let mut buffer = [7u8; 67];
     assert_eq!(rt; value.radix(radix, &mut buffer[..room]), text.len());
-    check_front(rt, &buffer, text);
+    check_buffer(rt, &buffer, text);
     let mut buffer = [7u8; 67];
     assert_eq!(rt; value.compact(radix, &mut buffer[..room]), text.len());
-    check_front(rt, &buffer, text);
+    check_buffer(rt, &buffer, text);
 }
 
 // Checks that both writers write the text to a buffer of exactly its length, and to a longer buffer.

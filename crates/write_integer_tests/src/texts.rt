@@ -4,7 +4,7 @@ ghost use Rattle.std.specs.Prelude.{◌≤◌};
 ghost use Rattle.lexical_num.specs.Format.{standard};
 ghost use Rattle.lexical_write_integer.specs.Text.{need};
 
-use crate::buffers::check_front;
+use crate::buffers::check_buffer;
 use lexical_num::num::LexicalInteger;
 use lexical_num::options::{Options, WriteOptions};
 use lexical_write_integer::format::STANDARD;
@@ -19,7 +19,7 @@ pub(crate) fn check_decimal<T: ToLexical>(rt: &impl Abort, value: T, room: usize
 {
     let mut buffer = [7u8; 20];
     assert_eq!(rt; &*value.to_lexical(&mut buffer[..room]), text);
-    check_front(rt, &buffer, text);
+    check_buffer(rt, &buffer, text);
 }
 
 // Checks the text in the standard format, written to a buffer of 20 bytes.
@@ -47,7 +47,7 @@ pub(crate) fn check_in<T: ToLexicalWithOptions>(
     let mut buffer = [7u8; ROOM];
     let written = value.to_lexical_with_options(&mut buffer[..room], format, options);
     assert_eq!(rt; &*written, text);
-    check_front(rt, &buffer, text);
+    check_buffer(rt, &buffer, text);
 }
 
 // Checks the text in a format, written to a buffer of the size of the type in the format.

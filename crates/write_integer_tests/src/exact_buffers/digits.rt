@@ -1,11 +1,12 @@
-//! The digits of unsigned numbers, by each writer of digits and each count.
+//! Checks each writer of digits, and each digit count, with unsigned numbers.
 
 ghost use Rattle.std.specs.Prelude.{◌≡◌, ◌≤◌};
 ghost use Rattle.lexical_num.specs.Format.{IsRadix};
 ghost use Rattle.lexical_write_integer.specs.DigitCount.{digit_count};
 ghost use Rattle.lexical_write_integer.specs.Text.{digits_need};
 
-use super::texts::{ROOM, check_front};
+use super::texts::ROOM;
+use crate::buffers::check_buffer;
 use lexical_num::num::{LexicalInteger, UnsignedInteger};
 use lexical_write_integer::compact::Compact;
 use lexical_write_integer::decimal::Decimal;
@@ -22,7 +23,7 @@ fn check_compact<U: Compact>(rt: &impl Abort, value: U, radix: u32, room: usize,
 {
     let mut buffer = [7u8; ROOM];
     assert_eq!(rt; value.compact(radix, &mut buffer[..room]), digits.len());
-    check_front(rt, &buffer, digits);
+    check_buffer(rt, &buffer, digits);
 }
 
 fn check_radix<U: Radix>(rt: &impl Abort, value: U, radix: u32, room: usize, digits: &[u8])
@@ -32,7 +33,7 @@ fn check_radix<U: Radix>(rt: &impl Abort, value: U, radix: u32, room: usize, dig
 {
     let mut buffer = [7u8; ROOM];
     assert_eq!(rt; value.radix(radix, &mut buffer[..room]), digits.len());
-    check_front(rt, &buffer, digits);
+    check_buffer(rt, &buffer, digits);
 }
 
 fn check_write_integer<U: WriteInteger>(
@@ -51,7 +52,7 @@ fn check_write_integer<U: WriteInteger>(
         value.write_integer(radix, &mut buffer[..room]),
         digits.len()
     );
-    check_front(rt, &buffer, digits);
+    check_buffer(rt, &buffer, digits);
 }
 
 fn check_decimal<U: Decimal>(rt: &impl Abort, value: U, room: usize, digits: &[u8])
@@ -60,26 +61,28 @@ fn check_decimal<U: Decimal>(rt: &impl Abort, value: U, room: usize, digits: &[u
 {
     let mut buffer = [7u8; ROOM];
     assert_eq!(rt; value.decimal(&mut buffer[..room]), digits.len());
-    check_front(rt, &buffer, digits);
+    check_buffer(rt, &buffer, digits);
 }
 
-// The writers that ask for the full width of the type in radix 10.
+// Checks the writers that require the decimal width of the type in radix 10, with a buffer of exactly the
+// required length, and with three more bytes.
 fn check_wide<U: WriteInteger>(rt: &impl Abort, value: U, radix: u32, count: usize, digits: &[u8])
     requires radix { IsRadix radix }
     requires count { count ≡ digit_count radix (U.magnitude value) }
     requires at_most_64 { count ≤ 64 }
     requires width { U.DECIMAL_WIDTH ≤ 20 }
 {
-    let need = if radix == 10 { U::DECIMAL_WIDTH } else { count };
-    check_write_integer(rt, value, radix, need, digits);
-    check_write_integer(rt, value, radix, need + 3, digits);
+    let required = if radix == 10 { U::DECIMAL_WIDTH } else { count };
+    check_write_integer(rt, value, radix, required, digits);
+    check_write_integer(rt, value, radix, required + 3, digits);
     if radix == 10 {
-        check_decimal(rt, value, need, digits);
-        check_decimal(rt, value, need + 3, digits);
+        check_decimal(rt, value, required, digits);
+        check_decimal(rt, value, required + 3, digits);
     }
 }
 
-// Writes into buffers of exactly the need, and of three bytes more.
+// Checks the digit counts and all writers of digits, with a buffer of exactly the required length, and with
+// three more bytes.
 fn check_digits<U: Compact + DigitCount + WriteInteger>(
     rt: &impl Abort,
     value: U,
@@ -100,7 +103,7 @@ fn check_digits<U: Compact + DigitCount + WriteInteger>(
     check_wide(rt, value, radix, count, digits);
 }
 
-// The same for each unsigned type that has the number.
+// Checks the digits of the number in each unsigned type that has it.
 pub(crate) fn check_types(rt: &impl Abort, number: u64, radix: u32, digits: &[u8])
     requires { IsRadix radix }
 {

@@ -1,4 +1,4 @@
-//! The expected texts, by repeated division.
+//! Computes the expected texts by repeated division.
 
 ghost use Rattle.std.specs.Prelude.{◌≤◌};
 
@@ -6,10 +6,11 @@ use lexical_write_integer::NumberFormat;
 
 const DIGITS: &[u8; 36] = b"0123456789ABCDEFGHIJKLMNOPQRSTUVWXYZ";
 
-// The length of the longest text: a sign, 64 digits, and a mark between each two neighbours.
+// The length of the longest text: a sign, 64 digits, and a separator between adjacent digits.
 const LONGEST: usize = 128;
 
-// The expected text of a number, at the end of room for the longest one.
+// The expected text of a number, at the end of an array that is long enough for every text. `text` is the
+// index at which the text begins, and `digits` the index at which its digits begin.
 #[derive(Drop)]
 pub(crate) struct Expected {
     bytes: [u8; LONGEST],
@@ -20,7 +21,7 @@ pub(crate) struct Expected {
 }
 
 impl Expected {
-    // The text of the number of this sign and magnitude.
+    // Returns the text of the number with this sign and magnitude.
     pub(crate) fn new(is_negative: bool, magnitude: u64, format: &NumberFormat) -> Expected {
         let mut bytes = [0; LONGEST];
         let digits = fill_digits(&mut bytes, magnitude, format);
@@ -39,39 +40,39 @@ impl Expected {
         }
     }
 
-    // The sign and the digits.
+    // Returns the sign and the digits.
     pub(crate) fn text(&self) -> &[u8] {
         &self.bytes[self.text..]
     }
 
-    // The digits alone.
+    // Returns the digits without the sign.
     pub(crate) fn digits(&self) -> &[u8] {
         &self.bytes[self.digits..]
     }
 }
 
-// Puts the digits at the end, the last one first, with a mark after each whole group that is not
-// the first one of the text, and returns where they begin.
+// Writes the digits and the separators between their groups to the end of the array, the last digit first,
+// and returns the index at which they begin.
 fn fill_digits(bytes: &mut [u8; LONGEST], magnitude: u64, format: &NumberFormat) -> usize
     ensures after_sign { 1 ≤ result }
     ensures within { result ≤ 128 }
 {
     let radix = u64::from(format.mantissa_radix());
-    // No number has a 65th digit before which a mark could stand.
+    // No number has more than 64 digits, so with groups of 64 there is no separator.
     let (size, mark) = format.digit_grouping().unwrap_or((64, 0));
     let mut rest = magnitude;
-    let mut place = LONGEST;
+    let mut start = LONGEST;
     for count in 0..64usize {
         if count > 0 && count % usize::from(size) == 0 {
-            place -= 1;
-            bytes[place] = mark;
+            start -= 1;
+            bytes[start] = mark;
         }
-        place -= 1;
-        bytes[place] = DIGITS[(rest % radix) as usize];
+        start -= 1;
+        bytes[start] = DIGITS[(rest % radix) as usize];
         rest /= radix;
         if rest == 0 {
-            return place;
+            return start;
         }
     }
-    place
+    start
 }

@@ -1,4 +1,4 @@
-//! The numbers that are tried.
+//! Tries the numbers near the powers of each radix, for each type and format.
 
 ghost use Rattle.std.specs.Prelude.{◌≤◌};
 ghost use Rattle.lexical_num.specs.Format.{IsRadix, IsGroupSize};
@@ -10,8 +10,8 @@ use super::texts::check_text;
 use lexical_write_integer::{NumberFormat, NumberFormatBuilder, Options};
 use std::process::Abort;
 
-// Tries the number of a sign and a magnitude, where the type has it, and returns the count of the
-// numbers tried.
+// Checks the number with this sign and magnitude if the type has it, and returns how many numbers were
+// checked, 0 or 1.
 fn try_number<T: Number>(
     rt: &impl Abort,
     is_negative: bool,
@@ -26,14 +26,14 @@ fn try_number<T: Number>(
     };
     let expected = Expected::new(is_negative, magnitude, format);
     check_text(rt, value, format, options, expected.text());
-    // The writers of digits know neither signs nor groups.
+    // The writers of digits write neither signs nor groups.
     if !is_negative && format.digit_grouping().is_none() {
         check_types(rt, magnitude, format.mantissa_radix(), expected.digits());
     }
     1
 }
 
-// The same for the two numbers of a magnitude.
+// Tries the two numbers with this magnitude, and returns how many numbers were checked.
 fn try_both<T: Number>(
     rt: &impl Abort,
     magnitude: u64,
@@ -46,7 +46,7 @@ fn try_both<T: Number>(
         + try_number::<T>(rt, true, magnitude, format, options)
 }
 
-// The same for a power of the radix and its two neighbours.
+// Tries a power of the radix and the numbers next to it, and returns how many numbers were checked.
 fn try_near<T: Number>(
     rt: &impl Abort,
     power: u64,
@@ -55,13 +55,14 @@ fn try_near<T: Number>(
 ) -> usize
     ensures { result ≤ 6 }
 {
-    // Neither saturates: 2^64 - 1 is no power of a radix.
+    // The sum does not saturate, since 2^64 - 1 is not a power of a radix.
     try_both::<T>(rt, power.saturating_sub(1), format, options)
         + try_both::<T>(rt, power, format, options)
         + try_both::<T>(rt, power.saturating_add(1), format, options)
 }
 
-// The same for each power of the radix that a `u64` has, of which there are 64 at most.
+// Tries the numbers near each power of the radix that fits in a `u64`, at most 64 powers, and returns how
+// many numbers were checked.
 fn try_powers<T: Number>(rt: &impl Abort, format: &NumberFormat, options: &T::Options) -> usize
     ensures { result ≤ 384 }
 {
@@ -78,19 +79,21 @@ fn try_powers<T: Number>(rt: &impl Abort, format: &NumberFormat, options: &T::Op
     tried
 }
 
-// The same at 0, at 1 and at the ends of the type too.
+// Tries 0, 1, the limits of the type and the numbers near the powers of the radix, and returns how many
+// numbers were checked.
 fn try_format<T: Number>(rt: &impl Abort, format: &NumberFormat, options: &T::Options) -> usize
     ensures { result ≤ 392 }
 {
-    let [least, greatest] = T::ENDS;
+    let [smallest, largest] = T::ENDS;
     try_both::<T>(rt, 0, format, options)
         + try_both::<T>(rt, 1, format, options)
-        + try_both::<T>(rt, least, format, options)
-        + try_both::<T>(rt, greatest, format, options)
+        + try_both::<T>(rt, smallest, format, options)
+        + try_both::<T>(rt, largest, format, options)
         + try_powers::<T>(rt, format, options)
 }
 
-// The same with and without a required sign.
+// Tries the numbers in this radix, with and without a required sign, and returns how many numbers were
+// checked.
 fn try_radix<T: Number>(rt: &impl Abort, radix: u8, options: &T::Options) -> usize
     requires { IsRadix radix }
     ensures { result ≤ 784 }
@@ -103,7 +106,8 @@ fn try_radix<T: Number>(rt: &impl Abort, radix: u8, options: &T::Options) -> usi
     try_format::<T>(rt, &unsigned, options) + try_format::<T>(rt, &signed, options)
 }
 
-// The same in groups of this size, with and without a required sign.
+// Tries the numbers in this radix and in groups of this size, with and without a required sign, and returns
+// how many numbers were checked.
 fn try_groups<T: Number>(rt: &impl Abort, radix: u8, size: u8, options: &T::Options) -> usize
     requires radix { IsRadix radix }
     requires size { IsGroupSize size }
@@ -116,7 +120,8 @@ fn try_groups<T: Number>(rt: &impl Abort, radix: u8, size: u8, options: &T::Opti
     try_format::<T>(rt, &unsigned.build_strict(), options) + try_format::<T>(rt, &signed, options)
 }
 
-// The same in groups of 1, 2, 3, 4 and 64 digits.
+// Tries the numbers in this radix and in groups of 1, 2, 3, 4 and 64 digits, and returns how many numbers
+// were checked.
 fn try_sizes<T: Number>(rt: &impl Abort, radix: u8, options: &T::Options) -> usize
     requires { IsRadix radix }
     ensures { result ≤ 3920 }
@@ -128,7 +133,8 @@ fn try_sizes<T: Number>(rt: &impl Abort, radix: u8, options: &T::Options) -> usi
         + try_groups::<T>(rt, radix, 64, options)
 }
 
-// The same in radices 2, 10, 16 and 36.
+// Tries the numbers of the type in groups, in radices 2, 10, 16 and 36, and returns how many numbers were
+// checked.
 fn try_grouped_type<T: Number>(rt: &impl Abort, options: &T::Options) -> usize {
     try_sizes::<T>(rt, 2, options)
         + try_sizes::<T>(rt, 10, options)
@@ -136,7 +142,7 @@ fn try_grouped_type<T: Number>(rt: &impl Abort, options: &T::Options) -> usize {
         + try_sizes::<T>(rt, 36, options)
 }
 
-// The same in each radix.
+// Tries the numbers of the type without groups, in each radix, and returns how many numbers were checked.
 fn try_type<T: Number>(rt: &impl Abort, options: &T::Options) -> usize {
     let mut tried = 0;
     for radix in 2..37u8 {

@@ -1,30 +1,30 @@
-//! The integer types, as the tests make their numbers.
+//! Makes the numbers of each integer type from a sign and a magnitude.
 
 use lexical_write_integer::ToLexicalWithOptions;
 
-// An integer type, whose numbers are made of a sign and a magnitude.
+// An integer type whose numbers can be made from a sign and a magnitude.
 pub(crate) trait Number: ToLexicalWithOptions {
-    // The magnitude of the least number, and of the greatest.
+    // The magnitudes of the smallest and of the largest number.
     const ENDS: [u64; 2];
 
-    // The number of a sign and a magnitude, if the type has it. No number has the sign `-` and the
+    // Returns the number with this sign and magnitude if the type has it. No number has the sign `-` and the
     // magnitude 0.
     fn of(is_negative: bool, magnitude: u64) -> Option<Self>;
 }
 
-// The number of a sign and a magnitude, if a `u64` has it.
+// Returns the `u64` with this sign and magnitude, if there is one.
 fn number_u64(is_negative: bool, magnitude: u64) -> Option<u64> {
     if is_negative { None } else { Some(magnitude) }
 }
 
-// The number of a sign and a magnitude, if an `i64` has it.
+// Returns the `i64` with this sign and magnitude, if there is one.
 fn number_i64(is_negative: bool, magnitude: u64) -> Option<i64> {
     if !is_negative {
         i64::try_from(magnitude).ok()
     } else if magnitude == 0 {
         None
     } else {
-        // The magnitude of the least number fits only the unsigned type.
+        // The magnitude of the smallest number does not fit in an `i64`.
         let below = i64::try_from(magnitude - 1).ok()?;
         Some(-below - 1)
     }

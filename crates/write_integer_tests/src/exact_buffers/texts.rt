@@ -1,21 +1,16 @@
-//! Signs and digits, by the writer that returns what it wrote.
+//! Checks the writers of texts, with their signs and groups.
 
 ghost use Rattle.std.specs.Prelude.{◌≤◌};
 ghost use Rattle.lexical_write_integer.specs.Text.{need};
 
+use crate::buffers::check_buffer;
 use lexical_write_integer::{NumberFormat, ToLexicalWithOptions};
 use std::process::Abort;
 
-// Room for the longest text, for three bytes more, and for bytes that are not lent.
+// A length for the longest text, three more bytes, and some bytes that are not passed to the writer.
 pub(crate) const ROOM: usize = 140;
 
-// The text stands at the front, and every byte after it is unchanged.
-pub(crate) fn check_front(rt: &impl Abort, buffer: &[u8], text: &[u8]) {
-    assert!(rt; buffer.starts_with(text));
-    assert!(rt; buffer[text.len()..].iter().all(|byte| *byte == 7));
-}
-
-// Writes into `room` bytes.
+// Checks the text, written to a buffer of `room` bytes.
 fn check_in<T: ToLexicalWithOptions>(
     rt: &impl Abort,
     value: T,
@@ -28,12 +23,12 @@ fn check_in<T: ToLexicalWithOptions>(
     requires room { room ≤ 140 }
 {
     let mut buffer = [7u8; ROOM];
-    let front = value.to_lexical_with_options(&mut buffer[..room], format, options);
-    assert_eq!(rt; &*front, text);
-    check_front(rt, &buffer, text);
+    let written = value.to_lexical_with_options(&mut buffer[..room], format, options);
+    assert_eq!(rt; &*written, text);
+    check_buffer(rt, &buffer, text);
 }
 
-// Writes into exactly the required length, and into three bytes more.
+// Checks the text, written to a buffer of exactly the required length, and to one with three more bytes.
 pub(crate) fn check_text<T: ToLexicalWithOptions>(
     rt: &impl Abort,
     value: T,

@@ -18,6 +18,6 @@ returns-clause-some c =
     let was = c.loop-number.invariant in
     let all = omega (arith, c.loop-number-test.false) in
     let done = λ last adds.
-        finished c.args.numbers.now c.loop-number.number-index c.loop-number.lead.now _ c.args.buffer.now c.loop-number.buffer
-        c.push-2.new.buffer c.loop-number.count last all was.within (omega arith) c.push-2.auto.buffer was.split was.kept adds in
+    finished c.args.numbers.now c.loop-number.number-index c.loop-number.lead.now _ c.args.buffer.now c.loop-number.buffer
+    c.push-2.new.buffer c.loop-number.count last all was.within (omega arith) c.push-2.auto.buffer was.split was.kept adds in
     IfSome-map c.push-2.result done c.push-2.ensures.some
