@@ -4,7 +4,7 @@ use Rattle.std.specs.Prelude.{is_ok}
 use Rattle.std.specs.Io.KnownBytes.{Appends}
 use Rattle.std.proofs.KnownBytes.{starts_with_rest}
 use Rattle.lexical_lines.specs.ExitStatus.{status_of}
-use Rattle.lexical_lines.specs.Running.{added}
+use Rattle.lexical_lines.specs.RunOutcome.{added}
 use Rattle.lexical_lines.specs.Source.{faults_of}
 use Rattle.lexical_lines.specs.Stream.{StreamReading, KeepsReader}
 use Rattle.lexical_lines.proofs.Readers.{given-of}

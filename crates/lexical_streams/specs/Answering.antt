@@ -3,7 +3,7 @@ use Rattle.std.specs.Prelude.{◌≡◌, ◌+◌, ◌<◌, ℕ, Bool, true, fals
 use Rattle.std.specs.Io.{StartsWith}
 use Rattle.std.specs.Io.KnownBytes.{Appends}
 use Rattle.lexical_lines.specs.Answer.{AnswersAll, AnswersEnded}
-use Rattle.lexical_lines.specs.Running.{added}
+use Rattle.lexical_lines.specs.RunOutcome.{added}
 use Rattle.lexical_streams.specs.declared.block_reader.BlockReader.{BlockReader}
 use Rattle.lexical_streams.specs.declared.block_writer.BlockWriter.{BlockWriter}
 use Rattle.lexical_streams.specs.Blocks.{reading, inner, held, taken, faults}

@@ -6,7 +6,7 @@ use Rattle.std.proofs.KnownBytes.{Appends-nil, Appends-trans}
 use Rattle.std.proofs.Math.Seq.{drop-length}
 use Rattle.std.proofs.lemmas.List.{append-nil}
 use base.Fml.{GName}
-use Rattle.lexical_lines.specs.Running.{added}
+use Rattle.lexical_lines.specs.RunOutcome.{added}
 use Rattle.lexical_lines.proofs.Added.{added-more}
 use Rattle.lexical_lines.specs.Stream.{StreamReading}
 use Rattle.lexical_streams.specs.declared.block_reader.BlockReader.{BlockReader}

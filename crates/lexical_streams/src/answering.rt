@@ -1,7 +1,7 @@
 //! Lines of a reader, answered to a writer.
 
 ghost use Rattle.std.specs.Prelude.{◌≡◌, ◌⊎◌, ◌≤◌, true, false, length, [], ◌++◌, take, Ok, IfOk, OnOk, OnErr};
-ghost use Rattle.lexical_lines.specs.Running.{TellsAllGood};
+ghost use Rattle.lexical_lines.specs.RunOutcome.{TellsAllGood};
 ghost use Rattle.lexical_lines.specs.Sink.{taken_by};
 ghost use Rattle.lexical_lines.specs.Stream.{KeepsReader};
 ghost use Rattle.lexical_streams.specs.Answering.{bytes_read, NoFault, FaultOfReader, FaultOfWriter, AllAnswered, ReaderFailed, WriterFailed, ReadIsAnswered, ReadFails, WriteFails};
