@@ -5,15 +5,15 @@ ghost use Rattle.lexical_write_integer.specs.Logarithm.{IsLog2, IsLog10Estimate}
 
 use lexical_num::num::UnsignedInteger;
 
-/// The place of the highest bit that is set, and 0 for 0.
+/// Returns the logarithm to base 2, rounded down: the position of the highest bit that is set. It is 0
+/// for 0.
 pub fn fast_log2<T: UnsignedInteger>(x: T) -> usize
     ensures log2 { IsLog2 (T.magnitude x) result }
     ensures within { result < T.BITS }
 {
     x.fits_bits();
-    // The highest bit of 64 that are not all 0 is one instruction.
-    let number = (x.as_usize() as u64).max(1);
-    63 - UnsignedInteger::leading_zeros(number) as usize
+    // The logarithm of a number other than 0 is one instruction.
+    (x.as_usize() as u64).max(1).ilog2() as usize
 }
 
 /// The logarithm to base 10 of the greatest power of 2 that is at most the number, and 0 for 0.
