@@ -9,7 +9,7 @@ use Rattle.lexical_lines.specs.Answerer.{HasAnswered}
 use Rattle.lexical_lines.specs.RunOutcome.{added, BreaksOff}
 use Rattle.lexical_lines.proofs.Added.{added-is}
 use Rattle.lexical_lines.proofs.UniqueAnswers.{AnswersAll-unique, AnswersEnded-begins, BreaksOff-begins}
-use Rattle.lexical_streams.specs.Answering.{BeginsAnswers}
+use Rattle.lexical_streams.specs.StreamAnswers.{BeginsAnswers}
 
 -- ---- a prefix of the answers
 

@@ -9,8 +9,8 @@ use Rattle.lexical_lines.proofs.Added.{added-is}
 use Rattle.lexical_lines.proofs.Runs.{answers_ended}
 use Rattle.lexical_streams.specs.declared.block_reader.BlockReader.{BlockReader}
 use Rattle.lexical_streams.specs.declared.block_writer.BlockWriter.{BlockWriter}
-use Rattle.lexical_streams.specs.Answering.{AnswersGiven, NoFault, FaultOfReader, FaultOfWriter, BeginsAnswers, ReadIsAnswered, ReadFails, WriteFails}
-use Rattle.lexical_streams.specs.Answering.{bytes_put}
+use Rattle.lexical_streams.specs.StreamAnswers.{AnswersGiven, NoFault, FaultOfReader, FaultOfWriter, BeginsAnswers, ReadIsAnswered, ReadFails, WriteFails}
+use Rattle.lexical_streams.specs.StreamAnswers.{bytes_put}
 use Rattle.lexical_streams.specs.Blocks.{reading, held, taken, faults, KeepsBytes}
 use Rattle.lexical_streams.proofs.Begun.{begins-ended, begins-last}
 

@@ -4,7 +4,7 @@ use Rattle.std.specs.Io.KnownBytes.{Appends}
 use Rattle.lexical_lines.specs.Answer.{AnswersAll}
 use Rattle.lexical_streams.specs.declared.block_reader.BlockReader.{BlockReader}
 use Rattle.lexical_streams.specs.declared.block_writer.BlockWriter.{BlockWriter}
-use Rattle.lexical_streams.specs.Answering.{AllAnswered, bytes_read, bytes_put}
+use Rattle.lexical_streams.specs.StreamAnswers.{AllAnswered, bytes_read, bytes_put}
 use Rattle.lexical_streams.specs.Blocks.{reading, inner, held}
 
 known-all : (known : Option (List ℕ)) (P : List ℕ → Type 0) (bytes : List ℕ) → known ≡ Some bytes → IfSome known P → P bytes

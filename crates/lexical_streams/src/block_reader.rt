@@ -4,7 +4,7 @@ ghost use Rattle.std.specs.Prelude.{◌≡◌, ◌+◌, ◌-◌, ◌^◌, ◌≤
 ghost use Rattle.lexical_lines.specs.Sink.{taken_by};
 ghost use Rattle.lexical_lines.specs.Source.{faults_of};
 ghost use Rattle.lexical_lines.specs.Stream.{KeepsReader};
-ghost use Rattle.lexical_streams.specs.Answering.{AnswersGiven};
+ghost use Rattle.lexical_streams.specs.StreamAnswers.{AnswersGiven};
 
 use crate::block_writer::BlockWriter;
 use lexical_lines::Trace;

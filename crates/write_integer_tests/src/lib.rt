@@ -10,6 +10,8 @@ pub mod decimal_turns;
 #[cfg(test)]
 mod decimal_values;
 #[cfg(test)]
+mod exact_buffers;
+#[cfg(test)]
 mod groups;
 #[cfg(test)]
 mod kernel_values;
