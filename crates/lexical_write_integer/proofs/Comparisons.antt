@@ -14,8 +14,8 @@ texts_unique x format s t two p q =
     let same = digits_unique format.mantissa_radix (unsigned_abs x) p.digits q.digits two p.magnitude q.magnitude in
     p.whole ∙ ap (λ digits. sign_of x format.required_mantissa_sign ++ grouped format.digit_grouping digits) same ∙ sym q.whole
 
-pub digits_tell : (r m n : ℕ) (s t : List ℕ) → 2 ≤ r → IsDigits r m s → IsDigits r n t → (s ≡ t) ↔ (m ≡ n)
-digits_tell r m n s t two p q = (
+pub digits_equal_iff : (r m n : ℕ) (s t : List ℕ) → 2 ≤ r → IsDigits r m s → IsDigits r n t → (s ≡ t) ↔ (m ≡ n)
+digits_equal_iff r m n s t two p q = (
   λ same. equal_from_IsDigits r m n _ (rw same at p) q,
   λ same. digits_unique r n s t two (rw same at p) q,
 )
