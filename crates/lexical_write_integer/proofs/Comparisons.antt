@@ -20,8 +20,8 @@ digits_equal_iff r m n s t two p q = (
   λ same. digits_unique r n s t two (rw same at p) q,
 )
 
-pub texts_tell : (m n : ℤ) (format : Format) (s t : List ℕ) → 2 ≤ format.mantissa_radix → IsText m format s → IsText n format t → (s ≡ t) ↔ (m ≡ n)
-texts_tell m n format s t two p q = (
+pub texts_equal_iff : (m n : ℤ) (format : Format) (s t : List ℕ) → 2 ≤ format.mantissa_radix → IsText m format s → IsText n format t → (s ≡ t) ↔ (m ≡ n)
+texts_equal_iff m n format s t two p q = (
   λ same. equal_from_IsText m n format _ (rw same at p) q,
   λ same. texts_unique n format s t two (rw same at p) q,
 )

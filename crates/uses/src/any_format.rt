@@ -4,7 +4,7 @@ ghost use Rattle.std.specs.Prelude.{◌≡◌, ◌↔◌, ◌≤◌, IsSome, IfS
 ghost use Rattle.lexical_num.specs.Size.{size_in};
 ghost use Rattle.lexical_write_integer.specs.Text.{IsText};
 
-use lexical_write_integer::laws::{size_is_enough, texts_tell};
+use lexical_write_integer::laws::{size_is_enough, texts_equal_iff};
 use lexical_write_integer::{
     BUFFER_SIZE, NumberFormat, Options, ToLexicalWithOptions, WriteOptions,
 };
@@ -61,6 +61,6 @@ pub fn have_same_text(a: i64, b: i64, format: &NumberFormat) -> bool
     let mut second = [0; BUFFER_SIZE];
     let first = text_of_i64(a, format, &mut first);
     let second = text_of_i64(b, format, &mut second);
-    texts_tell(a, b, format, first, second);
+    texts_equal_iff(a, b, format, first, second);
     first == second
 }
