@@ -13,7 +13,7 @@ within : (g : _) (c : After-grouped_len g) → c.from-sign.result + c.grouped_le
 within g c =
     let room = g.Self.FormattedSize.within_buffer in
     let radix = rw c.mantissa_radix-radix.ensures.value at c.mantissa_radix-radix.ensures.radix in
-    let enough = g.met.Self.ToLexicalWithOptions.size_is_enough (g.Self.LexicalInteger.number c.args.self) c.args.format.now radix c.in_range.ensures.at_least c.in_range.ensures.at_most in
+    let enough = g.met.Self.ToLexicalWithOptions.size_suffices (g.Self.LexicalInteger.number c.args.self) c.args.format.now radix c.in_range.ensures.at_least c.in_range.ensures.at_most in
     omega (arith, need_is g c, enough, size_in-within g.Self.FormattedSize.FORMATTED_SIZE g.Self.FormattedSize.FORMATTED_SIZE_DECIMAL c.args.format.now room.fits room.some_decimal room.fits_decimal)
 
 pub overflow_add-result : goal.overflow_add-result
