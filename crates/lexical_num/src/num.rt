@@ -304,7 +304,8 @@ impl LexicalInteger for isize {
     }
 }
 
-/// An unsigned integer type, with the arithmetic that is needed to write digits.
+/// An unsigned integer type, with the arithmetic that is needed to write digits. The writers of
+/// `lexical_write_integer` are generic over it, such as `compact_counted`.
 pub trait UnsignedInteger: LexicalInteger {
     // The value as a natural number without a range.
     ghost magnitude: { Self → ℕ };
