@@ -5,7 +5,7 @@ use Rattle.lexical_write_integer.proofs.Required.{size_in-within}
 use Rattle.lexical_write_integer.proofs.api.ToLexicalWithOptions.required_len.Goals as goal
 use Rattle.lexical_write_integer.proofs.api.ToLexicalWithOptions.required_len.Goals.{After-grouped_len}
 
--- the sum is the need, by the cases of the radix and the sign
+-- the sum is the required length, in each case of the radix and the sign
 need_is : (g : _) (c : After-grouped_len g)
     → c.from-sign.result + c.grouped_len.result ≡ need (g.Self.LexicalInteger.number c.args.self) g.Self.LexicalInteger.DECIMAL_WIDTH c.args.format.now
 need_is g c = search rules
