@@ -1,5 +1,6 @@
 -- Blocks of digits in a buffer: how they join, and how the digits of a number are made of them.
-use Rattle.std.proofs.Common.{◌≡◌, ℕ, ◌+◌, ◌*◌, ◌/◌, ◌%◌, ◌^◌, ◌<◌, ◌≤◌, List, [], ◌∷◌, ◌++◌, length, take, drop, set, map, refl, sym, ap, ◌∙◌, arith, add-zero, add_assoc, append_assoc, take-take}
+use Rattle.std.proofs.Common.{◌≡◌, ℕ, ◌+◌, ◌*◌, ◌/◌, ◌%◌, ◌^◌, ◌<◌, ◌≤◌, List, [], ◌∷◌, ◌++◌, length, take, drop, set, map, refl}
+use Rattle.std.proofs.Common.{sym, ap, subst, ◌∙◌, arith, add-zero, add_assoc, append_assoc, take-take}
 use Rattle.std.proofs.Math.Nat.{pow-zero, one-le-pow, mod-one, mod-lt, div-one, div-add-mod', add-mul, mul_assoc}
 use Rattle.std.proofs.lemmas.List.{map-append, append-nil, drop_all, drop-set, take-set}
 use Rattle.std.proofs.lemmas.List.Elements.{All-nil}
@@ -85,6 +86,11 @@ IsWrittenBack-start {r} {n} = record {
   left = rw (pow-zero, div-one) refl;
   block = WritesBlock-none n;
 }
+
+-- an equal index
+pub IsWrittenBack-at : {r n taken rest at at' : ℕ} {before after : List ℕ}
+    → at ≡ at' → IsWrittenBack r n taken rest at before after → IsWrittenBack r n taken rest at' before after
+IsWrittenBack-at {r} {n} {taken} {rest} {before = before} {after} same w = subst (λ k. IsWrittenBack r n taken rest k before after) same w
 
 -- the digits that remain and those that are written are the number's
 pub IsWrittenBack-counts : {r n taken rest at : ℕ} {before after : List ℕ}

@@ -11,46 +11,62 @@ use Rattle.lexical_write_integer.specs.Table.{BeginsWithPairs}
 use Rattle.lexical_write_integer.proofs.Buffers.Blocks.{WritesBlock-one, WritesBlock-front}
 use Rattle.lexical_write_integer.proofs.Powers.{pow-two, pow-one}
 
--- the tables are made of the characters that the writers write
+-- the tables have the characters of digits that the writers use
 same_characters : (digit : ℕ) → Tables.digit_char digit ≡ digit_char digit
 same_characters digit = refl
 
--- of a radix by another name
+-- a radix that equals another has its table
 pub begins_in_arm : {radix r : ℕ} {table : List ℕ} → BeginsWithPairs radix table → radix ≡ r → BeginsWithPairs r table
 begins_in_arm {table = table} t is = subst (λ k. BeginsWithPairs k table) is t
 
 pub length-table : (r : ℕ) (table : List ℕ) → BeginsWithPairs r table → 2 * (r * r) ≤ length table
 length-table r table t = omega (arith, length-pairs r, ap length t.first, length-take (2 * (r * r)) table)
 
-pair_first : (r place : ℕ) (table : List ℕ) → BeginsWithPairs r table → place % 2 ≡ 0 → place / 2 < r * r → get_or table place 0 ≡ digit_char (place / 2 / r)
-pair_first r place table t even within =
-    let twice : 2 * (place / 2) ≡ place = omega arith in
-    sym (get_or-take (2 * (r * r)) table place 0 (omega arith)) ∙ ap (λ list. get_or list place 0) t.first ∙ rw twice at (slice_index-pairs_first r (place / 2) within) ∙ same_characters (place / 2 / r)
+pair_first : (r index : ℕ) (table : List ℕ)
+    → BeginsWithPairs r table → index % 2 ≡ 0 → index / 2 < r * r → get_or table index 0 ≡ digit_char (index / 2 / r)
+pair_first r index table t even within =
+    let twice : 2 * (index / 2) ≡ index = omega arith in
+    sym (get_or-take (2 * (r * r)) table index 0 (omega arith))
+    ∙ ap (λ list. get_or list index 0) t.first
+    ∙ rw twice at (slice_index-pairs_first r (index / 2) within)
+    ∙ same_characters (index / 2 / r)
 
-pub pair_second : (r place : ℕ) (table : List ℕ) → BeginsWithPairs r table → place % 2 ≡ 0 → place / 2 < r * r → get_or table (place + 1) 0 ≡ digit_char (place / 2 % r)
-pair_second r place table t even within =
-    let twice : 2 * (place / 2) ≡ place = omega arith in
-    sym (get_or-take (2 * (r * r)) table (place + 1) 0 (omega arith)) ∙ ap (λ list. get_or list (place + 1) 0) t.first ∙ rw twice at (slice_index-pairs_second r (place / 2) within) ∙ same_characters (place / 2 % r)
+pub pair_second : (r index : ℕ) (table : List ℕ)
+    → BeginsWithPairs r table → index % 2 ≡ 0 → index / 2 < r * r → get_or table (index + 1) 0 ≡ digit_char (index / 2 % r)
+pair_second r index table t even within =
+    let twice : 2 * (index / 2) ≡ index = omega arith in
+    sym (get_or-take (2 * (r * r)) table (index + 1) 0 (omega arith))
+    ∙ ap (λ list. get_or list (index + 1) 0) t.first
+    ∙ rw twice at (slice_index-pairs_second r (index / 2) within)
+    ∙ same_characters (index / 2 % r)
 
 -- two digits, the last one first
-pub WritesBlock-two : (r n at : ℕ) (list : List ℕ) → 0 < r → n < r * r → at + 2 ≤ length list → WritesBlock r 2 n at list (set (set list (at + 1) (digit_char (n % r))) at (digit_char (n / r)))
+pub WritesBlock-two : (r n at : ℕ) (list : List ℕ) → 0 < r → n < r * r → at + 2 ≤ length list
+    → WritesBlock r 2 n at list (set (set list (at + 1) (digit_char (n % r))) at (digit_char (n / r)))
 WritesBlock-two r n at list some small room =
     let between = set list (at + 1) (digit_char (n % r)) in
     let whole : n / r * r ^ 1 + n % r ≡ n = rw pow-one (div-add-mod' n r) in
     let last = WritesBlock-one r (n % r) (at + 1) list (mod-lt n some) (omega arith) in
-    let first = WritesBlock-one r (n / r) at between (div_below n r r some small) (omega (arith, length-set list (at + 1) (digit_char (n % r)))) in
+    let same = length-set list (at + 1) (digit_char (n % r)) in
+    let first = WritesBlock-one r (n / r) at between (div_below n r r some small) (omega (arith, same)) in
     rw whole at (WritesBlock-front last first)
 
-pub WritesBlock-pair : (r place at : ℕ) (table list : List ℕ) → 0 < r → BeginsWithPairs r table → place % 2 ≡ 0 → place / 2 < r * r → at + 2 ≤ length list → WritesBlock r 2 (place / 2) at list (set (set list (at + 1) (get_or table (place + 1) 0)) at (get_or table place 0))
-WritesBlock-pair r place at table list some t even within room =
-    rw (pair_first r place table t even within, pair_second r place table t even within) (WritesBlock-two r (place / 2) at list some within room)
+pub WritesBlock-pair : (r index at : ℕ) (table list : List ℕ)
+    → 0 < r → BeginsWithPairs r table → index % 2 ≡ 0 → index / 2 < r * r → at + 2 ≤ length list
+    → WritesBlock r 2 (index / 2) at list (set (set list (at + 1) (get_or table (index + 1) 0)) at (get_or table index 0))
+WritesBlock-pair r index at table list some t even within room =
+    let first = pair_first r index table t even within in
+    let second = pair_second r index table t even within in
+    rw (first, second) (WritesBlock-two r (index / 2) at list some within room)
 
--- the place of a pair is twice its number
+-- the index of a pair is twice its number
 pub half : (k : ℕ) → 2 * k / 2 ≡ k
 half k = omega arith
 
 -- the two pairs of four digits, the last pair first
-pub WritesBlock-pairs : (r n square at : ℕ) (before between after : List ℕ) → square ≡ r * r → WritesBlock r 2 (2 * (n % square) / 2) (at + 2) before between → WritesBlock r 2 (2 * (n / square) / 2) at between after → WritesBlock r 4 n at before after
-WritesBlock-pairs r n square at before between after is last first =
+pub WritesBlock-pairs : (r n square : ℕ) {at : ℕ} {before between after : List ℕ}
+    → square ≡ r * r → WritesBlock r 2 (2 * (n % square) / 2) (at + 2) before between → WritesBlock r 2 (2 * (n / square) / 2) at between after
+    → WritesBlock r 4 n at before after
+WritesBlock-pairs r n square is last first =
     let whole : n / square * r ^ 2 + n % square ≡ n = rw (pow-two, ← is) (div-add-mod' n square) in
     rw whole at (WritesBlock-front (rw half at last) (rw half at first))

@@ -1,7 +1,9 @@
--- Digits that are put into their groups byte by byte, the last one first.
-use Rattle.std.proofs.Common.{◌≡◌, ℕ, zero, suc, ◌+◌, ◌-◌, ◌*◌, ◌/◌, ◌<◌, ◌≤◌, List, ◌∷◌, ◌++◌, length, take, drop, get_or, set, inl, inr, refl, sym, ap, ◌∙◌, arith}
+-- Digits that are put into groups in place, byte by byte from the last.
+use Rattle.std.proofs.Common.{◌≡◌, ℕ, zero, suc, ◌+◌, ◌-◌, ◌*◌, ◌/◌, ◌<◌, ◌≤◌, List, ◌∷◌, ◌++◌, length, take, drop, get_or, set}
+use Rattle.std.proofs.Common.{inl, inr, refl, sym, ap, ◌∙◌, arith}
 use Rattle.std.proofs.lemmas.Bool.{cases_eq}
-use Rattle.std.proofs.lemmas.List.{drop_at, drop_more, drop-set, get_or_append_left, get_or-take, length-append, length-drop, length-take-le, take-set-le, take-take}
+use Rattle.std.proofs.lemmas.List.{drop_at, drop_more, drop-set, get_or_append_left, get_or-take, length-append, length-drop}
+use Rattle.std.proofs.lemmas.List.{length-take-le, take-set-le, take-take}
 use Rattle.std.proofs.lemmas.Nat.{div-mul-add, le-div}
 use Rattle.lexical_write_integer.specs.Buffer.{Front}
 use Rattle.lexical_write_integer.specs.Groups.{in_groups, from_right}
@@ -56,7 +58,7 @@ IsSpread-left {grouping} {count} zero {end} {in_group} h due w =
     ]
 IsSpread-left (suc left) h due w = omega arith
 
--- the byte at its place
+-- a byte is written at its index
 placed-more : (end byte : ℕ) (between after : List ℕ) → 0 < end → end ≤ length between → end ≤ length after
     → drop end between ≡ drop end after → get_or after (end - 1) 0 ≡ byte
     → drop (end - 1) (set between (end - 1) byte) ≡ drop (end - 1) after

@@ -4,7 +4,8 @@ use Rattle.lexical_num.specs.Digit.{digit_char}
 use Rattle.lexical_write_integer.specs.Buffer.{WritesBlock}
 use Rattle.lexical_write_integer.specs.DigitCount.{digit_count}
 use Rattle.lexical_write_integer.specs.LoopTurns.{takes_one}
-use Rattle.lexical_write_integer.proofs.Buffers.Blocks.{IsWrittenBack, IsWrittenBack-start, IsWrittenBack-counts, IsWrittenBack-more, IsWrittenBack-last, IsDigits-block, WritesBlock-one}
+use Rattle.lexical_write_integer.proofs.Buffers.Blocks.{IsWrittenBack, IsWrittenBack-start, IsWrittenBack-at, IsWrittenBack-counts}
+use Rattle.lexical_write_integer.proofs.Buffers.Blocks.{IsWrittenBack-more, IsWrittenBack-last, IsDigits-block, WritesBlock-one}
 use Rattle.lexical_write_integer.proofs.DigitCounts.{digit_count-one}
 use Rattle.lexical_write_integer.proofs.Loops.Divisions.{IsDivided-start, IsDivided-room, IsDivided-more, TakesDigits-end}
 use Rattle.lexical_write_integer.proofs.Loops.Records.{compact_notes-are}
@@ -15,14 +16,18 @@ use Rattle.lexical_write_integer.proofs.compact.write_to_end.Goals.{In-loop-rest
 long : (g : _) (c : In-loop-rest g) → g.row.RADIX ^ 1 ≤ c.loop-rest.rest
 long g c = rw pow-one (omega (arith, c.loop-rest-test.true))
 
--- the digit of a turn has room, and more stand before it
+-- the next digit has room, and so have those before it
 room : (g : _) (c : In-loop-rest g) → length c.args.buffer.now - c.loop-rest.index + 1 < digit_count g.row.RADIX c.args.value
 room g c = IsDivided-room c.requires.radix.at_least_two c.loop-rest.invariant.divided (long g c)
 
-block : (g : _) (c : In-loop-rest g) → WritesBlock g.row.RADIX 1 (c.loop-rest.rest % g.row.RADIX ^ 1) (c.loop-rest.index - 1) c.loop-rest.buffer (set c.loop-rest.buffer (c.loop-rest.index - 1) (digit_char (c.loop-rest.rest % c.from-radix.result)))
+block : (g : _) (c : In-loop-rest g)
+    → WritesBlock g.row.RADIX 1 (c.loop-rest.rest % g.row.RADIX ^ 1) (c.loop-rest.index - 1) c.loop-rest.buffer
+    (set c.loop-rest.buffer (c.loop-rest.index - 1) (digit_char (c.loop-rest.rest % c.from-radix.result)))
 block g c =
     let some : 0 < g.row.RADIX = omega arith in
-    rw (pow-one, c.from-radix.ensures) (WritesBlock-one g.row.RADIX (c.loop-rest.rest % g.row.RADIX) (c.loop-rest.index - 1) c.loop-rest.buffer (mod-lt c.loop-rest.rest some) (omega (arith, room g c)))
+    rw (pow-one, c.from-radix.ensures)
+    (WritesBlock-one g.row.RADIX (c.loop-rest.rest % g.row.RADIX) (c.loop-rest.index - 1) c.loop-rest.buffer
+    (mod-lt c.loop-rest.rest some) (omega (arith, room g c)))
 
 pub loop-rest-init : goal.loop-rest-init
 loop-rest-init g c = record {
@@ -43,7 +48,7 @@ loop-rest-preserved g c =
     record {
       within = omega arith;
       written = rw order at (IsWrittenBack-more two (long g c') left
-          (subst (λ k. IsWrittenBack g.row.RADIX c.args.value taken c.loop-rest.rest k c.args.buffer.now c.loop-rest.buffer) place c.loop-rest.invariant.written) (rw (← c.digit_to_char.ensures) at (block g c')));
+          (IsWrittenBack-at place c.loop-rest.invariant.written) (rw (← c.digit_to_char.ensures) at (block g c')));
       divided = rw turn at (IsDivided-more two c.loop-rest.invariant.divided (long g c') left c.tick.ensures);
     }
 
@@ -60,9 +65,11 @@ returns-clause-digits g c =
     let two = c.requires.radix.at_least_two in
     let counts = IsWrittenBack-counts two c.loop-rest.invariant.written in
     let place : c.loop-rest.index ≡ c.loop-rest.index - 1 + 1 = omega (arith, counts, single g c') in
-    IsDigits-block g.row.RADIX c.args.value (1 + (length c.args.buffer.now - c.loop-rest.index)) (c.loop-rest.index - 1) _ _ two (omega (arith, counts, single g c')) (omega (arith, place))
-    (IsWrittenBack-last (subst (λ k. IsWrittenBack g.row.RADIX c.args.value (length c.args.buffer.now - c.loop-rest.index) c.loop-rest.rest k c.args.buffer.now c.loop-rest.buffer) place c.loop-rest.invariant.written)
-    (rw c.digit_to_char-2.ensures (WritesBlock-one g.row.RADIX c.loop-rest.rest (c.loop-rest.index - 1) c.loop-rest.buffer (omega arith) (omega (arith, place)))))
+    IsDigits-block g.row.RADIX c.args.value (1 + (length c.args.buffer.now - c.loop-rest.index)) (c.loop-rest.index - 1) _ _ two
+    (omega (arith, counts, single g c')) (omega (arith, place))
+    (IsWrittenBack-last (IsWrittenBack-at place c.loop-rest.invariant.written)
+    (rw c.digit_to_char-2.ensures
+    (WritesBlock-one g.row.RADIX c.loop-rest.rest (c.loop-rest.index - 1) c.loop-rest.buffer (omega arith) (omega (arith, place)))))
 
 pub returns-clause-notes : goal.returns-clause-notes
 returns-clause-notes g c =

@@ -25,11 +25,13 @@ overflow_add-taken g c =
 
 pub loop-power-smaller : goal.loop-power-smaller
 loop-power-smaller g c =
-    left-smaller c.requires.radix.at_least_two c.requires.step (long g (goal.at.loop-power-smaller g c).In-loop-power) (rw c.in-Some.ensures.power at c.divide_and_record-left.ensures.left)
+    left-smaller c.requires.radix.at_least_two c.requires.step (long g (goal.at.loop-power-smaller g c).In-loop-power)
+    (rw c.in-Some.ensures.power at c.divide_and_record-left.ensures.left)
 
 pub loop-power-preserved : goal.loop-power-preserved
 loop-power-preserved g c =
-    IsDivided-more c.requires.radix.at_least_two c.loop-power.invariant (long g (goal.at.loop-power-preserved g c).In-loop-power) (rw c.in-Some.ensures.power at c.divide_and_record-left.ensures.left) c.divide_and_record-left.ensures.notes
+    IsDivided-more c.requires.radix.at_least_two c.loop-power.invariant (long g (goal.at.loop-power-preserved g c).In-loop-power)
+    (rw c.in-Some.ensures.power at c.divide_and_record-left.ensures.left) c.divide_and_record-left.ensures.notes
 
 pub returns : goal.returns
 returns g c =

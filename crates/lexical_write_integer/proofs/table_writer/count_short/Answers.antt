@@ -14,7 +14,8 @@ at_once r (inr other) = rw (other.1) refl
 by_turns : (c : After-take_last_digit) → is_counted_at_once c.args.radix ≡ false
 by_turns c =
     let great = c.requires.great in
-    not_at_once c.args.radix (λ same. omega (arith, great, same)) (λ same. omega (arith, great, same)) (λ same. omega (arith, great, same)) (λ same. omega (arith, great, same)) c.if-radix-eq16.false c.if-radix-eq32.false
+    not_at_once c.args.radix (λ same. omega (arith, great, same)) (λ same. omega (arith, great, same))
+    (λ same. omega (arith, great, same)) (λ same. omega (arith, great, same)) c.if-radix-eq16.false c.if-radix-eq32.false
 
 short : (c : After-take_last_digit) → c.args.value < c.args.radix ^ 4
 short c = omega (arith, c.requires.short, pow-le-pow_right {n = c.args.radix} (omega (arith, c.requires.great)) {i = 2} {j = 4} (omega arith))
@@ -32,7 +33,12 @@ pub returns-else-value-radix-clause-notes : goal.returns-else-value-radix-clause
 returns-else-value-radix-clause-notes c = none_noted c.args.radix c.args.value c.args.turns.now (at_once c.args.radix c.then-radix-eq16.either)
 
 pub overflow_add-result : goal.overflow_add-result
-overflow_add-result c = omega (arith, c.take_last_digit.ensures.1.count, digit_count-le_bits c.args.radix c.args.value 32 c.requires.radix.at_least_two (omega arith) (omega (arith, c.ranges.value)))
+overflow_add-result c =
+    omega (
+      arith,
+      c.take_last_digit.ensures.1.count,
+      digit_count-le_bits c.args.radix c.args.value 32 c.requires.radix.at_least_two (omega arith) (omega (arith, c.ranges.value)),
+    )
 
 pub returns-clause-count : goal.returns-clause-count
 returns-clause-count c =

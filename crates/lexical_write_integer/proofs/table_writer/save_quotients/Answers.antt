@@ -15,11 +15,19 @@ long g c = rw (← power_is g c) (omega (arith, c.loop-rest-test.true))
 
 few : (g : _) (c : In-loop-rest g) → c.loop-rest.count < length c.args.kept.now
 few g c =
-    omega (arith, IsDivided-room c.requires.radix.at_least_two c.loop-rest.invariant.divided (long g c), digit_count-le g.row.R (c.args.value) (4 * (length c.args.kept.now + 1)) (omega arith) c.requires.room)
+    omega (
+      arith,
+      IsDivided-room c.requires.radix.at_least_two c.loop-rest.invariant.divided (long g c),
+      digit_count-le g.row.R (c.args.value) (4 * (length c.args.kept.now + 1)) (omega arith) c.requires.room,
+    )
 
 narrow : (g : _) (c : In-loop-rest g) → c.loop-rest.count < 16
 narrow g c =
-    omega (arith, c.loop-rest.invariant.divided.fewer, digit_count-le_bits g.row.R c.args.value 64 c.requires.radix.at_least_two (omega arith) (omega (arith, c.ranges.value)))
+    omega (
+      arith,
+      c.loop-rest.invariant.divided.fewer,
+      digit_count-le_bits g.row.R c.args.value 64 c.requires.radix.at_least_two (omega arith) (omega (arith, c.ranges.value)),
+    )
 
 pub loop-rest-init : goal.loop-rest-init
 loop-rest-init g c = record { divided = IsDivided-start; kept = λ k h. absurd (omega arith) }
@@ -58,7 +66,8 @@ short : (g : _) (c : After-loop-rest g) → c.loop-rest.rest < g.row.R ^ 4
 short g c = rw (pow-four, ← c.from-power.ensures) (omega arith)
 
 pub overflow_cast-result : goal.overflow_cast-result
-overflow_cast-result g c = omega (arith, short g (goal.at.overflow_cast-result g c).After-loop-rest, power-small g.row.R 4 c.requires.radix.at_most_36 takes_four)
+overflow_cast-result g c =
+    omega (arith, short g (goal.at.overflow_cast-result g c).After-loop-rest, power-small g.row.R 4 c.requires.radix.at_most_36 takes_four)
 
 pub returns-clause-taken : goal.returns-clause-taken
 returns-clause-taken g c =

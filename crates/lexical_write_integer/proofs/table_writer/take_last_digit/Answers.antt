@@ -15,7 +15,9 @@ returns-then-left-gt0 c =
       | inl less ↦ absurd (omega (arith, div-eq_of_lt less))
       | inr more ↦ more
     ] in
-    (c.args.number / c.args.radix, TakesDigits-once c.requires.radix.at_least_two takes_one (rw pow-one long) c.requires.short (ap (λ k. c.args.number / k) radix) (rw c.from.ensures at c.tick.ensures))
+    let quotient = ap (λ k. c.args.number / k) radix in
+    let notes = rw c.from.ensures at c.tick.ensures in
+    (c.args.number / c.args.radix, TakesDigits-once c.requires.radix.at_least_two takes_one (rw pow-one long) c.requires.short quotient notes)
 
 pub returns-else-left-gt0 : goal.returns-else-left-gt0
 returns-else-left-gt0 c =

@@ -16,7 +16,10 @@ long g c =
     let divided = c.loop-next.invariant.divided in
     let two = c.args.table.now.is_radix.at_least_two in
     elim (cases_lt c.loop-next.left (g.row.R ^ 4)) [
-      | inl less ↦ absurd (omega (arith, within g c, digit_count-le g.row.R c.loop-next.left 4 (omega arith) less, digit_count-left g.row.R c.args.value (4 * c.loop-next.next-index) c.loop-next.left two divided.fewer divided.rest))
+      | inl less ↦
+          let few = digit_count-le g.row.R c.loop-next.left 4 (omega arith) less in
+          let counts = digit_count-left g.row.R c.args.value (4 * c.loop-next.next-index) c.loop-next.left two divided.fewer divided.rest in
+          absurd (omega (arith, within g c, few, counts))
       | inr more ↦ more
     ]
 
@@ -24,7 +27,10 @@ next_is : (g : _) (c : In-loop-next g) → get_or c.args.kept.now c.loop-next.ne
 next_is g c =
     let i = c.loop-next.next-index in
     let order : 4 * (i + 1) ≡ 4 + 4 * i = omega arith in
-    c.requires.kept i c.loop-next-test.true ∙ ap (λ k. c.args.value / g.row.R ^ k) order ∙ sym (div-pow_more g.row.R c.args.value 4 (4 * i)) ∙ ap (λ k. k / g.row.R ^ 4) (sym c.loop-next.invariant.divided.rest)
+    c.requires.kept i c.loop-next-test.true
+    ∙ ap (λ k. c.args.value / g.row.R ^ k) order
+    ∙ sym (div-pow_more g.row.R c.args.value 4 (4 * i))
+    ∙ ap (λ k. k / g.row.R ^ 4) (sym c.loop-next.invariant.divided.rest)
 
 pub loop-next-init : goal.loop-next-init
 loop-next-init g c = record { divided = IsDivided-start; written = IsWrittenBack-start; place = omega arith; room = refl }

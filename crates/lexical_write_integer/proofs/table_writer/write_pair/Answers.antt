@@ -10,4 +10,5 @@ bounds-table-index-2 g c = omega (arith, c.requires.pair, length-table g.row.R c
 
 pub returns : goal.returns
 returns g c =
-    WritesBlock-pair g.row.R c.args.index c.args.at c.args.table.now.pairs.now c.args.buffer.now (omega (arith, c.args.table.now.is_radix)) c.args.table.now.begins c.requires.even c.requires.pair c.requires.room
+    WritesBlock-pair g.row.R c.args.index c.args.at c.args.table.now.pairs.now c.args.buffer.now
+    (omega (arith, c.args.table.now.is_radix)) c.args.table.now.begins c.requires.even c.requires.pair c.requires.room

@@ -7,11 +7,15 @@ use Rattle.lexical_write_integer.proofs.api.ToLexical.write_text.Goals as goal
 
 pub write_sign-sign-requires : goal.write_sign-sign-requires
 write_sign-sign-requires g c =
-    omega (arith, c.requires, need-pos (g.Self.LexicalInteger.number c.args.self) g.Self.LexicalInteger.DECIMAL_WIDTH c.args.format.now g.met.Self.LexicalInteger.decimal_width.some)
+    let number = g.Self.LexicalInteger.number c.args.self in
+    let width = g.Self.LexicalInteger.DECIMAL_WIDTH in
+    omega (arith, c.requires, need-pos number width c.args.format.now g.met.Self.LexicalInteger.decimal_width.some)
 
 pub group_digits-requires-clause-room : goal.group_digits-requires-clause-room
 group_digits-requires-clause-room g c =
-    omega (arith, grouped_length-le_need (g.Self.LexicalInteger.number c.args.self) _ _ c.args.format.now _ _ g.met.Self.LexicalInteger.decimal_width c.in_range.ensures.at_least c.in_range.ensures.at_most c.write_magnitude-count.ensures.digits.count)
+    let width = g.met.Self.LexicalInteger.decimal_width in
+    let range = c.in_range.ensures in
+    omega (arith, grouped_length-le_need c.args.format.now width range.at_least range.at_most c.write_magnitude-count.ensures.digits.count)
 
 pub returns-clause-text : goal.returns-clause-text
 returns-clause-text g c =
@@ -26,4 +30,7 @@ returns-clause-text g c =
 
 pub returns-clause-short : goal.returns-clause-short
 returns-clause-short g c =
-    omega (arith, c.write_sign-sign.ensures.count, c.group_digits.ensures.total, grouped_length-le_need (g.Self.LexicalInteger.number c.args.self) _ _ c.args.format.now _ _ g.met.Self.LexicalInteger.decimal_width c.in_range.ensures.at_least c.in_range.ensures.at_most c.write_magnitude-count.ensures.digits.count)
+    let width = g.met.Self.LexicalInteger.decimal_width in
+    let range = c.in_range.ensures in
+    let fits = grouped_length-le_need c.args.format.now width range.at_least range.at_most c.write_magnitude-count.ensures.digits.count in
+    omega (arith, c.write_sign-sign.ensures.count, c.group_digits.ensures.total, fits)
