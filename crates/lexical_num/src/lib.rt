@@ -36,8 +36,6 @@ pub mod options;
 
 // Laws for callers.
 pub mod laws;
-#[cfg(test)]
-mod tests;
 
 pub use constants::{BUFFER_SIZE, FormattedSize};
 pub use digit::digit_to_char;
