@@ -8,6 +8,7 @@ pub mod answers;
 pub mod any_format;
 pub mod arena;
 pub mod column;
+pub mod conditions;
 pub mod csv_row;
 pub mod date;
 pub mod date_time;

@@ -1,0 +1,63 @@
+// The loop that reads bytes and answers lines.
+
+ghost use Rattle.std.specs.Prelude.{◌≡◌, ◌⊎◌, ◌+◌, ◌++◌, IsTrue, IfOk, OnOk, OnErr};
+ghost use Rattle.lexical_lines.specs.Answer.{AnswersAll, AnswersEnded};
+ghost use Rattle.lexical_lines.specs.Running.{added, TellsAllGood, BreaksOff};
+
+use crate::answerer::Answerer;
+use crate::sink::ByteSink;
+use crate::source::ByteSource;
+use std::io;
+
+/// Reads lines from `source`, and writes the answer to each line to `sink` before it reads the next
+/// byte. Returns whether all lines are valid. `answers_to` in `crates/uses/src/answers.rt` is an
+/// example.
+///
+/// Each newline ends a line. If there are bytes after the last newline, they are a line too. A valid
+/// line has at most 64 bytes: the name of one of the ten integer types, a space, an optional `+`, a
+/// radix from `2` to `36`, a space, and a decimal number of the type. The number may have leading
+/// zeros, and if the type is signed, a `-` before its digits.
+///
+/// The answer to a valid line is the text of the number in the radix. If the line has the `+`, the
+/// text of a number that is not negative begins with that sign. The answer to any other line is
+/// `bad line ` and the number of the line; the first line is line 1. Each answer ends with a newline.
+///
+/// The first error of a device ends the run, and is returned. If the sink takes no bytes, the error is
+/// of kind `WriteZero`.
+pub fn run<S: ByteSource, K: ByteSink>(source: &mut S, sink: &mut K) -> io::Result<bool>
+    // The run only appends to what the source has yielded and to what the sink has taken.
+    ensures given { S.given source.new
+        ≡ S.given source.old ++ added (S.given source.old) (S.given source.new) }
+    ensures taken { K.taken sink.new
+        ≡ K.taken sink.old ++ added (K.taken sink.old) (K.taken sink.new) }
+    ensures kept_source { S.keeps source.old source.new }
+    ensures kept_sink { K.keeps sink.old sink.new }
+
+    // If the run succeeds, no device failed, the source reported its end, and all lines are answered.
+    ensures ok_faults { OnOk result ((S.faults source.new ≡ S.faults source.old)
+        × (K.faults sink.new ≡ K.faults sink.old)) }
+    ensures ok_end { OnOk result (IsTrue (S.is_ended source.new)) }
+    ensures ok_answers { OnOk result
+        (let bytes = added (S.given source.old) (S.given source.new) in
+        let put = added (K.taken sink.old) (K.taken sink.new) in
+        AnswersAll bytes put) }
+    ensures ok_good { IfOk result (λ all_good.
+        let bytes = added (S.given source.old) (S.given source.new) in
+        TellsAllGood bytes all_good) }
+
+    // If the run fails, either the source failed, and all lines that ended are answered, or the sink
+    // failed during the answer to the last line.
+    ensures err { OnErr result
+        (let bytes = added (S.given source.old) (S.given source.new) in
+        let put = added (K.taken sink.old) (K.taken sink.new) in
+        ((S.faults source.new ≡ S.faults source.old + 1) × (K.faults sink.new ≡ K.faults sink.old)
+        × AnswersEnded bytes put)
+        ⊎ ((S.faults source.new ≡ S.faults source.old) × (K.faults sink.new ≡ K.faults sink.old + 1)
+        × BreaksOff (S.is_ended source.new) bytes put)) }
+{
+    let mut answerer = Answerer::new();
+    while let Some(byte) = source.next()? {
+        answerer.push(byte, sink)?;
+    }
+    answerer.finish(sink)
+}
