@@ -16,7 +16,7 @@ use lexical_num::format_builder::NumberFormatBuilder;
 use lexical_num::options::Options;
 use lexical_write_integer::ToLexicalWithOptions;
 use lexical_write_integer::buffer::copy_to_front;
-use lexical_write_integer::laws::size_is_enough;
+use lexical_write_integer::laws::size_suffices;
 
 /// The length of a buffer that is long enough for every answer: `bad line `, the text of a number,
 /// and a newline.
@@ -97,7 +97,7 @@ fn write_line<T: ToLexicalWithOptions>(
     requires { BUFFER_SIZE + 1 ≤ length buffer.old }
     ensures { Writes (WithNewline (IsText (T.number number) format.now)) buffer.old buffer.new result }
 {
-    size_is_enough(number, format);
+    size_suffices(number, format);
     let room = &mut buffer[..BUFFER_SIZE];
     let end = number.write_lexical_with_options(room, format, options);
     buffer[end] = b'\n';

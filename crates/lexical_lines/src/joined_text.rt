@@ -13,7 +13,7 @@ use lexical_num::num::LexicalInteger;
 use lexical_num::options::WriteOptions;
 use lexical_write_integer::ToLexicalWithOptions;
 use lexical_write_integer::buffer::front_mut;
-use lexical_write_integer::laws::size_is_enough;
+use lexical_write_integer::laws::size_suffices;
 
 /// Writes the texts of the values, with the separator `mark` between adjacent texts, to the start of
 /// `buffer`, and returns the number of bytes written: 0 if there are no values.
@@ -42,7 +42,7 @@ pub fn write_joined<T: ToLexicalWithOptions>(
             buffer[count] = mark;
             count += 1;
         }
-        size_is_enough(*value, format);
+        size_suffices(*value, format);
         let room = &mut buffer[count..count + size];
         count += value.write_lexical_with_options(room, format, options);
     }

@@ -9,6 +9,8 @@ pub record IsDecimalWidth (least greatest : ℤ) (width : ℕ) : Type 0 where
   pub enough : (n : ℤ) → least ≤ℤ n → n ≤ℤ greatest → unsigned_abs n < 10 ^ width
   pub needed : 10 ^ (width - 1) ≤ unsigned_abs greatest
 
+-- ---- a proof, which is here since ghost members cite it
+
 -- it is enough that neither end has more digits, and that `greatest` has `width`
 pub is_decimal_width : {least greatest : ℤ} {width : ℕ} → 1 ≤ width → unsigned_abs least < 10 ^ width
     → unsigned_abs greatest < 10 ^ width → 10 ^ (width - 1) ≤ unsigned_abs greatest → IsDecimalWidth least greatest width

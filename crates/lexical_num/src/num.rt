@@ -195,7 +195,7 @@ impl LexicalInteger for i8 {
     fn in_range(self) {}
 
     fn is_negative(self) -> bool {
-        // Neither 0 nor any number above it is.
+        // Neither 0 nor a larger number is negative.
         self < 0
     }
 }
@@ -304,7 +304,8 @@ impl LexicalInteger for isize {
     }
 }
 
-/// An unsigned integer type, with the arithmetic that is needed to write digits.
+/// An unsigned integer type, with the arithmetic that is needed to write digits. The writers of
+/// `lexical_write_integer` are generic over it, such as `compact_counted`.
 pub trait UnsignedInteger: LexicalInteger {
     // The value as a natural number without a range.
     ghost magnitude: { Self → ℕ };

@@ -1,4 +1,4 @@
--- The tables that the decimal counts look into.
+-- The tables that the decimal digit counts read.
 use Rattle.std.proofs.Common.{◌≡◌, ℕ, zero, suc, ◌+◌, ◌-◌, ◌*◌, ◌/◌, ◌^◌, ◌<◌, ◌≤◌, Bool, true, ◌&&◌, ◌||◌, ltb, leb, eqb, List}
 use Rattle.std.proofs.Common.{[], ◌∷◌, length, map, get_or, refl, sym, ap, ◌∙◌, inl, inr, arith, add-zero, zero-add}
 use Rattle.std.proofs.Math.Nat.{pow-le-pow_right}
@@ -33,9 +33,9 @@ past_table limit number table i past powers =
 pub IsPowersOfTen-64 : IsPowersOfTen (2 ^ 64) (map (λ n. n) POWERS_OF_TEN)
 IsPowersOfTen-64 = record { rising = refl; below = omega arith; all = omega arith }
 
--- ---- the table by the place of the highest bit
+-- ---- the table that is indexed by the position of the highest bit
 
--- every number of the place k has at least this number of digits
+-- every number whose highest bit is at position k has at least this number of digits
 no_fewer : ℕ → ℕ → Bool
 no_fewer k digits = leb digits 1 || leb (10 ^ (digits - 1)) (2 ^ k)
 
@@ -53,7 +53,8 @@ no_fewer-sound k digits number test log several =
       ]
     ]
 
--- the entry is c * 2^32 - p, c is at most how many digits a number of the place k has, and p parts those of fewer off
+-- The entry is c * 2^32 - p: c is the largest digit count of the numbers whose highest bit is at position k, and p is the power
+-- of ten below which they have one digit fewer, or 0 if there are none.
 is_row : ℕ → ℕ → ℕ → Bool
 is_row k c p =
     leb (2 ^ (k + 1)) (10 ^ c)

@@ -64,7 +64,7 @@ digit_count-one r n two short = digit_count-is r n 1 two (omega arith) (rw pow-o
 
 -- ---- what divisions leave
 
--- a division by the radix to `count` takes `count` digits off a number that has more
+-- a division by `r ^ count` removes `count` digits from a number that has more
 pub digit_count-split : (r count n : ℕ) → 2 ≤ r → r ^ count ≤ n → digit_count r n ≡ digit_count r (n / r ^ count) + count
 digit_count-split r count n two long =
     let p = r ^ count in
@@ -82,18 +82,18 @@ digit_count-split r count n two long =
     ] in
     digit_count-is r n (c + count) two (omega (arith, digit_count-pos r q)) fits full
 
--- the same, from how many digits there are
+-- a number of more than `taken` digits has `taken` fewer after a division by `r ^ taken`
 pub digit_count-left : (r n taken left : ℕ) → 2 ≤ r → taken < digit_count r n → left ≡ n / r ^ taken → digit_count r left + taken ≡ digit_count r n
 digit_count-left r n zero left two fewer is = rw (is, pow-zero, div-one) (omega arith)
 digit_count-left r n (suc taken) left two fewer is =
     let power = pow-le-pow_right {n = r} (omega arith) {i = suc taken} {j = digit_count r n - 1} (omega arith) in
     rw is (sym (digit_count-split r (suc taken) n two (omega (arith, digit_count-full r n two (omega arith)))))
 
--- a number that the radix to `count` does not hold has more digits than `count`
+-- a number that is at least `r ^ count` has more than `count` digits
 pub digit_count-more : (r count n : ℕ) → 2 ≤ r → r ^ count ≤ n → count < digit_count r n
 digit_count-more r count n two long = omega (arith, digit_count-split r count n two long, digit_count-pos r (n / r ^ count))
 
--- two digits
+-- a number of two digits
 pub digit_count-two : (r n : ℕ) → 2 ≤ r → r ≤ n → n < r ^ 2 → digit_count r n ≡ 2
 digit_count-two r n two more less = digit_count-is r n 2 two (omega arith) less (λ long. rw pow-one more)
 
@@ -106,21 +106,21 @@ width-le_64 bits is_16 = omega arith
 width-le_64 bits is_32 = omega arith
 width-le_64 bits is_64 = omega arith
 
--- and each has some
+-- and each has at least one
 pub width-some : (bits : ℕ) → IsBitWidth bits → 0 < bits
 width-some bits is_8 = omega arith
 width-some bits is_16 = omega arith
 width-some bits is_32 = omega arith
 width-some bits is_64 = omega arith
 
--- no number of a type has more digits than bits
+-- a number has at most one digit for each bit of its type
 pub digit_count-le_width : (r n bits : ℕ) → 2 ≤ r → IsBitWidth bits → n < 2 ^ bits → digit_count r n ≤ bits
 digit_count-le_width r n bits two is_8 fits = digit_count-le_bits r n 8 two (omega arith) fits
 digit_count-le_width r n bits two is_16 fits = digit_count-le_bits r n 16 two (omega arith) fits
 digit_count-le_width r n bits two is_32 fits = digit_count-le_bits r n 32 two (omega arith) fits
 digit_count-le_width r n bits two is_64 fits = digit_count-le_bits r n 64 two (omega arith) fits
 
--- nor more than 64
+-- and so at most 64 digits
 pub digit_count-le_64 : (r n bits : ℕ) → 2 ≤ r → IsBitWidth bits → n < 2 ^ bits → digit_count r n ≤ 64
 digit_count-le_64 r n bits two width fits = omega (arith, digit_count-le_width r n bits two width fits, width-le_64 bits width)
 
@@ -141,5 +141,5 @@ digit_count-le_19 n fits = digit_count-le 10 n 19 (omega arith) (omega arith)
 pub digit_count-le_20 : (n : ℕ) → n < 2 ^ 64 → digit_count 10 n ≤ 20
 digit_count-le_20 n fits = digit_count-le 10 n 20 (omega arith) (omega arith)
 
--- what the code names whose buffer has room for each number of a width
+-- for a buffer that has room for every number of a width
 pub ruleset widths = (digit_count-le_3, digit_count-le_5, digit_count-le_10, digit_count-le_19, digit_count-le_20)

@@ -1,4 +1,4 @@
--- A text stands at the front of a slice, and `front_mut` lends that front to be handed back: steps for the walks of this crate.
+-- A text is written at the start of a slice, and `front_mut` returns that prefix to the caller: steps for proofs by hand.
 use mathlib.Core.Path.{◌≡◌, refl, sym, ap, ◌∙◌}
 use Prim.Native.Nat.{ℕ, ◌*◌, ◌^◌, ◌<◌, ◌≤◌}
 use native.Mathlib.Omega.{arith}
@@ -30,7 +30,7 @@ use Rattle.lexical_write_integer.specs.Buffer.{Writes}
 use Rattle.lexical_write_integer.specs.Lending.{LendsFront}
 use Rattle.lexical_write_integer.specs.contracts.buffer.front_mut as P
 
--- the front that is handed back, and the machine's value for it
+-- the prefix that is returned, and the machine's value for it
 pub record Handed (Is : List ℕ → Type 0) (v : Val) (r : MutBor (List ℕ)) : Type 0 where
   pub word : v ≡ slice_val r.ref_ptr (length r.now)
   pub fits : length r.now < 2 ^ 64
@@ -65,7 +65,7 @@ module _ {M : Type 1} {𝓤 : Ura M} (𝓛 : Logic 𝓤) (at_mem : Memory → SP
       abbrev Given : MutBor (List ℕ) → Item 𝓤
       Given r = given (Handed Is v r) (‵ ((MutSlice (named 0) κ u8).own_val r (mut_slice_vals r)) ⊛ ‵ (flft κ q) ⊛ ‵ (LendsFront (at xs) (length r.now) r))
 
-      -- what it gives where a text was written
+      -- what it returns if a text was written
       abbrev pub gave : Item 𝓤
       gave = later (some Given)
 

@@ -1,4 +1,4 @@
--- Numbers with leading zeros: digits after zeros.
+-- Numbers with leading zeros: zeros, and then the digits.
 use Rattle.std.proofs.Common.{◌≡◌, ℕ, zero, suc, ◌+◌, ◌*◌, ◌/◌, ◌%◌, ◌^◌, ◌<◌, ◌≤◌, ◌↔◌, List, [], ◌∷◌, ◌++◌, map, replicate, refl, sym, ap, ◌∙◌, arith}
 use Rattle.std.proofs.Math.Nat.{pow-zero, pow-suc, mod-lt, div-add-mod', div-lt_iff_lt-mul}
 use Rattle.std.proofs.lemmas.List.{length-replicate, map-append}
@@ -28,7 +28,7 @@ map-zeros : (k : ℕ) → map digit_char (replicate k 0) ≡ replicate k 48
 map-zeros zero = refl
 map-zeros (suc k) = ap (λ text. 48 ∷ text) (map-zeros k)
 
--- zeros, and then the digits of the number
+-- zeros before the digits of the number
 pub IsPadded-digits : (r n zeros width : ℕ) (text : List ℕ)
     → 2 ≤ r → zeros + digit_count r n ≡ width → IsDigits r n text → IsPadded r width n (replicate zeros 48 ++ text)
 IsPadded-digits r n zeros width text two long is =
@@ -46,9 +46,9 @@ IsPadded-digits r n zeros width text two long is =
           ∙ sym (map-append digit_char (replicate zeros 0) is.digits);
     }
 
--- ---- the text as a list that computes
+-- ---- the text as a function computes it
 
--- a text of one more digit
+-- a text of one further digit
 IsPadded-more : (r width n : ℕ) (text : List ℕ) → 2 ≤ r → IsPadded r width (n / r) text → IsPadded r (suc width) n (text ++ digit_char (n % r) ∷ [])
 IsPadded-more r width n text two is =
     let whole : n / r * r ^ 1 + n % r ≡ n = rw pow-one (div-add-mod' n r) in

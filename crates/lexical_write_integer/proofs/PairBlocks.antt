@@ -18,7 +18,7 @@ pub WritesBlock-table : (r pair at : ℕ) (list table : List ℕ)
 WritesBlock-table r pair at list table some is small room =
     rw (is, slice_index-pairs_first r pair small, slice_index-pairs_second r pair small) (WritesBlock-two r pair at list some small room)
 
--- fewer pairs need no more room
+-- fewer pairs have no more digits
 pub room_for_carried : (y i k room : ℕ) → i ≤ k → digit_count 10 (carried y k) ≤ room → digit_count 10 (carried y i) ≤ room
 room_for_carried y i k room fewer enough =
     omega (arith, digit_count-monotone 10 (carried y i) (carried y k) (omega arith) (carried-monotone y i k fewer))

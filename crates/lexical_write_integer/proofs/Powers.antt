@@ -1,8 +1,9 @@
 -- Laws of powers, and of quotients by them, in general.
 use Rattle.std.proofs.Common.{◌≡◌, ℕ, zero, suc, ◌+◌, ◌*◌, ◌/◌, ◌^◌, ◌<◌, ◌≤◌, refl, sym, ap, ◌∙◌, arith}
 use Rattle.std.proofs.Math.Nat.{pow-zero, pow-suc, pow-le-pow_right, one-le-pow, mul-le-mul_left, mul_comm}
-use Rattle.std.proofs.Math.Nat.{div-div-eq-div-mul, div-mul-le_self}
-use Rattle.std.proofs.lemmas.Nat.{pow-add, le-div}
+use Rattle.std.proofs.Math.Nat.{div-div-eq-div-mul}
+use Rattle.std.proofs.lemmas.Nat.{pow-add}
+pub use Rattle.lexical_write_integer.specs.SizeBound.{div-monotone}
 
 pub pow-one : (r : ℕ) → r ^ 1 ≡ r
 pow-one r = rw (pow-suc r 0, pow-zero) (omega arith)
@@ -35,10 +36,6 @@ pow-lt_more r i (suc j) two less =
 pow-lt_more r i zero two less = absurd (omega arith)
 
 -- ---- quotients
-
--- a larger number has no smaller quotient
-pub div-monotone : (m n k : ℕ) → 0 < k → m ≤ n → m / k ≤ n / k
-div-monotone m n k some less = le-div (m / k) n k some (omega (arith, div-mul-le_self m k))
 
 -- a quotient that is divided by one more power
 pub div-pow_more : (r n step taken : ℕ) → n / r ^ taken / r ^ step ≡ n / r ^ (step + taken)

@@ -1,4 +1,4 @@
--- The powers of a radix that the loops divide by: which of them fit which type.
+-- The powers of a radix by which the loops divide: which of them fit in which type.
 use Rattle.std.proofs.Common.{◌≡◌, ◌≢◌, ℕ, ◌+◌, ◌^◌, ◌<◌, ◌≤◌, ◌↔◌, true, ltb, leb, IsTrue, refl, inl, inr, arith}
 use Rattle.std.proofs.Math.Nat.{pow-zero, pow-le-pow_left, pow-le-pow_right}
 use Rattle.std.proofs.lemmas.Bool.{leb-true, le-leb, ltb-true, cases_lt}
@@ -6,7 +6,7 @@ use Rattle.lexical_num.specs.BitWidth.{IsBitWidth, is_8, is_16, is_32, is_64}
 use Rattle.lexical_write_integer.specs.LoopTurns.{IsStep, takes_one, takes_two, takes_four}
 use Rattle.lexical_write_integer.proofs.Powers.{pow-lt_more}
 
--- where the radices up to a limit are not too large
+-- if the powers of the radices up to a limit fit, and the power of the next does not
 pub fits_up_to : (limit radix exponent bits : ℕ)
     → ltb (limit ^ exponent) (2 ^ bits) ≡ true → leb (2 ^ bits) ((limit + 1) ^ exponent) ≡ true
     → IsTrue (leb radix limit) ↔ (radix ^ exponent < 2 ^ bits)
@@ -22,7 +22,7 @@ fits_36 : (radix exponent bits : ℕ) → radix ≤ 36 → ltb (36 ^ exponent) (
 fits_36 radix exponent bits few low =
     (λ _. omega (arith, ltb-true (36 ^ exponent) (2 ^ bits) low, pow-le-pow_left {n = radix} {m = 36} few exponent), λ _. refl)
 
--- where no radix is too large
+-- if the power of every radix fits
 pub fits_always : (radix exponent bits : ℕ)
     → radix ≤ 36 → IsStep exponent → IsBitWidth bits → (exponent ≡ 4 → bits ≢ 8) → (exponent ≡ 4 → bits ≢ 16)
     → (exponent ≡ 2 → bits ≢ 8) → IsTrue true ↔ (radix ^ exponent < 2 ^ bits)
@@ -54,7 +54,7 @@ step-le_4 step takes_one = omega arith
 step-le_4 step takes_two = omega arith
 step-le_4 step takes_four = omega arith
 
--- each is a number of 32 bits
+-- each of them fits in 32 bits
 pub power-small : (r step : ℕ) → r ≤ 36 → IsStep step → r ^ step < 4294967296
 power-small r step few stepped =
     omega (arith, pow-le-pow_left {n = r} {m = 36} few step, pow-le-pow_right {n = 36} (omega arith) {i = step} {j = 4} (step-le_4 step stepped))

@@ -11,7 +11,7 @@ use Rattle.lexical_num.specs.Size.{size_in}
 use Rattle.lexical_num.specs.declared.constants.TheConstants.{BUFFER_SIZE}
 use Rattle.lexical_write_integer.specs.DigitCount.{digit_count-le, digit_count}
 use Rattle.lexical_write_integer.specs.Groups.{grouped}
-use Rattle.lexical_write_integer.specs.SizeBound.{grouped_length-ge, grouped_length-le, grouped_length-more}
+use Rattle.lexical_write_integer.specs.SizeBound.{grouped_length-le, grouped_length-more}
 use Rattle.lexical_write_integer.specs.Text.{IsText, digits_need, need}
 use Rattle.lexical_write_integer.proofs.DigitCounts.{digit_count-pos}
 use Rattle.lexical_write_integer.proofs.Grouping.Digits.{length-in_groups}
@@ -37,14 +37,14 @@ length-IsText x format text two good is =
 
 -- ---- the required length
 
--- a number of a type has no more digits than its need has room for
+-- the required length has room for the digits
 digit_count-le_need : (r n width : ℕ) → 1 ≤ width → n < 10 ^ width → digit_count r n ≤ digits_need r n width
 digit_count-le_need r n width some fits =
     cond_both (r == 10) width (digit_count r n) (λ k. digit_count r n ≤ k)
     (λ e. digit_count-le r n width some (rw (eqb-true r 10 e) fits))
     (λ _. omega arith)
 
--- nor in groups
+-- and for the sign, the digits and the marks between their groups
 pub grouped_length-le_need : {x least greatest : ℤ} (format : Format) {width count : ℕ}
     → IsDecimalWidth least greatest width → least ≤ℤ x → x ≤ℤ greatest
     → count ≡ digit_count format.mantissa_radix (unsigned_abs x)
@@ -52,6 +52,11 @@ pub grouped_length-le_need : {x least greatest : ℤ} (format : Format) {width c
 grouped_length-le_need {x} format {width} {count} decimal low high counted =
     let few = digit_count-le_need format.mantissa_radix (unsigned_abs x) width decimal.some (decimal.enough x low high) in
     omega (arith, grouped_length-more format.digit_grouping count (digits_need format.mantissa_radix (unsigned_abs x) width) 0 (omega (arith, few, counted)))
+
+-- the digits with their marks are at least as long as the digits
+grouped_length-ge : (grouping : Option (ℕ × ℕ)) (n : ℕ) → n ≤ grouped_length grouping n
+grouped_length-ge None n = omega arith
+grouped_length-ge (Some grouping) n = omega arith
 
 -- a text has at least one byte
 one_of : (b : Bool) (m n : ℕ) → 1 ≤ m → 1 ≤ n → 1 ≤ (if b then m else n)
@@ -67,7 +72,7 @@ need-pos x width format some =
 
 -- ---- the size of a type
 
--- in no format is it more than the buffer size
+-- it is at most the buffer size in every format
 pub size_in-within : (size decimal : ℕ) (format : Format)
     → size ≤ BUFFER_SIZE → 1 ≤ decimal → 2 * decimal ≤ BUFFER_SIZE → size_in size decimal format ≤ BUFFER_SIZE
 size_in-within size decimal format a some b = within (format.mantissa_radix == 10) format.required_mantissa_sign

@@ -12,16 +12,16 @@ pub record Front (before after text : List ℕ) : Type 0 where
   pub written : after ≡ text ++ drop (length text) before
 
 -- the buffer starts with a text of this kind, every byte after it is unchanged, and the result is its length
-pub record Writes (IsWritten : List ℕ → Type 0) (before after : List ℕ) (answer : ℕ) : Type 0 where
+pub record Writes (IsWritten : List ℕ → Type 0) (before after : List ℕ) (len : ℕ) : Type 0 where
   pub text : List ℕ
   pub is : IsWritten text
   pub front : Front before after text
-  pub count : answer ≡ length text
+  pub count : len ≡ length text
 
 -- the buffer starts with the digits of the number, every byte after them is unchanged, and the result is their number
-pub record WritesDigits (r number : ℕ) (before after : List ℕ) (answer : ℕ) : Type 0 where
-  pub writes : Writes (IsDigits r number) before after answer
-  pub count : answer ≡ digit_count r number
+pub record WritesDigits (r number : ℕ) (before after : List ℕ) (len : ℕ) : Type 0 where
+  pub writes : Writes (IsDigits r number) before after len
+  pub count : len ≡ digit_count r number
 
 -- the buffer starts with the text of the number, every byte after it is unchanged, and the result is its length
 abbrev pub WritesText : ℤ → Format → List ℕ → List ℕ → ℕ → Type 0

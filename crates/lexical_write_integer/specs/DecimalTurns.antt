@@ -8,10 +8,10 @@ use Rattle.lexical_write_integer.specs.LoopTurns.{table_notes, table_turns}
 
 -- what a decimal writer with a counter promises: it writes the digits of the number, returns their number, and records
 -- one note for each pair after the first
-pub record WritesDecimal (number : ℕ) (notes before after turns turned : List ℕ) (answer : ℕ) : Type 0 where
-  pub digits : WritesDigits 10 number before after answer
+pub record WritesDecimal (number : ℕ) (notes before after turns turned : List ℕ) (len : ℕ) : Type 0 where
+  pub digits : WritesDigits 10 number before after len
   pub noted : turned ≡ turns ++ notes
-  pub half : length turned ≡ length turns + (answer - 1) / 2
+  pub half : length turned ≡ length turns + (len - 1) / 2
 
 -- 100 times the part after the point of a fraction, which has 32 bits there: of the fraction, of 100 times it, and so on
 abbrev pub products : ℕ → ℕ → List ℕ

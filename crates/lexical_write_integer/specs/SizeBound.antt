@@ -1,5 +1,4 @@
--- The size of a type in a format is enough for the required length of each number of the type. The ghost members of
--- `ToLexicalWithOptions` cite these proofs, so they are here and not in proofs/.
+-- The size of a type in a format is enough for the required length of each number of the type.
 use Rattle.std.specs.Prelude.{◌≡◌, ℕ, suc, ◌+◌, ◌-◌, ◌*◌, ◌/◌, ◌^◌, ◌<◌, ◌≤◌, ℤ, pos, negsuc, ◌≤ℤ◌, length, refl}
 use Rattle.std.specs.Prelude.{Option, None, Some, Bool, true, false, if◌then◌else◌, ◌==◌}
 use Rattle.std.proofs.Common.{arith, inl, inr}
@@ -13,25 +12,21 @@ use Rattle.lexical_num.specs.Size.{size_in}
 use Rattle.lexical_write_integer.specs.DigitCount.{digit_count, digit_count-le_bits}
 use Rattle.lexical_write_integer.specs.Text.{need}
 
--- ---- the length of digits with the separators between their groups
+-- ---- proofs, which are here since ghost members cite the last two
 
--- it is not below the number of digits
-pub grouped_length-ge : (grouping : Option (ℕ × ℕ)) (n : ℕ) → n ≤ grouped_length grouping n
-grouped_length-ge None n = omega arith
-grouped_length-ge (Some grouping) n = omega arith
+-- a larger number has no smaller quotient
+pub div-monotone : (m n k : ℕ) → m ≤ n → m / k ≤ n / k
+div-monotone m n k less =
+    elim (cases_eq k 0) [
+      | inl none ↦ rw (none, div-zero m, div-zero n) (omega arith)
+      | inr some ↦ le-div (m / k) n k (omega arith) (omega (arith, div-mul-le_self m k))
+    ]
 
 -- each further digit takes at least one further byte
 pub grouped_length-more : (grouping : Option (ℕ × ℕ)) (m n more : ℕ) → m + more ≤ n
     → grouped_length grouping m + more ≤ grouped_length grouping n
 grouped_length-more None m n more less = less
 grouped_length-more (Some grouping) m n more less = omega (arith, div-monotone (m - 1) (n - 1) grouping.0 (omega arith))
-  where
-    div-monotone : (m n k : ℕ) → m ≤ n → m / k ≤ n / k
-    div-monotone m n k less =
-        elim (cases_eq k 0) [
-          | inl none ↦ rw (none, div-zero m, div-zero n) (omega arith)
-          | inr some ↦ le-div (m / k) n k (omega arith) (omega (arith, div-mul-le_self m k))
-        ]
 
 -- there is at most one separator between two adjacent digits
 pub grouped_length-le : (grouping : Option (ℕ × ℕ)) (m n : ℕ) → m ≤ n → 1 ≤ n → grouped_length grouping m + 1 ≤ 2 * n

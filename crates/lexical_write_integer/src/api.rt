@@ -124,7 +124,7 @@ pub trait ToLexicalWithOptions: ToLexical {
     }
 
     // The size of the type in a format is enough for the required length of each of its numbers.
-    ghost size_is_enough: { (x : ℤ) (format : Format) → IsRadix format.mantissa_radix
+    ghost size_suffices: { (x : ℤ) (format : Format) → IsRadix format.mantissa_radix
         → Self.least ≤ℤ x → x ≤ℤ Self.greatest
         → need x Self.DECIMAL_WIDTH format ≤ size_in Self.FORMATTED_SIZE Self.FORMATTED_SIZE_DECIMAL format };
 

@@ -1,4 +1,5 @@
-//! The compact writer, which writes one digit per iteration.
+//! The compact writer, which writes one digit per iteration. `crates/write_integer_tests/src/tables.rt`
+//! has examples.
 
 ghost use Rattle.std.specs.Prelude.{◌≡◌, ◌+◌, ◌/◌, ◌%◌, ◌<◌, ◌≤◌, ◌++◌, [], ◌∷◌, length, drop};
 ghost use Rattle.lexical_num.specs.Format.{IsRadix};

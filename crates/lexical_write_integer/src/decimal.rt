@@ -1,4 +1,5 @@
-//! Decimal digits: counting them without a loop, and writing them two at a time.
+//! Decimal digits: counting them without a loop, and writing them two at a time. Examples are in
+//! `crates/write_integer_tests/src/counts.rt` and `crates/write_integer_tests/src/decimal_values.rt`.
 
 ghost use Rattle.std.specs.Prelude.{◌≡◌, ℕ, pos, negsuc, ◌+◌, ◌-◌, ◌/◌, ◌^◌, ◌<◌, ◌≤◌, length, map};
 ghost use Rattle.std.proofs.Common.{lit≤};

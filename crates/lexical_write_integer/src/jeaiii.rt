@@ -6,6 +6,9 @@
 //!
 //! Each `_counted` function writes what the function without that suffix writes, and records its
 //! iterations in a counter: one for each pair of digits after the first, and at most 9.
+//!
+//! Examples of the writers are in `crates/write_integer_tests/src/decimal_values.rt`, and of the kernels
+//! in `crates/write_integer_tests/src/kernel_values.rt`.
 #![tactic(auto, using(crate::proofs::PairBlocks::widths), unfolding(crate::specs::DecimalTurns::decimal_notes_32))]
 
 ghost use Rattle.std.specs.Prelude.{◌+◌, ◌-◌, ◌/◌, ◌^◌, ◌<◌, ◌≤◌, length};

@@ -15,11 +15,11 @@ mod groups;
 mod room;
 
 pub use bytes::{digits_computed, padded_computed, text_computed, text_is_ascii, text_is_decimal};
-pub use comparison::{digits_tell, texts_tell};
+pub use comparison::{digits_equal_iff, texts_equal_iff};
 pub use groups::text_in_groups;
 use lexical_num::format::NumberFormat;
 use lexical_num::num::{LexicalInteger, UnsignedInteger};
-pub use room::{size_is_enough, text_length};
+pub use room::{size_suffices, text_length};
 
 /// A law: the digit count of a number is the smallest count, not 0, such that the number is below the
 /// radix to that power. It is at most 64.

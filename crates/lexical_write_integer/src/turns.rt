@@ -1,4 +1,4 @@
-//! A counter of loop iterations, which only contracts read.
+//! A counter of loop iterations, which only contracts read. `crates/uses/src/turn_lists.rt` has examples.
 
 ghost use Rattle.std.specs.Prelude.{◌≡◌, ℕ, List, [], ◌∷◌, ◌++◌};
 

@@ -11,7 +11,7 @@ use Rattle.lexical_write_integer.specs.Table.{BeginsWithPairs}
 use Rattle.lexical_write_integer.proofs.Buffers.Blocks.{WritesBlock-one, WritesBlock-front}
 use Rattle.lexical_write_integer.proofs.Powers.{pow-two, pow-one}
 
--- the tables are made of the characters that the writers write
+-- the tables have the characters of digits that the writers use
 same_characters : (digit : ℕ) → Tables.digit_char digit ≡ digit_char digit
 same_characters digit = refl
 

@@ -13,7 +13,7 @@ mark_before-whole grouping right whole = cond-true _ _ _ (eq-eqb (right % groupi
 mark_before-part : (grouping : ℕ × ℕ) (right : ℕ) → (right % grouping.0 ≡ 0 → ⊥) → mark_before grouping right ≡ []
 mark_before-part grouping right part = cond-false _ _ _ (ne_eqb (right % grouping.0) 0 part)
 
--- one group has no mark
+-- a single group has no mark
 pub in_groups-one : (grouping : ℕ × ℕ) (digits : List ℕ) → length digits ≤ grouping.0 → in_groups grouping digits ≡ digits
 in_groups-one grouping [] few = refl
 in_groups-one grouping (digit ∷ []) few = refl
@@ -22,7 +22,7 @@ in_groups-one grouping (digit ∷ next ∷ digits) few =
     let part = mark_before-part grouping (length (next ∷ digits)) (λ e. omega arith) in
     rw part (ap (λ rest. digit ∷ rest) (in_groups-one grouping (next ∷ digits) (omega arith)))
 
--- after other digits the last group has the mark before it
+-- a last group that follows other digits has a mark before it
 pub in_groups-append : (grouping : ℕ × ℕ) (digits group : List ℕ)
     → 0 < grouping.0 → 0 < length digits → length group ≡ grouping.0
     → in_groups grouping (digits ++ group) ≡ in_groups grouping digits ++ grouping.1 ∷ group
@@ -44,7 +44,7 @@ pub some_factor : (m n product : ℕ) → m * n ≡ product → 0 < product → 
 some_factor zero n product is some = absurd (omega arith)
 some_factor (suc m) n product is some = omega arith
 
--- whole groups to the right are one group more than one digit less has
+-- the mark before a byte is counted as one further group to its right
 pub length-mark_before : (grouping : ℕ × ℕ) (right : ℕ)
     → 0 < grouping.0 → 0 < right → length (mark_before grouping right) + (right - 1) / grouping.0 ≡ right / grouping.0
 length-mark_before grouping right some any =
@@ -64,7 +64,7 @@ length-mark_before grouping right some any =
           omega (arith, same, ap length (mark_before-part grouping right part))
     ]
 
--- a mark stands before each group but the first
+-- each group except the first has a mark before it
 pub length-in_groups : (grouping : ℕ × ℕ) (digits : List ℕ)
     → 0 < grouping.0 → length (in_groups grouping digits) ≡ length digits + (length digits - 1) / grouping.0
 length-in_groups grouping [] some = let none : (0 - 1) / grouping.0 ≡ 0 = div-eq_of_lt (omega arith) in omega arith
@@ -92,7 +92,7 @@ length-in_groups_taken {grouping} {count} {total} {before} h =
 
 -- ---- digits and their groups
 
--- a digit more takes more bytes
+-- one further digit takes more bytes
 length-in_groups_more : (grouping : ℕ × ℕ) (digit : ℕ) (digits : List ℕ) → length (in_groups grouping digits) < length (in_groups grouping (digit ∷ digits))
 length-in_groups_more grouping digit [] = omega arith
 length-in_groups_more grouping digit (next ∷ digits) =
@@ -131,7 +131,7 @@ pub length-grouped_same : (grouping : Option (ℕ × ℕ)) (xs ys : List ℕ) �
 length-grouped_same None xs ys same = same
 length-grouped_same (Some grouping) xs ys same = length-in_groups_same grouping xs ys same
 
--- in groups digits take no fewer bytes
+-- digits in groups take at least as many bytes as the digits
 pub length-grouped_ge : (grouping : Option (ℕ × ℕ)) (digits : List ℕ) → length digits ≤ length (grouped grouping digits)
 length-grouped_ge None digits = omega arith
 length-grouped_ge (Some grouping) [] = omega arith
@@ -155,7 +155,7 @@ in_groups-injective grouping (x ∷ next ∷ xs) (y ∷ other ∷ ys) long same 
     let digits : next ∷ xs ≡ other ∷ ys = in_groups-injective grouping (next ∷ xs) (other ∷ ys) right rest in
     cc
 
--- digits are known by their groups
+-- different digits are different in groups
 pub grouped-injective : (grouping : Option (ℕ × ℕ)) (xs ys : List ℕ) → grouped grouping xs ≡ grouped grouping ys → xs ≡ ys
 grouped-injective None xs ys same = same
 grouped-injective (Some grouping) xs ys same =

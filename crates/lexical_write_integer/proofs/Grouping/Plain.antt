@@ -11,7 +11,7 @@ use Rattle.lexical_num.specs.Sign.{sign_of}
 use Rattle.lexical_write_integer.specs.Groups.{mark_before, in_groups, grouped, without_marks}
 use Rattle.lexical_write_integer.specs.Text.{IsText}
 
--- ---- what is left out
+-- ---- the bytes other than a mark
 
 abbrev others : ℕ → List ℕ → List ℕ
 others mark = filter (λ byte. not (byte == mark))
@@ -26,7 +26,7 @@ others-mark_before : (grouping : ℕ × ℕ) (right : ℕ) → others grouping.1
 others-mark_before grouping right =
     cond_both (right % grouping.0 == 0) (grouping.1 ∷ []) [] (λ bytes. others grouping.1 bytes ≡ []) (λ _. others-mark grouping.1 []) (λ _. refl)
 
--- of bytes in groups the marks alone
+-- bytes in groups without the marks are the bytes
 others-in_groups : (grouping : ℕ × ℕ) (bytes : List ℕ) → All (λ byte. byte ≢ grouping.1) bytes → others grouping.1 (in_groups grouping bytes) ≡ bytes
 others-in_groups grouping [] other = refl
 others-in_groups grouping (byte ∷ []) other = others-other grouping.1 byte [] (All-head (λ byte. byte ≢ grouping.1) byte [] other)
@@ -39,7 +39,7 @@ others-in_groups grouping (byte ∷ next ∷ bytes) other =
     (filter-append (λ byte. not (byte == grouping.1)) mark rest ∙ ap (λ bytes. bytes ++ others grouping.1 rest)
     (others-mark_before grouping (length (next ∷ bytes))) ∙ following)
 
--- ---- a mark is no character of a digit and no sign
+-- ---- a mark is neither the character of a digit nor a sign
 
 digit_char-mark : (d mark : ℕ) → d < 36 → IsMark mark → digit_char d ≢ mark
 digit_char-mark d mark small is same = grind (arith, is.no_letter_or_digit)

@@ -1,4 +1,4 @@
--- Where each byte of digits in groups stands, counted from the right.
+-- The position of each byte of digits in groups, counted from the right.
 use Rattle.std.proofs.Common.{◌≡◌, ℕ, suc, ◌+◌, ◌-◌, ◌*◌, ◌/◌, ◌%◌, ◌<◌, ◌≤◌, List, [], ◌∷◌, ◌++◌, length, get_or, refl, sym, ap}
 use Rattle.std.proofs.Common.{◌∙◌, inl, inr, arith, length-append}
 use Rattle.std.proofs.Math.Nat.{mul-mod_left, mul-div_cancel, mul-le-mul_left}
@@ -9,14 +9,14 @@ use Rattle.lexical_write_integer.specs.Groups.{mark_before, in_groups, from_righ
 use Rattle.lexical_write_integer.proofs.Powers.{div-monotone}
 use Rattle.lexical_write_integer.proofs.Grouping.Digits.{length-in_groups, length-mark_before, mark_before-whole}
 
--- a longer text has the bytes of its end at the same places
+-- the end of a longer text has the same bytes at the same positions from the right
 pub from_right-append : (front text : List ℕ) (right : ℕ) → right < length text → from_right (front ++ text) right ≡ from_right text right
 from_right-append front text right inside =
     let long = length-append front text in
     get_or-append_right front text (length front) (length (front ++ text) - 1 - right) 0 refl (omega arith)
     ∙ ap (λ n. get_or text n 0) (let e : length (front ++ text) - 1 - right - length front ≡ length text - 1 - right = omega arith in e)
 
--- to the right of a digit stand the digits to its right, and a mark for each whole group of them
+-- to the right of a digit are the digits that follow it, and one mark for each whole group of them
 pub digit-from_right : (grouping : ℕ × ℕ) (digits : List ℕ) (right : ℕ)
     → 0 < grouping.0 → right < length digits
     → from_right (in_groups grouping digits) (right + right / grouping.0) ≡ from_right digits right
@@ -32,7 +32,7 @@ digit-from_right grouping (digit ∷ next ∷ digits) right some inside =
     let long = length-append mark rest in
     elim (cases_lt right (length tail)) [
       | inl within ↦
-          from_right-append (digit ∷ mark) rest (right + right / grouping.0) (omega (arith, div-monotone right (length tail - 1) grouping.0 some (omega arith)))
+          from_right-append (digit ∷ mark) rest (right + right / grouping.0) (omega (arith, div-monotone right (length tail - 1) grouping.0 (omega arith)))
           ∙ digit-from_right grouping (next ∷ digits) right some within
           ∙ sym (from_right-append (digit ∷ []) tail right within)
       | inr first ↦
@@ -42,7 +42,7 @@ digit-from_right grouping (digit ∷ next ∷ digits) right some inside =
           ∙ ap (λ n. get_or (digit ∷ tail) n 0) (let e : 0 ≡ suc (length tail) - 1 - right = omega arith in e)
     ]
 
--- before any number of whole groups stands a mark
+-- before any number of whole groups is a mark
 pub mark-from_right : (grouping : ℕ × ℕ) (digits : List ℕ) (groups : ℕ)
     → 0 < grouping.0 → 1 ≤ groups → groups * grouping.0 < length digits
     → from_right (in_groups grouping digits) (groups * grouping.0 + groups - 1) ≡ grouping.1

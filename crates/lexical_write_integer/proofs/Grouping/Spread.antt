@@ -1,4 +1,4 @@
--- Digits that are put into their groups byte by byte, the last one first.
+-- Digits that are put into groups in place, byte by byte from the last.
 use Rattle.std.proofs.Common.{◌≡◌, ℕ, zero, suc, ◌+◌, ◌-◌, ◌*◌, ◌/◌, ◌<◌, ◌≤◌, List, ◌∷◌, ◌++◌, length, take, drop, get_or, set}
 use Rattle.std.proofs.Common.{inl, inr, refl, sym, ap, ◌∙◌, arith}
 use Rattle.std.proofs.lemmas.Bool.{cases_eq}
@@ -58,7 +58,7 @@ IsSpread-left {grouping} {count} zero {end} {in_group} h due w =
     ]
 IsSpread-left (suc left) h due w = omega arith
 
--- the byte at its place
+-- a byte is written at its index
 placed-more : (end byte : ℕ) (between after : List ℕ) → 0 < end → end ≤ length between → end ≤ length after
     → drop end between ≡ drop end after → get_or after (end - 1) 0 ≡ byte
     → drop (end - 1) (set between (end - 1) byte) ≡ drop (end - 1) after

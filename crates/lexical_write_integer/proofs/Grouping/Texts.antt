@@ -1,4 +1,4 @@
--- The text of a number in groups: where its bytes stand.
+-- The text of a number in groups: the positions of its digits and marks.
 use Rattle.std.proofs.lemmas.Nat.{le-div}
 use Rattle.std.proofs.Common.{◌≡◌, Some, ℕ, ◌+◌, ◌-◌, ◌*◌, ◌/◌, ◌<◌, ◌≤◌, List, ◌++◌, length, sym, ap, ◌∙◌, arith, ℤ, unsigned_abs}
 use Rattle.lexical_num.specs.Format.{Format, without_groups}
@@ -11,7 +11,7 @@ use Rattle.lexical_write_integer.proofs.Numerals.{digits_unique, length-IsDigits
 use Rattle.lexical_write_integer.proofs.Grouping.Positions.{digit-from_right, from_right-append, mark-from_right}
 use Rattle.lexical_write_integer.proofs.Powers.{div-monotone}
 
--- how many digits the magnitude of a number has
+-- the number of digits of the magnitude
 abbrev count_of : ℤ → Format → ℕ
 count_of x format = digit_count format.mantissa_radix (unsigned_abs x)
 
@@ -28,7 +28,7 @@ long : (x : ℤ) (format : Format) (grouping : ℕ × ℕ) (text : List ℕ)
     → length (in_groups grouping is.digits) ≡ count_of x format + (count_of x format - 1) / grouping.0
 long x format grouping text two some is = length-in_groups grouping is.digits some ∙ ap (λ n. n + (n - 1) / grouping.0) (counted x format text two is)
 
--- one group stands without a mark
+-- a single group has no mark
 pub IsText-one_group : (x : ℤ) (format : Format) (grouping : ℕ × ℕ) (text : List ℕ)
     → 2 ≤ format.mantissa_radix → format.digit_grouping ≡ Some grouping → IsText x format text → count_of x format ≤ grouping.0
     → IsText x (without_groups format) text
@@ -48,7 +48,7 @@ digit-in_text x format grouping text plain right two some groups is bare inside 
     let sign = sign_of x format.required_mantissa_sign in
     let same = digits_unique format.mantissa_radix (unsigned_abs x) bare.digits is.digits two bare.magnitude is.magnitude in
     let room = counted x format text two is in
-    let marks = div-monotone right (count_of x format - 1) grouping.0 some (omega arith) in
+    let marks = div-monotone right (count_of x format - 1) grouping.0 (omega arith) in
     ap (λ t. from_right t (right + right / grouping.0)) (whole x format grouping text groups is)
     ∙ from_right-append sign (in_groups grouping is.digits) (right + right / grouping.0) (omega (arith, long x format grouping text two some is, marks))
     ∙ digit-from_right grouping is.digits right some (omega (arith, room))

@@ -1,4 +1,4 @@
--- What the loops note, one after the other, and how many notes these are.
+-- The quotients that the loops record, and how many of them there are.
 use Rattle.std.proofs.Common.{◌≡◌, ◌≢◌, ℕ, ◌+◌, ◌-◌, ◌*◌, ◌/◌, ◌%◌, ◌^◌, ◌<◌, ◌≤◌, Bool, true, false, cond, ltb, eqb, List, []}
 use Rattle.std.proofs.Common.{◌∷◌, ◌++◌, length, refl, sym, ap, ◌∙◌, inl, inr, arith, append_assoc, length-append}
 use Rattle.std.proofs.Math.Nat.{pow-le-pow_left, div-one}
@@ -24,9 +24,9 @@ quotients-one r n step =
 left_left : (r n i j : ℕ) → n / r ^ i / r ^ j ≡ n / r ^ (i + j)
 left_left r n i j = let order : j + i ≡ i + j = omega arith in div-pow_more r n j i ∙ ap (λ k. n / r ^ k) order
 
--- ---- the loop by the square of the radix, after that by its fourth power
+-- ---- the loop that divides by the square of the radix, after the one that divides by its fourth power
 
--- it takes two digits off once, or never
+-- it has at most one iteration
 two_notes : {r n four left : ℕ} {a b : List ℕ}
     → 2 ≤ r → TakesDigits r n 4 four left a b
     → quotients r left 2 (digits_after_first r left / 2) ≡ cond (ltb (digits_after_first r n % 4) 2) [] (n / r ^ (4 * (digits_after_first r n / 4) + 2) ∷ [])
@@ -48,7 +48,7 @@ unfolding loop_notes
 loop_notes-are {r} {n} {a = a} two t u =
     rw (u.notes, t.notes, two_notes two t) (append_assoc a (quotients r n 4 (digits_after_first r n / 4)) _)
 
--- ---- the slow count, which takes the last digits off one by one
+-- ---- the slow count, whose last loop removes single digits
 
 pub slow_count-is : {r n four left_four by_two left_two by_one left_one : ℕ} {a b c d : List ℕ}
     → 2 ≤ r → TakesDigits r n 4 four left_four a b → TakesDigits r left_four 2 by_two left_two b c
@@ -56,7 +56,7 @@ pub slow_count-is : {r n four left_four by_two left_two by_one left_one : ℕ} {
 slow_count-is {r} {left_two = left} two t u v =
     omega (arith, v.count, TakesDigits-counts two t, TakesDigits-counts two u, digit_count-pos r left)
 
--- it does so once where the digits are even
+-- that loop has one iteration if the number of digits is even, and otherwise none
 last_notes : {r n four left_four by_two left_two : ℕ} {a b c : List ℕ}
     → 2 ≤ r → TakesDigits r n 4 four left_four a b → TakesDigits r left_four 2 by_two left_two b c
     → quotients r left_two 1 (digits_after_first r left_two / 1) ≡ cond (eqb (digit_count r n % 2) 0) (n / r ^ digits_after_first r n ∷ []) []
@@ -82,13 +82,13 @@ unfolding slow_notes
 slow_notes-are {r} {n} {a = a} two t u v =
     rw (v.notes, loop_notes-are two t u, last_notes two t u) (append_assoc a (loop_notes r n) _)
 
--- ---- one digit a turn
+-- ---- one digit per iteration
 
 pub compact_notes-are : {r n taken left : ℕ} {a b : List ℕ} → TakesDigits r n 1 taken left a b → b ≡ a ++ compact_notes r n
 unfolding compact_notes
 compact_notes-are {r} {n} {a = a} t = t.notes ∙ ap (λ k. a ++ quotients r n 1 k) (div-one (digits_after_first r n))
 
--- ---- the radices in which digits are counted at once
+-- ---- the radices in which digits are counted without a loop
 
 pub none_noted : (r n : ℕ) (notes : List ℕ) → is_counted_at_once r ≡ true → notes ≡ notes ++ count_notes r n
 unfolding count_notes
@@ -109,9 +109,9 @@ pub table_notes-are : (r n : ℕ) (a b c : List ℕ) → b ≡ a ++ count_notes 
 unfolding table_notes
 table_notes-are r n a b c counted written = rw (written, counted) (append_assoc a (count_notes r n) (loop_notes r n))
 
--- ---- how many notes there are
+-- ---- how many quotients are recorded
 
--- this number more
+-- a list to which some numbers are appended
 pub length-more : (a b notes : List ℕ) (more : ℕ) → b ≡ a ++ notes → length notes ≡ more → length b ≡ length a + more
 length-more a b notes more noted count = ap length noted ∙ length-append a notes ∙ ap (λ k. length a + k) count
 
@@ -144,7 +144,7 @@ pub length-compact_notes : (r n : ℕ) → length (compact_notes r n) ≡ compac
 unfolding compact_notes
 length-compact_notes r n = length-quotients r n 1 (digits_after_first r n)
 
--- ---- the most turns of the table writer
+-- ---- the largest number of iterations of the table writer
 
 loop_turns-le : (digits most : ℕ) → digits ≤ 4 * most + 1 → loop_turns digits ≤ most
 loop_turns-le digits most few =
@@ -152,7 +152,7 @@ loop_turns-le digits most few =
     (λ _. omega arith)
     (λ more. omega (arith, ltb-false ((digits - 1) % 4) 2 more))
 
--- both times the loops, and one turn where the digits are even
+-- the loops of the count and of the writer, and one iteration more if the number of digits is even
 twice_turns-le : (digits : ℕ) → digits ≤ 41 → slow_turns digits + loop_turns digits ≤ 21
 twice_turns-le digits few =
     cond_both (eqb (digits % 2) 0) 1 0 (λ k. loop_turns digits + k + loop_turns digits ≤ 21)
@@ -162,7 +162,7 @@ twice_turns-le digits few =
 count_turns-le : (r digits : ℕ) → count_turns r digits ≤ slow_turns digits
 count_turns-le r digits = cond_both (is_counted_at_once r) 0 (slow_turns digits) (λ k. k ≤ slow_turns digits) (λ _. omega arith) (λ _. omega arith)
 
--- in radix 2 nothing is counted, and from radix 3 on a number of 64 bits has at most 41 digits
+-- radix 2 needs no loop to count, and in radix 3 and above a number of 64 bits has at most 41 digits
 pub table_turns-le_21 : (r n : ℕ) → 2 ≤ r → n < 2 ^ 64 → table_turns r (digit_count r n) ≤ 21
 table_turns-le_21 r n two fits =
     elim (cases_eq r 2) [

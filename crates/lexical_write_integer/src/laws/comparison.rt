@@ -9,7 +9,7 @@ use lexical_num::num::LexicalInteger;
 
 /// A law: the digits of two numbers in a radix are equal if and only if the numbers are.
 /// `have_same_identifier` in `crates/uses/src/identifier.rt` is an example.
-pub fn digits_tell(radix: u32, a: u64, b: u64, s: &[u8], t: &[u8])
+pub fn digits_equal_iff(radix: u32, a: u64, b: u64, s: &[u8], t: &[u8])
     requires radix { IsRadix radix }
     requires s { IsDigits radix a s.now }
     requires t { IsDigits radix b t.now }
@@ -18,7 +18,7 @@ pub fn digits_tell(radix: u32, a: u64, b: u64, s: &[u8], t: &[u8])
 
 /// A law: the texts of two numbers in a format are equal if and only if the numbers are.
 /// `have_same_text` in `crates/uses/src/any_format.rt` is an example.
-pub fn texts_tell<T: LexicalInteger>(a: T, b: T, format: &NumberFormat, s: &[u8], t: &[u8])
+pub fn texts_equal_iff<T: LexicalInteger>(a: T, b: T, format: &NumberFormat, s: &[u8], t: &[u8])
     requires s { IsText (T.number a) format.now s.now }
     requires t { IsText (T.number b) format.now t.now }
     ensures { (s.now ≡ t.now) ↔ (T.number a ≡ T.number b) }

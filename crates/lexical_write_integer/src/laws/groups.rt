@@ -10,10 +10,12 @@ ghost use Rattle.lexical_write_integer.specs.Text.{IsText};
 use lexical_num::format::NumberFormat;
 use lexical_num::num::LexicalInteger;
 
-/// A law: the positions of the digits and separators in a text with groups of `size` digits. A number
-/// of at most `size` digits has the same text as without groups. In any other text a position is the
-/// number of bytes to the right. A digit with `right` digits to its right has one further byte to its
-/// right for each whole group of these, and a separator precedes each number of whole groups.
+/// A law: the positions of the digits and separators in a text with groups of `size` digits.
+///
+/// The position of a byte is the number of bytes to its right. The digit at position `right` of the text
+/// without groups is at position `right + right / size`, and the separator before the last `groups`
+/// groups is at position `groups * size + groups - 1`. A number of at most `size` digits has the text
+/// that it has without groups.
 pub fn text_in_groups<T: LexicalInteger>(number: T, format: &NumberFormat, size: u8, mark: u8)
     requires { format.now.digit_grouping ≡ Some (size, mark) }
     ensures one_group { (text : List ℕ) → IsText (T.number number) format.now text

@@ -1,4 +1,4 @@
--- `front_mut` lends the first bytes of a slice. The borrow checker shows no write-back clause for a
+-- `front_mut` returns a borrow of the first bytes of a slice. The borrow checker shows no write-back clause for a
 -- part of a slice, so this proof walks the code by hand.
 use mathlib.Core.Path.{◌≡◌, refl, sym, ap}
 use Prim.Native.Nat.{ℕ, ◌^◌, ◌<◌, ◌≤◌}
@@ -69,15 +69,15 @@ module _ {M : Type 1} {𝓤 : Ura M} (𝓛 : Logic 𝓤) where
     abbrev result : GName → MutBor (List ℕ)
     result δ = record { ref_ptr = (b, o); ghost_name = δ; now = front }
 
-    -- the slice, where ws was left in its front
+    -- the slice, if ws was left in its prefix
     abbrev after : List ℕ → List ℕ
     after ws = ws ++ back
 
-    -- where the bytes after a front of k bytes begin
+    -- the offset of the bytes after the first k
     abbrev past : ℕ → ℕ
     past = at o (mem u8).size
 
-    -- the front, whose machine value has the count k, under a new name
+    -- the prefix, whose machine value has the length k, under a new name
     abbrev Lent : ℕ → GName → SProp 𝓤
     Lent k δ =
         sep 𝓤 (sem 𝓛 ((MutSlice (named 0) κ u8).own_val (result δ) (slice_val (b, o) k ∷ [])))

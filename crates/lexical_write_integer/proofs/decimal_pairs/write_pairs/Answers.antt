@@ -7,7 +7,7 @@ use Rattle.lexical_write_integer.proofs.Fractions.{rest-more}
 use Rattle.lexical_write_integer.proofs.PairBlocks.{WritesDigits-pair, digit_count-carried, room_for_carried}
 use Rattle.lexical_write_integer.proofs.decimal_pairs.write_pairs.Goals as goal
 
--- the note of one pair more
+-- the record of one further pair
 products-more : (fraction i : ℕ) → products fraction (i + 1) ≡ products fraction i ++ (fraction * 100 ^ i % 2 ^ 32 * 100) ∷ []
 products-more fraction i = map-range_with_len_more (λ j. fraction * 100 ^ j % 2 ^ 32 * 100) 0 i i (zero-add i)
 

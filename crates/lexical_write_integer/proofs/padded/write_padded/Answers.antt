@@ -7,13 +7,13 @@ use Rattle.lexical_write_integer.proofs.Buffers.Prefixes.{Writes-after}
 use Rattle.lexical_write_integer.proofs.PaddedDigits.{IsPadded-digits}
 use Rattle.lexical_write_integer.proofs.padded.write_padded.Goals as goal
 
--- a number below the radix to the width has no more digits than that
+-- a number below `radix ^ width` has at most `width` digits
 few : (r n width count : ℕ) → (width == 0) ≡ false → n < r ^ width → count ≡ digit_count r n → count ≤ width
 few r n width count some fits counted =
     let not_none = eqb-false width 0 some in
     omega (arith, counted, digit_count-le r n width (omega arith) fits)
 
--- as many zeros are written as there are bytes before the digits
+-- a zero is written in each byte before the digits
 zeros_are : (zeros : ℕ) (before written : List ℕ) → zeros ≤ length before → written ≡ replicate (length (take zeros before)) 48 → written ≡ replicate zeros 48
 zeros_are zeros before written within is = is ∙ ap (λ n. replicate n 48) (length-take-le zeros before within)
 

@@ -52,7 +52,7 @@ loop-at-preserved g c =
       room = c.write_last_four.auto.buffer ∙ c.loop-at.invariant.room;
     }
 
--- how many digits are left, which is few
+-- the remaining digits, at most four
 count_left : (g : _) (c : After-loop-at g) → c.loop-at.at ≡ digit_count g.row.R c.loop-at.left
 count_left g c =
     let two = c.args.table.now.is_radix.at_least_two in

@@ -9,7 +9,7 @@ use Rattle.lexical_write_integer.proofs.Powers.{pow-two}
 use Rattle.lexical_write_integer.proofs.table_writer.write_by_divisions.Goals as goal
 use Rattle.lexical_write_integer.proofs.table_writer.write_by_divisions.Goals.{After-save_quotients-left, After-take_last_digit}
 
--- what the turns by four leave
+-- the quotient after the iterations that remove four digits
 short : (g : _) (c : After-save_quotients-left g) → c.save_quotients-left.result.0 < g.row.R ^ 4
 short g c =
     let two = c.args.table.now.is_radix.at_least_two in

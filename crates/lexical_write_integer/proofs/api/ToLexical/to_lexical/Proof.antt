@@ -113,7 +113,7 @@ module _ (T : Able) {M : Type 1} {𝓤 : Ura M} (𝓛 : Logic 𝓤) (at_mem : Me
     abbrev bound : (walk_of 𝓛 (ended T) (stayed T) clauses).Ghost
     bound = (((κ, (κT, tt)), (q, (qT, tt)), tt, (x, (self, tt)), words), tt)
 
-    -- the room that the call asks for
+    -- the length of buffer that the call requires
     abbrev room_for : ℕ
     room_for = need (T.gn.number x) T.gn.DECIMAL_WIDTH standard
 

@@ -5,7 +5,7 @@ use Rattle.lexical_write_integer.proofs.Required.{size_in-within}
 use Rattle.lexical_write_integer.proofs.api.ToLexicalWithOptions.required_len.Goals as goal
 use Rattle.lexical_write_integer.proofs.api.ToLexicalWithOptions.required_len.Goals.{After-grouped_len}
 
--- the sum is the need, by the cases of the radix and the sign
+-- the sum is the required length, in each case of the radix and the sign
 need_is : (g : _) (c : After-grouped_len g)
     → c.from-sign.result + c.grouped_len.result ≡ need (g.Self.LexicalInteger.number c.args.self) g.Self.LexicalInteger.DECIMAL_WIDTH c.args.format.now
 need_is g c = search rules
@@ -16,7 +16,7 @@ within g c =
     let radix = rw c.mantissa_radix-radix.ensures.value at c.mantissa_radix-radix.ensures.radix in
     let range = c.in_range.ensures in
     let enough =
-    g.met.Self.ToLexicalWithOptions.size_is_enough
+    g.met.Self.ToLexicalWithOptions.size_suffices
     (g.Self.LexicalInteger.number c.args.self) c.args.format.now radix range.at_least range.at_most in
     let size = g.Self.FormattedSize.FORMATTED_SIZE in
     let decimal = g.Self.FormattedSize.FORMATTED_SIZE_DECIMAL in
