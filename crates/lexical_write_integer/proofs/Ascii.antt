@@ -1,4 +1,4 @@
--- The characters of digits, the signs and the marks between groups are ASCII.
+-- The characters of digits, the signs and the separators between groups are ASCII.
 use Rattle.std.proofs.Common.{Option, None, Some, Bool, true, false, ◌==◌, ℕ, ◌<◌, ◌≤◌, ◌%◌, List, [], ◌∷◌, ◌++◌, length, map, refl, arith, ℤ, pos, negsuc}
 use Rattle.std.specs.List.{All}
 use Rattle.std.specs.Option.{ForSome}

@@ -25,5 +25,6 @@ pub mod Buffers
 pub mod PairBlocks
 pub mod Sequences
 -- steps of the proofs by hand
+pub mod WrittenTypes
 pub mod Reborrows
 pub mod HandedFronts

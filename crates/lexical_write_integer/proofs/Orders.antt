@@ -188,7 +188,7 @@ ComesBefore-append front s t =
       ],
     )
 
--- groups do not change the order of digits of the same length, since their marks are at the same positions
+-- groups do not change the order of digits of the same length, since their separators are at the same positions
 slice_cmp-in_groups : (grouping : ℕ × ℕ) (s t : List ℕ)
     → length s ≡ length t → slice_cmp nat_cmp (in_groups grouping s) (in_groups grouping t) ≡ slice_cmp nat_cmp s t
 slice_cmp-in_groups grouping [] [] long = refl

@@ -37,7 +37,7 @@ pow-lt_more r i zero two less = absurd (omega arith)
 
 -- ---- quotients
 
--- a quotient that is divided by one more power
+-- a quotient that is divided by a further power
 pub div-pow_more : (r n step taken : ℕ) → n / r ^ taken / r ^ step ≡ n / r ^ (step + taken)
 div-pow_more r n step taken =
     div-div-eq-div-mul n (r ^ taken) (r ^ step) ∙ ap (λ p. n / p) (mul_comm (r ^ taken) (r ^ step) ∙ sym (pow-add r step taken))

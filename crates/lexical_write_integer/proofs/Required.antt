@@ -24,7 +24,7 @@ length-grouped : (grouping : Option (ℕ × ℕ)) (digits : List ℕ)
 length-grouped None digits good = refl
 length-grouped (Some grouping) digits good = length-in_groups grouping digits (good grouping refl).size.at_least_one
 
--- the sign, the digits, and the marks between their groups
+-- the sign, the digits, and the separators between their groups
 pub length-IsText : (x : ℤ) (format : Format) (text : List ℕ) → 2 ≤ format.mantissa_radix → ForSome format.digit_grouping IsGrouping → IsText x format text
     → length text ≡ length (sign_of x format.required_mantissa_sign) + grouped_length format.digit_grouping (digit_count format.mantissa_radix (unsigned_abs x))
 length-IsText x format text two good is =
@@ -44,7 +44,7 @@ digit_count-le_need r n width some fits =
     (λ e. digit_count-le r n width some (rw (eqb-true r 10 e) fits))
     (λ _. omega arith)
 
--- and for the sign, the digits and the marks between their groups
+-- and for the sign, the digits and the separators between their groups
 pub grouped_length-le_need : {x least greatest : ℤ} (format : Format) {width count : ℕ}
     → IsDecimalWidth least greatest width → least ≤ℤ x → x ≤ℤ greatest
     → count ≡ digit_count format.mantissa_radix (unsigned_abs x)
@@ -53,7 +53,7 @@ grouped_length-le_need {x} format {width} {count} decimal low high counted =
     let few = digit_count-le_need format.mantissa_radix (unsigned_abs x) width decimal.some (decimal.enough x low high) in
     omega (arith, grouped_length-more format.digit_grouping count (digits_need format.mantissa_radix (unsigned_abs x) width) 0 (omega (arith, few, counted)))
 
--- the digits with their marks are at least as long as the digits
+-- the digits with their separators are at least as long as the digits
 grouped_length-ge : (grouping : Option (ℕ × ℕ)) (n : ℕ) → n ≤ grouped_length grouping n
 grouped_length-ge None n = omega arith
 grouped_length-ge (Some grouping) n = omega arith

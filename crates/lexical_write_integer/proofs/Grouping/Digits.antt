@@ -13,7 +13,7 @@ mark_before-whole grouping right whole = cond-true _ _ _ (eq-eqb (right % groupi
 mark_before-part : (grouping : ℕ × ℕ) (right : ℕ) → (right % grouping.0 ≡ 0 → ⊥) → mark_before grouping right ≡ []
 mark_before-part grouping right part = cond-false _ _ _ (ne_eqb (right % grouping.0) 0 part)
 
--- a single group has no mark
+-- a single group has no separator
 pub in_groups-one : (grouping : ℕ × ℕ) (digits : List ℕ) → length digits ≤ grouping.0 → in_groups grouping digits ≡ digits
 in_groups-one grouping [] few = refl
 in_groups-one grouping (digit ∷ []) few = refl
@@ -22,7 +22,7 @@ in_groups-one grouping (digit ∷ next ∷ digits) few =
     let part = mark_before-part grouping (length (next ∷ digits)) (λ e. omega arith) in
     rw part (ap (λ rest. digit ∷ rest) (in_groups-one grouping (next ∷ digits) (omega arith)))
 
--- a last group that follows other digits has a mark before it
+-- a last group that follows other digits has a separator before it
 pub in_groups-append : (grouping : ℕ × ℕ) (digits group : List ℕ)
     → 0 < grouping.0 → 0 < length digits → length group ≡ grouping.0
     → in_groups grouping (digits ++ group) ≡ in_groups grouping digits ++ grouping.1 ∷ group
@@ -44,7 +44,7 @@ pub some_factor : (m n product : ℕ) → m * n ≡ product → 0 < product → 
 some_factor zero n product is some = absurd (omega arith)
 some_factor (suc m) n product is some = omega arith
 
--- the mark before a byte is counted as one further group to its right
+-- the separator before a byte is counted as one further group to its right
 pub length-mark_before : (grouping : ℕ × ℕ) (right : ℕ)
     → 0 < grouping.0 → 0 < right → length (mark_before grouping right) + (right - 1) / grouping.0 ≡ right / grouping.0
 length-mark_before grouping right some any =
@@ -64,7 +64,7 @@ length-mark_before grouping right some any =
           omega (arith, same, ap length (mark_before-part grouping right part))
     ]
 
--- each group except the first has a mark before it
+-- each group except the first has a separator before it
 pub length-in_groups : (grouping : ℕ × ℕ) (digits : List ℕ)
     → 0 < grouping.0 → length (in_groups grouping digits) ≡ length digits + (length digits - 1) / grouping.0
 length-in_groups grouping [] some = let none : (0 - 1) / grouping.0 ≡ 0 = div-eq_of_lt (omega arith) in omega arith

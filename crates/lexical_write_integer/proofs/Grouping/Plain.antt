@@ -1,4 +1,4 @@
--- A text without the marks between its groups.
+-- A text without the separators between its groups.
 use Rattle.std.proofs.Common.{◌≡◌, ◌≢◌, Option, None, Some, Bool, true, false, not, ◌==◌, ℕ, ◌<◌, ◌≤◌, ◌%◌, List, [], ◌∷◌, ◌++◌}
 use Rattle.std.proofs.Common.{length, map, refl, sym, ap, ◌∙◌, arith, ℤ, pos, negsuc}
 use Rattle.std.specs.List.{All, filter}
@@ -11,7 +11,7 @@ use Rattle.lexical_num.specs.Sign.{sign_of}
 use Rattle.lexical_write_integer.specs.Groups.{mark_before, in_groups, grouped, without_marks}
 use Rattle.lexical_write_integer.specs.Text.{IsText}
 
--- ---- the bytes other than a mark
+-- ---- the bytes other than a separator
 
 abbrev others : ℕ → List ℕ → List ℕ
 others mark = filter (λ byte. not (byte == mark))
@@ -26,7 +26,7 @@ others-mark_before : (grouping : ℕ × ℕ) (right : ℕ) → others grouping.1
 others-mark_before grouping right =
     cond_both (right % grouping.0 == 0) (grouping.1 ∷ []) [] (λ bytes. others grouping.1 bytes ≡ []) (λ _. others-mark grouping.1 []) (λ _. refl)
 
--- bytes in groups without the marks are the bytes
+-- bytes in groups without the separators are the bytes
 others-in_groups : (grouping : ℕ × ℕ) (bytes : List ℕ) → All (λ byte. byte ≢ grouping.1) bytes → others grouping.1 (in_groups grouping bytes) ≡ bytes
 others-in_groups grouping [] other = refl
 others-in_groups grouping (byte ∷ []) other = others-other grouping.1 byte [] (All-head (λ byte. byte ≢ grouping.1) byte [] other)
@@ -39,7 +39,7 @@ others-in_groups grouping (byte ∷ next ∷ bytes) other =
     (filter-append (λ byte. not (byte == grouping.1)) mark rest ∙ ap (λ bytes. bytes ++ others grouping.1 rest)
     (others-mark_before grouping (length (next ∷ bytes))) ∙ following)
 
--- ---- a mark is neither the character of a digit nor a sign
+-- ---- a separator is neither the character of a digit nor a sign
 
 digit_char-mark : (d mark : ℕ) → d < 36 → IsMark mark → digit_char d ≢ mark
 digit_char-mark d mark small is same = grind (arith, is.no_letter_or_digit)
@@ -68,7 +68,7 @@ without_marks-grouped (Some grouping) r x required digits good few below =
     others-sign grouping.1 x required _ mark
     ∙ ap (λ bytes. sign_of x required ++ bytes) (others-in_groups grouping (map digit_char digits) (digit_chars-mark r grouping.1 digits few mark below))
 
--- a text without its marks is the text in the same format without groups
+-- a text without its separators is the text in the same format without groups
 pub IsText-without_marks : (x : ℤ) (format : Format) (text : List ℕ)
     → format.mantissa_radix ≤ 36 → ForSome format.digit_grouping IsGrouping → IsText x format text
     → IsText x (without_groups format) (without_marks format.digit_grouping text)

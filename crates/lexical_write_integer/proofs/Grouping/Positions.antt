@@ -16,7 +16,7 @@ from_right-append front text right inside =
     get_or-append_right front text (length front) (length (front ++ text) - 1 - right) 0 refl (omega arith)
     ∙ ap (λ n. get_or text n 0) (let e : length (front ++ text) - 1 - right - length front ≡ length text - 1 - right = omega arith in e)
 
--- to the right of a digit are the digits that follow it, and one mark for each whole group of them
+-- to the right of a digit are the digits that follow it, and one separator for each whole group of them
 pub digit-from_right : (grouping : ℕ × ℕ) (digits : List ℕ) (right : ℕ)
     → 0 < grouping.0 → right < length digits
     → from_right (in_groups grouping digits) (right + right / grouping.0) ≡ from_right digits right
@@ -42,7 +42,7 @@ digit-from_right grouping (digit ∷ next ∷ digits) right some inside =
           ∙ ap (λ n. get_or (digit ∷ tail) n 0) (let e : 0 ≡ suc (length tail) - 1 - right = omega arith in e)
     ]
 
--- before any number of whole groups is a mark
+-- before any number of whole groups is a separator
 pub mark-from_right : (grouping : ℕ × ℕ) (digits : List ℕ) (groups : ℕ)
     → 0 < grouping.0 → 1 ≤ groups → groups * grouping.0 < length digits
     → from_right (in_groups grouping digits) (groups * grouping.0 + groups - 1) ≡ grouping.1

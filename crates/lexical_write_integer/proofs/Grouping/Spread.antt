@@ -14,8 +14,8 @@ use Rattle.lexical_write_integer.proofs.Grouping.Positions.{digit-from_right, ma
 pub spread_out : ℕ × ℕ → ℕ → ℕ → List ℕ → List ℕ
 spread_out grouping count total before = in_groups grouping (take count before) ++ drop total before
 
--- The first `left` digits have not moved, and each byte from index `end` is as it is in the end: `groups` whole groups with
--- their marks, and `in_group` digits of one more.
+-- The first `left` digits have not moved, and each byte from index `end` has its final value: `groups` whole groups with their
+-- separators, and `in_group` digits of the next.
 pub record IsSpread (grouping : ℕ × ℕ) (count total left end in_group : ℕ) (before between : List ℕ) : Type 0 where
   pub groups : ℕ
   pub digits : left + (groups * grouping.0 + in_group) ≡ count
@@ -37,7 +37,7 @@ IsSpread-start {grouping} {count} {total} {before} h =
       placed = sym (drop_at (in_groups grouping (take count before)) (drop total before) total (length-in_groups_taken h));
     }
 
--- if a byte is not in its place yet, neither are all digits
+-- if a byte is still to be written, a digit is still to be moved
 pub IsSpread-left : {grouping : ℕ × ℕ} {count total : ℕ} (left : ℕ) {end in_group : ℕ} {before between : List ℕ}
     → HasRoomInGroups grouping count total before → 0 < end → IsSpread grouping count total left end in_group before between → 0 < left
 IsSpread-left {grouping} {count} zero {end} {in_group} h due w =
@@ -88,7 +88,7 @@ byte_at {grouping} {count} {total} {before} index right h is_index =
     get_or_append_left text (drop total before) 0 index (omega (arith, long))
     ∙ ap (λ n. get_or text n 0) (let e : index ≡ length text - 1 - right = omega (arith, long) in e)
 
--- a digit moves to its place
+-- a digit is moved to its index
 pub IsSpread-digit : {grouping : ℕ × ℕ} {count total left end in_group : ℕ} {before between : List ℕ}
     → HasRoomInGroups grouping count total before → length between ≡ length before → 0 < end → in_group < grouping.0
     → IsSpread grouping count total left end in_group before between
@@ -121,7 +121,7 @@ IsSpread-digit {grouping} {count} {total} {left} {end} {in_group} {before} {betw
       placed = placed-more end _ between _ due (omega (arith, w.bytes, h.room)) (omega (arith, w.bytes, h.room, length-spread_out h)) w.placed byte;
     }
 
--- after a whole group its mark is written
+-- after a whole group its separator is written
 pub IsSpread-mark : {grouping : ℕ × ℕ} {count total left end in_group : ℕ} {before between : List ℕ}
     → HasRoomInGroups grouping count total before → length between ≡ length before → 0 < end → in_group ≡ grouping.0
     → IsSpread grouping count total left end in_group before between
@@ -145,7 +145,7 @@ IsSpread-mark {grouping} {count} {total} {left} {end} {in_group} {before} {betwe
       placed = placed-more end _ between _ due (omega (arith, w.bytes, h.room)) (omega (arith, w.bytes, h.room, length-spread_out h)) w.placed byte;
     }
 
--- every byte is in its place
+-- every byte is written
 pub IsSpread-end : {grouping : ℕ × ℕ} {count total left end in_group : ℕ} {before after : List ℕ}
     → HasRoomInGroups grouping count total before → end ≡ 0
     → IsSpread grouping count total left end in_group before after → Front before after (in_groups grouping (take count before))

@@ -1,4 +1,4 @@
--- The text of a number in groups: the positions of its digits and marks.
+-- The text of a number in groups: the positions of its digits and separators.
 use Rattle.std.proofs.lemmas.Nat.{le-div}
 use Rattle.std.proofs.Common.{◌≡◌, Some, ℕ, ◌+◌, ◌-◌, ◌*◌, ◌/◌, ◌<◌, ◌≤◌, List, ◌++◌, length, sym, ap, ◌∙◌, arith, ℤ, unsigned_abs}
 use Rattle.lexical_num.specs.Format.{Format, without_groups}
@@ -28,7 +28,7 @@ long : (x : ℤ) (format : Format) (grouping : ℕ × ℕ) (text : List ℕ)
     → length (in_groups grouping is.digits) ≡ count_of x format + (count_of x format - 1) / grouping.0
 long x format grouping text two some is = length-in_groups grouping is.digits some ∙ ap (λ n. n + (n - 1) / grouping.0) (counted x format text two is)
 
--- a single group has no mark
+-- a single group has no separator
 pub IsText-one_group : (x : ℤ) (format : Format) (grouping : ℕ × ℕ) (text : List ℕ)
     → 2 ≤ format.mantissa_radix → format.digit_grouping ≡ Some grouping → IsText x format text → count_of x format ≤ grouping.0
     → IsText x (without_groups format) text

@@ -1,12 +1,12 @@
--- `to_lexical_with_options` writes the text of a number and lends it. The borrow checker shows no write-back clause for a
--- front that is handed back, so this proof walks the code by hand, once for every type.
+-- `to_lexical_with_options` writes the text of a number and returns a borrow of it. The borrow checker proves no write-back
+-- clause for a borrow that is passed on, so this proof goes through the code by hand, once for all types.
 use mathlib.Core.Path.{refl, ap}
 use Prim.Native.Nat.{ℕ, ◌≤◌}
 use mathlib.Core.List.{List, [], ◌∷◌}
 use lib.ListN.{length, take}
 use seplogic.Ra.Ura.{Ura}
 use base.Fraction.{full_share}
-use mir.Syntax.{Fn, Args, Dict, a_type, named, dcons, dnil, method}
+use mir.Syntax.{Fn, Args, a_type, named, dcons, dnil, method}
 use mir.MapTy.{inst_fn}
 use mir.Val.{Val}
 use base.Logic.{SProp, ent, emp, id⊢}
@@ -26,13 +26,14 @@ use contract.Monad.{Fun, fact, fact_i}
 use contract.Running.{tables, tables_of}
 use sound.WpLaws.{WpFn-mono, fm_of}
 use Rattle.lexical_write_integer.proofs.Reborrows.{lent_again, lends_again, came_back, comes_back}
-use Rattle.lexical_write_integer.proofs.HandedFronts.{Fronts, called, asks, gave, gives}
+use Rattle.lexical_write_integer.proofs.WrittenTypes.{Able}
+use Rattle.lexical_write_integer.proofs.HandedFronts.{Fronts, calls_front}
 use Rattle.lexical_write_integer.proofs.Buffers.Prefixes.{Writes-short, Writes-and}
 use denote.Builtin.{u8, usize}
 use denote.Exit.{no, yes}
 use denote.Param.{bounded, layout, layouts, copied, param}
 use denote.Laws.{Typed}
-use denote.Param.Laws.{Laws, IsCopy, copied_laws}
+use denote.Param.Laws.{copied_laws}
 use denote.RattleType.{RattleType, owns}
 use denote.Ref.{Bor, MutBor, ShrRef, shr_vals, shr_Tells}
 use denote.Signature.{plain, mut_slice_of, shr_ref_to}
@@ -44,17 +45,11 @@ use denote.Triple.Spec.{triple_of}
 use denote.Triple.Statement.{Triple, Contract}
 use denote.Triple.Table.{entered}
 use denote.Triple.Walked.{Stays, stay_dropped, walk_of, ends_at, walked, Goes-dropped, Goes-spent_slice, walk_Meets}
-use Rattle.std.specs.declared.clone.Clone as cloned
 use Rattle.lexical_num.specs.Format.{Format, without_groups}
 use Rattle.lexical_num.specs.contracts.format.NumberFormat.{the_row as NumberFormat}
-use Rattle.lexical_num.specs.declared.constants.FormattedSize as sized
-use Rattle.lexical_num.specs.declared.num.LexicalInteger as numbered
-use Rattle.lexical_num.specs.declared.options.WriteOptions as told
 use Rattle.lexical_write_integer.specs.Buffer.{Writes as Written}
 use Rattle.lexical_write_integer.specs.Groups.{without_marks}
 use Rattle.lexical_write_integer.specs.Text.{IsText, need}
-use Rattle.lexical_write_integer.specs.declared.api.ToLexical as decimal
-use Rattle.lexical_write_integer.specs.declared.api.ToLexicalWithOptions as declared
 use Rattle.lexical_write_integer.specs.contracts.api.ToLexicalWithOptions.write_lexical_with_options as W
 use Rattle.lexical_write_integer.proofs.buffer.front_mut.Met.{met}
 use Rattle.lexical_write_integer.specs.contracts.buffer.front_mut.Key.{name as #front_mut}
@@ -62,25 +57,6 @@ use Rattle.lexical_write_integer.specs.contracts.api.ToLexicalWithOptions.to_lex
 use Rattle.lexical_write_integer.specs.contracts.api.ToLexicalWithOptions.to_lexical_with_options.Key.{name as #self}
 use Rattle.lexical_write_integer.proofs.api.ToLexicalWithOptions.to_lexical_with_options.Statement as stated
 use Rattle.lexical_write_integer.proofs.api.ToLexicalWithOptions.to_lexical_with_options.Code as code
-
--- the type that implements the trait, and the type of its options
-record Able : Type 2 where
-  pub row : RattleType
-  pub laws : Laws row
-  pub copy : IsCopy row
-  pub options : RattleType
-  pub g : declared.Ghosts row.Denot options.Denot
-  pub d : Dict
-  pub gl : decimal.Ghosts row.Denot
-  pub dl : Dict
-  pub gn : numbered.Ghosts row.Denot
-  pub dn : Dict
-  pub gc : cloned.Ghosts row.Denot
-  pub dc : Dict
-  pub gs : sized.Ghosts row.Denot
-  pub ds : Dict
-  pub gt : told.Ghosts options.Denot
-  pub dt : Dict
 
 module _ (T : Able) where
   abbrev args : Args
@@ -213,11 +189,8 @@ module _ (T : Able) {M : Type 1} {𝓤 : Ura M} (𝓛 : Logic 𝓤) (at_mem : Me
         sets !
         (agg ! (and_then ! (get ! refl) (and_then ! (get_in ! (fld ! refl (stop !)) (sub ! 1 refl (whole !))) (no_more !)))) refl
         (tt, (tt, (record { fits = room.0 }, tt))) $
-        let y : (Fronts 𝓛 at_mem run).Ghost = called 𝓛 at_mem run κ q b o γ xs ys n in
-        use2 𝓛 (raw ((Fronts 𝓛 at_mem run).pre y)) (asks 𝓛 at_mem run κ q b o γ xs ys n wrote fits long) $
-        calls_at ! (fm_of 𝓤 H 𝓛.laws 𝓣) (Fronts 𝓛 at_mem run) fronts y (and_then ! (get ! refl) (and_then ! (get ! refl) (no_more !))) (λ v'.
-        use1 𝓛 (gave 𝓛 at_mem run κ q b o γ xs ys n All v') (gives 𝓛 at_mem run κ q b o γ xs ys n All v' wrote) $ await ! tt $
-        pick ! (λ r. learn ! (λ handed. split3 ! $
+        calls_front 𝓛 at_mem run κ q b o γ xs ys n ! All (fm_of 𝓤 H 𝓛.laws 𝓣) fronts wrote fits long
+        (and_then ! (get ! refl) (and_then ! (get ! refl) (no_more !))) (λ v' r handed.
         lands_as ! handed.word refl (tt, (tt, (record { fits = handed.fits }, tt))) $
         returns ! (look_at ! 0 refl) $ free_all ! refl $
         -- [the result; the token of κ; what is lent; the references; the other tokens]
@@ -227,30 +200,13 @@ module _ (T : Able) {M : Type 1} {𝓤 : Ura M} (𝓛 : Logic 𝓤) (at_mem : Me
         nothing ! $ fjoin ! $ move ! (0 ∷ 2 ∷ []) $ join ! $ move ! (1 ∷ []) $ join ! $
         frame ! $ frame ! $ use0 𝓛 (raw (fact 𝓤 (Plain r.now))) (fact_i 𝓤 _ (emp 𝓤) handed.is.1) $
         use0 𝓛 (raw (fact 𝓤 (IsShort r.now))) (fact_i 𝓤 _ (emp 𝓤) handed.is.0.1) $
-        use0 𝓛 (raw (fact 𝓤 (Text r.now))) (fact_i 𝓤 _ (emp 𝓤) handed.is.0.0) $ done !))))))))))))))))))
+        use0 𝓛 (raw (fact 𝓤 (Text r.now))) (fact_i 𝓤 _ (emp 𝓤) handed.is.0.0) $ done !))))))))))))))))
 
 pub to_lexical_with_options_spec : {M : Type 1} → stated.statement M
 unfolding tables_of
 to_lexical_with_options_spec 𝓤 𝓛 𝓜 𝓡 wired X Y L LY C g d gl dl gn dn gc dc gs ds gt dt met' _ _ _ _ _ =
     let T : Able =
-    record {
-      row = X;
-      laws = L;
-      copy = C;
-      options = Y;
-      g = g;
-      d = d;
-      gl = gl;
-      dl = dl;
-      gn = gn;
-      dn = dn;
-      gc = gc;
-      dc = dc;
-      gs = gs;
-      ds = ds;
-      gt = gt;
-      dt = dt;
-    } in
+    record { row = X; copy = C; options = Y; g = g; d = d; gl = gl; dl = dl; gn = gn; dn = dn; gc = gc; dc = dc; gs = gs; ds = ds; gt = gt; dt = dt } in
     let 𝓣 : Tables 𝓤 𝓛.H = tables_of 𝓤 𝓛.H 𝓜 (tables 𝓤 𝓛.H 𝓜 𝓡 𝓡.env) in
     let c = clauses T 𝓛 𝓜.mem 𝓡.returns in
     entered 𝓤 𝓛.H (triple_of 𝓛 (F.signature X Y) (F.spec X Y g d gl dl gn dn gc dc gs ds gt dt 𝓛 𝓜.mem 𝓡.returns)) 𝓣.C 𝓣.Λ
