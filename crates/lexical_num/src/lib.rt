@@ -16,8 +16,6 @@ pub mod options;
 
 // Facts for callers.
 pub mod laws;
-#[cfg(test)]
-mod tests;
 
 pub use constants::{BUFFER_SIZE, FormattedSize};
 pub use digit::digit_to_char;

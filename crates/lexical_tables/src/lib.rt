@@ -7,8 +7,6 @@ ghost use Rattle.lexical_tables.specs.Pairs.{digit_char, pairs};
 mod table_binary;
 mod table_decimal;
 mod table_radix;
-#[cfg(test)]
-mod tests;
 
 pub use table_binary::{
     DIGIT_TO_BASE2_SQUARED, DIGIT_TO_BASE4_SQUARED, DIGIT_TO_BASE8_SQUARED,

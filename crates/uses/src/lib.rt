@@ -11,6 +11,7 @@ pub mod column;
 pub mod csv_row;
 pub mod date;
 pub mod date_time;
+pub mod decimal_turns;
 pub mod dump_line;
 pub mod fixed_texts;
 pub mod float_format;
@@ -31,4 +32,5 @@ pub mod sorted_keys;
 pub mod table_row;
 #[cfg(test)]
 mod tests;
+pub mod turn_lists;
 pub mod weight;

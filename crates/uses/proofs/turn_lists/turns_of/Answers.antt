@@ -1,8 +1,8 @@
 use Rattle.std.proofs.Common.{◌≡◌, ◌∙◌, arith}
 use Rattle.lexical_write_integer.specs.DigitCount.{digit_count}
 use Rattle.lexical_write_integer.proofs.DigitCounts.{digit_count-is}
-use Rattle.write_integer_tests.proofs.turn_lists.turns_of.Goals as goal
-use Rattle.write_integer_tests.proofs.turn_lists.turns_of.Goals.{After-compact_counted}
+use Rattle.uses.proofs.turn_lists.turns_of.Goals as goal
+use Rattle.uses.proofs.turn_lists.turns_of.Goals.{After-compact_counted}
 
 digits_are : (g : _) (c : After-compact_counted g) → digit_count c.args.radix (g.T.UnsignedInteger.magnitude c.args.value) ≡ c.args.digits
 digits_are g c = digit_count-is _ _ _ c.requires.radix.at_least_two c.requires.some c.requires.enough c.requires.needed

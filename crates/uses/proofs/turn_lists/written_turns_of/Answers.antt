@@ -1,6 +1,6 @@
 use Rattle.std.proofs.Common.{◌∙◌, arith}
 use Rattle.lexical_write_integer.proofs.DigitCounts.{digit_count-is}
-use Rattle.write_integer_tests.proofs.turn_lists.written_turns_of.Goals as goal
+use Rattle.uses.proofs.turn_lists.written_turns_of.Goals as goal
 
 pub returns : goal.returns
 returns g c =

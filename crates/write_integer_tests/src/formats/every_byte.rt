@@ -1,8 +1,8 @@
 // Every pair of radix bytes, and of group size and mark.
 
 use super::built;
-use crate::error::Error;
-use crate::format_builder::NumberFormatBuilder;
+use lexical_num::error::Error;
+use lexical_num::format_builder::NumberFormatBuilder;
 use std::process::Abort;
 
 // A radix is from 2 to 36.
