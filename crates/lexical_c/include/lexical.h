@@ -1,35 +1,43 @@
 /* SPDX-License-Identifier: MIT OR Apache-2.0 */
 /*
- * lexical.h: integers to text, in every radix from 2 to 36.
+ * lexical.h: converts integers to text, in every radix from 2 to 36.
  *
- * Each function of this library is proved: it writes the text of the number and
- * nothing else, or it refuses, returns 0 and leaves the buffer unchanged. The
- * proof begins at the arguments, which must be what "Format" and "Buffer" below
- * say.
+ *     const struct lexical_format format = { 16, 0, 0, 0 };
+ *     char buffer[LEXICAL_BUFFER_SIZE];
+ *     size_t count = lexical_write_u32(48879, &format, buffer, sizeof buffer);
  *
- * Text. First the sign: '-' for a number below 0; '+' for any other number if
- * the format requires a sign. Then the digits '0' to '9' and 'A' to 'Z', the
- * most significant first, with no leading zeros, and with a mark between two
- * groups of digits if the format asks for groups.
+ * writes BEEF to the buffer and returns 4. The examples of this file are from
+ * tests/header.c, a test of the library.
+ *
+ * Each function is proved for all arguments that meet the conditions below
+ * under "Format" and "Buffer": it writes the text of the number and nothing
+ * else, or it returns 0 and leaves the buffer unchanged. The proof does not
+ * cover the caller's code.
+ *
+ * Text. The text begins with a sign: '-' for a negative number, and '+' for any
+ * other number if the format requires a sign. Then come the digits, '0' to '9'
+ * and 'A' to 'Z', the most significant digit first, with no leading zeros. If
+ * the format has groups, a separator (its mark) is written between groups of
+ * digits.
  *
  * Format. `format` points to a struct lexical_format, which the call only
- * reads. It must not be NULL. The fields may hold any numbers: a format that is
- * not valid is refused, and lexical_check_format says which field is wrong.
+ * reads. It must not be NULL. Its fields may hold any numbers: if one is
+ * invalid, the call returns 0, and lexical_check_format says which one it is.
  *
- * Buffer. `buffer` points to `length` bytes that the call may write, that do not
- * overlap the format, and that no other thread uses during the call. With a
- * length of 0 it may be NULL. No object is longer than PTRDIFF_MAX bytes, so a
- * greater length is not allowed. The call does not read what the buffer held,
- * writes nothing outside it, and keeps no pointer to it.
+ * Buffer. `buffer` points to `length` bytes that the call may write. They must
+ * not overlap the format, and no other thread may use them during the call. The
+ * pointer may be NULL if the length is 0. The length must be at most
+ * PTRDIFF_MAX, since no object is longer. The call does not read what the buffer
+ * held, writes nothing outside it, and keeps no pointer to it.
  *
- * Room. A call writes whenever the text fits, and otherwise returns 0.
- * LEXICAL_BUFFER_SIZE bytes are enough for every number of every type in every
- * format. A buffer of the size of its type (LEXICAL_BUFFER_SIZE_.. below) also
- * takes the fast path; one that is shorter is written by way of an array on the
- * stack.
+ * Length of the buffer. A call writes if the text fits the buffer, and
+ * otherwise returns 0. LEXICAL_BUFFER_SIZE bytes are enough for every number of
+ * every type in every format. A call is fastest if the buffer is long enough
+ * for every number of its type (LEXICAL_BUFFER_SIZE_.. below); otherwise the
+ * text is written to an array on the stack first.
  *
- * No terminating 0 is written: the length of the text is what the function
- * returns. A string needs one more byte, which the call must not be offered:
+ * Strings. No terminating 0 is written; the result of the call is the length of
+ * the text. For a string, reserve one more byte, which is not part of `length`:
  *
  *     char text[LEXICAL_BUFFER_SIZE_DECIMAL_I32 + 1];
  *     size_t count = lexical_write_i32(-42, &lexical_standard_format,
@@ -37,7 +45,7 @@
  *     text[count] = '\0';
  *
  * Threads and signals. The functions have no state, allocate nothing, and do
- * not touch errno: any thread and any signal handler may call them.
+ * not change errno: any thread and any signal handler may call them.
  */
 #ifndef LEXICAL_H
 #define LEXICAL_H
@@ -49,7 +57,7 @@
 #error "lexical_c is built for a size_t of 64 bits"
 #endif
 
-/* What the compiler can be told of the functions below. */
+/* Attributes of the functions below, for compilers that have them. */
 #if defined(__GNUC__)
 #define LEXICAL_HAS(list) __attribute__(list)
 #else
@@ -68,11 +76,11 @@
 #else
 #define LEXICAL_NOEXCEPT
 #endif
-/* (value, format, buffer, length): writes to the buffer; its result counts. */
+/* For (value, format, buffer, length): the call writes to the buffer. */
 #define LEXICAL_WRITES                                                         \
     LEXICAL_HAS((nothrow, nonnull(2), warn_unused_result))                     \
     LEXICAL_ACCESS((read_only, 2)) LEXICAL_ACCESS((write_only, 3, 4))
-/* (value, format) and (format): read the format and write nothing. */
+/* For (value, format) and (format): the call reads the format and writes nothing. */
 #define LEXICAL_READS(n)                                                       \
     LEXICAL_HAS((nothrow, pure, nonnull(n), warn_unused_result))               \
     LEXICAL_ACCESS((read_only, n))
@@ -87,49 +95,52 @@ extern "C" {
  */
 #define LEXICAL_VERSION 2000000
 
-/* Returns the version of the library, in the form of LEXICAL_VERSION. */
+/* Returns the version of the library, as a number of the form of LEXICAL_VERSION. */
 LEXICAL_HAS((nothrow, const)) uint32_t lexical_version(void) LEXICAL_NOEXCEPT;
 
 /* ---- formats ------------------------------------------------------------- */
 
-/* How a number is to be written. */
+/* A format: how a number is written. */
 struct lexical_format {
     uint32_t radix;         /* from 2 to 36 */
-    uint32_t required_sign; /* 0 for no '+'; any other number for a '+' */
-    uint32_t group_size;    /* digits in a group, from 1 to 64; 0 for no groups */
-    uint32_t mark;          /* the byte between two groups; unused if group_size
-                               is 0. From 32 to 126, and no letter, digit, '+'
-                               or '-' */
+    uint32_t required_sign; /* 0 for no '+', and any other number for a '+' */
+    uint32_t group_size;    /* digits in a group, from 1 to 64, or 0 for no groups */
+    uint32_t mark;          /* the separator between groups: a byte from 32 to 126
+                               that is not a letter, a digit, '+' or '-'. Unused
+                               if group_size is 0 */
 };
 
 /*
- * Decimal, with no '+' and no groups: as an initializer, and as an object.
+ * The standard format, as an initializer and as an object: decimal, with no '+'
+ * and no groups.
  *
- * Groups are counted from the right: { 10, 0, 3, ',' } writes 1,234,567. A field
- * is a number and no byte, so a value above 255 is refused and never cut.
+ * Groups are counted from the right: the format { 10, 0, 3, ',' } writes
+ * 1,234,567. The fields have 32 bits, so a value above 255 is not truncated to a
+ * byte but is invalid.
  */
 #define LEXICAL_STANDARD_FORMAT { 10, 0, 0, 0 }
 static const struct lexical_format lexical_standard_format = LEXICAL_STANDARD_FORMAT;
 
-/* What lexical_check_format returns for a format that is not valid. */
+/* The results of lexical_check_format for a format that is not valid. */
 #define LEXICAL_INVALID_RADIX 1
 #define LEXICAL_INVALID_GROUP_SIZE 2
 #define LEXICAL_INVALID_GROUP_MARK 3
 
 /*
- * Returns 0 if numbers can be written in the format, and otherwise its first
- * invalid field: the radix is checked first, then the group size, then the mark.
+ * Returns 0 if the format is valid, and otherwise one of the constants above,
+ * for its first invalid field. The radix is checked first, then the group size,
+ * then the mark.
  */
 LEXICAL_READS(1)
 uint32_t lexical_check_format(const struct lexical_format *format) LEXICAL_NOEXCEPT;
 
 /* ---- sizes --------------------------------------------------------------- */
 
-/* A size of buffer that is enough for every number of every type in every
-   format, in bytes. */
+/* A buffer size, in bytes, that is enough for every number of every type in
+   every format. */
 #define LEXICAL_BUFFER_SIZE 128
 
-/* The same for one type. */
+/* A buffer size that is enough for every number of one type in every format. */
 #define LEXICAL_BUFFER_SIZE_U8 16
 #define LEXICAL_BUFFER_SIZE_U16 32
 #define LEXICAL_BUFFER_SIZE_U32 64
@@ -140,7 +151,8 @@ uint32_t lexical_check_format(const struct lexical_format *format) LEXICAL_NOEXC
 #define LEXICAL_BUFFER_SIZE_I32 64
 #define LEXICAL_BUFFER_SIZE_I64 128
 
-/* The same for one type in the standard format. */
+/* A buffer size that is enough for every number of one type in the standard
+   format. */
 #define LEXICAL_BUFFER_SIZE_DECIMAL_U8 3
 #define LEXICAL_BUFFER_SIZE_DECIMAL_U16 5
 #define LEXICAL_BUFFER_SIZE_DECIMAL_U32 10
@@ -152,12 +164,11 @@ uint32_t lexical_check_format(const struct lexical_format *format) LEXICAL_NOEXC
 #define LEXICAL_BUFFER_SIZE_DECIMAL_I64 20
 
 /*
- * lexical_buffer_size_T: a size of buffer that is enough for every number of the
- * type in the format, its sign and its marks included.
+ * lexical_buffer_size_T: returns a buffer size, from 1 to LEXICAL_BUFFER_SIZE,
+ * that is enough for every number of the type in the format, including its sign
+ * and its separators. Returns 0 if the format is not valid.
  *
- * Returns a size from 1 to LEXICAL_BUFFER_SIZE, and 0 if the format is not
- * valid. With a buffer of that size lexical_write_T in the same format never
- * returns 0.
+ * With a buffer of that size, lexical_write_T in the same format never returns 0.
  */
 LEXICAL_READS(1)
 size_t lexical_buffer_size_u8(const struct lexical_format *format) LEXICAL_NOEXCEPT;
@@ -179,10 +190,10 @@ LEXICAL_READS(1)
 size_t lexical_buffer_size_i64(const struct lexical_format *format) LEXICAL_NOEXCEPT;
 
 /*
- * lexical_length_T: the length of the text of a number in the format.
+ * lexical_length_T: returns the length of the text of a number in the format,
+ * from 1 to LEXICAL_BUFFER_SIZE. Returns 0 if the format is not valid.
  *
- * Returns a length from 1 to LEXICAL_BUFFER_SIZE, and 0 if the format is not
- * valid. It is what lexical_write_T returns for a buffer of that length or more.
+ * lexical_write_T returns the same length if the buffer is at least that long.
  */
 LEXICAL_READS(2)
 size_t lexical_length_u8(uint8_t value,
@@ -215,20 +226,11 @@ size_t lexical_length_i64(int64_t value,
 /* ---- writing ------------------------------------------------------------- */
 
 /*
- * lexical_write_T: writes a number.
+ * lexical_write_T: writes the text of a number to the start of the buffer, and
+ * returns its length, which is never 0. Every byte after the text is unchanged.
  *
- * Returns the length of the text, which is at least 1. The text is at the start
- * of the buffer, and every byte after it is unchanged.
- *
- * Returns 0 if and only if the format is not valid or the text does not fit. The
- * buffer is then unchanged.
- *
- *     const struct lexical_format format = { 16, 0, 0, 0 };
- *     char buffer[LEXICAL_BUFFER_SIZE];
- *     size_t count = lexical_write_u32(48879, &format, buffer, sizeof buffer);
- *     printf("%.*s\n", (int)count, buffer);
- *
- * prints BEEF.
+ * Returns 0 if and only if the format is not valid or the text does not fit the
+ * buffer. The buffer is then unchanged.
  */
 LEXICAL_WRITES
 size_t lexical_write_u8(uint8_t value, const struct lexical_format *format,

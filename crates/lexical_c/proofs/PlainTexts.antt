@@ -1,4 +1,4 @@
--- Texts with no required sign and no groups.
+-- Texts in formats without groups and required signs.
 use Rattle.std.proofs.Common.{◌≡◌, None, ℕ, ◌-◌, ◌+◌, ◌≤◌, ℤ, pos, unsigned_abs, List, ◌++◌, length, take, drop, refl, sym, ap, ◌∙◌, arith}
 use Rattle.std.specs.Prelude.{false}
 use Rattle.std.proofs.lemmas.List.{length-take, take-append-drop}
@@ -10,18 +10,19 @@ use Rattle.lexical_write_integer.proofs.Signs.{WritesText-over}
 use borrow.Rule.Slice.PartMut.{put_mid}
 
 -- the digits of a number that is not negative are its text
-pub digits_alone : (format : Format) (magnitude : ℕ) (before after : List ℕ) (answer : ℕ) →
+pub digits_are_text : (format : Format) (magnitude : ℕ) (before after : List ℕ) (count : ℕ) →
     format.required_mantissa_sign ≡ false → format.digit_grouping ≡ None →
-    WritesDigits format.mantissa_radix magnitude before after answer → WritesText (pos magnitude) format before after answer
-digits_alone format magnitude before after answer none plain w = record {
+    WritesDigits format.mantissa_radix magnitude before after count → WritesText (pos magnitude) format before after count
+digits_are_text format magnitude before after count none plain w = record {
   text = w.writes.text;
   is = record { digits = w.writes.text; magnitude = w.writes.is; whole = rw (none, plain) refl };
   front = w.writes.front;
   count = w.writes.count;
 }
 
--- digits that stand at the front are their own front
-own_front : {Is : List ℕ → Type 0} (before written : List ℕ) (count : ℕ) → Writes Is before written count → Front written written (take count written)
+-- a buffer that begins with written bytes is unchanged if the same bytes are written again
+own_front : {Is : List ℕ → Type 0} (before written : List ℕ) (count : ℕ) →
+    Writes Is before written count → Front written written (take count written)
 own_front before written count w =
     let long : length (take count written) ≡ count = ap length (take-Writes before written count w) ∙ sym w.count in
     record {

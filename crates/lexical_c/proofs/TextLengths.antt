@@ -1,4 +1,4 @@
--- How long a text is.
+-- The lengths of texts, and the buffers that are long enough for them.
 use Rattle.std.proofs.Common.{◌≡◌, ℕ, ℤ, ◌+◌, ◌^◌, ◌<◌, ◌≤◌, length, unsigned_abs, refl, arith}
 use Rattle.std.specs.Prelude.{◌≤ℤ◌}
 use Rattle.lexical_num.specs.DecimalWidth.{IsDecimalWidth}
@@ -13,7 +13,7 @@ use Rattle.lexical_write_integer.proofs.Lengths.{length-IsText}
 use Rattle.lexical_write_integer.proofs.Printed.{IsRange-small}
 use Rattle.lexical_write_integer.proofs.Signs.{grouped_length-le_need}
 
--- the text of a number has its sign, its digits, and the marks between them
+-- the text of a number consists of its sign, its digits, and the separators between them
 pub length-text_of : (x : ℤ) (format : Format) → IsValid format → unsigned_abs x < 2 ^ 64 →
     length (text_of x format) ≡
     length (sign_of x format.required_mantissa_sign) + grouped_length format.digit_grouping (digit_count format.mantissa_radix (unsigned_abs x))
@@ -21,7 +21,7 @@ length-text_of x format valid small =
     let two = valid.mantissa.at_least_two in
     length-IsText x format (text_of x format) two valid.groups ((text_computed x format (text_of x format) two small).1 refl)
 
--- the text of each number of a type fits a buffer as long as its writer asks for
+-- the text of a number fits a buffer of the length that its writer requires
 pub text_of-le_need : (x least greatest : ℤ) (bits width : ℕ) (format : Format) → IsValid format →
     IsDecimalWidth least greatest width → IsRange bits least greatest → least ≤ℤ x → x ≤ℤ greatest →
     length (text_of x format) ≤ need x width format

@@ -1,10 +1,10 @@
--- When a number is written, and what the call leaves in the buffer.
+-- When a number is written, and what the buffer holds after the call.
 use Rattle.std.specs.Prelude.{◌≡◌, ℕ, ◌<◌, ◌≤◌, ◌↔◌, List, length, ℤ}
 use Rattle.lexical_num.specs.Format.{Format, IsValid}
 use Rattle.lexical_write_integer.specs.Buffer.{WritesText}
 use Rattle.lexical_write_integer.specs.Computed.{text_of}
 
--- numbers can be written in the format, and a buffer of this length has room for the text of the number
+-- the format is valid, and a buffer of this length has room for the text of the number
 pub record IsWritable (number : ℤ) (format : Format) (room : ℕ) : Type 0 where
   pub valid : IsValid format
   pub fits : length (text_of number format) ≤ room

@@ -1,16 +1,16 @@
--- What size of buffer has room for each number of a type.
+-- The sizes of buffers that are enough for every number of a type.
 use Rattle.std.specs.Prelude.{◌≡◌, ℕ, ◌<◌, ◌≤◌, ◌↔◌, ℤ, ◌≤ℤ◌, length}
 use Rattle.lexical_num.specs.declared.constants.TheConstants.{BUFFER_SIZE}
 use Rattle.lexical_num.specs.Format.{Format, IsValid}
 use Rattle.lexical_num.specs.Size.{size_in}
 use Rattle.lexical_write_integer.specs.Computed.{text_of}
 
--- a buffer of this size has room for the text of each number between two ends
+-- a buffer of this size has room for the text of every number from `smallest` to `largest`
 abbrev pub IsEnough : ℤ → ℤ → Format → ℕ → Type 0
 IsEnough smallest largest format size =
     (number : ℤ) → smallest ≤ℤ number → number ≤ℤ largest → length (text_of number format) ≤ size
 
--- the size of a type if numbers can be written in the format, with room for each number of the type; otherwise 0
+-- the size of the type in the format, which is enough for every number of the type, or 0 if the format is invalid
 pub record IsBufferSize (smallest largest : ℤ) (formatted_size formatted_size_decimal : ℕ) (format : Format)
     (result : ℕ) : Type 0 where
   pub accepts : 0 < result ↔ IsValid format

@@ -1,4 +1,4 @@
-//! The size of buffer that has room for each number of a type, and 0 if the format is invalid.
+//! The sizes of buffers that are enough for every number of a type.
 
 ghost use Rattle.std.specs.Prelude.{◌-◌, ◌^◌, pos, negsuc};
 ghost use Rattle.lexical_c.specs.BufferSize.{IsBufferSize};
@@ -7,8 +7,8 @@ ghost use Rattle.lexical_c.specs.Format.{format_of};
 use crate::format::{CFormat, number_format};
 use lexical_write_integer::{Options, ToLexicalWithOptions, WriteOptions};
 
-// Returns the size that has room for each number of the type, and 0 if no number can be written in
-// the format.
+// Returns a buffer size that is enough for every number of the type in the format, or 0 if the format
+// is invalid.
 fn buffer_size<T: ToLexicalWithOptions>(format: &CFormat) -> usize
     ensures { IsBufferSize T.least T.greatest T.FORMATTED_SIZE T.FORMATTED_SIZE_DECIMAL
         (format_of format.now) result }
@@ -19,7 +19,7 @@ fn buffer_size<T: ToLexicalWithOptions>(format: &CFormat) -> usize
     }
 }
 
-/// Returns the size for each `uint8_t`.
+/// Returns a buffer size that is enough for every `uint8_t`, or 0 if the format is invalid.
 #[unsafe(no_mangle)]
 pub extern "C" fn lexical_buffer_size_u8(format: &CFormat) -> usize
     ensures { IsBufferSize (pos 0) (pos (2 ^ 8 - 1)) 16 3 (format_of format.now) result }
@@ -27,7 +27,7 @@ pub extern "C" fn lexical_buffer_size_u8(format: &CFormat) -> usize
     buffer_size::<u8>(format)
 }
 
-/// Returns the size for each `uint16_t`.
+/// Returns a buffer size that is enough for every `uint16_t`, or 0 if the format is invalid.
 #[unsafe(no_mangle)]
 pub extern "C" fn lexical_buffer_size_u16(format: &CFormat) -> usize
     ensures { IsBufferSize (pos 0) (pos (2 ^ 16 - 1)) 32 5 (format_of format.now) result }
@@ -35,7 +35,7 @@ pub extern "C" fn lexical_buffer_size_u16(format: &CFormat) -> usize
     buffer_size::<u16>(format)
 }
 
-/// Returns the size for each `uint32_t`.
+/// Returns a buffer size that is enough for every `uint32_t`, or 0 if the format is invalid.
 #[unsafe(no_mangle)]
 pub extern "C" fn lexical_buffer_size_u32(format: &CFormat) -> usize
     ensures { IsBufferSize (pos 0) (pos (2 ^ 32 - 1)) 64 10 (format_of format.now) result }
@@ -43,7 +43,7 @@ pub extern "C" fn lexical_buffer_size_u32(format: &CFormat) -> usize
     buffer_size::<u32>(format)
 }
 
-/// Returns the size for each `uint64_t`.
+/// Returns a buffer size that is enough for every `uint64_t`, or 0 if the format is invalid.
 #[unsafe(no_mangle)]
 pub extern "C" fn lexical_buffer_size_u64(format: &CFormat) -> usize
     ensures { IsBufferSize (pos 0) (pos (2 ^ 64 - 1)) 128 20 (format_of format.now) result }
@@ -51,7 +51,7 @@ pub extern "C" fn lexical_buffer_size_u64(format: &CFormat) -> usize
     buffer_size::<u64>(format)
 }
 
-/// Returns the size for each `size_t`.
+/// Returns a buffer size that is enough for every `size_t`, or 0 if the format is invalid.
 #[unsafe(no_mangle)]
 pub extern "C" fn lexical_buffer_size_size(format: &CFormat) -> usize
     ensures { IsBufferSize (pos 0) (pos (2 ^ 64 - 1)) 128 20 (format_of format.now) result }
@@ -59,7 +59,7 @@ pub extern "C" fn lexical_buffer_size_size(format: &CFormat) -> usize
     buffer_size::<usize>(format)
 }
 
-/// Returns the size for each `int8_t`.
+/// Returns a buffer size that is enough for every `int8_t`, or 0 if the format is invalid.
 #[unsafe(no_mangle)]
 pub extern "C" fn lexical_buffer_size_i8(format: &CFormat) -> usize
     ensures { IsBufferSize (negsuc (2 ^ 7 - 1)) (pos (2 ^ 7 - 1)) 16 4 (format_of format.now) result }
@@ -67,7 +67,7 @@ pub extern "C" fn lexical_buffer_size_i8(format: &CFormat) -> usize
     buffer_size::<i8>(format)
 }
 
-/// Returns the size for each `int16_t`.
+/// Returns a buffer size that is enough for every `int16_t`, or 0 if the format is invalid.
 #[unsafe(no_mangle)]
 pub extern "C" fn lexical_buffer_size_i16(format: &CFormat) -> usize
     ensures { IsBufferSize (negsuc (2 ^ 15 - 1)) (pos (2 ^ 15 - 1)) 32 6 (format_of format.now) result }
@@ -75,7 +75,7 @@ pub extern "C" fn lexical_buffer_size_i16(format: &CFormat) -> usize
     buffer_size::<i16>(format)
 }
 
-/// Returns the size for each `int32_t`.
+/// Returns a buffer size that is enough for every `int32_t`, or 0 if the format is invalid.
 #[unsafe(no_mangle)]
 pub extern "C" fn lexical_buffer_size_i32(format: &CFormat) -> usize
     ensures { IsBufferSize (negsuc (2 ^ 31 - 1)) (pos (2 ^ 31 - 1)) 64 11 (format_of format.now) result }
@@ -83,7 +83,7 @@ pub extern "C" fn lexical_buffer_size_i32(format: &CFormat) -> usize
     buffer_size::<i32>(format)
 }
 
-/// Returns the size for each `int64_t`.
+/// Returns a buffer size that is enough for every `int64_t`, or 0 if the format is invalid.
 #[unsafe(no_mangle)]
 pub extern "C" fn lexical_buffer_size_i64(format: &CFormat) -> usize
     ensures { IsBufferSize (negsuc (2 ^ 63 - 1)) (pos (2 ^ 63 - 1)) 128 20 (format_of format.now) result }

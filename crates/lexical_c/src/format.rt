@@ -1,4 +1,4 @@
-//! The format that a C caller asks for.
+//! The format that a C caller passes, and the check whether it is valid.
 
 ghost use Rattle.std.specs.Prelude.{◌≡◌, ◌≢◌, ◌↔◌, IsTrue, IsSome, IfSome};
 ghost use Rattle.lexical_num.specs.Format.{IsRadix, IsGroupSize, IsMark, IsValid};
@@ -6,9 +6,9 @@ ghost use Rattle.lexical_c.specs.Format.{format_of};
 
 use lexical_write_integer::{NumberFormat, NumberFormatBuilder};
 
-/// How a number is to be written, by four numbers of any values. A `required_sign` of 0 asks for no
-/// `+`, and any other value for one. A `group_size` of 0 asks for no groups, and `mark` is then not
-/// read.
+/// A format as C passes it, `struct lexical_format` of the header. Each field may hold any value. If
+/// `required_sign` is not 0, a `+` is written before numbers that are not negative. If `group_size` is
+/// not 0, the digits are in groups of that size, and the mark is the separator between them.
 #[repr(C)]
 pub struct CFormat {
     pub radix: u32,
@@ -17,15 +17,16 @@ pub struct CFormat {
     pub mark: u32,
 }
 
-/// The radix is not from 2 to 36.
+/// The error that the radix is not from 2 to 36.
 pub const INVALID_RADIX: u32 = 1;
-/// The group size is greater than 64.
+/// The error that the group size is above 64.
 pub const INVALID_GROUP_SIZE: u32 = 2;
-/// The mark between groups is not printable ASCII, or is a letter, a digit, `+` or `-`.
+/// The error that the separator between groups is not printable ASCII, or is a letter, a digit, `+` or
+/// `-`.
 pub const INVALID_GROUP_MARK: u32 = 3;
 
-/// Returns 0 if numbers can be written in the format, and otherwise its first invalid part: the radix
-/// is checked first, then the group size, then the mark.
+/// Returns 0 if the format is valid, and otherwise the error of its first invalid field. The radix is
+/// checked first, then the group size, then the mark.
 #[unsafe(no_mangle)]
 pub extern "C" fn lexical_check_format(format: &CFormat) -> u32
     ensures valid { result ≡ 0 ↔ IsValid (format_of format.now) }
@@ -48,14 +49,14 @@ pub extern "C" fn lexical_check_format(format: &CFormat) -> u32
     }
 }
 
-// Whether the number is a byte that can separate two groups. 43 is `+`, and 45 is `-`.
+// Returns whether the number is a byte that can separate groups. 43 is `+`, and 45 is `-`.
 fn is_mark(mark: u32) -> bool
     ensures { IsTrue result ↔ IsMark mark }
 {
     32 <= mark && mark <= 126 && !(mark as u8).is_ascii_alphanumeric() && mark != 43 && mark != 45
 }
 
-/// The format of these parts, in which numbers can be written.
+/// Returns the format with these fields, which must be valid.
 pub fn valid_format(format: &CFormat) -> NumberFormat
     requires { IsValid (format_of format.now) }
     ensures { result ≡ format_of format.now }
@@ -72,7 +73,7 @@ pub fn valid_format(format: &CFormat) -> NumberFormat
     }
 }
 
-/// The format of these parts, or `None` if no number can be written in it.
+/// Returns the format with these fields, or `None` if they are not valid.
 pub fn number_format(format: &CFormat) -> Option<NumberFormat>
     ensures valid { IsSome result ↔ IsValid (format_of format.now) }
     ensures format { IfSome result (λ made. made ≡ format_of format.now) }

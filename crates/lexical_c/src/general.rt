@@ -1,4 +1,4 @@
-//! Writing a number whose text may not fit, or whose digits are in groups.
+//! Writes a number whose text may not fit, or whose format may have groups or a required sign.
 
 ghost use Rattle.std.specs.Prelude.{◌≡◌, ◌≤◌, length};
 ghost use Rattle.lexical_write_integer.specs.Buffer.{WritesText};
@@ -15,7 +15,7 @@ use lexical_write_integer::{
 };
 
 /// Writes the number to the start of the buffer, and returns the length of its text. Returns 0 and
-/// leaves the buffer unchanged if no number can be written in the format, or if the text does not fit.
+/// leaves the buffer unchanged if the format is invalid or the text does not fit.
 pub fn write_if_it_fits<T: ToLexicalWithOptions>(
     value: T,
     format: &CFormat,
@@ -30,7 +30,7 @@ pub fn write_if_it_fits<T: ToLexicalWithOptions>(
     if buffer.len() >= Options::new().buffer_size::<T>(&format) {
         return write_text(value, &format, buffer);
     }
-    // Only the text itself says whether it fits.
+    // The text of this number may still fit. It is written to an array, and copied if it fits.
     let mut text = [0; BUFFER_SIZE];
     let count = write_text(value, &format, &mut text);
     if count <= buffer.len() {
@@ -40,7 +40,8 @@ pub fn write_if_it_fits<T: ToLexicalWithOptions>(
     }
 }
 
-/// Writes the number to a buffer that is as long as its writer asks for.
+/// Writes the number to the start of the buffer, and returns the length of its text. The buffer must
+/// have the length that the writer of the number requires.
 pub fn write_text<T: ToLexicalWithOptions>(
     value: T,
     format: &NumberFormat,

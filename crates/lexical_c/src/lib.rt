@@ -1,5 +1,14 @@
-//! The writers of integers as C functions. Nothing checks a C caller, so these functions check their
-//! arguments when they are called, and return 0 if they refuse. `include/lexical.h` declares them.
+//! The writers of integers as C functions, which `include/lexical.h` declares and explains:
+//!
+//! ```c
+//! const struct lexical_format format = { 16, 0, 0, 0 };
+//! char buffer[LEXICAL_BUFFER_SIZE];
+//! size_t count = lexical_write_u32(48879, &format, buffer, sizeof buffer);
+//! ```
+//!
+//! writes `BEEF` to the buffer and returns 4. The example is from `tests/header.c`. No proof covers the
+//! code of a C caller, so each function checks the format and the length of the buffer when it is
+//! called, and returns 0 if it cannot write.
 #![tactic(auto)]
 
 mod buffer_size;

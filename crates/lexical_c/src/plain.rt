@@ -1,4 +1,5 @@
-//! Numbers with no required sign and no groups, in a buffer with room for each number of the type.
+//! Writes a number in a format without groups and required signs, to a buffer that is long enough for
+//! every number of the type.
 
 ghost use Rattle.std.specs.Prelude.{◌≡◌, ◌≤◌, ◌↔◌, pos, ◌<ℤ◌, unsigned_abs, length, take, drop};
 ghost use Rattle.std.specs.Prelude.{false, None, IsTrue, IfSome};
@@ -13,8 +14,8 @@ use lexical_num::num::LexicalInteger;
 use lexical_write_integer::write::WriteInteger;
 use lexical_write_integer::{FormattedSize, NumberFormat};
 
-/// Returns the format if it asks for no sign and no groups and numbers can be written in it, and a
-/// buffer of this length has room for each number of the type.
+/// Returns the format if it is valid and has no required sign and no groups, and a buffer of `room`
+/// bytes is enough for every number of the type. Otherwise returns `None`.
 pub fn plain_format<T: FormattedSize>(format: &CFormat, room: usize) -> Option<NumberFormat>
     ensures format { IfSome result (λ plain. plain ≡ format_of format.now) }
     ensures sign { IfSome result (λ plain. plain.required_mantissa_sign ≡ false) }
@@ -39,8 +40,10 @@ pub fn plain_format<T: FormattedSize>(format: &CFormat, room: usize) -> Option<N
     }
 }
 
-/// Writes the digits of a number of an unsigned type to the start of the buffer, which are its text.
-#[tactic(auto, using(crate::proofs::PlainTexts::digits_alone))]
+/// Writes a number of an unsigned type, whose text is its digits, to the start of the buffer, and
+/// returns the length of the text. The format must have no required sign and no groups, and the buffer
+/// must have the length that the writer of the number requires.
+#[tactic(auto, using(crate::proofs::PlainTexts::digits_are_text))]
 pub fn write_digits<T: WriteInteger>(value: T, format: &NumberFormat, buffer: &mut [u8]) -> usize
     requires sign { format.now.required_mantissa_sign ≡ false }
     requires groups { format.now.digit_grouping ≡ None }
@@ -50,7 +53,9 @@ pub fn write_digits<T: WriteInteger>(value: T, format: &NumberFormat, buffer: &m
     value.write_mantissa(format, buffer)
 }
 
-/// Writes a number of a signed type to the start of the buffer, by its sign and its magnitude.
+/// Writes a number of a signed type, which is passed together with its sign and its magnitude, to the
+/// start of the buffer, and returns the length of the text. The format must have no required sign and
+/// no groups, and the buffer must have the length that the writer of the number requires.
 pub fn write_sign_and_digits<T: LexicalInteger, U: WriteInteger>(
     value: T,
     is_negative: bool,
@@ -71,8 +76,8 @@ pub fn write_sign_and_digits<T: LexicalInteger, U: WriteInteger>(
     sign + magnitude.write_mantissa_signed(format, &mut buffer[sign..])
 }
 
-// Writes `-` to the first byte of the buffer, and returns the length of the sign. The byte is written
-// even if there is no sign, to avoid a branch; the first digit then overwrites it.
+// Writes `-` to the first byte of the buffer, and returns the length of the sign, 0 or 1. The byte is
+// written for other numbers too, to avoid a branch; the first digit then overwrites it.
 fn write_minus<T: LexicalInteger>(value: T, is_negative: bool, buffer: &mut [u8]) -> usize
     requires negative { IsTrue is_negative ↔ T.number value <ℤ pos 0 }
     requires room { 1 ≤ length buffer.old }

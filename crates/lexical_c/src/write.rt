@@ -1,5 +1,5 @@
-//! Writing a number. Each function returns the length of the text, or returns 0 and leaves the buffer
-//! unchanged if no number can be written in the format or the text does not fit.
+//! The functions that write a number. Each returns the length of the text, or returns 0 and leaves the
+//! buffer unchanged if the format is invalid or the text does not fit.
 
 ghost use Rattle.std.specs.Prelude.{◌≡◌, pos, unsigned_abs};
 ghost use Rattle.lexical_c.specs.Buffer.{WritesOrRefuses};
@@ -12,7 +12,8 @@ use lexical_write_integer::ToLexicalWithOptions;
 use lexical_write_integer::laws::{size_is_enough, text_computed};
 use lexical_write_integer::write::WriteInteger;
 
-// Writes a number of an unsigned type.
+// Writes a number of an unsigned type to the buffer, and returns the length of its text, or 0 if it
+// is refused.
 fn write_unsigned<T: WriteInteger + ToLexicalWithOptions>(
     value: T,
     format: &CFormat,
@@ -31,7 +32,8 @@ fn write_unsigned<T: WriteInteger + ToLexicalWithOptions>(
     }
 }
 
-// Writes a number of a signed type. `wide` is the same number, and `magnitude` is its magnitude.
+// Writes a number of a signed type to the buffer, and returns the length of its text, or 0 if it is
+// refused. `wide` is the number as an `isize`, and `magnitude` is its magnitude.
 fn write_signed<T: ToLexicalWithOptions, U: WriteInteger>(
     value: T,
     wide: isize,
@@ -55,7 +57,7 @@ fn write_signed<T: ToLexicalWithOptions, U: WriteInteger>(
     }
 }
 
-/// Writes a `uint8_t`.
+/// Writes a `uint8_t` to the buffer, and returns the length of its text, or 0 if it is refused.
 #[unsafe(no_mangle)]
 pub extern "C" fn lexical_write_u8(value: u8, format: &CFormat, buffer: &mut [u8]) -> usize
     ensures { WritesOrRefuses (pos value) (format_of format.now) buffer.old buffer.new result }
@@ -63,7 +65,7 @@ pub extern "C" fn lexical_write_u8(value: u8, format: &CFormat, buffer: &mut [u8
     write_unsigned::<u8>(value, format, buffer)
 }
 
-/// Writes a `uint16_t`.
+/// Writes a `uint16_t` to the buffer, and returns the length of its text, or 0 if it is refused.
 #[unsafe(no_mangle)]
 pub extern "C" fn lexical_write_u16(value: u16, format: &CFormat, buffer: &mut [u8]) -> usize
     ensures { WritesOrRefuses (pos value) (format_of format.now) buffer.old buffer.new result }
@@ -71,7 +73,7 @@ pub extern "C" fn lexical_write_u16(value: u16, format: &CFormat, buffer: &mut [
     write_unsigned::<u16>(value, format, buffer)
 }
 
-/// Writes a `uint32_t`.
+/// Writes a `uint32_t` to the buffer, and returns the length of its text, or 0 if it is refused.
 #[unsafe(no_mangle)]
 pub extern "C" fn lexical_write_u32(value: u32, format: &CFormat, buffer: &mut [u8]) -> usize
     ensures { WritesOrRefuses (pos value) (format_of format.now) buffer.old buffer.new result }
@@ -79,7 +81,7 @@ pub extern "C" fn lexical_write_u32(value: u32, format: &CFormat, buffer: &mut [
     write_unsigned::<u32>(value, format, buffer)
 }
 
-/// Writes a `uint64_t`.
+/// Writes a `uint64_t` to the buffer, and returns the length of its text, or 0 if it is refused.
 #[unsafe(no_mangle)]
 pub extern "C" fn lexical_write_u64(value: u64, format: &CFormat, buffer: &mut [u8]) -> usize
     ensures { WritesOrRefuses (pos value) (format_of format.now) buffer.old buffer.new result }
@@ -87,7 +89,7 @@ pub extern "C" fn lexical_write_u64(value: u64, format: &CFormat, buffer: &mut [
     write_unsigned::<u64>(value, format, buffer)
 }
 
-/// Writes a `size_t`.
+/// Writes a `size_t` to the buffer, and returns the length of its text, or 0 if it is refused.
 #[unsafe(no_mangle)]
 pub extern "C" fn lexical_write_size(value: usize, format: &CFormat, buffer: &mut [u8]) -> usize
     ensures { WritesOrRefuses (pos value) (format_of format.now) buffer.old buffer.new result }
@@ -95,7 +97,7 @@ pub extern "C" fn lexical_write_size(value: usize, format: &CFormat, buffer: &mu
     write_unsigned::<usize>(value, format, buffer)
 }
 
-/// Writes an `int8_t`.
+/// Writes an `int8_t` to the buffer, and returns the length of its text, or 0 if it is refused.
 #[unsafe(no_mangle)]
 pub extern "C" fn lexical_write_i8(value: i8, format: &CFormat, buffer: &mut [u8]) -> usize
     ensures { WritesOrRefuses value (format_of format.now) buffer.old buffer.new result }
@@ -103,7 +105,7 @@ pub extern "C" fn lexical_write_i8(value: i8, format: &CFormat, buffer: &mut [u8
     write_signed::<i8, u8>(value, value as isize, value.unsigned_abs(), format, buffer)
 }
 
-/// Writes an `int16_t`.
+/// Writes an `int16_t` to the buffer, and returns the length of its text, or 0 if it is refused.
 #[unsafe(no_mangle)]
 pub extern "C" fn lexical_write_i16(value: i16, format: &CFormat, buffer: &mut [u8]) -> usize
     ensures { WritesOrRefuses value (format_of format.now) buffer.old buffer.new result }
@@ -111,7 +113,7 @@ pub extern "C" fn lexical_write_i16(value: i16, format: &CFormat, buffer: &mut [
     write_signed::<i16, u16>(value, value as isize, value.unsigned_abs(), format, buffer)
 }
 
-/// Writes an `int32_t`.
+/// Writes an `int32_t` to the buffer, and returns the length of its text, or 0 if it is refused.
 #[unsafe(no_mangle)]
 pub extern "C" fn lexical_write_i32(value: i32, format: &CFormat, buffer: &mut [u8]) -> usize
     ensures { WritesOrRefuses value (format_of format.now) buffer.old buffer.new result }
@@ -119,7 +121,7 @@ pub extern "C" fn lexical_write_i32(value: i32, format: &CFormat, buffer: &mut [
     write_signed::<i32, u32>(value, value as isize, value.unsigned_abs(), format, buffer)
 }
 
-/// Writes an `int64_t`.
+/// Writes an `int64_t` to the buffer, and returns the length of its text, or 0 if it is refused.
 #[unsafe(no_mangle)]
 pub extern "C" fn lexical_write_i64(value: i64, format: &CFormat, buffer: &mut [u8]) -> usize
     ensures { WritesOrRefuses value (format_of format.now) buffer.old buffer.new result }

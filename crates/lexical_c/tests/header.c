@@ -1,32 +1,36 @@
 /*
  * Compares the header with the library: the type of each function, each constant,
- * and the layout of a format. Compiled as C99 and as C++17.
+ * and the layout of a format; and runs the examples of the header. This program
+ * is compiled as C99 and as C++17.
  */
 #include "lexical.h"
+#include "types.h"
 
 #include <stdio.h>
 #include <stdlib.h>
+#include <string.h>
 
-static int is_wrong(int is_good, const char *what)
+/* Returns 1 and prints what has failed if it is not right, and otherwise 0. */
+static int is_wrong(int is_right, const char *what)
 {
-    if (!is_good)
+    if (!is_right)
         printf("failed: %s\n", what);
-    return !is_good;
+    return !is_right;
 }
 
-/* The types that the functions of the library have. */
+/* Each function, as a pointer of the type that it must have. */
 typedef const struct lexical_format *format_pointer;
 static uint32_t (*const version)(void) = lexical_version;
 static uint32_t (*const check_format)(format_pointer) = lexical_check_format;
 
-#define FUNCTIONS(NAME, TYPE)                                                  \
+#define FUNCTIONS(NAME, CONSTANT, TYPE)                                        \
     static size_t (*const write_##NAME)(TYPE, format_pointer, char *, size_t)  \
         = lexical_write_##NAME;                                                \
     static size_t (*const length_##NAME)(TYPE, format_pointer)                 \
         = lexical_length_##NAME;                                               \
     static size_t (*const buffer_size_##NAME)(format_pointer)                  \
         = lexical_buffer_size_##NAME;                                          \
-    /* One call of each, with the largest or a negative number of the type. */ \
+    /* Calls each once, with the largest number of the type, or with -1. */    \
     static int check_##NAME(void)                                              \
     {                                                                          \
         char buffer[LEXICAL_BUFFER_SIZE];                                      \
@@ -37,17 +41,9 @@ static uint32_t (*const check_format)(format_pointer) = lexical_check_format;
         return is_wrong(count == length_##NAME(value, &lexical_standard_format) \
                         && count <= most, "lexical_write_" #NAME);             \
     }
-FUNCTIONS(u8, uint8_t)
-FUNCTIONS(u16, uint16_t)
-FUNCTIONS(u32, uint32_t)
-FUNCTIONS(u64, uint64_t)
-FUNCTIONS(size, size_t)
-FUNCTIONS(i8, int8_t)
-FUNCTIONS(i16, int16_t)
-FUNCTIONS(i32, int32_t)
-FUNCTIONS(i64, int64_t)
+FOR_EACH_TYPE(FUNCTIONS)
 
-/* The largest size that the library returns for a type in any format. */
+/* Returns the largest buffer size of a type in any format. */
 static size_t largest_size(size_t (*buffer_size)(format_pointer))
 {
     size_t largest = 0;
@@ -66,7 +62,7 @@ static int check_sizes(void)
 {
     size_t largest = 0;
     int wrong = 0;
-#define SIZES(NAME, CONSTANT)                                                  \
+#define SIZES(NAME, CONSTANT, TYPE)                                            \
     wrong += is_wrong(largest_size(buffer_size_##NAME)                         \
                       == LEXICAL_BUFFER_SIZE_##CONSTANT,                       \
                       "LEXICAL_BUFFER_SIZE_" #CONSTANT);                       \
@@ -76,15 +72,7 @@ static int check_sizes(void)
     if (largest_size(buffer_size_##NAME) > largest)                            \
         largest = largest_size(buffer_size_##NAME);                            \
     wrong += check_##NAME();
-    SIZES(u8, U8)
-    SIZES(u16, U16)
-    SIZES(u32, U32)
-    SIZES(u64, U64)
-    SIZES(size, SIZE)
-    SIZES(i8, I8)
-    SIZES(i16, I16)
-    SIZES(i32, I32)
-    SIZES(i64, I64)
+    FOR_EACH_TYPE(SIZES)
     return wrong + is_wrong(largest == LEXICAL_BUFFER_SIZE, "LEXICAL_BUFFER_SIZE");
 }
 
@@ -103,7 +91,7 @@ static int check_formats(void)
     return wrong;
 }
 
-/* Each field is read from its own position: "+2,0" is 8 in radix 4. */
+/* The library reads each field from its own position: in radix 4, 8 is "+2,0". */
 static int check_fields(void)
 {
     struct lexical_format format;
@@ -117,9 +105,29 @@ static int check_fields(void)
                     && buffer[3] == '0', "the fields of a format");
 }
 
+/* The first example of the header. */
+static int check_example(void)
+{
+    const struct lexical_format format = { 16, 0, 0, 0 };
+    char buffer[LEXICAL_BUFFER_SIZE];
+    size_t count = lexical_write_u32(48879, &format, buffer, sizeof buffer);
+    return is_wrong(count == 4 && memcmp(buffer, "BEEF", 4) == 0, "the first example");
+}
+
+/* The example of a string. */
+static int check_string(void)
+{
+    char text[LEXICAL_BUFFER_SIZE_DECIMAL_I32 + 1];
+    size_t count = lexical_write_i32(-42, &lexical_standard_format,
+                                     text, sizeof text - 1);
+    text[count] = '\0';
+    return is_wrong(strcmp(text, "-42") == 0, "the example of a string");
+}
+
 int main(void)
 {
     int wrong = is_wrong(version() == LEXICAL_VERSION, "LEXICAL_VERSION");
     wrong += check_sizes() + check_formats() + check_fields();
+    wrong += check_example() + check_string();
     return wrong == 0 ? EXIT_SUCCESS : EXIT_FAILURE;
 }

@@ -1,10 +1,11 @@
 /*
- * Lends bytes that hold nothing yet, and reads no more of them than the texts.
- * Under valgrind each byte that the library has read of them shows in a text or
- * a result; MemorySanitizer, which does not look into the library, is told how
- * long each text is, and watches this program.
+ * Passes uninitialized buffers to the library, and reads only the texts that it
+ * writes. Under valgrind, a text or a result that depends on an uninitialized
+ * byte is an error. MemorySanitizer does not see what the library writes, so this
+ * program marks each text as written, and an error is a byte read after it.
  */
 #include "lexical.h"
+#include "types.h"
 
 #include <stdio.h>
 #include <stdlib.h>
@@ -19,6 +20,7 @@
 #define IS_WRITTEN(bytes, count)
 #endif
 
+/* The number of texts that are not as expected. */
 static int wrong;
 
 static void read_text(char *buffer, size_t count, size_t wanted)
@@ -32,8 +34,8 @@ static void read_text(char *buffer, size_t count, size_t wanted)
     free(buffer);
 }
 
-#define LEND(NAME, TYPE)                                                       \
-    static void lend_##NAME(uint64_t bits, const struct lexical_format *format) \
+#define PASS(NAME, CONSTANT, TYPE)                                             \
+    static void pass_##NAME(uint64_t bits, const struct lexical_format *format) \
     {                                                                          \
         size_t length = lexical_length_##NAME((TYPE)bits, format);             \
         size_t sizes[3];                                                       \
@@ -48,15 +50,9 @@ static void read_text(char *buffer, size_t count, size_t wanted)
                                                    sizes[i]), length);         \
         }                                                                      \
     }
-LEND(u8, uint8_t)
-LEND(u16, uint16_t)
-LEND(u32, uint32_t)
-LEND(u64, uint64_t)
-LEND(size, size_t)
-LEND(i8, int8_t)
-LEND(i16, int16_t)
-LEND(i32, int32_t)
-LEND(i64, int64_t)
+FOR_EACH_TYPE(PASS)
+
+#define CALL(NAME, CONSTANT, TYPE) pass_##NAME(bits, &format);
 
 int main(void)
 {
@@ -65,15 +61,7 @@ int main(void)
             struct lexical_format format = { radix, kind == 1, kind == 2 ? 3u : 0u, '_' };
             for (unsigned shift = 0; shift < 64; shift += 9) {
                 uint64_t bits = UINT64_MAX / 3 * 2 >> shift;
-                lend_u8(bits, &format);
-                lend_u16(bits, &format);
-                lend_u32(bits, &format);
-                lend_u64(bits, &format);
-                lend_size(bits, &format);
-                lend_i8(bits, &format);
-                lend_i16(bits, &format);
-                lend_i32(bits, &format);
-                lend_i64(bits, &format);
+                FOR_EACH_TYPE(CALL)
             }
         }
     if (wrong != 0)

@@ -1,11 +1,12 @@
 /*
- * Calls each function of the library as a C program does, and compares with
- * values from outside it: rows that are written out, snprintf, and a plain
- * conversion of this file's own. Each buffer lies between pages that may not be
- * touched. Prints how many tests passed and failed.
+ * Calls each function of the library as a C program does, and compares the
+ * results with texts from three other sources: a table in this file, snprintf,
+ * and a simple conversion in this file. Each buffer is next to a page that may
+ * not be accessed. The last line is the number of tests that passed and failed.
  */
 #define _DEFAULT_SOURCE
 #include "lexical.h"
+#include "types.h"
 
 #include <inttypes.h>
 #include <stdbool.h>
@@ -28,7 +29,7 @@ static bool check(bool is_good, const char *what)
 
 /* ---- the types ---------------------------------------------------------- */
 
-/* A type: what is known of it from outside, and its functions by its bits. */
+/* A type: its name, its sizes, and its functions, which take the bits of a number. */
 struct type {
     const char *name;
     bool is_signed;
@@ -40,7 +41,7 @@ struct type {
     size_t (*buffer_size)(const struct lexical_format *);
 };
 
-#define FUNCTIONS(NAME, TYPE)                                                  \
+#define FUNCTIONS(NAME, CONSTANT, TYPE)                                        \
     static size_t write_##NAME(uint64_t bits, const struct lexical_format *f,  \
                                char *buffer, size_t length)                    \
     {                                                                          \
@@ -50,15 +51,7 @@ struct type {
     {                                                                          \
         return lexical_length_##NAME((TYPE)bits, f);                           \
     }
-FUNCTIONS(u8, uint8_t)
-FUNCTIONS(u16, uint16_t)
-FUNCTIONS(u32, uint32_t)
-FUNCTIONS(u64, uint64_t)
-FUNCTIONS(size, size_t)
-FUNCTIONS(i8, int8_t)
-FUNCTIONS(i16, int16_t)
-FUNCTIONS(i32, int32_t)
-FUNCTIONS(i64, int64_t)
+FOR_EACH_TYPE(FUNCTIONS)
 
 #define TYPE(NAME, SIGNED, BITS, SIZE, DECIMAL_SIZE)                           \
     { #NAME, SIGNED, BITS, SIZE, DECIMAL_SIZE, write_##NAME, length_##NAME,    \
@@ -88,15 +81,15 @@ static uint64_t magnitude(const struct type *type, uint64_t bits)
     return is_negative(type, bits) ? (0 - bits) & largest_bits(type) : bits;
 }
 
-/* ---- the plain conversion ----------------------------------------------- */
+/* ---- the simple conversion ---------------------------------------------- */
 
-/* The text of a number. */
+/* The text that a call must write. */
 struct expected {
     char text[160];
     size_t count;
 };
 
-/* Writes from the right to the left, as a person does on paper. */
+/* Returns the text of a number, built from its last digit to its first. */
 static struct expected plain_text(const struct type *type, uint64_t bits,
                                   const struct lexical_format *format)
 {
@@ -125,7 +118,7 @@ static struct expected plain_text(const struct type *type, uint64_t bits,
 
 /* ---- one call ----------------------------------------------------------- */
 
-/* Memory between two pages that may not be touched. */
+/* Memory between two pages that may not be accessed. */
 struct island {
     char *start, *end;
 };
@@ -153,10 +146,11 @@ static bool all_are(const char *bytes, size_t count, int byte)
 }
 
 /*
- * Calls the writer on `length` bytes: the text is to be at the start, and every
- * other byte to be unchanged. `expected` is NULL if the call is to refuse. One
- * side of the buffer, and one of the format, is a page that may not be touched;
- * sides and bytes differ from call to call.
+ * Calls the writer with a buffer of `length` bytes, and checks that the text is
+ * at its start and that every other byte is unchanged. If `expected` is NULL, the
+ * call must return 0 and leave the buffer unchanged. The buffer and the format
+ * are each next to a page that may not be accessed, before or after them; this
+ * side and the bytes of the buffer vary from call to call.
  */
 static void check_call(const struct type *type, uint64_t bits,
                        const struct lexical_format *format, size_t length,
@@ -169,16 +163,16 @@ static void check_call(const struct type *type, uint64_t bits,
     bool at_end = random >> 31 == 1;
     char *buffer = at_end ? buffers.end - length : buffers.start;
     char *guard = at_end ? buffer - GUARD_SIZE : buffer + length;
-    char *lent = at_end ? formats.start : formats.end - sizeof *format;
+    char *copy = at_end ? formats.start : formats.end - sizeof *format;
     memset(buffer, before, length);
     memset(guard, GUARD, GUARD_SIZE);
-    memcpy(lent, format, sizeof *format);
-    size_t count = type->write(bits, (const struct lexical_format *)lent, buffer, length);
+    memcpy(copy, format, sizeof *format);
+    size_t count = type->write(bits, (const struct lexical_format *)copy, buffer, length);
     size_t wanted = expected == NULL ? 0 : expected->count;
     bool is_good = count == wanted
         && (wanted == 0 || memcmp(buffer, expected->text, wanted) == 0)
         && all_are(buffer + wanted, length - wanted, before)
-        && all_are(guard, GUARD_SIZE, GUARD) && memcmp(lent, format, sizeof *format) == 0;
+        && all_are(guard, GUARD_SIZE, GUARD) && memcmp(copy, format, sizeof *format) == 0;
     if (!check(is_good, "a writer") && failures < 5)
         printf("    %s %016" PRIx64 ", radix %u, sign %u, groups of %u by %u, "
                "%zu bytes: %zu, %.*s\n", type->name, bits, format->radix,
@@ -187,9 +181,10 @@ static void check_call(const struct type *type, uint64_t bits,
 }
 
 /*
- * A buffer of exactly the text and one byte less; of the size of the type in the
- * format and one byte less, which decide on the way that is taken; and the
- * largest. The length of the text.
+ * Checks the length of the text, and writes to buffers of these lengths: exactly
+ * that of the text, and one byte less; exactly the buffer size of the type in the
+ * format, and one byte less, for which the library writes in another way; and the
+ * buffer size for all types and formats.
  */
 static void check_number(const struct type *type, uint64_t bits,
                          const struct lexical_format *format)
@@ -205,7 +200,7 @@ static void check_number(const struct type *type, uint64_t bits,
     check(type->length(bits, format) == expected.count, "a length");
 }
 
-/* A format that is not valid: nothing is written, and no size or length is told. */
+/* Checks that each function returns 0 for a format that is not valid. */
 static void check_refused(const struct type *type, const struct lexical_format *format, uint32_t reason)
 {
     check_call(type, 100, format, LEXICAL_BUFFER_SIZE, NULL);
@@ -217,7 +212,7 @@ static void check_refused(const struct type *type, const struct lexical_format *
 
 /* ---- numbers ------------------------------------------------------------ */
 
-/* The numbers around 0, the ends of the type, and the powers of the radix. */
+/* Checks the numbers around 0, the ends of the type, and the powers of the radix. */
 static void check_edges(const struct type *type, const struct lexical_format *format)
 {
     uint64_t mask = largest_bits(type), middle = mask / 2;
@@ -246,7 +241,7 @@ static void check_all_edges(void)
             }
 }
 
-/* Every number of 8 and of 16 bits. */
+/* Checks every number of 8 and 16 bits. */
 static void check_short_types(void)
 {
     for (size_t t = 0; t < TYPE_COUNT; t++) {
@@ -281,7 +276,7 @@ static void check_printed(const struct type *type, uint64_t bits, uint32_t radix
     check_call(type, bits, &format, expected.count, &expected);
 }
 
-/* The ends of each type, the powers of 2 and of 10, and numbers at random. */
+/* Checks the powers of 2, the numbers next to them, and random numbers. */
 static void check_against_snprintf(void)
 {
     static const uint32_t RADICES[] = { 8, 10, 16 };
@@ -300,7 +295,7 @@ static void check_against_snprintf(void)
         }
 }
 
-/* The decimal text of signed numbers, by their own conversion of printf. */
+/* Checks the decimal text of signed numbers, which snprintf converts with its sign. */
 static void check_signed_decimals(void)
 {
     static const int64_t NUMBERS[] = { INT64_MIN, INT64_MIN + 1, INT32_MIN, -1000, -1, 0, 1, INT64_MAX };
@@ -312,7 +307,7 @@ static void check_signed_decimals(void)
     }
 }
 
-/* ---- rows that are written out ------------------------------------------ */
+/* ---- a table of texts --------------------------------------------------- */
 
 struct row {
     size_t type;
@@ -369,7 +364,7 @@ static void check_rows(void)
     }
 }
 
-/* A text of 128 bytes: a sign, and 64 digits `1` with a mark between neighbours. */
+/* Checks the longest text, of 128 bytes: a sign, 64 digits, and a separator between adjacent digits. */
 static void check_longest_text(void)
 {
     struct lexical_format format = { 2, 1, 1, '_' };
@@ -381,9 +376,9 @@ static void check_longest_text(void)
     check_call(&TYPES[U64], UINT64_MAX, &format, 127, NULL);
 }
 
-/* ---- what fits, and what is refused -------------------------------------- */
+/* ---- short buffers and invalid formats ----------------------------------- */
 
-/* Every length of buffer, from none to one that each number fits. */
+/* Checks every length of buffer, from 0 to one that is enough for every number. */
 static void check_every_length(void)
 {
     static const struct lexical_format FORMATS[] = {
@@ -401,7 +396,7 @@ static void check_every_length(void)
             }
 }
 
-/* No buffer at all. */
+/* Checks that a NULL buffer of length 0 is refused. */
 static void check_null(void)
 {
     for (size_t t = 0; t < TYPE_COUNT; t++)
@@ -416,7 +411,7 @@ static bool is_radix(uint32_t radix)
     return 2 <= radix && radix <= 36;
 }
 
-/* Every byte as the radix, and numbers that a byte does not hold. */
+/* Checks every byte as the radix, and numbers that do not fit in a byte. */
 static void check_radices(void)
 {
     static const uint32_t GREAT[] = { 256, 256 + 10, 65536 + 2, 0x7fffffff, 0x80000010, UINT32_MAX };
@@ -440,7 +435,7 @@ static bool is_mark(uint32_t mark)
         && !('a' <= mark && mark <= 'z');
 }
 
-/* Every byte as the group size and as the mark. */
+/* Checks every byte as the group size and as the separator, and numbers that do not fit in a byte. */
 static void check_group_bytes(void)
 {
     static const uint32_t GREAT[] = { 256, 256 + 3, 256 + ',', UINT32_MAX, UINT32_MAX - 3 };
@@ -460,7 +455,7 @@ static void check_group_bytes(void)
     }
 }
 
-/* Which of several invalid fields is named, and that a valid format has none. */
+/* Checks which of several invalid fields is reported, and that a valid format has none. */
 static void check_order(void)
 {
     static const struct lexical_format RADIX = { 1, 0, 65, '+' }, SIZE_FIRST = { 2, 9, 65, '+' },
@@ -472,7 +467,7 @@ static void check_order(void)
     check(lexical_check_format(&lexical_standard_format) == 0, "the standard format");
 }
 
-/* Formats of bytes at random: each is valid or refused, and nothing else happens. */
+/* Checks formats of random fields: each is valid, or every function returns 0. */
 static void check_random_formats(void)
 {
     uint64_t random = 88172645463325252u;
@@ -511,7 +506,10 @@ static void check_grouped_edges(void)
                 }
 }
 
-/* In radix 10 the decimal size, the marks and a required sign; else the other. */
+/*
+ * Checks the buffer sizes: in radix 10 the decimal size of the type, plus its
+ * separators and a required sign, and in other radices the size of the type.
+ */
 static void check_sizes(void)
 {
     for (size_t t = 0; t < TYPE_COUNT; t++)
@@ -547,7 +545,7 @@ int main(void)
 {
     buffers = new_island();
     formats = new_island();
-    run("rows that are written out", check_rows);
+    run("a table of texts", check_rows);
     run("the longest text", check_longest_text);
     run("the ends of types and the powers of radices", check_all_edges);
     run("all numbers of 8 and 16 bits", check_short_types);
@@ -556,9 +554,9 @@ int main(void)
     run("every length of buffer", check_every_length);
     run("no buffer", check_null);
     run("every byte as the radix", check_radices);
-    run("every byte as the group size and the mark", check_group_bytes);
+    run("every byte as the group size and the separator", check_group_bytes);
     run("the order of invalid fields", check_order);
-    run("formats at random", check_random_formats);
+    run("random formats", check_random_formats);
     run("groups", check_grouped_edges);
     run("sizes", check_sizes);
     printf("%u passed, %u failed\n", passed, failed);

@@ -1,2 +1,4 @@
+-- texts that are padded with spaces to the width of a column
 pub mod Columns
+-- texts of the elements of a list, which grow by one element at their end
 pub mod Lists

@@ -1,4 +1,4 @@
--- The texts of the elements of a list grow by one text at their end.
+-- The texts of the elements of a list, to whose end the text of the next element is added.
 use Rattle.std.proofs.Common.{◌≡◌, ℕ, ◌+◌, ◌<◌, List, [], ◌∷◌, ◌++◌, length, take, drop, get_or, refl, sym, ap, subst, ◌∙◌, arith, append_assoc}
 use Rattle.std.proofs.lemmas.List.{take_more, append-nil, length-take-le}
 use Rattle.lexical_write_integer.specs.Buffer.{Writes}
@@ -7,7 +7,8 @@ use Rattle.lexical_write_integer.proofs.Fronts.{Front-after, length-after}
 use Rattle.lexical_parts.specs.Joined.{AreEach, AreJoined}
 use Rattle.lexical_parts.specs.Sequence.{◌then◌}
 
-AreEach-push : {A : Type 0} (IsOf : A → List ℕ → Type 0) (xs : List A) (x : A) (s t : List ℕ) → AreEach IsOf xs s → IsOf x t → AreEach IsOf (xs ++ x ∷ []) (s ++ t)
+AreEach-push : {A : Type 0} (IsOf : A → List ℕ → Type 0) (xs : List A) (x : A) (s t : List ℕ) →
+    AreEach IsOf xs s → IsOf x t → AreEach IsOf (xs ++ x ∷ []) (s ++ t)
 AreEach-push IsOf [] x s t none is = record { first = t; second = []; is_first = is; is_second = refl; whole = ap (λ k. k ++ t) none ∙ sym (append-nil t) }
 AreEach-push IsOf (y ∷ ys) x s t each is = record {
   first = each.first;
@@ -17,21 +18,27 @@ AreEach-push IsOf (y ∷ ys) x s t each is = record {
   whole = ap (λ k. k ++ t) each.whole ∙ append_assoc each.first each.second t;
 }
 
--- a caller's loop writes the text of one more element after the texts of those before it
-pub written_each : {A : Type 0} (IsOf : A → List ℕ → Type 0) (xs : List A) (i : ℕ) (d : A) (before between part : List ℕ) (count room more : ℕ) → i < length xs → Writes (AreEach IsOf (take i xs)) before between count → Writes (IsOf (get_or xs i d)) (take room (drop count between)) part more → Writes (AreEach IsOf (take (i + 1) xs)) before (take count between ++ (part ++ drop room (drop count between))) (count + more)
-written_each IsOf xs i d before between part count room more inside a b = rw (take_more xs i d inside) (record {
+-- a loop of the caller's writes the text of element `i` after the texts of the elements before it
+pub written_each : {A : Type 0} (IsOf : A → List ℕ → Type 0) (xs : List A) {i : ℕ} (d : A)
+    {before between part : List ℕ} {count more : ℕ} (room : ℕ) →
+    i < length xs → Writes (AreEach IsOf (take i xs)) before between count →
+    Writes (IsOf (get_or xs i d)) (take room (drop count between)) part more →
+    Writes (AreEach IsOf (take (i + 1) xs)) before (take count between ++ (part ++ drop room (drop count between))) (count + more)
+written_each IsOf xs {i} d {before} {between} {part} {count} {more} room inside a b = rw (take_more xs i d inside) (record {
   text = a.text ++ b.text;
   is = AreEach-push IsOf (take i xs) (get_or xs i d) a.text b.text a.is b.is;
   front = Front-after before between part a.text b.text count room a.count a.front b.front;
   count = length-after a.text b.text count more a.count b.count;
 })
 
--- what is written before the next of so many texts: nothing before the first, and the separator before each other one
+-- what precedes the text that is added to `count` texts: nothing if it is the first, and otherwise the separator
 pub record Leads (separator : List ℕ) (count : ℕ) (lead : List ℕ) : Type 0 where
   pub at_first : count ≡ 0 → lead ≡ []
   pub later : 0 < count → lead ≡ separator
 
-AreJoined-push : {A : Type 0} (IsOf : A → List ℕ → Type 0) (separator lead : List ℕ) (xs : List A) (y : A) (s t : List ℕ) → Leads separator (length xs) lead → AreJoined IsOf separator xs s → (IsExactly lead then IsOf y) t → AreJoined IsOf separator (xs ++ y ∷ []) (s ++ t)
+AreJoined-push : {A : Type 0} (IsOf : A → List ℕ → Type 0) (separator lead : List ℕ) (xs : List A) (y : A) (s t : List ℕ) →
+    Leads separator (length xs) lead → AreJoined IsOf separator xs s → (IsExactly lead then IsOf y) t →
+    AreJoined IsOf separator (xs ++ y ∷ []) (s ++ t)
 AreJoined-push IsOf separator lead [] y s t leads was is =
     subst (IsOf y) (sym (ap (λ k. k ++ t) was ∙ is.whole ∙ ap (λ k. k ++ is.second) (is.is_first ∙ leads.at_first refl))) is.is_second
 AreJoined-push IsOf separator lead (x ∷ []) y s t leads was is =
@@ -39,23 +46,34 @@ AreJoined-push IsOf separator lead (x ∷ []) y s t leads was is =
 AreJoined-push IsOf separator lead (x ∷ z ∷ xs) y s t leads was is =
     let rest = was.is_second in
     let same : lead ≡ separator = leads.later (omega arith) in
-    let more = AreJoined-push IsOf separator lead (z ∷ xs) y rest.second t (record { at_first = λ none. absurd (omega (arith, none)); later = λ _. same }) rest.is_second is in
+    let leads' : Leads separator (length (z ∷ xs)) lead = record { at_first = λ none. absurd (omega (arith, none)); later = λ _. same } in
+    let more = AreJoined-push IsOf separator lead (z ∷ xs) y rest.second t leads' rest.is_second is in
     record {
       first = was.first;
       second = was.second ++ t;
       is_first = was.is_first;
-      is_second = record { first = rest.first; second = rest.second ++ t; is_first = rest.is_first; is_second = more; whole = ap (λ k. k ++ t) rest.whole ∙ append_assoc rest.first rest.second t };
+      is_second = record {
+        first = rest.first;
+        second = rest.second ++ t;
+        is_first = rest.is_first;
+        is_second = more;
+        whole = ap (λ k. k ++ t) rest.whole ∙ append_assoc rest.first rest.second t;
+      };
       whole = ap (λ k. k ++ t) was.whole ∙ append_assoc was.first was.second t;
     }
 
--- the text of one more element, after the separator
-pub written_joined : {A : Type 0} (IsOf : A → List ℕ → Type 0) (separator lead : List ℕ) (xs : List A) (i : ℕ) (y : A) (before between part : List ℕ) (count room more : ℕ) → i < length xs → y ≡ get_or xs i y → Leads separator i lead → Writes (AreJoined IsOf separator (take i xs)) before between count → Writes (IsExactly lead then IsOf y) (take room (drop count between)) part more → Writes (AreJoined IsOf separator (take (i + 1) xs)) before (take count between ++ (part ++ drop room (drop count between))) (count + more)
-written_joined IsOf separator lead xs i y before between part count room more inside is leads a b =
-    let first_more : take (i + 1) xs ≡ take i xs ++ y ∷ [] = take_more xs i y inside ∙ ap (λ x. take i xs ++ x ∷ []) (sym is) in
-    let so_many : Leads separator (length (take i xs)) lead = rw (length-take-le i xs (omega arith)) leads in
-    rw first_more (record {
+-- element `i` is written after the texts of the elements before it, and after the separator unless it is the first
+pub written_joined : {A : Type 0} (IsOf : A → List ℕ → Type 0) (separator lead : List ℕ) (xs : List A) {i : ℕ} {y : A}
+    {before between part : List ℕ} {count more : ℕ} (room : ℕ) →
+    i < length xs → y ≡ get_or xs i y → Leads separator i lead → Writes (AreJoined IsOf separator (take i xs)) before between count →
+    Writes (IsExactly lead then IsOf y) (take room (drop count between)) part more →
+    Writes (AreJoined IsOf separator (take (i + 1) xs)) before (take count between ++ (part ++ drop room (drop count between))) (count + more)
+written_joined IsOf separator lead xs {i} {y} {before} {between} {part} {count} {more} room inside is leads a b =
+    let one_longer : take (i + 1) xs ≡ take i xs ++ y ∷ [] = take_more xs i y inside ∙ ap (λ x. take i xs ++ x ∷ []) (sym is) in
+    let leads' : Leads separator (length (take i xs)) lead = rw (length-take-le i xs (omega arith)) leads in
+    rw one_longer (record {
       text = a.text ++ b.text;
-      is = AreJoined-push IsOf separator lead (take i xs) y a.text b.text so_many a.is b.is;
+      is = AreJoined-push IsOf separator lead (take i xs) y a.text b.text leads' a.is b.is;
       front = Front-after before between part a.text b.text count room a.count a.front b.front;
       count = length-after a.text b.text count more a.count b.count;
     })

@@ -1,13 +1,13 @@
--- A text in a column.
+-- Texts that are padded with spaces to the width of a column.
 use Rattle.std.specs.Prelude.{◌≡◌, ℕ, ◌-◌, List, ◌++◌, length, replicate}
 
--- a text of the kind, and spaces after it up to the width
+-- a text that satisfies `Is`, and spaces after it up to the width
 pub record IsAtLeft (width : ℕ) (Is : List ℕ → Type 0) (text : List ℕ) : Type 0 where
   pub cell : List ℕ
   pub is : Is cell
   pub whole : text ≡ cell ++ replicate (width - length cell) 32
 
--- spaces, and then a text of the kind up to the width
+-- spaces up to the width, and then a text that satisfies `Is`
 pub record IsAtRight (width : ℕ) (Is : List ℕ → Type 0) (text : List ℕ) : Type 0 where
   pub cell : List ℕ
   pub is : Is cell

@@ -1,18 +1,18 @@
--- A part that may be absent.
+-- The text of a part that may be absent.
 use Rattle.std.specs.Prelude.{ℕ, List, [], Option, Some, None, ⊤}
 use Rattle.lexical_write_integer.specs.Sequence.{IsExactly}
 
--- the text of the part, or no bytes if there is none
+-- the text of the part, or no bytes for `None`
 abbrev pub IsOptional : {P : Type 0} → (P → List ℕ → Type 0) → Option P → List ℕ → Type 0
 IsOptional IsOf (Some part) = IsOf part
 IsOptional IsOf None = IsExactly []
 
--- the part has a text, if there is one
+-- the part, if there is one, is valid
 abbrev pub IsValidOptional : {P : Type 0} → (P → Type 0) → Option P → Type 0
 IsValidOptional IsValid (Some part) = IsValid part
 IsValidOptional IsValid None = ⊤
 
--- the room of the part, if there is one
+-- the room of the part, or 0 for `None`
 abbrev pub optional_room : {P : Type 0} → (P → ℕ) → Option P → ℕ
 optional_room room (Some part) = room part
 optional_room room None = 0

@@ -1,4 +1,4 @@
-//! A part in a column.
+//! Parts that are padded with spaces to the width of a column.
 
 ghost use Rattle.std.specs.Prelude.{◌+◌, ◌≤◌, ◌++◌, length, max, replicate, take};
 ghost use Rattle.lexical_write_integer.specs.Buffer.{Front, Writes};
@@ -7,7 +7,7 @@ ghost use Rattle.lexical_parts.specs.Column.{IsAtLeft, IsAtRight};
 
 use crate::part::Part;
 
-// Writes spaces to the start of the buffer, and returns how many they are.
+// Writes `count` spaces to the start of the buffer, and returns `count`.
 fn write_spaces(count: usize, buffer: &mut [u8]) -> usize
     requires { count ≤ length buffer.old }
     ensures { Writes (IsExactly (replicate count 32)) buffer.old buffer.new result }
@@ -16,7 +16,7 @@ fn write_spaces(count: usize, buffer: &mut [u8]) -> usize
     count
 }
 
-// Writes spaces before the first `count` bytes of the buffer, which move to the right.
+// Moves the first `count` bytes of the buffer to the right, and writes spaces before them.
 fn insert_spaces(spaces: usize, count: usize, buffer: &mut [u8])
     requires { spaces + count ≤ length buffer.old }
     ensures { Front buffer.old buffer.new (replicate spaces 32 ++ take count buffer.old) }
@@ -25,8 +25,9 @@ fn insert_spaces(spaces: usize, count: usize, buffer: &mut [u8])
     buffer[..spaces].fill(b' ');
 }
 
-/// A part at the left of a column of this width: its text, and spaces after it up to the width. A
-/// text that is longer than the column has no spaces after it.
+/// A part that is aligned to the left of a column: spaces are added after its text, up to the
+/// width. `Left(Decimal(12), 4)` writes `12` and two spaces. A text longer than the width has no
+/// spaces.
 #[derive(Clone, Copy, Drop)]
 pub struct Left<P>(pub P, pub usize);
 
@@ -47,8 +48,9 @@ impl<P: Part> Part for Left<P> {
     }
 }
 
-/// A part at the right of a column of this width: spaces, and then its text up to the width. A text
-/// that is longer than the column has no spaces before it.
+/// A part that is aligned to the right of a column: spaces are added before its text, up to the
+/// width. `Right(Decimal(42), 12)` writes ten spaces and `42`. A text longer than the width has no
+/// spaces.
 #[derive(Clone, Copy, Drop)]
 pub struct Right<P>(pub P, pub usize);
 

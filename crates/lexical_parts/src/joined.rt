@@ -1,4 +1,4 @@
-//! The numbers of a slice.
+//! The numbers of a slice, with a separator between adjacent numbers.
 
 ghost use Rattle.std.specs.Prelude.{length, ⊤};
 ghost use Rattle.lexical_num.specs.Format.{standard};
@@ -9,7 +9,8 @@ use crate::number::Decimal;
 use crate::part::Part;
 use lexical_write_integer::ToLexicalWithOptions;
 
-/// The numbers of a slice in decimal, with the separator between two adjacent numbers.
+/// The numbers of a slice in decimal, with the separator between adjacent numbers:
+/// `Joined(&[-1, 20], ", ")` writes `-1, 20`.
 #[derive(Clone, Copy, Drop)]
 pub struct Joined<'a, T>(pub &'a [T], pub &'a str);
 

@@ -1,4 +1,22 @@
-//! Texts of several parts, one after another: a value says what is written, and one call writes it.
+//! Writes texts that consist of several parts, such as a log line or a CSV row. A tuple of parts
+//! says what the text is, and one call writes it to a buffer:
+//!
+//! ```
+//! let mut buffer = [7; 40];
+//! let date = (
+//!     Padded(2026u16, 4),
+//!     "-",
+//!     Padded(11u8, 2),
+//!     "-",
+//!     Padded(3u8, 2),
+//! );
+//! let flags = PaddedDigits(16, 255u32, 2);
+//! let text = (date, " ", Decimal(-12i32), " kg 0x", flags, ";").to_text(&mut buffer);
+//! assert_eq!(rt; &*text, b"2026-11-03 -12 kg 0xFF;".as_slice());
+//! ```
+//!
+//! The example is from the test `texts_for_writing` in `crates/uses/src/tests/lines.rt`. The calls
+//! that write are the methods of [`Part`], and the other types of this crate are parts.
 #![tactic(auto)]
 
 mod column;

@@ -1,4 +1,4 @@
-//! Parts that are numbers.
+//! Parts that are one number.
 
 ghost use Rattle.std.specs.Prelude.{⊤};
 ghost use Rattle.lexical_num.specs.Format.{IsRadix, standard};
@@ -14,7 +14,7 @@ use lexical_write_integer::laws::size_is_enough;
 use lexical_write_integer::radix::Radix;
 use lexical_write_integer::{NumberFormat, ToLexicalWithOptions};
 
-/// A number in decimal, with a `-` if it is negative.
+/// A number in decimal, with a `-` if it is negative: `Decimal(-5)` writes `-5`.
 #[derive(Clone, Copy, Drop)]
 pub struct Decimal<T>(pub T);
 
@@ -35,7 +35,7 @@ impl<T: ToLexicalWithOptions> Part for Decimal<T> {
     }
 }
 
-/// The digits of an unsigned number in a radix from 2 to 36.
+/// The digits of an unsigned number in a radix from 2 to 36: `Digits(16, 255u32)` writes `FF`.
 #[derive(Clone, Copy, Drop)]
 pub struct Digits<T>(pub u32, pub T);
 
@@ -55,7 +55,8 @@ impl<T: Radix + DigitCount> Part for Digits<T> {
     }
 }
 
-/// A number in a format.
+/// A number in a format, with its sign and its groups: in a format with groups of three digits and
+/// the separator `,`, `Formatted(1234567, &format)` writes `1,234,567`.
 #[derive(Clone, Copy, Drop)]
 pub struct Formatted<'a, T>(pub T, pub &'a NumberFormat);
 

@@ -1,4 +1,4 @@
-//! A part that may be absent.
+//! Parts that may be absent: the text of `Some(part)` is that of the part, and `None` has no bytes.
 
 ghost use Rattle.lexical_parts.specs.Optional.{IsOptional, IsValidOptional, optional_room};
 

@@ -1,4 +1,4 @@
-//! Numbers of a fixed width, with leading zeros.
+//! Numbers with leading zeros, up to a fixed width.
 
 ghost use Rattle.std.specs.Prelude.{◌^◌, ◌<◌};
 ghost use Rattle.lexical_num.specs.Format.{IsRadix};
@@ -9,8 +9,8 @@ use lexical_write_integer::digit_count::DigitCount;
 use lexical_write_integer::padded::write_padded;
 use lexical_write_integer::radix::Radix;
 
-/// The digits of an unsigned number in a radix from 2 to 36, with leading zeros up to the width. The
-/// number is below the radix to the power of the width.
+/// The digits of an unsigned number in a radix from 2 to 36, with leading zeros up to the width:
+/// `PaddedDigits(16, 1u8, 2)` writes `01`. The number must be below `radix.pow(width)`.
 #[derive(Clone, Copy, Drop)]
 pub struct PaddedDigits<T>(pub u32, pub T, pub usize);
 
@@ -27,13 +27,14 @@ impl<T: DigitCount + Radix> Part for PaddedDigits<T> {
 
     fn write_to(self, buffer: &mut [u8]) -> usize {
         write_padded(self.1, self.0, &mut buffer[..self.2]);
-        // The same number, so that what follows has a fixed position if the width is a constant.
+        // `write_padded` returns the same number, but a constant width is known without its result,
+        // and with it the position of the next part.
         self.2
     }
 }
 
-/// An unsigned number in decimal, with leading zeros up to the width. The number is below ten to the
-/// power of the width.
+/// An unsigned number in decimal, with leading zeros up to the width: `Padded(3u8, 2)` writes `03`.
+/// The number must be below `10.pow(width)`.
 #[derive(Clone, Copy, Drop)]
 pub struct Padded<T>(pub T, pub usize);
 

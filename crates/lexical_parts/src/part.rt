@@ -1,4 +1,4 @@
-//! What a part of a text is.
+//! The trait that each part of a text implements.
 
 ghost use Rattle.std.specs.Prelude.{◌≡◌, ◌↔◌, ◌≤◌, List, ℕ, IfNone, IfSome, IsSome, length, min};
 ghost use Rattle.std.specs.Borrow.{sem};
@@ -7,33 +7,35 @@ ghost use Rattle.lexical_write_integer.specs.Lending.{LendsFront};
 
 use lexical_write_integer::buffer::front_mut;
 
-/// A value that can be written as a part of a text. A tuple of parts is a part: their texts, in
-/// order.
+/// A value that has a text, such as a number or a `&str`. A tuple of parts is also a part, and its
+/// text is the texts of its members in order: `(Decimal(250), " g")` writes `250 g`.
 pub trait Part: Copy {
-    // What a text of the part is.
+    // Whether these bytes are the text of the part.
     ghost is_text: { Self → List ℕ → Type 0 };
 
-    // Whether the part has a text: a radix is from 2 to 36, a number fits its width.
+    // Whether the part has a text: its radix is from 2 to 36, and its number fits its width.
     ghost is_valid: { Self → Type 0 };
 
-    // How many bytes are enough for a text of the part.
+    // A number of bytes that is enough for the text.
     ghost room: { Self → ℕ };
 
-    /// Returns how many bytes are enough for the text, or `usize::MAX` if they are more than that.
+    /// Returns a number of bytes that is enough for the text, or `usize::MAX` if that number is
+    /// larger. The part must be valid.
     fn room(self) -> usize
         requires { is_valid self }
         ensures { result ≡ min (room self) usize.MAX };
 
     /// Writes the text to the start of the buffer, and returns its length. Every byte after the
-    /// text is unchanged.
+    /// text is unchanged. The part must be valid, and the buffer must have `room` bytes or more.
     fn write_to(self, buffer: &mut [u8]) -> usize
         requires valid { is_valid self }
         requires room { room self ≤ length buffer.old }
         ensures text { Writes (is_text self) buffer.old buffer.new result }
         ensures short { result ≤ room self };
 
-    /// Writes the text as `write_to` does, and returns it for reading and writing: what the caller
-    /// leaves in it is left in those bytes of the buffer.
+    /// Writes the text to the start of the buffer, and returns those bytes of the buffer, which the
+    /// caller may read and change. Every byte after the text is unchanged. The part must be valid,
+    /// and the buffer must have `room` bytes or more.
     final fn to_text(self, buffer: &mut [u8]) -> &mut [u8]
         requires valid { is_valid self }
         requires room { room self ≤ length buffer.old }
@@ -45,8 +47,8 @@ pub trait Part: Copy {
         front_mut(buffer, count)
     }
 
-    /// Writes the text as `write_to` does if the buffer has the room of the part. Otherwise returns
-    /// `None`, and the buffer is unchanged.
+    /// Writes the text to the start of the buffer and returns its length if the buffer has `room`
+    /// bytes or more. Otherwise returns `None`, and the buffer is unchanged. The part must be valid.
     final fn try_write_to(self, buffer: &mut [u8]) -> Option<usize>
         requires { is_valid self }
         ensures fits { IsSome result ↔ (room self ≤ length buffer.old) }

@@ -1,4 +1,4 @@
-//! Parts that are bytes already.
+//! Parts that are strings or bytes, whose text is the same bytes.
 
 ghost use Rattle.std.specs.Prelude.{ℕ, [], ◌∷◌, length, ⊤};
 ghost use Rattle.lexical_write_integer.specs.Sequence.{IsExactly};
@@ -22,7 +22,7 @@ impl Part for &str {
     }
 }
 
-/// These bytes.
+/// A part whose text is the bytes of a slice.
 #[derive(Clone, Copy, Drop)]
 pub struct Bytes<'a>(pub &'a [u8]);
 
@@ -42,7 +42,7 @@ impl Part for Bytes<'_> {
     }
 }
 
-/// This byte.
+/// A part whose text is one byte.
 #[derive(Clone, Copy, Drop)]
 pub struct Byte(pub u8);
 

@@ -1,4 +1,4 @@
-//! Tuples of parts: their texts, in order.
+//! Tuples of two to twelve parts, whose text is the texts of their members in order.
 
 ghost use Rattle.std.specs.Prelude.{◌+◌};
 ghost use Rattle.lexical_parts.specs.Sequence.{◌then◌};

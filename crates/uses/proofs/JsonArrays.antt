@@ -1,5 +1,6 @@
--- Texts that are added to a buffer one after another, and the elements of an array.
-use Rattle.std.proofs.Common.{◌≡◌, Option, None, Some, ℕ, ◌+◌, ◌-◌, ◌<◌, ◌≤◌, List, ◌∷◌, ◌++◌, length, get_or, take, drop, refl, sym, ap, ◌∙◌, arith, add-one, drop-cons, length-append, append_assoc, pos}
+-- Texts that are written to a buffer one after another, and the elements of an array.
+use Rattle.std.proofs.Common.{◌≡◌, Option, None, Some, ℕ, ◌+◌, ◌-◌, ◌<◌, ◌≤◌, List, ◌∷◌, ◌++◌, length, get_or, take, drop}
+use Rattle.std.proofs.Common.{refl, sym, ap, ◌∙◌, arith, add-one, drop-cons, length-append, append_assoc, pos}
 use Rattle.std.specs.Prelude.{codes}
 use Rattle.std.specs.Option.{IfSome}
 use Rattle.std.proofs.lemmas.List.{append-nil, drop-drop, drop_all, take_at, drop_at, length-drop, length-take-le}
@@ -12,57 +13,80 @@ pub IfSome-map : {P Q : ℕ → Type 0} (r : Option ℕ) → ((x : ℕ) → P x 
 IfSome-map None f h = tt
 IfSome-map (Some x) f h = f x h
 
--- what stands before the next place, and after it
-taken : {text before after : List ℕ} {count next : ℕ} → count ≤ length before → Adds text count before after next → take next after ≡ take count before ++ text
+-- the bytes before `next` are those before `count`, and the text
+taken : {text before after : List ℕ} {count next : ℕ} →
+    count ≤ length before → Adds text count before after next → take next after ≡ take count before ++ text
 taken {text} {before} {after} {count} {next} within a =
-    ap (take next) a.written ∙ take_at (take count before ++ text) (drop next before) next (omega (arith, a.count_is, length-append (take count before) text, length-take-le count before within))
+    let long = omega (arith, a.count_is, length-append (take count before) text, length-take-le count before within) in
+    ap (take next) a.written ∙ take_at (take count before ++ text) (drop next before) next long
 
-left : {text before after : List ℕ} {count next : ℕ} → count ≤ length before → Adds text count before after next → drop next after ≡ drop next before
+-- the bytes from `next` are unchanged
+left : {text before after : List ℕ} {count next : ℕ} →
+    count ≤ length before → Adds text count before after next → drop next after ≡ drop next before
 left {text} {before} {after} {count} {next} within a =
-    ap (drop next) a.written ∙ drop_at (take count before ++ text) (drop next before) next (omega (arith, a.count_is, length-append (take count before) text, length-take-le count before within))
+    let long = omega (arith, a.count_is, length-append (take count before) text, length-take-le count before within) in
+    ap (drop next) a.written ∙ drop_at (take count before ++ text) (drop next before) next long
 
--- buffers that are the same from a place on are the same from a later one on
-left_later : (place later : ℕ) (a b : List ℕ) → place ≤ later → drop place a ≡ drop place b → drop later a ≡ drop later b
-left_later place later a b less same =
-    let e : later ≡ place + (later - place) = omega arith in
-    ap (λ n. drop n a) e ∙ sym (drop-drop (later - place) place a) ∙ ap (drop (later - place)) same ∙ drop-drop (later - place) place b ∙ ap (λ n. drop n b) (sym e)
+-- lists that are equal from an index are equal from every later index
+left_later : (index later : ℕ) (a b : List ℕ) → index ≤ later → drop index a ≡ drop index b → drop later a ≡ drop later b
+left_later index later a b less same =
+    let e : later ≡ index + (later - index) = omega arith in
+    ap (λ n. drop n a) e ∙ sym (drop-drop (later - index) index a) ∙ ap (drop (later - index)) same
+    ∙ drop-drop (later - index) index b ∙ ap (λ n. drop n b) (sym e)
 
--- the added text fits
-pub fits : {text before after : List ℕ} {count next : ℕ} → count ≤ length before → length after ≡ length before → Adds text count before after next → next ≤ length after
+-- a text that is written ends within the buffer
+pub fits : {text before after : List ℕ} {count next : ℕ} →
+    count ≤ length before → length after ≡ length before → Adds text count before after next → next ≤ length after
 fits {text} {before} {after} {count} {next} within same a =
-    omega (arith, a.count_is, ap length a.written, length-append (take count before ++ text) (drop next before), length-append (take count before) text, length-take-le count before within)
+    let long = length-append (take count before ++ text) (drop next before) in
+    omega (arith, a.count_is, ap length a.written, long, length-append (take count before) text, length-take-le count before within)
 
--- two texts that are added are one
-pub Adds-then : (first second before between after : List ℕ) (count next last : ℕ) → count ≤ length before → Adds first count before between next → Adds second next between after last → Adds (first ++ second) count before after last
-Adds-then first second before between after count next last within a b = record {
+-- two texts that are written one after the other are one text
+pub Adds-then : {first second before between after : List ℕ} {count next last : ℕ} →
+    count ≤ length before → Adds first count before between next → Adds second next between after last →
+    Adds (first ++ second) count before after last
+Adds-then {first} {second} {before} {between} {after} {count} {next} {last} within a b = record {
   count_is = omega (arith, a.count_is, b.count_is, length-append first second);
   written =
       let rest = left_later next last between before (omega (arith, b.count_is)) (left within a) in
-      b.written ∙ ap (λ front. front ++ second ++ drop last between) (taken within a) ∙ ap (λ tail. take count before ++ first ++ second ++ tail) rest
-      ∙ ap (λ front. front ++ drop last before) (append_assoc (take count before) first second);
+      b.written ∙ ap (λ start. start ++ second ++ drop last between) (taken within a)
+      ∙ ap (λ tail. take count before ++ first ++ second ++ tail) rest
+      ∙ ap (λ start. start ++ drop last before) (append_assoc (take count before) first second);
 }
 
--- the next element is added
-pub added : (numbers : List ℕ) (index d : ℕ) (mark whole before between after : List ℕ) (count next : ℕ) → index < length numbers → count ≤ length between → Adds (mark ++ text_of (pos (get_or numbers index d)) standard) count between after next
-    → take count between ++ elements mark (drop index numbers) ++ codes "]" ≡ whole → take next after ++ elements (codes ",") (drop (index + 1) numbers) ++ codes "]" ≡ whole
-added numbers index d mark whole before between after count next inside within a split =
-    let text = mark ++ text_of (pos (get_or numbers index d)) standard in
+-- if the next element is written, the text of the whole array is split after it
+pub added : (numbers : List ℕ) (index d : ℕ) (lead : List ℕ) {whole : List ℕ} (before : List ℕ) {between after : List ℕ} {count next : ℕ} →
+    index < length numbers → count ≤ length between →
+    Adds (lead ++ text_of (pos (get_or numbers index d)) standard) count between after next →
+    take count between ++ elements lead (drop index numbers) ++ codes "]" ≡ whole →
+    take next after ++ elements (codes ",") (drop (index + 1) numbers) ++ codes "]" ≡ whole
+added numbers index d lead {whole} before {between} {after} {count} {next} inside within a split =
+    let text = lead ++ text_of (pos (get_or numbers index d)) standard in
     let rest = elements (codes ",") (drop (index + 1) numbers) in
     let element : drop index numbers ≡ get_or numbers index d ∷ drop (index + 1) numbers = rw (add-one, drop-cons numbers index d) refl in
-    ap (λ front. front ++ rest ++ codes "]") (taken within a) ∙ ap (λ all. all ++ codes "]") (append_assoc (take count between) text rest)
-    ∙ ap (λ numbers. take count between ++ elements mark numbers ++ codes "]") (sym element) ∙ split
+    ap (λ start. start ++ rest ++ codes "]") (taken within a) ∙ ap (λ all. all ++ codes "]") (append_assoc (take count between) text rest)
+    ∙ ap (λ numbers. take count between ++ elements lead numbers ++ codes "]") (sym element) ∙ split
 
-pub still_left : (text before between after : List ℕ) (count next : ℕ) → count ≤ length between → Adds text count between after next → drop count between ≡ drop count before → drop next after ≡ drop next before
-still_left text before between after count next within a kept = left within a ∙ left_later count next between before (omega (arith, a.count_is)) kept
+-- the bytes after the text are still those of the buffer before the first text
+pub still_left : {text before between after : List ℕ} {count next : ℕ} →
+    count ≤ length between → Adds text count between after next → drop count between ≡ drop count before → drop next after ≡ drop next before
+still_left {text} {before} {between} {after} {count} {next} within a kept =
+    left within a ∙ left_later count next between before (omega (arith, a.count_is)) kept
 
--- the bracket is added to the last element
-pub finished : (numbers : List ℕ) (index : ℕ) (mark whole before between after : List ℕ) (count last : ℕ) → length numbers ≤ index → count ≤ length between → length between ≡ length before → length after ≡ length between
-    → take count between ++ elements mark (drop index numbers) ++ codes "]" ≡ whole → drop count between ≡ drop count before → Adds (codes "]") count between after last → Front before after whole
-finished numbers index mark whole before between after count last all within long same split kept a =
-    let front = take count between ++ codes "]" in
-    let is : front ≡ whole = ap (λ text. text ++ codes "]") (sym (append-nil (take count between))) ∙ ap (λ numbers. take count between ++ elements mark numbers ++ codes "]") (sym (drop_all index numbers all)) ∙ split in
-    let size : last ≡ length whole = omega (arith, a.count_is, ap length is, length-append (take count between) (codes "]"), length-take-le count between within) in
+-- if the bracket is written after the last element, the text of the whole array is written
+pub finished : (numbers : List ℕ) (index : ℕ) (lead whole before between after : List ℕ) (count last : ℕ) →
+    length numbers ≤ index → count ≤ length between → length between ≡ length before → length after ≡ length between →
+    take count between ++ elements lead (drop index numbers) ++ codes "]" ≡ whole →
+    drop count between ≡ drop count before → Adds (codes "]") count between after last → Front before after whole
+finished numbers index lead whole before between after count last all within long same split kept a =
+    let text = take count between ++ codes "]" in
+    let is : text ≡ whole =
+    ap (λ text. text ++ codes "]") (sym (append-nil (take count between)))
+    ∙ ap (λ numbers. take count between ++ elements lead numbers ++ codes "]") (sym (drop_all index numbers all)) ∙ split in
+    let size : last ≡ length whole =
+    omega (arith, a.count_is, ap length is, length-append (take count between) (codes "]"), length-take-le count between within) in
     record {
-      fits = omega (arith, size, ap length a.written, length-append front (drop last between), ap length is, length-drop last between);
-      written = a.written ∙ ap (λ text. text ++ drop last between) is ∙ ap (λ rest. whole ++ rest) (left_later count last between before (omega (arith, a.count_is)) kept) ∙ ap (λ n. whole ++ drop n before) size;
+      fits = omega (arith, size, ap length a.written, length-append text (drop last between), ap length is, length-drop last between);
+      written = a.written ∙ ap (λ text. text ++ drop last between) is
+          ∙ ap (λ rest. whole ++ rest) (left_later count last between before (omega (arith, a.count_is)) kept) ∙ ap (λ n. whole ++ drop n before) size;
     }

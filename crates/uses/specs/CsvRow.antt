@@ -1,4 +1,4 @@
--- A row of numbers.
+-- A row of numbers in CSV.
 use Rattle.std.specs.Prelude.{ℕ, ℤ, List, codes}
 use Rattle.lexical_parts.specs.Joined.{AreJoined}
 use Rattle.lexical_parts.specs.Sequence.{◌then◌, IsDecimal, IsStr}

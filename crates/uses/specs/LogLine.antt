@@ -12,7 +12,7 @@ name_of Info = codes "INFO"
 name_of Warn = codes "WARN"
 name_of Error = codes "ERROR"
 
--- in decimal, with a sign before each number
+-- the decimal format with a required sign
 abbrev pub signed : Format
 signed = record standard { required_mantissa_sign = true }
 

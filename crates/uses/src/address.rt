@@ -1,4 +1,4 @@
-//! An IPv4 address: four numbers with points between them.
+//! Writes an IPv4 address: four numbers with points between them.
 
 ghost use Rattle.std.specs.Prelude.{◌≤◌, codes, length, pos};
 ghost use Rattle.lexical_num.specs.Format.{standard};
@@ -9,7 +9,7 @@ ghost use Rattle.lexical_write_integer.specs.Text.{IsText};
 use lexical_write_integer::ToLexical;
 use lexical_write_integer::buffer::copy_to_front;
 
-// Writes one of the numbers, and the point after it.
+// Writes a number and a point after it, and returns the length of both.
 #[tactic(auto, using(lexical_write_integer::proofs::Sequences::in_order))]
 fn write_with_point(number: u8, buffer: &mut [u8]) -> usize
     requires { 4 ≤ length buffer.old }
@@ -21,8 +21,8 @@ fn write_with_point(number: u8, buffer: &mut [u8]) -> usize
     end + copy_to_front(b".", &mut buffer[end..])
 }
 
-/// Writes the address in decimal, with points between the four numbers, to the front of the array,
-/// and returns how many bytes they are. The bytes after them are as before.
+/// Writes the address in decimal, with points between the four numbers, to the start of the array,
+/// and returns its length. The bytes after it are unchanged.
 #[tactic(auto, using(lexical_write_integer::proofs::Sequences::in_order))]
 pub fn write_address(a: u8, b: u8, c: u8, d: u8, buffer: &mut [u8; 15]) -> usize
     ensures { Writes

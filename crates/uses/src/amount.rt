@@ -1,4 +1,4 @@
-//! An amount of money, in groups of three digits.
+//! Writes an amount of money in groups of three digits.
 
 ghost use Rattle.std.specs.Prelude.{◌≡◌, List, ℕ, Some, length, pos};
 ghost use Rattle.lexical_num.specs.Format.{standard};
@@ -11,7 +11,7 @@ use lexical_write_integer::digit_count::DigitCount;
 use lexical_write_integer::laws::text_length;
 use lexical_write_integer::{NumberFormat, NumberFormatBuilder};
 
-// Decimal, with a comma between two groups of three digits.
+// Returns the decimal format with commas between groups of three digits.
 fn in_thousands() -> NumberFormat
     ensures { result ≡ record standard { digit_grouping = Some (3, 44) } }
 {
@@ -20,8 +20,8 @@ fn in_thousands() -> NumberFormat
         .build_strict()
 }
 
-/// Writes `$` and the amount in decimal, with a comma between two groups of three digits, to the
-/// start of the array, and returns how many bytes they are. The bytes after them are unchanged.
+/// Writes `$` and the amount in decimal, with commas between groups of three digits, to the start of
+/// the array, and returns the number of bytes written. The bytes after them are unchanged.
 pub fn write_amount(dollars: i64, buffer: &mut [u8; 27]) -> usize
     ensures { Writes
         (IsStr "$" then IsText dollars (record standard { digit_grouping = Some (3, 44) }))
@@ -30,8 +30,8 @@ pub fn write_amount(dollars: i64, buffer: &mut [u8; 27]) -> usize
     ("$", Formatted(dollars, &in_thousands())).write_to(buffer)
 }
 
-/// Returns how many bytes an amount that is not negative takes without the `$`, so that amounts can
-/// be written one below the other.
+/// Returns the length of an amount without the `$`, by which a caller can align amounts in a column.
+/// The amount is not negative.
 pub fn width_of_amount(dollars: u64) -> usize
     ensures { (text : List ℕ)
         → IsText (pos dollars) (record standard { digit_grouping = Some (3, 44) }) text

@@ -1,4 +1,4 @@
-//! Answers to lines, in a vector.
+//! Collects the answers to lines in a vector.
 
 ghost use Rattle.std.specs.Prelude.{◌++◌, IfOk, OnOk};
 ghost use Rattle.lexical_lines.specs.Answer.{AnswersAll};
@@ -8,8 +8,8 @@ use lexical_lines::{Answerer, ByteSink, ByteSource, Writing, run};
 use std::alloc::Global;
 use std::io;
 
-/// Returns the answers to the lines of a source. The error is that of the source, or tells that
-/// memory ran out.
+/// Returns the answers to the lines of a source. The error is that of the source, or an allocation
+/// failure.
 #[tactic(auto, using(lexical_lines::proofs::Writers::answers_held))]
 pub fn answers_to<S: ByteSource>(alloc: Global, source: &mut S) -> io::Result<Vec<u8>>
     ensures { IfOk result (λ answers.
@@ -20,8 +20,8 @@ pub fn answers_to<S: ByteSource>(alloc: Global, source: &mut S) -> io::Result<Ve
     Ok(sink.into_inner())
 }
 
-/// Puts the answers to the lines of a text that comes in two pieces into a sink, and returns whether
-/// all lines are good ones. A line may begin in the first piece and end in the second.
+/// Writes the answers to the lines of a text, which is passed in two chunks, to a sink, and returns
+/// whether all lines are valid. A line may begin in the first chunk and end in the second.
 pub fn answer_pieces<K: ByteSink>(first: &[u8], second: &[u8], sink: &mut K) -> io::Result<bool>
     ensures { OnOk result (AnswersAll (first.now ++ second.now)
         (added (K.taken sink.old) (K.taken sink.new))) }

@@ -1,4 +1,4 @@
-//! A number of any type in any format.
+//! Writes numbers of any type in any format.
 
 ghost use Rattle.std.specs.Prelude.{◌≡◌, ◌↔◌, ◌≤◌, IsSome, IfSome, IsTrue, length};
 ghost use Rattle.lexical_num.specs.Size.{size_in};
@@ -9,7 +9,7 @@ use lexical_write_integer::{
     BUFFER_SIZE, NumberFormat, Options, ToLexicalWithOptions, WriteOptions,
 };
 
-/// The text of the number in the format, which borrows the array.
+/// Returns the text of the number in the format, which borrows the array.
 pub fn text_of_i64<'a>(
     number: i64,
     format: &NumberFormat,
@@ -21,7 +21,7 @@ pub fn text_of_i64<'a>(
     number.to_lexical_with_options(buffer, format, &Options::new())
 }
 
-/// The text of a number of any type in the format, which borrows the array.
+/// Returns the text of a number of any type in the format, which borrows the array.
 pub fn text_of_any<'a, T: ToLexicalWithOptions>(
     number: T,
     format: &NumberFormat,
@@ -34,8 +34,8 @@ pub fn text_of_any<'a, T: ToLexicalWithOptions>(
     number.to_lexical_with_options(buffer, format, options)
 }
 
-/// The text of the number in the format, where the buffer has the bytes that `buffer_size` tells,
-/// and else `None`.
+/// Returns the text of the number in the format if the buffer has at least the length that
+/// `buffer_size` returns, and `None` otherwise.
 pub fn text_if_room<'a, T: ToLexicalWithOptions>(
     number: T,
     format: &NumberFormat,
@@ -53,7 +53,8 @@ pub fn text_if_room<'a, T: ToLexicalWithOptions>(
     Some(number.to_lexical_with_options(buffer, format, options))
 }
 
-/// Whether two numbers have the same text in the format: exactly where they are the same.
+/// Returns whether two numbers have the same text in the format, which is the case if and only if
+/// they are equal.
 pub fn have_same_text(a: i64, b: i64, format: &NumberFormat) -> bool
     ensures { IsTrue result ↔ (a ≡ b) }
 {

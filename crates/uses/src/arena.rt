@@ -1,4 +1,4 @@
-//! Texts in one buffer, which are kept as slices.
+//! Keeps several texts in one buffer, as slices of it.
 
 ghost use Rattle.std.specs.Prelude.{◌≡◌, ◌+◌, ◌≤◌, ◌↔◌, IsTrue, length, pos};
 ghost use Rattle.lexical_num.specs.Format.{standard};
@@ -8,8 +8,8 @@ use lexical_write_integer::ToLexical;
 use lexical_write_integer::format::STANDARD;
 use lexical_write_integer::laws::texts_tell;
 
-/// Writes the number in decimal to the front of the arena, of at least 20 bytes, and returns its
-/// text and the bytes after it.
+/// Writes the number in decimal to the start of the arena, and returns its text and the bytes after
+/// it. The arena must have room for 20 bytes.
 pub fn keep_text(number: u64, arena: &mut [u8]) -> (&mut [u8], &mut [u8])
     requires { 20 ≤ length arena.old }
     ensures text { IsText (pos number) standard result.0.now }
@@ -20,8 +20,8 @@ pub fn keep_text(number: u64, arena: &mut [u8]) -> (&mut [u8], &mut [u8])
     arena.split_at_mut(count)
 }
 
-/// Whether the texts of two numbers, both kept in one arena, are the same: they are exactly if the
-/// numbers are.
+/// Returns whether the texts of two numbers, both kept in one arena, are equal, which is the case if
+/// and only if the numbers are.
 pub fn have_same_kept_texts(a: u64, b: u64) -> bool
     ensures { IsTrue result ↔ (a ≡ b) }
 {

@@ -1,4 +1,4 @@
-//! A column of numbers, whose last digits stand one below the other.
+//! Writes a number aligned to the right of a column.
 
 ghost use Rattle.std.specs.Prelude.{◌≡◌, ◌-◌, ◌++◌, length, replicate};
 ghost use Rattle.lexical_num.specs.Format.{standard};
@@ -8,7 +8,7 @@ use lexical_write_integer::ToLexical;
 use lexical_write_integer::format::STANDARD;
 use lexical_write_integer::laws::text_computed;
 
-/// Writes the number in decimal to the end of the array, after spaces.
+/// Writes the number in decimal to the end of the array, and spaces before it.
 pub fn write_column(number: i32, column: &mut [u8; 12])
     ensures { column.new
         ≡ replicate (12 - length (text_of number standard)) 32 ++ text_of number standard }

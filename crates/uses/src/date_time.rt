@@ -1,10 +1,10 @@
-//! A date and a time of day: a part of the caller's own.
+//! A date with a time of day, as an example of a part of a text that a caller defines.
 
 ghost use Rattle.std.specs.Prelude.{◌<◌, ⊤};
 
 use lexical_parts::{Padded, Part};
 
-/// A date and a time of day.
+/// A date with a time of day, whose text is as in `2026-11-23T07:05:09`.
 #[derive(Clone, Copy, Drop)]
 pub struct DateTime {
     /// The year, of at most four digits.

@@ -1,12 +1,12 @@
-//! A line of a dump: an address, and the bytes there.
+//! Writes a line of a memory dump: an address, and the bytes at that address.
 
 ghost use Rattle.lexical_write_integer.specs.Buffer.{Writes};
 ghost use Rattle.uses.specs.DumpLine.{IsDumpLine};
 
 use lexical_parts::{PaddedDigits, Part};
 
-/// Writes the address in eight hexadecimal digits and the bytes in two each to the start of the
-/// array, and returns how many bytes the line has.
+/// Writes the address in eight hexadecimal digits, and each byte in two, to the array, and returns the
+/// length of the line.
 pub fn write_dump_line(address: u32, bytes: &[u8; 4], buffer: &mut [u8; 22]) -> usize
     ensures { Writes (IsDumpLine address bytes.now) buffer.old buffer.new result }
 {

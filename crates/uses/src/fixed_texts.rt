@@ -1,4 +1,4 @@
-//! Texts of numbers that are written out, whose bytes the contracts write out too.
+//! Writes two constants, whose texts the contracts spell out.
 
 ghost use Rattle.std.specs.Prelude.{◌≡◌, codes};
 
@@ -6,7 +6,7 @@ use lexical_write_integer::laws::{digit_count_at_most, digits_computed, text_com
 use lexical_write_integer::radix::Radix;
 use lexical_write_integer::{NumberFormatBuilder, Options, ToLexicalWithOptions};
 
-/// The colour white in hexadecimal, which borrows the array.
+/// Returns the colour white in hexadecimal, which borrows the array.
 pub fn white(buffer: &mut [u8; 6]) -> &[u8]
     ensures { result.now ≡ codes "FFFFFF" }
 {
@@ -17,7 +17,7 @@ pub fn white(buffer: &mut [u8; 6]) -> &[u8]
     text
 }
 
-/// A million in decimal with its sign, in groups of three digits, which borrows the array.
+/// Returns a million in decimal, with its sign and in groups of three digits, which borrows the array.
 pub fn million(buffer: &mut [u8; 14]) -> &[u8]
     ensures { result.now ≡ codes "+1,000,000" }
 {

@@ -1,4 +1,4 @@
-//! The two parts of a float, as a writer of floats puts them into a buffer.
+//! Writes the mantissa and the exponent of a float.
 
 ghost use Rattle.std.specs.Prelude.{◌≤◌, length};
 ghost use Rattle.lexical_write_integer.specs.Buffer.{Writes};
@@ -9,10 +9,10 @@ use lexical_write_integer::buffer::copy_to_front;
 use lexical_write_integer::laws::digit_count_within_bits;
 use lexical_write_integer::write::WriteInteger;
 
-/// Writes the digits of the mantissa in the mantissa radix, the mark, and the digits of the
-/// exponent in the exponent radix to the front of the buffer, and returns how many bytes they are.
-/// The bytes after them are unchanged. The buffer has at least 97 bytes, as one of `BUFFER_SIZE`
-/// does.
+/// Writes the digits of the mantissa in the mantissa radix, the byte `mark`, and the digits of the
+/// exponent in the exponent radix to the start of the buffer, and returns the number of bytes
+/// written. The bytes after them are unchanged. The buffer must have room for 97 bytes, which is less
+/// than `BUFFER_SIZE`.
 #[tactic(auto, using(lexical_write_integer::proofs::Sequences::in_order))]
 pub fn write_parts(
     mantissa: u64,

@@ -1,12 +1,12 @@
-//! A dump of bytes: two hexadecimal digits for each.
+//! Writes bytes as two hexadecimal digits each.
 
 ghost use Rattle.std.specs.Prelude.{◌≡◌, ℕ, ◌+◌, ◌*◌, ◌/◌, ◌%◌, ◌<◌, slice_index};
 ghost use Rattle.lexical_num.specs.Digit.{digit_char};
 
 use lexical_tables::get_table;
 
-/// Writes each of the eight bytes as two characters, with a leading zero where it is below 16: byte
-/// `i` stands at `2 * i` and `2 * i + 1`.
+/// Writes each byte as two hexadecimal digits, with a leading zero if it is below 16. The digits of
+/// byte `i` are at the indexes `2 * i` and `2 * i + 1`.
 pub fn write_dump(bytes: &[u8; 8], dump: &mut [u8; 16])
     ensures high { (i : ℕ) → i < 8
         → slice_index dump.new (2 * i) ≡ digit_char (slice_index bytes.now i / 16) }

@@ -1,4 +1,4 @@
-//! A number in hexadecimal after `0x`.
+//! Writes a number in hexadecimal after `0x`.
 
 ghost use Rattle.std.specs.Prelude.{◌≡◌, ◌++◌, codes};
 ghost use Rattle.lexical_write_integer.specs.Buffer.{Writes};
@@ -10,8 +10,8 @@ use lexical_write_integer::buffer::copy_to_front;
 use lexical_write_integer::laws::{digit_count_at_most, digits_computed};
 use lexical_write_integer::radix::Radix;
 
-/// Writes `0x` and the number in radix 16 to the front of the array, and returns how many bytes
-/// they are. The bytes after them are as before.
+/// Writes `0x` and the number in radix 16 to the start of the array, and returns the number of bytes
+/// written. The bytes after them are unchanged.
 #[tactic(auto, using(lexical_write_integer::proofs::Sequences::in_order))]
 pub fn write_hexadecimal(number: u32, buffer: &mut [u8; 10]) -> usize
     ensures { Writes (Then (IsExactly (codes "0x")) (IsDigits 16 number))
@@ -22,7 +22,7 @@ pub fn write_hexadecimal(number: u32, buffer: &mut [u8; 10]) -> usize
     start + number.radix(16, &mut buffer[start..])
 }
 
-/// `0x` and the number in radix 16, which borrow the array.
+/// Returns `0x` and the number in radix 16, as a text that borrows the array.
 pub fn hexadecimal(number: u32, buffer: &mut [u8; 10]) -> &[u8]
     ensures { result.now ≡ codes "0x" ++ digits_text 16 number }
 {

@@ -1,4 +1,4 @@
-//! The short identifier of a counter: its digits in radix 36.
+//! Writes a counter as a short identifier, its digits in radix 36.
 
 ghost use Rattle.std.specs.Prelude.{◌≡◌, ◌≤◌, ◌↔◌, IsTrue, List, ℕ, length};
 ghost use Rattle.lexical_write_integer.specs.Buffer.{WritesDigits};
@@ -7,8 +7,8 @@ ghost use Rattle.lexical_write_integer.specs.Text.{IsDigits};
 use lexical_write_integer::laws::{digit_count_at_most, digits_tell, equal_digits};
 use lexical_write_integer::radix::Radix;
 
-/// Writes the identifier of the counter to the front of the buffer, of at least 13 bytes, and
-/// returns its length, which is at most 13. The bytes after it are unchanged.
+/// Writes the identifier of the counter to the start of the buffer, and returns its length, at most
+/// 13. The bytes after it are unchanged. The buffer must have room for 13 bytes.
 pub fn write_identifier(counter: u64, buffer: &mut [u8]) -> usize
     requires { 13 ≤ length buffer.old }
     ensures identifier { WritesDigits 36 counter buffer.old buffer.new result }
@@ -18,14 +18,14 @@ pub fn write_identifier(counter: u64, buffer: &mut [u8]) -> usize
     counter.radix(36, buffer)
 }
 
-/// Does nothing: its contract says that two counters with one identifier are the same counter.
+/// A law: two counters with equal identifiers are equal.
 pub fn same_counter(a: u64, b: u64)
     ensures { (identifier : List ℕ) → IsDigits 36 a identifier → IsDigits 36 b identifier → a ≡ b }
 {
     equal_digits(36, a, b);
 }
 
-/// The identifier of the counter, which borrows the array.
+/// Returns the identifier of the counter, which borrows the array.
 pub fn identifier(counter: u64, buffer: &mut [u8; 13]) -> &[u8]
     ensures { IsDigits 36 counter result.now }
 {
@@ -33,7 +33,8 @@ pub fn identifier(counter: u64, buffer: &mut [u8; 13]) -> &[u8]
     &buffer[..count]
 }
 
-/// Whether two counters have the same identifier: exactly where they are the same.
+/// Returns whether two counters have the same identifier, which is the case if and only if they are
+/// equal.
 pub fn have_same_identifier(a: u64, b: u64) -> bool
     ensures { IsTrue result ↔ (a ≡ b) }
 {

@@ -1,4 +1,4 @@
-//! An array of numbers in JSON, into a buffer that may be too short.
+//! Writes an array of numbers in JSON to a buffer that may be too short.
 
 ghost use Rattle.std.specs.Prelude.{◌≡◌, ◌<◌, ◌+◌, ◌≤◌, ◌++◌, IfNone, IfSome, length, pos};
 ghost use Rattle.lexical_num.specs.Format.{standard};
@@ -11,7 +11,8 @@ use lexical_write_integer::buffer::copy_to_front;
 use lexical_write_integer::format::STANDARD;
 use lexical_write_integer::laws::text_computed;
 
-// Adds the text after the first `count` bytes, or returns `None` if it does not fit.
+// Writes the text after the first `count` bytes, and returns the number of bytes up to its end. Returns
+// `None` if the text does not fit.
 fn push(text: &[u8], count: usize, buffer: &mut [u8]) -> Option<usize>
     requires { count ≤ length buffer.old }
     ensures none { IfNone result (length buffer.old < count + length text.now) }
@@ -23,33 +24,34 @@ fn push(text: &[u8], count: usize, buffer: &mut [u8]) -> Option<usize>
     Some(count + copy_to_front(text, &mut buffer[count..]))
 }
 
-// Adds the mark and the number.
-fn push_number(mark: &[u8], number: u64, count: usize, buffer: &mut [u8]) -> Option<usize>
+// Writes the lead and the number after the first `count` bytes, and returns the number of bytes up to
+// their end. Returns `None` if they do not fit.
+fn push_number(lead: &[u8], number: u64, count: usize, buffer: &mut [u8]) -> Option<usize>
     requires { count ≤ length buffer.old }
     ensures none { IfNone result
-        (length buffer.old < count + length (mark.now ++ text_of (pos number) standard)) }
+        (length buffer.old < count + length (lead.now ++ text_of (pos number) standard)) }
     ensures some { IfSome result
-        (λ next. Adds (mark.now ++ text_of (pos number) standard) count buffer.old buffer.new next) }
+        (λ next. Adds (lead.now ++ text_of (pos number) standard) count buffer.old buffer.new next) }
 {
     let mut digits = [0; 20];
     let text = number.to_lexical(&mut digits);
     text_computed(number, &STANDARD, text);
-    let count = push(mark, count, buffer)?;
+    let count = push(lead, count, buffer)?;
     push(text, count, buffer)
 }
 
-/// Writes the array to the front of the buffer, and returns how many bytes it has, or `None` exactly
-/// if the buffer has fewer.
+/// Writes the array to the start of the buffer, and returns its length. Returns `None` if and only if
+/// the text of the array does not fit.
 pub fn write_array(numbers: &[u64], buffer: &mut [u8]) -> Option<usize>
     ensures none { IfNone result (length buffer.old < length (json_array numbers.now)) }
     ensures some { IfSome result (λ count. Front buffer.old buffer.new (json_array numbers.now)) }
     ensures count { IfSome result (λ count. count ≡ length (json_array numbers.now)) }
 {
     let mut count = push(b"[", 0, buffer)?;
-    let mut mark = b"".as_slice();
+    let mut lead = b"".as_slice();
     for number in numbers {
-        count = push_number(mark, *number, count, buffer)?;
-        mark = b",";
+        count = push_number(lead, *number, count, buffer)?;
+        lead = b",";
     }
     push(b"]", count, buffer)
 }

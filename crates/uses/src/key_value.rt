@@ -1,4 +1,4 @@
-//! A line of settings: a key, `=` and a number.
+//! Writes a setting: a key, `=` and a number.
 
 ghost use Rattle.std.specs.Prelude.{◌≡◌, ◌+◌, ◌≤◌, IfNone, IfSome, length};
 ghost use Rattle.lexical_write_integer.specs.Buffer.{Writes};
@@ -9,8 +9,8 @@ ghost use Rattle.lexical_parts.specs.Sequence.{◌then◌, IsDecimal, IsStr};
 use lexical_parts::{Bytes, Decimal, Part};
 
 /// Writes the key, `=`, the number in decimal and a newline to the start of the buffer, and returns
-/// how many bytes they are. The bytes after them are unchanged. In addition to the key, the buffer
-/// has 22 bytes.
+/// the number of bytes written. The bytes after them are unchanged. The buffer must have the length of
+/// the key and 22 bytes.
 pub fn write_setting(key: &[u8], number: i64, buffer: &mut [u8]) -> usize
     requires { length key.now + 22 ≤ length buffer.old }
     ensures { Writes (IsExactly key.now then IsStr "=" then IsDecimal number then IsStr "\n")
@@ -19,8 +19,8 @@ pub fn write_setting(key: &[u8], number: i64, buffer: &mut [u8]) -> usize
     (Bytes(key), "=", Decimal(number), "\n").write_to(buffer)
 }
 
-/// Writes a setting as `write_setting` does, without a number if there is none. If the buffer does
-/// not have the room, returns `None`, and the buffer is unchanged.
+/// Writes a setting as `write_setting` does, but without a number for `None`, and returns the number
+/// of bytes written. If the buffer is too short, returns `None`, and the buffer is unchanged.
 pub fn try_write_setting(
     key: &str,
     number: Option<Decimal<i64>>,

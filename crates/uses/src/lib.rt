@@ -1,5 +1,5 @@
-//! What a caller does with the numbers that these crates write, one thing in each module, each
-//! proved over the contracts of the calls alone.
+//! Examples of callers. Each module writes something that a program may need, and is proved from
+//! nothing but the contracts of the functions that it calls.
 #![tactic(auto)]
 
 pub mod address;
@@ -8,6 +8,7 @@ pub mod answers;
 pub mod any_format;
 pub mod arena;
 pub mod column;
+pub mod conditions;
 pub mod csv_row;
 pub mod date;
 pub mod date_time;

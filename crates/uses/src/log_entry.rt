@@ -1,4 +1,4 @@
-//! An entry of a log: when, how much it matters, what, and how many.
+//! Writes an entry of a log: a time, a level, a message and a number.
 
 ghost use Rattle.std.specs.Prelude.{◌+◌, ◌≤◌, length};
 ghost use Rattle.lexical_write_integer.specs.Buffer.{Writes};
@@ -11,8 +11,8 @@ use crate::date_time::DateTime;
 use crate::log_line::{Level, level_name};
 use lexical_parts::{Bytes, Decimal, Part};
 
-/// Writes the entry to the start of the buffer, and returns its length. The buffer has 49 bytes and
-/// those of the message.
+/// Writes the entry to the start of the buffer, and returns its length. The buffer must have the
+/// length of the message and 49 bytes.
 pub fn write_entry(
     at: DateTime,
     level: Level,

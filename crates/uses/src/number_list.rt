@@ -1,6 +1,7 @@
-//! Lists of numbers.
+//! Writes lists of numbers.
 
-ghost use Rattle.std.specs.Prelude.{◌≡◌, ◌↔◌, ◌+◌, ◌*◌, ◌≤◌, IfNone, IfSome, IsSome, codes, length};
+ghost use Rattle.std.specs.Prelude.{◌≡◌, ◌↔◌, ◌+◌, ◌*◌, ◌≤◌};
+ghost use Rattle.std.specs.Prelude.{IfNone, IfSome, IsSome, codes, length};
 ghost use Rattle.lexical_write_integer.specs.Buffer.{Writes};
 ghost use Rattle.lexical_parts.specs.Joined.{AreEach, AreJoined, joined_room};
 ghost use Rattle.lexical_parts.specs.Sequence.{◌then◌, IsDecimal, IsStr};
@@ -8,9 +9,9 @@ ghost use Rattle.uses.specs.NumberList.{IsEntry};
 
 use lexical_parts::{Decimal, Joined, Part};
 
-/// Writes the numbers in brackets, with a comma and a space between two of them, to the start of the
-/// buffer, and returns how many bytes they are. If the buffer does not have 20 bytes for each number,
-/// 2 between two numbers and 2 for the brackets, returns `None`, and the buffer is unchanged.
+/// Writes the numbers in brackets, with `, ` between adjacent numbers, to the start of the buffer, and
+/// returns the number of bytes written. Returns `None`, and leaves the buffer unchanged, if the buffer
+/// does not have 20 bytes for each number, 2 for each separator and 2 for the brackets.
 pub fn try_write_list(numbers: &[i64], buffer: &mut [u8]) -> Option<usize>
     ensures fits { IsSome result
         ↔ (1 + (joined_room 20 2 (length numbers.now) + 1) ≤ length buffer.old) }
@@ -22,8 +23,8 @@ pub fn try_write_list(numbers: &[i64], buffer: &mut [u8]) -> Option<usize>
     ("[", Joined(numbers, ", "), "]").try_write_to(buffer)
 }
 
-/// Writes each number and a semicolon after it to the start of the buffer, and returns how many
-/// bytes they are. The buffer has 21 bytes for each number.
+/// Writes each number and a semicolon after it to the start of the buffer, and returns the number of
+/// bytes written. The buffer must have 21 bytes for each number.
 pub fn write_entries(numbers: &[i64], buffer: &mut [u8]) -> usize
     requires { 21 * length numbers.now ≤ length buffer.old }
     ensures { Writes (AreEach IsEntry numbers.now) buffer.old buffer.new result }

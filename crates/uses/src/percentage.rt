@@ -1,4 +1,4 @@
-//! A percentage, of basis points: hundredths of one percent.
+//! Writes a percentage from a number of basis points, hundredths of one percent.
 
 ghost use Rattle.std.specs.Prelude.{◌/◌, ◌%◌, codes, pos};
 ghost use Rattle.lexical_num.specs.Format.{standard};
@@ -11,8 +11,8 @@ use lexical_write_integer::ToLexical;
 use lexical_write_integer::buffer::copy_to_front;
 use lexical_write_integer::padded::write_padded;
 
-/// Writes the percentage with two digits after the point, as `12.05%`, to the front of the array, and
-/// returns how many bytes they are. The bytes after them are as before.
+/// Writes the percentage with two digits after the point, such as `12.05%`, to the start of the array,
+/// and returns its length. The bytes after it are unchanged.
 #[tactic(auto, using(lexical_write_integer::proofs::Sequences::in_order))]
 pub fn write_percentage(basis_points: u32, buffer: &mut [u8; 14]) -> usize
     ensures { Writes

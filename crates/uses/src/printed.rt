@@ -1,4 +1,4 @@
-//! The text of a number as a `str`.
+//! Returns the text of a number as a `&str`.
 
 ghost use Rattle.std.specs.Prelude.{◌≡◌};
 ghost use Rattle.std.specs.Fmt.{signed_decimal};
@@ -7,7 +7,7 @@ use lexical_write_integer::ToLexical;
 use lexical_write_integer::format::STANDARD;
 use lexical_write_integer::laws::{text_is_ascii, text_is_decimal};
 
-/// The text that `{}` prints for the number, which borrows the array.
+/// Returns the text that `{}` prints for the number, which borrows the array.
 pub fn printed(number: i32, buffer: &mut [u8; 11]) -> &str
     ensures { result.now ≡ signed_decimal number }
 {

@@ -1,4 +1,4 @@
-//! A line of a measurement: the date and time, a weight, and flags.
+//! Writes a measurement: a date and time, a weight, and flags.
 
 ghost use Rattle.std.specs.Prelude.{◌≡◌, ◌≤◌, false, length};
 ghost use Rattle.lexical_num.specs.Sign.{sign_of};
@@ -9,7 +9,7 @@ use crate::date_time::DateTime;
 use lexical_parts::{Decimal, Digits, Part};
 use lexical_write_integer::laws::digit_count_at_most;
 
-// The sign of a number: `-` if it is negative, and nothing otherwise.
+// Returns the sign of a number: `-` if it is negative, and otherwise nothing.
 fn sign(number: i32) -> &'static str
     ensures sign { result.now ≡ sign_of number false }
     ensures short { length result.now ≤ 1 }
@@ -17,8 +17,9 @@ fn sign(number: i32) -> &'static str
     if number < 0 { "-" } else { "" }
 }
 
-/// Writes the line to the start of the buffer, of at least 57 bytes, and returns its length: the
-/// date and time, the weight in kilograms from a number of tenths, and the flags in hexadecimal.
+/// Writes the date and time, the weight and the flags to the start of the buffer, and returns the
+/// number of bytes written. The weight is in tenths of a kilogram, and the flags are written in
+/// hexadecimal. The buffer must have room for 57 bytes.
 pub fn write_reading(at: DateTime, tenths: i32, flags: u32, buffer: &mut [u8]) -> usize
     requires { 57 ≤ length buffer.old }
     ensures { Writes (IsReading at tenths flags) buffer.old buffer.new result }

@@ -1,3 +1,5 @@
+// Tests of the callers with known numbers.
+
 mod lines;
 
 use crate::address::write_address;
@@ -25,19 +27,24 @@ use lexical_write_integer::{
 };
 use std::process::Abort;
 
+// Checks that a call that returned `count` wrote the text to the start of the buffer, and that every byte
+// after it is still 7.
+fn check_buffer(rt: &impl Abort, buffer: &[u8], count: usize, text: &[u8]) {
+    assert_eq!(rt; count, text.len());
+    assert!(rt; buffer.starts_with(text));
+    assert!(rt; buffer[count..].iter().all(|byte| *byte == 7));
+}
+
 fn check_identifier(rt: &impl Abort, counter: u64, identifier: &[u8]) {
     let mut buffer = [7; 14];
     let count = write_identifier(counter, &mut buffer);
-    assert_eq!(rt; count, identifier.len());
-    assert!(rt; buffer.starts_with(identifier));
-    assert!(rt; buffer[count..].iter().all(|byte| *byte == 7));
+    check_buffer(rt, &buffer, count, identifier);
 }
 
 fn check_line(rt: &impl Abort, level: Level, number: i64, line: &[u8]) {
     let mut buffer = [7; 30];
-    assert_eq!(rt; write_line(level, number, &mut buffer), line.len());
-    assert!(rt; buffer.starts_with(line));
-    assert!(rt; buffer[line.len()..].iter().all(|byte| *byte == 7));
+    let count = write_line(level, number, &mut buffer);
+    check_buffer(rt, &buffer, count, line);
 }
 
 fn check_parts(
@@ -50,9 +57,7 @@ fn check_parts(
 ) {
     let mut buffer = [7; BUFFER_SIZE];
     let count = write_parts(mantissa, mark, exponent, format, &mut buffer);
-    assert_eq!(rt; count, text.len());
-    assert!(rt; buffer.starts_with(text));
-    assert!(rt; buffer[count..].iter().all(|byte| *byte == 7));
+    check_buffer(rt, &buffer, count, text);
 }
 
 #[test]
@@ -129,9 +134,8 @@ fn keys_in_the_order_of_the_numbers(rt: HostRuntime) {
 #[test]
 fn records(rt: HostRuntime) {
     let mut buffer = [7; 34];
-    assert_eq!(rt; write_record(&[0, 4294967295, 10], &mut buffer), 15);
-    assert!(rt; buffer.starts_with(b"0,4294967295,10\x07"));
-    assert!(rt; buffer[15..].iter().all(|byte| *byte == 7));
+    let count = write_record(&[0, 4294967295, 10], &mut buffer);
+    check_buffer(&rt, &buffer, count, b"0,4294967295,10");
 }
 
 #[test]
@@ -171,7 +175,7 @@ fn weights(rt: HostRuntime) {
 }
 
 #[test]
-fn any_number_in_any_format(rt: HostRuntime) {
+fn any_type_in_any_format(rt: HostRuntime) {
     let binary = NumberFormatBuilder::binary();
     let mut buffer = [7; BUFFER_SIZE];
     assert_eq!(rt; text_of_i64(-5, &binary, &mut buffer), b"-101".as_slice());
@@ -226,7 +230,7 @@ fn widths_of_amounts(rt: HostRuntime) {
 }
 
 #[test]
-fn texts_that_are_written_out(rt: HostRuntime) {
+fn texts_of_constants(rt: HostRuntime) {
     assert_eq!(rt; white(&mut [7; 6]), b"FFFFFF".as_slice());
     assert_eq!(rt; million(&mut [7; 14]), b"+1,000,000".as_slice());
 }
@@ -298,7 +302,7 @@ fn texts_in_an_arena(rt: HostRuntime) {
     assert!(rt; !have_same_kept_texts(12, 21));
 }
 
-// The first use that the README shows.
+// The first example of the README.
 #[test]
 fn a_first_use(rt: HostRuntime) {
     let mut buffer = [7u8; 20];

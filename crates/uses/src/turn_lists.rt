@@ -1,11 +1,13 @@
-//! The loop turns of single calls. A test cannot read a counter, so each function here makes some
-//! calls, with a new counter each, and returns the counters: its contract says what they hold.
+//! The loop iterations of single calls of the other writers and counts, which a ghost value of the type
+//! `Turns` records: one number for each iteration. A test cannot read a ghost value, so each function
+//! makes some calls, each with a new `Turns`, and returns them, and its contract says what was recorded.
 #![tactic(auto, unfolding(lexical_write_integer::specs::DigitCount::digit_count, lexical_write_integer::specs::DigitCount::least_exponent, lexical_write_integer::specs::LoopTurns::quotients, lexical_write_integer::specs::LoopTurns::compact_notes, lexical_write_integer::specs::LoopTurns::loop_notes, lexical_write_integer::specs::LoopTurns::slow_notes, lexical_write_integer::specs::LoopTurns::count_notes, lexical_write_integer::specs::LoopTurns::table_notes))]
 
 ghost use Rattle.std.specs.Prelude.{◌≡◌, ◌≢◌, ◌-◌, ◌^◌, ◌<◌, ◌≤◌, [], ◌∷◌, length};
 ghost use Rattle.lexical_num.specs.Format.{IsRadix};
 ghost use Rattle.lexical_write_integer.specs.DecimalTurns.{write_turns};
-ghost use Rattle.lexical_write_integer.specs.LoopTurns.{compact_notes, compact_turns, slow_notes, slow_turns, table_notes, table_turns};
+ghost use Rattle.lexical_write_integer.specs.LoopTurns.{compact_notes, compact_turns, slow_notes};
+ghost use Rattle.lexical_write_integer.specs.LoopTurns.{slow_turns, table_notes, table_turns};
 
 use lexical_num::num::UnsignedInteger;
 use lexical_write_integer::algorithm::algorithm_counted;
@@ -17,17 +19,17 @@ use lexical_write_integer::table::get_table;
 use lexical_write_integer::turns::Turns;
 use lexical_write_integer::write::write_integer_counted;
 
-/// The counters of three calls: the table writer with the count that it makes, the slow count, and
-/// the plain writer.
+/// What three calls record: the writer that uses tables, together with the digit count that it makes,
+/// the slow digit count, and the compact writer.
 #[derive(Drop)]
-pub struct Counters {
+pub struct Recorded {
     pub table: Turns,
     pub slow: Turns,
     pub compact: Turns,
 }
 
-/// The turns of three calls on a number that has `digits` digits in the radix.
-pub fn turns_of<T: DigitCount>(value: T, radix: u32, digits: usize) -> Counters
+/// Returns what three calls record for a number that has `digits` digits in the radix.
+pub fn turns_of<T: DigitCount>(value: T, radix: u32, digits: usize) -> Recorded
     requires radix { IsRadix radix }
     requires some { 1 ≤ digits }
     requires enough { T.magnitude value < radix ^ digits }
@@ -46,14 +48,14 @@ pub fn turns_of<T: DigitCount>(value: T, radix: u32, digits: usize) -> Counters
     slow_digit_count_counted(value, radix, &mut slow);
     let mut compact = Turns::new();
     compact_counted(value, radix, &mut [0; 64], &mut compact);
-    Counters {
+    Recorded {
         table,
         slow,
         compact,
     }
 }
 
-/// The turns of `write_integer` on a number that has `digits` digits in the radix.
+/// Returns what `write_integer` records for a number that has `digits` digits in the radix.
 pub fn written_turns_of<T: Decimal + DigitCount>(value: T, radix: u32, digits: usize) -> Turns
     requires radix { IsRadix radix }
     requires other { radix ≢ 10 }
@@ -68,15 +70,15 @@ pub fn written_turns_of<T: Decimal + DigitCount>(value: T, radix: u32, digits: u
     turns
 }
 
-/// The most turns of `write_integer`: of a number with 40 digits in radix 3.
+/// Returns the longest record of `write_integer`, for a number with 40 digits in radix 3.
 pub fn most_turns() -> Turns
     ensures { length result ≡ 21 }
 {
     written_turns_of(12157665459056928800u64, 3, 40)
 }
 
-/// 255 is `100110` in radix 3.
-pub fn notes_of_255_in_radix_3() -> Counters
+/// Returns what is recorded for 255 in radix 3, which is `100110`.
+pub fn notes_of_255_in_radix_3() -> Recorded
     ensures table { result.table ≡ 3 ∷ 1 ∷ 3 ∷ [] }
     ensures slow { result.slow ≡ 3 ∷ 1 ∷ [] }
     ensures compact { result.compact ≡ 85 ∷ 28 ∷ 9 ∷ 3 ∷ 1 ∷ [] }
@@ -84,8 +86,8 @@ pub fn notes_of_255_in_radix_3() -> Counters
     turns_of(255u8, 3, 6)
 }
 
-/// 255 is `FF` in radix 16.
-pub fn notes_of_255_in_radix_16() -> Counters
+/// Returns what is recorded for 255 in radix 16, which is `FF`.
+pub fn notes_of_255_in_radix_16() -> Recorded
     ensures table { result.table ≡ [] }
     ensures slow { result.slow ≡ 15 ∷ [] }
     ensures compact { result.compact ≡ 15 ∷ [] }
@@ -93,8 +95,8 @@ pub fn notes_of_255_in_radix_16() -> Counters
     turns_of(255u8, 16, 2)
 }
 
-/// 0 has one digit.
-pub fn turns_of_0_in_radix_2() -> Counters
+/// Returns what is recorded for 0, which has one digit.
+pub fn turns_of_0_in_radix_2() -> Recorded
     ensures table { length result.table ≡ 0 }
     ensures slow { length result.slow ≡ 0 }
     ensures compact { length result.compact ≡ 0 }
@@ -102,8 +104,8 @@ pub fn turns_of_0_in_radix_2() -> Counters
     turns_of(0u8, 2, 1)
 }
 
-/// 255 has eight digits in radix 2.
-pub fn turns_of_255_in_radix_2() -> Counters
+/// Returns what is recorded for 255 in radix 2, in which it has eight digits.
+pub fn turns_of_255_in_radix_2() -> Recorded
     ensures table { length result.table ≡ 2 }
     ensures slow { length result.slow ≡ 3 }
     ensures compact { length result.compact ≡ 7 }
@@ -111,8 +113,9 @@ pub fn turns_of_255_in_radix_2() -> Counters
     turns_of(255u8, 2, 8)
 }
 
-/// 255 has four digits in radix 4, by whose fourth power no byte is divided.
-pub fn turns_of_255_in_radix_4() -> Counters
+/// Returns what is recorded for 255 in radix 4, in which it has four digits. The fourth power of the radix
+/// does not fit in a byte.
+pub fn turns_of_255_in_radix_4() -> Recorded
     ensures table { length result.table ≡ 1 }
     ensures slow { length result.slow ≡ 2 }
     ensures compact { length result.compact ≡ 3 }
@@ -120,8 +123,8 @@ pub fn turns_of_255_in_radix_4() -> Counters
     turns_of(255u8, 4, 4)
 }
 
-/// 255 has three digits in radix 15.
-pub fn turns_of_255_in_radix_15() -> Counters
+/// Returns what is recorded for 255 in radix 15, in which it has three digits.
+pub fn turns_of_255_in_radix_15() -> Recorded
     ensures table { length result.table ≡ 2 }
     ensures slow { length result.slow ≡ 1 }
     ensures compact { length result.compact ≡ 2 }
@@ -129,8 +132,9 @@ pub fn turns_of_255_in_radix_15() -> Counters
     turns_of(255u8, 15, 3)
 }
 
-/// 255 has two digits in radix 16, by whose square no byte is divided.
-pub fn turns_of_255_in_radix_16() -> Counters
+/// Returns what is recorded for 255 in radix 16, in which it has two digits. The square of the radix does not
+/// fit in a byte.
+pub fn turns_of_255_in_radix_16() -> Recorded
     ensures table { length result.table ≡ 0 }
     ensures slow { length result.slow ≡ 1 }
     ensures compact { length result.compact ≡ 1 }
@@ -138,8 +142,8 @@ pub fn turns_of_255_in_radix_16() -> Counters
     turns_of(255u8, 16, 2)
 }
 
-/// 65535 has five digits in radix 15.
-pub fn turns_of_65535_in_radix_15() -> Counters
+/// Returns what is recorded for 65535 in radix 15, in which it has five digits.
+pub fn turns_of_65535_in_radix_15() -> Recorded
     ensures table { length result.table ≡ 2 }
     ensures slow { length result.slow ≡ 1 }
     ensures compact { length result.compact ≡ 4 }
@@ -147,8 +151,9 @@ pub fn turns_of_65535_in_radix_15() -> Counters
     turns_of(65535u16, 15, 5)
 }
 
-/// 65535 has four digits in radix 16, by whose fourth power no two bytes are divided.
-pub fn turns_of_65535_in_radix_16() -> Counters
+/// Returns what is recorded for 65535 in radix 16, in which it has four digits. The fourth power of the radix
+/// does not fit in 16 bits.
+pub fn turns_of_65535_in_radix_16() -> Recorded
     ensures table { length result.table ≡ 1 }
     ensures slow { length result.slow ≡ 2 }
     ensures compact { length result.compact ≡ 3 }
@@ -156,8 +161,8 @@ pub fn turns_of_65535_in_radix_16() -> Counters
     turns_of(65535u16, 16, 4)
 }
 
-/// The greatest number of 64 bits has 64 digits in radix 2.
-pub fn turns_of_the_greatest_in_radix_2() -> Counters
+/// Returns what is recorded for the largest `u64` in radix 2, in which it has 64 digits.
+pub fn turns_of_the_largest_in_radix_2() -> Recorded
     ensures table { length result.table ≡ 16 }
     ensures slow { length result.slow ≡ 17 }
     ensures compact { length result.compact ≡ 63 }
@@ -165,8 +170,8 @@ pub fn turns_of_the_greatest_in_radix_2() -> Counters
     turns_of(u64::MAX, 2, 64)
 }
 
-/// The greatest number of 64 bits has 13 digits in radix 36.
-pub fn turns_of_the_greatest_in_radix_36() -> Counters
+/// Returns what is recorded for the largest `u64` in radix 36, in which it has 13 digits.
+pub fn turns_of_the_largest_in_radix_36() -> Recorded
     ensures table { length result.table ≡ 6 }
     ensures slow { length result.slow ≡ 3 }
     ensures compact { length result.compact ≡ 12 }
@@ -174,8 +179,9 @@ pub fn turns_of_the_greatest_in_radix_36() -> Counters
     turns_of(u64::MAX, 36, 13)
 }
 
-/// No number of 64 bits has more turns of the table writer than one of 40 digits in radix 3.
-pub fn turns_of_40_digits_in_radix_3() -> Counters
+/// Returns what is recorded for a `u64` of 40 digits in radix 3. The writer that uses tables makes more
+/// iterations for no other `u64`.
+pub fn turns_of_40_digits_in_radix_3() -> Recorded
     ensures table { length result.table ≡ 21 }
     ensures slow { length result.slow ≡ 11 }
     ensures compact { length result.compact ≡ 39 }

@@ -1,9 +1,9 @@
-// What a writer leaves in a buffer.
+// Checks the contents of a buffer after a call that writes to it.
 
 use std::process::Abort;
 
-// The text stands at the front, and every byte after it is still 7.
-pub(crate) fn check_front(rt: &impl Abort, buffer: &[u8], text: &[u8]) {
+// Checks that the buffer begins with the text, and that every byte after it is still 7.
+pub(crate) fn check_buffer(rt: &impl Abort, buffer: &[u8], text: &[u8]) {
     assert!(rt; buffer.starts_with(text));
     assert!(rt; buffer[text.len()..].iter().all(|byte| *byte == 7));
 }

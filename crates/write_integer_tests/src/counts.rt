@@ -1,4 +1,4 @@
-//! Logarithms and digit counts.
+//! Tests of the logarithms and the digit counts.
 
 ghost use Rattle.lexical_num.specs.Format.{IsRadix};
 
@@ -61,14 +61,14 @@ fn decimal_counts(rt: HostRuntime) {
 fn tables_of_powers(rt: HostRuntime) {
     assert_eq!(rt; fallback_digit_count(255u8, &[10, 100]), 3);
     assert_eq!(rt; fallback_digit_count(65535u16, &[10, 100, 1000, 10000]), 5);
-    // The table has no entry at the place that its highest bit gives.
+    // 2^30 is above the last power of the table.
     let powers = [
         10, 100, 1000, 10000, 100000, 1000000, 10000000, 100000000, 1000000000,
     ];
     assert_eq!(rt; fallback_digit_count(1073741824u32, &powers), 10);
 }
 
-// Both counts return the expected one.
+// Checks that both functions return this digit count.
 fn check<T: DigitCount>(rt: &impl Abort, value: T, radix: u32, count: usize)
     requires { IsRadix radix }
 {
@@ -106,6 +106,7 @@ fn counts_of_small_numbers(rt: HostRuntime) {
     }
 }
 
+// Checks numbers near the first and the second power of the radix.
 fn check_near_powers(rt: &impl Abort, radix: u32)
     requires { IsRadix radix }
 {
@@ -127,7 +128,8 @@ fn counts_near_powers(rt: HostRuntime) {
     check_near_powers(&rt, 32);
 }
 
-// Where the type cannot hold the power of the radix that a loop divides by, and beside that.
+// In radix 4 and radix 16, a power of the radix by which a loop divides does not fit in the type, so the
+// loop does not run.
 #[test]
 fn counts_without_a_loop(rt: HostRuntime) {
     check(&rt, 255u8, 3, 6);

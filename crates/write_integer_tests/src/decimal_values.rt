@@ -1,26 +1,25 @@
-// The decimal writers on known numbers.
+// Tests of the decimal writers with known numbers.
 
 ghost use Rattle.std.specs.Prelude.{◌≤◌};
 
+use crate::buffers::check_buffer;
 use lexical_num::num::LexicalInteger;
 use lexical_write_integer::decimal::Decimal;
 use lexical_write_integer::jeaiii::{from_i64, from_u8, from_u16, from_u32, from_u64};
 use std::process::Abort;
 
-// The text stands at the front, and every byte after it is unchanged.
+// Checks that the decimal writer writes the text to the start of a buffer of 20 bytes.
 fn check<T: Decimal>(rt: &impl Abort, value: T, text: &str)
     requires { T.DECIMAL_WIDTH ≤ 20 }
 {
     let text = text.as_bytes();
-    let mut buffer = [b'.'; 20];
-    let count = value.decimal(&mut buffer);
-    assert_eq!(rt; count, text.len());
-    let (front, rest) = buffer.split_at(count);
-    assert_eq!(rt; front, text);
-    assert!(rt; rest.iter().all(|byte| *byte == b'.'));
+    let mut buffer = [7; 20];
+    assert_eq!(rt; value.decimal(&mut buffer), text.len());
+    check_buffer(rt, &buffer, text);
 }
 
-// The powers of ten and the ends of the types and of the branches, each with its neighbours.
+// The powers of ten, the limits of the types, and the numbers at which a writer takes another branch, each
+// with the numbers next to it.
 const NUMBERS: &str = "\
     0 1 2 5 9 10 11 99 100 101 254 255 256 999 1000 1001 9999 10000 10001 65534 65535 \
     65536 99999 100000 100001 999999 1000000 1000001 9999999 10000000 10000001 99999999 \
@@ -52,7 +51,7 @@ fn u32toa_test(rt: HostRuntime) {
 fn u64toa_test(rt: HostRuntime) {
     for text in NUMBERS.split(' ') {
         let Ok(value) = text.parse::<u64>() else {
-            panic!(rt; "{text} is no number");
+            panic!(rt; "{text} is not a number");
         };
         check(&rt, value, text);
         check(&rt, value as usize, text);
@@ -67,7 +66,7 @@ fn i64_19digit_test(rt: HostRuntime) {
 }
 
 #[test]
-fn buffers_of_the_width(rt: HostRuntime) {
+fn buffers_of_the_decimal_width(rt: HostRuntime) {
     let mut buffer = [b'.'; 20];
     assert_eq!(&rt; from_u8(255, &mut buffer[..3]), 3);
     assert_eq!(&rt; &buffer, b"255.................");

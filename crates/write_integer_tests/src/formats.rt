@@ -1,3 +1,5 @@
+// Tests of the integer types, the formats and their builder, and the options.
+
 mod every_byte;
 
 ghost use Rattle.std.specs.Prelude.{◌≡◌, ◌^◌, ◌<◌};
@@ -14,7 +16,7 @@ use lexical_num::options::{self, Options, OptionsBuilder, WriteOptions};
 use std::fmt::InlineText;
 use std::test::Fail;
 
-// What a caller has of each type through the bounds alone.
+// The next functions use the types only through the bounds of a type parameter.
 
 fn sizes<T: LexicalInteger + FormattedSize>(value: T) -> [usize; 4] {
     value.in_range();
@@ -52,7 +54,7 @@ fn compared<T: UnsignedInteger>(below: T, above: T) -> [bool; 3] {
     ]
 }
 
-// What a caller has of options through the bound alone.
+// Returns the buffer size of a type, through the bound of a type parameter only.
 fn size_of<T: FormattedSize, O: WriteOptions>(options: &O, format: &NumberFormat) -> usize
     ensures { result ≡ size_in T.FORMATTED_SIZE T.FORMATTED_SIZE_DECIMAL format.now }
 {
@@ -124,8 +126,8 @@ fn characters_of_digits(rt: HostRuntime) {
 }
 
 #[test]
-fn build_tells_the_first_fault(rt: HostRuntime) {
-    let faults = [
+fn build_returns_the_first_error(rt: HostRuntime) {
+    let errors = [
         (1, 10, "invalid mantissa radix 1"),
         (10, 37, "invalid exponent radix 37"),
         (0, 0, "invalid mantissa radix 0"),
@@ -134,7 +136,7 @@ fn build_tells_the_first_fault(rt: HostRuntime) {
         (255, 0, "invalid mantissa radix 255"),
         (10, 0, "invalid exponent radix 0"),
     ];
-    for (mantissa, exponent, message) in faults {
+    for (mantissa, exponent, message) in errors {
         let Err(error) = built(mantissa, exponent) else {
             panic!(rt; "{mantissa} and {exponent} were built");
         };
@@ -143,8 +145,8 @@ fn build_tells_the_first_fault(rt: HostRuntime) {
 }
 
 #[test]
-fn build_tells_the_fault_of_the_groups(rt: HostRuntime) -> Result<(), Fail> {
-    let faults = [
+fn build_returns_the_error_of_the_groups(rt: HostRuntime) -> Result<(), Fail> {
+    let errors = [
         (10, 0, 44, "invalid group size 0"),
         (10, 65, 44, "invalid group size 65"),
         (10, 0, 65, "invalid group size 0"),
@@ -154,7 +156,7 @@ fn build_tells_the_fault_of_the_groups(rt: HostRuntime) -> Result<(), Fail> {
         (10, 3, 127, "invalid group mark 127"),
         (1, 0, 65, "invalid mantissa radix 1"),
     ];
-    for (radix, size, mark, message) in faults {
+    for (radix, size, mark, message) in errors {
         let builder = NumberFormatBuilder::new()
             .radix(radix)
             .digit_grouping(size, mark);
@@ -175,7 +177,7 @@ fn build_tells_the_fault_of_the_groups(rt: HostRuntime) -> Result<(), Fail> {
 }
 
 #[test]
-fn build_keeps_the_parts(rt: HostRuntime) -> Result<(), Fail> {
+fn formats_have_the_fields_of_their_builder(rt: HostRuntime) -> Result<(), Fail> {
     let format = built(2, 36)?;
     assert_eq!(rt; format.radix(), 2);
     assert_eq!(rt; format.mantissa_radix(), 2);
@@ -193,14 +195,14 @@ fn build_keeps_the_parts(rt: HostRuntime) -> Result<(), Fail> {
 }
 
 #[test]
-fn mantissa_and_exponent_stand_apart(rt: HostRuntime) -> Result<(), Fail> {
-    let mantissa_alone = NumberFormatBuilder::new().radix(16).build()?;
+fn mantissa_and_exponent_radix_are_independent(rt: HostRuntime) -> Result<(), Fail> {
+    let mantissa_only = NumberFormatBuilder::new().radix(16).build()?;
     let both = NumberFormatBuilder::from_radix(16);
-    assert_eq!(rt; mantissa_alone.mantissa_radix(), 16);
-    assert_eq!(rt; mantissa_alone.exponent_radix(), 10);
+    assert_eq!(rt; mantissa_only.mantissa_radix(), 16);
+    assert_eq!(rt; mantissa_only.exponent_radix(), 10);
     assert_eq!(rt; both.mantissa_radix(), 16);
     assert_eq!(rt; both.exponent_radix(), 16);
-    assert!(rt; !equal_formats(&mantissa_alone, &both));
+    assert!(rt; !equal_formats(&mantissa_only, &both));
     Ok(())
 }
 

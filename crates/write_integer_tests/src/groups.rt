@@ -1,4 +1,4 @@
-// Digits in groups.
+// Tests of texts whose digits are in groups.
 
 use crate::texts::check_in;
 use lexical_num::options::{Options, WriteOptions};

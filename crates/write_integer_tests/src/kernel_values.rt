@@ -1,11 +1,12 @@
-// The kernels on known numbers: the fraction that each returns, and the pairs of digits in it.
+// Tests of the decimal kernels with known numbers: the fraction that each returns, and the pairs of digits
+// that `next2` takes from it.
 
 use lexical_write_integer::jeaiii::{
     fixed_2, fixed_4, fixed_6, fixed_8_nine, fixed_8_ten, fixed_8_wide, next2,
 };
 use std::process::Abort;
 
-// The fraction is the expected one, and so are its first pair and each pair after it.
+// Checks a fraction, its first pair of digits, and the pairs after it.
 fn check_fraction(rt: &impl Abort, fraction: u64, expected: u64, first: u64, pairs: &[u32]) {
     assert_eq!(rt; fraction, expected);
     assert_eq!(rt; fraction >> 32, first);
@@ -40,7 +41,7 @@ fn fractions_and_their_pairs(rt: HostRuntime) {
 }
 
 #[test]
-fn next2_leaves_its_product(rt: HostRuntime) {
+fn next2_stores_its_product(rt: HostRuntime) {
     let mut product = fixed_2(1234);
     assert_eq!(&rt; next2(&mut product), 34);
     assert_eq!(&rt; product, 146028893000);

@@ -1,4 +1,4 @@
-// Single calls on known numbers, each in a buffer of a known length.
+// Tests of single calls with known numbers and buffers of known lengths.
 
 use crate::texts::{check_decimal, check_in, check_standard};
 use lexical_write_integer::format::STANDARD;
@@ -27,11 +27,11 @@ fn buffers_of_the_decimal_width(rt: HostRuntime) {
 }
 
 #[test]
-fn what_is_left_in_the_front_is_left_in_the_buffer(rt: HostRuntime) {
+fn changes_to_the_text_are_changes_to_the_buffer(rt: HostRuntime) {
     let mut buffer = [7; 21];
-    let front = 1234u64.to_lexical(&mut buffer);
-    assert_eq!(rt; &*front, b"1234".as_slice());
-    front[0] = 57;
+    let text = 1234u64.to_lexical(&mut buffer);
+    assert_eq!(rt; &*text, b"1234".as_slice());
+    text[0] = 57;
     assert_eq!(rt;
         buffer,
         *b"9234\x07\x07\x07\x07\x07\x07\x07\x07\x07\x07\x07\x07\x07\x07\x07\x07\x07"
@@ -44,14 +44,14 @@ fn one_number_in_three_radices(rt: HostRuntime) {
     let binary = NumberFormatBuilder::binary();
     let twelve = NumberFormatBuilder::new().radix(12).build_strict();
     let mut buffer = [7; 128];
-    let front = 1234u64.to_lexical_with_options(&mut buffer, &STANDARD, &options);
-    assert_eq!(rt; &*front, b"1234".as_slice());
+    let text = 1234u64.to_lexical_with_options(&mut buffer, &STANDARD, &options);
+    assert_eq!(rt; &*text, b"1234".as_slice());
     digit_count_at_most(2, 1234, 11);
-    let front = 1234u64.to_lexical_with_options(&mut buffer, &binary, &options);
-    assert_eq!(rt; &*front, b"10011010010".as_slice());
+    let text = 1234u64.to_lexical_with_options(&mut buffer, &binary, &options);
+    assert_eq!(rt; &*text, b"10011010010".as_slice());
     digit_count_at_most(12, 1234, 3);
-    let front = 1234u64.to_lexical_with_options(&mut buffer, &twelve, &options);
-    assert_eq!(rt; &*front, b"86A".as_slice());
+    let text = 1234u64.to_lexical_with_options(&mut buffer, &twelve, &options);
+    assert_eq!(rt; &*text, b"86A".as_slice());
 }
 
 #[test]
@@ -59,25 +59,25 @@ fn ten_and_eleven_digits(rt: HostRuntime) {
     let options = Options::new();
     let decimal = NumberFormatBuilder::new().radix(10).build_strict();
     let mut buffer = [7; 128];
-    let front = 9999999999u64.to_lexical_with_options(&mut buffer, &decimal, &options);
-    assert_eq!(rt; &*front, b"9999999999".as_slice());
-    let front = 10000000000u64.to_lexical_with_options(&mut buffer, &decimal, &options);
-    assert_eq!(rt; &*front, b"10000000000".as_slice());
+    let text = 9999999999u64.to_lexical_with_options(&mut buffer, &decimal, &options);
+    assert_eq!(rt; &*text, b"9999999999".as_slice());
+    let text = 10000000000u64.to_lexical_with_options(&mut buffer, &decimal, &options);
+    assert_eq!(rt; &*text, b"10000000000".as_slice());
 }
 
 #[test]
-fn pair_at_a_place_that_no_byte_holds(rt: HostRuntime) {
+fn pair_at_an_index_above_255(rt: HostRuntime) {
     let options = Options::new();
     let twelve = NumberFormatBuilder::new().radix(12).build_strict();
     digit_count_at_most(12, 128, 2);
     let mut buffer = [7; 2];
-    let front = 128u8.to_lexical_with_options(&mut buffer, &twelve, &options);
-    assert_eq!(rt; &*front, b"A8".as_slice());
+    let text = 128u8.to_lexical_with_options(&mut buffer, &twelve, &options);
+    assert_eq!(rt; &*text, b"A8".as_slice());
     assert_eq!(rt; buffer, *b"A8");
 }
 
 #[test]
-fn greatest_number_of_eight_bits(rt: HostRuntime) {
+fn largest_u8_in_four_radices(rt: HostRuntime) {
     let options = Options::new();
     let builder = NumberFormatBuilder::new();
     let three = builder.radix(3).build_strict();
@@ -86,32 +86,32 @@ fn greatest_number_of_eight_bits(rt: HostRuntime) {
     let sixteen = builder.radix(16).build_strict();
     let mut buffer = [7; 128];
     digit_count_at_most(3, 255, 6);
-    let front = 255u8.to_lexical_with_options(&mut buffer, &three, &options);
-    assert_eq!(rt; &*front, b"100110".as_slice());
+    let text = 255u8.to_lexical_with_options(&mut buffer, &three, &options);
+    assert_eq!(rt; &*text, b"100110".as_slice());
     digit_count_at_most(4, 255, 4);
-    let front = 255u8.to_lexical_with_options(&mut buffer, &four, &options);
-    assert_eq!(rt; &*front, b"3333".as_slice());
+    let text = 255u8.to_lexical_with_options(&mut buffer, &four, &options);
+    assert_eq!(rt; &*text, b"3333".as_slice());
     digit_count_at_most(15, 255, 3);
-    let front = 255u8.to_lexical_with_options(&mut buffer, &fifteen, &options);
-    assert_eq!(rt; &*front, b"120".as_slice());
+    let text = 255u8.to_lexical_with_options(&mut buffer, &fifteen, &options);
+    assert_eq!(rt; &*text, b"120".as_slice());
     digit_count_at_most(16, 255, 2);
-    let front = 255u8.to_lexical_with_options(&mut buffer, &sixteen, &options);
-    assert_eq!(rt; &*front, b"FF".as_slice());
+    let text = 255u8.to_lexical_with_options(&mut buffer, &sixteen, &options);
+    assert_eq!(rt; &*text, b"FF".as_slice());
 }
 
 #[test]
-fn greatest_number_of_sixteen_bits(rt: HostRuntime) {
+fn largest_u16_in_two_radices(rt: HostRuntime) {
     let options = Options::new();
     let builder = NumberFormatBuilder::new();
     let fifteen = builder.radix(15).build_strict();
     let sixteen = builder.radix(16).build_strict();
     let mut buffer = [7; 128];
     digit_count_at_most(15, 65535, 5);
-    let front = 65535u16.to_lexical_with_options(&mut buffer, &fifteen, &options);
-    assert_eq!(rt; &*front, b"14640".as_slice());
+    let text = 65535u16.to_lexical_with_options(&mut buffer, &fifteen, &options);
+    assert_eq!(rt; &*text, b"14640".as_slice());
     digit_count_at_most(16, 65535, 4);
-    let front = 65535u16.to_lexical_with_options(&mut buffer, &sixteen, &options);
-    assert_eq!(rt; &*front, b"FFFF".as_slice());
+    let text = 65535u16.to_lexical_with_options(&mut buffer, &sixteen, &options);
+    assert_eq!(rt; &*text, b"FFFF".as_slice());
 }
 
 #[test]
@@ -169,7 +169,7 @@ fn options_test(rt: HostRuntime) {
 }
 
 #[test]
-fn zero_leaves_the_rest_of_a_wider_buffer(rt: HostRuntime) {
+fn zero_in_buffers_of_the_decimal_width(rt: HostRuntime) {
     check_decimal(&rt, 0u8, 3, b"0");
     check_decimal(&rt, 0i16, 5, b"0");
     check_decimal(&rt, 0i32, 10, b"0");
@@ -198,7 +198,7 @@ fn small_numbers_with_a_required_sign(rt: HostRuntime) {
 }
 
 #[test]
-fn one_and_five_of_the_types(rt: HostRuntime) {
+fn one_and_five_of_each_type(rt: HostRuntime) {
     check_standard(&rt, 1u8, b"1");
     check_standard(&rt, 5u8, b"5");
     check_standard(&rt, 1u16, b"1");

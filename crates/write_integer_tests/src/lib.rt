@@ -1,4 +1,4 @@
-//! Tests of the formats, the tables, the counts and the writers against known values.
+//! Tests of the formats, the tables, the digit counts and the writers against known values.
 #![tactic(auto)]
 
 #[cfg(test)]
@@ -7,6 +7,8 @@ mod buffers;
 mod counts;
 #[cfg(test)]
 mod decimal_values;
+#[cfg(test)]
+mod exact_buffers;
 #[cfg(test)]
 mod formats;
 #[cfg(test)]

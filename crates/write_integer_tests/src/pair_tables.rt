@@ -1,4 +1,4 @@
-// The tables of pairs of digits.
+// Tests of the tables of pairs of digits.
 
 use lexical_tables::{
     DIGIT_TO_BASE2_SQUARED, DIGIT_TO_BASE3_SQUARED, DIGIT_TO_BASE4_SQUARED, DIGIT_TO_BASE5_SQUARED,
@@ -24,7 +24,7 @@ fn lengths(rt: HostRuntime) {
 }
 
 #[test]
-fn beginnings_and_ends(rt: HostRuntime) {
+fn first_and_last_pairs(rt: HostRuntime) {
     assert_eq!(rt; get_table(2), b"00011011".as_slice());
     assert_eq!(rt; get_table(3), b"000102101112202122".as_slice());
     let tables = [
@@ -41,7 +41,7 @@ fn beginnings_and_ends(rt: HostRuntime) {
 }
 
 #[test]
-fn pairs_inside(rt: HostRuntime) {
+fn pairs_at_known_indexes(rt: HostRuntime) {
     assert_eq!(rt; &get_table(12)[256..258], b"A8".as_slice());
     assert_eq!(rt; &get_table(7)[20..22], b"13".as_slice());
     assert_eq!(rt; &get_table(35)[2448..2450], b"YY".as_slice());
@@ -86,7 +86,7 @@ fn constants_are_the_tables(rt: HostRuntime) {
         (get_table(35), &DIGIT_TO_BASE35_SQUARED),
         (get_table(36), &DIGIT_TO_BASE36_SQUARED),
     ];
-    for (handed_out, constant) in tables {
-        assert_eq!(rt; handed_out, constant);
+    for (table, constant) in tables {
+        assert_eq!(rt; table, constant);
     }
 }

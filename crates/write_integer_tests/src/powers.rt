@@ -1,4 +1,4 @@
-// The texts of 0, 1 and 5, and of the powers of 2 and of 10 with their neighbours.
+// Tests of the texts of 0, 1 and 5, and of the powers of 2 and of 10 and the numbers next to them.
 
 use crate::texts::check_standard;
 
@@ -41,10 +41,10 @@ const POWERS: &str = "\
     9223372036854775807 9223372036854775808 9223372036854775809 18446744073709551615";
 
 #[test]
-fn powers_of_the_types(rt: HostRuntime) {
+fn numbers_near_powers(rt: HostRuntime) {
     for text in POWERS.split(' ') {
         let Ok(number) = text.parse::<u64>() else {
-            panic!(rt; "{text} is no number");
+            panic!(rt; "{text} is not a number");
         };
         let text = text.as_bytes();
         if let Ok(value) = u8::try_from(number) {

@@ -1,10 +1,10 @@
-//! The table writer and the plain writer.
+//! Tests of the writer that uses tables and of the compact writer.
 
 ghost use Rattle.std.specs.Prelude.{◌≤◌};
 ghost use Rattle.lexical_num.specs.Format.{IsRadix};
 ghost use Rattle.lexical_write_integer.specs.DigitCount.{digit_count};
 
-use crate::buffers::check_front;
+use crate::buffers::check_buffer;
 use lexical_num::num::UnsignedInteger;
 use lexical_write_integer::algorithm::algorithm;
 use lexical_write_integer::compact::Compact;
@@ -14,7 +14,7 @@ use lexical_write_integer::radix::Radix;
 use lexical_write_integer::table::get_table;
 use std::process::Abort;
 
-// Both writers write the text into `room` bytes.
+// Checks that both writers write the text to a buffer of `room` bytes.
 fn check_in<T: Radix + Compact>(rt: &impl Abort, value: T, radix: u32, room: usize, text: &[u8])
     requires radix { IsRadix radix }
     requires digits { digit_count radix (T.magnitude value) ≤ room }
@@ -22,13 +22,13 @@ fn check_in<T: Radix + Compact>(rt: &impl Abort, value: T, radix: u32, room: usi
 {
     let mut buffer = [7u8; 67];
     assert_eq!(rt; value.radix(radix, &mut buffer[..room]), text.len());
-    check_front(rt, &buffer, text);
+    check_buffer(rt, &buffer, text);
     let mut buffer = [7u8; 67];
     assert_eq!(rt; value.compact(radix, &mut buffer[..room]), text.len());
-    check_front(rt, &buffer, text);
+    check_buffer(rt, &buffer, text);
 }
 
-// Both writers write the text into room of just its length, and into more.
+// Checks that both writers write the text to a buffer of exactly its length, and to a longer buffer.
 fn check<T: DigitCount + Radix + Compact>(rt: &impl Abort, value: T, radix: u32, text: &[u8])
     requires { IsRadix radix }
 {
@@ -39,7 +39,7 @@ fn check<T: DigitCount + Radix + Compact>(rt: &impl Abort, value: T, radix: u32,
     check_in(rt, value, radix, 67, text);
 }
 
-// The texts of a number in the radices from 2 to 36, in order.
+// Checks the texts of a number in the radices from 2 to 36, which are in that order.
 fn check_radices<T: DigitCount + Radix + Compact>(rt: &impl Abort, value: T, texts: &str) {
     let mut texts = texts.split(' ');
     for radix in 2..37 {
@@ -94,9 +94,10 @@ fn small_numbers_in_binary(rt: HostRuntime) {
     check(&rt, 5u64, 2, b"101");
 }
 
-// Where the type cannot hold the power of the radix that a loop divides by, and beside that.
+// In radix 4 and radix 16, a power of the radix by which a loop divides does not fit in the smaller types,
+// so the loop does not run.
 #[test]
-fn greatest_numbers(rt: HostRuntime) {
+fn largest_numbers(rt: HostRuntime) {
     check(&rt, 255u8, 3, b"100110");
     check(&rt, 255u8, 4, b"3333");
     check(&rt, 255u8, 15, b"120");
@@ -110,7 +111,7 @@ fn greatest_numbers(rt: HostRuntime) {
     check(&rt, usize::MAX, 36, b"3W5E11264SGSF");
 }
 
-// The last pair of 128 in radix 12 stands at a place that no byte holds.
+// In the table of radix 12, the index of the last pair of 128 does not fit in a byte.
 #[test]
 fn one_and_two_digits(rt: HostRuntime) {
     check(&rt, 128u8, 12, b"A8");

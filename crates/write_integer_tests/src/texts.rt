@@ -1,10 +1,10 @@
-// The texts of numbers of all types, in several formats.
+// Tests of the texts of numbers of all types, in several formats.
 
 ghost use Rattle.std.specs.Prelude.{◌≤◌};
 ghost use Rattle.lexical_num.specs.Format.{standard};
 ghost use Rattle.lexical_write_integer.specs.Text.{need};
 
-use crate::buffers::check_front;
+use crate::buffers::check_buffer;
 use lexical_num::num::LexicalInteger;
 use lexical_num::options::{Options, WriteOptions};
 use lexical_write_integer::format::STANDARD;
@@ -12,27 +12,27 @@ use lexical_write_integer::laws::{digit_count_at_most, equal_texts, order};
 use lexical_write_integer::{NumberFormat, NumberFormatBuilder, ToLexical, ToLexicalWithOptions};
 use std::process::Abort;
 
-// Writes in the standard format into `room` bytes.
+// Checks the text in the standard format, written to a buffer of `room` bytes.
 pub(crate) fn check_decimal<T: ToLexical>(rt: &impl Abort, value: T, room: usize, text: &[u8])
     requires need { need (T.number value) T.DECIMAL_WIDTH standard ≤ room }
     requires room { room ≤ 20 }
 {
     let mut buffer = [7u8; 20];
     assert_eq!(rt; &*value.to_lexical(&mut buffer[..room]), text);
-    check_front(rt, &buffer, text);
+    check_buffer(rt, &buffer, text);
 }
 
-// Writes in the standard format into 20 bytes.
+// Checks the text in the standard format, written to a buffer of 20 bytes.
 pub(crate) fn check_standard<T: ToLexical>(rt: &impl Abort, value: T, text: &[u8])
     requires { need (T.number value) T.DECIMAL_WIDTH standard ≤ 20 }
 {
     check_decimal(rt, value, 20, text);
 }
 
-// More than the length of each text.
+// A length that is greater than that of every text.
 const ROOM: usize = 130;
 
-// Writes in any format into `room` bytes.
+// Checks the text in a format, written to a buffer of `room` bytes.
 pub(crate) fn check_in<T: ToLexicalWithOptions>(
     rt: &impl Abort,
     value: T,
@@ -45,12 +45,12 @@ pub(crate) fn check_in<T: ToLexicalWithOptions>(
     requires room { room ≤ 130 }
 {
     let mut buffer = [7u8; ROOM];
-    let front = value.to_lexical_with_options(&mut buffer[..room], format, options);
-    assert_eq!(rt; &*front, text);
-    check_front(rt, &buffer, text);
+    let written = value.to_lexical_with_options(&mut buffer[..room], format, options);
+    assert_eq!(rt; &*written, text);
+    check_buffer(rt, &buffer, text);
 }
 
-// Writes in any format into the size of the type in the format.
+// Checks the text in a format, written to a buffer of the size of the type in the format.
 fn check<T: ToLexicalWithOptions>(
     rt: &impl Abort,
     value: T,
@@ -66,7 +66,7 @@ fn check<T: ToLexicalWithOptions>(
 }
 
 #[test]
-fn ends_of_the_types(rt: HostRuntime) {
+fn limits_of_the_unsigned_types(rt: HostRuntime) {
     check_standard(&rt, 0u8, b"0");
     check_standard(&rt, 127u8, b"127");
     check_standard(&rt, 128u8, b"128");
@@ -87,7 +87,7 @@ fn ends_of_the_types(rt: HostRuntime) {
 }
 
 #[test]
-fn ends_of_the_signed_types(rt: HostRuntime) {
+fn limits_of_the_signed_types(rt: HostRuntime) {
     check_standard(&rt, 0i8, b"0");
     check_standard(&rt, 1i8, b"1");
     check_standard(&rt, 5i8, b"5");
@@ -145,7 +145,7 @@ fn required_signs(rt: HostRuntime) {
 }
 
 #[test]
-fn buffers_of_just_the_need(rt: HostRuntime) {
+fn buffers_of_exactly_the_required_length(rt: HostRuntime) {
     let options = Options::new();
     let binary = NumberFormatBuilder::binary();
     let signed = NumberFormatBuilder::new()

@@ -1,4 +1,4 @@
-// The six calls of `WriteInteger`.
+// Tests of the six methods of `WriteInteger`.
 
 use lexical_write_integer::NumberFormatBuilder;
 use lexical_write_integer::laws::digit_count_at_most;

@@ -1,3 +1,6 @@
+// Tests of the callers of `lexical_parts`.
+
+use super::check_buffer;
 use crate::csv_row::{write_row, write_row_of};
 use crate::date_time::DateTime;
 use crate::dump_line::write_dump_line;
@@ -8,9 +11,8 @@ use crate::number_list::{try_write_list, write_entries};
 use crate::reading::write_reading;
 use crate::table_row::write_table_row;
 use lexical_parts::{Byte, Bytes, Decimal, Left, Padded, PaddedDigits, Part};
-use std::process::Abort;
 
-const NOON: DateTime = DateTime {
+const MORNING: DateTime = DateTime {
     year: 2026,
     month: 11,
     day: 23,
@@ -19,41 +21,35 @@ const NOON: DateTime = DateTime {
     second: 9,
 };
 
-fn check(rt: &impl Abort, buffer: &[u8], count: usize, line: &[u8]) {
-    assert_eq!(rt; count, line.len());
-    assert!(rt; buffer.starts_with(line));
-    assert!(rt; buffer[count..].iter().all(|byte| *byte == 7));
-}
-
 #[test]
 fn readings(rt: HostRuntime) {
     let mut buffer = [7; 60];
-    let count = write_reading(NOON, -125, 255, &mut buffer);
-    check(&rt, &buffer, count, b"2026-11-23T07:05:09 -12.5 kg 0xFF;");
+    let count = write_reading(MORNING, -125, 255, &mut buffer);
+    check_buffer(&rt, &buffer, count, b"2026-11-23T07:05:09 -12.5 kg 0xFF;");
     let mut buffer = [7; 57];
-    let count = write_reading(NOON, -5, 0, &mut buffer);
-    check(&rt, &buffer, count, b"2026-11-23T07:05:09 -0.5 kg 0x0;");
+    let count = write_reading(MORNING, -5, 0, &mut buffer);
+    check_buffer(&rt, &buffer, count, b"2026-11-23T07:05:09 -0.5 kg 0x0;");
 }
 
 #[test]
 fn entries_of_a_log(rt: HostRuntime) {
     let mut buffer = [7; 57];
     let count = write_entry(
-        NOON,
+        MORNING,
         Level::Error,
         "disk",
         -9223372036854775808,
         &mut buffer,
     );
     let line = b"2026-11-23T07:05:09 ERROR disk: -9223372036854775808\n";
-    check(&rt, &buffer, count, line);
+    check_buffer(&rt, &buffer, count, line);
 }
 
 #[test]
 fn rows_of_numbers(rt: HostRuntime) {
     let mut buffer = [7; 168];
     let count = write_row(&[-1, 0, 23, 4, 5, 6, 7, 8], &mut buffer);
-    check(&rt, &buffer, count, b"-1,0,23,4,5,6,7,8\n");
+    check_buffer(&rt, &buffer, count, b"-1,0,23,4,5,6,7,8\n");
     let least = -9223372036854775808;
     let count = write_row_of(
         least,
@@ -75,19 +71,19 @@ fn lists_of_numbers(rt: HostRuntime) {
     let mut buffer = [7; 45];
     let count = try_write_list(&[-1, 20], &mut buffer[..44]);
     assert_eq!(rt; count, Some(8));
-    check(&rt, &buffer, 8, b"[-1, 20]");
+    check_buffer(&rt, &buffer, 8, b"[-1, 20]");
     assert_eq!(rt; try_write_list(&[-1, 20], &mut [7; 43]), None);
     assert_eq!(rt; try_write_list(&[], &mut [7; 2]), Some(2));
     let mut buffer = [7; 45];
     let count = write_entries(&[5, -6], &mut buffer);
-    check(&rt, &buffer, count, b"5;-6;");
+    check_buffer(&rt, &buffer, count, b"5;-6;");
 }
 
 #[test]
 fn rows_in_columns(rt: HostRuntime) {
     let mut buffer = [7; 37];
     let count = write_table_row(-2147483648, 0, 42, &mut buffer);
-    check(
+    check_buffer(
         &rt,
         &buffer,
         count,
@@ -95,29 +91,29 @@ fn rows_in_columns(rt: HostRuntime) {
     );
     let mut buffer = [7; 8];
     let count = (Left(Decimal(12u8), 4), Byte(b'|'), Left(Bytes(b"abc"), 2)).write_to(&mut buffer);
-    check(&rt, &buffer, count, b"12  |abc");
+    check_buffer(&rt, &buffer, count, b"12  |abc");
 }
 
 #[test]
 fn lines_of_a_dump(rt: HostRuntime) {
     let mut buffer = [7; 22];
     let count = write_dump_line(0xC0DE, &[0x01, 0x23, 0xAB, 0xFF], &mut buffer);
-    check(&rt, &buffer, count, b"0000C0DE: 01 23 AB FF\n");
+    check_buffer(&rt, &buffer, count, b"0000C0DE: 01 23 AB FF\n");
 }
 
 #[test]
 fn settings_without_a_number(rt: HostRuntime) {
     let mut buffer = [7; 10];
     assert_eq!(rt; try_write_setting("limit", None, &mut buffer), Some(7));
-    check(&rt, &buffer, 7, b"limit=\n");
+    check_buffer(&rt, &buffer, 7, b"limit=\n");
     assert_eq!(rt;
         try_write_setting("limit", Some(Decimal(5)), &mut buffer),
         None
     );
-    check(&rt, &buffer, 7, b"limit=\n");
+    check_buffer(&rt, &buffer, 7, b"limit=\n");
 }
 
-// The first line of parts that the README shows, and a write to its text.
+// The example of parts in the README, and a change to the text that it returns.
 #[test]
 fn texts_for_writing(rt: HostRuntime) {
     let mut buffer = [7; 40];
@@ -132,5 +128,5 @@ fn texts_for_writing(rt: HostRuntime) {
     let text = (date, " ", Decimal(-12i32), " kg 0x", flags, ";").to_text(&mut buffer);
     assert_eq!(rt; &*text, b"2026-11-03 -12 kg 0xFF;".as_slice());
     text[4] = b'.';
-    check(&rt, &buffer, 23, b"2026.11-03 -12 kg 0xFF;");
+    check_buffer(&rt, &buffer, 23, b"2026.11-03 -12 kg 0xFF;");
 }

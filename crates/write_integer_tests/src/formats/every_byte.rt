@@ -1,17 +1,17 @@
-// Every pair of radix bytes, and of group size and mark.
+// Tests every pair of bytes as the two radices, and as the group size and the separator.
 
 use super::built;
 use lexical_num::error::Error;
 use lexical_num::format_builder::NumberFormatBuilder;
 use std::process::Abort;
 
-// A radix is from 2 to 36.
+// Returns whether the byte is a radix, from 2 to 36.
 fn is_radix(byte: u8) -> bool {
     (2..=36).contains(&byte)
 }
 
-// Builds a format with these radices: it has them, or the first byte that is no radix is told.
-// Returns whether there is a format.
+// Builds a format with these radices, and checks that it has them or that the error names the first byte
+// that is not a radix. Returns whether a format was built.
 fn check(rt: &impl Abort, mantissa: u8, exponent: u8) -> bool {
     match built(mantissa, exponent) {
         Ok(format) => {
@@ -35,8 +35,8 @@ fn check(rt: &impl Abort, mantissa: u8, exponent: u8) -> bool {
     }
 }
 
-// Builds a format with groups of this size and with this mark: it has them, or the first of the two
-// that cannot be is told. Returns whether there is a format.
+// Builds a format with groups of this size and with this separator, and checks that it has them or that the
+// error names the first of the two that is not valid. Returns whether a format was built.
 fn check_groups(rt: &impl Abort, size: u8, mark: u8) -> bool {
     let marks = b" !\"#$%&'()*,./:;<=>?@[\\]^_`{|}~";
     let is_size = (1..=64).contains(&size);
@@ -64,7 +64,7 @@ fn check_groups(rt: &impl Abort, size: u8, mark: u8) -> bool {
     }
 }
 
-// 35 radices, each with 35 others.
+// There are 35 radices.
 #[test]
 fn every_pair_of_bytes(rt: HostRuntime) {
     let is_accepted = |pair: &u16| {
@@ -74,7 +74,7 @@ fn every_pair_of_bytes(rt: HostRuntime) {
     assert_eq!(&rt; (0..=65535u16).filter(is_accepted).count(), 1225);
 }
 
-// 64 sizes, each with 31 marks.
+// There are 64 group sizes and 31 separators.
 #[test]
 fn every_size_and_mark(rt: HostRuntime) {
     let is_accepted = |pair: &u16| {

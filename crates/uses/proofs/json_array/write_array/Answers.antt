@@ -8,11 +8,16 @@ loop-number-preserved c =
     let adds = c.in_ok-count-2.ensures.some in
     record {
       within = fits was.within c.push_number.auto.buffer adds;
-      split = added c.args.numbers.now c.loop-number.number-index 0 c.loop-number.mark.now _ c.args.buffer.now _ _ _ _ c.loop-number-test.true was.within adds was.split;
-      kept = still_left _ _ _ _ _ _ was.within adds was.kept;
+      split = added c.args.numbers.now c.loop-number.number-index 0 c.loop-number.lead.now c.args.buffer.now
+          c.loop-number-test.true was.within adds was.split;
+      kept = still_left was.within adds was.kept;
     }
 
 pub returns-clause-some : goal.returns-clause-some
 returns-clause-some c =
     let was = c.loop-number.invariant in
-    IfSome-map c.push-2.result (λ last adds. finished c.args.numbers.now c.loop-number.number-index c.loop-number.mark.now _ c.args.buffer.now c.loop-number.buffer c.push-2.new.buffer c.loop-number.count last (omega (arith, c.loop-number-test.false)) was.within (omega arith) c.push-2.auto.buffer was.split was.kept adds) c.push-2.ensures.some
+    let all = omega (arith, c.loop-number-test.false) in
+    let done = λ last adds.
+    finished c.args.numbers.now c.loop-number.number-index c.loop-number.lead.now _ c.args.buffer.now c.loop-number.buffer
+    c.push-2.new.buffer c.loop-number.count last all was.within (omega arith) c.push-2.auto.buffer was.split was.kept adds in
+    IfSome-map c.push-2.result done c.push-2.ensures.some

@@ -6,6 +6,6 @@ use Rattle.uses.proofs.number_list.write_entries.Goals as goal
 
 pub loop-number-preserved : goal.loop-number-preserved
 loop-number-preserved c = record {
-  written = written_each IsEntry _ _ (pos 0) _ _ _ _ _ _ (omega arith) c.loop-number.invariant.written (search rules depth 9);
+  written = written_each IsEntry _ (pos 0) _ (omega arith) c.loop-number.invariant.written (search rules depth 9);
   within = omega arith;
 }

@@ -23,9 +23,12 @@ loop-index-preserved g c =
       | then-index-gt0 w ↦
           let some : 1 ≤ index = omega (arith, w.if-index-gt0.true) in
           rw w.separator-is (omega (arith, c.loop-index.invariant.within, mul-le-mul_right (size + length separator) some))
-      | else-index-gt0 w ↦ rw w.separator-is (omega (arith, c.loop-index.invariant.within, w.if-index-gt0.false, mul-le-mul_right (size + length separator) w.if-index-gt0.false))
+      | else-index-gt0 w ↦
+          let none = w.if-index-gt0.false in
+          rw w.separator-is (omega (arith, c.loop-index.invariant.within, none, mul-le-mul_right (size + length separator) none))
     ] in
     record {
-      written = written_joined (λ x. IsText (g.T.LexicalInteger.number x) standard) separator lead _ _ _ _ _ _ _ _ _ c.loop-index-test.true c.number-item.is leads c.loop-index.invariant.written c.write_to-count.ensures.text;
+      written = written_joined (λ x. IsText (g.T.LexicalInteger.number x) standard) separator lead _ _
+          c.loop-index-test.true c.number-item.is leads c.loop-index.invariant.written c.write_to-count.ensures.text;
       within = omega (arith, within, c.write_to-count.ensures.short);
     }

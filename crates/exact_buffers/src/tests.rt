@@ -1,8 +1,0 @@
-//! Every writer at 0, at 1, at the ends of its type and around the powers of each radix, in a
-//! buffer of exactly the need.
-
-mod digits;
-mod expected;
-mod near_powers;
-mod numbers;
-mod texts;

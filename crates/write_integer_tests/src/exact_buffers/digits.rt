@@ -1,0 +1,121 @@
+//! Checks each writer of digits, and each digit count, with unsigned numbers.
+
+ghost use Rattle.std.specs.Prelude.{◌≡◌, ◌≤◌};
+ghost use Rattle.lexical_num.specs.Format.{IsRadix};
+ghost use Rattle.lexical_write_integer.specs.DigitCount.{digit_count};
+ghost use Rattle.lexical_write_integer.specs.Text.{digits_need};
+
+use super::texts::ROOM;
+use crate::buffers::check_buffer;
+use lexical_num::num::{LexicalInteger, UnsignedInteger};
+use lexical_write_integer::compact::Compact;
+use lexical_write_integer::decimal::Decimal;
+use lexical_write_integer::digit_count::DigitCount;
+use lexical_write_integer::laws::digit_count_is_least;
+use lexical_write_integer::radix::Radix;
+use lexical_write_integer::write::WriteInteger;
+use std::process::Abort;
+
+fn check_compact<U: Compact>(rt: &impl Abort, value: U, radix: u32, room: usize, digits: &[u8])
+    requires radix { IsRadix radix }
+    requires need { digit_count radix (U.magnitude value) ≤ room }
+    requires room { room ≤ 140 }
+{
+    let mut buffer = [7u8; ROOM];
+    assert_eq!(rt; value.compact(radix, &mut buffer[..room]), digits.len());
+    check_buffer(rt, &buffer, digits);
+}
+
+fn check_radix<U: Radix>(rt: &impl Abort, value: U, radix: u32, room: usize, digits: &[u8])
+    requires radix { IsRadix radix }
+    requires need { digit_count radix (U.magnitude value) ≤ room }
+    requires room { room ≤ 140 }
+{
+    let mut buffer = [7u8; ROOM];
+    assert_eq!(rt; value.radix(radix, &mut buffer[..room]), digits.len());
+    check_buffer(rt, &buffer, digits);
+}
+
+fn check_write_integer<U: WriteInteger>(
+    rt: &impl Abort,
+    value: U,
+    radix: u32,
+    room: usize,
+    digits: &[u8],
+)
+    requires radix { IsRadix radix }
+    requires need { digits_need radix (U.magnitude value) U.DECIMAL_WIDTH ≤ room }
+    requires room { room ≤ 140 }
+{
+    let mut buffer = [7u8; ROOM];
+    assert_eq!(rt;
+        value.write_integer(radix, &mut buffer[..room]),
+        digits.len()
+    );
+    check_buffer(rt, &buffer, digits);
+}
+
+fn check_decimal<U: Decimal>(rt: &impl Abort, value: U, room: usize, digits: &[u8])
+    requires need { U.DECIMAL_WIDTH ≤ room }
+    requires room { room ≤ 140 }
+{
+    let mut buffer = [7u8; ROOM];
+    assert_eq!(rt; value.decimal(&mut buffer[..room]), digits.len());
+    check_buffer(rt, &buffer, digits);
+}
+
+// Checks the writers that require the decimal width of the type in radix 10, with a buffer of exactly the
+// required length, and with three more bytes.
+fn check_wide<U: WriteInteger>(rt: &impl Abort, value: U, radix: u32, count: usize, digits: &[u8])
+    requires radix { IsRadix radix }
+    requires count { count ≡ digit_count radix (U.magnitude value) }
+    requires at_most_64 { count ≤ 64 }
+    requires width { U.DECIMAL_WIDTH ≤ 20 }
+{
+    let required = if radix == 10 { U::DECIMAL_WIDTH } else { count };
+    check_write_integer(rt, value, radix, required, digits);
+    check_write_integer(rt, value, radix, required + 3, digits);
+    if radix == 10 {
+        check_decimal(rt, value, required, digits);
+        check_decimal(rt, value, required + 3, digits);
+    }
+}
+
+// Checks the digit counts and all writers of digits, with a buffer of exactly the required length, and with
+// three more bytes.
+fn check_digits<U: Compact + DigitCount + WriteInteger>(
+    rt: &impl Abort,
+    value: U,
+    radix: u32,
+    digits: &[u8],
+)
+    requires radix { IsRadix radix }
+    requires width { U.DECIMAL_WIDTH ≤ 20 }
+{
+    digit_count_is_least(radix, value.as_usize() as u64);
+    let count = value.digit_count(radix);
+    assert_eq!(rt; count, digits.len());
+    assert_eq!(rt; value.slow_digit_count(radix), count);
+    check_compact(rt, value, radix, count, digits);
+    check_compact(rt, value, radix, count + 3, digits);
+    check_radix(rt, value, radix, count, digits);
+    check_radix(rt, value, radix, count + 3, digits);
+    check_wide(rt, value, radix, count, digits);
+}
+
+// Checks the digits of the number in each unsigned type that has it.
+pub(crate) fn check_types(rt: &impl Abort, number: u64, radix: u32, digits: &[u8])
+    requires { IsRadix radix }
+{
+    check_digits(rt, number, radix, digits);
+    check_digits(rt, number as usize, radix, digits);
+    if let Ok(number) = u32::try_from(number) {
+        check_digits(rt, number, radix, digits);
+    }
+    if let Ok(number) = u16::try_from(number) {
+        check_digits(rt, number, radix, digits);
+    }
+    if let Ok(number) = u8::try_from(number) {
+        check_digits(rt, number, radix, digits);
+    }
+}
