@@ -1,4 +1,4 @@
--- A text stands at the front of a slice, and `front_mut` lends that front to be handed back: steps for the walks of this crate.
+-- A text is written at the start of a slice, and `front_mut` returns that prefix to the caller: steps for proofs by hand.
 use mathlib.Core.Path.{◌≡◌, refl, sym, ap, ◌∙◌}
 use Prim.Native.Nat.{ℕ, ◌*◌, ◌^◌, ◌<◌, ◌≤◌}
 use native.Mathlib.Omega.{arith}
@@ -12,7 +12,8 @@ use base.Fml.{Lft, GName, Share, ftrue, flft}
 use prog.Memory.{Memory}
 use prog.Routine.{Routine}
 use types.Logic.{Logic, sem}
-use types.Kit.{Item, mean, ‵, raw, given, ◌⊛◌, some, later, ◌$◌, ◌∵◌, !, qed, move, keep, split, split3, join, check, fsplit, fjoin, feq_i, feq_l, flt_i, flt_l, use0, use1, await, pick, updating, now, show, done, rewrite}
+use types.Kit.{Item, mean, ‵, raw, given, ◌⊛◌, some, later, ◌$◌, ◌∵◌, !, qed, move, keep, split, split3, join, check, fsplit}
+use types.Kit.{fjoin, feq_i, feq_l, flt_i, flt_l, use0, use1, await, pick, updating, now, show, done, rewrite}
 use contract.Monad.{Fun, fact, fact_i}
 use denote.Array.{Array}
 use denote.Builtin.{u8}
@@ -29,7 +30,7 @@ use Rattle.lexical_write_integer.specs.Buffer.{Writes}
 use Rattle.lexical_write_integer.specs.Lending.{LendsFront}
 use Rattle.lexical_write_integer.specs.contracts.buffer.front_mut as P
 
--- the front that is handed back, and the machine's value for it
+-- the prefix that is returned, and the machine's value for it
 pub record Handed (Is : List ℕ → Type 0) (v : Val) (r : MutBor (List ℕ)) : Type 0 where
   pub word : v ≡ slice_val r.ref_ptr (length r.now)
   pub fits : length r.now < 2 ^ 64
@@ -64,7 +65,7 @@ module _ {M : Type 1} {𝓤 : Ura M} (𝓛 : Logic 𝓤) (at_mem : Memory → SP
       abbrev Given : MutBor (List ℕ) → Item 𝓤
       Given r = given (Handed Is v r) (‵ ((MutSlice (named 0) κ u8).own_val r (mut_slice_vals r)) ⊛ ‵ (flft κ q) ⊛ ‵ (LendsFront (at xs) (length r.now) r))
 
-      -- what it gives where a text was written
+      -- what it returns if a text was written
       abbrev pub gave : Item 𝓤
       gave = later (some Given)
 
@@ -72,15 +73,21 @@ module _ {M : Type 1} {𝓤 : Ura M} (𝓛 : Logic 𝓤) (at_mem : Memory → SP
       gives wrote =
           qed 𝓛 (raw (Fronts.post called v) ∷ []) ∵ updating ! $
           use1 𝓛 (later (some (λ (r : MutBor (List ℕ)). ((‵ (flft κ q) ⊛ ‵ ftrue) ⊛ ‵ ((MutSlice (named 0) κ u8).own_val r (v ∷ []))) ⊛
-          some (λ (us : Unit {0} × (Unit {0} × Unit {0})). ‵ (lasts P.ended called.0.0 called.0.3 us) ⊛ (‵ (follows (Array u8 0) (Array u8 0) γ r.ghost_name (λ t. t ++ drop_list n ys)) ⊛ raw (fact 𝓤 (r.now ≡ take n ys))))))) (id⊢ 𝓤 _) $
+          some
+          (λ (us : Unit {0} × (Unit {0} × Unit {0})). ‵ (lasts P.ended called.0.0 called.0.3 us) ⊛
+          (‵ (follows (Array u8 0) (Array u8 0) γ r.ghost_name (λ t. t ++ drop_list n ys)) ⊛ raw (fact 𝓤 (r.now ≡ take n ys))))))) (id⊢ 𝓤 _) $
           await ! tt $ pick ! (λ r. split ! $ split ! $ move ! (1 ∷ []) $ fsplit ! $ fsplit ! $ feq_l ! (λ is. fsplit ! $ flt_l ! (λ r₁. flt_l ! (λ r₂.
-          flt_i ! (length r.now * (mem u8).size) (2 ^ 63) r₂ $ flt_i ! (length r.now) (2 ^ 64) r₁ $ fjoin ! $ feq_i ! (List Val) (mut_slice_vals r) (mut_slice_vals r) refl $ fjoin ! $ fjoin ! $
+          flt_i ! (length r.now * (mem u8).size) (2 ^ 63) r₂ $ flt_i ! (length r.now) (2 ^ 64) r₁ $ fjoin ! $
+          feq_i ! (List Val) (mut_slice_vals r) (mut_slice_vals r) refl $ fjoin ! $ fjoin ! $
           -- [the front; the token; what the call ensures]
           move ! (2 ∷ []) $ pick ! (λ us. split3 ! $ move ! (2 ∷ []) $ heard ! _ (λ taken.
           let counted = wrote.count in
-          let handed : r.now ≡ wrote.text = taken ∙ (λ i. take (counted i) (wrote.front.written i)) ∙ take_at wrote.text (drop_list (length wrote.text) xs) (length wrote.text) refl in
+          let handed : r.now ≡ wrote.text =
+          taken ∙ (λ i. take (counted i) (wrote.front.written i)) ∙ take_at wrote.text (drop_list (length wrote.text) xs) (length wrote.text) refl in
           let following : drop_list n ys ≡ drop_list (length r.now) xs =
-          (λ i. drop_list (counted i) (wrote.front.written i)) ∙ drop_at wrote.text (drop_list (length wrote.text) xs) (length wrote.text) refl ∙ ap (λ ts. drop_list (length ts) xs) (sym handed) in
+          (λ i. drop_list (counted i) (wrote.front.written i))
+          ∙ drop_at wrote.text (drop_list (length wrote.text) xs) (length wrote.text) refl
+          ∙ ap (λ ts. drop_list (length ts) xs) (sym handed) in
           rewrite ! 1 (λ (d : List ℕ). ‵ (follows (Array u8 0) (Array u8 0) γ r.ghost_name (λ t. t ++ d))) following refl $
           move ! (3 ∷ []) $ split ! $ keep ! (4 ∷ 0 ∷ 3 ∷ []) $
           now ! $ show ! (λ (r : MutBor (List ℕ)). mean 𝓛 (Given r)) r $ check ! record { word = ap only is; fits = r₁; is = rw handed wrote.is } $ done !))))))

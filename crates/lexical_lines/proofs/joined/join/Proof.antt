@@ -52,8 +52,8 @@ use Rattle.lexical_write_integer.specs.contracts.buffer.front_mut.Key.{name as #
 use Rattle.lexical_write_integer.specs.declared.api.ToLexical as decimal
 use Rattle.lexical_write_integer.specs.declared.api.ToLexicalWithOptions as declared
 use Rattle.lexical_write_integer.proofs.HandedFronts.{Fronts, called, asks, gave, gives}
-use Rattle.lexical_write_integer.proofs.Lengths.{Writes-short}
-use Rattle.lexical_write_integer.proofs.Relending.{lent_again, lends_again, came_back, comes_back}
+use Rattle.lexical_write_integer.proofs.Buffers.Prefixes.{Writes-short}
+use Rattle.lexical_write_integer.proofs.Reborrows.{lent_again, lends_again, came_back, comes_back}
 use Rattle.lexical_write_integer.proofs.buffer.front_mut.Met.{met as front_mut_met}
 use Rattle.lexical_lines.specs.Joined.{IsJoined}
 use Rattle.lexical_lines.specs.contracts.joined.write_joined as W

@@ -25,9 +25,9 @@ use contract.BorrowLft.{◌⊑◌}
 use contract.Monad.{Fun, fact, fact_i}
 use contract.Running.{tables, tables_of}
 use sound.WpLaws.{WpFn-mono, fm_of}
-use Rattle.lexical_write_integer.proofs.Relending.{lent_again, lends_again, came_back, comes_back}
+use Rattle.lexical_write_integer.proofs.Reborrows.{lent_again, lends_again, came_back, comes_back}
 use Rattle.lexical_write_integer.proofs.HandedFronts.{Fronts, called, asks, gave, gives}
-use Rattle.lexical_write_integer.proofs.Lengths.{Writes-short}
+use Rattle.lexical_write_integer.proofs.Buffers.Prefixes.{Writes-short}
 use denote.Builtin.{u8, usize}
 use denote.Exit.{no}
 use denote.Param.{bounded, layout, layouts, copied}
