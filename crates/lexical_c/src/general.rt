@@ -9,7 +9,7 @@ ghost use Rattle.lexical_c.specs.Format.{format_of};
 
 use crate::format::{CFormat, number_format};
 use lexical_write_integer::buffer::copy_to_front;
-use lexical_write_integer::laws::{size_is_enough, text_computed};
+use lexical_write_integer::laws::{size_suffices, text_computed};
 use lexical_write_integer::{
     BUFFER_SIZE, NumberFormat, Options, ToLexicalWithOptions, WriteOptions,
 };
@@ -26,7 +26,7 @@ pub fn write_if_it_fits<T: ToLexicalWithOptions>(
     let Some(format) = number_format(format) else {
         return 0;
     };
-    size_is_enough(value, &format);
+    size_suffices(value, &format);
     if buffer.len() >= Options::new().buffer_size::<T>(&format) {
         return write_text(value, &format, buffer);
     }

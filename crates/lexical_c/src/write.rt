@@ -9,7 +9,7 @@ use crate::format::CFormat;
 use crate::general::write_if_it_fits;
 use crate::plain::{plain_format, write_digits, write_sign_and_digits};
 use lexical_write_integer::ToLexicalWithOptions;
-use lexical_write_integer::laws::{size_is_enough, text_computed};
+use lexical_write_integer::laws::{size_suffices, text_computed};
 use lexical_write_integer::write::WriteInteger;
 
 // Writes a number of an unsigned type to the buffer, and returns the length of its text, or 0 if it
@@ -23,7 +23,7 @@ fn write_unsigned<T: WriteInteger + ToLexicalWithOptions>(
 {
     match plain_format::<T>(format, buffer.len()) {
         Some(format) => {
-            size_is_enough(value, &format);
+            size_suffices(value, &format);
             let count = write_digits(value, &format, buffer);
             text_computed(value, &format, &buffer[..count]);
             count
@@ -48,7 +48,7 @@ fn write_signed<T: ToLexicalWithOptions, U: WriteInteger>(
 {
     match plain_format::<T>(format, buffer.len()) {
         Some(format) => {
-            size_is_enough(value, &format);
+            size_suffices(value, &format);
             let count = write_sign_and_digits(value, wide < 0, magnitude, &format, buffer);
             text_computed(value, &format, &buffer[..count]);
             count

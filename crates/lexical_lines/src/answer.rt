@@ -16,7 +16,7 @@ use lexical_num::format_builder::NumberFormatBuilder;
 use lexical_num::options::Options;
 use lexical_write_integer::ToLexicalWithOptions;
 use lexical_write_integer::buffer::copy_to_front;
-use lexical_write_integer::laws::size_is_enough;
+use lexical_write_integer::laws::size_suffices;
 
 /// At least the length of each answer: `bad line `, a sign, the digits and the marks, and a byte 10.
 pub const MAX_ANSWER: usize = BUFFER_SIZE + 11;
@@ -96,7 +96,7 @@ fn write_line<T: ToLexicalWithOptions>(
     requires { BUFFER_SIZE + 1 ≤ length buffer.old }
     ensures { Writes (WithNewline (IsText (T.number number) format.now)) buffer.old buffer.new result }
 {
-    size_is_enough(number, format);
+    size_suffices(number, format);
     let room = &mut buffer[..BUFFER_SIZE];
     let end = number.write_lexical_with_options(room, format, options);
     buffer[end] = b'\n';

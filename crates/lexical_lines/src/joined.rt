@@ -13,7 +13,7 @@ use lexical_num::num::LexicalInteger;
 use lexical_num::options::WriteOptions;
 use lexical_write_integer::ToLexicalWithOptions;
 use lexical_write_integer::buffer::front_mut;
-use lexical_write_integer::laws::size_is_enough;
+use lexical_write_integer::laws::size_suffices;
 
 /// Writes the texts of the values in order to the front of the buffer, with the mark between two
 /// neighbours, and returns the number of bytes written: 0 for no values. The buffer must have, for
@@ -40,7 +40,7 @@ pub fn write_joined<T: ToLexicalWithOptions>(
             buffer[count] = mark;
             count += 1;
         }
-        size_is_enough(*value, format);
+        size_suffices(*value, format);
         let room = &mut buffer[count..count + size];
         count += value.write_lexical_with_options(room, format, options);
     }

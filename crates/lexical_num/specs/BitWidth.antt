@@ -1,7 +1,7 @@
 -- The widths of the integer types.
 use Rattle.std.specs.Prelude.{ℕ}
 
--- how many bits an integer type has
+-- a number of bits that an integer type has
 pub data IsBitWidth : ℕ → Type 0 where
   is_8 : IsBitWidth 8
   is_16 : IsBitWidth 16

@@ -1,9 +1,9 @@
--- How many decimal digits the numbers of a type have.
+-- The largest number of decimal digits of the numbers of a type.
 use Rattle.std.specs.Prelude.{ℕ, ◌-◌, ◌^◌, ◌<◌, ◌≤◌, ℤ, pos, negsuc, unsigned_abs, ◌≤ℤ◌}
 use Rattle.std.proofs.Common.{arith}
 use Rattle.std.proofs.lemmas.Int.{ints}
 
--- no number between two ends has more decimal digits, and the greatest has as many
+-- no number from `least` to `greatest` has more than `width` decimal digits, and `greatest` has `width`
 pub record IsDecimalWidth (least greatest : ℤ) (width : ℕ) : Type 0 where
   pub some : 1 ≤ width
   pub enough : (n : ℤ) → least ≤ℤ n → n ≤ℤ greatest → unsigned_abs n < 10 ^ width
@@ -11,12 +11,14 @@ pub record IsDecimalWidth (least greatest : ℤ) (width : ℕ) : Type 0 where
 
 -- ---- a proof, which is here since ghost members cite it
 
--- the width of a type, if both ends have at most `width` digits and the greatest number has exactly `width`
-pub is_decimal_width : {least greatest : ℤ} {width : ℕ} → 1 ≤ width → unsigned_abs least < 10 ^ width → unsigned_abs greatest < 10 ^ width → 10 ^ (width - 1) ≤ unsigned_abs greatest → IsDecimalWidth least greatest width
+-- it is enough that neither end has more digits, and that `greatest` has `width`
+pub is_decimal_width : {least greatest : ℤ} {width : ℕ} → 1 ≤ width → unsigned_abs least < 10 ^ width
+    → unsigned_abs greatest < 10 ^ width → 10 ^ (width - 1) ≤ unsigned_abs greatest → IsDecimalWidth least greatest width
 is_decimal_width {least} {greatest} {width} some low high full =
     record { some = some; enough = λ n. between n least greatest low high; needed = full }
   where
-    between : (n least greatest : ℤ) → unsigned_abs least < 10 ^ width → unsigned_abs greatest < 10 ^ width → least ≤ℤ n → n ≤ℤ greatest → unsigned_abs n < 10 ^ width
+    between : (n least greatest : ℤ) → unsigned_abs least < 10 ^ width → unsigned_abs greatest < 10 ^ width
+        → least ≤ℤ n → n ≤ℤ greatest → unsigned_abs n < 10 ^ width
     between (pos n) least (pos greatest) low high above below = omega (arith, ints)
     between (pos n) least (negsuc greatest) low high above below = absurd (omega (arith, ints))
     between (negsuc n) (pos least) greatest low high above below = absurd (omega (arith, ints))

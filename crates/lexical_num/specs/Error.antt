@@ -1,10 +1,11 @@
--- What an error prints.
+-- The printed text of an error.
 use Rattle.std.specs.Prelude.{ℕ, List, ◌++◌, codes}
 use Rattle.std.specs.Fmt.{decimal}
 use Rattle.lexical_num.specs.declared.error.Error.{Error}
-use Rattle.lexical_num.specs.declared.error.Error.TheVariants.{InvalidMantissaRadix, InvalidExponentRadix, InvalidGroupSize, InvalidGroupMark}
+use Rattle.lexical_num.specs.declared.error.Error.TheVariants.{InvalidMantissaRadix, InvalidExponentRadix}
+use Rattle.lexical_num.specs.declared.error.Error.TheVariants.{InvalidGroupSize, InvalidGroupMark}
 
--- the fault, and the byte that was refused, in decimal
+-- which part is invalid, and the invalid byte in decimal
 abbrev pub printed_text : Error → List ℕ
 printed_text (InvalidMantissaRadix radix) = codes "invalid mantissa radix " ++ decimal radix
 printed_text (InvalidExponentRadix radix) = codes "invalid exponent radix " ++ decimal radix

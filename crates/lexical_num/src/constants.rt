@@ -1,19 +1,21 @@
-//! How many bytes a number takes at most.
+//! Buffer lengths that are enough for the text of a number.
 
 ghost use Rattle.std.specs.Prelude.{ℕ};
 ghost use Rattle.std.proofs.Common.{lit≤};
 ghost use Rattle.lexical_num.specs.declared.constants.TheConstants.{BUFFER_SIZE};
 ghost use Rattle.lexical_num.specs.Size.{IsWithin};
 
-/// The size of a buffer that has room for each number of each type, in each format.
+/// The length of a buffer that is long enough for every number of every type in every format.
+/// `text_of_any` in `crates/uses/src/any_format.rt` is an example.
 pub const BUFFER_SIZE: usize = 128;
 
-/// How many bytes a number of the type takes at most, a `-` included.
+/// An integer type with buffer lengths that are enough for each of its numbers. `buffer_size` of the
+/// options chooses between them. `write_row` in `crates/uses/src/csv_row.rt` is an example.
 pub trait FormattedSize {
-    /// In each radix from 2 to 36.
+    /// The number of bytes that is enough in every radix from 2 to 36, with a sign and with groups.
     const FORMATTED_SIZE: usize;
 
-    /// In decimal.
+    /// The number of bytes that is enough in decimal, with a `-` but without a `+` and without groups.
     const FORMATTED_SIZE_DECIMAL: usize;
 
     ghost FORMATTED_SIZE: { ℕ };

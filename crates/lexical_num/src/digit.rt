@@ -6,7 +6,8 @@ ghost use Rattle.lexical_num.specs.Digit.{digit_char};
 // The characters of the digits, in order.
 const CHARACTERS: [u8; 36] = *b"0123456789ABCDEFGHIJKLMNOPQRSTUVWXYZ";
 
-/// The character of a digit below 36: `0` to `9`, and from ten on `A` to `Z`.
+/// Returns the character of a digit: `0` to `9` for a digit below ten, and `A` to `Z` otherwise. The
+/// digit is below 36.
 pub fn digit_to_char(digit: u32) -> u8
     requires { digit < 36 }
     ensures { result ≡ digit_char digit }

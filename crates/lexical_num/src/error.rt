@@ -1,20 +1,21 @@
-//! Why a format was refused.
+//! The errors of the format builder.
 
 use std::fmt;
 
-/// What a builder returns: a value, or why there is none.
+/// The result of building: the value, or the error.
 pub type Result<T> = std::result::Result<T, Error>;
 
-/// The first fault of a format, with the byte that was refused.
+/// The first part of a format that is invalid, with the invalid byte.
 #[derive(Debug, Drop)]
 pub enum Error {
     /// The mantissa radix is below 2 or above 36.
     InvalidMantissaRadix(u8),
     /// The exponent radix is below 2 or above 36.
     InvalidExponentRadix(u8),
-    /// The size of the groups is 0 or above 64.
+    /// The number of digits of a group is 0 or above 64.
     InvalidGroupSize(u8),
-    /// The mark between groups is not from 32 to 126, or a letter, a digit, `+` or `-`.
+    /// The mark, which is the separator between two groups, is not from 32 to 126, or it is a
+    /// letter, a digit, `+` or `-`.
     InvalidGroupMark(u8),
 }
 

@@ -1,4 +1,4 @@
-//! How a number is to be written.
+//! Formats: how a number is written.
 
 ghost use Rattle.std.specs.Prelude.{◌≡◌, ◌^◌, ◌<◌, IsTrue};
 ghost use Rattle.std.specs.Option.{ForSome};
@@ -6,9 +6,9 @@ ghost use Rattle.lexical_num.specs.Format.{IsRadix, IsGrouping, IsValid, grouped
 
 use std::marker::Model;
 
-/// The parts of a format, any bytes among them: the radices of a number's two parts, whether a `+`
-/// stands before a number that is not negative, and, where the digits stand in groups, the number
-/// of digits of a group and the mark between two groups.
+/// The parts of a format, valid or not: the radices of the mantissa and of the exponent, whether a
+/// `+` precedes a number that is not negative, and, if the digits are grouped, the number of digits
+/// of a group and the mark, which is the separator between two groups.
 #[derive(Clone, Copy, PartialEq, Eq, Debug)]
 pub(crate) struct Parts {
     pub mantissa_radix: u8,
@@ -17,8 +17,10 @@ pub(crate) struct Parts {
     pub digit_grouping: Option<(u8, u8)>,
 }
 
-/// A format that is known to be valid: its two radices are from 2 to 36, and where it groups digits
-/// the size of a group is from 1 to 64, and the mark is printable and no letter, digit or sign.
+/// A valid format. Both radices are from 2 to 36. If the digits are grouped, a group has from 1 to 64
+/// digits, and the separator is a printable ASCII character other than a letter, a digit or a sign.
+///
+/// `NumberFormatBuilder` builds a format; the documentation of this crate has examples.
 #[derive(Clone, Copy, PartialEq, Eq, Debug)]
 pub struct NumberFormat {
     pub(crate) parts: Parts,
@@ -36,7 +38,7 @@ impl Model for NumberFormat {
     ghost inverse = { λ parts. record { parts = parts } };
 }
 
-/// Decimal, with no sign before a number that is not negative, and no groups.
+/// The decimal format, with no sign before a number that is not negative, and no groups.
 pub const STANDARD: NumberFormat = NumberFormat {
     parts: Parts {
         mantissa_radix: 10,
@@ -47,7 +49,7 @@ pub const STANDARD: NumberFormat = NumberFormat {
 };
 
 impl NumberFormat {
-    /// The mantissa radix, from 2 to 36.
+    /// Returns the mantissa radix, from 2 to 36, as `mantissa_radix` does.
     pub fn radix(&self) -> u32
         ensures value { result ≡ self.now.mantissa_radix }
         ensures radix { IsRadix result }
@@ -55,7 +57,7 @@ impl NumberFormat {
         self.mantissa_radix()
     }
 
-    /// The mantissa radix, from 2 to 36.
+    /// Returns the mantissa radix, from 2 to 36, in which integers are written.
     pub fn mantissa_radix(&self) -> u32
         ensures value { result ≡ self.now.mantissa_radix }
         ensures radix { IsRadix result }
@@ -63,7 +65,7 @@ impl NumberFormat {
         u32::from(self.parts.mantissa_radix)
     }
 
-    /// The exponent radix, from 2 to 36.
+    /// Returns the exponent radix, from 2 to 36, in which exponents are written.
     pub fn exponent_radix(&self) -> u32
         ensures value { result ≡ self.now.exponent_radix }
         ensures radix { IsRadix result }
@@ -71,15 +73,15 @@ impl NumberFormat {
         u32::from(self.parts.exponent_radix)
     }
 
-    /// Whether a `+` stands before a number that is not negative.
+    /// Returns whether a `+` precedes a number that is not negative.
     pub fn required_mantissa_sign(&self) -> bool
         ensures { result ≡ self.now.required_mantissa_sign }
     {
         self.parts.required_mantissa_sign
     }
 
-    /// The number of digits of a group, from 1 to 64, and the byte between two groups; or `None`,
-    /// where the digits stand in no groups.
+    /// Returns the number of digits of a group, from 1 to 64, and the separator between two groups,
+    /// or `None` if the digits are not grouped.
     pub fn digit_grouping(&self) -> Option<(u8, u8)>
         ensures value { result ≡ self.now.digit_grouping }
         ensures valid { ForSome result IsGrouping }
@@ -87,8 +89,9 @@ impl NumberFormat {
         self.parts.digit_grouping
     }
 
-    /// How many bytes `count` digits take in the format: in groups a mark stands before each group
-    /// but the first. The count is below 2^63.
+    /// Returns the number of bytes that `count` digits take in the format. If the digits are grouped,
+    /// a separator precedes each group but the first. The count is below 2^63. `width_of_amount` in
+    /// `crates/uses/src/amount.rt` is an example.
     pub fn grouped_len(&self, count: usize) -> usize
         requires { count < 2 ^ 63 }
         ensures { result ≡ grouped_length self.now.digit_grouping count }
@@ -99,13 +102,14 @@ impl NumberFormat {
         }
     }
 
-    /// Whether numbers can be written in the format: always, since no other format exists. Code that
-    /// rests on the parts of a format has their ranges from this call.
+    /// Returns whether numbers can be written in the format. This is always true, since a format is
+    /// valid once it is built. A caller whose proof needs the ranges of the parts obtains them from
+    /// this call.
     pub fn is_valid(&self) -> bool
         ensures always { IsTrue result }
         ensures valid { IsValid self.now }
     {
-        // What is invariant of the parts is known where they are read.
+        // Reading the parts makes their invariant known to the prover.
         let _ = &self.parts;
         true
     }

@@ -1,4 +1,4 @@
-//! Building a format part by part.
+//! Building a format.
 
 ghost use Rattle.std.specs.Prelude.{◌≡◌, ◌↔◌, IsErrOf, IsOk, IfOk, IsTrue};
 ghost use Rattle.std.specs.Option.{ForSome};
@@ -8,7 +8,9 @@ use crate::error::{Error, Result};
 use crate::format::{NumberFormat, Parts, STANDARD};
 use std::marker::Model;
 
-/// The parts of a format, any bytes among them.
+/// A builder of formats. Its parts may be any bytes until a format is built from them.
+///
+/// The documentation of this crate has examples.
 #[derive(Clone, Copy, PartialEq, Eq, Debug)]
 pub struct NumberFormatBuilder {
     parts: Parts,
@@ -25,7 +27,8 @@ impl Model for NumberFormatBuilder {
 }
 
 impl NumberFormatBuilder {
-    /// Starts from the parts of `STANDARD`: radices 10 and 10, no required sign and no groups.
+    /// Returns a builder with the parts of `STANDARD`: both radices are 10, no sign is required, and
+    /// the digits are not grouped.
     pub fn new() -> Self
         ensures { result ≡ standard }
     {
@@ -34,14 +37,15 @@ impl NumberFormatBuilder {
         }
     }
 
-    /// The format whose radices are both 2, with no required sign.
+    /// Returns the format whose radices are both 2, with no required sign and no groups.
     pub fn binary() -> NumberFormat
         ensures { result ≡ record standard { mantissa_radix = 2; exponent_radix = 2 } }
     {
         Self::from_radix(2)
     }
 
-    /// The format whose radices are both `radix`, from 2 to 36, with no required sign.
+    /// Returns the format whose radices are both `radix`, from 2 to 36, with no required sign and no
+    /// groups.
     pub fn from_radix(radix: u8) -> NumberFormat
         requires { IsRadix radix }
         ensures { result ≡ record standard { mantissa_radix = radix; exponent_radix = radix } }
@@ -52,14 +56,14 @@ impl NumberFormatBuilder {
             .build_strict()
     }
 
-    /// Sets the mantissa radix, and leaves the exponent's.
+    /// Sets the mantissa radix, as `mantissa_radix` does. The exponent radix is unchanged.
     pub fn radix(self, radix: u8) -> Self
         ensures { result ≡ record self { mantissa_radix = radix } }
     {
         self.mantissa_radix(radix)
     }
 
-    /// Sets the mantissa radix, and leaves the exponent's.
+    /// Sets the mantissa radix. The exponent radix is unchanged.
     pub fn mantissa_radix(mut self, radix: u8) -> Self
         ensures { result ≡ record self { mantissa_radix = radix } }
     {
@@ -67,7 +71,7 @@ impl NumberFormatBuilder {
         self
     }
 
-    /// Sets the exponent radix, and leaves the mantissa's.
+    /// Sets the exponent radix. The mantissa radix is unchanged.
     pub fn exponent_radix(mut self, radix: u8) -> Self
         ensures { result ≡ record self { exponent_radix = radix } }
     {
@@ -75,7 +79,7 @@ impl NumberFormatBuilder {
         self
     }
 
-    /// Sets whether a `+` is to stand before a number that is not negative.
+    /// Sets whether a `+` precedes a number that is not negative.
     pub fn required_mantissa_sign(mut self, required: bool) -> Self
         ensures { result ≡ record self { required_mantissa_sign = required } }
     {
@@ -83,8 +87,8 @@ impl NumberFormatBuilder {
         self
     }
 
-    /// Sets the number of digits of a group, and the byte that stands between two groups. The
-    /// digits are counted from the right: in groups of three `1234567` is written `1,234,567`.
+    /// Sets the number of digits of a group, and the separator between two groups. Groups are
+    /// counted from the right: in groups of three digits `1234567` is written `1,234,567`.
     pub fn digit_grouping(mut self, size: u8, mark: u8) -> Self
         ensures { result ≡ record self { digit_grouping = Some (size, mark) } }
     {
@@ -92,9 +96,9 @@ impl NumberFormatBuilder {
         self
     }
 
-    /// The format of these parts, or its first fault: the mantissa radix is looked at first, then the
-    /// exponent radix, then the size of the groups, then their mark. The builder is unchanged in
-    /// either case.
+    /// Returns the format with these parts, or an error that names the first invalid part. The
+    /// mantissa radix is checked first, then the exponent radix, then the group size, then the
+    /// separator. The builder is unchanged.
     pub fn build(&self) -> Result<NumberFormat>
         ensures valid { IsOk result ↔ IsValid self.now }
         ensures format { IfOk result (λ format. format ≡ self.now) }
@@ -127,8 +131,9 @@ impl NumberFormatBuilder {
         Ok(self.build_strict())
     }
 
-    /// The format of these parts, whose radices are from 2 to 36. Where groups were set, their size is
-    /// from 1 to 64, and the mark is from 32 to 126 and no letter, digit or sign.
+    /// Returns the format with these parts, which are valid. Both radices are from 2 to 36. If groups
+    /// were set, their size is from 1 to 64, and the separator is from 32 to 126 and is not a letter,
+    /// a digit, `+` or `-`.
     pub fn build_strict(&self) -> NumberFormat
         requires { IsValid self.now }
         ensures { result ≡ self.now }
@@ -145,21 +150,21 @@ impl Default for NumberFormatBuilder {
     }
 }
 
-// Whether there are characters for all digits of a radix.
+// Returns whether the radix is from 2 to 36, so that each of its digits has a character.
 fn is_radix(radix: u8) -> bool
     ensures { IsTrue result ↔ IsRadix radix }
 {
     2 <= radix && radix <= 36
 }
 
-// Whether a group can have this number of digits.
+// Returns whether a group can have this number of digits.
 fn is_group_size(size: u8) -> bool
     ensures { IsTrue result ↔ IsGroupSize size }
 {
     1 <= size && size <= 64
 }
 
-// Whether the byte can stand between two groups.
+// Returns whether the byte can separate two groups.
 fn is_mark(byte: u8) -> bool
     ensures { IsTrue result ↔ IsMark byte }
 {

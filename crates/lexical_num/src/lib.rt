@@ -1,20 +1,40 @@
-//! The integer types, their sizes, and the formats in which they are written.
+//! Integer types, the lengths of buffers for their numbers, and the formats of numbers.
+//!
+//! A builder makes a format. `build` returns an error if a part of the format is invalid:
+//!
+//! ```
+//! NumberFormatBuilder::new()
+//!     .mantissa_radix(mantissa_radix)
+//!     .exponent_radix(exponent_radix)
+//!     .build()
+//! ```
+//!
+//! `build_strict` requires valid parts, and returns the format itself:
+//!
+//! ```
+//! let thousands = NumberFormatBuilder::new()
+//!     .digit_grouping(3, b',')
+//!     .build_strict();
+//! ```
+//!
+//! These lines are from `float_format` in `crates/uses/src/float_format.rt` and from `a_first_use` in
+//! `crates/uses/src/tests.rt`.
 #![tactic(auto)]
 
-// The types of numbers, and the characters of digits.
+// The integer types, and the characters of digits.
 pub mod digit;
 pub mod num;
 
-// A format, how it is built, and why it may be refused.
+// Formats, their builder, and its errors.
 pub mod error;
 pub mod format;
 pub mod format_builder;
 
-// How many bytes are enough.
+// How long a buffer is enough.
 pub mod constants;
 pub mod options;
 
-// Facts for callers.
+// Laws for callers.
 pub mod laws;
 
 pub use constants::{BUFFER_SIZE, FormattedSize};

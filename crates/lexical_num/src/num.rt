@@ -1,7 +1,8 @@
-//! The integer types, as contracts and generic code see them.
+//! The traits of the integer types, for contracts and for generic code.
 #![tactic(auto, using(crate::proofs::LeadingZeros::leading_zeros))]
 
-ghost use Rattle.std.specs.Prelude.{◌≡◌, ℕ, ℤ, pos, negsuc, ◌-◌, ◌/◌, ◌%◌, ◌^◌, ◌<◌, ◌≤◌, ◌≤ℤ◌, ◌<ℤ◌, ◌↔◌, IsTrue, refl};
+ghost use Rattle.std.specs.Prelude.{◌≡◌, ℕ, ◌-◌, ◌/◌, ◌%◌, ◌^◌, ◌<◌, ◌≤◌, ◌↔◌, IsTrue, refl};
+ghost use Rattle.std.specs.Prelude.{ℤ, pos, negsuc, ◌≤ℤ◌, ◌<ℤ◌};
 ghost use Rattle.std.proofs.Common.{rules, lit≤};
 ghost use Rattle.lexical_num.specs.DecimalWidth.{IsDecimalWidth, is_decimal_width};
 ghost use Rattle.lexical_num.specs.Range.{IsRange, IsUnsigned, unsigned, signed};
@@ -12,27 +13,28 @@ pub trait LexicalInteger: Copy {
     /// The number of bits of the type.
     const BITS: usize;
 
-    /// The most digits that a number of the type has in decimal.
+    /// The largest number of decimal digits of a number of the type.
     const DECIMAL_WIDTH: usize;
 
     ghost BITS: { ℕ };
 
     ghost DECIMAL_WIDTH: { ℕ };
 
-    // The value as a whole number.
+    // The value as an integer without a range.
     ghost number: { Self → ℤ };
 
-    // The least and the greatest number of the type.
+    // The smallest and the largest number of the type.
     ghost least: { ℤ };
 
     ghost greatest: { ℤ };
 
-    /// Does nothing: its contract tells generic code that the number is one of the type's.
+    /// A law: the number is in the range of its type. Generic code obtains the law by this call, which
+    /// does nothing at run time.
     fn in_range(self)
         ensures at_least { least ≤ℤ number self }
         ensures at_most { number self ≤ℤ greatest };
 
-    /// Whether the number is below 0.
+    /// Returns whether the number is below 0.
     fn is_negative(self) -> bool
         ensures { IsTrue result ↔ number self <ℤ pos 0 };
 
@@ -302,17 +304,18 @@ impl LexicalInteger for isize {
     }
 }
 
-/// An unsigned integer type, with the arithmetic that writing digits takes.
+/// An unsigned integer type, with the arithmetic that is needed to write digits. The writers of
+/// `lexical_write_integer` are generic over it, such as `compact_counted`.
 pub trait UnsignedInteger: LexicalInteger {
-    // The value as a natural number.
+    // The value as a natural number without a range.
     ghost magnitude: { Self → ℕ };
 
-    /// The value of a number that the type has.
+    /// Returns the number as a value of this type, which it fits.
     fn from_u32(value: u32) -> Self
         requires { value < 2 ^ Self.BITS }
         ensures { magnitude result ≡ value };
 
-    /// The number as a `u32`, which it fits.
+    /// Returns the number as a `u32`, which it fits.
     fn as_u32(self) -> u32
         requires { magnitude self < 2 ^ 32 }
         ensures { result ≡ magnitude self }
@@ -321,24 +324,24 @@ pub trait UnsignedInteger: LexicalInteger {
         self.as_usize() as u32
     }
 
-    /// The number as a `usize`, which each number of the type fits.
+    /// Returns the number as a `usize`, which every number of the type fits.
     fn as_usize(self) -> usize
         ensures { result ≡ magnitude self };
 
-    /// The quotient and the remainder of a division by a number other than 0.
+    /// Returns the quotient and the remainder of the division by `by`, which is not 0.
     fn div_rem(self, by: Self) -> (Self, Self)
         requires { 0 < magnitude by }
         ensures quotient { magnitude result.0 ≡ magnitude self / magnitude by }
         ensures remainder { magnitude result.1 ≡ magnitude self % magnitude by };
 
-    /// Whether the number is `other` or greater.
+    /// Returns whether the number is `other` or larger.
     fn is_at_least(self, other: Self) -> bool
         ensures { IsTrue result ↔ (magnitude other ≤ magnitude self) }
     {
         self.as_usize() >= other.as_usize()
     }
 
-    /// The number of zero bits above the highest bit that is set: all bits of 0.
+    /// Returns the number of zero bits above the highest set bit, and `BITS` for 0.
     fn leading_zeros(self) -> u32
         ensures of_zero { magnitude self ≡ 0 → result ≡ Self.BITS }
         ensures within { 0 < magnitude self → result < Self.BITS }
@@ -351,7 +354,8 @@ pub trait UnsignedInteger: LexicalInteger {
 
     ghost equal_by_number: { (x y : Self) → Self.number x ≡ Self.number y → x ≡ y };
 
-    /// Does nothing: its contract tells generic code that the bits of the type hold the number.
+    /// A law: the number is below 2^`BITS`. Generic code obtains the law by this call, which does
+    /// nothing at run time.
     final fn fits_bits(self)
         ensures { magnitude self < 2 ^ Self.BITS }
     {

@@ -1,4 +1,4 @@
-//! The options of writing an integer, of which there are none so far.
+//! The options of writing an integer, which have no fields yet.
 
 ghost use Rattle.std.specs.Prelude.{◌≡◌, Bool, true, IsTrue, IsOk};
 ghost use Rattle.lexical_num.specs.Size.{size_in};
@@ -7,54 +7,54 @@ use crate::constants::FormattedSize;
 use crate::error::Result;
 use crate::format::NumberFormat;
 
-/// What options tell of the texts that are written under them.
+/// The options of writing a number: whether they are valid, and how long a buffer they require.
 pub trait WriteOptions {
     ghost is_valid: { Self → Bool };
 
-    /// Whether numbers can be written under the options.
+    /// Returns whether numbers can be written with the options.
     fn is_valid(&self) -> bool
         ensures { result ≡ is_valid self.now };
 
-    /// How many bytes a number of the type takes at most in the format, its sign and the marks of
-    /// its groups included.
+    /// Returns the length of a buffer that is long enough for every number of the type in the format,
+    /// with its sign and its groups. `text_if_room` in `crates/uses/src/any_format.rt` is an example.
     fn buffer_size<T: FormattedSize>(&self, format: &NumberFormat) -> usize
         ensures { result ≡ size_in T.FORMATTED_SIZE T.FORMATTED_SIZE_DECIMAL format.now };
 }
 
-/// The options of writing an integer. All values are equal.
+/// The options of writing an integer. They have no fields yet, so all values are equal.
 #[derive(Debug, Clone, PartialEq, Eq, PartialOrd, Ord, Drop)]
 pub struct Options {}
 
-/// The options.
+/// The standard options.
 pub const STANDARD: Options = Options {};
 
 impl Options {
     ghost use Rattle.lexical_num.specs.declared.options.Options.{Options};
     ghost use Rattle.lexical_num.specs.declared.options.OptionsBuilder.{OptionsBuilder};
 
-    /// The options.
+    /// Returns the options.
     pub fn new() -> Self
         ensures { (other : Options) → result ≡ other }
     {
         STANDARD
     }
 
-    /// The options, which are the same in every radix.
+    /// Returns the options, which do not depend on the radix.
     pub fn from_radix(_radix: u8) -> Self
         ensures { (other : Options) → result ≡ other }
     {
         Self::new()
     }
 
-    /// Whether numbers can be written under the options: always.
+    /// Returns whether numbers can be written with the options. This is always true.
     pub fn is_valid(&self) -> bool
         ensures { IsTrue result }
     {
         true
     }
 
-    /// How many bytes a number of the type takes at most in the format, its sign and the marks of
-    /// its groups included.
+    /// Returns the length of a buffer that is long enough for every number of the type in the format,
+    /// with its sign and its groups, as `buffer_size` does.
     pub fn buffer_size_const<T: FormattedSize>(&self, format: &NumberFormat) -> usize
         ensures { result ≡ size_in T.FORMATTED_SIZE T.FORMATTED_SIZE_DECIMAL format.now }
     {
@@ -65,14 +65,14 @@ impl Options {
         sign + format.grouped_len(T::FORMATTED_SIZE_DECIMAL)
     }
 
-    /// A builder of the options.
+    /// Returns a builder of options.
     pub fn builder() -> OptionsBuilder
         ensures { (other : OptionsBuilder) → result ≡ other }
     {
         OptionsBuilder::new()
     }
 
-    /// A builder that gives these options.
+    /// Returns a builder that builds these options.
     pub fn rebuild(&self) -> OptionsBuilder
         ensures { (other : OptionsBuilder) → result ≡ other }
     {
@@ -98,7 +98,7 @@ impl WriteOptions for Options {
     }
 }
 
-/// A builder of options. All values are equal.
+/// A builder of options. It has nothing to set yet, so all values are equal.
 #[derive(Debug, Clone, PartialEq, Eq, PartialOrd, Ord, Drop)]
 pub struct OptionsBuilder {}
 
@@ -106,35 +106,35 @@ impl OptionsBuilder {
     ghost use Rattle.lexical_num.specs.declared.options.Options.{Options};
     ghost use Rattle.lexical_num.specs.declared.options.OptionsBuilder.{OptionsBuilder};
 
-    /// The builder.
+    /// Returns a builder of options.
     pub fn new() -> Self
         ensures { (other : OptionsBuilder) → result ≡ other }
     {
         OptionsBuilder {}
     }
 
-    /// Whether options can be built: always.
+    /// Returns whether options can be built. This is always true.
     pub fn is_valid(&self) -> bool
         ensures { IsTrue result }
     {
         true
     }
 
-    /// The options, without a test.
+    /// Returns the options without checking them.
     pub fn build_unchecked(&self) -> Options
         ensures { (other : Options) → result ≡ other }
     {
         Options::new()
     }
 
-    /// The options.
+    /// Returns the options.
     pub fn build_strict(&self) -> Options
         ensures { (other : Options) → result ≡ other }
     {
         self.build_unchecked()
     }
 
-    /// The options: this succeeds.
+    /// Returns the options. It never returns an error.
     pub fn build(&self) -> Result<Options>
         ensures { IsOk result }
     {

@@ -10,7 +10,7 @@ use crate::part::Part;
 use lexical_num::options::STANDARD as OPTIONS;
 use lexical_write_integer::digit_count::DigitCount;
 use lexical_write_integer::format::STANDARD;
-use lexical_write_integer::laws::size_is_enough;
+use lexical_write_integer::laws::size_suffices;
 use lexical_write_integer::radix::Radix;
 use lexical_write_integer::{NumberFormat, ToLexicalWithOptions};
 
@@ -30,7 +30,7 @@ impl<T: ToLexicalWithOptions> Part for Decimal<T> {
     }
 
     fn write_to(self, buffer: &mut [u8]) -> usize {
-        size_is_enough(self.0, &STANDARD);
+        size_suffices(self.0, &STANDARD);
         self.0.write_lexical(buffer)
     }
 }
@@ -72,7 +72,7 @@ impl<T: ToLexicalWithOptions> Part for Formatted<'_, T> {
     }
 
     fn write_to(self, buffer: &mut [u8]) -> usize {
-        size_is_enough(self.0, self.1);
+        size_suffices(self.0, self.1);
         self.0.write_text(buffer, self.1)
     }
 }

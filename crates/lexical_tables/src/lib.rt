@@ -1,4 +1,19 @@
-//! For each radix from 2 to 36 the characters of the two digits of every number below its square.
+//! Tables of digit pairs, one for each radix from 2 to 36.
+//!
+//! The table of a radix holds the characters of the two digits of each number below the square of the
+//! radix, so a writer gets two digits from one look-up. Here each byte of an array is written in
+//! hexadecimal:
+//!
+//! ```
+//! let table = get_table(16);
+//! for (i, byte) in bytes.iter().enumerate() {
+//!     let pair = 2 * *byte as usize;
+//!     dump[2 * i] = table[pair];
+//!     dump[2 * i + 1] = table[pair + 1];
+//! }
+//! ```
+//!
+//! These lines are the body of `write_dump` in `crates/uses/src/hex_dump.rt`.
 #![tactic(auto)]
 
 ghost use Rattle.std.specs.Prelude.{◌≡◌, ℕ, ◌+◌, ◌*◌, ◌/◌, ◌%◌, ◌<◌, ◌≤◌, length, slice_index};
@@ -26,8 +41,9 @@ pub use table_radix::{
     DIGIT_TO_BASE36_SQUARED,
 };
 
-/// The table of a radix from 2 to 36: two bytes for each number below the square of the radix,
-/// `2 * i` and `2 * i + 1` for the number `i`, which are the characters of its two digits.
+/// Returns the table of a radix from 2 to 36. It has two bytes for each number below the square of
+/// the radix: the bytes at `2 * i` and `2 * i + 1` are the characters of the two digits of `i`. The
+/// documentation of this crate has an example.
 #[tactic(auto, using(crate::proofs::Pairs::reads))]
 pub fn get_table(radix: u32) -> &'static [u8]
     requires at_least_two { 2 ≤ radix }
@@ -46,7 +62,7 @@ pub fn get_table(radix: u32) -> &'static [u8]
     }
 }
 
-// The table of a radix from 2 to 18, as it is written out.
+// Returns the table of a radix from 2 to 18, which is one of the constants.
 fn table_to_18(radix: u32) -> &'static [u8]
     requires at_least_two { 2 ≤ radix }
     requires at_most_18 { radix ≤ 18 }
@@ -74,7 +90,7 @@ fn table_to_18(radix: u32) -> &'static [u8]
     }
 }
 
-// The table of a radix from 19 to 36, as it is written out.
+// Returns the table of a radix from 19 to 36, which is one of the constants.
 fn table_from_19(radix: u32) -> &'static [u8]
     requires at_least_19 { 19 ≤ radix }
     requires at_most_36 { radix ≤ 36 }

@@ -1,21 +1,21 @@
--- How many digits a number has.
+-- The number of digits of a number.
 use Rattle.std.specs.Prelude.{if◌then◌else◌, nat_lt, suc, zero, ℕ, ◌<◌, ◌^◌, ◌≤◌}
 use Rattle.std.proofs.Common.{ltb, inl, inr, arith}
 use Rattle.std.proofs.Math.Nat.{pow-le-pow_left}
 use Rattle.std.proofs.lemmas.Bool.{cases_eq, ltb-false, cond_both}
 
--- the least of n, n + 1, .. with the number below r to it, in at most `steps` steps
+-- the first of n, n + 1, .. such that the number is below r to that power; the search ends after `steps` steps
 unfoldable pub least_exponent : ℕ → ℕ → ℕ → ℕ → ℕ
 least_exponent r number n zero = n
 least_exponent r number n (suc steps) = if nat_lt number (r ^ n) then n else least_exponent r number (suc n) steps
 
--- how many digits a number has: the least n, at least 1, with the number below r ^ n
+-- the number of digits of a number: the smallest n, not 0, such that the number is below r ^ n
 unfoldable pub digit_count : ℕ → ℕ → ℕ
 digit_count r number = least_exponent r number 1 number
 
--- ---- proofs, which are here since ghost members rest on them
+-- ---- proofs, which are here since ghost members depend on them
 
--- no smaller count would do
+-- the digit count is the smallest such count
 least_exponent-le : (r number n steps m : ℕ) → n ≤ m → number < r ^ m → least_exponent r number n steps ≤ m
 unfolding least_exponent
 least_exponent-le r number n zero m most fits = most
@@ -33,4 +33,5 @@ digit_count-le r number m = least_exponent-le r number 1 number m
 
 -- no radix needs more digits than binary
 pub digit_count-le_bits : (r n bits : ℕ) → 2 ≤ r → 1 ≤ bits → n < 2 ^ bits → digit_count r n ≤ bits
-digit_count-le_bits r n bits two one fits = digit_count-le r n bits one (omega (arith, pow-le-pow_left {n = 2} {m = r} two bits))
+digit_count-le_bits r n bits two one fits =
+    digit_count-le r n bits one (omega (arith, pow-le-pow_left {n = 2} {m = r} two bits))

@@ -1,23 +1,25 @@
--- Digits in groups, which are counted from the right.
-use Rattle.std.specs.Prelude.{ℕ, ◌-◌, ◌%◌, List, [], ◌∷◌, ◌++◌, length, Option, None, Some, filter, not, if◌then◌else◌, ◌==◌, slice_index}
+-- Digits in groups, which are counted from the right. A mark is the separator between two groups.
+use Rattle.std.specs.Prelude.{ℕ, ◌-◌, ◌%◌, List, [], ◌∷◌, ◌++◌, length, filter, slice_index}
+use Rattle.std.specs.Prelude.{Option, None, Some, not, if◌then◌else◌, ◌==◌}
 
--- what stands between two neighbours, by the number of digits to the right of that place: the mark, where these are
--- whole groups
+-- what is between two adjacent digits, for this number of digits to the right: the separator if these are whole groups,
+-- and otherwise nothing
 abbrev pub mark_before : ℕ × ℕ → ℕ → List ℕ
 mark_before grouping right = if right % grouping.0 == 0 then grouping.1 ∷ [] else []
 
--- the digits, and what stands between each two neighbours
+-- the digits, with the separator between two groups
 abbrev pub in_groups : ℕ × ℕ → List ℕ → List ℕ
 in_groups grouping [] = []
 in_groups grouping (digit ∷ []) = digit ∷ []
-in_groups grouping (digit ∷ next ∷ digits) = digit ∷ mark_before grouping (length (next ∷ digits)) ++ in_groups grouping (next ∷ digits)
+in_groups grouping (digit ∷ next ∷ digits) =
+    digit ∷ mark_before grouping (length (next ∷ digits)) ++ in_groups grouping (next ∷ digits)
 
--- the digits as a format writes them: in its groups, or as they are
+-- the digits as a format writes them: in its groups if it has any, and otherwise unchanged
 abbrev pub grouped : Option (ℕ × ℕ) → List ℕ → List ℕ
 grouped None digits = digits
 grouped (Some grouping) digits = in_groups grouping digits
 
--- a text without the marks between its groups
+-- a text without the separators between its groups
 abbrev pub without_marks : Option (ℕ × ℕ) → List ℕ → List ℕ
 without_marks None text = text
 without_marks (Some grouping) text = filter (λ byte. not (byte == grouping.1)) text

@@ -2,7 +2,7 @@
 use Rattle.std.specs.Prelude.{◌≡◌, ℕ, ◌+◌, ◌^◌, ◌<◌, ◌≤◌, List, length, map}
 use Rattle.std.specs.List.{range_with_len}
 
--- the powers of ten from 10 on, rising: all that are below the limit, and nothing else
+-- the powers of ten from 10 upwards, in rising order: all that are below the limit, and nothing else
 pub record IsPowersOfTen (limit : ℕ) (powers : List ℕ) : Type 0 where
   pub rising : powers ≡ map (λ e. 10 ^ e) (range_with_len 1 (length powers))
   pub below : 10 ^ length powers < limit

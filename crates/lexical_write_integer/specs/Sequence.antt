@@ -1,11 +1,11 @@
--- Texts that stand one after another.
+-- Texts in a row.
 use Rattle.std.specs.Prelude.{◌≡◌, ℕ, List, ◌++◌}
 
 -- these bytes, and no others
 abbrev pub IsExactly : List ℕ → List ℕ → Type 0
 IsExactly bytes text = text ≡ bytes
 
--- a text of the one kind, and then one of the other
+-- a text of the first kind, followed by one of the second
 pub record Then (IsFirst IsSecond : List ℕ → Type 0) (text : List ℕ) : Type 0 where
   pub first : List ℕ
   pub second : List ℕ

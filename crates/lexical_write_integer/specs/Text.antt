@@ -1,4 +1,4 @@
--- The texts of numbers, and the room that a caller lends for them.
+-- The text of a number, and the length of the buffer that its writer requires.
 use Rattle.std.specs.Prelude.{◌≡◌, ℕ, ◌+◌, List, ◌++◌, length, map, ℤ, unsigned_abs, if◌then◌else◌, ◌==◌}
 use Rattle.lexical_num.specs.Digit.{digit_char}
 use Rattle.lexical_num.specs.Format.{Format, grouped_length}
@@ -19,12 +19,13 @@ pub record IsText (number : ℤ) (format : Format) (text : List ℕ) : Type 0 wh
   pub magnitude : IsDigits format.mantissa_radix (unsigned_abs number) digits
   pub whole : text ≡ sign_of number format.required_mantissa_sign ++ grouped format.digit_grouping digits
 
--- how many bytes a caller lends for the digits of a number, of a type with this number of decimal digits: in radix 10 the full
--- width of the type, else as many as the digits
+-- the required length for the digits of a number of a type with this decimal width: in radix 10 the decimal width, and
+-- in another radix the number of digits
 abbrev pub digits_need : ℕ → ℕ → ℕ → ℕ
 digits_need r number decimal_width = if r == 10 then decimal_width else digit_count r number
 
--- the same for a number with its sign, and in groups with the marks
+-- the required length (the need) of a number: its sign, its digits and the separators between their groups
 abbrev pub need : ℤ → ℕ → Format → ℕ
 need number decimal_width format =
-    length (sign_of number format.required_mantissa_sign) + grouped_length format.digit_grouping (digits_need format.mantissa_radix (unsigned_abs number) decimal_width)
+    length (sign_of number format.required_mantissa_sign)
+    + grouped_length format.digit_grouping (digits_need format.mantissa_radix (unsigned_abs number) decimal_width)

@@ -1,4 +1,4 @@
-//! Writing a number of any integer type.
+//! The traits that write a number of any integer type.
 
 ghost use Rattle.std.specs.Prelude.{◌≡◌, ◌≤◌, ℤ, ◌≤ℤ◌, length, take, drop, unsigned_abs};
 ghost use Rattle.std.specs.Borrow.{sem};
@@ -19,10 +19,12 @@ use lexical_num::format::{NumberFormat, STANDARD};
 use lexical_num::num::LexicalInteger;
 use lexical_num::options::WriteOptions;
 
-/// An integer type whose numbers are written in decimal.
+/// An integer type whose numbers are written in decimal. The documentation of this crate has examples.
 pub trait ToLexical: LexicalInteger + FormattedSize {
-    /// Writes the number to the front of the buffer, and returns the length of its text: `-` below
-    /// 0, and then the digits. The buffer has `DECIMAL_WIDTH` bytes, and one more for a `-`.
+    /// Writes the number in decimal to the start of the buffer, and returns the length of its text: a
+    /// `-` if it is below 0, and then the digits. Every byte after the text is unchanged. The buffer
+    /// has room for `DECIMAL_WIDTH` bytes, and for one further byte if there is a `-`. `write_address`
+    /// in `crates/uses/src/address.rt` is an example.
     fn write_lexical(self, buffer: &mut [u8]) -> usize
         requires { need (Self.number self) Self.DECIMAL_WIDTH standard ≤ length buffer.old }
         ensures text { WritesText (Self.number self) standard buffer.old buffer.new result }
@@ -31,22 +33,23 @@ pub trait ToLexical: LexicalInteger + FormattedSize {
         self.write_text(buffer, &STANDARD)
     }
 
-    /// Writes the digits of the absolute value in the mantissa radix of the format, without groups,
-    /// to the front of the buffer, and returns how many they are. In radix 10 the buffer has
-    /// `DECIMAL_WIDTH` bytes, otherwise as many as the digits.
+    /// Writes the digits of the absolute value to the start of the buffer, and returns their number.
+    /// They are written in the mantissa radix of the format, without groups. The buffer has room for
+    /// `DECIMAL_WIDTH` bytes in radix 10, and for the digits in another radix.
     fn write_magnitude(self, format: &NumberFormat, buffer: &mut [u8]) -> usize
         requires { digits_need format.now.mantissa_radix (unsigned_abs (Self.number self)) Self.DECIMAL_WIDTH
             ≤ length buffer.old }
         ensures digits { WritesDigits format.now.mantissa_radix (unsigned_abs (Self.number self))
             buffer.old buffer.new result };
 
-    /// Returns how many digits the absolute value has in the radix, which is from 2 to 36.
+    /// Returns the number of digits of the absolute value in the radix, which is from 2 to 36.
     fn magnitude_digits(self, radix: u32) -> usize
         requires { IsRadix radix }
         ensures { result ≡ digit_count radix (unsigned_abs (Self.number self)) };
 
-    /// Writes the text of the number in the format to the front of the buffer, and returns its
-    /// length. All calls that write a text go by this one.
+    /// Writes the number in the format to the start of the buffer, and returns the length of its text.
+    /// The buffer has room for the number of bytes that `required_len` returns. All calls that write a
+    /// text call this one.
     fn write_text(self, buffer: &mut [u8], format: &NumberFormat) -> usize
         requires { need (Self.number self) Self.DECIMAL_WIDTH format.now ≤ length buffer.old }
         ensures text { WritesText (Self.number self) format.now buffer.old buffer.new result }
@@ -59,8 +62,9 @@ pub trait ToLexical: LexicalInteger + FormattedSize {
         sign + group_digits(count, format, digits)
     }
 
-    /// Writes the number as `write_lexical` does, and hands back its text for writing: what the
-    /// caller leaves in it is left in those bytes of the buffer, and every other is unchanged.
+    /// Writes the number as `write_lexical` does, under the same condition, and returns its text: a
+    /// mutable slice of the first bytes of the buffer. What the caller then writes to the slice
+    /// changes those bytes, and every other byte of the buffer is unchanged.
     final fn to_lexical(self, buffer: &mut [u8]) -> &mut [u8]
         requires { need (Self.number self) Self.DECIMAL_WIDTH standard ≤ length buffer.old }
         ensures* lends { sem 𝓛 (LendsFront buffer.entry (length result.now) result) }
@@ -72,15 +76,19 @@ pub trait ToLexical: LexicalInteger + FormattedSize {
     }
 }
 
-/// An integer type whose numbers are written in any format.
+/// An integer type whose numbers are written in any format. The documentation of this crate has
+/// examples.
 pub trait ToLexicalWithOptions: ToLexical {
-    /// What is told of the text beside its format.
+    /// The options type. Options have no effect yet.
     type Options: WriteOptions;
 
-    /// Writes the number to the front of the buffer, and returns the length of its text: the sign,
-    /// and then the digits in the mantissa radix, in the groups of the format. In radix 10 the
-    /// buffer has `DECIMAL_WIDTH` bytes beside the sign, else as many as the digits, and room for
-    /// the marks between the groups of that many digits. The options have no effect.
+    /// Writes the number in the format to the start of the buffer, and returns the length of its text:
+    /// the sign, and then the digits in the mantissa radix, in the groups of the format. Every byte
+    /// after the text is unchanged. The options have no effect.
+    ///
+    /// The buffer has room for the number of bytes that `required_len` returns, which is enough for the
+    /// sign, the digits and the separators between their groups. In radix 10 it is enough for
+    /// `DECIMAL_WIDTH` digits, even if the number has fewer.
     fn write_lexical_with_options(
         self,
         buffer: &mut [u8],
@@ -98,7 +106,8 @@ pub trait ToLexicalWithOptions: ToLexical {
         self.write_text(buffer, format)
     }
 
-    /// Returns how many bytes `write_lexical_with_options` asks of its buffer: at most `BUFFER_SIZE`.
+    /// Returns the required length, which is the length of the shortest buffer that
+    /// `write_lexical_with_options` takes. It is at most `BUFFER_SIZE`.
     final fn required_len(self, format: &NumberFormat) -> usize
         ensures need { result ≡ need (Self.number self) Self.DECIMAL_WIDTH format.now }
         ensures short { result ≤ BUFFER_SIZE }
@@ -114,13 +123,14 @@ pub trait ToLexicalWithOptions: ToLexical {
         sign + format.grouped_len(digits)
     }
 
-    // The size of the type in a format is enough for each of its numbers.
-    ghost size_is_enough: { (x : ℤ) (format : Format) → IsRadix format.mantissa_radix → Self.least ≤ℤ x → x ≤ℤ Self.greatest
+    // The size of the type in a format is enough for the required length of each of its numbers.
+    ghost size_suffices: { (x : ℤ) (format : Format) → IsRadix format.mantissa_radix
+        → Self.least ≤ℤ x → x ≤ℤ Self.greatest
         → need x Self.DECIMAL_WIDTH format ≤ size_in Self.FORMATTED_SIZE Self.FORMATTED_SIZE_DECIMAL format };
 
-    /// Writes the number as `write_lexical_with_options` does, and hands back its text for writing:
-    /// what the caller leaves in it is left in those bytes of the buffer, and every other is as
-    /// before.
+    /// Writes the number as `write_lexical_with_options` does, under the same condition, and returns
+    /// its text: a mutable slice of the first bytes of the buffer. What the caller then writes to the
+    /// slice changes those bytes, and every other byte of the buffer is unchanged.
     final fn to_lexical_with_options<'a>(
         self,
         buffer: &'a mut [u8],
@@ -139,8 +149,8 @@ pub trait ToLexicalWithOptions: ToLexical {
     }
 }
 
-// Writes the sign of a number to the first byte of the buffer, and returns how many bytes it has:
-// where it has none, that byte is written all the same, and the first digit is due there.
+// Writes the sign to `buffer[0]` and returns its length, 0 or 1. The byte is written even if there is
+// no sign, to avoid a branch; the first digit then overwrites it.
 fn write_sign<T: LexicalInteger>(number: T, buffer: &mut [u8], format: &NumberFormat) -> usize
     requires { 1 ≤ length buffer.old }
     ensures sign { take result buffer.new ≡ sign_of (T.number number) format.now.required_mantissa_sign }

@@ -1,11 +1,13 @@
-//! The front of a buffer that a caller lends.
+//! The first bytes of a buffer.
 
 ghost use Rattle.std.specs.Prelude.{◌≡◌, ◌≤◌, length, take};
 ghost use Rattle.std.specs.Borrow.{sem};
 ghost use Rattle.lexical_write_integer.specs.Buffer.{Front};
 ghost use Rattle.lexical_write_integer.specs.Lending.{LendsFront};
 
-/// Copies a text to the front of the buffer, and returns its length.
+/// Copies a text to the start of the buffer, and returns its length. The buffer is at least as long as
+/// the text, and every byte after the text is unchanged. `write_address` in
+/// `crates/uses/src/address.rt` is an example.
 pub fn copy_to_front(text: &[u8], buffer: &mut [u8]) -> usize
     requires { length text.now ≤ length buffer.old }
     ensures front { Front buffer.old buffer.new text.now }
@@ -16,7 +18,8 @@ pub fn copy_to_front(text: &[u8], buffer: &mut [u8]) -> usize
     count
 }
 
-/// The first `count` bytes of the buffer, for writing.
+/// Returns the first `count` bytes of the buffer as a mutable slice. The count is at most the length of
+/// the buffer. What the caller then writes to the slice changes those bytes of the buffer.
 pub fn front_mut(buffer: &mut [u8], count: usize) -> &mut [u8]
     requires { count ≤ length buffer.old }
     ensures* lends { sem 𝓛 (LendsFront buffer.entry count result) }

@@ -1,4 +1,5 @@
-//! The plain writer: one digit a turn.
+//! The compact writer, which writes one digit per iteration. `crates/write_integer_tests/src/tables.rt`
+//! has examples.
 
 ghost use Rattle.std.specs.Prelude.{◌≡◌, ◌+◌, ◌/◌, ◌%◌, ◌<◌, ◌≤◌, ◌++◌, [], ◌∷◌, length, drop};
 ghost use Rattle.lexical_num.specs.Format.{IsRadix};
@@ -14,11 +15,11 @@ use lexical_num::constants::FormattedSize;
 use lexical_num::digit::digit_to_char;
 use lexical_num::num::UnsignedInteger;
 
-// As many as a number of 64 bits has in radix 2.
+// The number of digits of the largest `u64` in radix 2.
 const MAX_DIGITS: usize = 64;
 
-// Writes the digits of a number to the end of a buffer, the last one first, and returns the index of
-// the first one.
+// Writes the digits of a number to the end of the buffer, the last digit first, and returns the index
+// of the first digit.
 fn write_to_end<const RADIX: u32>(value: u64, buffer: &mut [u8], turns: &mut Turns) -> usize
     requires radix { IsRadix RADIX }
     requires room { digit_count RADIX value ≤ length buffer.old }
@@ -41,7 +42,7 @@ fn write_to_end<const RADIX: u32>(value: u64, buffer: &mut [u8], turns: &mut Tur
     index
 }
 
-// The same in a radix that is not known before.
+// Calls `write_to_end` for a radix that is known only at run time.
 fn write_in_radix(value: u64, radix: u32, buffer: &mut [u8], turns: &mut Turns) -> usize
     requires radix { IsRadix radix }
     requires room { digit_count radix value ≤ length buffer.old }
@@ -52,9 +53,9 @@ fn write_in_radix(value: u64, radix: u32, buffer: &mut [u8], turns: &mut Turns) 
     by_radix!(radix, write_to_end(value, buffer, turns))
 }
 
-/// Writes the digits of the number to the front of the buffer, and returns how many they are. The
-/// radix is from 2 to 36, and the buffer has room for the digits. The counter gets a note for each
-/// digit after the first: of what stands before it.
+/// Writes the digits of the number to the start of the buffer, and returns their number. The radix is
+/// from 2 to 36, and the buffer has room for the digits. There is one division for each digit after the
+/// first, and its quotient is recorded in the counter.
 pub fn compact_counted<T: UnsignedInteger>(
     value: T,
     radix: u32,
@@ -69,16 +70,16 @@ pub fn compact_counted<T: UnsignedInteger>(
     ensures short { result ≤ T.BITS }
 {
     value.fits_bits();
-    // The digits are made from the last one on, so they go to a temporary first.
+    // The last digit is computed first, so the digits go to a temporary array.
     let mut digits = [0u8; MAX_DIGITS];
     let index = write_in_radix(value.as_usize() as u64, radix, &mut digits, turns);
     copy_to_front(&digits[index..], buffer)
 }
 
-/// An unsigned integer type whose numbers are written by the plain writer.
+/// An unsigned integer type whose digits are written by the compact writer.
 pub trait Compact: UnsignedInteger + FormattedSize {
-    /// Writes the digits of the number to the front of the buffer, and returns how many they are.
-    /// The radix is from 2 to 36, and the buffer has room for the digits.
+    /// Writes the digits of the number to the start of the buffer, and returns their number. The radix
+    /// is from 2 to 36, and the buffer has room for the digits.
     fn compact(self, radix: u32, buffer: &mut [u8]) -> usize
         requires radix { IsRadix radix }
         requires room { digit_count radix (Self.magnitude self) ≤ length buffer.old }

@@ -1,4 +1,5 @@
-//! Decimal digits: how many a number has, and the writer of each type.
+//! Decimal digits: counting them without a loop, and writing them two at a time. Examples are in
+//! `crates/write_integer_tests/src/counts.rt` and `crates/write_integer_tests/src/decimal_values.rt`.
 
 ghost use Rattle.std.specs.Prelude.{◌≡◌, ℕ, pos, negsuc, ◌+◌, ◌-◌, ◌/◌, ◌^◌, ◌<◌, ◌≤◌, length, map};
 ghost use Rattle.std.proofs.Common.{lit≤};
@@ -17,12 +18,12 @@ pub use crate::logarithm::fast_log10;
 use crate::turns::Turns;
 use lexical_num::num::{LexicalInteger, UnsignedInteger};
 
-// A digit, in a sum whose high half counts digits.
+// One digit, in a sum whose high 32 bits count digits.
 const ONE: u64 = 1 << 32;
 
-// By the place of a number's highest bit: the number and its entry together have the number's digit
-// count in their high half. Where the numbers of a place have one digit more from a power of ten on,
-// that power is missing from the greater count, so that the numbers below it do not reach it.
+// Indexed by the position of the highest set bit. The high 32 bits of `number + entry` are the digit
+// count. If a power of ten lies among the numbers with that highest bit, the entry is the larger count
+// minus that power, so only the numbers from that power upwards carry into the larger count.
 const DIGITS_BY_LOG2: [u64; 32] = [
     ONE,
     2 * ONE - 10,
@@ -58,7 +59,7 @@ const DIGITS_BY_LOG2: [u64; 32] = [
     10 * ONE,
 ];
 
-// The powers of ten that fit 64 bits.
+// The powers of ten from 10 upwards that fit in 64 bits.
 const POWERS_OF_TEN: [u64; 19] = [
     10,
     100,
@@ -81,8 +82,8 @@ const POWERS_OF_TEN: [u64; 19] = [
     10000000000000000000,
 ];
 
-/// How many decimal digits the number has. By Lemire, "Computing the number of digits of an integer
-/// even faster".
+/// Returns the number of decimal digits of the number. The method is from Lemire, "Computing the
+/// number of digits of an integer even faster".
 pub fn fast_digit_count(x: u32) -> usize
     ensures { result ≡ digit_count 10 x }
 {
@@ -90,8 +91,8 @@ pub fn fast_digit_count(x: u32) -> usize
     ((u64::from(x) + entry) >> 32) as usize
 }
 
-/// How many decimal digits the number has. The table has the powers of ten from 10 on that fit the
-/// type, rising, and nothing else.
+/// Returns the number of decimal digits of the number. The table holds the powers of ten from 10
+/// upwards that fit in the type, in rising order, and nothing else.
 pub fn fallback_digit_count<T: UnsignedInteger>(x: T, table: &[T]) -> usize
     requires { IsPowersOfTen (2 ^ T.BITS) (map T.magnitude table.now) }
     ensures { result ≡ digit_count 10 (T.magnitude x) }
@@ -107,7 +108,7 @@ pub fn fallback_digit_count<T: UnsignedInteger>(x: T, table: &[T]) -> usize
 
 /// An unsigned integer type whose decimal digits are counted without a loop.
 pub trait DecimalCount: UnsignedInteger {
-    /// How many decimal digits the number has.
+    /// Returns the number of decimal digits of the number.
     fn decimal_count(self) -> usize
         ensures { result ≡ digit_count 10 (Self.magnitude self) };
 }
@@ -144,14 +145,14 @@ impl DecimalCount for usize {
 
 /// An unsigned integer type whose numbers are written in decimal, two digits at a time.
 pub trait Decimal: DecimalCount {
-    /// The most decimal digits that the magnitude of a number has, of the signed type of as many
-    /// bits.
+    /// The largest number of decimal digits of the magnitude of a number of the signed type with the
+    /// same number of bits.
     const SIGNED_WIDTH: usize;
 
     ghost SIGNED_WIDTH: { ℕ };
 
-    /// Writes the digits of the number to the front of the buffer, of at least `DECIMAL_WIDTH`
-    /// bytes, and returns how many they are.
+    /// Writes the digits of the number to the start of the buffer, and returns their number. The
+    /// buffer has room for `DECIMAL_WIDTH` bytes.
     fn decimal(self, buffer: &mut [u8]) -> usize
         requires { Self.DECIMAL_WIDTH ≤ length buffer.old }
         ensures digits { WritesDigits 10 (Self.magnitude self) buffer.old buffer.new result }
@@ -160,16 +161,17 @@ pub trait Decimal: DecimalCount {
         self.decimal_counted(buffer, &mut Turns::new())
     }
 
-    /// Writes the digits of a number below 10^`SIGNED_WIDTH` to the front of the buffer, of at
-    /// least `SIGNED_WIDTH` bytes, and returns how many they are.
+    /// Writes the digits of the number to the start of the buffer, and returns their number. The
+    /// number is below 10^`SIGNED_WIDTH`, as is the magnitude of each number of the signed type, and
+    /// the buffer has room for `SIGNED_WIDTH` bytes.
     fn decimal_signed(self, buffer: &mut [u8]) -> usize
         requires number { Self.magnitude self < 10 ^ SIGNED_WIDTH }
         requires room { SIGNED_WIDTH ≤ length buffer.old }
         ensures digits { WritesDigits 10 (Self.magnitude self) buffer.old buffer.new result }
         ensures short { result ≤ SIGNED_WIDTH };
 
-    /// `decimal`, under the same condition, with its turns counted: one for each pair of digits
-    /// after the first.
+    /// Writes the digits as `decimal` does, under the same condition, and records its iterations in
+    /// the counter: one for each pair of digits after the first, and at most 9.
     fn decimal_counted(self, buffer: &mut [u8], turns: &mut Turns) -> usize
         requires { Self.DECIMAL_WIDTH ≤ length buffer.old }
         ensures writes { WritesDecimal (Self.magnitude self) (decimal_notes Self.BITS (Self.magnitude self))

@@ -1,18 +1,18 @@
-//! How many digits a number has.
+//! Counting the digits of a number.
 
 ghost use Rattle.std.specs.Prelude.{◌≡◌, ◌+◌, ◌/◌, ◌^◌, ◌<◌, ◌≤◌, ◌↔◌, ◌++◌, [], ◌∷◌, IsTrue, IfNone, IfSome, length};
 ghost use Rattle.lexical_num.specs.Format.{IsRadix};
 ghost use Rattle.lexical_num.specs.BitWidth.{IsBitWidth};
 ghost use Rattle.lexical_write_integer.specs.DigitCount.{digit_count};
-ghost use Rattle.lexical_write_integer.specs.LoopTurns.{IsStep, TakesDigits, count_notes, count_turns, slow_notes, slow_turns};
+ghost use Rattle.lexical_write_integer.specs.LoopTurns.{IsStep, TakesDigits, count_notes, count_turns};
+ghost use Rattle.lexical_write_integer.specs.LoopTurns.{slow_notes, slow_turns};
 
 use crate::decimal::DecimalCount;
 pub use crate::logarithm::fast_log2;
 use crate::turns::Turns;
 use lexical_num::num::UnsignedInteger;
 
-// Whether the radix to the exponent fits a type with this number of bits. A loop by that power is open where
-// it does, and nowhere else.
+// Returns whether `radix.pow(exponent)` fits in `bits` bits. If not, a loop that divides by it never runs.
 fn power_fits(bits: usize, radix: u32, exponent: u32) -> bool
     requires bits { IsBitWidth bits }
     requires radix { IsRadix radix }
@@ -27,8 +27,8 @@ fn power_fits(bits: usize, radix: u32, exponent: u32) -> bool
     }
 }
 
-// The radix to the exponent, where it fits the type. Where it does not, no number of the type is as
-// great, and a loop by it would have no turn.
+// Returns `radix.pow(exponent)`, or `None` if it does not fit in the type. Then every number of the type
+// is smaller, and a loop that divides by it would never run.
 fn power_of<T: UnsignedInteger>(radix: u32, exponent: u32) -> Option<T>
     requires radix { IsRadix radix }
     requires exponent { IsStep exponent }
@@ -42,8 +42,8 @@ fn power_of<T: UnsignedInteger>(radix: u32, exponent: u32) -> Option<T>
     }
 }
 
-// A turn of the count: a division by a power of the radix, which notes what it leaves.
-fn divide_once<T: UnsignedInteger>(number: T, power: T, turns: &mut Turns) -> T
+// Returns the quotient of the number and a power of the radix, and records it in the counter.
+fn divide_and_record<T: UnsignedInteger>(number: T, power: T, turns: &mut Turns) -> T
     requires { 0 < T.magnitude power }
     ensures left { T.magnitude result ≡ T.magnitude number / T.magnitude power }
     ensures notes { turns.new ≡ turns.old ++ T.magnitude result ∷ [] }
@@ -53,14 +53,9 @@ fn divide_once<T: UnsignedInteger>(number: T, power: T, turns: &mut Turns) -> T
     left
 }
 
-// Takes `step` digits a turn off a number while it has more. It returns what is left, and how many
-// digits were taken.
-fn divide_while_long<T: UnsignedInteger>(
-    value: T,
-    radix: u32,
-    step: u32,
-    turns: &mut Turns,
-) -> (T, usize)
+// Removes the last `step` digits of the number per iteration, while it has more than `step` digits, and
+// records each quotient. Returns the remaining quotient and the number of digits that were removed.
+fn take_digits<T: UnsignedInteger>(value: T, radix: u32, step: u32, turns: &mut Turns) -> (T, usize)
     requires radix { IsRadix radix }
     requires step { IsStep step }
     ensures { TakesDigits radix (T.magnitude value) step result.1 (T.magnitude result.0)
@@ -73,14 +68,14 @@ fn divide_while_long<T: UnsignedInteger>(
     let mut left = value;
     let mut taken = 0;
     while left.is_at_least(power) {
-        left = divide_once(left, power, turns);
+        left = divide_and_record(left, power, turns);
         taken += step as usize;
     }
     (left, taken)
 }
 
-/// How many digits the number has, by divisions: a turn takes four digits off while there are more
-/// than four, then two, and then one. The counter gets a note for each division, of what it leaves.
+/// Returns the number of digits of the number, which is counted by division: four digits per iteration
+/// while more than four are left, then two, and then one. Each quotient is recorded in the counter.
 /// The radix is from 2 to 36.
 #[tactic(auto, using(crate::proofs::RadixPowers::steps))]
 pub fn slow_digit_count_counted<T: UnsignedInteger>(x: T, radix: u32, turns: &mut Turns) -> usize
@@ -92,15 +87,15 @@ pub fn slow_digit_count_counted<T: UnsignedInteger>(x: T, radix: u32, turns: &mu
     ensures turns { length turns.new ≡ length turns.old + slow_turns result }
 {
     x.fits_bits();
-    let (left, by_four) = divide_while_long(x, radix, 4, turns);
-    let (left, by_two) = divide_while_long(left, radix, 2, turns);
-    let (_, by_one) = divide_while_long(left, radix, 1, turns);
+    let (left, by_four) = take_digits(x, radix, 4, turns);
+    let (left, by_two) = take_digits(left, radix, 2, turns);
+    let (_, by_one) = take_digits(left, radix, 1, turns);
     1 + by_four + by_two + by_one
 }
 
-/// How many digits the number has: by its highest bit in the radices that are powers of 2, by its
-/// decimal count in radix 10, and else by divisions, which the counter notes. The radix is from 2
-/// to 36.
+/// Returns the number of digits of the number. It is computed from the highest set bit if the radix is
+/// a power of 2, by `decimal_count` in radix 10, and otherwise by division, whose quotients are
+/// recorded in the counter. The radix is from 2 to 36.
 pub fn digit_count_counted<T: DecimalCount>(x: T, radix: u32, turns: &mut Turns) -> usize
     requires { IsRadix radix }
     ensures count { result ≡ digit_count radix (T.magnitude x) }
@@ -123,14 +118,16 @@ pub fn digit_count_counted<T: DecimalCount>(x: T, radix: u32, turns: &mut Turns)
 
 /// An unsigned integer type whose digits are counted in every radix.
 pub trait DigitCount: DecimalCount {
-    /// How many digits the number has. The radix is from 2 to 36.
+    /// Returns the number of digits of the number. The radix is from 2 to 36. `width_of_amount` in
+    /// `crates/uses/src/amount.rt` is an example.
     fn digit_count(self, radix: u32) -> usize
         requires { IsRadix radix }
         ensures count { result ≡ digit_count radix (Self.magnitude self) }
         ensures some { 1 ≤ result }
         ensures at_most_64 { result ≤ 64 };
 
-    /// How many digits the number has, by divisions in every radix. The radix is from 2 to 36.
+    /// Returns the number of digits of the number, which is counted by division in every radix. The
+    /// radix is from 2 to 36.
     fn slow_digit_count(self, radix: u32) -> usize
         requires { IsRadix radix }
         ensures count { result ≡ digit_count radix (Self.magnitude self) }

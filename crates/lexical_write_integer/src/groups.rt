@@ -1,4 +1,4 @@
-//! Digits in groups.
+//! Putting digits into groups.
 
 ghost use Rattle.std.specs.Prelude.{◌≡◌, ◌+◌, ◌-◌, ◌/◌, ◌≤◌, length, take};
 ghost use Rattle.lexical_num.specs.Format.{grouped_length};
@@ -7,8 +7,9 @@ ghost use Rattle.lexical_write_integer.specs.Groups.{in_groups, grouped};
 
 use lexical_num::format::NumberFormat;
 
-/// Puts the first `count` bytes of the buffer, at least one, into the groups of the format, and
-/// returns how many bytes they then take. Every byte after these is unchanged.
+/// Puts the first `count` bytes of the buffer into the groups of the format, and returns how many bytes
+/// then take with the separators. The count is not 0, and the buffer has room for the result. Every
+/// byte after the result is unchanged.
 pub fn group_digits(count: usize, format: &NumberFormat, buffer: &mut [u8]) -> usize
     requires some { 1 ≤ count }
     requires room { grouped_length format.now.digit_grouping count ≤ length buffer.old }
@@ -18,18 +19,19 @@ pub fn group_digits(count: usize, format: &NumberFormat, buffer: &mut [u8]) -> u
     ensures total { result ≡ grouped_length format.now.digit_grouping count }
 {
     match format.digit_grouping() {
-        Some((size, mark)) => spread(count, usize::from(size), mark, buffer),
+        Some((size, mark)) => group_in_place(count, usize::from(size), mark, buffer),
         None => count,
     }
 }
 
-// The same in groups of this size. Each byte is put in its place, the last one first, so that no digit
+// Puts the first `count` bytes of the buffer into groups of `size` bytes, with `mark` as the separator,
+// and returns how many bytes they then take. The bytes are moved from the last to the first, so no digit
 // is overwritten before it has moved:
 //
 //     1234567      the digits
 //     12345,567    after four bytes
 //     1,234,567    after all
-fn spread(count: usize, size: usize, mark: u8, buffer: &mut [u8]) -> usize
+fn group_in_place(count: usize, size: usize, mark: u8, buffer: &mut [u8]) -> usize
     requires size { 1 ≤ size }
     requires some { 1 ≤ count }
     requires room { count + (count - 1) / size ≤ length buffer.old }

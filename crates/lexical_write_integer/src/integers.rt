@@ -1,4 +1,4 @@
-//! The ten integer types, as writers of their numbers.
+//! The implementations of the writing traits for the ten integer types.
 
 ghost use Rattle.std.specs.Prelude.{◌-◌, ◌^◌};
 ghost use Rattle.std.proofs.Common.{lit≤};
@@ -23,7 +23,7 @@ impl ToLexical for u8 {
 impl ToLexicalWithOptions for u8 {
     type Options = Options;
 
-    ghost size_is_enough = { unsigned_need-le (2 ^ 8 - 1) 8 3 16 3 (lit≤ tt) (lit≤ tt) (lit≤ tt) (lit≤ tt) };
+    ghost size_suffices = { unsigned_need-le (2 ^ 8 - 1) 8 3 16 3 (lit≤ tt) (lit≤ tt) (lit≤ tt) (lit≤ tt) };
 }
 
 impl ToLexical for u16 {
@@ -39,7 +39,7 @@ impl ToLexical for u16 {
 impl ToLexicalWithOptions for u16 {
     type Options = Options;
 
-    ghost size_is_enough = { unsigned_need-le (2 ^ 16 - 1) 16 5 32 5 (lit≤ tt) (lit≤ tt) (lit≤ tt) (lit≤ tt) };
+    ghost size_suffices = { unsigned_need-le (2 ^ 16 - 1) 16 5 32 5 (lit≤ tt) (lit≤ tt) (lit≤ tt) (lit≤ tt) };
 }
 
 impl ToLexical for u32 {
@@ -55,7 +55,7 @@ impl ToLexical for u32 {
 impl ToLexicalWithOptions for u32 {
     type Options = Options;
 
-    ghost size_is_enough = { unsigned_need-le (2 ^ 32 - 1) 32 10 64 10 (lit≤ tt) (lit≤ tt) (lit≤ tt) (lit≤ tt) };
+    ghost size_suffices = { unsigned_need-le (2 ^ 32 - 1) 32 10 64 10 (lit≤ tt) (lit≤ tt) (lit≤ tt) (lit≤ tt) };
 }
 
 impl ToLexical for u64 {
@@ -71,7 +71,7 @@ impl ToLexical for u64 {
 impl ToLexicalWithOptions for u64 {
     type Options = Options;
 
-    ghost size_is_enough = { unsigned_need-le (2 ^ 64 - 1) 64 20 128 20 (lit≤ tt) (lit≤ tt) (lit≤ tt) (lit≤ tt) };
+    ghost size_suffices = { unsigned_need-le (2 ^ 64 - 1) 64 20 128 20 (lit≤ tt) (lit≤ tt) (lit≤ tt) (lit≤ tt) };
 }
 
 impl ToLexical for usize {
@@ -87,7 +87,7 @@ impl ToLexical for usize {
 impl ToLexicalWithOptions for usize {
     type Options = Options;
 
-    ghost size_is_enough = { unsigned_need-le (2 ^ 64 - 1) 64 20 128 20 (lit≤ tt) (lit≤ tt) (lit≤ tt) (lit≤ tt) };
+    ghost size_suffices = { unsigned_need-le (2 ^ 64 - 1) 64 20 128 20 (lit≤ tt) (lit≤ tt) (lit≤ tt) (lit≤ tt) };
 }
 
 impl ToLexical for i8 {
@@ -104,7 +104,7 @@ impl ToLexical for i8 {
 impl ToLexicalWithOptions for i8 {
     type Options = Options;
 
-    ghost size_is_enough = { signed_need-le (2 ^ 7 - 1) 8 3 16 4 (lit≤ tt) (lit≤ tt) (lit≤ tt) (lit≤ tt) };
+    ghost size_suffices = { signed_need-le (2 ^ 7 - 1) 8 3 16 4 (lit≤ tt) (lit≤ tt) (lit≤ tt) (lit≤ tt) };
 }
 
 impl ToLexical for i16 {
@@ -120,7 +120,7 @@ impl ToLexical for i16 {
 impl ToLexicalWithOptions for i16 {
     type Options = Options;
 
-    ghost size_is_enough = { signed_need-le (2 ^ 15 - 1) 16 5 32 6 (lit≤ tt) (lit≤ tt) (lit≤ tt) (lit≤ tt) };
+    ghost size_suffices = { signed_need-le (2 ^ 15 - 1) 16 5 32 6 (lit≤ tt) (lit≤ tt) (lit≤ tt) (lit≤ tt) };
 }
 
 impl ToLexical for i32 {
@@ -136,7 +136,7 @@ impl ToLexical for i32 {
 impl ToLexicalWithOptions for i32 {
     type Options = Options;
 
-    ghost size_is_enough = { signed_need-le (2 ^ 31 - 1) 32 10 64 11 (lit≤ tt) (lit≤ tt) (lit≤ tt) (lit≤ tt) };
+    ghost size_suffices = { signed_need-le (2 ^ 31 - 1) 32 10 64 11 (lit≤ tt) (lit≤ tt) (lit≤ tt) (lit≤ tt) };
 }
 
 impl ToLexical for i64 {
@@ -152,7 +152,7 @@ impl ToLexical for i64 {
 impl ToLexicalWithOptions for i64 {
     type Options = Options;
 
-    ghost size_is_enough = { signed_need-le (2 ^ 63 - 1) 64 19 128 20 (lit≤ tt) (lit≤ tt) (lit≤ tt) (lit≤ tt) };
+    ghost size_suffices = { signed_need-le (2 ^ 63 - 1) 64 19 128 20 (lit≤ tt) (lit≤ tt) (lit≤ tt) (lit≤ tt) };
 }
 
 impl ToLexical for isize {
@@ -168,5 +168,5 @@ impl ToLexical for isize {
 impl ToLexicalWithOptions for isize {
     type Options = Options;
 
-    ghost size_is_enough = { signed_need-le (2 ^ 63 - 1) 64 19 128 20 (lit≤ tt) (lit≤ tt) (lit≤ tt) (lit≤ tt) };
+    ghost size_suffices = { signed_need-le (2 ^ 63 - 1) 64 19 128 20 (lit≤ tt) (lit≤ tt) (lit≤ tt) (lit≤ tt) };
 }

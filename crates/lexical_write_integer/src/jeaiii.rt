@@ -1,11 +1,14 @@
-//! The decimal writers. A number of 3 to 10 digits is turned into a fixed-point fraction, by one
-//! product with the reciprocal of a power of 100; from there each product by 100 gives two digits,
-//! and no digit takes a division. The algorithm is James Anhalt's jeaiii
-//! (<https://github.com/jeaiii/itoa>); digits from the fraction of a product with a reciprocal are
-//! described in Lemire, Kaser and Kurz, "Faster Remainder by Direct Computation" (2019).
+//! The decimal writers. A number of 3 to 10 digits is multiplied by the reciprocal of a power of 100,
+//! which makes it a fixed-point fraction. Each multiplication of the fraction by 100 then yields two
+//! digits, so no digit needs a division. The algorithm is James Anhalt's jeaiii
+//! (<https://github.com/jeaiii/itoa>); Lemire, Kaser and Kurz, "Faster Remainder by Direct Computation"
+//! (2019), describe how digits are obtained from the fraction of a product with a reciprocal.
 //!
-//! Each counted call does what its plain call does, and counts one turn for each pair of digits
-//! after the first: at most 9.
+//! Each `_counted` function writes what the function without that suffix writes, and records its
+//! iterations in a counter: one for each pair of digits after the first, and at most 9.
+//!
+//! Examples of the writers are in `crates/write_integer_tests/src/decimal_values.rt`, and of the kernels
+//! in `crates/write_integer_tests/src/kernel_values.rt`.
 #![tactic(auto, using(crate::proofs::PairBlocks::widths), unfolding(crate::specs::DecimalTurns::decimal_notes_32))]
 
 ghost use Rattle.std.specs.Prelude.{◌+◌, ◌-◌, ◌/◌, ◌^◌, ◌<◌, ◌≤◌, length};
@@ -13,7 +16,7 @@ ghost use Rattle.lexical_write_integer.specs.Buffer.{WritesDigits};
 ghost use Rattle.lexical_write_integer.specs.DecimalTurns.{WritesDecimal, decimal_notes_32, decimal_notes_64};
 ghost use Rattle.lexical_write_integer.specs.DigitCount.{digit_count};
 
-use crate::decimal_pairs::{write_first_pair, write_last_ten, write_pairs};
+use crate::decimal_pairs::{write_last_ten, write_one_or_two, write_pairs};
 pub use crate::kernels::{
     fixed_2, fixed_4, fixed_6, fixed_8_nine, fixed_8_ten, fixed_8_wide, next2,
 };
@@ -25,7 +28,7 @@ fn write_32(n: u32, buffer: &mut [u8], turns: &mut Turns) -> usize
     ensures { WritesDecimal n (decimal_notes_32 n) buffer.old buffer.new turns.old turns.new result }
 {
     if n < 100 {
-        write_first_pair(n, buffer)
+        write_one_or_two(n, buffer)
     } else if n < 10_000 {
         write_pairs(fixed_2(n), 1, buffer, turns)
     } else if n < 1_000_000 {
@@ -33,7 +36,7 @@ fn write_32(n: u32, buffer: &mut [u8], turns: &mut Turns) -> usize
     } else if n < 100_000_000 {
         write_pairs(fixed_6(n), 3, buffer, turns)
     } else {
-        // One call for both, so that the compiler has one copy of its body.
+        // Both kernels share one call, so the compiler makes one copy of its body.
         let fraction = if n < 1_000_000_000 {
             fixed_8_nine(n)
         } else {
@@ -43,8 +46,8 @@ fn write_32(n: u32, buffer: &mut [u8], turns: &mut Turns) -> usize
     }
 }
 
-// Writes the digits of a number. From 11 digits on the last ten are written by division, after
-// those before them.
+// Writes the digits of a number of up to 64 bits. If it has more than ten digits, the last ten are
+// written by division, after the digits before them.
 #[tactic(auto, using(crate::proofs::PairBlocks::widths), unfolding(crate::specs::DecimalTurns::decimal_notes_64))]
 fn write_64(n: u64, buffer: &mut [u8], turns: &mut Turns) -> usize
     requires { digit_count 10 n ≤ length buffer.old }
@@ -61,8 +64,8 @@ fn write_64(n: u64, buffer: &mut [u8], turns: &mut Turns) -> usize
     }
 }
 
-/// Writes the digits of a number to the front of the buffer, of at least 3 bytes, and returns how
-/// many they are.
+/// Writes the digits of a number to the start of the buffer, and returns their number. The buffer has
+/// room for 3 bytes.
 pub fn from_u8(n: u8, buffer: &mut [u8]) -> usize
     requires { 3 ≤ length buffer.old }
     ensures digits { WritesDigits 10 n buffer.old buffer.new result }
@@ -71,8 +74,8 @@ pub fn from_u8(n: u8, buffer: &mut [u8]) -> usize
     from_u8_counted(n, buffer, &mut Turns::new())
 }
 
-/// Writes the digits of a number to the front of the buffer, of at least 5 bytes, and returns how
-/// many they are.
+/// Writes the digits of a number to the start of the buffer, and returns their number. The buffer has
+/// room for 5 bytes.
 pub fn from_u16(n: u16, buffer: &mut [u8]) -> usize
     requires { 5 ≤ length buffer.old }
     ensures digits { WritesDigits 10 n buffer.old buffer.new result }
@@ -81,8 +84,8 @@ pub fn from_u16(n: u16, buffer: &mut [u8]) -> usize
     from_u16_counted(n, buffer, &mut Turns::new())
 }
 
-/// Writes the digits of a number to the front of the buffer, of at least 10 bytes, and returns how
-/// many they are.
+/// Writes the digits of a number to the start of the buffer, and returns their number. The buffer has
+/// room for 10 bytes.
 pub fn from_u32(n: u32, buffer: &mut [u8]) -> usize
     requires { 10 ≤ length buffer.old }
     ensures digits { WritesDigits 10 n buffer.old buffer.new result }
@@ -91,8 +94,8 @@ pub fn from_u32(n: u32, buffer: &mut [u8]) -> usize
     from_u32_counted(n, buffer, &mut Turns::new())
 }
 
-/// Writes the digits of a number to the front of the buffer, of at least 20 bytes, and returns how
-/// many they are.
+/// Writes the digits of a number to the start of the buffer, and returns their number. The buffer has
+/// room for 20 bytes.
 pub fn from_u64(n: u64, buffer: &mut [u8]) -> usize
     requires { 20 ≤ length buffer.old }
     ensures digits { WritesDigits 10 n buffer.old buffer.new result }
@@ -101,8 +104,8 @@ pub fn from_u64(n: u64, buffer: &mut [u8]) -> usize
     from_u64_counted(n, buffer, &mut Turns::new())
 }
 
-/// Writes the digits of a number below 10^19, as is the magnitude of each `i64`, to the front of
-/// the buffer, of at least 19 bytes, and returns how many they are.
+/// Writes the digits of a number to the start of the buffer, and returns their number. The number is
+/// below 10^19, as is the magnitude of each `i64`, and the buffer has room for 19 bytes.
 pub fn from_i64(n: u64, buffer: &mut [u8]) -> usize
     requires number { n < 10 ^ 19 }
     requires room { 19 ≤ length buffer.old }
@@ -112,7 +115,8 @@ pub fn from_i64(n: u64, buffer: &mut [u8]) -> usize
     from_i64_counted(n, buffer, &mut Turns::new())
 }
 
-/// `from_u8`, under the same condition, with its turns counted.
+/// Writes the digits as `from_u8` does, under the same condition, and records its iterations in the
+/// counter.
 pub fn from_u8_counted(n: u8, buffer: &mut [u8], turns: &mut Turns) -> usize
     requires { 3 ≤ length buffer.old }
     ensures writes { WritesDecimal n (decimal_notes_32 n) buffer.old buffer.new turns.old turns.new result }
@@ -121,13 +125,14 @@ pub fn from_u8_counted(n: u8, buffer: &mut [u8], turns: &mut Turns) -> usize
 {
     let number = u32::from(n);
     if number < 100 {
-        write_first_pair(number, buffer)
+        write_one_or_two(number, buffer)
     } else {
         write_pairs(fixed_2(number), 1, buffer, turns)
     }
 }
 
-/// `from_u16`, under the same condition, with its turns counted.
+/// Writes the digits as `from_u16` does, under the same condition, and records its iterations in the
+/// counter.
 pub fn from_u16_counted(n: u16, buffer: &mut [u8], turns: &mut Turns) -> usize
     requires { 5 ≤ length buffer.old }
     ensures writes { WritesDecimal n (decimal_notes_32 n) buffer.old buffer.new turns.old turns.new result }
@@ -137,7 +142,8 @@ pub fn from_u16_counted(n: u16, buffer: &mut [u8], turns: &mut Turns) -> usize
     write_32(u32::from(n), buffer, turns)
 }
 
-/// `from_u32`, under the same condition, with its turns counted.
+/// Writes the digits as `from_u32` does, under the same condition, and records its iterations in the
+/// counter.
 pub fn from_u32_counted(n: u32, buffer: &mut [u8], turns: &mut Turns) -> usize
     requires { 10 ≤ length buffer.old }
     ensures writes { WritesDecimal n (decimal_notes_32 n) buffer.old buffer.new turns.old turns.new result }
@@ -147,7 +153,8 @@ pub fn from_u32_counted(n: u32, buffer: &mut [u8], turns: &mut Turns) -> usize
     write_32(n, buffer, turns)
 }
 
-/// `from_u64`, under the same condition, with its turns counted.
+/// Writes the digits as `from_u64` does, under the same condition, and records its iterations in the
+/// counter.
 pub fn from_u64_counted(n: u64, buffer: &mut [u8], turns: &mut Turns) -> usize
     requires { 20 ≤ length buffer.old }
     ensures writes { WritesDecimal n (decimal_notes_64 n) buffer.old buffer.new turns.old turns.new result }
@@ -157,7 +164,8 @@ pub fn from_u64_counted(n: u64, buffer: &mut [u8], turns: &mut Turns) -> usize
     write_64(n, buffer, turns)
 }
 
-/// `from_i64`, under the same conditions, with its turns counted.
+/// Writes the digits as `from_i64` does, under the same conditions, and records its iterations in the
+/// counter.
 pub fn from_i64_counted(n: u64, buffer: &mut [u8], turns: &mut Turns) -> usize
     requires number { n < 10 ^ 19 }
     requires room { 19 ≤ length buffer.old }

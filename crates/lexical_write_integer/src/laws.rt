@@ -1,8 +1,8 @@
-//! The laws of numerals and texts. Each function does nothing: its contract is a law over the
-//! definitions, which a caller has from the call. No edit could turn an empty body; those of the
-//! crate `uses` turn callers that rest on a law.
+//! Laws on numerals and texts. The contract of each function is a law over the definitions. A caller
+//! obtains the law by calling the function, which does nothing at run time. An empty body cannot be
+//! changed to a wrong one, so the edits of the crate `uses` break callers that depend on a law instead.
 
-ghost use Rattle.std.specs.Prelude.{◌≡◌, ℕ, ◌+◌, ◌*◌, ◌/◌, ◌%◌, ◌^◌, ◌<◌, ◌≤◌, ◌↔◌, pos, ◌<ℤ◌, ◌≤ℤ◌, List, ◌++◌, length};
+ghost use Rattle.std.specs.Prelude.{◌≡◌, ℕ, ◌^◌, ◌<◌, ◌≤◌, ◌↔◌, pos, ◌<ℤ◌, ◌≤ℤ◌, List, length};
 ghost use Rattle.lexical_num.specs.Format.{IsRadix};
 ghost use Rattle.lexical_write_integer.specs.DigitCount.{digit_count};
 ghost use Rattle.lexical_write_integer.specs.Numeral.{IsNumeral, IsNumeralOf, IsBlockOf, value_of};
@@ -15,14 +15,14 @@ mod groups;
 mod room;
 
 pub use bytes::{digits_computed, padded_computed, text_computed, text_is_ascii, text_is_decimal};
-pub use comparison::{digits_tell, texts_tell};
+pub use comparison::{digits_equal_iff, texts_equal_iff};
 pub use groups::text_in_groups;
 use lexical_num::format::NumberFormat;
 use lexical_num::num::{LexicalInteger, UnsignedInteger};
-pub use room::{size_is_enough, text_length};
+pub use room::{size_suffices, text_length};
 
-/// The digit count of a number is the least count, of 1 or more, whose power of the radix the
-/// number is below. It is at most 64.
+/// A law: the digit count of a number is the smallest count, not 0, such that the number is below the
+/// radix to that power. It is at most 64.
 pub fn digit_count_is_least(radix: u32, value: u64)
     requires { IsRadix radix }
     ensures at_least_one { 1 ≤ digit_count radix value }
@@ -32,7 +32,8 @@ pub fn digit_count_is_least(radix: u32, value: u64)
     ensures at_most_64 { digit_count radix value ≤ 64 }
 {}
 
-/// A number below the radix to `count`, which is 1 or more, has at most `count` digits.
+/// A law: a number below the radix to the power of `count`, which is not 0, has at most `count` digits.
+/// `write_identifier` in `crates/uses/src/identifier.rt` is an example.
 pub fn digit_count_at_most(radix: u32, value: u64, count: u32)
     requires radix { IsRadix radix }
     requires some { 1 ≤ count }
@@ -40,7 +41,8 @@ pub fn digit_count_at_most(radix: u32, value: u64, count: u32)
     ensures { digit_count radix value ≤ count }
 {}
 
-/// A number has at most as many digits as its type has bits.
+/// A law: the digit count of a number is at most the number of bits of its type. `write_parts` in
+/// `crates/uses/src/float_parts.rt` is an example.
 pub fn digit_count_within_bits<T: UnsignedInteger>(radix: u32, value: T)
     requires { IsRadix radix }
     ensures { digit_count radix (T.magnitude value) ≤ T.BITS }
@@ -48,14 +50,14 @@ pub fn digit_count_within_bits<T: UnsignedInteger>(radix: u32, value: T)
     value.fits_bits();
 }
 
-/// Every number has a numeral, of as many digits as its digit count.
+/// A law: every number has a numeral, whose length is the digit count of the number.
 pub fn numeral_exists(radix: u32, value: u64)
     requires { IsRadix radix }
     ensures { (digits : List ℕ) × IsNumeralOf radix value digits
         × (length digits ≡ digit_count radix value) }
 {}
 
-/// Two numerals in one radix with one value are the same list.
+/// A law: two numerals with the same value in a radix are the same list of digits.
 pub fn numeral_unique(radix: u32, a: &[u8], b: &[u8])
     requires a { IsNumeral radix a.now }
     requires b { IsNumeral radix b.now }
@@ -63,19 +65,21 @@ pub fn numeral_unique(radix: u32, a: &[u8], b: &[u8])
     ensures { a.now ≡ b.now }
 {}
 
-/// Two numbers with the same digits in a radix are the same number.
+/// A law: two numbers with the same digits in a radix are equal. `same_counter` in
+/// `crates/uses/src/identifier.rt` is an example.
 pub fn equal_digits(radix: u32, a: u64, b: u64)
     ensures { (digits : List ℕ) → IsDigits radix a digits → IsDigits radix b digits → a ≡ b }
 {}
 
-/// Two numbers with one text in a format are the same number.
+/// A law: two numbers with the same text in a format are equal.
 pub fn equal_texts<T: LexicalInteger>(a: T, b: T, format: &NumberFormat)
     ensures { (text : List ℕ) → IsText (T.number a) format.now text
         → IsText (T.number b) format.now text → T.number a ≡ T.number b }
 {}
 
-/// Of two numbers that are not negative, the lesser is the one with the text that comes before:
-/// the shorter, or of two that are as long the earlier in the order of bytes.
+/// A law: of two numbers that are not negative, one is smaller if and only if its text comes before
+/// the other's. A shorter text comes before a longer one, and texts of the same length are compared
+/// byte by byte. `comes_before` in `crates/uses/src/sorted_keys.rt` is an example.
 pub fn order<T: LexicalInteger>(a: T, b: T, format: &NumberFormat)
     requires a { pos 0 ≤ℤ T.number a }
     requires b { pos 0 ≤ℤ T.number b }

@@ -1,21 +1,51 @@
-//! Integers to text, in every radix from 2 to 36.
+//! Writing integers as text, in every radix from 2 to 36.
+//!
+//! `to_lexical` writes a number in decimal to the start of a buffer and returns its text. No other byte
+//! of the buffer changes:
+//!
+//! ```
+//! let mut buffer = [7u8; 20];
+//! let text = 1234u64.to_lexical(&mut buffer);
+//! assert_eq!(rt; &*text, b"1234".as_slice());
+//! assert!(rt; buffer[4..].iter().all(|byte| *byte == 7));
+//! ```
+//!
+//! `to_lexical_with_options` writes it in a format, with a required sign, in another radix or in groups:
+//!
+//! ```
+//! let signed = NumberFormatBuilder::new()
+//!     .required_mantissa_sign(true)
+//!     .build_strict();
+//! let text = 127i8.to_lexical_with_options(&mut buffer, &signed, &Options::new());
+//! assert_eq!(rt; &*text, b"+127".as_slice());
+//! ```
+//!
+//! These lines are from `a_first_use` in `crates/uses/src/tests.rt`. The crate `uses` has further
+//! examples, and the documentation of most calls names one of them.
+//!
+//! # Words
+//!
+//! The *text* of a number is its sign and then its digits, in the groups of the format if it has any.
+//! The *required length* of a number, which contracts call `need`, is the length of the shortest buffer
+//! that its writer takes. The *mark* is the separator between two groups. A *turn* is an iteration of a
+//! writer's loop, and its *note* is the number that the iteration records in a counter of type `Turns`.
 #![tactic(auto)]
 
-// A number with its sign, in a format: the calls that most callers want.
+// The texts of numbers: the calls that most callers want.
 mod api;
 mod integers;
 pub mod options;
 
-// The digits of a number, by the writer of the radix.
+// The digits of a number in any radix, without a sign.
 pub mod write;
 
-// In radix 10: `decimal` goes by `jeaiii`, whose kernels give two digits at a time.
+// Radix 10: `decimal` calls `jeaiii`, whose kernels produce two digits at a time.
 pub mod decimal;
 mod decimal_pairs;
 pub mod jeaiii;
 mod kernels;
 
-// In every other radix: `radix` goes by `algorithm`, which writes four digits at a time from a table.
+// Every other radix: `radix` calls `algorithm`, which writes four digits at a time from a table.
 pub mod algorithm;
 pub mod radix;
 mod radixes;
@@ -23,24 +53,24 @@ mod table_writer;
 
 pub use lexical_tables as table;
 
-// In every radix, by little code.
+// Every radix, in little code.
 pub mod compact;
 
-// In every radix, with leading zeros to a fixed width.
+// Every radix, with leading zeros to a fixed width.
 pub mod padded;
 
-// How many digits a number has.
+// The number of digits of a number.
 pub mod digit_count;
 mod logarithm;
 
-// What is written gets its groups, and is handed back.
+// The start of a buffer, and the groups of the digits there.
 pub mod buffer;
 mod groups;
 
-// The turns of the loops, which contracts alone see.
+// The iterations of the loops, which only contracts see.
 pub mod turns;
 
-// Facts for callers.
+// Laws for callers.
 pub mod laws;
 
 pub use api::{ToLexical, ToLexicalWithOptions};

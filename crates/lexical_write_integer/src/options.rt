@@ -1,3 +1,3 @@
-//! The options of writing an integer, of which there are none so far.
+//! The options of writing an integer, which have no fields yet.
 
 pub use lexical_num::options::{Options, OptionsBuilder, STANDARD, WriteOptions};

@@ -8,16 +8,16 @@ ghost use Rattle.lexical_write_integer.specs.Padded.{IsPadded};
 use crate::digit_count::DigitCount;
 use crate::radix::Radix;
 
-// Writes a zero to each byte of the buffer.
+// Writes the character `0` to each byte of the buffer.
 fn write_zeros(buffer: &mut [u8])
     ensures { buffer.new ≡ replicate (length buffer.old) 48 }
 {
     buffer.fill(b'0');
 }
 
-/// Writes the number in as many digits as the buffer has bytes, with leading zeros if it has fewer,
-/// and returns how many they are. The radix is from 2 to 36, and the number is below the radix to
-/// the length of the buffer.
+/// Writes the number with leading zeros over the whole buffer, and returns the length of the buffer.
+/// The radix is from 2 to 36, and the number is below the radix to the power of that length.
+/// `write_percentage` in `crates/uses/src/percentage.rt` is an example.
 pub fn write_padded<T: DigitCount + Radix>(value: T, radix: u32, buffer: &mut [u8]) -> usize
     requires radix { IsRadix radix }
     requires fits { T.magnitude value < radix ^ length buffer.old }
@@ -25,7 +25,7 @@ pub fn write_padded<T: DigitCount + Radix>(value: T, radix: u32, buffer: &mut [u
         buffer.old buffer.new result }
     ensures width { result ≡ length buffer.old }
 {
-    // Even 0 has a digit, for which there is no byte here.
+    // The number is 0 here, and its digit does not fit in an empty buffer.
     if buffer.is_empty() {
         return 0;
     }

@@ -1,4 +1,4 @@
-//! Numbers to text in every radix, by the tables of pairs.
+//! Writing the digits of a number in any radix, from the tables of digit pairs.
 
 ghost use Rattle.std.specs.Prelude.{◌≤◌, length};
 ghost use Rattle.lexical_num.specs.Format.{IsRadix};
@@ -10,7 +10,7 @@ use crate::digit_count::DigitCount;
 use lexical_num::num::UnsignedInteger;
 use lexical_tables::get_table;
 
-// Lends the table writer the table of the radix.
+// Calls the table writer with the table of the radix.
 fn write_by_table<T: DigitCount>(value: T, radix: u32, buffer: &mut [u8]) -> usize
     requires radix { IsRadix radix }
     requires room { digit_count radix (T.magnitude value) ≤ length buffer.old }
@@ -20,10 +20,11 @@ fn write_by_table<T: DigitCount>(value: T, radix: u32, buffer: &mut [u8]) -> usi
     algorithm(value, radix, get_table(radix), buffer)
 }
 
-/// An unsigned integer type whose numbers are written by the table writer.
+/// An unsigned integer type whose digits are written by the table writer.
 pub trait Radix: UnsignedInteger {
-    /// Writes the digits of the number to the front of the buffer, and returns how many they are.
-    /// The radix is from 2 to 36, and the buffer has room for the digits.
+    /// Writes the digits of the number to the start of the buffer, and returns their number. The radix
+    /// is from 2 to 36, and the buffer has room for the digits. `write_identifier` in
+    /// `crates/uses/src/identifier.rt` is an example.
     fn radix(self, radix: u32, buffer: &mut [u8]) -> usize
         requires radix { IsRadix radix }
         requires room { digit_count radix (Self.magnitude self) ≤ length buffer.old }

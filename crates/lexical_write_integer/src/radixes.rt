@@ -1,7 +1,7 @@
-// The choice of the code for a radix.
+// Choosing the code of a radix.
 
-// Calls a function that is generic over the radix, in the arm of this radix, which is from 2 to 36: so it
-// divides by a constant.
+// Calls the instance for this radix, which is from 2 to 36, of a function that is generic over the radix.
+// Each instance divides by a constant.
 macro_rules! by_radix {
     ($radix:expr, $run:ident($($argument:expr),*)) => {
         match $radix {

@@ -1,16 +1,18 @@
-// The digits of a number, four a turn, by a table of the pairs of digits of the radix.
+// Writing the digits of a number, four per iteration, from a table of the digit pairs of the radix.
 
-ghost use Rattle.std.specs.Prelude.{◌≡◌, ℕ, ◌+◌, ◌-◌, ◌*◌, ◌/◌, ◌%◌, ◌^◌, ◌<◌, ◌≤◌, ◌++◌, [], ◌∷◌, false, length, drop, slice_index};
+ghost use Rattle.std.specs.Prelude.{◌≡◌, ℕ, ◌+◌, ◌-◌, ◌*◌, ◌/◌, ◌%◌, ◌^◌, ◌<◌, ◌≤◌};
+ghost use Rattle.std.specs.Prelude.{◌++◌, [], ◌∷◌, false, length, slice_index};
 ghost use Rattle.lexical_num.specs.Format.{IsRadix};
 ghost use Rattle.lexical_write_integer.specs.Buffer.{WritesBlock, WritesDigits};
 ghost use Rattle.lexical_write_integer.specs.DigitCount.{digit_count};
 ghost use Rattle.lexical_write_integer.specs.Table.{BeginsWithPairs};
-ghost use Rattle.lexical_write_integer.specs.LoopTurns.{TakesDigits, count_notes, digits_after_first, is_counted_at_once, table_notes};
+ghost use Rattle.lexical_write_integer.specs.LoopTurns.{TakesDigits, count_notes, table_notes};
+ghost use Rattle.lexical_write_integer.specs.LoopTurns.{digits_after_first, is_counted_at_once};
 
 use crate::digit_count::digit_count_counted;
 use crate::turns::Turns;
 
-// The table of a radix, which begins with its pairs of digits.
+// A table that begins with the digit pairs of the radix `R`.
 #[derive(Drop)]
 struct RadixTable<'a, const R: u32> {
     pairs: &'a [u8],
@@ -18,7 +20,8 @@ struct RadixTable<'a, const R: u32> {
     ghost begins: { BeginsWithPairs R pairs.now },
 }
 
-// Copies the pair at an index of the table, which is twice the pair's number.
+// Copies the pair at `index` of the table to index `at` of the buffer. The index is twice the number whose
+// digits the pair is.
 fn write_pair<const R: u32>(index: usize, table: &RadixTable<'_, R>, buffer: &mut [u8], at: usize)
     requires even { index % 2 ≡ 0 }
     requires pair { index / 2 < R * R }
@@ -31,9 +34,9 @@ fn write_pair<const R: u32>(index: usize, table: &RadixTable<'_, R>, buffer: &mu
     buffer[at] = first;
 }
 
-// A turn of the writer: the last four digits of a number, as two pairs. `left` is what stands before
-// them.
-fn write_turn<const R: u32>(
+// Writes the last four digits of a number at index `at`, as two pairs, and records `left`, which is the
+// number without them.
+fn write_last_four<const R: u32>(
     number: u64,
     left: u64,
     table: &RadixTable<'_, R>,
@@ -53,9 +56,9 @@ fn write_turn<const R: u32>(
     turns.tick(left);
 }
 
-// Takes two digits off a number of up to four digits, if it has more than two. It returns what is
-// left, and how many digits were taken.
-fn take_two<const R: u32>(number: u32, turns: &mut Turns) -> (u32, usize)
+// Removes the last two digits of a number of up to four digits, if it has more than two, and records the
+// quotient. Returns the remaining number and the number of digits that were removed.
+fn take_two_digits<const R: u32>(number: u32, turns: &mut Turns) -> (u32, usize)
     requires radix { IsRadix R }
     requires short { number < R ^ 4 }
     ensures { TakesDigits R number 2 result.1 result.0 turns.old turns.new }
@@ -70,9 +73,9 @@ fn take_two<const R: u32>(number: u32, turns: &mut Turns) -> (u32, usize)
     }
 }
 
-// Takes one digit off a number of up to two digits, if the quotient is not 0, and returns how many digits
-// were taken.
-fn take_last(number: u32, radix: u32, turns: &mut Turns) -> usize
+// Removes the last digit of a number of up to two digits, if it has two, and records the quotient. Returns
+// the number of digits that were removed.
+fn take_last_digit(number: u32, radix: u32, turns: &mut Turns) -> usize
     requires radix { IsRadix radix }
     requires short { number < radix ^ 2 }
     ensures { (left : ℕ) × TakesDigits radix number 1 result left turns.old turns.new }
@@ -86,9 +89,9 @@ fn take_last(number: u32, radix: u32, turns: &mut Turns) -> usize
     }
 }
 
-// Takes four digits a turn off a number while it has more, and keeps what each turn leaves. It
-// returns what is left, and how many turns there were.
-fn keep_quotients<const R: u32>(value: u64, kept: &mut [u64], turns: &mut Turns) -> (u32, usize)
+// Removes the last four digits of a number per iteration, while it has more than four, and saves and
+// records each quotient. Returns the remaining number and the number of quotients.
+fn save_quotients<const R: u32>(value: u64, kept: &mut [u64], turns: &mut Turns) -> (u32, usize)
     requires radix { IsRadix R }
     requires room { value < R ^ (4 * (length kept.old + 1)) }
     ensures taken { TakesDigits R value 4 (4 * result.1) result.0 turns.old turns.new }
@@ -108,8 +111,8 @@ fn keep_quotients<const R: u32>(value: u64, kept: &mut [u64], turns: &mut Turns)
     (rest as u32, count)
 }
 
-// Writes the digits that the kept turns took off a number, before the buffer's end.
-fn write_kept<const R: u32>(
+// Writes, four at a time, the digits that the saved quotients determine, at the end of the buffer.
+fn write_from_quotients<const R: u32>(
     value: u64,
     kept: &[u64],
     table: &RadixTable<'_, R>,
@@ -128,14 +131,14 @@ fn write_kept<const R: u32>(
     let mut at = buffer.len();
     for next in kept {
         at -= 4;
-        write_turn(left, *next, table, buffer, at, turns);
+        write_last_four(left, *next, table, buffer, at, turns);
         left = *next;
     }
 }
 
-// Writes the one or two digits of a number to the front, without a branch: if it has one digit, this
-// is written twice.
-fn write_first(number: u32, digits: usize, radix: u32, table: &[u8], buffer: &mut [u8])
+// Writes the one or two digits of a number to the start of the buffer, without a branch: a single digit is
+// written twice, to the same byte.
+fn write_one_or_two(number: u32, digits: usize, radix: u32, table: &[u8], buffer: &mut [u8])
     requires radix { IsRadix radix }
     requires table { BeginsWithPairs radix table.now }
     requires short { number < radix * radix }
@@ -146,15 +149,15 @@ fn write_first(number: u32, digits: usize, radix: u32, table: &[u8], buffer: &mu
     let index = 2 * number as usize;
     let first = table[index];
     let second = table[index + 1];
-    // Both bytes are read before one is written, so that the choice is no branch.
+    // Both bytes are read before one is written, so the choice compiles to no branch.
     buffer[digits - 1] = second;
     let front = if number < radix { second } else { first };
     buffer[0] = front;
 }
 
-// Writes the one to four digits of a number to the front, without a branch that guesses how many: the
-// last two first, and over these, if it has no more, its one or two digits.
-fn write_head<const R: u32>(
+// Writes the one to four digits of a number to the start of the buffer, without a branch on how many there
+// are. The last two are written first. If the number has only those, they are written again.
+fn write_up_to_four<const R: u32>(
     number: u32,
     digits: usize,
     table: &RadixTable<'_, R>,
@@ -167,16 +170,16 @@ fn write_head<const R: u32>(
     ensures written { WritesBlock R digits number 0 buffer.old buffer.new }
     ensures taken { (taken left : ℕ) × TakesDigits R number 2 taken left turns.old turns.new }
 {
-    let (left, taken) = take_two::<R>(number, turns);
+    let (left, taken) = take_two_digits::<R>(number, turns);
     let index = 2 * (number % (R * R)) as usize;
     let first = table.pairs[index];
     let second = table.pairs[index + 1];
     buffer[digits - 1] = second;
     buffer[digits.saturating_sub(2)] = first;
-    write_first(left, digits - taken, R, table.pairs, buffer);
+    write_one_or_two(left, digits - taken, R, table.pairs, buffer);
 }
 
-// Writes a number that is counted by divisions, whose quotients are kept for the writer.
+// Writes a number whose digits are counted by division, and saves the quotients for the writer.
 #[tactic(auto, using(crate::proofs::RadixPowers::steps))]
 fn write_by_divisions<const R: u32, const QUOTIENTS: usize>(
     value: u64,
@@ -192,19 +195,19 @@ fn write_by_divisions<const R: u32, const QUOTIENTS: usize>(
     ensures notes { turns.new ≡ turns.old ++ table_notes R value }
 {
     let mut kept = [0; QUOTIENTS];
-    let (left, fours) = keep_quotients::<R>(value, &mut kept, turns);
-    let (short, by_two) = take_two::<R>(left, turns);
-    let head = 1 + by_two + take_last(short, R, turns);
+    let (left, fours) = save_quotients::<R>(value, &mut kept, turns);
+    let (short, by_two) = take_two_digits::<R>(left, turns);
+    let head = 1 + by_two + take_last_digit(short, R, turns);
     let count = 4 * fours + head;
     let digits = &mut buffer[..count];
-    write_kept(value, &kept[..fours], table, digits, turns);
-    write_head(left, head, table, digits, turns);
+    write_from_quotients(value, &kept[..fours], table, digits, turns);
+    write_up_to_four(left, head, table, digits, turns);
     count
 }
 
-// Writes a number after its digits are counted: four digits a turn, while it has more, and then what is
-// left.
-fn write_counted<const R: u32>(
+// Writes a number whose digits are counted first: four digits per iteration while it has more than four, and
+// then the others.
+fn write_after_count<const R: u32>(
     value: u64,
     table: &RadixTable<'_, R>,
     buffer: &mut [u8],
@@ -222,15 +225,16 @@ fn write_counted<const R: u32>(
     while at > 4 {
         let next = left / power;
         at -= 4;
-        write_turn(left, next, table, buffer, at, turns);
+        write_last_four(left, next, table, buffer, at, turns);
         left = next;
     }
-    write_head(left as u32, at, table, buffer, turns);
+    write_up_to_four(left as u32, at, table, buffer, turns);
     count
 }
 
-// Writes a number in a radix whose table begins with its pairs of digits. At most one quotient is to be
-// kept of a number of up to eight digits, and of one of 64 bits ten, in radix 3; from radix 17 on three.
+// Writes a number in the radix `R`, with a table that begins with its digit pairs. A number of up to eight
+// digits has at most one quotient to save. One of 64 bits has at most ten, as in radix 3, and at most three
+// in radix 17 and above.
 pub(crate) fn write_digits<const R: u32>(
     value: u64,
     table: &[u8],
@@ -245,7 +249,7 @@ pub(crate) fn write_digits<const R: u32>(
 {
     let table = RadixTable::<R> { pairs: table };
     if R == 2 || R == 4 || R == 8 || R == 10 || R == 16 || R == 32 {
-        return write_counted(value, &table, buffer, turns);
+        return write_after_count(value, &table, buffer, turns);
     }
     let square = u64::from(R * R);
     let power = square * square;
@@ -258,8 +262,8 @@ pub(crate) fn write_digits<const R: u32>(
     }
 }
 
-// How many digits a number of one or two digits has, in a radix from 16 on. Of these all but two count
-// by a division.
+// Returns the number of digits of a number of one or two digits, in radix 16 and above. It is counted by
+// division except in radix 16 and 32.
 fn count_short(value: u32, radix: u32, turns: &mut Turns) -> usize
     requires radix { IsRadix radix }
     requires great { 16 ≤ radix }
@@ -270,10 +274,10 @@ fn count_short(value: u32, radix: u32, turns: &mut Turns) -> usize
     if radix == 16 || radix == 32 {
         return if value < radix { 1 } else { 2 };
     }
-    1 + take_last(value, radix, turns)
+    1 + take_last_digit(value, radix, turns)
 }
 
-// Writes a number of one or two digits, in a radix from 16 on.
+// Writes a number of one or two digits, in radix 16 and above.
 pub(crate) fn write_short(
     value: u32,
     radix: u32,
@@ -290,6 +294,6 @@ pub(crate) fn write_short(
     ensures notes { turns.new ≡ turns.old ++ table_notes radix value }
 {
     let count = count_short(value, radix, turns);
-    write_first(value, count, radix, table, buffer);
+    write_one_or_two(value, count, radix, table, buffer);
     count
 }

@@ -1,12 +1,12 @@
-//! Counters of turns, which only contracts read.
+//! A counter of loop iterations, which only contracts read. `crates/uses/src/turn_lists.rt` has examples.
 
 ghost use Rattle.std.specs.Prelude.{◌≡◌, ℕ, List, [], ◌∷◌, ◌++◌};
 
 use std::marker::{Model, PhantomData};
 use std::mem::size_of;
 
-/// The notes of the turns so far, in order: a number for each. It takes no bytes at run time, and
-/// has no greatest length.
+/// A counter of loop iterations (turns). Contracts see it as a list of numbers (notes), one for each
+/// iteration, in order. The list has no maximum length, and the counter has no data at run time.
 #[derive(Drop)]
 pub struct Turns {
     marker: PhantomData<()>,
@@ -27,7 +27,7 @@ impl Model for Turns {
 const _: () = prove!(size_of::<Turns>() == 0);
 
 impl Turns {
-    /// A counter with no turn.
+    /// Returns an empty counter.
     pub fn new() -> Turns
         ensures { result ≡ [] }
     {
@@ -36,7 +36,7 @@ impl Turns {
         }
     }
 
-    /// Adds a turn and its note. It does nothing at run time.
+    /// Appends the number that an iteration records. It does nothing at run time.
     pub fn tick(&mut self, note: u64)
         ensures { self.new ≡ self.old ++ note ∷ [] }
     {}

@@ -1,4 +1,5 @@
-//! The writer of every radix: in radix 10 the decimal writer, and else the table writer.
+//! Writing the digits of a number in any radix: with the decimal writer in radix 10, and otherwise with
+//! the table writer.
 
 ghost use Rattle.std.specs.Prelude.{◌≡◌, ◌+◌, ◌^◌, ◌<◌, ◌≤◌, ◌++◌, length};
 ghost use Rattle.lexical_num.specs.Format.{IsRadix};
@@ -16,9 +17,10 @@ use lexical_num::format::NumberFormat;
 use lexical_num::num::{LexicalInteger, UnsignedInteger};
 use lexical_tables::get_table;
 
-/// Writes the digits of the number to the front of the buffer, and returns how many they are. The
-/// radix is from 2 to 36. In radix 10 the buffer has at least `DECIMAL_WIDTH` bytes, else room for
-/// the digits. The counter gets the notes of the writer: at most 21, and in radix 10 at most 9.
+/// Writes the digits of the number to the start of the buffer, and returns their number. The radix is
+/// from 2 to 36. The buffer has room for `DECIMAL_WIDTH` bytes in radix 10, and for the digits in
+/// another radix. The writer records its iterations in the counter: at most 9 in radix 10, and at most
+/// 21 in any radix.
 pub fn write_integer_counted<T: Decimal + DigitCount>(
     value: T,
     radix: u32,
@@ -42,8 +44,9 @@ pub fn write_integer_counted<T: Decimal + DigitCount>(
     }
 }
 
-// The same for the magnitude of a number of a signed type, which has room for fewer digits.
-fn write_magnitude<T: Decimal + Radix>(value: T, radix: u32, buffer: &mut [u8]) -> usize
+// Writes the digits of the magnitude of a signed number. In radix 10 the magnitude has fewer digits, and
+// the buffer has room for `SIGNED_WIDTH` bytes.
+fn write_signed_magnitude<T: Decimal + Radix>(value: T, radix: u32, buffer: &mut [u8]) -> usize
     requires radix { IsRadix radix }
     requires number { radix ≡ 10 → T.magnitude value < 10 ^ T.SIGNED_WIDTH }
     requires room { digits_need radix (T.magnitude value) T.SIGNED_WIDTH ≤ length buffer.old }
@@ -58,12 +61,15 @@ fn write_magnitude<T: Decimal + Radix>(value: T, radix: u32, buffer: &mut [u8]) 
     }
 }
 
-/// An unsigned integer type whose numbers are written in each radix. Each call writes the digits of
-/// the number to the front of the buffer, without a sign, and returns how many they are. In radix 10
-/// the buffer has at least `DECIMAL_WIDTH` bytes, or for the `_signed` calls at least `SIGNED_WIDTH`,
-/// and the number of these is below 10^`SIGNED_WIDTH`; in another radix it has room for the digits.
+/// An unsigned integer type whose numbers are written in every radix.
+///
+/// Each method writes the digits of the number to the start of the buffer, without a sign, and returns
+/// their number. The buffer has room for `DECIMAL_WIDTH` bytes in radix 10, and for the digits in
+/// another radix. In radix 10 the `_signed` methods write numbers below 10^`SIGNED_WIDTH`, and their
+/// buffer has room for `SIGNED_WIDTH` bytes. `write_parts` in `crates/uses/src/float_parts.rt` is an
+/// example.
 pub trait WriteInteger: Decimal + Radix {
-    /// In a radix from 2 to 36.
+    /// Writes the digits in a radix from 2 to 36.
     fn write_integer(self, radix: u32, buffer: &mut [u8]) -> usize
         requires radix { IsRadix radix }
         requires room { digits_need radix (Self.magnitude self) Self.DECIMAL_WIDTH
@@ -71,7 +77,7 @@ pub trait WriteInteger: Decimal + Radix {
         ensures digits { WritesDigits radix (Self.magnitude self) buffer.old buffer.new result }
         ensures short { result ≤ Self.BITS };
 
-    /// In a radix from 2 to 36, of the magnitude of a signed number.
+    /// Writes the digits of the magnitude of a signed number in a radix from 2 to 36.
     fn write_integer_signed(self, radix: u32, buffer: &mut [u8]) -> usize
         requires radix { IsRadix radix }
         requires number { radix ≡ 10 → Self.magnitude self < 10 ^ Self.SIGNED_WIDTH }
@@ -80,7 +86,7 @@ pub trait WriteInteger: Decimal + Radix {
         ensures digits { WritesDigits radix (Self.magnitude self) buffer.old buffer.new result }
         ensures short { result ≤ Self.BITS };
 
-    /// In the mantissa radix of the format.
+    /// Writes the digits in the mantissa radix of the format.
     fn write_mantissa(self, format: &NumberFormat, buffer: &mut [u8]) -> usize
         requires { digits_need format.now.mantissa_radix (Self.magnitude self) Self.DECIMAL_WIDTH
             ≤ length buffer.old }
@@ -91,7 +97,7 @@ pub trait WriteInteger: Decimal + Radix {
         self.write_integer(format.mantissa_radix(), buffer)
     }
 
-    /// In the mantissa radix of the format, of the magnitude of a signed number.
+    /// Writes the digits of the magnitude of a signed number in the mantissa radix of the format.
     fn write_mantissa_signed(self, format: &NumberFormat, buffer: &mut [u8]) -> usize
         requires number { format.now.mantissa_radix ≡ 10
             → Self.magnitude self < 10 ^ Self.SIGNED_WIDTH }
@@ -104,7 +110,7 @@ pub trait WriteInteger: Decimal + Radix {
         self.write_integer_signed(format.mantissa_radix(), buffer)
     }
 
-    /// In the exponent radix of the format.
+    /// Writes the digits in the exponent radix of the format.
     fn write_exponent(self, format: &NumberFormat, buffer: &mut [u8]) -> usize
         requires { digits_need format.now.exponent_radix (Self.magnitude self) Self.DECIMAL_WIDTH
             ≤ length buffer.old }
@@ -115,7 +121,7 @@ pub trait WriteInteger: Decimal + Radix {
         self.write_integer(format.exponent_radix(), buffer)
     }
 
-    /// In the exponent radix of the format, of the magnitude of a signed number.
+    /// Writes the digits of the magnitude of a signed number in the exponent radix of the format.
     fn write_exponent_signed(self, format: &NumberFormat, buffer: &mut [u8]) -> usize
         requires number { format.now.exponent_radix ≡ 10
             → Self.magnitude self < 10 ^ Self.SIGNED_WIDTH }
@@ -135,7 +141,7 @@ impl WriteInteger for u8 {
     }
 
     fn write_integer_signed(self, radix: u32, buffer: &mut [u8]) -> usize {
-        write_magnitude(self, radix, buffer)
+        write_signed_magnitude(self, radix, buffer)
     }
 }
 
@@ -145,7 +151,7 @@ impl WriteInteger for u16 {
     }
 
     fn write_integer_signed(self, radix: u32, buffer: &mut [u8]) -> usize {
-        write_magnitude(self, radix, buffer)
+        write_signed_magnitude(self, radix, buffer)
     }
 }
 
@@ -155,7 +161,7 @@ impl WriteInteger for u32 {
     }
 
     fn write_integer_signed(self, radix: u32, buffer: &mut [u8]) -> usize {
-        write_magnitude(self, radix, buffer)
+        write_signed_magnitude(self, radix, buffer)
     }
 }
 
@@ -165,7 +171,7 @@ impl WriteInteger for u64 {
     }
 
     fn write_integer_signed(self, radix: u32, buffer: &mut [u8]) -> usize {
-        write_magnitude(self, radix, buffer)
+        write_signed_magnitude(self, radix, buffer)
     }
 }
 
@@ -175,6 +181,6 @@ impl WriteInteger for usize {
     }
 
     fn write_integer_signed(self, radix: u32, buffer: &mut [u8]) -> usize {
-        write_magnitude(self, radix, buffer)
+        write_signed_magnitude(self, radix, buffer)
     }
 }

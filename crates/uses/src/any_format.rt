@@ -4,7 +4,7 @@ ghost use Rattle.std.specs.Prelude.{◌≡◌, ◌↔◌, ◌≤◌, IsSome, IfS
 ghost use Rattle.lexical_num.specs.Size.{size_in};
 ghost use Rattle.lexical_write_integer.specs.Text.{IsText};
 
-use lexical_write_integer::laws::{size_is_enough, texts_tell};
+use lexical_write_integer::laws::{size_suffices, texts_equal_iff};
 use lexical_write_integer::{
     BUFFER_SIZE, NumberFormat, Options, ToLexicalWithOptions, WriteOptions,
 };
@@ -17,7 +17,7 @@ pub fn text_of_i64<'a>(
 ) -> &'a [u8]
     ensures { IsText number format.now result.now }
 {
-    size_is_enough(number, format);
+    size_suffices(number, format);
     number.to_lexical_with_options(buffer, format, &Options::new())
 }
 
@@ -30,7 +30,7 @@ pub fn text_of_any<'a, T: ToLexicalWithOptions>(
 ) -> &'a [u8]
     ensures { IsText (T.number number) format.now result.now }
 {
-    size_is_enough(number, format);
+    size_suffices(number, format);
     number.to_lexical_with_options(buffer, format, options)
 }
 
@@ -46,7 +46,7 @@ pub fn text_if_room<'a, T: ToLexicalWithOptions>(
         ↔ (size_in T.FORMATTED_SIZE T.FORMATTED_SIZE_DECIMAL format.now ≤ length buffer.old) }
     ensures text { IfSome result (λ text. IsText (T.number number) format.now text.now) }
 {
-    size_is_enough(number, format);
+    size_suffices(number, format);
     if buffer.len() < options.buffer_size::<T>(format) {
         return None;
     }
@@ -62,6 +62,6 @@ pub fn have_same_text(a: i64, b: i64, format: &NumberFormat) -> bool
     let mut second = [0; BUFFER_SIZE];
     let first = text_of_i64(a, format, &mut first);
     let second = text_of_i64(b, format, &mut second);
-    texts_tell(a, b, format, first, second);
+    texts_equal_iff(a, b, format, first, second);
     first == second
 }

@@ -6,7 +6,7 @@ ghost use Rattle.lexical_write_integer.specs.Text.{IsText};
 
 use lexical_write_integer::ToLexical;
 use lexical_write_integer::format::STANDARD;
-use lexical_write_integer::laws::texts_tell;
+use lexical_write_integer::laws::texts_equal_iff;
 
 /// Writes the number in decimal to the start of the arena, and returns its text and the bytes after
 /// it. The arena must have room for 20 bytes.
@@ -28,6 +28,6 @@ pub fn have_same_kept_texts(a: u64, b: u64) -> bool
     let mut arena = [0; 40];
     let (first, rest) = keep_text(a, &mut arena);
     let (second, _) = keep_text(b, rest);
-    texts_tell(a, b, &STANDARD, first, second);
+    texts_equal_iff(a, b, &STANDARD, first, second);
     *first == *second
 }

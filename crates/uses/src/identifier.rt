@@ -4,7 +4,7 @@ ghost use Rattle.std.specs.Prelude.{◌≡◌, ◌≤◌, ◌↔◌, IsTrue, Lis
 ghost use Rattle.lexical_write_integer.specs.Buffer.{WritesDigits};
 ghost use Rattle.lexical_write_integer.specs.Text.{IsDigits};
 
-use lexical_write_integer::laws::{digit_count_at_most, digits_tell, equal_digits};
+use lexical_write_integer::laws::{digit_count_at_most, digits_equal_iff, equal_digits};
 use lexical_write_integer::radix::Radix;
 
 /// Writes the identifier of the counter to the start of the buffer, and returns its length, at most
@@ -42,6 +42,6 @@ pub fn have_same_identifier(a: u64, b: u64) -> bool
     let mut second = [0; 13];
     let first = identifier(a, &mut first);
     let second = identifier(b, &mut second);
-    digits_tell(36, a, b, first, second);
+    digits_equal_iff(36, a, b, first, second);
     first == second
 }

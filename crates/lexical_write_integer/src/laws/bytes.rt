@@ -1,4 +1,4 @@
-//! Which bytes the text of a number is.
+//! Laws on the bytes of a text.
 
 ghost use Rattle.std.specs.Prelude.{◌≡◌, ◌^◌, ◌<◌, ◌↔◌};
 ghost use Rattle.std.specs.Fmt.{signed_decimal};
@@ -11,7 +11,8 @@ ghost use Rattle.lexical_write_integer.specs.Text.{IsDigits, IsText};
 use lexical_num::format::NumberFormat;
 use lexical_num::num::LexicalInteger;
 
-/// The bytes of a text are ASCII, and so they are UTF-8.
+/// A law: the text of a number is ASCII, and therefore UTF-8. `printed` in
+/// `crates/uses/src/printed.rt` is an example.
 pub fn text_is_ascii<T: LexicalInteger>(number: T, format: &NumberFormat, text: &[u8])
     requires { IsText (T.number number) format.now text.now }
     ensures ascii { IsAscii text.now }
@@ -20,7 +21,8 @@ pub fn text_is_ascii<T: LexicalInteger>(number: T, format: &NumberFormat, text: 
     format.is_valid();
 }
 
-/// The text of a number in decimal, without a required sign and without groups, is what `{}` prints.
+/// A law: the text of a number in decimal, without a required sign and without groups, is what `{}`
+/// prints. `printed` in `crates/uses/src/printed.rt` is an example.
 pub fn text_is_decimal<T: LexicalInteger>(number: T, text: &[u8])
     requires { IsText (T.number number) standard text.now }
     ensures { text.now ≡ signed_decimal (T.number number) }
@@ -28,13 +30,15 @@ pub fn text_is_decimal<T: LexicalInteger>(number: T, text: &[u8])
     number.in_range();
 }
 
-/// The digits of a number are the list that `digits_text` computes, and no other.
+/// A law: the bytes of `text` are the digits of a number if and only if they are the list that
+/// `digits_text` computes. `white` in `crates/uses/src/fixed_texts.rt` is an example.
 pub fn digits_computed(radix: u32, value: u64, text: &[u8])
     requires { IsRadix radix }
     ensures { IsDigits radix value text.now ↔ (text.now ≡ digits_text radix value) }
 {}
 
-/// The text of a number is the list that `text_of` computes, and no other.
+/// A law: the bytes of `text` are the text of a number if and only if they are the list that `text_of`
+/// computes. `million` in `crates/uses/src/fixed_texts.rt` is an example.
 pub fn text_computed<T: LexicalInteger>(number: T, format: &NumberFormat, text: &[u8])
     ensures { IsText (T.number number) format.now text.now
         ↔ (text.now ≡ text_of (T.number number) format.now) }
@@ -43,8 +47,8 @@ pub fn text_computed<T: LexicalInteger>(number: T, format: &NumberFormat, text: 
     format.is_valid();
 }
 
-/// The text of a number with leading zeros is the list that `padded_text` computes, and no other. The
-/// number is below the radix to the width.
+/// A law: the bytes of `text` are a number with leading zeros if and only if they are the list that
+/// `padded_text` computes. The number is below the radix to the power of the width.
 pub fn padded_computed(radix: u32, width: usize, value: u64, text: &[u8])
     requires radix { IsRadix radix }
     requires fits { value < radix ^ width }

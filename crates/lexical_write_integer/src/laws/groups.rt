@@ -1,4 +1,4 @@
-//! The texts of numbers whose digits stand in groups.
+//! Laws on the texts of numbers whose digits are grouped.
 
 ghost use Rattle.std.specs.Prelude.{◌≡◌, ℕ, ◌+◌, ◌-◌, ◌*◌, ◌/◌, ◌<◌, ◌≤◌, List, Some, length, unsigned_abs};
 ghost use Rattle.lexical_num.specs.Format.{grouped_length, without_groups};
@@ -10,10 +10,12 @@ ghost use Rattle.lexical_write_integer.specs.Text.{IsText};
 use lexical_num::format::NumberFormat;
 use lexical_num::num::LexicalInteger;
 
-/// Where the bytes of a text in groups of `size` digits stand. A number of at most
-/// `size` digits has the text that it has without groups. Places are counted from the right: a
-/// digit keeps the digits to its right, with a mark for each whole group of them, and a mark stands
-/// before each number of whole groups.
+/// A law: the positions of the digits and separators in a text with groups of `size` digits.
+///
+/// The position of a byte is the number of bytes to its right. The digit at position `right` of the text
+/// without groups is at position `right + right / size`, and the separator before the last `groups`
+/// groups is at position `groups * size + groups - 1`. A number of at most `size` digits has the text
+/// that it has without groups.
 pub fn text_in_groups<T: LexicalInteger>(number: T, format: &NumberFormat, size: u8, mark: u8)
     requires { format.now.digit_grouping ≡ Some (size, mark) }
     ensures one_group { (text : List ℕ) → IsText (T.number number) format.now text

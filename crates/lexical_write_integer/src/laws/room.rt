@@ -1,4 +1,4 @@
-//! How much room the text of a number takes.
+//! Laws on the length of a text.
 
 ghost use Rattle.std.specs.Prelude.{◌≡◌, ◌+◌, ◌≤◌, List, ℕ, length, unsigned_abs};
 ghost use Rattle.lexical_num.specs.Format.{grouped_length};
@@ -12,9 +12,10 @@ use crate::api::ToLexicalWithOptions;
 use lexical_num::format::NumberFormat;
 use lexical_num::num::LexicalInteger;
 
-/// The size of a type in a format, which `buffer_size` of the options returns, is enough for each
-/// number of the type. It is at most `BUFFER_SIZE`.
-pub fn size_is_enough<T: ToLexicalWithOptions>(value: T, format: &NumberFormat)
+/// A law: the size of a type in a format, which `buffer_size` of the options returns, is enough for the
+/// required length of each number of the type. It is at most `BUFFER_SIZE`. `text_of_any` in
+/// `crates/uses/src/any_format.rt` is an example.
+pub fn size_suffices<T: ToLexicalWithOptions>(value: T, format: &NumberFormat)
     ensures size { need (T.number value) T.DECIMAL_WIDTH format.now
         ≤ size_in T.FORMATTED_SIZE T.FORMATTED_SIZE_DECIMAL format.now }
     ensures buffer { size_in T.FORMATTED_SIZE T.FORMATTED_SIZE_DECIMAL format.now ≤ BUFFER_SIZE }
@@ -23,7 +24,8 @@ pub fn size_is_enough<T: ToLexicalWithOptions>(value: T, format: &NumberFormat)
     format.is_valid();
 }
 
-/// How long the text of a number is: its sign, its digits and the marks between their groups.
+/// A law: the length of a text is the length of its sign plus what its digits take with the separators
+/// between their groups. `width_of_amount` in `crates/uses/src/amount.rt` is an example.
 pub fn text_length<T: LexicalInteger>(number: T, format: &NumberFormat)
     ensures { (text : List ℕ) → IsText (T.number number) format.now text
         → length text ≡ length (sign_of (T.number number) format.now.required_mantissa_sign)

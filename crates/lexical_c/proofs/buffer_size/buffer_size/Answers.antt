@@ -16,7 +16,7 @@ returns-in-Some g c =
       enough = λ _ x at_least at_most.
           let fits = text_of-le_need x _ _ _ _ (format_of c.args.format.now) valid
           g.met.T.LexicalInteger.decimal_width g.met.T.LexicalInteger.range_of_bits at_least at_most in
-          let needs = g.met.T.ToLexicalWithOptions.size_is_enough x (format_of c.args.format.now) valid.mantissa at_least at_most in
+          let needs = g.met.T.ToLexicalWithOptions.size_suffices x (format_of c.args.format.now) valid.mantissa at_least at_most in
           omega (arith, size, fits, needs);
       within = search rules;
     }

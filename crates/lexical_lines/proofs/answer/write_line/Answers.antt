@@ -9,7 +9,7 @@ slice_bounds-room-end-2 g c = sym (length-take-le 128 c.args.buffer.now (omega (
 
 pub write_lexical_with_options-end-requires : goal.write_lexical_with_options-end-requires
 write_lexical_with_options-end-requires g c =
-    omega (arith, c.size_is_enough.ensures.size, c.size_is_enough.ensures.buffer, length-take-le 128 c.args.buffer.now (omega (arith, c.requires)))
+    omega (arith, c.size_suffices.ensures.size, c.size_suffices.ensures.buffer, length-take-le 128 c.args.buffer.now (omega (arith, c.requires)))
 
 pub bounds-buffer-end : goal.bounds-buffer-end
 bounds-buffer-end g c =

@@ -9,4 +9,4 @@ returns-clause-block c =
     let place : at + 6 ≡ at + 2 + 4 = omega arith in
     let first : low / 10000 / 10000 ≡ low / 10 ^ 8 = omega arith in
     let last_eight = WritesBlock-next low (omega arith) (rw place at c.write_four.ensures.block) c.write_four-2.ensures.block in
-    WritesBlock-whole first last_eight c.write_counted_pair.ensures.block
+    WritesBlock-whole first last_eight c.write_and_record_pair.ensures.block

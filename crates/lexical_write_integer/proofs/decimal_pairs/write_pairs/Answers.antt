@@ -14,8 +14,8 @@ products-more fraction i = map-range_with_len_more (λ j. fraction * 100 ^ j % 2
 length-products : (fraction pairs : ℕ) → length (products fraction pairs) ≡ pairs
 length-products fraction pairs = length-map-range_with_len (λ j. fraction * 100 ^ j % 2 ^ 32 * 100) 0 pairs
 
-pub write_first_pair-count-requires-clause-room : goal.write_first_pair-count-requires-clause-room
-write_first_pair-count-requires-clause-room c =
+pub write_one_or_two-count-requires-clause-room : goal.write_one_or_two-count-requires-clause-room
+write_one_or_two-count-requires-clause-room c =
     let start : carried c.args.fraction 0 ≡ c.args.fraction / 2 ^ 32 = omega arith in
     rw start at (room_for_carried c.args.fraction 0 c.args.pair_count _ (omega arith) c.requires.room)
 
@@ -24,13 +24,13 @@ loop-init c =
     let start : carried c.args.fraction 0 ≡ c.args.fraction / 2 ^ 32 = omega arith in
     record {
       following = omega arith;
-      digits = rw start c.write_first_pair-count.ensures.digits;
+      digits = rw start c.write_one_or_two-count.ensures.digits;
       notes = sym (append-nil c.args.turns.now);
       count = omega arith;
     }
 
-pub write_two_digits-requires-clause-room : goal.write_two_digits-requires-clause-room
-write_two_digits-requires-clause-room c =
+pub write_pair-requires-clause-room : goal.write_pair-requires-clause-room
+write_pair-requires-clause-room c =
     let room = room_for_carried c.args.fraction (c.loop.counter + 1) c.args.pair_count _ (omega arith) c.requires.room in
     omega (arith, digit_count-carried c.args.fraction c.loop.counter c.requires.first, c.loop.invariant.digits.count)
 
@@ -42,7 +42,7 @@ loop-preserved c =
     let room = room_for_carried c.args.fraction (c.loop.counter + 1) c.args.pair_count _ (omega arith) c.requires.room in
     record {
       following = rw c.next2-pair.ensures.product (rest-more c.args.fraction c.loop.counter _ done.following);
-      digits = WritesDigits-pair _ _ c.requires.first room pair done.digits c.write_two_digits.ensures;
+      digits = WritesDigits-pair _ _ c.requires.first room pair done.digits c.write_pair.ensures;
       notes = let more = products-more c.args.fraction c.loop.counter in grind (arith, append_assoc);
       count = omega arith;
     }

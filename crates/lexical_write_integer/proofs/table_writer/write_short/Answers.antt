@@ -7,13 +7,13 @@ use Rattle.lexical_write_integer.proofs.Loops.Records.{loop_notes-are, table_not
 use Rattle.lexical_write_integer.proofs.Powers.{pow-two}
 use Rattle.lexical_write_integer.proofs.table_writer.write_short.Goals as goal
 
-pub write_first-requires-clause-short : goal.write_first-requires-clause-short
-write_first-requires-clause-short c = rw pow-two at c.requires.short
+pub write_one_or_two-requires-clause-short : goal.write_one_or_two-requires-clause-short
+write_one_or_two-requires-clause-short c = rw pow-two at c.requires.short
 
 pub returns-clause-digits : goal.returns-clause-digits
 returns-clause-digits c =
     WritesDigits-block c.requires.radix.at_least_two (omega (arith, c.count_short-count.ensures.count))
-    (omega (arith, c.count_short-count.ensures.count, c.requires.room)) c.write_first.ensures
+    (omega (arith, c.count_short-count.ensures.count, c.requires.room)) c.write_one_or_two.ensures
 
 pub returns-clause-notes : goal.returns-clause-notes
 returns-clause-notes c =

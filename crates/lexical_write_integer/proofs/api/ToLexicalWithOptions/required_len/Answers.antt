@@ -16,7 +16,7 @@ within g c =
     let radix = rw c.mantissa_radix-radix.ensures.value at c.mantissa_radix-radix.ensures.radix in
     let range = c.in_range.ensures in
     let enough =
-    g.met.Self.ToLexicalWithOptions.size_is_enough
+    g.met.Self.ToLexicalWithOptions.size_suffices
     (g.Self.LexicalInteger.number c.args.self) c.args.format.now radix range.at_least range.at_most in
     let size = g.Self.FormattedSize.FORMATTED_SIZE in
     let decimal = g.Self.FormattedSize.FORMATTED_SIZE_DECIMAL in

@@ -1,5 +1,0 @@
-use Rattle.lexical_write_integer.proofs.Comparisons.{digits_tell}
-use Rattle.lexical_write_integer.proofs.laws.comparison.digits_tell.Goals as goal
-
-pub returns : goal.returns
-returns c = digits_tell c.args.radix c.args.a c.args.b c.args.s.now c.args.t.now c.requires.radix.at_least_two c.requires.s c.requires.t
