@@ -530,14 +530,14 @@ static unsigned passed, failed;
 
 static void run(const char *name, void (*test)(void))
 {
-    unsigned long long before = checks;
-    failures = 0;
+    checks = failures = 0;
     test();
-    if (failures == 0)
+    bool is_good = failures == 0 && checks > 0;
+    if (is_good)
         passed++;
     else
         failed++;
-    printf("%s %s: %llu checks\n", failures == 0 ? "passed" : "failed", name, checks - before);
+    printf("%s %s: %llu checks\n", is_good ? "passed" : "failed", name, checks);
     fflush(stdout);
 }
 

@@ -1,4 +1,5 @@
 mod answers;
+mod calls;
 mod devices;
 
 ghost use Rattle.std.specs.Prelude.{◌≡◌, ◌-◌, ◌^◌, ◌≤◌, take};

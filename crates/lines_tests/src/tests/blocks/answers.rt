@@ -47,6 +47,7 @@ struct Flushed<'a> {
     taker: Taker,
     // How many flushes come before the one that fails.
     before_fault: Option<u32>,
+    fails_once: bool,
     flushed: &'a Cell<usize>,
     flushes: u32,
 }
@@ -59,6 +60,9 @@ impl Write for Flushed<'_> {
     fn flush(&mut self) -> io::Result<()> {
         self.flushes = self.flushes.saturating_add(1);
         if self.before_fault == Some(0) {
+            if self.fails_once {
+                self.before_fault = None;
+            }
             return Err(io::Error::from(ErrorKind::BrokenPipe));
         }
         self.before_fault = self.before_fault.map(|flushes| flushes.saturating_sub(1));
@@ -73,12 +77,15 @@ struct Faults {
     read: Option<u32>,
     write: Option<u32>,
     flush: Option<u32>,
+    // Whether only that one flush fails, or each one after it too.
+    flush_fails_once: bool,
 }
 
 const NONE: Faults = Faults {
     read: None,
     write: None,
     flush: None,
+    flush_fails_once: false,
 };
 
 // Answers the lines and returns the exit status.
@@ -106,6 +113,7 @@ fn status_of(rt: &impl Abort, lines: &[u8], faults: Faults, output: &[u8]) -> u8
     let mut writer = Flushed {
         taker: Taker::new(piece, before_fault, fault, true),
         before_fault: faults.flush,
+        fails_once: faults.flush_fails_once,
         flushed: &flushed,
         flushes: 0,
     };
@@ -137,6 +145,7 @@ fn each_answer_is_flushed_before_the_next_read(rt: HostRuntime) {
     let mut writer = Flushed {
         taker: Taker::new(32, 32, Fault::Zero, true),
         before_fault: None,
+        fails_once: false,
         flushed: &flushed,
         flushes: 0,
     };
@@ -174,11 +183,14 @@ fn writes_that_fail(rt: HostRuntime) {
 #[test]
 fn flushes_that_fail(rt: HostRuntime) {
     for (flush, count) in [(0, 0), (1, 2), (2, 6), (3, 10), (4, 10)] {
-        let faults = Faults {
-            flush: Some(flush),
-            ..NONE
-        };
-        assert!(&rt; count <= ANSWERS.len());
-        assert_eq!(&rt; status_of(&rt, LINES, faults, &ANSWERS[..count]), 2);
+        for flush_fails_once in [false, true] {
+            let faults = Faults {
+                flush: Some(flush),
+                flush_fails_once,
+                ..NONE
+            };
+            assert!(&rt; count <= ANSWERS.len());
+            assert_eq!(&rt; status_of(&rt, LINES, faults, &ANSWERS[..count]), 2);
+        }
     }
 }
