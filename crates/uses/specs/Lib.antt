@@ -3,6 +3,6 @@ pub mod DateTime
 pub mod DumpLine
 pub mod FloatParts
 pub mod JsonArray
-pub mod LogLine
+pub mod LogEntry
 pub mod NumberList
 pub mod Reading

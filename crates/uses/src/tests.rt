@@ -7,7 +7,6 @@ use crate::amount::{width_of_amount, write_amount};
 use crate::any_format::{have_same_text, text_if_room, text_of_any, text_of_i64};
 use crate::arena::{have_same_kept_texts, keep_text};
 use crate::column::write_column;
-use crate::date::write_date;
 use crate::fixed_texts::{million, white};
 use crate::float_format::float_format;
 use crate::float_parts::write_parts;
@@ -16,12 +15,10 @@ use crate::hexadecimal::{hexadecimal, write_hexadecimal};
 use crate::identifier::{have_same_identifier, identifier, same_counter, write_identifier};
 use crate::json_array::write_array;
 use crate::key_value::write_setting;
-use crate::log_line::{Level, level_name, write_line};
 use crate::percentage::write_percentage;
 use crate::printed::printed;
 use crate::record::write_record;
 use crate::sorted_keys::{are_sorted, comes_before, is_earlier_key};
-use crate::weight::write_weight;
 use lexical_write_integer::{
     BUFFER_SIZE, Error, NumberFormat, NumberFormatBuilder, Options, ToLexical, ToLexicalWithOptions,
 };
@@ -39,12 +36,6 @@ fn check_identifier(rt: &impl Abort, counter: u64, identifier: &[u8]) {
     let mut buffer = [7; 14];
     let count = write_identifier(counter, &mut buffer);
     check_buffer(rt, &buffer, count, identifier);
-}
-
-fn check_line(rt: &impl Abort, level: Level, number: i64, line: &[u8]) {
-    let mut buffer = [7; 30];
-    let count = write_line(level, number, &mut buffer);
-    check_buffer(rt, &buffer, count, line);
 }
 
 fn check_parts(
@@ -106,21 +97,6 @@ fn parts_in_two_radices(rt: HostRuntime) {
 }
 
 #[test]
-fn lines_of_a_log(rt: HostRuntime) {
-    check_line(&rt, Level::Warn, -5, b"WARN\t-5");
-    check_line(&rt, Level::Warn, 0, b"WARN\t+0");
-    check_line(&rt, Level::Info, 5, b"INFO\t+5");
-    let least = b"ERROR\t-9223372036854775808";
-    let mut buffer = [7; 26];
-    assert_eq!(rt;
-        write_line(Level::Error, -9223372036854775808, &mut buffer),
-        26
-    );
-    assert_eq!(rt; buffer, *least);
-    assert_eq!(rt; level_name(Level::Warn), b"WARN".as_slice());
-}
-
-#[test]
 fn keys_in_the_order_of_the_numbers(rt: HostRuntime) {
     assert!(rt; comes_before(9, 10));
     assert!(rt; !comes_before(10, 9));
@@ -163,15 +139,6 @@ fn numbers_in_hexadecimal(rt: HostRuntime) {
     assert_eq!(rt; buffer, *b"0x0\x07\x07\x07\x07\x07\x07\x07");
     assert_eq!(rt; write_hexadecimal(4294967295, &mut buffer), 10);
     assert_eq!(rt; buffer, *b"0xFFFFFFFF");
-}
-
-#[test]
-fn weights(rt: HostRuntime) {
-    let mut buffer = [7; 13];
-    assert_eq!(rt; write_weight(250, &mut buffer), 5);
-    assert!(rt; buffer.starts_with(b"250 g\x07"));
-    assert_eq!(rt; write_weight(-2147483648, &mut buffer), 13);
-    assert_eq!(rt; buffer, *b"-2147483648 g");
 }
 
 #[test]
@@ -239,15 +206,6 @@ fn texts_of_constants(rt: HostRuntime) {
 fn hexadecimal_as_an_equation(rt: HostRuntime) {
     assert_eq!(rt; hexadecimal(0, &mut [7; 10]), b"0x0".as_slice());
     assert_eq!(rt; hexadecimal(48879, &mut [7; 10]), b"0xBEEF".as_slice());
-}
-
-#[test]
-fn dates(rt: HostRuntime) {
-    let mut date = [7; 10];
-    assert_eq!(rt; write_date(2026, 11, 23, &mut date), 10);
-    assert_eq!(rt; date, *b"2026-11-23");
-    assert_eq!(rt; write_date(33, 4, 3, &mut date), 10);
-    assert_eq!(rt; date, *b"0033-04-03");
 }
 
 #[test]

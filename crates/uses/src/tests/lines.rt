@@ -5,8 +5,7 @@ use crate::csv_row::{write_row, write_row_of};
 use crate::date_time::DateTime;
 use crate::dump_line::write_dump_line;
 use crate::key_value::try_write_setting;
-use crate::log_entry::write_entry;
-use crate::log_line::Level;
+use crate::log_entry::{Level, level_name, write_entry};
 use crate::number_list::{try_write_list, write_entries};
 use crate::reading::write_reading;
 use crate::table_row::write_table_row;
@@ -43,6 +42,8 @@ fn entries_of_a_log(rt: HostRuntime) {
     );
     let line = b"2026-11-23T07:05:09 ERROR disk: -9223372036854775808\n";
     check_buffer(&rt, &buffer, count, line);
+    assert_eq!(rt; level_name(Level::Info), b"INFO".as_slice());
+    assert_eq!(rt; level_name(Level::Warn), b"WARN".as_slice());
 }
 
 #[test]
