@@ -195,7 +195,7 @@ impl LexicalInteger for i8 {
     fn in_range(self) {}
 
     fn is_negative(self) -> bool {
-        // Neither 0 nor any number above it is.
+        // Neither 0 nor a larger number is negative.
         self < 0
     }
 }

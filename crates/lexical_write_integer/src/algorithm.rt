@@ -1,4 +1,5 @@
-//! The table writer: four digits a turn, by a table of the pairs of digits of the radix.
+//! The table writer, which writes four digits per iteration from a table of the digit pairs of the radix.
+//! `crates/write_integer_tests/src/tables.rt` has examples.
 
 ghost use Rattle.std.specs.Prelude.{◌≡◌, ◌+◌, ◌≤◌, ◌++◌, length};
 ghost use Rattle.lexical_num.specs.Format.{IsRadix};
@@ -13,8 +14,8 @@ use crate::table_writer::{write_digits, write_short};
 use crate::turns::Turns;
 use lexical_num::num::UnsignedInteger;
 
-// Writes a number in any radix, as one of 64 bits. From radix 16 on a byte has two digits at most, and
-// above radix 32 a number below 1024.
+// Writes a number in any radix, as a number of 64 bits. A byte has at most two digits in radix 16 and
+// above, and a number below 1024 has at most two digits above radix 32.
 fn write_number<T: UnsignedInteger>(
     value: T,
     radix: u32,
@@ -39,10 +40,10 @@ fn write_number<T: UnsignedInteger>(
     by_radix!(radix, write_digits(number, table, buffer, turns))
 }
 
-/// Writes the digits of the number to the front of the buffer, and returns how many they are. The
-/// radix is from 2 to 36, the table begins with the radix's pairs of digits, and the buffer has room
-/// for the digits. The counter gets a note for each turn of the digit count, which comes first, and
-/// of the writer: of what the turn leaves.
+/// Writes the digits of the number to the start of the buffer, and returns their number. The radix is
+/// from 2 to 36, the table begins with the digit pairs of the radix, and the buffer has room for the
+/// digits. Each iteration of the digit count, which comes first, and of the writer records its quotient
+/// in the counter: at most 21 in total.
 pub fn algorithm_counted<T: DigitCount>(
     value: T,
     radix: u32,
@@ -63,9 +64,9 @@ pub fn algorithm_counted<T: DigitCount>(
     write_number(value, radix, table, buffer, turns)
 }
 
-/// Writes the digits of the number to the front of the buffer, and returns how many they are. The
-/// radix is from 2 to 36, the table begins with the radix's pairs of digits, and the buffer has room
-/// for the digits.
+/// Writes the digits of the number to the start of the buffer, and returns their number. The radix is
+/// from 2 to 36, the table begins with the digit pairs of the radix, and the buffer has room for the
+/// digits.
 pub fn algorithm<T: DigitCount>(value: T, radix: u32, table: &[u8], buffer: &mut [u8]) -> usize
     requires radix { IsRadix radix }
     requires table { BeginsWithPairs radix table.now }

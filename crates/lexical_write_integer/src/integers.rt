@@ -92,7 +92,7 @@ impl ToLexicalWithOptions for usize {
 
 impl ToLexical for i8 {
     fn write_magnitude(self, format: &NumberFormat, buffer: &mut [u8]) -> usize {
-        // The magnitude of the least value fits the unsigned type alone.
+        // Only the unsigned type holds the magnitude of the smallest value.
         self.unsigned_abs().write_mantissa_signed(format, buffer)
     }
 
