@@ -1,4 +1,4 @@
--- What a list has gained.
+-- The elements that were appended to a list.
 use Rattle.std.proofs.Common.{◌≡◌, ℕ, List, ◌++◌, length, drop, sym, ap, ◌∙◌, append_assoc}
 use Rattle.std.proofs.Math.Seq.{drop-append_seam}
 use Rattle.lexical_lines.specs.Running.{added}
@@ -6,7 +6,7 @@ use Rattle.lexical_lines.specs.Running.{added}
 pub added-is : (before after more : List ℕ) → after ≡ before ++ more → added before after ≡ more
 added-is before after more e = ap (drop (length before)) e ∙ drop-append_seam before more
 
--- what was added twice was added
+-- appending twice is appending
 pub grown : (a b c x y : List ℕ) → b ≡ a ++ x → c ≡ b ++ y → c ≡ a ++ added a c
 grown a b c x y e f =
     let whole = f ∙ ap (λ front. front ++ y) e ∙ append_assoc a x y in

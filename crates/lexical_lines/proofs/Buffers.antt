@@ -1,12 +1,14 @@
--- Texts at the front of a buffer.
-use Rattle.std.proofs.Common.{◌≡◌, ℕ, suc, ◌+◌, ◌<◌, ◌≤◌, List, [], ◌∷◌, ◌++◌, length, get_or, take, drop, set, refl, sym, ap, ◌∙◌, arith, length-append, append_assoc}
+-- Texts at the start of a buffer.
+use Rattle.std.proofs.Common.{◌≡◌, ℕ, suc, ◌+◌, ◌<◌, ◌≤◌, List, [], ◌∷◌, ◌++◌, length, get_or, take, drop, set, refl, sym, ap, ◌∙◌, arith, length-append}
+use Rattle.std.proofs.Common.{append_assoc}
 use Rattle.std.proofs.Math.Seq.{drop-cons}
 use Rattle.std.proofs.lemmas.List.{set_at, take_at}
 use Rattle.lexical_write_integer.specs.Buffer.{Front, Writes}
 use Rattle.lexical_write_integer.proofs.Buffers.Prefixes.{Front-after}
 
--- one byte more after a text
-pub Front-push : (before between text : List ℕ) (count mark : ℕ) → count ≡ length text → Front before between text → count < length before → Front before (set between count mark) (text ++ mark ∷ [])
+-- another byte after a text
+pub Front-push : (before between text : List ℕ) (count mark : ℕ) → count ≡ length text → Front before between text
+    → count < length before → Front before (set between count mark) (text ++ mark ∷ [])
 Front-push before between text count mark e front less =
     let long : length (text ++ mark ∷ []) ≡ count + 1 = length-append text (mark ∷ []) ∙ ap (λ k. k + 1) (sym e) in
     let next : suc count ≡ count + 1 = omega arith in
@@ -19,7 +21,7 @@ Front-push before between text count mark e front less =
           ∙ sym (append_assoc text (mark ∷ []) (drop (count + 1) before)) ∙ ap (λ k. (text ++ mark ∷ []) ++ drop k before) (sym long);
     }
 
--- ---- what a writer has written stands at the front
+-- ---- what a writer has written is at the start
 
 pub Writes-take : {Is : List ℕ → Type 0} {before after : List ℕ} {count : ℕ} (w : Writes Is before after count) → take count after ≡ w.text
 Writes-take {before = before} {count = count} w = ap (take count) w.front.written ∙ take_at w.text (drop (length w.text) before) count (sym w.count)
@@ -28,8 +30,9 @@ pub Writes-within : {Is : List ℕ → Type 0} {before after : List ℕ} {count 
 Writes-within {before = before} w =
     omega (arith, w.count, ap length w.front.written, length-append w.text (drop (length w.text) before))
 
--- what is written to the front of a part, which begins the buffer, stands at the front of the buffer
-pub Writes-front : {Is : List ℕ → Type 0} (room : ℕ) (before part : List ℕ) (count : ℕ) → Writes Is (take room before) part count → Writes Is before (part ++ drop room before) count
+-- what is written to the start of a prefix of the buffer is at the start of the buffer
+pub Writes-front : {Is : List ℕ → Type 0} (room : ℕ) (before part : List ℕ) (count : ℕ) → Writes Is (take room before) part count
+    → Writes Is before (part ++ drop room before) count
 Writes-front room before part count w = record {
   text = w.text;
   is = w.is;

@@ -1,4 +1,4 @@
--- Decimal digits, by their bytes.
+-- Decimal digits and the bytes that represent them.
 use Rattle.std.proofs.Common.{◌≡◌, ◌≢◌, ℕ, ◌+◌, ◌-◌, ◌*◌, ◌^◌, ◌<◌, ◌≤◌, List, [], ◌∷◌, ◌++◌, length, get_or, map, take, drop, refl, sym, ap, ◌∙◌, arith}
 use Rattle.std.specs.List.{All}
 use Rattle.std.proofs.lemmas.Bool.Decides.{nat_tests}
@@ -15,7 +15,7 @@ pub record IsDigitByte (byte : ℕ) : Type 0 where
   pub at_least : 48 ≤ byte
   pub at_most : byte ≤ 57
 
--- the digits that the bytes are the characters of
+-- the digits that these bytes represent
 abbrev pub digits_in : List ℕ → List ℕ
 digits_in text = map (λ byte. byte - 48) text
 
@@ -67,28 +67,31 @@ IsDecimal-value n text h = rw (h.characters, digits_in-digit_char h.digits h.bel
 digits_in-split : (text : List ℕ) (k : ℕ) → digits_in text ≡ digits_in (take k text) ++ digits_in (drop k text)
 digits_in-split text k = ap digits_in (sym (take-append-drop k text)) ∙ map-append (λ byte. byte - 48) (take k text) (drop k text)
 
--- the first digits have no greater value than all of them
+-- the value of the first digits is at most the value of all digits
 pub value_of-front : (text : List ℕ) (k : ℕ) → value_of 10 (digits_in (take k text)) ≤ value_of 10 (digits_in text)
 value_of-front text k =
     let front = value_of 10 (digits_in (take k text)) in
     let back = digits_in (drop k text) in
-    let split : value_of 10 (digits_in text) ≡ front * 10 ^ length back + value_of 10 back = ap (value_of 10) (digits_in-split text k) ∙ value_of-append 10 (digits_in (take k text)) back in
+    let split : value_of 10 (digits_in text) ≡ front * 10 ^ length back + value_of 10 back =
+    ap (value_of 10) (digits_in-split text k) ∙ value_of-append 10 (digits_in (take k text)) back in
     omega (arith, mul-le-mul_left front (one-le-pow (length back) 10 (omega arith)))
 
--- one more digit
-pub value_of-more : (text : List ℕ) (i : ℕ) → i < length text → value_of 10 (digits_in (take (i + 1) text)) ≡ value_of 10 (digits_in (take i text)) * 10 + (get_or text i 0 - 48)
+-- the value of the digits up to the next one
+pub value_of-more : (text : List ℕ) (i : ℕ) → i < length text → value_of 10 (digits_in (take (i + 1) text))
+    ≡ value_of 10 (digits_in (take i text)) * 10 + (get_or text i 0 - 48)
 value_of-more text i h =
     ap (λ bytes. value_of 10 (digits_in bytes)) (take_more text i 0 h)
     ∙ ap (value_of 10) (map-append (λ byte. byte - 48) (take i text) (get_or text i 0 ∷ []))
     ∙ value_of-append 10 (digits_in (take i text)) ((get_or text i 0 - 48) ∷ [])
     ∙ omega (arith, value_of-one 10 (get_or text i 0 - 48))
 
--- a text of which one byte is no digit spells no number
+-- each byte of a decimal number is a digit
 pub IsDecimal-byte : (n : ℕ) (text : List ℕ) (i : ℕ) → i < length text → IsDecimal n text → IsDigitByte (get_or text i 0)
 IsDecimal-byte n text i h d = All-get_or IsDigitByte text i 0 h (IsDecimal-bytes n text d)
 
--- a number that a text spells is at least what its first bytes spell
-pub IsDecimal-at_least : (n : ℕ) (text : List ℕ) (i : ℕ) → i < length text → IsDecimal n text → value_of 10 (digits_in (take i text)) * 10 + (get_or text i 0 - 48) ≤ n
+-- the value of the first bytes is at most the number
+pub IsDecimal-at_least : (n : ℕ) (text : List ℕ) (i : ℕ) → i < length text → IsDecimal n text
+    → value_of 10 (digits_in (take i text)) * 10 + (get_or text i 0 - 48) ≤ n
 IsDecimal-at_least n text i h d = omega (arith, value_of-more text i h, value_of-front text (i + 1), IsDecimal-value n text d)
 
 -- ---- digits without leading zeros

@@ -1,15 +1,16 @@
--- Joined texts grow by one text at their end.
+-- Joined texts, and how another text is appended to them.
 use Rattle.std.proofs.Common.{◌≡◌, ℕ, ◌+◌, ◌<◌, List, [], ◌∷◌, ◌++◌, length, get_or, take, set, map, refl, sym, ap, ◌∙◌, arith, ℤ, length-append, append_assoc}
 use Rattle.std.proofs.lemmas.List.{map-append, take_more}
 use Rattle.lexical_num.specs.Format.{Format}
 use Rattle.lexical_write_integer.specs.Buffer.{Front, Writes}
 use Rattle.lexical_write_integer.specs.Text.{IsText}
 use Rattle.lexical_lines.proofs.Buffers.{Front-push}
-use Rattle.lexical_lines.specs.Joined.{AreTexts, IsJoined, joined}
+use Rattle.lexical_lines.specs.JoinedText.{AreTexts, IsJoined, joined}
 
--- ---- one text more
+-- ---- another text
 
-AreTexts-push : (numbers : List ℤ) (format : Format) (texts : List (List ℕ)) (x : ℤ) (text : List ℕ) → AreTexts numbers format texts → IsText x format text → AreTexts (numbers ++ x ∷ []) format (texts ++ text ∷ [])
+AreTexts-push : (numbers : List ℤ) (format : Format) (texts : List (List ℕ)) (x : ℤ) (text : List ℕ) → AreTexts numbers format texts
+    → IsText x format text → AreTexts (numbers ++ x ∷ []) format (texts ++ text ∷ [])
 AreTexts-push [] format [] x text each is = (is, tt)
 AreTexts-push [] format (_ ∷ _) x text each is = absurd each
 AreTexts-push (_ ∷ _) format [] x text each is = absurd each
@@ -21,7 +22,8 @@ length-AreTexts [] format (_ ∷ _) each = absurd each
 length-AreTexts (_ ∷ _) format [] each = absurd each
 length-AreTexts (_ ∷ numbers) format (_ ∷ texts) each = omega (arith, length-AreTexts numbers format texts each.1)
 
-joined-push : (mark : ℕ) (texts : List (List ℕ)) (text : List ℕ) → 0 < length texts → joined mark (texts ++ text ∷ []) ≡ (joined mark texts ++ mark ∷ []) ++ text
+joined-push : (mark : ℕ) (texts : List (List ℕ)) (text : List ℕ) → 0 < length texts
+    → joined mark (texts ++ text ∷ []) ≡ (joined mark texts ++ mark ∷ []) ++ text
 joined-push mark [] text some = absurd (omega arith)
 joined-push mark (first ∷ []) text some = sym (append_assoc first (mark ∷ []) text)
 joined-push mark (first ∷ next ∷ texts) text some =
@@ -31,12 +33,15 @@ no_texts : (mark : ℕ) (format : Format) (texts : List (List ℕ)) → AreTexts
 no_texts mark format [] each = refl
 no_texts mark format (_ ∷ _) each = absurd each
 
-IsJoined-one : (mark : ℕ) (format : Format) (numbers : List ℤ) (x : ℤ) (text last : List ℕ) → length numbers ≡ 0 → IsJoined numbers mark format text → IsText x format last → IsJoined (numbers ++ x ∷ []) mark format (text ++ last)
+IsJoined-one : (mark : ℕ) (format : Format) (numbers : List ℤ) (x : ℤ) (text last : List ℕ) → length numbers ≡ 0
+    → IsJoined numbers mark format text → IsText x format last → IsJoined (numbers ++ x ∷ []) mark format (text ++ last)
 IsJoined-one mark format [] x text last none was is =
     record { texts = last ∷ []; each = (is, tt); whole = ap (λ front. front ++ last) (was.whole ∙ no_texts mark format was.texts was.each) }
 IsJoined-one mark format (_ ∷ _) x text last none was is = absurd (omega arith)
 
-IsJoined-push : (mark : ℕ) (format : Format) (numbers : List ℤ) (x : ℤ) (text last : List ℕ) → 0 < length numbers → IsJoined numbers mark format text → IsText x format last → IsJoined (numbers ++ x ∷ []) mark format ((text ++ mark ∷ []) ++ last)
+IsJoined-push : (mark : ℕ) (format : Format) (numbers : List ℤ) (x : ℤ) (text last : List ℕ) → 0 < length numbers
+    → IsJoined numbers mark format text → IsText x format last
+    → IsJoined (numbers ++ x ∷ []) mark format ((text ++ mark ∷ []) ++ last)
 IsJoined-push mark format numbers x text last some was is =
     let many = length-AreTexts numbers format was.texts was.each in
     record {
@@ -45,26 +50,32 @@ IsJoined-push mark format numbers x text last some was is =
       whole = ap (λ front. (front ++ mark ∷ []) ++ last) was.whole ∙ sym (joined-push mark was.texts last (omega arith));
     }
 
--- the first numbers and the next
-pub map-take_more : {X : Type 0} (f : X → ℤ) (xs : List X) (i : ℕ) (x : X) → i < length xs → x ≡ get_or xs i x → map f (take (i + 1) xs) ≡ map f (take i xs) ++ f x ∷ []
-map-take_more f xs i x less is = ap (map f) (take_more xs i x less) ∙ map-append f (take i xs) (get_or xs i x ∷ []) ∙ ap (λ y. map f (take i xs) ++ f y ∷ []) (sym is)
+-- the first i + 1 numbers are the first i and the next
+pub map-take_more : {X : Type 0} (f : X → ℤ) (xs : List X) (i : ℕ) (x : X) → i < length xs → x ≡ get_or xs i x
+    → map f (take (i + 1) xs) ≡ map f (take i xs) ++ f x ∷ []
+map-take_more f xs i x less is = ap (map f) (take_more xs i x less) ∙ map-append f (take i xs) (get_or xs i x ∷ [])
+    ∙ ap (λ y. map f (take i xs) ++ f y ∷ []) (sym is)
 
 -- ---- in the buffer
 
--- a text is written, and what follows it with one property makes a whole with the other
+-- a text is written, and whatever follows it with the one property makes a whole with the other
 pub record Ready (IsNext IsWhole : List ℕ → Type 0) (before between : List ℕ) (count : ℕ) : Type 0 where
   pub text : List ℕ
   pub counted : count ≡ length text
   pub front : Front before between text
   pub whole : (last : List ℕ) → IsNext last → IsWhole (text ++ last)
 
--- for the first text
-pub Ready-one : (mark : ℕ) (format : Format) (numbers : List ℤ) (x : ℤ) (before between : List ℕ) (count : ℕ) → length numbers ≡ 0 → Writes (IsJoined numbers mark format) before between count → Ready (IsText x format) (IsJoined (numbers ++ x ∷ []) mark format) before between count
+-- before the first text
+pub Ready-one : (mark : ℕ) (format : Format) (numbers : List ℤ) (x : ℤ) (before between : List ℕ) (count : ℕ) → length numbers ≡ 0
+    → Writes (IsJoined numbers mark format) before between count
+    → Ready (IsText x format) (IsJoined (numbers ++ x ∷ []) mark format) before between count
 Ready-one mark format numbers x before between count none w =
     record { text = w.text; counted = w.count; front = w.front; whole = λ last. IsJoined-one mark format numbers x w.text last none w.is }
 
--- for a text after the mark
-pub Ready-push : (mark : ℕ) (format : Format) (numbers : List ℤ) (x : ℤ) (before between : List ℕ) (count : ℕ) → 0 < length numbers → count < length before → Writes (IsJoined numbers mark format) before between count → Ready (IsText x format) (IsJoined (numbers ++ x ∷ []) mark format) before (set between count mark) (count + 1)
+-- before each later text, after its separator
+pub Ready-push : (mark : ℕ) (format : Format) (numbers : List ℤ) (x : ℤ) (before between : List ℕ) (count : ℕ) → 0 < length numbers
+    → count < length before → Writes (IsJoined numbers mark format) before between count
+    → Ready (IsText x format) (IsJoined (numbers ++ x ∷ []) mark format) before (set between count mark) (count + 1)
 Ready-push mark format numbers x before between count some less w =
     record {
       text = w.text ++ mark ∷ [];

@@ -1,17 +1,23 @@
-pub mod Added
-pub mod Answers
-pub mod Buffers
-pub mod Decimals
-pub mod IntegerTypes
-pub mod Joins
-pub mod Lines
-pub mod Readers
-pub mod Requests
-pub mod Runs
+-- lines: separators, lines of an input, and the answers to them
 pub mod Separators
+pub mod Lines
+pub mod AnswerTexts
+pub mod UniqueAnswers
+-- requests: names and ranges of types, decimal numbers, signs, and the parts of a line
+pub mod IntegerTypes
+pub mod Decimals
 pub mod Signs
+pub mod Requests
+-- runs: what was appended to a list, and what an answerer has done
+pub mod Added
+pub mod Runs
+-- devices: sources and sinks over slices, readers and writers
 pub mod Sinks
 pub mod Slices
-pub mod Steps
-pub mod UniqueAnswers
+pub mod Readers
 pub mod Writers
+-- texts in a buffer, and texts with a separator between them
+pub mod Buffers
+pub mod Joins
+-- proofs by hand
+pub mod Steps

@@ -1,4 +1,4 @@
--- The one way in which an input is cut into lines.
+-- An input is cut into lines in exactly one way.
 use Rattle.std.proofs.Common.{◌≡◌, ◌≢◌, ℕ, List, [], ◌∷◌, ◌++◌, refl, sym, ap, ◌∙◌, append_assoc, inl, inr}
 use Rattle.std.proofs.lemmas.Bool.{cases_eq}
 use Rattle.std.specs.List.{All}
@@ -8,26 +8,28 @@ use Rattle.std.proofs.lemmas.List.Elements.{All-nil, All-cons, All-head, All-tai
 use Rattle.lexical_lines.specs.Lines.{IsCut, AreLines, EndsLine, NoNewline, with_newlines, rest_line}
 use Rattle.lexical_lines.proofs.Separators.{Lacks-not, cut_unique}
 
--- a byte that is no byte 10
+-- the byte is not a newline
 abbrev pub IsInside : ℕ → Type 0
 IsInside byte = byte ≢ 10
 
 with_newlines-cons : (line : List ℕ) (ended : List (List ℕ)) (rest : List ℕ) → with_newlines (line ∷ ended) ++ rest ≡ line ++ 10 ∷ (with_newlines ended ++ rest)
 with_newlines-cons line ended rest = simp append_assoc
 
--- ---- one byte more
+-- ---- more bytes
 
 pub IsCut-none : IsCut [] [] []
 IsCut-none = record { whole = refl; each = All-nil NoNewline; rest_inside = All-nil IsInside }
 
-pub IsCut-byte : {bytes : List ℕ} {ended : List (List ℕ)} {rest : List ℕ} (byte : ℕ) → IsInside byte → IsCut bytes ended rest → IsCut (bytes ++ byte ∷ []) ended (rest ++ byte ∷ [])
+pub IsCut-byte : {bytes : List ℕ} {ended : List (List ℕ)} {rest : List ℕ} (byte : ℕ) → IsInside byte → IsCut bytes ended rest
+    → IsCut (bytes ++ byte ∷ []) ended (rest ++ byte ∷ [])
 IsCut-byte {ended = ended} {rest = rest} byte inside h = record {
   whole = ap (λ xs. xs ++ byte ∷ []) h.whole ∙ append_assoc (with_newlines ended) rest (byte ∷ []);
   each = h.each;
   rest_inside = All-push IsInside rest byte h.rest_inside inside;
 }
 
-pub IsCut-more : {bytes : List ℕ} {ended : List (List ℕ)} {rest : List ℕ} (more : List ℕ) → NoNewline more → IsCut bytes ended rest → IsCut (bytes ++ more) ended (rest ++ more)
+pub IsCut-more : {bytes : List ℕ} {ended : List (List ℕ)} {rest : List ℕ} (more : List ℕ) → NoNewline more → IsCut bytes ended rest
+    → IsCut (bytes ++ more) ended (rest ++ more)
 IsCut-more {ended = ended} {rest = rest} more inside h = record {
   whole = ap (λ xs. xs ++ more) h.whole ∙ append_assoc (with_newlines ended) rest more;
   each = h.each;
@@ -65,7 +67,8 @@ AreLines-rest {ended = ended} {rest = rest} cut some = record {
 
 -- ---- every input has a cut
 
-onto_cut : (byte : ℕ) (bytes : List ℕ) → IsInside byte → ((ended : List (List ℕ)) × (rest : List ℕ) × IsCut bytes ended rest) → (ended : List (List ℕ)) × (rest : List ℕ) × IsCut (byte ∷ bytes) ended rest
+onto_cut : (byte : ℕ) (bytes : List ℕ) → IsInside byte → ((ended : List (List ℕ)) × (rest : List ℕ) × IsCut bytes ended rest)
+    → (ended : List (List ℕ)) × (rest : List ℕ) × IsCut (byte ∷ bytes) ended rest
 onto_cut byte bytes inside ([], rest, h) = (
   [],
   byte ∷ rest,
@@ -80,7 +83,8 @@ onto_cut byte bytes inside (line ∷ ended, rest, h) = (
   rest,
   record {
     whole = ap (λ xs. byte ∷ xs) h.whole;
-    each = All-cons NoNewline (byte ∷ line) ended (All-cons IsInside byte line inside (All-head NoNewline line ended h.each)) (All-tail NoNewline line ended h.each);
+    each = All-cons NoNewline (byte ∷ line) ended (All-cons IsInside byte line inside (All-head NoNewline line ended h.each))
+        (All-tail NoNewline line ended h.each);
     rest_inside = h.rest_inside;
   },
 )
@@ -106,7 +110,7 @@ AreLines-exist bytes =
     let (ended, rest, cut) = IsCut-exists bytes in
     (ended ++ rest_line rest, record { ended = ended; rest = rest; cut = cut; are = refl })
 
--- ---- and one only
+-- ---- no input has two cuts
 
 no_newline : (line more : List ℕ) (rest : List ℕ) → NoNewline rest → rest ≡ line ++ 10 ∷ more → ⊥
 no_newline line more rest inside e = Lacks-not 10 line more (rw e at inside)
@@ -120,7 +124,8 @@ cuts_unique (line ∷ ended) [] rest last each_ended each_other inside within e 
     absurd (no_newline line (with_newlines ended ++ rest) last within (sym e ∙ with_newlines-cons line ended rest))
 cuts_unique (line ∷ ended) (first ∷ other) rest last each_ended each_other inside within e =
     let both =
-    cut_unique 10 line (with_newlines ended ++ rest) first (with_newlines other ++ last) (All-head NoNewline line ended each_ended) (All-head NoNewline first other each_other)
+    cut_unique 10 line (with_newlines ended ++ rest) first (with_newlines other ++ last) (All-head NoNewline line ended each_ended)
+    (All-head NoNewline first other each_other)
     (sym (with_newlines-cons line ended rest) ∙ e ∙ with_newlines-cons first other last) in
     let more = cuts_unique ended other rest last (All-tail NoNewline line ended each_ended) (All-tail NoNewline first other each_other) inside within both.1 in
     (cc (both.0, more.0), more.1)
@@ -130,16 +135,18 @@ AreLines-unique bytes all other p q =
     let same = cuts_unique p.ended q.ended p.rest q.rest p.cut.each q.cut.each p.cut.rest_inside q.cut.rest_inside (sym p.cut.whole ∙ q.cut.whole) in
     p.are ∙ ap (λ ended. ended ++ rest_line p.rest) same.0 ∙ ap (λ rest. q.ended ++ rest_line rest) same.1 ∙ sym q.are
 
--- ---- an input after another, which ends with a byte 10
+-- ---- an input after another that ends with a newline
 
-IsCut-append : {bytes more : List ℕ} {ended others : List (List ℕ)} {rest : List ℕ} → IsCut bytes ended [] → IsCut more others rest → IsCut (bytes ++ more) (ended ++ others) rest
+IsCut-append : {bytes more : List ℕ} {ended others : List (List ℕ)} {rest : List ℕ} → IsCut bytes ended [] → IsCut more others rest
+    → IsCut (bytes ++ more) (ended ++ others) rest
 IsCut-append {ended = ended} {others = others} {rest = rest} p q = record {
   whole = (λ i. p.whole i ++ q.whole i) ∙ simp (flat_map-append, append_assoc, append-nil);
   each = All-append NoNewline ended others p.each q.each;
   rest_inside = q.rest_inside;
 }
 
-pub AreLines-append : (bytes more : List ℕ) (all others : List (List ℕ)) → EndsLine bytes → AreLines bytes all → AreLines more others → AreLines (bytes ++ more) (all ++ others)
+pub AreLines-append : (bytes more : List ℕ) (all others : List (List ℕ)) → EndsLine bytes → AreLines bytes all
+    → AreLines more others → AreLines (bytes ++ more) (all ++ others)
 AreLines-append bytes more all others (front, ends) p q =
     let (ended, rest, cut) = IsCut-exists front in
     let newline = IsCut-newline {bytes = front} {ended = ended} {rest = rest} cut in
@@ -152,12 +159,15 @@ AreLines-append bytes more all others (front, ends) p q =
       are = (λ i. same i ++ q.are i) ∙ sym (append_assoc (ended ++ rest ∷ []) q.ended (rest_line q.rest));
     }
 
--- the lines that ended are the first ones of a longer input
-pub AreLines-longer : {bytes : List ℕ} {ended : List (List ℕ)} {rest : List ℕ} (more : List ℕ) → IsCut bytes ended rest → (others : List (List ℕ)) × AreLines (bytes ++ more) (ended ++ others)
+-- the lines that ended are the first lines of a longer input
+pub AreLines-longer : {bytes : List ℕ} {ended : List (List ℕ)} {rest : List ℕ} (more : List ℕ) → IsCut bytes ended rest
+    → (others : List (List ℕ)) × AreLines (bytes ++ more) (ended ++ others)
 AreLines-longer {bytes = bytes} {ended = ended} {rest = rest} more cut =
     let (others, last, further) = IsCut-exists (rest ++ more) in
-    let front : IsCut (with_newlines ended) ended [] = record { whole = sym (append-nil (with_newlines ended)); each = cut.each; rest_inside = All-nil IsInside } in
-    let same : with_newlines ended ++ (rest ++ more) ≡ bytes ++ more = sym (append_assoc (with_newlines ended) rest more) ∙ ap (λ xs. xs ++ more) (sym cut.whole) in
+    let front : IsCut (with_newlines ended) ended [] =
+    record { whole = sym (append-nil (with_newlines ended)); each = cut.each; rest_inside = All-nil IsInside } in
+    let same : with_newlines ended ++ (rest ++ more) ≡ bytes ++ more = sym (append_assoc (with_newlines ended) rest more)
+    ∙ ap (λ xs. xs ++ more) (sym cut.whole) in
     let both = IsCut-append front further in (
       others ++ rest_line last,
       record { ended = ended ++ others; rest = last; cut = rw same at both; are = sym (append_assoc ended others (rest_line last)) },

@@ -1,5 +1,6 @@
--- What a source over a reader has given.
-use Rattle.std.proofs.Common.{◌≡◌, ◌⊎◌, ℕ, ◌+◌, true, false, List, [], ◌++◌, length, take, Option, Some, None, IsSome, IfSome, refl, sym, ap, subst, ◌∙◌, inl, inr, arith}
+-- The bytes that a source has read from a reader.
+use Rattle.std.proofs.Common.{◌≡◌, ◌⊎◌, ℕ, ◌+◌, true, false, List, [], ◌++◌, length, take, Option, Some, None, IsSome, IfSome, refl, sym, ap, subst, ◌∙◌, inl}
+use Rattle.std.proofs.Common.{inr, arith}
 use Rattle.std.proofs.lemmas.List.{append-nil, take_at, take_all}
 use Rattle.std.specs.Io.KnownBytes.{Consumes, IsAtEnd}
 use Rattle.lexical_lines.specs.Running.{added}
@@ -16,9 +17,11 @@ given-of (Some xs) (Some ys) given limit left gave count used_up = elim (used_up
       sym (ap (take limit) whole ∙ take_all limit given (omega (arith, count)))
 ]
 
--- once it has told the end, a source over a reader that tells its bytes has given all of them, up to its limit
-pub all-given : {R : Type 0} (remaining : R → Option (List ℕ)) (a b : StreamReading R) → a.given ≡ [] → a.is_ended ≡ false → KeepsReader remaining a b → b.is_ended ≡ true
+-- if the bytes of a reader are known, a source that has reported its end has yielded all of them, up to its limit
+pub all-given : {R : Type 0} (remaining : R → Option (List ℕ)) (a b : StreamReading R) → a.given ≡ [] → a.is_ended ≡ false
+    → KeepsReader remaining a b → b.is_ended ≡ true
     → IfSome (remaining a.reader) (λ bytes. b.given ≡ take a.left bytes)
 all-given remaining a b none unended kept ended =
     let bytes : added a.given b.given ≡ b.given = ap (λ front. added front b.given) none in
-    given-of _ _ b.given a.left b.left (subst (Consumes _ _) bytes kept.bytes) (omega (arith, kept.left, ap length none)) (λ told. kept.at_end told (λ e. cc (e, unended)) ended)
+    given-of _ _ b.given a.left b.left (subst (Consumes _ _) bytes kept.bytes) (omega (arith, kept.left, ap length none))
+    (λ told. kept.at_end told (λ e. cc (e, unended)) ended)

@@ -1,5 +1,6 @@
--- How far a run has come.
-use Rattle.std.proofs.Common.{rules, ◌≡◌, ◌↔◌, ℕ, ◌+◌, ◌-◌, ◌^◌, min, Bool, true, false, List, [], ◌∷◌, ◌++◌, length, ◌≤◌, Some, refl, sym, ap, ◌∙◌, arith, append_assoc, IsTrue, length-append, inl, inr, ◌&&◌, ◌⊎◌}
+-- What an answerer has done so far, and how a run ends.
+use Rattle.std.proofs.Common.{rules, ◌≡◌, ◌↔◌, ℕ, ◌+◌, ◌-◌, ◌^◌, min, Bool, true, false, List, [], ◌∷◌, ◌++◌, length, ◌≤◌, Some, refl, sym, ap, ◌∙◌, arith}
+use Rattle.std.proofs.Common.{append_assoc, IsTrue, length-append, inl, inr, ◌&&◌, ◌⊎◌}
 use Rattle.std.specs.List.{All}
 use Rattle.std.specs.Prelude.{nat_le}
 use Rattle.std.proofs.lemmas.Option.{cond_some}
@@ -7,7 +8,7 @@ use Rattle.std.proofs.lemmas.List.Elements.{All-nil, All-cons, All-head, All-tai
 use Rattle.lexical_lines.specs.declared.answerer.Answerer.{Answerer}
 use Rattle.lexical_lines.specs.Answer.{IsAnswer, AreAnswers, AreAnswersFrom, AnswersAll, AnswersEnded}
 use Rattle.lexical_lines.specs.Answerer.{HasAnswered}
-use Rattle.lexical_lines.specs.Line.{held}
+use Rattle.lexical_lines.specs.Line.{short_line}
 use Rattle.lexical_lines.specs.Lines.{AreLines, EndsLine, NoNewline}
 use Rattle.lexical_lines.specs.Request.{IsGood}
 use Rattle.lexical_lines.specs.Running.{added, BreaksOff}
@@ -16,7 +17,8 @@ use Rattle.lexical_lines.proofs.Added.{added-is}
 use Rattle.lexical_lines.proofs.Lines.{IsInside, IsCut-none, IsCut-byte, IsCut-more, IsCut-newline, AreLines-ended, AreLines-rest}
 use Rattle.std.proofs.lemmas.List.{append-nil}
 
-pub HasAnswered-none : (taken : List ℕ) (answerer : Answerer) → answerer.line ≡ held [] → answerer.line_number ≡ 1 → answerer.all_good ≡ true → HasAnswered taken [] taken answerer
+pub HasAnswered-none : (taken : List ℕ) (answerer : Answerer) → answerer.line ≡ short_line [] → answerer.line_number ≡ 1
+    → answerer.all_good ≡ true → HasAnswered taken [] taken answerer
 HasAnswered-none taken answerer line number good = record {
   ended = [];
   rest = [];
@@ -29,17 +31,23 @@ HasAnswered-none taken answerer line number good = record {
   last = line;
 }
 
--- ---- the answer to one line more
+-- ---- the answer to the next line
 
-pub AreAnswersFrom-push : (i : ℕ) (ended : List (List ℕ)) (answers line answer : List ℕ) → AreAnswersFrom i ended answers → IsAnswer (i + length ended) line answer → AreAnswersFrom i (ended ++ line ∷ []) (answers ++ answer)
+pub AreAnswersFrom-push : (i : ℕ) (ended : List (List ℕ)) (answers line answer : List ℕ) → AreAnswersFrom i ended answers
+    → IsAnswer (i + length ended) line answer → AreAnswersFrom i (ended ++ line ∷ []) (answers ++ answer)
 AreAnswersFrom-push i [] answers line answer h is =
     let here : i + 0 ≡ i = omega arith in
     (answer, [], rw here at is, refl, ap (λ xs. xs ++ answer) h ∙ sym (append-nil answer))
 AreAnswersFrom-push i (first ∷ ended) answers line answer (a, rest, is_first, more, whole) is =
-    let there : i + length (first ∷ ended) ≡ i + 1 + length ended = omega arith in
-    (a, rest ++ answer, is_first, AreAnswersFrom-push (i + 1) ended rest line answer more (rw there at is), ap (λ xs. xs ++ answer) whole ∙ append_assoc a rest answer)
+    let there : i + length (first ∷ ended) ≡ i + 1 + length ended = omega arith in (
+      a,
+      rest ++ answer,
+      is_first,
+      AreAnswersFrom-push (i + 1) ended rest line answer more (rw there at is),
+      ap (λ xs. xs ++ answer) whole ∙ append_assoc a rest answer,
+    )
 
--- a line number stays at the greatest
+-- a line number stays at the largest number of 64 bits
 min_twice : (i top : ℕ) → min (min i top) top ≡ min i top
 min_twice i top = omega arith
 
@@ -60,17 +68,18 @@ and_iff : (a b : Bool) (P Q : Type 0) → (IsTrue a ↔ P) → (IsTrue b ↔ Q) 
 and_iff true b P Q p q = (λ e. (p.0 refl, q.0 e), λ both. q.1 both.1)
 and_iff false b P Q p q = (λ e. cc, λ both. p.1 both.0)
 
-pub held_empty : (rest : List ℕ) → held rest ≡ held [] → rest ≡ []
-held_empty rest e = (cond_some (nat_le (length rest) 64) rest [] e).1
+pub short_line-empty : (rest : List ℕ) → short_line rest ≡ short_line [] → rest ≡ []
+short_line-empty rest e = (cond_some (nat_le (length rest) 64) rest [] e).1
 
-pub held_short : (line : List ℕ) → length line ≤ 64 → Some line ≡ held line
-held_short line short = search (rules, short)
+pub short_line-some : (line : List ℕ) → length line ≤ 64 → Some line ≡ short_line line
+short_line-some line short = search (rules, short)
 
 module _ {before bytes taken : List ℕ} {answerer : Answerer} (h : HasAnswered before bytes taken answerer) where
   pub answers_after : (answer : List ℕ) → IsAnswer answerer.line_number h.rest answer → AreAnswers (h.ended ++ h.rest ∷ []) (h.answers ++ answer)
   answers_after answer is =
       let here : length h.ended + 1 ≡ 1 + length h.ended = omega arith in
-      AreAnswersFrom-push 1 h.ended h.answers h.rest answer h.answered (rw here at (IsAnswer-counted (length h.ended + 1) answerer.line_number h.rest answer h.number is))
+      AreAnswersFrom-push 1 h.ended h.answers h.rest answer h.answered
+      (rw here at (IsAnswer-counted (length h.ended + 1) answerer.line_number h.rest answer h.number is))
 
   pub good_after : (is_good : Bool) → (IsTrue is_good ↔ IsGood h.rest) → IsTrue (answerer.all_good && is_good) ↔ All IsGood (h.ended ++ h.rest ∷ [])
   good_after is_good good =
@@ -80,8 +89,10 @@ module _ {before bytes taken : List ℕ} {answerer : Answerer} (h : HasAnswered 
   pub taken_after : (after answer : List ℕ) → after ≡ taken ++ answer → after ≡ before ++ (h.answers ++ answer)
   taken_after after answer e = e ∙ ap (λ xs. xs ++ answer) h.whole ∙ append_assoc before h.answers answer
 
-  -- one byte more of a line
-  pub HasAnswered-byte : (byte : ℕ) (next : Answerer) → IsInside byte → ((line : List ℕ) → answerer.line ≡ held line → next.line ≡ held (line ++ byte ∷ [])) → next.line_number ≡ answerer.line_number → next.all_good ≡ answerer.all_good
+  -- the next byte of a line
+  pub HasAnswered-byte : (byte : ℕ) (next : Answerer) → IsInside byte
+      → ((line : List ℕ) → answerer.line ≡ short_line line → next.line ≡ short_line (line ++ byte ∷ []))
+      → next.line_number ≡ answerer.line_number → next.all_good ≡ answerer.all_good
       → HasAnswered before (bytes ++ byte ∷ []) taken next
   HasAnswered-byte byte next inside push number good = record {
     ended = h.ended;
@@ -96,7 +107,8 @@ module _ {before bytes taken : List ℕ} {answerer : Answerer} (h : HasAnswered 
   }
 
   -- more bytes of a line
-  abbrev pub HasAnswered-more : (more : List ℕ) (next : Answerer) → NoNewline more → next.line ≡ held (h.rest ++ more) → next.line_number ≡ answerer.line_number → next.all_good ≡ answerer.all_good → HasAnswered before (bytes ++ more) taken next
+  abbrev pub HasAnswered-more : (more : List ℕ) (next : Answerer) → NoNewline more → next.line ≡ short_line (h.rest ++ more)
+      → next.line_number ≡ answerer.line_number → next.all_good ≡ answerer.all_good → HasAnswered before (bytes ++ more) taken next
   HasAnswered-more more next inside line number good = record {
     ended = h.ended;
     rest = h.rest ++ more;
@@ -109,9 +121,11 @@ module _ {before bytes taken : List ℕ} {answerer : Answerer} (h : HasAnswered 
     last = line;
   }
 
-  -- a line ended, and was answered
-  pub HasAnswered-line : (put answer : List ℕ) (next : Answerer) (is_good : Bool) → put ≡ taken ++ answer → IsAnswer answerer.line_number h.rest answer → (IsTrue is_good ↔ IsGood h.rest)
-      → next.line ≡ held [] → next.line_number ≡ min (answerer.line_number + 1) (2 ^ 64 - 1) → next.all_good ≡ (answerer.all_good && is_good) → HasAnswered before (bytes ++ 10 ∷ []) put next
+  -- a line has ended and is answered
+  pub HasAnswered-line : (put answer : List ℕ) (next : Answerer) (is_good : Bool) → put ≡ taken ++ answer
+      → IsAnswer answerer.line_number h.rest answer → (IsTrue is_good ↔ IsGood h.rest)
+      → next.line ≡ short_line [] → next.line_number ≡ min (answerer.line_number + 1) (2 ^ 64 - 1)
+      → next.all_good ≡ (answerer.all_good && is_good) → HasAnswered before (bytes ++ 10 ∷ []) put next
   HasAnswered-line put answer next is_good e is good line number all = record {
     ended = h.ended ++ h.rest ∷ [];
     rest = [];
@@ -124,7 +138,7 @@ module _ {before bytes taken : List ℕ} {answerer : Answerer} (h : HasAnswered 
     last = line;
   }
 
-  -- ---- how it ends
+  -- ---- the end of the input
 
   pub answers_are : added before taken ≡ h.answers
   answers_are = added-is before taken h.answers h.whole
@@ -133,29 +147,32 @@ module _ {before bytes taken : List ℕ} {answerer : Answerer} (h : HasAnswered 
   pub answers_ended : AnswersEnded bytes (added before taken)
   answers_ended = (h.ended, h.rest, h.cut, rw (sym answers_are) at h.answered)
 
-  -- what is left is no line
-  pub lines_at_empty : answerer.line ≡ held [] → AreLines bytes h.ended
-  lines_at_empty none = AreLines-ended h.cut (held_empty h.rest (sym h.last ∙ none))
+  -- if the answerer keeps no bytes, the lines that ended are all lines
+  pub lines_at_empty : answerer.line ≡ short_line [] → AreLines bytes h.ended
+  lines_at_empty none = AreLines-ended h.cut (short_line-empty h.rest (sym h.last ∙ none))
 
-  -- what is left is a line
-  pub lines_at_rest : (answerer.line ≡ held [] → ⊥) → AreLines bytes (h.ended ++ h.rest ∷ [])
-  lines_at_rest some = AreLines-rest h.cut (λ empty. some (h.last ∙ ap held empty))
+  -- otherwise the bytes that it keeps are the last line
+  pub lines_at_rest : (answerer.line ≡ short_line [] → ⊥) → AreLines bytes (h.ended ++ h.rest ∷ [])
+  lines_at_rest some = AreLines-rest h.cut (λ empty. some (h.last ∙ ap short_line empty))
 
   pub lines_at_newline : AreLines (bytes ++ 10 ∷ []) (h.ended ++ h.rest ∷ [])
   lines_at_newline = AreLines-ended (IsCut-newline h.cut) refl
 
   -- all lines are answered
-  pub answers_at_empty : answerer.line ≡ held [] → AnswersAll bytes (added before taken)
+  pub answers_at_empty : answerer.line ≡ short_line [] → AnswersAll bytes (added before taken)
   answers_at_empty none = (h.ended, lines_at_empty none, rw (sym answers_are) at h.answered)
 
-  pub answers_at_rest : (put answer : List ℕ) → (answerer.line ≡ held [] → ⊥) → IsAnswer answerer.line_number h.rest answer → put ≡ taken ++ answer → AnswersAll bytes (added before put)
+  pub answers_at_rest : (put answer : List ℕ) → (answerer.line ≡ short_line [] → ⊥) → IsAnswer answerer.line_number h.rest answer
+      → put ≡ taken ++ answer → AnswersAll bytes (added before put)
   answers_at_rest put answer some is e =
       let put_is : h.answers ++ answer ≡ added before put = sym (added-is before put (h.answers ++ answer) (taken_after put answer e)) in
       let answered = answers_after answer is in
       (h.ended ++ h.rest ∷ [], lines_at_rest some, rw put_is at answered)
 
-  -- the sink failed
-  pub BreaksOff-from : (is_ended : Bool) (read put : List ℕ) → IsTrue is_ended ⊎ EndsLine read → AreLines read (h.ended ++ h.rest ∷ []) → (answer : List ℕ) (part : List ℕ) → IsAnswer answerer.line_number h.rest answer → IsBeginning part answer → put ≡ taken ++ part
+  -- the sink failed during the answer to the last line
+  pub BreaksOff-from : (is_ended : Bool) (read put : List ℕ) → IsTrue is_ended ⊎ EndsLine read
+      → AreLines read (h.ended ++ h.rest ∷ []) → (answer : List ℕ) (part : List ℕ) → IsAnswer answerer.line_number h.rest answer
+      → IsBeginning part answer → put ≡ taken ++ part
       → BreaksOff is_ended read (added before put)
   BreaksOff-from is_ended read put line_end cut answer part is begins e = record {
     line_end = line_end;
@@ -171,7 +188,7 @@ module _ {before bytes taken : List ℕ} {answerer : Answerer} (h : HasAnswered 
     whole = added-is before put (h.answers ++ part) (taken_after put part e);
   }
 
--- where the lines broke off does not depend on the end of the input
+-- a run that broke off after a newline also broke off if the input has ended
 pub BreaksOff-open : (is_ended : Bool) {bytes put : List ℕ} → BreaksOff false bytes put → BreaksOff is_ended bytes put
 BreaksOff-open is_ended h = record {
   line_end = elim h.line_end [

@@ -1,9 +1,9 @@
--- Texts that are cut at a byte.
+-- Texts that are cut at their first separator.
 use Rattle.std.proofs.Common.{◌≡◌, ◌≢◌, ℕ, List, [], ◌∷◌, ◌++◌, refl}
 use Rattle.std.specs.List.{All}
 use Rattle.std.proofs.lemmas.List.Elements.{All-head, All-tail}
 
--- the byte is none of these
+-- the text does not contain the separator
 abbrev pub Lacks : ℕ → List ℕ → Type 0
 Lacks mark text = All (λ byte. byte ≢ mark) text
 
@@ -11,7 +11,7 @@ pub Lacks-not : (mark : ℕ) (a b : List ℕ) → Lacks mark (a ++ mark ∷ b) �
 Lacks-not mark [] b h = All-head (λ byte. byte ≢ mark) mark b h refl
 Lacks-not mark (x ∷ a) b h = Lacks-not mark a b (All-tail (λ byte. byte ≢ mark) x (a ++ mark ∷ b) h)
 
--- a text is cut at its first such byte in one way
+-- a text is cut at its first separator in one way
 pub cut_unique : (mark : ℕ) (a b c d : List ℕ) → Lacks mark a → Lacks mark c → a ++ mark ∷ b ≡ c ++ mark ∷ d → (a ≡ c) × (b ≡ d)
 cut_unique mark [] b [] d p q e = (refl, cc)
 cut_unique mark [] b (y ∷ c) d p q e = absurd (All-head (λ byte. byte ≢ mark) y c q (cc))

@@ -1,30 +1,33 @@
--- Signs that may stand before digits.
-use Rattle.std.proofs.Common.{◌≡◌, ℕ, ◌<◌, List, [], ◌∷◌, ◌++◌, Bool, true, false, refl, arith}
+-- Optional signs before digits.
+use Rattle.std.proofs.Common.{◌≡◌, ℕ, ◌<◌, List, [], ◌∷◌, ◌++◌, Bool, true, false, take, refl, ap, arith}
+use Rattle.std.specs.Io.{StartsWith}
 use Rattle.std.specs.List.{All}
 use Rattle.std.proofs.lemmas.List.Elements.{All-head}
-use Rattle.lexical_lines.specs.Sign.{optional_sign, StartsWith}
+use Rattle.lexical_lines.specs.Sign.{optional_sign}
 use Rattle.lexical_lines.proofs.Decimals.{IsDigitByte}
 
--- a sign before digits is found in one way
-pub stripped_unique : (sign : ℕ) (text s t : List ℕ) (p q : Bool) → sign < 48 → text ≡ optional_sign p sign ++ s → (StartsWith text sign → p ≡ true) → text ≡ optional_sign q sign ++ t → All IsDigitByte t → (p ≡ q) × (s ≡ t)
+-- a text has one reading as an optional sign and digits
+pub stripped_unique : (sign : ℕ) (text s t : List ℕ) (p q : Bool) → sign < 48 → text ≡ optional_sign p sign ++ s
+    → (StartsWith text (sign ∷ []) → p ≡ true) → text ≡ optional_sign q sign ++ t → All IsDigitByte t → (p ≡ q) × (s ≡ t)
 stripped_unique sign text s t true true m e stripped f digits = (refl, cc)
 stripped_unique sign text s t false false m e stripped f digits = (refl, cc)
-stripped_unique sign text s t false true m e stripped f digits = absurd (let wrong : false ≡ true = stripped (record { rest = t; whole = f }) in cc)
+stripped_unique sign text s t false true m e stripped f digits = absurd (let wrong : false ≡ true = stripped (ap (take 1) f) in cc)
 stripped_unique sign text s [] true false m e stripped f digits = absurd (cc)
 stripped_unique sign text s (byte ∷ t) true false m e stripped f digits =
     let digit = All-head IsDigitByte byte t digits in
     let same : byte ≡ sign = cc in
     absurd (omega arith)
 
--- the same, of two texts
-pub signs_unique : (sign : ℕ) (p q : Bool) (s t : List ℕ) → sign < 48 → optional_sign p sign ++ s ≡ optional_sign q sign ++ t → All IsDigitByte s → All IsDigitByte t → (p ≡ q) × (s ≡ t)
+-- two equal texts of an optional sign and digits have the same sign and the same digits
+pub signs_unique : (sign : ℕ) (p q : Bool) (s t : List ℕ) → sign < 48 → optional_sign p sign ++ s ≡ optional_sign q sign ++ t
+    → All IsDigitByte s → All IsDigitByte t → (p ≡ q) × (s ≡ t)
 signs_unique sign p q s t m e left right =
     stripped_unique sign (optional_sign p sign ++ s) s t p q m refl (λ begins. starts p s begins left) e right
   where
-    starts : (p : Bool) (s : List ℕ) → StartsWith (optional_sign p sign ++ s) sign → All IsDigitByte s → p ≡ true
+    starts : (p : Bool) (s : List ℕ) → StartsWith (optional_sign p sign ++ s) (sign ∷ []) → All IsDigitByte s → p ≡ true
     starts true s begins digits = refl
-    starts false [] begins digits = cc (begins.whole)
+    starts false [] begins digits = cc (begins)
     starts false (byte ∷ s) begins digits =
         let digit = All-head IsDigitByte byte s digits in
-        let same : byte ≡ sign = cc (begins.whole) in
+        let same : byte ≡ sign = cc (begins) in
         absurd (omega arith)

@@ -1,12 +1,13 @@
--- Each input has one text of answers.
-use Rattle.std.proofs.Common.{◌≡◌, ℕ, ◌+◌, ◌-◌, ◌^◌, ◌≤◌, min, Bool, List, [], ◌∷◌, ◌++◌, refl, sym, ap, ◌∙◌, arith, ℤ, inl, inr, ◌⊎◌, IsTrue, length, length-append, append_assoc}
+-- The answers to an input are unique.
+use Rattle.std.proofs.Common.{◌≡◌, ℕ, ◌+◌, ◌-◌, ◌^◌, ◌≤◌, min, Bool, List, [], ◌∷◌, ◌++◌, refl, sym, ap, ◌∙◌, arith, ℤ, inl, inr, ◌⊎◌, IsTrue, length}
+use Rattle.std.proofs.Common.{length-append, append_assoc}
 use Rattle.std.specs.Prelude.{codes}
 use Rattle.lexical_write_integer.specs.Text.{IsText}
 use Rattle.lexical_num.specs.Sign.{sign_of}
 use Rattle.lexical_write_integer.proofs.Numerals.{digits_unique}
 use Rattle.lexical_lines.specs.declared.integer_type.IntegerType.{IntegerType}
 use Rattle.lexical_lines.specs.Answer.{IsAnswer, WithNewline, IsBadLine, AreAnswersFrom, AnswersAll, AnswersEnded, format_of}
-use Rattle.lexical_lines.specs.IntegerType.{signed}
+use Rattle.lexical_lines.specs.IntegerType.{with_sign}
 use Rattle.lexical_lines.specs.Lines.{AreLines, EndsLine}
 use Rattle.lexical_lines.proofs.Runs.{AreAnswersFrom-push}
 use Rattle.std.proofs.lemmas.List.{append-nil}
@@ -18,15 +19,18 @@ use Rattle.lexical_lines.proofs.Decimals.{IsDecimal-bytes, IsDecimal-value, IsDe
 use Rattle.lexical_lines.proofs.Requests.{IsRequest-name, IsRequest-parts, no_space-name, no_space-signed, radix_bytes, whole_as}
 use Rattle.lexical_lines.proofs.Signs.{signs_unique}
 
--- a value has one number
+-- a text is the value of one number only
 IsValue-number : {kind other : IntegerType} {number second : ℤ} {text : List ℕ} → IsValue kind number text → IsValue other second text → number ≡ second
 IsValue-number h k =
-    let parts = signs_unique 45 h.minus k.minus h.digits k.digits (omega arith) (sym h.whole ∙ k.whole) (IsDecimal-bytes h.magnitude h.digits h.decimal) (IsDecimal-bytes k.magnitude k.digits k.decimal) in
+    let parts = signs_unique 45 h.minus k.minus h.digits k.digits (omega arith) (sym h.whole ∙ k.whole)
+    (IsDecimal-bytes h.magnitude h.digits h.decimal) (IsDecimal-bytes k.magnitude k.digits k.decimal) in
     let same : h.magnitude ≡ k.magnitude = sym (IsDecimal-value h.magnitude h.digits h.decimal) ∙ IsDecimal-value k.magnitude h.digits (rw parts.1 k.decimal) in
-    h.value ∙ ap (λ minus. signed minus h.magnitude) parts.0 ∙ ap (signed k.minus) same ∙ sym k.value
+    h.value ∙ ap (λ minus. with_sign minus h.magnitude) parts.0 ∙ ap (with_sign k.minus) same ∙ sym k.value
 
--- a line asks for one thing
-IsRequest-unique : {kind other : IntegerType} {plus add : Bool} {radix base : ℕ} {number second : ℤ} {line : List ℕ} → IsRequest kind plus radix number line → IsRequest other add base second line → (plus ≡ add) × (radix ≡ base) × (number ≡ second)
+-- a line makes one request only
+IsRequest-unique : {kind other : IntegerType} {plus add : Bool} {radix base : ℕ} {number second : ℤ} {line : List ℕ}
+    → IsRequest kind plus radix number line → IsRequest other add base second line
+    → (plus ≡ add) × (radix ≡ base) × (number ≡ second)
 IsRequest-unique {kind = kind} {other = other} {plus = plus} {add = add} {radix = radix} {base = base} {second = second} h k =
     let first = IsRequest-name k _ _ (whole_as h) (no_space-name kind) in
     let parts = IsRequest-parts k _ _ h.value_text first.1 refl (no_space-signed plus h.radix_text (radix_bytes h)) in
@@ -36,11 +40,12 @@ IsRequest-unique {kind = kind} {other = other} {plus = plus} {add = add} {radix 
     ∙ IsDecimal-value base h.radix_text (rw signs.1 (IsDecimal-from_digits base k.radix_text k.radix_digits)) in
     (signs.0, same, IsValue-number h.value (let value : IsValue other second h.value_text = rw parts.1 k.value in value))
 
-IsText-unique : (number : ℤ) (radix : ℕ) (plus : Bool) (a b : List ℕ) → 2 ≤ radix → IsText number (format_of radix plus) a → IsText number (format_of radix plus) b → a ≡ b
+IsText-unique : (number : ℤ) (radix : ℕ) (plus : Bool) (a b : List ℕ) → 2 ≤ radix → IsText number (format_of radix plus) a
+    → IsText number (format_of radix plus) b → a ≡ b
 IsText-unique number radix plus a b h p q =
     p.whole ∙ ap (λ digits. sign_of number plus ++ digits) (digits_unique radix _ p.digits q.digits h p.magnitude q.magnitude) ∙ sym q.whole
 
--- a text with a byte 10 is one text where its kind has one
+-- if texts of a kind are unique, so are the lines made of them
 WithNewline-unique : (Is : List ℕ → Type 0) (a b : List ℕ) → ((s t : List ℕ) → Is s → Is t → s ≡ t) → WithNewline Is a → WithNewline Is b → a ≡ b
 WithNewline-unique Is a b only (s, p, e) (t, q, f) = e ∙ ap (λ text. text ++ 10 ∷ []) (only s t p q) ∙ sym f
 
@@ -51,7 +56,8 @@ IsAnswer-unique : (i : ℕ) (line a b : List ℕ) → IsAnswer i line a → IsAn
 IsAnswer-unique i line a b (inl p) (inl q) =
     let same = IsRequest-unique p.request q.request in
     let other : WithNewline (IsText p.number (format_of p.radix p.plus)) b = rw (same.0, same.1, same.2) q.text in
-    WithNewline-unique (IsText p.number (format_of p.radix p.plus)) a b (λ s t. IsText-unique p.number p.radix p.plus s t p.request.radix_valid.at_least_two) p.text other
+    WithNewline-unique (IsText p.number (format_of p.radix p.plus)) a b
+    (λ s t. IsText-unique p.number p.radix p.plus s t p.request.radix_valid.at_least_two) p.text other
 IsAnswer-unique i line a b (inl p) (inr q) = absurd (q.bad (p.kind, p.plus, p.radix, p.number, p.request))
 IsAnswer-unique i line a b (inr p) (inl q) = absurd (p.bad (q.kind, q.plus, q.radix, q.number, q.request))
 IsAnswer-unique i line a b (inr p) (inr q) =
@@ -60,22 +66,26 @@ IsAnswer-unique i line a b (inr p) (inr q) =
 AreAnswersFrom-unique : (i : ℕ) (all : List (List ℕ)) (a b : List ℕ) → AreAnswersFrom i all a → AreAnswersFrom i all b → a ≡ b
 AreAnswersFrom-unique i [] a b p q = p ∙ sym q
 AreAnswersFrom-unique i (line ∷ all) a b (x, xs, is, more, whole) (y, ys, is', more', whole') =
-    whole ∙ ap (λ front. front ++ xs) (IsAnswer-unique i line x y is is') ∙ ap (λ rest. y ++ rest) (AreAnswersFrom-unique (i + 1) all xs ys more more') ∙ sym whole'
+    whole ∙ ap (λ front. front ++ xs) (IsAnswer-unique i line x y is is')
+    ∙ ap (λ rest. y ++ rest) (AreAnswersFrom-unique (i + 1) all xs ys more more') ∙ sym whole'
 
 pub AnswersAll-unique : (bytes a b : List ℕ) → AnswersAll bytes a → AnswersAll bytes b → a ≡ b
 AnswersAll-unique bytes a b (all, are, answers) (other, also, others) =
     AreAnswersFrom-unique 1 all a b answers (let same = AreLines-unique bytes other all also are in rw same at others)
 
--- ---- answers that broke off are a beginning of those to the whole input
+-- ---- answers that broke off are a prefix of the answers to the whole input
 
-AreAnswersFrom-split : (i : ℕ) (front back : List (List ℕ)) (text : List ℕ) → AreAnswersFrom i (front ++ back) text → (first : List ℕ) × (rest : List ℕ) × AreAnswersFrom i front first × (text ≡ first ++ rest)
+AreAnswersFrom-split : (i : ℕ) (front back : List (List ℕ)) (text : List ℕ) → AreAnswersFrom i (front ++ back) text
+    → (first : List ℕ) × (rest : List ℕ) × AreAnswersFrom i front first × (text ≡ first ++ rest)
 AreAnswersFrom-split i [] back text h = ([], text, refl, refl)
 AreAnswersFrom-split i (line ∷ front) back text (answer, more, is, others, whole) =
     let (first, rest, answered, e) = AreAnswersFrom-split (i + 1) front back more others in
     (answer ++ first, rest, (answer, first, is, answered, refl), whole ∙ ap (λ bytes. answer ++ bytes) e ∙ sym (append_assoc answer first rest))
 
--- the lines of the part that was read are the first ones of the whole
-lines_before : (is_ended : Bool) (bytes left : List ℕ) (all lines : List (List ℕ)) → (IsTrue is_ended → left ≡ []) → IsTrue is_ended ⊎ EndsLine bytes → AreLines bytes lines → AreLines (bytes ++ left) all → (others : List (List ℕ)) × (all ≡ lines ++ others)
+-- the lines of the part that was read are the first lines of the whole input
+lines_before : (is_ended : Bool) (bytes left : List ℕ) (all lines : List (List ℕ)) → (IsTrue is_ended → left ≡ [])
+    → IsTrue is_ended ⊎ EndsLine bytes → AreLines bytes lines → AreLines (bytes ++ left) all
+    → (others : List (List ℕ)) × (all ≡ lines ++ others)
 lines_before is_ended bytes left all lines none (inl ended) p q =
     let same : bytes ++ left ≡ bytes = ap (λ rest. bytes ++ rest) (none ended) ∙ append-nil bytes in
     ([], AreLines-unique bytes all lines (rw same at q) p ∙ sym (append-nil lines))
@@ -83,22 +93,25 @@ lines_before is_ended bytes left all lines none (inr ends) p q =
     let (others, rest) = AreLines-exist left in
     (others, AreLines-unique (bytes ++ left) all (lines ++ others) q (AreLines-append bytes left lines others ends p rest))
 
-pub BreaksOff-begins : (is_ended : Bool) (bytes left put text : List ℕ) → (IsTrue is_ended → left ≡ []) → BreaksOff is_ended bytes put → AnswersAll (bytes ++ left) text → IsBeginning put text
+pub BreaksOff-begins : (is_ended : Bool) (bytes left put text : List ℕ) → (IsTrue is_ended → left ≡ [])
+    → BreaksOff is_ended bytes put → AnswersAll (bytes ++ left) text → IsBeginning put text
 BreaksOff-begins is_ended bytes left put text none broke (all, are, answers) =
     let (others, lines) = lines_before is_ended bytes left all (broke.front ++ broke.last ∷ []) none broke.line_end broke.cut are in
     let (first, more, answered, whole) = AreAnswersFrom-split 1 (broke.front ++ broke.last ∷ []) others text (rw lines at answers) in
     let here : length broke.front + 1 ≡ 1 + length broke.front = omega arith in
-    let same = AreAnswersFrom-unique 1 (broke.front ++ broke.last ∷ []) first (broke.answers ++ broke.answer) answered (AreAnswersFrom-push 1 broke.front broke.answers broke.last broke.answer broke.answered (rw here at broke.last_answer)) in
+    let same = AreAnswersFrom-unique 1 (broke.front ++ broke.last ∷ []) first (broke.answers ++ broke.answer) answered
+    (AreAnswersFrom-push 1 broke.front broke.answers broke.last broke.answer broke.answered (rw here at broke.last_answer)) in
     let (rest, some, answer) = broke.beginning in (
       rest ++ more,
       omega (arith, length-append rest more),
-      whole ∙ ap (λ bytes. bytes ++ more) (same ∙ ap (λ bytes. broke.answers ++ bytes) answer) ∙ regroup broke.answers broke.part rest more ∙ ap (λ bytes. bytes ++ (rest ++ more)) (sym broke.whole),
+      whole ∙ ap (λ bytes. bytes ++ more) (same ∙ ap (λ bytes. broke.answers ++ bytes) answer)
+          ∙ regroup broke.answers broke.part rest more ∙ ap (λ bytes. bytes ++ (rest ++ more)) (sym broke.whole),
     )
   where
     regroup : (a b c d : List ℕ) → (a ++ (b ++ c)) ++ d ≡ (a ++ b) ++ (c ++ d)
     regroup a b c d = simp append_assoc
 
--- the answers to the lines that ended are a beginning of those to a longer input
+-- the answers to the lines that ended are a prefix of the answers to a longer input
 pub AnswersEnded-begins : (bytes more put text : List ℕ) → AnswersEnded bytes put → AnswersAll (bytes ++ more) text → (rest : List ℕ) × (text ≡ put ++ rest)
 AnswersEnded-begins bytes more put text (ended, rest, cut, answered) (all, are, answers) =
     let (others, lines) = AreLines-longer more cut in

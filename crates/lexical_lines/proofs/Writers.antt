@@ -1,4 +1,4 @@
--- What a sink over a writer has handed on.
+-- The bytes that a sink has written to a writer.
 use Rattle.std.proofs.Common.{◌≡◌, ℕ, List, [], ◌++◌, take, Option, Some, None, Result, Ok, Err, sym, ap, subst, ◌∙◌, append_assoc}
 use Rattle.std.proofs.lemmas.List.{append-nil}
 use Rattle.std.specs.Io.KnownBytes.{Appends, Keeps, WriteAppends}
@@ -19,16 +19,20 @@ known-keeps None new bytes known keeps = absurd (cc known)
 known-keeps (Some xs) None bytes known keeps = absurd keeps
 known-keeps (Some xs) (Some ys) bytes known keeps = ap Some keeps ∙ known
 
-pub KeepsWriter-put : {W E : Type 0} (contents : W → Option (List ℕ)) (before after : W) (taken taken_after bytes : List ℕ) (outcome : Result ℕ E) → taken_after ≡ taken ++ take (taken_by outcome) bytes
-    → WriteAppends (contents before) (contents after) outcome bytes → (front : List ℕ) → contents before ≡ Some (front ++ taken) → contents after ≡ Some (front ++ taken_after)
+pub KeepsWriter-put : {W E : Type 0} (contents : W → Option (List ℕ)) (before after : W) (taken taken_after bytes : List ℕ)
+    (outcome : Result ℕ E) → taken_after ≡ taken ++ take (taken_by outcome) bytes
+    → WriteAppends (contents before) (contents after) outcome bytes → (front : List ℕ) → contents before ≡ Some (front ++ taken)
+    → contents after ≡ Some (front ++ taken_after)
 KeepsWriter-put contents before after taken taken_after bytes (Ok count) longer wrote front holds =
-    known-appends _ _ (front ++ taken) (take count bytes) holds wrote ∙ ap Some (append_assoc front taken (take count bytes) ∙ ap (λ more. front ++ more) (sym longer))
+    known-appends _ _ (front ++ taken) (take count bytes) holds wrote
+    ∙ ap Some (append_assoc front taken (take count bytes) ∙ ap (λ more. front ++ more) (sym longer))
 KeepsWriter-put contents before after taken taken_after bytes (Err e) longer wrote front holds =
     known-keeps _ _ (front ++ taken) holds wrote ∙ ap (λ more. Some (front ++ more)) (sym (longer ∙ append-nil taken))
 
--- a writer that held nothing holds the answers that a sink over it took
+-- if a writer was empty, it now contains the answers that its sink has taken
 pub answers_held : {bytes items taken taken_after : List ℕ} {held held_after : Option (List ℕ)} → AnswersAll bytes (added taken taken_after)
-    → ((before : List ℕ) → held ≡ Some (before ++ taken) → held_after ≡ Some (before ++ taken_after)) → taken ≡ [] → held ≡ Some [] → held_after ≡ Some items → AnswersAll bytes items
+    → ((before : List ℕ) → held ≡ Some (before ++ taken) → held_after ≡ Some (before ++ taken_after)) → taken ≡ [] → held ≡ Some []
+    → held_after ≡ Some items → AnswersAll bytes items
 answers_held {bytes = bytes} {items = items} {taken = taken} {taken_after = taken_after} {held_after = held_after} answers keeps none empty full =
     let all : held_after ≡ Some taken_after = keeps [] (empty ∙ ap Some (sym none)) in
     let same : items ≡ taken_after = some_same items taken_after (sym full ∙ all) in

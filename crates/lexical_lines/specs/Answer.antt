@@ -1,4 +1,4 @@
--- The answers to lines.
+-- The answer to a line, and the answers to all lines of an input.
 use Rattle.std.specs.Prelude.{◌≡◌, ◌⊎◌, ℕ, ◌+◌, ◌-◌, ◌^◌, min, Bool, List, [], ◌∷◌, ◌++◌, ℤ, codes}
 use Rattle.lexical_num.specs.Format.{Format, standard}
 use Rattle.lexical_write_integer.specs.Text.{IsDigits, IsText}
@@ -6,19 +6,19 @@ use Rattle.lexical_lines.specs.declared.integer_type.IntegerType.{IntegerType}
 use Rattle.lexical_lines.specs.Lines.{IsCut, AreLines}
 use Rattle.lexical_lines.specs.Request.{IsGood, IsRequest}
 
--- both radices alike, and a sign required or not
+-- the standard format with this mantissa and exponent radix, and with the sign `+` required or not
 abbrev pub format_of : ℕ → Bool → Format
 format_of radix plus = record standard { mantissa_radix = radix; exponent_radix = radix; required_mantissa_sign = plus }
 
--- a text of this kind, and a byte 10
+-- the line is a text of this kind followed by a newline
 abbrev pub WithNewline : (List ℕ → Type 0) → List ℕ → Type 0
 WithNewline Is line = (text : List ℕ) × Is text × (line ≡ text ++ 10 ∷ [])
 
--- `bad line `, and a number in decimal
+-- the text is `bad line ` followed by the line number in decimal
 abbrev pub IsBadLine : ℕ → List ℕ → Type 0
 IsBadLine line_number text = (digits : List ℕ) × IsDigits 10 line_number digits × (text ≡ codes "bad line " ++ digits)
 
--- the line is a good one, and this is the text that it asks for, with a byte 10
+-- the line is valid, and the answer is the requested text and a newline
 pub record IsTextAnswer (line answer : List ℕ) : Type 0 where
   pub kind : IntegerType
   pub plus : Bool
@@ -27,29 +27,30 @@ pub record IsTextAnswer (line answer : List ℕ) : Type 0 where
   pub request : IsRequest kind plus radix number line
   pub text : WithNewline (IsText number (format_of radix plus)) answer
 
--- the line is no good one, and this tells its number, which stays at the greatest of 64 bits
+-- the line is not valid, and the answer names its number, or the largest number of 64 bits if that is less
 pub record IsBadAnswer (i : ℕ) (line answer : List ℕ) : Type 0 where
   pub bad : IsGood line → ⊥
   pub told : WithNewline (IsBadLine (min i (2 ^ 64 - 1))) answer
 
--- the answer to the line with this number
+-- this is the answer to the line with number i
 abbrev pub IsAnswer : ℕ → List ℕ → List ℕ → Type 0
 IsAnswer i line answer = IsTextAnswer line answer ⊎ IsBadAnswer i line answer
 
--- the answers to lines, one after the other, the first line having this number
+-- the text is the answers to these lines in order, if the first line has number i
 abbrev pub AreAnswersFrom : ℕ → List (List ℕ) → List ℕ → Type 0
 AreAnswersFrom i [] text = text ≡ []
 AreAnswersFrom i (line ∷ more) text =
-    (answer : List ℕ) × (rest : List ℕ) × IsAnswer i line answer × AreAnswersFrom (i + 1) more rest × (text ≡ answer ++ rest)
+    (answer : List ℕ) × (rest : List ℕ) × IsAnswer i line answer × AreAnswersFrom (i + 1) more rest
+    × (text ≡ answer ++ rest)
 
--- the answers to lines, which are numbered from 1
+-- the text is the answers to these lines in order, if the first line has number 1
 abbrev pub AreAnswers : List (List ℕ) → List ℕ → Type 0
 AreAnswers lines text = AreAnswersFrom 1 lines text
 
--- the answers to all lines of an input
+-- the text is the answers to all lines of the input
 abbrev pub AnswersAll : List ℕ → List ℕ → Type 0
 AnswersAll bytes text = (all : List (List ℕ)) × AreLines bytes all × AreAnswers all text
 
--- the answers to the lines of an input that a byte 10 ends
+-- the text is the answers to the lines of the input that end with a newline
 abbrev pub AnswersEnded : List ℕ → List ℕ → Type 0
 AnswersEnded bytes text = (ended : List (List ℕ)) × (rest : List ℕ) × IsCut bytes ended rest × AreAnswers ended text

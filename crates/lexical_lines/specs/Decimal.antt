@@ -1,9 +1,9 @@
--- Numbers that decimal digits spell.
+-- Decimal numbers that may have leading zeros.
 use Rattle.std.specs.Prelude.{◌≡◌, ℕ, ◌<◌, List, length, map, All}
 use Rattle.lexical_num.specs.Digit.{digit_char}
 use Rattle.lexical_write_integer.specs.Numeral.{value_of}
 
--- at least one decimal digit, leading zeros or not, with the number as their value
+-- the text is one or more decimal digits, with or without leading zeros, whose value is the number
 pub record IsDecimal (number : ℕ) (text : List ℕ) : Type 0 where
   pub digits : List ℕ
   pub nonempty : 0 < length digits

@@ -1,7 +1,7 @@
--- How the program ends.
+-- The exit status of the program.
 use Rattle.std.specs.Prelude.{ℕ, Bool, true, false, Result, Ok, Err}
 
--- 2 where a device or the flush failed, else 1 where a line was bad, else 0
+-- 2 if a device or the last flush failed; otherwise 1 if a line is invalid; otherwise 0
 abbrev pub status_of : {E : Type 0} → Result Bool E → Bool → ℕ
 status_of (Err e) flushed = 2
 status_of (Ok all_good) false = 2

@@ -3,7 +3,7 @@ pub mod Answerer
 pub mod Decimal
 pub mod ExitStatus
 pub mod IntegerType
-pub mod Joined
+pub mod JoinedText
 pub mod Line
 pub mod Lines
 pub mod Request
@@ -14,7 +14,7 @@ pub mod Slice
 pub mod Source
 pub mod Stream
 pub mod Trace
--- the words of the crates below that these contracts use
+-- the definitions of lower crates that these contracts use
 pub use Rattle.lexical_num.specs.Format
 pub use Rattle.lexical_num.specs.Size
 pub use Rattle.lexical_write_integer.specs.Buffer

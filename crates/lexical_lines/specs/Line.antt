@@ -2,11 +2,11 @@
 use Rattle.std.specs.Prelude.{ℕ, List, length, Option, Some, None, nat_le, if◌then◌else◌}
 use Rattle.std.specs.Borrow.{Bor}
 
--- the bytes that are held of a line: all of them, or none where they are more than 64
-abbrev pub held : List ℕ → Option (List ℕ)
-held line = if nat_le (length line) 64 then Some line else None
+-- the line if it has at most 64 bytes, otherwise `None`
+abbrev pub short_line : List ℕ → Option (List ℕ)
+short_line line = if nat_le (length line) 64 then Some line else None
 
--- the bytes of a line that is not too long
-abbrev pub seen : Option (Bor (List ℕ)) → Option (List ℕ)
-seen None = None
-seen (Some bytes) = Some bytes.now
+-- the bytes behind the reference, if there is one
+abbrev pub bytes_of : Option (Bor (List ℕ)) → Option (List ℕ)
+bytes_of None = None
+bytes_of (Some bytes) = Some bytes.now

@@ -1,32 +1,32 @@
 -- The lines of an input.
 use Rattle.std.specs.Prelude.{◌≡◌, ◌≢◌, ℕ, List, [], ◌∷◌, ◌++◌, flat_map, All}
 
--- the bytes are inside of one line
+-- no byte is a newline
 abbrev pub NoNewline : List ℕ → Type 0
 NoNewline bytes = All (λ byte. byte ≢ 10) bytes
 
--- lines with a byte 10 after each
+-- these lines with a newline after each
 abbrev pub with_newlines : List (List ℕ) → List ℕ
 with_newlines ended = flat_map (λ line. line ++ 10 ∷ []) ended
 
--- the input is these lines, a byte 10 after each, and then the rest
+-- the input is these lines with a newline after each, and then the rest
 pub record IsCut (bytes : List ℕ) (ended : List (List ℕ)) (rest : List ℕ) : Type 0 where
   pub whole : bytes ≡ with_newlines ended ++ rest
   pub each : All NoNewline ended
   pub rest_inside : NoNewline rest
 
--- the rest is a line where it is not empty
+-- the rest as a line, or no line if it is empty
 abbrev pub rest_line : List ℕ → List (List ℕ)
 rest_line [] = []
 rest_line (byte ∷ bytes) = (byte ∷ bytes) ∷ []
 
--- the lines of the input: those that a byte 10 ends, and the bytes after the last of these, if there are some
+-- these are all lines of the input: those that end with a newline, and the bytes after the last newline if there are any
 pub record AreLines (bytes : List ℕ) (all : List (List ℕ)) : Type 0 where
   pub ended : List (List ℕ)
   pub rest : List ℕ
   pub cut : IsCut bytes ended rest
   pub are : all ≡ ended ++ rest_line rest
 
--- the last byte is a byte 10
+-- the last byte is a newline
 abbrev pub EndsLine : List ℕ → Type 0
 EndsLine bytes = (front : List ℕ) × (bytes ≡ front ++ 10 ∷ [])

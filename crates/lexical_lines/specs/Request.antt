@@ -1,4 +1,4 @@
--- What a good line asks for.
+-- The request that a valid line makes.
 use Rattle.std.specs.Prelude.{◌≡◌, ℕ, ◌≤◌, Bool, List, ◌∷◌, ◌++◌, length, ℤ, pos}
 use Rattle.lexical_num.specs.Format.{IsRadix}
 use Rattle.lexical_write_integer.specs.Text.{IsDigits}
@@ -7,10 +7,10 @@ use Rattle.lexical_lines.specs.declared.request.Number.{Number}
 use Rattle.lexical_lines.specs.declared.request.Number.TheVariants.{Unsigned, Signed}
 use Rattle.lexical_lines.specs.declared.request.Request.{Request}
 use Rattle.lexical_lines.specs.Decimal.{IsDecimal}
-use Rattle.lexical_lines.specs.IntegerType.{name_of, signed, Holds}
+use Rattle.lexical_lines.specs.IntegerType.{name_of, with_sign, Holds}
 use Rattle.lexical_lines.specs.Sign.{optional_sign}
 
--- `-` or nothing, and then the digits of a number that the type has
+-- the text is an optional `-` and the digits of a number that the type has
 pub record IsValue (kind : IntegerType) (number : ℤ) (text : List ℕ) : Type 0 where
   pub minus : Bool
   pub magnitude : ℕ
@@ -18,9 +18,9 @@ pub record IsValue (kind : IntegerType) (number : ℤ) (text : List ℕ) : Type 
   pub holds : Holds kind minus magnitude
   pub decimal : IsDecimal magnitude digits
   pub whole : text ≡ optional_sign minus 45 ++ digits
-  pub value : number ≡ signed minus magnitude
+  pub value : number ≡ with_sign minus magnitude
 
--- TYPE, a space, an optional `+`, RADIX, a space, VALUE
+-- the line is TYPE, a space, an optional `+`, RADIX, a space and VALUE
 pub record IsRequest (kind : IntegerType) (plus : Bool) (radix : ℕ) (number : ℤ) (line : List ℕ) : Type 0 where
   pub radix_text : List ℕ
   pub value_text : List ℕ
@@ -30,15 +30,15 @@ pub record IsRequest (kind : IntegerType) (plus : Bool) (radix : ℕ) (number : 
   pub short : length line ≤ 64
   pub whole : line ≡ name_of kind ++ 32 ∷ optional_sign plus 43 ++ radix_text ++ 32 ∷ value_text
 
--- the line asks for the text of a number
+-- the line is valid
 abbrev pub IsGood : List ℕ → Type 0
 IsGood line = (kind : IntegerType) × (plus : Bool) × (radix : ℕ) × (number : ℤ) × IsRequest kind plus radix number line
 
--- the number, as a request holds it
+-- the number that a request stores
 abbrev pub number_of : Number → ℤ
 number_of (Unsigned magnitude) = pos magnitude
 number_of (Signed number) = number
 
--- the line is a good one, and this is what it asks for
+-- the line is valid, and this is its request
 abbrev pub Asks : List ℕ → Request → Type 0
 Asks line request = (kind : IntegerType) × IsRequest kind request.plus request.radix (number_of request.number) line

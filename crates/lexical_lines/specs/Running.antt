@@ -1,20 +1,20 @@
--- What a run did.
+-- The outcome of a run over the lines of an input.
 use Rattle.std.specs.Prelude.{◌≡◌, ◌⊎◌, ℕ, ◌+◌, List, [], ◌∷◌, ◌++◌, length, drop, Bool, ◌↔◌, IsTrue, All}
 use Rattle.lexical_lines.specs.Answer.{IsAnswer, AreAnswers}
 use Rattle.lexical_lines.specs.Lines.{AreLines, EndsLine}
 use Rattle.lexical_lines.specs.Request.{IsGood}
 use Rattle.lexical_lines.specs.Sink.{IsBeginning}
 
--- what was added to a list
+-- the elements that were appended to a list
 abbrev pub added : List ℕ → List ℕ → List ℕ
 added before after = drop (length before) after
 
--- whether all lines of an input are good ones
+-- `all_good` is whether all lines of the input are valid
 abbrev pub TellsAllGood : List ℕ → Bool → Type 0
 TellsAllGood bytes all_good = (all : List (List ℕ)) × AreLines bytes all × (IsTrue all_good ↔ All IsGood all)
 
--- an input was read to the end of a line, and what was put is the answers to all its lines but the last, and then a
--- beginning, not the whole, of the last one's
+-- the input was read to the end of a line. What was written is the answers to all its lines except the last, and then a
+-- proper prefix of the answer to the last
 pub record BreaksOff (is_ended : Bool) (bytes put : List ℕ) : Type 0 where
   pub line_end : IsTrue is_ended ⊎ EndsLine bytes
   pub front : List (List ℕ)

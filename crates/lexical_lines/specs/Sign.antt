@@ -1,11 +1,6 @@
--- Signs that may stand before digits.
-use Rattle.std.specs.Prelude.{◌≡◌, ℕ, Bool, List, [], ◌∷◌, if◌then◌else◌}
+-- Optional signs before digits.
+use Rattle.std.specs.Prelude.{ℕ, Bool, List, [], ◌∷◌, if◌then◌else◌}
 
--- the sign where there is one, and else nothing
+-- the sign if it is there, otherwise nothing
 abbrev pub optional_sign : Bool → ℕ → List ℕ
 optional_sign is_there sign = if is_there then sign ∷ [] else []
-
--- the text begins with the sign
-pub record StartsWith (text : List ℕ) (sign : ℕ) : Type 0 where
-  pub rest : List ℕ
-  pub whole : text ≡ sign ∷ rest

@@ -1,4 +1,4 @@
--- What contracts see of the devices over memory.
+-- The states of `SliceSource` and `SliceSink` in contracts.
 use Rattle.std.specs.Prelude.{◌≡◌, ◌⊎◌, ℕ, ◌+◌, ◌-◌, ◌≤◌, Bool, true, List, [], ◌++◌, length, take, drop, refl}
 use Rattle.std.proofs.Common.{arith, sym, ap, ◌∙◌, inl, inr}
 use Rattle.std.proofs.lemmas.List.{drop-drop}
@@ -8,42 +8,36 @@ use Rattle.lexical_lines.specs.declared.slice.SliceSink.{SliceSink}
 
 -- ---- the source
 
--- the bytes given, those that are left, and whether the end was told
+-- the bytes that were yielded, those that are left, and whether the source has reported its end
 pub record SliceReading : Type 0 where
   pub given : List ℕ
   pub left : List ℕ
   pub is_ended : Bool
 
--- the bytes as a whole stay, and once the end is told, none is left
+-- the bytes as a whole are unchanged, and once the source has reported its end, none are left
 pub record KeepsBytes (a b : SliceReading) : Type 0 where
   pub whole : b.given ++ b.left ≡ a.given ++ a.left
   pub at_end : (a.is_ended ≡ true → a.left ≡ []) → b.is_ended ≡ true → b.left ≡ []
 
-pub KeepsBytes-reflexive : (a : SliceReading) → KeepsBytes a a
-KeepsBytes-reflexive a = record { whole = refl; at_end = λ none. none }
-
-pub KeepsBytes-transitive : (a b c : SliceReading) → KeepsBytes a b → KeepsBytes b c → KeepsBytes a c
-KeepsBytes-transitive a b c p q = record { whole = q.whole ∙ p.whole; at_end = λ none. q.at_end (p.at_end none) }
-
 -- ---- the sink
 
--- the bytes taken, which stand at the front of its buffer
+-- the bytes that were taken, which are at the start of the buffer
 abbrev pub taken_in : SliceSink → List ℕ
 taken_in sink = take sink.count sink.buffer.now
 
--- the bytes of its buffer after those
+-- the bytes of the buffer after those
 abbrev pub rest_in : SliceSink → List ℕ
 rest_in sink = drop sink.count sink.buffer.now
 
--- the loan of its buffer
+-- the loan of the buffer
 abbrev pub loan_in : SliceSink → GName
 loan_in sink = sink.buffer.ghost_name
 
--- the number of its faults
+-- the number of failures
 abbrev pub faults_in : SliceSink → ℕ
 faults_in sink = sink.trace.faults
 
--- the loan stays, and so do the bytes after those that were taken; where it failed, it is full
+-- the loan and the bytes after those that were taken are unchanged, and if the sink failed, its buffer is full
 pub record KeepsBuffer (a b : SliceSink) : Type 0 where
   pub loan : loan_in b ≡ loan_in a
   pub longer : length (taken_in a) ≤ length (taken_in b)
@@ -51,17 +45,33 @@ pub record KeepsBuffer (a b : SliceSink) : Type 0 where
   pub rest : rest_in b ≡ drop (length (taken_in b) - length (taken_in a)) (rest_in a)
   pub full : (faults_in b ≡ faults_in a) ⊎ (rest_in b ≡ [])
 
+-- ---- proofs that ghost members cite
+
+pub KeepsBytes-reflexive : (a : SliceReading) → KeepsBytes a a
+KeepsBytes-reflexive a = record { whole = refl; at_end = λ none. none }
+
+pub KeepsBytes-transitive : (a b c : SliceReading) → KeepsBytes a b → KeepsBytes b c → KeepsBytes a c
+KeepsBytes-transitive a b c p q = record { whole = q.whole ∙ p.whole; at_end = λ none. q.at_end (p.at_end none) }
+
 pub KeepsBuffer-reflexive : (a : SliceSink) → KeepsBuffer a a
 KeepsBuffer-reflexive a =
     let none : length (taken_in a) - length (taken_in a) ≡ 0 = omega arith in
-    record { loan = refl; longer = omega arith; whole = refl; rest = ap (λ n. drop n (rest_in a)) (sym none); full = inl refl }
+    record {
+      loan = refl;
+      longer = omega arith;
+      whole = refl;
+      rest = ap (λ n. drop n (rest_in a)) (sym none);
+      full = inl refl;
+    }
 
-full-transitive : (a b c : SliceSink) → KeepsBuffer a b → KeepsBuffer b c → (faults_in c ≡ faults_in a) ⊎ (rest_in c ≡ [])
+full-transitive : (a b c : SliceSink) → KeepsBuffer a b → KeepsBuffer b c
+    → (faults_in c ≡ faults_in a) ⊎ (rest_in c ≡ [])
 full-transitive a b c p q = elim q.full [
   | inr full ↦ inr full
   | inl same ↦ elim p.full [
     | inl before ↦ inl (same ∙ before)
-    | inr full ↦ inr (q.rest ∙ ap (drop (length (taken_in c) - length (taken_in b))) full ∙ drop-nil (length (taken_in c) - length (taken_in b)))
+    | inr full ↦ inr (q.rest ∙ ap (drop (length (taken_in c) - length (taken_in b))) full
+        ∙ drop-nil (length (taken_in c) - length (taken_in b)))
   ]
 ]
 

@@ -1,19 +1,19 @@
--- What a call of a source did, by its result.
+-- What a call of a source did, as its result shows.
 use Rattle.std.specs.Prelude.{ℕ, Bool, true, false, List, [], ◌∷◌, Option, Some, None, Result, Ok, Err}
 
--- the bytes that the call gave
+-- the bytes that the call yielded
 abbrev pub given_by : {E : Type 0} → Result (Option ℕ) E → List ℕ
 given_by (Ok (Some byte)) = byte ∷ []
 given_by (Ok None) = []
 given_by (Err e) = []
 
--- whether the call told the end
+-- whether the call reported the end
 abbrev pub tells_end : {E : Type 0} → Result (Option ℕ) E → Bool
 tells_end (Ok None) = true
 tells_end (Ok (Some byte)) = false
 tells_end (Err e) = false
 
--- the number of faults that the call was: 1 for an error
+-- the number of failures of the call: 1 for an error
 abbrev pub faults_of : {A E : Type 0} → Result A E → ℕ
 faults_of (Ok a) = 0
 faults_of (Err e) = 1

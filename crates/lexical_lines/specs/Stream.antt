@@ -1,4 +1,4 @@
--- What contracts see of the devices over readers and writers.
+-- The states of `Reading` and `Writing` in contracts.
 use Rattle.std.specs.Prelude.{◌≡◌, ◌⊎◌, ℕ, ◌+◌, Bool, true, List, ◌++◌, length, Option, Some, None, IsSome, refl}
 use Rattle.std.specs.Io.{StartsWith}
 use Rattle.std.specs.Io.KnownBytes.{Consumes, IsAtEnd}
@@ -8,8 +8,8 @@ use Rattle.std.proofs.Math.Seq.{take-length, drop-length}
 use Rattle.std.proofs.Transfers.{starts_with_trans}
 use Rattle.lexical_lines.specs.Running.{added}
 
--- a source over a reader: the reader, the number of bytes that it may still give, whether the end was told, the bytes
--- given and the faults
+-- a source that reads from a reader: the reader, the number of bytes that it may still yield, whether it has reported
+-- its end, the bytes that it has yielded, and the number of failures
 pub record StreamReading (R : Type 0) : Type 0 where
   pub reader : R
   pub left : ℕ
@@ -17,27 +17,39 @@ pub record StreamReading (R : Type 0) : Type 0 where
   pub given : List ℕ
   pub faults : ℕ
 
--- a sink over a writer: the writer, the bytes taken and the faults
+-- a sink that writes to a writer: the writer, the bytes that were taken, and the number of failures
 pub record StreamWriting (W : Type 0) : Type 0 where
   pub writer : W
   pub taken : List ℕ
   pub faults : ℕ
 
--- ---- what calls of a source over a reader keep
+-- ---- what calls of a source leave unchanged
 
--- the source is at its limit, or its reader at the end
+-- the source is at its limit, or its reader is at the end
 abbrev pub IsUsedUp : {R : Type 0} → (R → Option (List ℕ)) → StreamReading R → Type 0
 IsUsedUp remaining s = (s.left ≡ 0) ⊎ IsAtEnd (remaining s.reader)
 
--- what was given is what the reader lost, and counts towards the limit; where the reader tells its bytes, the end comes
--- only once all is used up
+-- the bytes that were yielded are those that the reader lost, and they count towards the limit. If the remaining bytes
+-- of the reader are known, the source reports its end only once it is used up
 pub record KeepsReader {R : Type 0} (remaining : R → Option (List ℕ)) (a b : StreamReading R) : Type 0 where
   pub longer : StartsWith b.given a.given
   pub left : b.left + length b.given ≡ a.left + length a.given
   pub bytes : Consumes (remaining a.reader) (remaining b.reader) (added a.given b.given)
-  pub at_end : IsSome (remaining a.reader) → (a.is_ended ≡ true → IsUsedUp remaining a) → b.is_ended ≡ true → IsUsedUp remaining b
+  pub at_end : IsSome (remaining a.reader) → (a.is_ended ≡ true → IsUsedUp remaining a) → b.is_ended ≡ true
+      → IsUsedUp remaining b
 
-pub KeepsReader-reflexive : {R : Type 0} (remaining : R → Option (List ℕ)) (a : StreamReading R) → KeepsReader remaining a a
+-- ---- what calls of a sink leave unchanged
+
+-- if the contents of the writer were some bytes followed by those that the sink had taken, they are now the same bytes
+-- followed by those that the sink has taken now
+abbrev pub KeepsWriter : {W : Type 0} → (W → Option (List ℕ)) → StreamWriting W → StreamWriting W → Type 0
+KeepsWriter contents a b = (before : List ℕ) → contents a.writer ≡ Some (before ++ a.taken)
+    → contents b.writer ≡ Some (before ++ b.taken)
+
+-- ---- proofs that ghost members cite
+
+pub KeepsReader-reflexive : {R : Type 0} (remaining : R → Option (List ℕ)) (a : StreamReading R)
+    → KeepsReader remaining a a
 KeepsReader-reflexive remaining a = record {
   longer = take-length a.given;
   left = refl;
@@ -45,13 +57,15 @@ KeepsReader-reflexive remaining a = record {
   at_end = λ _ used. used;
 }
 
--- a reader that tells its bytes tells them after it gave some too
-still-told : (before after : Option (List ℕ)) (bytes : List ℕ) → Consumes before after bytes → IsSome before → IsSome after
+-- if the remaining bytes of a reader are known, they are still known after it has yielded some
+still-told : (before after : Option (List ℕ)) (bytes : List ℕ) → Consumes before after bytes → IsSome before
+    → IsSome after
 still-told None after bytes gave told = absurd (cc told)
 still-told (Some xs) None bytes gave told = absurd gave
 still-told (Some xs) (Some ys) bytes gave told = refl
 
-pub KeepsReader-transitive : {R : Type 0} (remaining : R → Option (List ℕ)) (a b c : StreamReading R) → KeepsReader remaining a b → KeepsReader remaining b c → KeepsReader remaining a c
+pub KeepsReader-transitive : {R : Type 0} (remaining : R → Option (List ℕ)) (a b c : StreamReading R)
+    → KeepsReader remaining a b → KeepsReader remaining b c → KeepsReader remaining a c
 KeepsReader-transitive remaining a b c p q = record {
   longer = starts_with_trans c.given b.given a.given q.longer p.longer;
   left = q.left ∙ p.left;
@@ -59,15 +73,10 @@ KeepsReader-transitive remaining a b c p q = record {
   at_end = λ told used. q.at_end (still-told _ _ _ p.bytes told) (p.at_end told used);
 }
 
--- ---- what calls of a sink over a writer keep
-
--- a writer that held some bytes, and then those that the sink had taken, still holds the same bytes, and then those that
--- the sink has taken now
-abbrev pub KeepsWriter : {W : Type 0} → (W → Option (List ℕ)) → StreamWriting W → StreamWriting W → Type 0
-KeepsWriter contents a b = (before : List ℕ) → contents a.writer ≡ Some (before ++ a.taken) → contents b.writer ≡ Some (before ++ b.taken)
-
-pub KeepsWriter-reflexive : {W : Type 0} (contents : W → Option (List ℕ)) (a : StreamWriting W) → KeepsWriter contents a a
+pub KeepsWriter-reflexive : {W : Type 0} (contents : W → Option (List ℕ)) (a : StreamWriting W)
+    → KeepsWriter contents a a
 KeepsWriter-reflexive contents a before holds = holds
 
-pub KeepsWriter-transitive : {W : Type 0} (contents : W → Option (List ℕ)) (a b c : StreamWriting W) → KeepsWriter contents a b → KeepsWriter contents b c → KeepsWriter contents a c
+pub KeepsWriter-transitive : {W : Type 0} (contents : W → Option (List ℕ)) (a b c : StreamWriting W)
+    → KeepsWriter contents a b → KeepsWriter contents b c → KeepsWriter contents a c
 KeepsWriter-transitive contents a b c p q before holds = q before (p before holds)

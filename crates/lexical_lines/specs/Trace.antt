@@ -1,7 +1,7 @@
--- What contracts see of a trace.
+-- The state of a `Trace` in contracts.
 use Rattle.std.specs.Prelude.{ℕ, List}
 
--- the bytes that were noted, in order, and the number of faults
+-- the recorded bytes, in order, and the number of failures
 pub record Traced : Type 0 where
   pub bytes : List ℕ
   pub faults : ℕ

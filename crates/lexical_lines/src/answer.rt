@@ -6,7 +6,7 @@ ghost use Rattle.lexical_num.specs.declared.constants.TheConstants.{BUFFER_SIZE}
 ghost use Rattle.lexical_write_integer.specs.Buffer.{Writes};
 ghost use Rattle.lexical_write_integer.specs.Text.{IsText};
 ghost use Rattle.lexical_lines.specs.Answer.{IsAnswer, WithNewline, IsBadLine, format_of};
-ghost use Rattle.lexical_lines.specs.Line.{held, seen};
+ghost use Rattle.lexical_lines.specs.Line.{short_line, bytes_of};
 ghost use Rattle.lexical_lines.specs.Request.{IsGood, Asks, number_of};
 
 use crate::request::{Number, Request, parse};
@@ -18,18 +18,19 @@ use lexical_write_integer::ToLexicalWithOptions;
 use lexical_write_integer::buffer::copy_to_front;
 use lexical_write_integer::laws::size_suffices;
 
-/// At least the length of each answer: `bad line `, a sign, the digits and the marks, and a byte 10.
+/// The length of a buffer that is long enough for every answer: `bad line `, the text of a number,
+/// and a newline.
 pub const MAX_ANSWER: usize = BUFFER_SIZE + 11;
 
-/// Writes the answer to a line to the front of the buffer, and returns its length and whether the
-/// line is a good one.
+/// Writes the answer to a line to the start of `buffer`, and returns its length in bytes and whether
+/// the line is valid. `line` is `None` if the line is longer than 64 bytes.
 pub fn write_answer(line: Option<&[u8]>, line_number: u64, buffer: &mut [u8]) -> (usize, bool)
     requires short { IfSome line (λ bytes. length bytes.now ≤ 64) }
     requires room { BUFFER_SIZE + 11 ≤ length buffer.old }
     ensures within { result.0 ≤ length buffer.new }
-    ensures answer { (bytes : List ℕ) → seen line.entry ≡ held bytes
+    ensures answer { (bytes : List ℕ) → bytes_of line.entry ≡ short_line bytes
         → Writes (IsAnswer line_number bytes) buffer.old buffer.new result.0 }
-    ensures good { (bytes : List ℕ) → seen line.entry ≡ held bytes
+    ensures good { (bytes : List ℕ) → bytes_of line.entry ≡ short_line bytes
         → IsTrue result.1 ↔ IsGood bytes }
 {
     match requested(line) {
@@ -38,19 +39,19 @@ pub fn write_answer(line: Option<&[u8]>, line_number: u64, buffer: &mut [u8]) ->
     }
 }
 
-// What the line asks for, where it is a good one.
+// Parses the line. Returns `None` if it is too long or otherwise invalid.
 fn requested(line: Option<&[u8]>) -> Option<Request>
     requires { IfSome line (λ bytes. length bytes.now ≤ 64) }
     ensures radix { IfSome result (λ request. IsRadix request.radix) }
-    ensures found { IfSome result (λ request. (bytes : List ℕ) → seen line.entry ≡ held bytes
+    ensures found { IfSome result (λ request. (bytes : List ℕ) → bytes_of line.entry ≡ short_line bytes
         → Asks bytes request) }
-    ensures none { IfNone result ((bytes : List ℕ) → seen line.entry ≡ held bytes
+    ensures none { IfNone result ((bytes : List ℕ) → bytes_of line.entry ≡ short_line bytes
         → IsGood bytes → ⊥) }
 {
     parse(line?)
 }
 
-// Writes the text that is asked for and a byte 10, and returns their length.
+// Writes the requested text and a newline, and returns their length.
 fn write_text(request: &Request, buffer: &mut [u8]) -> usize
     requires radix { IsRadix request.now.radix }
     requires room { BUFFER_SIZE + 2 ≤ length buffer.old }
@@ -64,14 +65,14 @@ fn write_text(request: &Request, buffer: &mut [u8]) -> usize
         .exponent_radix(request.radix)
         .required_mantissa_sign(request.plus)
         .build_strict();
-    // The text does not depend on the type, so the widest ones write all.
+    // The text does not depend on the type, so the two widest types are enough.
     match request.number {
         Number::Unsigned(number) => write_line(number, buffer, &format, &Options::new()),
         Number::Signed(number) => write_line(number, buffer, &format, &Options::new()),
     }
 }
 
-// Writes `bad line `, the number of the line in decimal and a byte 10, and returns their length.
+// Writes `bad line `, the line number in decimal and a newline, and returns their length.
 fn write_bad_line(line_number: u64, buffer: &mut [u8]) -> usize
     requires { BUFFER_SIZE + 11 ≤ length buffer.old }
     ensures { Writes (WithNewline (IsBadLine line_number)) buffer.old buffer.new result }
@@ -86,7 +87,7 @@ fn write_bad_line(line_number: u64, buffer: &mut [u8]) -> usize
         )
 }
 
-// Writes the text of a number of any type and a byte 10, and returns their length.
+// Writes the text of a number of any type and a newline, and returns their length.
 fn write_line<T: ToLexicalWithOptions>(
     number: T,
     buffer: &mut [u8],

@@ -1,11 +1,12 @@
-//! Lines that are answered as their bytes come.
+//! Answers lines whose bytes arrive in chunks.
 
-ghost use Rattle.std.specs.Prelude.{◌≡◌, ◌≤◌, length, IfSome, ℕ, ◌+◌, List, [], ◌∷◌, ◌++◌, false, true, IfOk, OnOk, OnErr};
+ghost use Rattle.std.specs.Prelude.{◌≡◌, ◌≤◌, length, IfSome, ℕ, ◌+◌, List, [], ◌∷◌, ◌++◌, false, true, IfOk};
+ghost use Rattle.std.specs.Prelude.{OnOk, OnErr};
 ghost use Rattle.std.specs.Io.{StartsWith};
 ghost use Rattle.lexical_num.specs.declared.constants.TheConstants.{BUFFER_SIZE};
 ghost use Rattle.lexical_lines.specs.Answer.{AnswersAll};
 ghost use Rattle.lexical_lines.specs.Answerer.{HasAnswered, PutsMore, PutsAnswer};
-ghost use Rattle.lexical_lines.specs.Line.{held, seen};
+ghost use Rattle.lexical_lines.specs.Line.{short_line, bytes_of};
 ghost use Rattle.lexical_lines.specs.Lines.{NoNewline};
 ghost use Rattle.lexical_lines.specs.Running.{added, TellsAllGood, BreaksOff};
 
@@ -15,22 +16,22 @@ use crate::newline::{NEWLINE, split_at_newline};
 use crate::sink::{ByteSink, put_all};
 use std::io;
 
-/// Answers the lines of the bytes that it is given. It puts the answer to a line into a sink as soon
-/// as it is given the byte that ends the line.
+/// Answers lines whose bytes arrive in chunks. It writes the answer to a line to a sink as soon as it
+/// gets the newline that ends the line. `answer_pieces` in `crates/uses/src/answers.rt` is an example.
 ///
-/// An answerer holds the line that has not ended, the number of that line, and whether all lines
-/// before it are good ones. It has no further use after an error.
+/// An answerer keeps the line that has not ended yet, the number of that line, and whether all lines
+/// before it are valid. After an error it must not be used again: the contracts promise nothing then.
 #[derive(Drop)]
 pub struct Answerer {
     line: Line,
     line_number: u64,
     all_good: bool,
-    // The room for an answer. It is a field, so that it is cleared once and not for each line.
+    // The buffer for an answer. It is a field so that it is zeroed once and not for each line.
     answer: [u8; MAX_ANSWER],
 }
 
 impl Answerer {
-    /// An answerer that was given no byte.
+    /// Returns an answerer that has received no bytes.
     pub fn new() -> Answerer
         ensures { (taken : List ℕ) → HasAnswered taken [] taken result }
     {
@@ -42,7 +43,7 @@ impl Answerer {
         }
     }
 
-    /// Takes the next byte. If it ends a line, the answer to that line is put.
+    /// Takes the next byte. If it is a newline, writes the answer to the line that it ends to `sink`.
     pub fn push<K: ByteSink>(&mut self, byte: u8, sink: &mut K) -> io::Result<()>
         ensures ok { OnOk result ((before read : List ℕ)
             → HasAnswered before read (K.taken sink.old) self.old
@@ -60,8 +61,8 @@ impl Answerer {
         }
     }
 
-    /// Takes the next bytes, as `push` takes each of them. It stops at the first error, in the
-    /// answer to a line that ended in these bytes.
+    /// Takes the next bytes, and does what calling `push` for each of them would do. It returns the
+    /// first error, which is an error of the sink during the answer to a line that ends in `bytes`.
     pub fn push_all<K: ByteSink>(&mut self, bytes: &[u8], sink: &mut K) -> io::Result<()>
         ensures ok { OnOk result ((before read : List ℕ)
             → HasAnswered before read (K.taken sink.old) self.old
@@ -81,7 +82,7 @@ impl Answerer {
         Ok(())
     }
 
-    // Takes the last bytes of a line and the byte 10 after them, and puts the answer to the line.
+    // Takes the last bytes of a line and the newline after them, and writes the answer to the line.
     fn end_line<K: ByteSink>(&mut self, end: &[u8], sink: &mut K) -> io::Result<()>
         requires { NoNewline end.now }
         ensures ok { OnOk result ((before read : List ℕ)
@@ -105,8 +106,8 @@ impl Answerer {
         Ok(())
     }
 
-    /// Puts the answer to the last line if there are bytes after the last byte 10, and returns
-    /// whether all lines are good ones.
+    /// Ends the input, and returns whether all lines are valid. If there are bytes after the last
+    /// newline, they are a line too, and its answer is written first.
     pub fn finish<K: ByteSink>(&mut self, sink: &mut K) -> io::Result<bool>
         ensures ok { OnOk result ((before read : List ℕ)
             → HasAnswered before read (K.taken sink.old) self.old
@@ -127,8 +128,8 @@ impl Answerer {
     }
 }
 
-// Puts the answer to a line, given the line without its last bytes, and these bytes. Returns whether
-// the line is a good one. A line that lies whole in those bytes is read there, with no copy.
+// Writes the answer to the line that consists of `line` and then `end`, and returns whether that line
+// is valid. If `line` is empty, `end` is parsed without a copy.
 fn put_line<K: ByteSink>(
     line: &mut Line,
     end: &[u8],
@@ -137,7 +138,7 @@ fn put_line<K: ByteSink>(
     sink: &mut K,
 ) -> io::Result<bool>
     requires { BUFFER_SIZE + 11 ≤ length buffer.old }
-    ensures answer { (rest : List ℕ) → line.old ≡ held rest
+    ensures answer { (rest : List ℕ) → line.old ≡ short_line rest
         → PutsAnswer line_number (rest ++ end.now) (K.taken sink.old) (K.taken sink.new) result }
     ensures puts { PutsMore K.taken K.faults K.keeps sink.old sink.new result }
 {
@@ -148,7 +149,8 @@ fn put_line<K: ByteSink>(
     put_answer(line.as_slice(), line_number, buffer, sink)
 }
 
-// Puts the answer to a line, by way of the buffer, and returns whether the line is a good one.
+// Writes the answer to a line to `buffer` and from there to the sink, and returns whether the line is
+// valid.
 fn put_answer<K: ByteSink>(
     line: Option<&[u8]>,
     line_number: u64,
@@ -157,7 +159,7 @@ fn put_answer<K: ByteSink>(
 ) -> io::Result<bool>
     requires short { IfSome line (λ bytes. length bytes.now ≤ 64) }
     requires room { BUFFER_SIZE + 11 ≤ length buffer.old }
-    ensures answer { (bytes : List ℕ) → seen line.entry ≡ held bytes
+    ensures answer { (bytes : List ℕ) → bytes_of line.entry ≡ short_line bytes
         → PutsAnswer line_number bytes (K.taken sink.old) (K.taken sink.new) result }
     ensures puts { PutsMore K.taken K.faults K.keeps sink.old sink.new result }
 {

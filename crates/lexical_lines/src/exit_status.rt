@@ -1,12 +1,12 @@
-// How the program ends.
+// The exit status of the program.
 
 ghost use Rattle.std.specs.Prelude.{◌≡◌};
 ghost use Rattle.lexical_lines.specs.ExitStatus.{status_of};
 
 use std::io;
 
-/// The exit status of the program: 0 where all lines are good, 1 where one is bad, and 2 where a
-/// device or the flush failed.
+/// Returns the exit status of the program: 0 if all lines are valid, 1 if a line is invalid, and 2 if
+/// `ran` is an error or the last flush failed. `flushed` is whether that flush succeeded.
 pub fn status(ran: &io::Result<bool>, flushed: bool) -> u8
     ensures { result ≡ status_of ran.now flushed }
 {

@@ -1,8 +1,8 @@
-// The ten integer types, by name.
+// The ten integer types: their names and their ranges.
 
 ghost use Rattle.std.specs.Prelude.{◌≡◌, ◌≢◌, ◌↔◌, IsTrue, IfSome, IfNone};
 
-/// One of the ten integer types.
+/// One of Rust's ten integer types of at most 64 bits.
 #[derive(Clone, Copy)]
 pub enum IntegerType {
     U8,
@@ -18,9 +18,9 @@ pub enum IntegerType {
 }
 
 impl IntegerType {
-    ghost use Rattle.lexical_lines.specs.IntegerType.{name_of, is_signed, greatest, Holds};
+    ghost use Rattle.lexical_lines.specs.IntegerType.{name_of, is_signed, largest, Holds};
 
-    /// The type with this name, as Rust spells it.
+    /// Returns the type with this name in Rust, or `None` if none of the ten has it.
     pub fn from_name(name: &[u8]) -> Option<IntegerType>
         ensures found { IfSome result (λ kind. name.now ≡ name_of kind) }
         ensures none { IfNone result ((kind : IntegerType) → name.now ≢ name_of kind) }
@@ -40,7 +40,7 @@ impl IntegerType {
         }
     }
 
-    /// Whether the type has numbers below 0.
+    /// Returns whether the type has negative numbers.
     pub fn is_signed(self) -> bool
         ensures { result ≡ is_signed self }
     {
@@ -58,9 +58,9 @@ impl IntegerType {
         }
     }
 
-    /// The greatest number of the type.
-    pub fn greatest(self) -> u64
-        ensures { result ≡ greatest self }
+    /// Returns the largest number of the type.
+    pub fn largest(self) -> u64
+        ensures { result ≡ largest self }
     {
         match self {
             IntegerType::U8 => 0xff,
@@ -74,13 +74,13 @@ impl IntegerType {
         }
     }
 
-    /// Whether the type has the number of this magnitude, with a `-` before it or not: no `-` stands
-    /// in a value of an unsigned type, not even before 0.
+    /// Returns whether the type has the number with this magnitude, preceded by a `-` if `minus` is
+    /// true. An unsigned type allows no `-`, not even before 0.
     pub fn holds(self, minus: bool, magnitude: u64) -> bool
         ensures { IsTrue result ↔ Holds self minus magnitude }
     {
-        // Below 0 the magnitudes of a signed type go one further.
+        // The magnitude of the smallest number of a signed type is the largest number plus 1.
         let over = magnitude.saturating_sub(u64::from(minus));
-        (self.is_signed() || !minus) && over <= self.greatest()
+        (self.is_signed() || !minus) && over <= self.largest()
     }
 }

@@ -1,47 +1,47 @@
-//! The laws of lines and their answers: each contract is a law over the definitions, and a caller
-//! has it from the call.
+//! Laws about lines and their answers. Each contract is a law over the definitions: a caller calls the
+//! function to use the law.
 
 ghost use Rattle.std.specs.Prelude.{◌≡◌, List, ℕ, refl};
 ghost use Rattle.std.proofs.Common.{◌∙◌};
 ghost use Rattle.lexical_lines.specs.Answer.{AnswersAll};
 ghost use Rattle.lexical_lines.specs.Lines.{AreLines};
 
-use crate::running::run;
+use crate::line_loop::run;
 use crate::sink::ByteSink;
 use crate::slice::SliceSource;
 use crate::trace::Trace;
 use std::io;
 
-/// An input is cut into lines in exactly one way. This function does nothing.
+/// A law: every input is cut into lines in exactly one way. This function does nothing.
 pub fn lines_unique(input: &[u8])
     ensures exists { (all : List (List ℕ)) × AreLines input.now all }
     ensures only { (all other : List (List ℕ)) → AreLines input.now all → AreLines input.now other → all ≡ other }
 {}
 
-/// Two texts that are the answers to one input are the same. This function does nothing.
+/// A law: two texts that are both the answers to one input are equal. This function does nothing.
 pub fn answers_unique(input: &[u8], a: &[u8], b: &[u8])
     requires a { AnswersAll input.now a.now }
     requires b { AnswersAll input.now b.now }
     ensures { a.now ≡ b.now }
 {}
 
-/// Each input has answers. This function works them out, and drops them.
+/// A law: every input has answers. This function computes the answers and discards them.
 pub fn answers_exist(input: &[u8])
     ensures { (text : List ℕ) × AnswersAll input.now text }
 {
-    let mut sink = Dropping {
+    let mut sink = DiscardingSink {
         trace: Trace::new(),
     };
     let _all_good = run(&mut SliceSource::new(input), &mut sink);
 }
 
-// A sink that takes each byte and drops it.
+// A sink that discards all bytes.
 #[derive(Drop)]
-struct Dropping {
+struct DiscardingSink {
     trace: Trace,
 }
 
-impl ByteSink for Dropping {
+impl ByteSink for DiscardingSink {
     ghost taken = { λ s. s.trace.bytes };
 
     ghost faults = { λ s. s.trace.faults };

@@ -1,25 +1,60 @@
-//! Integers to text, line by line: each line of an input asks for the text of a number in a radix,
-//! and gets an answer. Also the texts of several numbers, joined by a byte.
+//! Answers lines: each line of an input requests the text of a number in a radix, and gets one line as
+//! its answer. Also writes several numbers with a separator between adjacent ones.
+//!
+//! # Examples
+//!
+//! Each line names a type, a radix and a number (`crates/lines_tests/src/tests/answers.rt`). The input
+//!
+//! ```text
+//! i8 10 -128
+//! u8 +10 5
+//! u8 10 256
+//! u8 37 5
+//! ```
+//!
+//! has the answers
+//!
+//! ```text
+//! -128
+//! +5
+//! bad line 3
+//! bad line 4
+//! ```
+//!
+//! `run` reads lines from a source and writes their answers to a sink, here a vector (`answers_to` in
+//! `crates/uses/src/answers.rt`):
+//!
+//! ```
+//! let mut sink = Writing::new(Vec::new(alloc));
+//! run(source, &mut sink)?;
+//! Ok(sink.into_inner())
+//! ```
+//!
+//! `write_joined` writes several numbers (`crates/uses/src/record.rt`):
+//!
+//! ```
+//! write_joined(numbers, b',', buffer, &STANDARD, &Options::new())
+//! ```
 #![tactic(auto)]
 
-// The texts of several numbers.
-mod joined;
+// Several numbers with a separator between them.
+mod joined_text;
 
-// A run over the lines of an input, and how the program ends.
+// The loop over the lines of an input, and the exit status of the program.
 mod answerer;
 mod exit_status;
-mod running;
+mod line_loop;
 
-// The devices that a run reads from and writes to.
+// The devices that the loop reads from and writes to.
 mod sink;
 mod slice;
 mod source;
 mod stream;
 mod trace;
 
-// A line, what it asks for, and its answer.
+// A line, its request, and its answer.
 mod answer;
-mod decimal;
+mod decimal_parser;
 mod integer_type;
 mod line;
 mod newline;
@@ -27,13 +62,13 @@ mod request;
 mod sign;
 mod space;
 
-// The laws of lines and answers, for callers.
+// Laws about lines and answers, for callers.
 pub mod laws;
 
 pub use answerer::Answerer;
 pub use exit_status::status;
-pub use joined::{join, write_joined};
-pub use running::run;
+pub use joined_text::{join, write_joined};
+pub use line_loop::run;
 pub use sink::ByteSink;
 pub use slice::{SliceSink, SliceSource, answer_slice};
 pub use source::ByteSource;

@@ -1,18 +1,19 @@
-// The line that is being read.
+// A buffer for the line that is being read.
 
-ghost use Rattle.std.specs.Prelude.{◌≡◌, ℕ, ◌≤◌, List, [], ◌∷◌, ◌++◌, ◌↔◌, take, Option, Some, None, IsTrue, if◌then◌else◌, nat_le, IfSome, length};
-ghost use Rattle.lexical_lines.specs.Line.{held, seen};
+ghost use Rattle.std.specs.Prelude.{◌≡◌, ℕ, ◌≤◌, List, [], ◌∷◌, ◌++◌, ◌↔◌, take, Option, Some, None, IsTrue};
+ghost use Rattle.std.specs.Prelude.{if◌then◌else◌, nat_le, IfSome, length};
+ghost use Rattle.lexical_lines.specs.Line.{short_line, bytes_of};
 
 use std::marker::Model;
 
-/// The most bytes that are held of a line.
+/// The maximum length of a valid line in bytes.
 pub const MAX_LENGTH: usize = 64;
 
-/// The bytes that are held of a line: all of them, or none where they are more than 64.
+/// A line of at most `MAX_LENGTH` bytes, or a line that is too long, whose bytes are not kept.
 #[derive(Drop)]
 pub struct Line {
     bytes: [u8; MAX_LENGTH],
-    // 65 where the line is too long.
+    // The length of the line, or 65 if the line is too long.
     count: usize,
 }
 
@@ -25,9 +26,9 @@ impl Model for Line {
 }
 
 impl Line {
-    /// A line without bytes.
+    /// Returns an empty line.
     pub fn new() -> Line
-        ensures { result ≡ held [] }
+        ensures { result ≡ short_line [] }
     {
         Line {
             bytes: [0; MAX_LENGTH],
@@ -35,16 +36,16 @@ impl Line {
         }
     }
 
-    /// Drops the bytes, and begins a new line.
+    /// Removes all bytes, so that a new line begins.
     pub fn clear(&mut self)
-        ensures { self.new ≡ held [] }
+        ensures { self.new ≡ short_line [] }
     {
         self.count = 0;
     }
 
-    /// Adds a byte to the line.
+    /// Appends a byte to the line.
     pub fn push(&mut self, byte: u8)
-        ensures { (line : List ℕ) → self.old ≡ held line → self.new ≡ held (line ++ byte ∷ []) }
+        ensures { (line : List ℕ) → self.old ≡ short_line line → self.new ≡ short_line (line ++ byte ∷ []) }
     {
         if self.count < MAX_LENGTH {
             self.bytes[self.count] = byte;
@@ -54,25 +55,25 @@ impl Line {
         }
     }
 
-    /// Adds bytes to the line.
+    /// Appends bytes to the line.
     pub fn push_all(&mut self, bytes: &[u8])
-        ensures { (line : List ℕ) → self.old ≡ held line → self.new ≡ held (line ++ bytes.now) }
+        ensures { (line : List ℕ) → self.old ≡ short_line line → self.new ≡ short_line (line ++ bytes.now) }
     {
         for byte in bytes {
             self.push(*byte);
         }
     }
 
-    /// Whether the line has no bytes.
+    /// Returns whether the line has no bytes.
     pub fn is_empty(&self) -> bool
-        ensures { IsTrue result ↔ (self.now ≡ held []) }
+        ensures { IsTrue result ↔ (self.now ≡ short_line []) }
     {
         self.count == 0
     }
 
-    /// The bytes of the line, where they are no more than 64.
+    /// Returns the bytes of the line, or `None` if the line is longer than 64 bytes.
     pub fn as_slice(&self) -> Option<&[u8]>
-        ensures value { seen result ≡ self.now }
+        ensures value { bytes_of result ≡ self.now }
         ensures short { IfSome result (λ bytes. length bytes.now ≤ 64) }
     {
         if self.count <= MAX_LENGTH {

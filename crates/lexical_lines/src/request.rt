@@ -1,24 +1,25 @@
-// What a line asks for.
+// Parses a line into a request.
 
 ghost use Rattle.std.specs.Prelude.{◌≡◌, ◌^◌, ℤ, pos, neg_ℤ, ◌≤◌, length, IfSome, IfNone};
 ghost use Rattle.lexical_num.specs.Format.{IsRadix};
 ghost use Rattle.lexical_lines.specs.Request.{IsValue, IsGood, Asks, number_of};
 
-use crate::decimal::{parse_decimal, parse_radix};
+use crate::decimal_parser::{parse_decimal, parse_radix};
 use crate::integer_type::IntegerType;
 use crate::sign::strip_sign;
 use crate::space::split_at_space;
 
-/// A number of one of the ten types, in one of the two widest types, which is to write it.
+/// A number of any of the ten types, as a number of one of the two widest types.
 #[derive(Clone, Copy)]
 pub enum Number {
-    /// The number of a value without a `-`.
+    /// A number that has no `-` in the line.
     Unsigned(u64),
-    /// The number of a value with a `-`.
+    /// A number that has a `-` in the line: 0 or a negative number.
     Signed(i64),
 }
 
-/// What a good line asks for: the text of a number in a radix, and whether a `+` is required.
+/// A parsed line: the number to write, the radix, and whether a number that is not negative gets a
+/// `+`.
 #[derive(Clone, Copy)]
 pub struct Request {
     pub plus: bool,
@@ -26,7 +27,7 @@ pub struct Request {
     pub number: Number,
 }
 
-/// What the line asks for, where it is a good one.
+/// Parses a line of at most 64 bytes. Returns `None` if the line is not valid.
 pub fn parse(line: &[u8]) -> Option<Request>
     requires { length line.now ≤ 64 }
     ensures radix { IfSome result (λ request. IsRadix request.radix) }
@@ -46,7 +47,7 @@ pub fn parse(line: &[u8]) -> Option<Request>
     })
 }
 
-// The number that the text spells, where the type has it.
+// Parses a number of this type: an optional `-`, and decimal digits.
 fn parse_value(kind: IntegerType, text: &[u8]) -> Option<Number>
     ensures found { IfSome result (λ number. IsValue kind (number_of number) text.now) }
     ensures none { IfNone result ((number : ℤ) → IsValue kind number text.now → ⊥) }
@@ -62,7 +63,7 @@ fn parse_value(kind: IntegerType, text: &[u8]) -> Option<Number>
     }
 }
 
-// The number of this magnitude that is not above 0.
+// Returns the magnitude negated.
 fn negated(magnitude: u64) -> i64
     requires { magnitude ≤ 2 ^ 63 }
     ensures { result ≡ neg_ℤ (pos magnitude) }
@@ -70,7 +71,7 @@ fn negated(magnitude: u64) -> i64
     if magnitude == 0 {
         0
     } else {
-        // `!n` is -n - 1, so that the least value needs no step outside its type.
+        // `!n` is `-n - 1`, so `i64::MIN` is computed without overflow.
         !((magnitude - 1) as i64)
     }
 }

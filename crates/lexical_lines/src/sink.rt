@@ -1,4 +1,4 @@
-//! Where bytes go.
+//! A trait for devices that bytes are written to.
 
 ghost use Rattle.std.specs.Prelude.{◌≡◌, ℕ, ◌+◌, ◌≤◌, List, ◌++◌, length, take, IfOk, OnOk, OnErr};
 ghost use Rattle.lexical_lines.specs.Sink.{taken_by, put_faults, IsBeginning};
@@ -6,19 +6,19 @@ ghost use Rattle.lexical_lines.specs.Sink.{taken_by, put_faults, IsBeginning};
 use crate::trace::Trace;
 use std::io;
 
-/// A device that takes bytes, some at a time, and may fail.
+/// A device that bytes are written to. A call may take only some of the bytes, and may fail.
 pub trait ByteSink {
     // The bytes taken so far.
     ghost taken: { Self → List ℕ };
 
-    // The number of its faults.
+    // The number of failures so far.
     ghost faults: { Self → ℕ };
 
-    // What every call keeps, as a relation between the states before and after some calls.
+    // What calls leave unchanged, as a relation between the states before and after any calls.
     ghost keeps: { Self → Self → Type 0 };
 
-    /// Takes the first bytes of a piece, and returns their number. An `Err` takes none and is a
-    /// fault, and so is an `Ok` of 0 for a piece that is not empty; nothing else is one.
+    /// Takes a prefix of `bytes`, and returns its length. If it returns an `Err`, it took no bytes. An
+    /// `Err` is a failure, and so is `Ok(0)` if `bytes` is not empty; nothing else is a failure.
     fn put(&mut self, bytes: &[u8]) -> io::Result<usize>
         ensures within { IfOk result (λ count. count ≤ length bytes.now) }
         ensures taken { taken self.new ≡ taken self.old ++ take (taken_by result) bytes.now }
@@ -30,8 +30,8 @@ pub trait ByteSink {
     ghost keeps_transitive: { (a b c : Self) → keeps a b → keeps b c → keeps a c };
 }
 
-/// Puts all bytes, or fails at the first fault of the sink: with the error of the sink, or with one
-/// of kind `WriteZero` where it took no byte.
+/// Writes all bytes to the sink, and stops at its first failure. Returns the error of the sink, or an
+/// error of kind `WriteZero` if the sink takes no bytes.
 pub fn put_all<K: ByteSink>(sink: &mut K, bytes: &[u8]) -> io::Result<()>
     ensures ok { OnOk result (K.taken sink.new ≡ K.taken sink.old ++ bytes.now) }
     ensures ok_faults { OnOk result (K.faults sink.new ≡ K.faults sink.old) }
@@ -51,7 +51,7 @@ pub fn put_all<K: ByteSink>(sink: &mut K, bytes: &[u8]) -> io::Result<()>
     Ok(())
 }
 
-/// Notes what a call of a sink took of a piece, and its fault if it is one.
+/// Records the outcome of a call of `put` in the trace: the bytes that the sink took, or its failure.
 pub fn note_put(trace: &mut Trace, bytes: &[u8], outcome: &io::Result<usize>)
     requires { IfOk outcome.now (λ count. count ≤ length bytes.now) }
     ensures bytes { trace.new.bytes ≡ trace.old.bytes ++ take (taken_by outcome.now) bytes.now }

@@ -1,19 +1,20 @@
-//! Devices over memory.
+//! A source that reads a slice, and a sink that fills a buffer.
 
-ghost use Rattle.std.specs.Prelude.{◌≡◌, ℕ, List, ◌+◌, ◌≤◌, false, ◌||◌, [], ◌++◌, Ok, None, Some, length, take, drop, min, IfOk, IfSome, IfNone, ◌<◌, slice_get};
+ghost use Rattle.std.specs.Prelude.{◌≡◌, ℕ, List, ◌+◌, ◌≤◌, false, ◌||◌, [], ◌++◌, Ok, None, Some, length};
+ghost use Rattle.std.specs.Prelude.{take, drop, min, IfOk, IfSome, IfNone, ◌<◌, slice_get};
 ghost use Rattle.lexical_lines.specs.Answer.{AnswersAll};
 ghost use Rattle.lexical_lines.specs.Sink.{taken_by, put_faults, IsBeginning};
 ghost use Rattle.lexical_lines.specs.Source.{given_by, tells_end, faults_of};
 ghost use Rattle.lexical_write_integer.specs.Buffer.{Writes};
 
-use crate::running::run;
+use crate::line_loop::run;
 use crate::sink::ByteSink;
 use crate::source::ByteSource;
 use crate::trace::Trace;
 use std::io;
 use std::marker::Model;
 
-/// Gives the bytes of a slice, and then tells the end. It never fails.
+/// A source that yields the bytes of a slice and then the end. It never fails.
 #[derive(Drop)]
 pub struct SliceSource<'a> {
     bytes: &'a [u8],
@@ -37,7 +38,7 @@ impl<'a> Model for SliceSource<'a> {
 }
 
 impl<'a> SliceSource<'a> {
-    /// A source that has given no byte, and has all these left.
+    /// Returns a source that yields all of `bytes`.
     pub fn new(bytes: &'a [u8]) -> SliceSource<'a>
         ensures given { result.given ≡ [] }
         ensures left { result.left ≡ bytes.entry.now }
@@ -68,7 +69,7 @@ impl ByteSource for SliceSource<'_> {
 
     ghost keeps_transitive = { KeepsBytes-transitive };
 
-    /// The next byte, or the end where none is left.
+    /// Returns the next byte, or `None` at the end of the slice.
     fn next(&mut self) -> io::Result<Option<u8>>
         ensures given { self.new.given ≡ self.old.given ++ given_by result }
         ensures ended { self.new.is_ended ≡ (self.old.is_ended || tells_end result) }
@@ -89,7 +90,7 @@ impl ByteSource for SliceSource<'_> {
     }
 }
 
-/// Takes bytes into the front of a buffer, as many as fit, and fails where the buffer is full.
+/// A sink that fills a buffer from its start. It fails if the buffer is full.
 #[derive(Drop)]
 pub struct SliceSink<'a> {
     buffer: &'a mut [u8],
@@ -102,7 +103,7 @@ impl<'a> SliceSink<'a> {
     ghost use Rattle.std.specs.Prelude.{◌≡◌, [], length};
     ghost use Rattle.lexical_lines.specs.Slice.{taken_in, rest_in, faults_in, loan_in};
 
-    /// A sink that has taken no byte, and has the whole buffer to fill.
+    /// Returns a sink that has taken no bytes and fills `buffer` from its start.
     pub fn new(buffer: &'a mut [u8]) -> SliceSink<'a>
         ensures taken { taken_in result ≡ [] }
         ensures rest { rest_in result ≡ buffer.entry.now }
@@ -116,7 +117,7 @@ impl<'a> SliceSink<'a> {
         }
     }
 
-    /// The number of bytes taken.
+    /// Returns the number of bytes that the sink has taken.
     pub fn len(&self) -> usize
         ensures { result ≡ length (taken_in self.now) }
     {
@@ -127,7 +128,8 @@ impl<'a> SliceSink<'a> {
 impl ByteSink for SliceSink<'_> {
     ghost use Rattle.std.specs.Prelude.{◌≡◌, ◌≤◌, ◌+◌, ◌++◌, Ok, length, take, min, IfOk};
     ghost use Rattle.lexical_lines.specs.Sink.{taken_by, put_faults};
-    ghost use Rattle.lexical_lines.specs.Slice.{taken_in, rest_in, faults_in, KeepsBuffer, KeepsBuffer-reflexive, KeepsBuffer-transitive};
+    ghost use Rattle.lexical_lines.specs.Slice.{taken_in, rest_in, faults_in, KeepsBuffer};
+    ghost use Rattle.lexical_lines.specs.Slice.{KeepsBuffer-reflexive, KeepsBuffer-transitive};
 
     ghost taken = { taken_in };
 
@@ -139,7 +141,7 @@ impl ByteSink for SliceSink<'_> {
 
     ghost keeps_transitive = { KeepsBuffer-transitive };
 
-    /// Takes as many bytes as fit: none where the buffer is full.
+    /// Takes the bytes that fit into the rest of the buffer, and returns their number.
     fn put(&mut self, bytes: &[u8]) -> io::Result<usize>
         ensures within { IfOk result (λ count. count ≤ length bytes.now) }
         ensures taken { taken_in self.new ≡ taken_in self.old ++ take (taken_by result) bytes.now }
@@ -158,9 +160,9 @@ impl ByteSink for SliceSink<'_> {
     }
 }
 
-/// Writes the answers to all lines of the input to the front of the buffer, and returns their
-/// length; every byte after them is unchanged. Returns `None` where they do not fit: the buffer then
-/// holds as much of their beginning as fits.
+/// Writes the answers to all lines of `input` to the start of `buffer`, and returns their length in
+/// bytes. The bytes after the answers are unchanged. Returns `None` if the answers do not fit; the
+/// buffer is then full, with a prefix of the answers.
 pub fn answer_slice(input: &[u8], buffer: &mut [u8]) -> Option<usize>
     ensures answered { IfSome result (λ count.
         Writes (AnswersAll input.now) buffer.old buffer.new count) }

@@ -1,6 +1,7 @@
-//! Devices over readers and writers.
+//! A source that reads from a reader, and a sink that writes to a writer.
 
-ghost use Rattle.std.specs.Prelude.{◌≡◌, ◌⊎◌, ◌+◌, ◌-◌, ◌≤◌, true, false, ◌||◌, [], ◌++◌, Ok, None, length, take, drop, IfOk};
+ghost use Rattle.std.specs.Prelude.{◌≡◌, ◌⊎◌, ◌+◌, ◌-◌, ◌≤◌, true, false, ◌||◌, [], ◌++◌, Ok, None, length};
+ghost use Rattle.std.specs.Prelude.{take, drop, IfOk};
 ghost use Rattle.std.specs.Io.KnownBytes.{Consumes, IsAtEnd, WriteAppends};
 ghost use Rattle.lexical_lines.specs.Sink.{taken_by, put_faults};
 ghost use Rattle.lexical_lines.specs.Source.{given_by, tells_end, faults_of};
@@ -12,7 +13,7 @@ use std::io;
 use std::io::{Read, Write};
 use std::marker::Model;
 
-/// Gives the bytes of a reader, up to a limit, with one call of `read` for each byte.
+/// A source that yields the bytes of a reader, up to a limit. It calls `read` once for each byte.
 #[derive(Drop)]
 pub struct Reading<R> {
     reader: R,
@@ -36,8 +37,8 @@ impl<R> Model for Reading<R> {
 }
 
 impl<R: Read> Reading<R> {
-    /// A source that tells the end after `limit` bytes, and earlier only where the reader gives
-    /// none.
+    /// Returns a source that reports the end after `limit` bytes, or earlier if the reader yields no
+    /// byte.
     pub fn new(reader: R, limit: u64) -> Reading<R>
         ensures reader { result.reader ≡ reader }
         ensures left { result.left ≡ limit }
@@ -71,7 +72,7 @@ impl<R: Read> ByteSource for Reading<R> {
 
     ghost keeps_transitive = { KeepsReader-transitive R.remaining };
 
-    /// The reader's next byte, or the end: at the limit, or where the reader has no byte left.
+    /// Returns the next byte of the reader, or `None` at the limit or if the reader yields no byte.
     fn next(&mut self) -> io::Result<Option<u8>>
         ensures given { self.new.given ≡ self.old.given ++ given_by result }
         ensures ended { self.new.is_ended ≡ (self.old.is_ended || tells_end result) }
@@ -108,7 +109,7 @@ impl<R: Read> ByteSource for Reading<R> {
     }
 }
 
-/// Hands bytes to a writer, with one call of `write` for each piece.
+/// A sink that writes to a writer. It calls `write` once for each call of `put`.
 #[derive(Drop)]
 pub struct Writing<W> {
     writer: W,
@@ -128,7 +129,7 @@ impl<W> Model for Writing<W> {
 }
 
 impl<W: Write> Writing<W> {
-    /// A sink that has taken no byte.
+    /// Returns a sink that has taken no bytes and writes to `writer`.
     pub fn new(writer: W) -> Writing<W>
         ensures writer { result.writer ≡ writer }
         ensures taken { result.taken ≡ [] }
@@ -140,7 +141,7 @@ impl<W: Write> Writing<W> {
         }
     }
 
-    /// Gives the writer back.
+    /// Returns the writer.
     pub fn into_inner(self) -> W
         ensures { result ≡ self.writer }
     {
@@ -163,7 +164,7 @@ impl<W: Write> ByteSink for Writing<W> {
 
     ghost keeps_transitive = { KeepsWriter-transitive W.contents };
 
-    /// Takes the bytes that the writer has written.
+    /// Passes `bytes` to the writer, and returns how many of them the writer has written.
     fn put(&mut self, bytes: &[u8]) -> io::Result<usize>
         ensures within { IfOk result (λ count. count ≤ length bytes.now) }
         ensures taken { self.new.taken ≡ self.old.taken ++ take (taken_by result) bytes.now }

@@ -1,12 +1,12 @@
-//! Bytes and faults of a device, of which only contracts know.
+//! A ghost record of the bytes and failures of a device.
 
 ghost use Rattle.std.specs.Prelude.{◌≡◌, ℕ, ◌+◌, List, [], ◌++◌};
 
 use std::marker::{Model, PhantomData};
 use std::mem::size_of;
 
-/// The bytes that a device has given or taken so far, and the number of its faults, as contracts
-/// see them. At run time a trace has no data, and its methods do nothing.
+/// A ghost record of the bytes that a device has yielded or taken so far and of the number of its
+/// failures. Only contracts see it: at run time a trace has no data, and its methods do nothing.
 #[derive(Drop)]
 pub struct Trace {
     marker: PhantomData<()>,
@@ -28,7 +28,7 @@ impl Model for Trace {
 const _: () = prove!(size_of::<Trace>() == 0);
 
 impl Trace {
-    /// A trace without bytes and without faults.
+    /// Returns a trace with no bytes and no failures.
     pub fn new() -> Trace
         ensures bytes { result.bytes ≡ [] }
         ensures faults { result.faults ≡ 0 }
@@ -38,13 +38,13 @@ impl Trace {
         }
     }
 
-    /// Notes more bytes, after the others.
+    /// Appends bytes to the record.
     pub fn note(&mut self, bytes: &[u8])
         ensures bytes { self.new.bytes ≡ self.old.bytes ++ bytes.now }
         ensures faults { self.new.faults ≡ self.old.faults }
     {}
 
-    /// Counts one more fault.
+    /// Adds 1 to the number of failures.
     pub fn fault(&mut self)
         ensures bytes { self.new.bytes ≡ self.old.bytes }
         ensures faults { self.new.faults ≡ self.old.faults + 1 }

@@ -1,4 +1,4 @@
-// A block of bytes before a writer.
+// A writer that collects bytes in a block.
 
 ghost use Rattle.std.specs.Prelude.{◌≡◌, ◌+◌, ◌-◌, ◌<◌, ◌≤◌, min, [], ◌++◌, length, take, Ok, IfOk, OnOk};
 ghost use Rattle.std.specs.Io.KnownBytes.{Appends};
@@ -9,15 +9,18 @@ use lexical_lines::{ByteSink, Trace};
 use std::io;
 use std::io::Write;
 
-/// Takes bytes and hands them on to a writer, in blocks of `SIZE` bytes and at a flush. Each byte is
-/// handed on once and in order, also after an error, and after a flush that succeeds none is held. A
-/// drop loses what is held, so the last call is a flush. The value itself has room for a block.
+/// A sink that collects bytes in a block of `SIZE` bytes, and writes the block to a writer if it is
+/// full and at each flush.
 ///
-/// A flush flushes the writer too, which is in no contract: tests show it.
+/// Each byte is written once and in order, even if an earlier write returned an error. After a flush
+/// that succeeds, the block is empty. The bytes in the block are lost if the value is dropped, so call
+/// `flush` last. The block is part of the value: no memory is allocated.
+///
+/// A flush also flushes the writer. No contract says so, but tests show it.
 #[derive(Drop)]
 pub struct BlockWriter<'a, W, const SIZE: usize> {
     writer: &'a mut W,
-    // The bytes before `end` are taken and not yet handed on.
+    // The bytes before `end` were taken but are not yet written.
     block: [u8; SIZE],
     end: usize,
     trace: Trace,
@@ -28,7 +31,7 @@ pub struct BlockWriter<'a, W, const SIZE: usize> {
 impl<'a, W: Write, const SIZE: usize> BlockWriter<'a, W, SIZE> {
     ghost use Rattle.lexical_streams.specs.Blocks.{inner, loan, held, taken, faults, HandsOn};
 
-    /// A sink before a writer, with nothing taken. A block has a byte at least.
+    /// Returns a sink with an empty block. `SIZE` must not be 0.
     pub fn new(writer: &'a mut W) -> BlockWriter<'a, W, SIZE>
         requires { 0 < SIZE }
         ensures inner { inner result ≡ writer.entry.now }
@@ -45,36 +48,37 @@ impl<'a, W: Write, const SIZE: usize> BlockWriter<'a, W, SIZE> {
         }
     }
 
-    /// Hands on what is held, and flushes the writer. After it nothing is held, or the error is told
-    /// and what was not handed on is still held.
+    /// Writes the bytes in the block to the writer, and flushes the writer. If it returns `Ok`, the
+    /// block is empty. If it returns an error, the bytes that were not written are still in the block.
     pub fn flush(&mut self) -> io::Result<()>
         ensures ok { OnOk result (held self.new ≡ []) }
         ensures bytes { HandsOn W.contents self.old self.new [] }
         ensures taken { taken self.new ≡ taken self.old }
         ensures faults { faults self.new ≡ faults self.old + faults_of result }
     {
-        self.hand_on()?;
+        self.write_block()?;
         let flushed = self.writer.flush();
         note_fault(&mut self.trace, &flushed);
         flushed
     }
 
-    // Hands on what is held. What an error leaves is still held.
-    fn hand_on(&mut self) -> io::Result<()>
+    // Writes the bytes in the block to the writer. After an error, the bytes that were not written are
+    // still in the block.
+    fn write_block(&mut self) -> io::Result<()>
         ensures ok { OnOk result (held self.new ≡ []) }
         ensures bytes { HandsOn W.contents self.old self.new [] }
         ensures taken { taken self.new ≡ taken self.old }
         ensures faults { faults self.new ≡ faults self.old + faults_of result }
     {
-        let (count, result) = write_while_taken(&self.block[..self.end], self.writer);
+        let (count, result) = write_until_error(&self.block[..self.end], self.writer);
         self.block.copy_within(count..self.end, 0);
         self.end -= count;
         note_fault(&mut self.trace, &result);
         result
     }
 
-    // Takes the first bytes, as many as have room.
-    fn hold(&mut self, bytes: &[u8]) -> usize
+    // Copies the prefix of `bytes` that fits into the block, and returns its length.
+    fn fill_block(&mut self, bytes: &[u8]) -> usize
         ensures count { result ≡ min (length bytes.now) (SIZE - length (held self.old)) }
         ensures held { held self.new ≡ held self.old ++ take result bytes.now }
         ensures inner { inner self.new ≡ inner self.old }
@@ -93,7 +97,8 @@ impl<'a, W: Write, const SIZE: usize> BlockWriter<'a, W, SIZE> {
 }
 
 impl<W: Write, const SIZE: usize> ByteSink for BlockWriter<'_, W, SIZE> {
-    ghost use Rattle.lexical_streams.specs.Blocks.{inner, loan, held, taken, faults, HandsOn, KeepsBytes, KeepsBytes-reflexive, KeepsBytes-transitive};
+    ghost use Rattle.lexical_streams.specs.Blocks.{inner, loan, held, taken, faults, HandsOn, KeepsBytes};
+    ghost use Rattle.lexical_streams.specs.Blocks.{KeepsBytes-reflexive, KeepsBytes-transitive};
 
     ghost taken = { taken };
 
@@ -105,7 +110,8 @@ impl<W: Write, const SIZE: usize> ByteSink for BlockWriter<'_, W, SIZE> {
 
     ghost keeps_transitive = { KeepsBytes-transitive W.contents };
 
-    /// Takes the bytes that the block has room for. Where it has some, the writer is not called.
+    /// Takes the prefix of `bytes` that fits into the block, and returns its length. The writer is
+    /// called only if the block is full.
     fn put(&mut self, bytes: &[u8]) -> io::Result<usize>
         ensures within { IfOk result (λ count. count ≤ length bytes.now) }
         ensures taken { taken self.new ≡ taken self.old ++ take (taken_by result) bytes.now }
@@ -116,13 +122,13 @@ impl<W: Write, const SIZE: usize> ByteSink for BlockWriter<'_, W, SIZE> {
         ensures inner { length (held self.old) < SIZE → inner self.new ≡ inner self.old }
     {
         if self.end == SIZE {
-            self.hand_on()?;
+            self.write_block()?;
         }
-        Ok(self.hold(bytes))
+        Ok(self.fill_block(bytes))
     }
 }
 
-// Counts a fault if the result is an error.
+// Counts a failure if the outcome is an error.
 fn note_fault(trace: &mut Trace, outcome: &io::Result<()>)
     ensures bytes { trace.new.bytes ≡ trace.old.bytes }
     ensures faults { trace.new.faults ≡ trace.old.faults + faults_of outcome.now }
@@ -132,8 +138,8 @@ fn note_fault(trace: &mut Trace, outcome: &io::Result<()>)
     }
 }
 
-// Writes the bytes until all are taken or a write takes none, and returns how many were taken.
-fn write_while_taken<W: Write>(bytes: &[u8], writer: &mut W) -> (usize, io::Result<()>)
+// Writes the bytes until all are written or a write fails, and returns how many were written.
+fn write_until_error<W: Write>(bytes: &[u8], writer: &mut W) -> (usize, io::Result<()>)
     ensures bound { result.0 ≤ length bytes.now }
     ensures all { OnOk result.1 (result.0 ≡ length bytes.now) }
     ensures bytes { Appends (W.contents writer.old) (W.contents writer.new) (take result.0 bytes.now) }

@@ -1,8 +1,21 @@
-//! Lines answered from a reader to a writer, which are called once for a block of bytes. No call
-//! takes memory; the blocks lie on the stack.
+//! Answers the lines of a reader, and writes the answers to a writer. Both are called once for a block
+//! of bytes. No call allocates memory: the blocks are on the stack.
 //!
-//! The contracts say which bytes the reader gave, which the writer was given, and which device failed.
-//! That a flush flushes the writer itself too is in no contract: the tests show it.
+//! The contracts say which bytes the reader yielded, which bytes were written, and which device failed.
+//! No contract says that a flush also flushes the writer itself: tests show it.
+//!
+//! # Examples
+//!
+//! The answers to the lines of a slice, in a vector, and the exit status (`answered` in
+//! `crates/lines_tests/src/tests/blocks.rt`):
+//!
+//! ```
+//! let mut reader = bytes;
+//! let mut writer = Vec::new(alloc);
+//! let mut input = BlockReader::new(&mut reader);
+//! let mut output = BlockWriter::<_, 7>::new(&mut writer);
+//! let status = answer_stream(&mut input, &mut output);
+//! ```
 #![tactic(auto)]
 
 mod answering;

@@ -1,5 +1,5 @@
 //! Reads lines from standard input, and writes their answers to standard output. The exit status is
-//! 0 where all lines are good ones, 1 where one is bad, and 2 where the input or the output failed.
+//! 0 if all lines are valid, 1 if a line is invalid, and 2 if the input or the output failed.
 #![tactic(auto)]
 
 use lexical_streams::answer_lines;

@@ -3,7 +3,7 @@
 ghost use Rattle.std.specs.Prelude.{◌≤◌, length, map, pos};
 ghost use Rattle.lexical_num.specs.Format.{standard};
 ghost use Rattle.lexical_write_integer.specs.Buffer.{Writes};
-ghost use Rattle.lexical_lines.specs.Joined.{IsJoined};
+ghost use Rattle.lexical_lines.specs.JoinedText.{IsJoined};
 
 use lexical_lines::write_joined;
 use lexical_write_integer::Options;

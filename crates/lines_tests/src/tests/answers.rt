@@ -33,7 +33,7 @@ fn leading_zeros_and_minus_zero(rt: HostRuntime) {
 }
 
 #[test]
-fn the_least_value_of_each_signed_type(rt: HostRuntime) {
+fn the_smallest_value_of_each_signed_type(rt: HostRuntime) {
     check(
         &rt,
         b"i8 16 -128\ni16 16 -32768\ni32 16 -2147483648\ni64 16 -9223372036854775808\nisize 36 -9223372036854775808\n",
@@ -43,7 +43,7 @@ fn the_least_value_of_each_signed_type(rt: HostRuntime) {
 }
 
 #[test]
-fn bad_types_radices_and_values(rt: HostRuntime) {
+fn invalid_types_radices_and_values(rt: HostRuntime) {
     check(
         &rt,
         b"u8 02 5\nu8 10 +5\ni8 10 128\ni8 10 -129\nu8 10 5\r\nu128 10 5\n",

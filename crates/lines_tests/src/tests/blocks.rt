@@ -15,7 +15,7 @@ use std::process::Abort;
 
 const TEXT: &[u8] = b"0123456789abcdef";
 
-// The exit status, and the answers to the lines of a slice.
+// Returns the exit status, and the answers to the lines of a slice.
 fn answered(alloc: Global, bytes: &[u8]) -> (u8, Vec<u8>)
     ensures { result.0 ≤ 1 → AnswersAll (take (2 ^ 63 - 1) bytes.now) result.1.items }
 {
@@ -34,8 +34,8 @@ fn answers_go_into_a_vector(rt: HostRuntime) {
     assert_eq!(rt; answers.as_slice(), b"5\nbad line 2\n-80\n".as_slice());
 }
 
-// Writes a text and flushes, each step again after an error, and returns how many errors of a kind
-// came.
+// Writes a text and flushes. Repeats a step that fails, and returns the number of failures, each of
+// which must be of this kind.
 fn write_through<const SIZE: usize>(
     rt: &impl Abort,
     writer: &mut BlockWriter<'_, Taker, SIZE>,

@@ -1,4 +1,4 @@
-// Lawful devices over slices, which fail once.
+// Devices over slices that keep the contracts of `ByteSource` and `ByteSink`, and fail once.
 
 ghost use Rattle.std.specs.Prelude.{◌+◌, ◌≤◌};
 
@@ -6,18 +6,19 @@ use lexical_lines::{ByteSink, ByteSource, SliceSink, SliceSource, Trace};
 use std::io;
 use std::io::ErrorKind;
 
-/// Gives the bytes of a slice. After some of them one call fails, and the calls after that go on.
+/// A source that yields the bytes of a slice. After some of them one call fails, and later calls
+/// continue with the next byte.
 #[derive(Drop)]
 pub struct FailingSource<'a> {
     inner: SliceSource<'a>,
-    // How many bytes come before the fault, where it is still to come.
+    // The number of bytes before the failure, or `None` after it.
     until_fault: Option<usize>,
     kind: ErrorKind,
     trace: Trace,
 }
 
 impl<'a> FailingSource<'a> {
-    /// A source with a fault of this kind after this number of bytes.
+    /// Returns a source that fails with an error of this kind after `until_fault` bytes.
     pub fn new(bytes: &'a [u8], until_fault: usize, kind: ErrorKind) -> FailingSource<'a> {
         FailingSource {
             inner: SliceSource::new(bytes),
@@ -27,7 +28,7 @@ impl<'a> FailingSource<'a> {
         }
     }
 
-    /// Whether the fault is still to come.
+    /// Returns whether the failure is still to come.
     pub fn expects_fault(&self) -> bool {
         self.until_fault.is_some()
     }
@@ -64,23 +65,23 @@ impl<'a> ByteSource for FailingSource<'a> {
     }
 }
 
-/// Takes the bytes that it is given, at most `piece` at a time. After some of them one call fails,
-/// or takes no byte, and the calls after that go on.
+/// A sink that takes at most `piece` bytes in each call. After some bytes one call fails or takes no
+/// bytes, and later calls continue.
 #[derive(Drop)]
 pub struct FailingSink<'a> {
     inner: SliceSink<'a>,
     piece: usize,
-    // How many bytes come before the fault, where it is still to come.
+    // The number of bytes before the failure, or `None` after it or if there is none.
     until_fault: Option<usize>,
-    // The error of the fault, where it is one.
+    // The error of the failure, or `None` if the failing call takes no bytes.
     kind: Option<ErrorKind>,
     trace: Trace,
     ghost some: { 1 ≤ piece },
 }
 
 impl<'a> FailingSink<'a> {
-    /// A sink that takes at least one byte at a time, with a fault of this kind after this many
-    /// bytes, if any. With no kind, it takes no byte then.
+    /// Returns a sink that takes at most `piece` bytes in each call, and fails after `until_fault`
+    /// bytes if that is not `None`: with an error of this kind, or without a kind by taking no bytes.
     pub fn new(
         buffer: &'a mut [u8],
         piece: usize,
@@ -98,12 +99,12 @@ impl<'a> FailingSink<'a> {
         }
     }
 
-    /// How many bytes were taken.
+    /// Returns the number of bytes taken.
     pub fn len(&self) -> usize {
         self.inner.len()
     }
 
-    /// Whether the fault is still to come.
+    /// Returns whether the failure is still to come.
     pub fn expects_fault(&self) -> bool {
         self.until_fault.is_some()
     }

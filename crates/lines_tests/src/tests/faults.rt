@@ -1,16 +1,16 @@
-// Runs over devices that fail, after each number of bytes: a run ends at the first fault, and no
-// byte is lost or put twice.
+// Runs over devices that fail after each number of bytes: a run ends at the first failure, and no byte
+// is lost or written twice.
 
 ghost use Rattle.std.specs.Prelude.{◌≤◌};
 
 use crate::tests::devices::{FailingSink, FailingSource};
-use crate::tests::runs::{check_front, outcome, run_from};
+use crate::tests::runs::{check_prefix, outcome, run_from};
 use lexical_lines::{SliceSource, run};
 use std::io::ErrorKind;
 use std::process::Abort;
 
-// An input and its output. For each newline of the input stands how many bytes go up to it, and how
-// many bytes the answers to the lines so far have.
+// An input and its output. For each newline of the input, `newlines` has the number of bytes up to and
+// including it, and the length of the answers to the lines up to there.
 #[derive(Clone, Copy)]
 struct Case {
     input: &'static [u8],
@@ -33,7 +33,7 @@ const LONG_LINES: Case = Case {
     newlines: &[(66, 11), (131, 13)],
 };
 
-// How many bytes the answers to those lines have whose newlines were given.
+// Returns the length of the answers to the lines that end within the first `given` bytes.
 fn answered(case: Case, given: usize) -> usize {
     let mut count = 0;
     for (newline, answers) in case.newlines {
@@ -44,8 +44,8 @@ fn answered(case: Case, given: usize) -> usize {
     count
 }
 
-// The source fails after this number of bytes: all lines that ended by then are answered, and the error
-// is the source's.
+// The source fails after `position` bytes: all lines that have ended are answered, and the error is
+// the source's.
 fn check_source(rt: &impl Abort, case: Case, position: usize, kind: ErrorKind) {
     let mut source = FailingSource::new(case.input, position, kind);
     let count = answered(case, position);
@@ -55,7 +55,7 @@ fn check_source(rt: &impl Abort, case: Case, position: usize, kind: ErrorKind) {
     assert!(rt; !source.expects_fault());
 }
 
-// The source fails after each number of bytes, the whole input among them.
+// The source fails after each number of bytes up to the whole input.
 fn check_sources(rt: &impl Abort, case: Case, kind: ErrorKind, positions: usize) {
     assert_eq!(rt; positions, case.input.len() + 1);
     for position in 0..positions {
@@ -72,8 +72,8 @@ fn sources_that_fail(rt: HostRuntime) {
     }
 }
 
-// The sink fails after this number of bytes, which are then the first ones of the output, and the error
-// is the sink's, or tells that it took no byte.
+// The sink fails after `position` bytes, which are then a prefix of the output. The error is the
+// sink's, or of kind `WriteZero` if the sink took no bytes.
 fn check_sink(rt: &impl Abort, case: Case, position: usize, piece: usize, kind: Option<ErrorKind>)
     requires { 1 ≤ piece }
 {
@@ -84,13 +84,13 @@ fn check_sink(rt: &impl Abort, case: Case, position: usize, piece: usize, kind: 
     assert!(rt; !sink.expects_fault());
     assert_eq!(rt; sink.len(), position);
     assert!(rt; position <= case.output.len());
-    check_front(rt, &buffer, &case.output[..position]);
+    check_prefix(rt, &buffer, &case.output[..position]);
     let wanted = kind.unwrap_or(ErrorKind::WriteZero);
     assert_eq!(rt; outcome(ran), Err(wanted));
 }
 
-// The sink fails after each number of bytes below the whole output, taking whole pieces and one
-// byte at a time.
+// The sink fails after each number of bytes below the whole output. It takes all bytes at once, or one
+// byte in each call.
 fn check_sinks(rt: &impl Abort, case: Case, kind: Option<ErrorKind>, positions: usize) {
     assert_eq!(rt; positions, case.output.len());
     for position in 0..positions {
@@ -99,7 +99,7 @@ fn check_sinks(rt: &impl Abort, case: Case, kind: Option<ErrorKind>, positions: 
     }
 }
 
-// 30 + 13 positions, two sizes of pieces and three faults each: 258.
+// 30 + 13 positions, two limits on the bytes per call, and three ways to fail: 258.
 #[test]
 fn sinks_that_fail(rt: HostRuntime) {
     for kind in [

@@ -1,4 +1,4 @@
-// The texts of several numbers.
+// Several numbers with a separator between them.
 
 use lexical_lines::{join, write_joined};
 use lexical_num::format::STANDARD;
@@ -6,19 +6,19 @@ use lexical_num::format_builder::NumberFormatBuilder;
 use lexical_num::options::Options;
 
 #[test]
-fn the_mark_stands_between_two_texts(rt: HostRuntime) {
+fn the_separator_is_between_adjacent_texts(rt: HostRuntime) {
     let mut buffer = [7; 15];
-    let front = join(&[1i8, -2, 3], b',', &mut buffer, &STANDARD, &Options::new());
-    assert_eq!(rt; &*front, b"1,-2,3".as_slice());
+    let prefix = join(&[1i8, -2, 3], b',', &mut buffer, &STANDARD, &Options::new());
+    assert_eq!(rt; &*prefix, b"1,-2,3".as_slice());
     assert_eq!(rt; buffer, *b"1,-2,3\x07\x07\x07\x07\x07\x07\x07\x07\x07");
 }
 
 #[test]
-fn what_is_left_in_the_texts_is_left_in_the_buffer(rt: HostRuntime) {
+fn a_change_of_the_returned_prefix_changes_the_buffer(rt: HostRuntime) {
     let mut buffer = [7; 15];
-    let front = join(&[1i8, -2, 3], b',', &mut buffer, &STANDARD, &Options::new());
-    assert_eq!(rt; front.len(), 6);
-    front[1] = b';';
+    let prefix = join(&[1i8, -2, 3], b',', &mut buffer, &STANDARD, &Options::new());
+    assert_eq!(rt; prefix.len(), 6);
+    prefix[1] = b';';
     assert_eq!(rt; buffer, *b"1;-2,3\x07\x07\x07\x07\x07\x07\x07\x07\x07");
 }
 
@@ -30,8 +30,8 @@ fn no_values(rt: HostRuntime) {
         write_joined(&values, b',', &mut buffer, &STANDARD, &Options::new()),
         0
     );
-    let front = join(&values, b',', &mut buffer, &STANDARD, &Options::new());
-    assert_eq!(rt; front.len(), 0);
+    let prefix = join(&values, b',', &mut buffer, &STANDARD, &Options::new());
+    assert_eq!(rt; prefix.len(), 0);
 }
 
 #[test]
@@ -40,8 +40,8 @@ fn one_value_with_a_sign(rt: HostRuntime) {
         .required_mantissa_sign(true)
         .build_strict();
     let mut buffer = [7; 22];
-    let front = join(&[u64::MAX], b' ', &mut buffer, &format, &Options::new());
-    assert_eq!(rt; &*front, b"+18446744073709551615".as_slice());
+    let prefix = join(&[u64::MAX], b' ', &mut buffer, &format, &Options::new());
+    assert_eq!(rt; &*prefix, b"+18446744073709551615".as_slice());
     assert_eq!(rt; buffer, *b"+18446744073709551615\x07");
 }
 
@@ -51,7 +51,7 @@ fn texts_in_groups(rt: HostRuntime) {
         .digit_grouping(3, b',')
         .build_strict();
     let mut buffer = [7; 14];
-    let front = join(&[1000u16, 5], b';', &mut buffer, &format, &Options::new());
-    assert_eq!(rt; &*front, b"1,000;5".as_slice());
+    let prefix = join(&[1000u16, 5], b';', &mut buffer, &format, &Options::new());
+    assert_eq!(rt; &*prefix, b"1,000;5".as_slice());
     assert_eq!(rt; buffer, *b"1,000;5\x07\x07\x07\x07\x07\x07\x07");
 }

@@ -1,4 +1,4 @@
-// Hostile lines: single bytes, a good line with one byte changed, and one with a byte too many.
+// Hostile lines: single bytes, a valid line with one byte changed, and one with an additional byte.
 
 use crate::tests::runs::check;
 use std::process::Abort;
@@ -18,9 +18,9 @@ fn single_bytes(rt: HostRuntime) {
     }
 }
 
-// The changes of one byte of `u8 10 5` that leave a good line, and its answer: another type, eleven
-// other radices, and nine other digits.
-const GOOD_CHANGES: [(usize, u8, &[u8]); 21] = [
+// The changes of one byte of `u8 10 5` that leave the line valid, as the index of the byte and its new
+// value, with the answer: another type, eleven other radices, and nine other digits.
+const VALID_CHANGES: [(usize, u8, &[u8]); 21] = [
     (0, b'i', b"5\n"),
     (3, b'2', b"5\n"),
     (3, b'3', b"5\n"),
@@ -44,29 +44,29 @@ const GOOD_CHANGES: [(usize, u8, &[u8]); 21] = [
     (6, b'9', b"9\n"),
 ];
 
-// The answer to `u8 10 5` with this byte in this place, where it is a good line then.
-fn good_answer(place: usize, byte: u8) -> Option<&'static [u8]> {
-    for (good_place, good_byte, answer) in GOOD_CHANGES {
-        if good_place == place && good_byte == byte {
+// Returns the answer to `u8 10 5` with this byte at this index, or `None` if that line is not valid.
+fn valid_answer(index: usize, byte: u8) -> Option<&'static [u8]> {
+    for (valid_index, valid_byte, answer) in VALID_CHANGES {
+        if valid_index == index && valid_byte == byte {
             return Some(answer);
         }
     }
     None
 }
 
-// Changes one byte of `u8 10 5`. Returns whether the line is then a good one.
-fn check_change(rt: &impl Abort, place: usize, byte: u8) -> bool {
+// Changes one byte of `u8 10 5`, checks the answer, and returns whether the line is valid.
+fn check_change(rt: &impl Abort, index: usize, byte: u8) -> bool {
     let mut line = *b"u8 10 5\n";
-    assert!(rt; place < 7);
-    assert_ne!(rt; line[place], byte);
-    line[place] = byte;
-    match good_answer(place, byte) {
+    assert!(rt; index < 7);
+    assert_ne!(rt; line[index], byte);
+    line[index] = byte;
+    match valid_answer(index, byte) {
         Some(answer) => {
             check(rt, &line, answer, true);
             true
         }
         None => {
-            // A newline makes two lines of the one.
+            // A newline splits the line into two.
             let output = if byte == b'\n' {
                 b"bad line 1\nbad line 2\n".as_slice()
             } else {
@@ -78,17 +78,17 @@ fn check_change(rt: &impl Abort, place: usize, byte: u8) -> bool {
     }
 }
 
-// How many of the 255 other bytes in this place leave a good line.
-fn count_good_changes(rt: &impl Abort, place: usize, own: u8) -> usize {
+// Returns how many of the 255 other bytes at this index leave the line valid.
+fn count_valid_changes(rt: &impl Abort, index: usize, own: u8) -> usize {
     (0..=255u8)
-        .filter(|byte| *byte != own && check_change(rt, place, *byte))
+        .filter(|byte| *byte != own && check_change(rt, index, *byte))
         .count()
 }
 
-// 7 places with 255 bytes each: 1785 lines, of which 21 are good ones.
+// 7 indices with 255 bytes each: 1785 lines, 21 of them valid.
 #[test]
 fn one_byte_changed(rt: HostRuntime) {
-    for (place, own, good) in [
+    for (index, own, valid) in [
         (0, b'u', 1),
         (1, b'8', 0),
         (2, b' ', 0),
@@ -97,12 +97,12 @@ fn one_byte_changed(rt: HostRuntime) {
         (5, b' ', 0),
         (6, b'5', 9),
     ] {
-        assert_eq!(rt; count_good_changes(&rt, place, own), good);
+        assert_eq!(rt; count_valid_changes(&rt, index, own), valid);
     }
 }
 
-// A digit more makes another number of the type, and a newline ends the line and leaves an empty
-// one.
+// An additional digit makes another number of the type. A newline ends the line, and an empty line
+// follows.
 #[test]
 fn one_byte_appended(rt: HostRuntime) {
     for byte in 0..=255u8 {

@@ -1,5 +1,5 @@
-// Memory that is refused. No call of the libraries takes an allocator, so what asks for memory is a
-// device alone.
+// A device that runs out of memory. No call of the libraries takes an allocator, so only a device can
+// need memory.
 
 ghost use Rattle.std.specs.Prelude.{◌≤◌};
 
@@ -9,7 +9,8 @@ use std::io;
 use std::io::{ErrorKind, Write};
 use std::process::Abort;
 
-// Takes each piece whole while its memory, of at most 32 bytes, has room for it, and gets no more.
+// A writer with at most `room` bytes of memory. It takes all bytes of a call if they fit, and fails
+// otherwise.
 #[derive(Drop)]
 struct Limited {
     bytes: [u8; 32],
@@ -35,8 +36,8 @@ impl Write for Limited {
     }
 }
 
-// Runs over four lines into this many bytes of memory. The output is what was put. Returns how the
-// run ended.
+// Answers four lines with `room` bytes of memory, checks that exactly `output` was written, and
+// returns how the run ended.
 fn run_in(rt: &impl Abort, room: usize, output: &[u8]) -> Result<bool, ErrorKind>
     requires { room ≤ 32 }
 {
@@ -52,7 +53,7 @@ fn run_in(rt: &impl Abort, room: usize, output: &[u8]) -> Result<bool, ErrorKind
     outcome(ran)
 }
 
-// Enough memory, enough for two of the four answers, and none.
+// Enough memory for all answers, for two of the four, and for none.
 #[test]
 fn writers_that_get_no_more_memory(rt: HostRuntime) {
     let output = b"-128\n+5\nbad line 3\nbad line 4\n";

@@ -1,11 +1,11 @@
-// How a run ended, and what it put.
+// Helpers that run over an input, and check the output and how the run ended.
 
 use lexical_lines::{ByteSource, SliceSink, SliceSource, answer_slice, run};
 use std::io;
 use std::io::ErrorKind;
 use std::process::Abort;
 
-/// Whether all lines were good ones, or which kind of error ended the run.
+/// Returns whether all lines are valid, or the kind of the error that ended the run.
 pub fn outcome(ran: io::Result<bool>) -> Result<bool, ErrorKind> {
     match ran {
         Ok(all_good) => Ok(all_good),
@@ -13,14 +13,14 @@ pub fn outcome(ran: io::Result<bool>) -> Result<bool, ErrorKind> {
     }
 }
 
-/// The output stands at the front of the buffer, and every byte after it is unchanged.
-pub fn check_front(rt: &impl Abort, buffer: &[u8], output: &[u8]) {
+/// Checks that the buffer begins with the output, and that every byte after it is unchanged.
+pub fn check_prefix(rt: &impl Abort, buffer: &[u8], output: &[u8]) {
     assert!(rt; buffer.starts_with(output));
     assert!(rt; buffer[output.len()..].iter().all(|byte| *byte == b'.'));
 }
 
-/// Runs into a buffer of this number of bytes, at most 256. The output is what was put, and the bytes
-/// after it are unchanged. Returns how the run ended.
+/// Runs into a buffer of `room` bytes, at most 256, and returns how the run ended. Checks that exactly
+/// `output` was written and that the bytes after it are unchanged.
 pub fn run_from<S: ByteSource>(
     rt: &impl Abort,
     source: &mut S,
@@ -32,15 +32,16 @@ pub fn run_from<S: ByteSource>(
     let mut sink = SliceSink::new(&mut buffer[..room]);
     let ran = run(source, &mut sink);
     assert_eq!(rt; sink.len(), output.len());
-    check_front(rt, &buffer, output);
+    check_prefix(rt, &buffer, output);
     ran
 }
 
-/// Runs over the input, and answers it as a slice: both write this output, of at most 256 bytes.
+/// Answers the input with `run` and with `answer_slice`, and checks that both write `output`, of at
+/// most 256 bytes.
 pub fn check(rt: &impl Abort, input: &[u8], output: &[u8], all_good: bool) {
     let ran = run_from(rt, &mut SliceSource::new(input), 256, output);
     assert_eq!(rt; outcome(ran), Ok(all_good));
     let mut buffer = [b'.'; 256];
     assert_eq!(rt; answer_slice(input, &mut buffer), Some(output.len()));
-    check_front(rt, &buffer, output);
+    check_prefix(rt, &buffer, output);
 }

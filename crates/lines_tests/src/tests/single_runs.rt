@@ -1,4 +1,4 @@
-// Single runs: devices that fail, stop or go slowly, and lines that are too long.
+// Single runs: devices that fail, end or are slow, and lines that are too long.
 
 use crate::tests::devices::{FailingSink, FailingSource};
 use crate::tests::runs::{check, outcome, run_from};
@@ -7,7 +7,7 @@ use std::io::ErrorKind;
 
 const TWO_LINES: &[u8] = b"u8 10 5\nu8 10 6";
 
-// Before the first newline, after it, and after the last byte.
+// The source fails before the first newline, after it, and after the last byte.
 #[test]
 fn a_source_that_fails(rt: HostRuntime) {
     let outputs: [(usize, &[u8]); 3] = [(7, b""), (8, b"5\n"), (15, b"5\n")];
@@ -19,7 +19,7 @@ fn a_source_that_fails(rt: HostRuntime) {
 }
 
 #[test]
-fn a_source_that_tells_the_end(rt: HostRuntime) {
+fn a_source_that_ends(rt: HostRuntime) {
     check(&rt, TWO_LINES, b"5\n6\n", true);
 }
 

@@ -1,11 +1,11 @@
-// Readers up to a limit, and writers.
+// Runs that read from a reader, up to a limit, and write to a writer.
 
-use crate::tests::runs::{check_front, outcome, run_from};
+use crate::tests::runs::{check_prefix, outcome, run_from};
 use lexical_lines::{Reading, Writing, run, status};
 use std::process::Abort;
 
-// Answers the bytes of a reader, up to a limit, to a writer of 16 bytes. The output is what was
-// written, and the status is the exit status.
+// Answers the lines of a reader, up to a limit, to a writer with room for 16 bytes. Checks what was
+// written and the exit status.
 fn check(rt: &impl Abort, input: &[u8], limit: u64, output: &[u8], wanted: u8) {
     let mut buffer = [b'.'; 16];
     let mut source = Reading::new(input, limit);
@@ -13,7 +13,7 @@ fn check(rt: &impl Abort, input: &[u8], limit: u64, output: &[u8], wanted: u8) {
     let ran = run(&mut source, &mut sink);
     assert_eq!(rt; status(&ran, true), wanted);
     drop(sink);
-    check_front(rt, &buffer, output);
+    check_prefix(rt, &buffer, output);
 }
 
 #[test]

@@ -1,6 +1,6 @@
 use Rattle.std.proofs.Common.{drop, sym, arith, length-append, length-drop}
 use Rattle.std.proofs.lemmas.List.{length-take-le}
-use Rattle.lexical_lines.proofs.Answers.{Writes-newline}
+use Rattle.lexical_lines.proofs.AnswerTexts.{Writes-newline}
 use Rattle.lexical_lines.proofs.Buffers.{Writes-front}
 use Rattle.lexical_lines.proofs.answer.write_line.Goals as goal
 
@@ -15,9 +15,25 @@ pub bounds-buffer-end : goal.bounds-buffer-end
 bounds-buffer-end g c =
     let written = c.write_lexical_with_options-end.ensures.text in
     let buffer = c.args.buffer.now in
-    omega (arith, written.count, written.front.fits, length-take-le 128 buffer (omega (arith, c.requires)), length-append c.write_lexical_with_options-end.new.buffer (drop 128 buffer), length-drop 128 buffer, c.write_lexical_with_options-end.auto.buffer, c.requires)
+    omega (
+      arith,
+      written.count,
+      written.front.fits,
+      length-take-le 128 buffer (omega (arith, c.requires)),
+      length-append c.write_lexical_with_options-end.new.buffer (drop 128 buffer),
+      length-drop 128 buffer,
+      c.write_lexical_with_options-end.auto.buffer,
+      c.requires,
+    )
 
 pub returns : goal.returns
 returns g c =
     let written = Writes-front 128 c.args.buffer.now c.write_lexical_with_options-end.new.buffer _ c.write_lexical_with_options-end.ensures.text in
-    Writes-newline _ _ _ written (omega (arith, written.count, c.write_lexical_with_options-end.ensures.text.front.fits, length-take-le 128 c.args.buffer.now (omega (arith, c.requires)), c.requires))
+    Writes-newline _ _ _ written
+    (omega (
+      arith,
+      written.count,
+      c.write_lexical_with_options-end.ensures.text.front.fits,
+      length-take-le 128 c.args.buffer.now (omega (arith, c.requires)),
+      c.requires,
+    ))

@@ -1,7 +1,8 @@
 use Rattle.std.proofs.Common.{◌≡◌, ◌++◌, sym, ◌∙◌}
 use Rattle.lexical_lines.specs.Sign.{optional_sign}
 use Rattle.lexical_lines.proofs.Separators.{Lacks-not}
-use Rattle.lexical_lines.proofs.Requests.{NoSpace, IsRequest-name, IsRequest-parts, IsRequest-radix, name_unique}
+use Rattle.lexical_lines.proofs.IntegerTypes.{name_unique}
+use Rattle.lexical_lines.proofs.Requests.{NoSpace, IsRequest-name, IsRequest-parts, IsRequest-radix}
 use Rattle.lexical_lines.proofs.request.parse.Goals as goal
 use Rattle.lexical_lines.proofs.request.parse.Goals.{In_ok-name, In_ok-signed_radix, In_ok-kind, In_ok-radix}
 
@@ -19,13 +20,16 @@ returns-in_err-kind-clause-none c = rw c.from_residual-in_err-kind.ensures (λ (
 pub returns-in_err-radix-clause-none : goal.returns-in_err-radix-clause-none
 returns-in_err-radix-clause-none c = rw c.from_residual-in_err-radix.ensures (λ (kind, plus, radix, number, h).
     let first = IsRequest-name h c.in_ok-name.name.now c.in_ok-name.rest.now c.in_ok-name.ensures.found c.in_ok-name.ensures.first in
-    let second = IsRequest-parts h c.in_ok-name.rest.now c.in_ok-signed_radix.signed_radix.now c.in_ok-signed_radix.value.now first.1 c.in_ok-signed_radix.ensures.found c.in_ok-signed_radix.ensures.first in
-    let text = IsRequest-radix h c.in_ok-signed_radix.signed_radix.now c.strip_sign-plus.result.1.now c.strip_sign-plus.result.0 second.0 c.strip_sign-plus.ensures.whole c.strip_sign-plus.ensures.stripped in
+    let second = IsRequest-parts h c.in_ok-name.rest.now c.in_ok-signed_radix.signed_radix.now c.in_ok-signed_radix.value.now
+    first.1 c.in_ok-signed_radix.ensures.found c.in_ok-signed_radix.ensures.first in
+    let text = IsRequest-radix h c.in_ok-signed_radix.signed_radix.now c.strip_sign-plus.result.1.now c.strip_sign-plus.result.0
+    second.0 c.strip_sign-plus.ensures.whole c.strip_sign-plus.ensures.stripped in
     c.in_err-radix.ensures.none radix h.radix_valid (rw text h.radix_digits))
 
 pub returns-in_err-number-clause-none : goal.returns-in_err-number-clause-none
 returns-in_err-number-clause-none c = rw c.from_residual-in_err-number.ensures (λ (kind, plus, radix, number, h).
     let first = IsRequest-name h c.in_ok-name.name.now c.in_ok-name.rest.now c.in_ok-name.ensures.found c.in_ok-name.ensures.first in
-    let second = IsRequest-parts h c.in_ok-name.rest.now c.in_ok-signed_radix.signed_radix.now c.in_ok-signed_radix.value.now first.1 c.in_ok-signed_radix.ensures.found c.in_ok-signed_radix.ensures.first in
+    let second = IsRequest-parts h c.in_ok-name.rest.now c.in_ok-signed_radix.signed_radix.now c.in_ok-signed_radix.value.now
+    first.1 c.in_ok-signed_radix.ensures.found c.in_ok-signed_radix.ensures.first in
     let same : c.in_ok-kind.kind ≡ kind = name_unique c.in_ok-kind.kind kind (sym c.in_ok-kind.ensures.found ∙ first.0) in
     c.in_err-number.ensures.none number (rw (same, second.1) h.value))

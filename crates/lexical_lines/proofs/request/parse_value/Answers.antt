@@ -7,14 +7,17 @@ use Rattle.lexical_lines.proofs.request.parse_value.Goals as goal
 
 pub returns-in_err-magnitude-clause-none : goal.returns-in_err-magnitude-clause-none
 returns-in_err-magnitude-clause-none c = rw c.from_residual.ensures (λ number value.
-    let parts = IsValue-parts value c.strip_sign-minus.result.1.now c.strip_sign-minus.result.0 c.strip_sign-minus.ensures.whole c.strip_sign-minus.ensures.stripped in
+    let parts = IsValue-parts value c.strip_sign-minus.result.1.now c.strip_sign-minus.result.0 c.strip_sign-minus.ensures.whole
+    c.strip_sign-minus.ensures.stripped in
     c.in_err-magnitude.ensures.none value.magnitude (Holds-lt c.args.kind value.minus value.magnitude value.holds) (rw parts.1 value.decimal))
 
 pub returns-then-not-holds-clause-none : goal.returns-then-not-holds-clause-none
 returns-then-not-holds-clause-none c = λ number value.
     let digits = c.strip_sign-minus.result.1.now in
     let parts = IsValue-parts value digits c.strip_sign-minus.result.0 c.strip_sign-minus.ensures.whole c.strip_sign-minus.ensures.stripped in
-    let same : c.in_ok-magnitude.magnitude ≡ value.magnitude = sym (IsDecimal-value c.in_ok-magnitude.magnitude digits c.in_ok-magnitude.ensures.found) ∙ IsDecimal-value value.magnitude digits (rw parts.1 value.decimal) in
+    let same : c.in_ok-magnitude.magnitude ≡ value.magnitude =
+    sym (IsDecimal-value c.in_ok-magnitude.magnitude digits c.in_ok-magnitude.ensures.found)
+    ∙ IsDecimal-value value.magnitude digits (rw parts.1 value.decimal) in
     let holds : Holds c.args.kind c.strip_sign-minus.result.0 c.in_ok-magnitude.magnitude = rw (parts.0, same) value.holds in
     let wrong = c.holds.ensures.1 holds in
     cc

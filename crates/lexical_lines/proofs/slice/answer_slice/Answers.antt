@@ -25,6 +25,8 @@ returns-in-Err-clause-full c =
             let put = rw (source.given, sink.taken) at broke in
             λ text answered.
             BreaksOff-begins c.run.new.source.is_ended c.run.new.source.given c.run.new.source.left _ text
-            (λ ended. ran.kept_source.at_end (λ e. cc (e, source.ended)) ended) (BreaksOff-full c.run.new.sink full put (search rules)) (rw (given-part c.args.input.now source.given source.left ran.kept_source) at answered)
+            (λ ended. ran.kept_source.at_end (λ e. cc (e, source.ended)) ended)
+            (BreaksOff-full c.run.new.sink full put (search rules))
+            (rw (given-part c.args.input.now source.given source.left ran.kept_source) at answered)
       ]
     ]

@@ -1,4 +1,4 @@
-// Lines answered from a reader to a writer, each of which fails at one of its calls.
+// Lines of a reader are answered to a writer, and one of the two fails at one of its calls.
 
 use crate::tests::blocks::devices::{Fault, Taker};
 use lexical_streams::{BlockReader, BlockWriter, answer_stream};
@@ -11,14 +11,14 @@ const LINES: &[u8] = b"u8 10 5\nu8 2 5\ni8 16 -128\n";
 
 const ANSWERS: &[u8] = b"5\n101\n-80\n";
 
-// How many bytes the answers to the first lines have, for no line, for one, and so on.
+// The length of the answers to the first `n` lines, for `n` from 0 to 3.
 const ANSWERED: [usize; 4] = [0, 2, 6, 10];
 
-// Gives one line at each read, and notes how much the writer had flushed by then.
+// A reader that yields one line at each read, and records how many bytes were flushed by then.
 #[derive(Drop)]
 struct LineGiver<'a> {
     lines: &'a [u8],
-    // How many reads come before the one that fails.
+    // The number of reads before the one that fails.
     before_fault: Option<u32>,
     flushed: &'a Cell<usize>,
     seen: [usize; 4],
@@ -41,11 +41,11 @@ impl Read for LineGiver<'_> {
     }
 }
 
-// Takes bytes, counts its flushes, and tells how many bytes it had taken by the last one.
+// A writer that counts its flushes, and reports how many bytes it had taken by the last of them.
 #[derive(Drop)]
 struct Flushed<'a> {
     taker: Taker,
-    // How many flushes come before the one that fails.
+    // The number of flushes before the one that fails.
     before_fault: Option<u32>,
     fails_once: bool,
     flushed: &'a Cell<usize>,
@@ -71,7 +71,7 @@ impl Write for Flushed<'_> {
     }
 }
 
-// At which of its calls each device fails, if at one.
+// The call at which each device fails, if any. Calls are counted from 0.
 #[derive(Clone, Copy)]
 struct Faults {
     read: Option<u32>,
@@ -95,7 +95,7 @@ fn answered(reader: &mut LineGiver<'_>, writer: &mut Flushed<'_>) -> u8 {
     answer_stream(&mut input, &mut output)
 }
 
-// Answers the lines; the output is what the writer took in the end. Returns the exit status.
+// Answers the lines, checks that the writer has taken exactly `output`, and returns the exit status.
 fn status_of(rt: &impl Abort, lines: &[u8], faults: Faults, output: &[u8]) -> u8 {
     let flushed = Cell::new(0);
     let mut reader = LineGiver {
@@ -151,7 +151,7 @@ fn each_answer_is_flushed_before_the_next_read(rt: HostRuntime) {
     };
     assert_eq!(rt; answered(&mut reader, &mut writer), 0);
     assert_eq!(rt; reader.seen, ANSWERED);
-    // One for each line, one for the end, and the last flush of the writer.
+    // One read for each line and one for the end. The writer is flushed before each, and at the end.
     assert_eq!(rt; reader.reads, 4);
     assert_eq!(rt; writer.flushes, 5);
 }

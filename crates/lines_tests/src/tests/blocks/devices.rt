@@ -1,18 +1,19 @@
-// A writer that does little at a call, and fails once in mid-stream or for good.
+// A writer that writes little in each call, and fails once or forever.
 
 ghost use Rattle.std.specs.Prelude.{◌≤◌};
 
 use std::io;
 use std::io::{ErrorKind, Write};
 
-/// What a writer does at the call that is a fault.
+/// How a writer fails: with an error, or with `Ok(0)`.
 #[derive(Clone, Copy)]
 pub enum Fault {
     Error(ErrorKind),
     Zero,
 }
 
-/// Takes pieces of some bytes, and has a fault after some calls: once, or for good.
+/// A writer that takes at most `piece` bytes in each call. After `before_fault` calls it fails: once,
+/// or at every further call if `is_for_good`.
 #[derive(Drop)]
 pub struct Taker {
     taken: [u8; 32],

@@ -6,7 +6,8 @@ use Rattle.lexical_lines.proofs.answerer.Answerer.finish.Goals as goal
 pub returns-in_err-is_good-clause-err : goal.returns-in_err-is_good-clause-err
 returns-in_err-is_good-clause-err g c = rw (err_from_is_err_and c.from_residual.result c.from_residual.ensures.1).1 (λ before read h.
     let broke = (c.in_err-is_good.ensures.answer h.rest (c.as_slice-line.ensures.value ∙ h.last)).broken in
-    BreaksOff-from h true read (g.K.ByteSink.taken c.put_answer.new.sink) (inl refl) (lines_at_rest h (λ e. let wrong = c.if-is_empty.ensures.1 e in cc)) broke.0 broke.1 broke.2 broke.3 broke.4)
+    BreaksOff-from h true read (g.K.ByteSink.taken c.put_answer.new.sink) (inl refl)
+    (lines_at_rest h (λ e. let wrong = c.if-is_empty.ensures.1 e in cc)) broke.0 broke.1 broke.2 broke.3 broke.4)
 
 pub returns-clause-ok : goal.returns-clause-ok
 returns-clause-ok g c = λ before read h.

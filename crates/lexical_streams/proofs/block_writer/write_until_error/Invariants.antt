@@ -1,7 +1,7 @@
--- What was taken is with the writer, and each turn takes some.
+-- The writer has the bytes that were taken, and each iteration takes at least one.
 use Rattle.std.proofs.Common.{◌-◌, ◌≤◌, length, take}
 use Rattle.std.specs.Io.KnownBytes.{Appends}
-use Rattle.lexical_streams.proofs.block_writer.write_while_taken.Given as goal
+use Rattle.lexical_streams.proofs.block_writer.write_until_error.Given as goal
 
 abbrev pub invariant-loop-taken : goal.invariant-loop-taken
 invariant-loop-taken g l = (l.taken ≤ length l.bytes) × Appends (g.W.Write.contents l.initial.writer) (g.W.Write.contents l.writer) (take l.taken l.bytes)

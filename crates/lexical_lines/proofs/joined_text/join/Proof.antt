@@ -1,5 +1,5 @@
--- `join` writes the joined texts and lends them. The borrow checker shows no write-back clause for a front that is returned,
--- so this proof walks the code by hand, once for every type.
+-- `join` writes the joined texts and returns them as a borrowed slice. The borrow checker proves no clause about what a
+-- caller writes to a returned prefix, so this proof goes through the code by hand, once for every type.
 use mathlib.Core.Path.{refl, ap}
 use Prim.Native.Nat.{ℕ, ◌+◌, ◌-◌, ◌*◌, ◌^◌, ◌<◌, ◌≤◌}
 use mathlib.Core.List.{List, [], ◌∷◌, map}
@@ -55,16 +55,16 @@ use Rattle.lexical_write_integer.proofs.HandedFronts.{Fronts, called, asks, gave
 use Rattle.lexical_write_integer.proofs.Buffers.Prefixes.{Writes-short}
 use Rattle.lexical_write_integer.proofs.Reborrows.{lent_again, lends_again, came_back, comes_back}
 use Rattle.lexical_write_integer.proofs.buffer.front_mut.Met.{met as front_mut_met}
-use Rattle.lexical_lines.specs.Joined.{IsJoined}
-use Rattle.lexical_lines.specs.contracts.joined.write_joined as W
-use Rattle.lexical_lines.specs.contracts.joined.write_joined.Key.{name as #write_joined}
-use Rattle.lexical_lines.proofs.joined.write_joined.Met.{met as write_joined_met}
-use Rattle.lexical_lines.specs.contracts.joined.join as F
-use Rattle.lexical_lines.specs.contracts.joined.join.Key.{name as #self}
-use Rattle.lexical_lines.proofs.joined.join.Statement as stated
-use Rattle.lexical_lines.proofs.joined.join.Code as code
+use Rattle.lexical_lines.specs.JoinedText.{IsJoined}
+use Rattle.lexical_lines.specs.contracts.joined_text.write_joined as W
+use Rattle.lexical_lines.specs.contracts.joined_text.write_joined.Key.{name as #write_joined}
+use Rattle.lexical_lines.proofs.joined_text.write_joined.Met.{met as write_joined_met}
+use Rattle.lexical_lines.specs.contracts.joined_text.join as F
+use Rattle.lexical_lines.specs.contracts.joined_text.join.Key.{name as #self}
+use Rattle.lexical_lines.proofs.joined_text.join.Statement as stated
+use Rattle.lexical_lines.proofs.joined_text.join.Code as code
 
--- the type of the values, and the type of its options
+-- the type of the values, and the type of the options
 record Able : Type 2 where
   pub row : RattleType
   pub laws : Laws row
@@ -129,15 +129,15 @@ module _ (T : Able) {M : Type 1} {𝓤 : Ura M} (𝓛 : Logic 𝓤) (at_mem : Me
     abbrev bound : (walk_of 𝓛 (ended T) (stayed T) clauses).Ghost
     bound = (((κv, (κ, (κf, (κo, (κT, (κO, tt)))))), (qv, (q, (qf, (qo, (qT, (qO, tt)))))), (outlives_values, (outlives, tt)), (values, (mark, (self, (format, (options, tt))))), words), tt)
 
-    -- the room that the call asks for
+    -- the buffer length that the call requires
     abbrev room_for : ℕ
     room_for = length values.now * (size_in T.gs.FORMATTED_SIZE T.gs.FORMATTED_SIZE_DECIMAL format.now + 1)
 
-    -- what joined texts of the numbers are
+    -- a text is the joined texts of the numbers
     abbrev Text : List ℕ → Type 0
     Text = IsJoined (map T.gn.number values.now) mark format.now
 
-    -- and how long it is
+    -- and it is at most this long
     abbrev IsShort : List ℕ → Type 0
     IsShort text = length text ≤ room_for - 1
 
@@ -168,10 +168,10 @@ module _ (T : Able) {M : Type 1} {𝓤 : Ura M} (𝓛 : Logic 𝓤) (at_mem : Me
         sets ! (addr ! (from ! (fld ! refl (hop ! (look_in_at ! 3 (sub ! 0 refl (whole !))) (stop !))))) refl (tt, tt) $
         sets ! (agg ! (and_then ! (get ! refl) (and_then ! (get_in ! (fld ! refl (stop !)) (sub ! 1 refl (whole !))) (no_more !)))) refl (tt, (tt, (record { fits = room.0 }, tt))) $
         split3 ! $ move ! (3 ∷ []) $ split ! $ move ! (1 ∷ []) $ split3 ! $
-        -- [the mark; the slice; the references; the values; the token of κv; the token of κ; the other tokens]
+        -- [the separator; the slice; the references; the values; the token of κv; the token of κ; the other tokens]
         lft_new ! tt (λ α. move ! (2 ∷ 6 ∷ []) $
         use2 𝓛 (lent_again 𝓛 u8 (named 1) κ q (α ∷ []) b o γ xs) (lends_again 𝓛 u8 (named 1) κ q (α ∷ []) b o γ xs room) $ await ! tt $ pick ! (λ δ. split ! $
-        -- [the loan; what the lender keeps; the token of α; the mark; the references; the values; the token of κv; the other tokens]
+        -- [the loan; what the lender keeps; the token of α; the separator; the references; the values; the token of κv; the other tokens]
         let z : Writes.Ghost = (((κv, (α ∷ [], (κf, (κo, (κT, (κO, tt)))))), (qv, (full_share, (qf, (qo, (qT, (qO, tt)))))), (outlives_values, (outlives, tt)), (values, (mark, (loan δ, (format, (options, tt))))), words), tt) in
         move ! (0 ∷ 4 ∷ []) $ join ! $ move ! (3 ∷ 0 ∷ []) $ join ! $ move ! (3 ∷ 0 ∷ []) $ join ! $ move ! (2 ∷ 4 ∷ []) $ join ! $ move ! (3 ∷ 0 ∷ []) $ join ! $ join ! $
         use0 𝓛 (raw (fact 𝓤 (room_for ≤ length xs))) (fact_i 𝓤 _ (emp 𝓤) le) $ use0 𝓛 (raw (fact 𝓤 (κO ⊑ T.options.lives))) (fact_i 𝓤 _ (emp 𝓤) options_live) $ join ! $
@@ -185,7 +185,7 @@ module _ (T : Able) {M : Type 1} {𝓤 : Ura M} (𝓛 : Logic 𝓤) (at_mem : Me
         let ys : List ℕ = ws.1.1.0 in
         let wrote : Written Both xs ys n = Writes-short (room_for - 1) xs ys n text short in
         use3 𝓛 (came_back 𝓛 u8 (named 1) κ q (α ∷ []) b o γ xs ys) (comes_back 𝓛 u8 (named 1) κ q (α ∷ []) b o γ δ xs ys) $ await ! tt $ learn ! (λ long. split ! $
-        -- [the slice, as it was written; the token of κ; the references; the token of κv; the other tokens]
+        -- [the written slice; the token of κ; the references; the token of κv; the other tokens]
         lands_as ! (ap only is) refl (tt, record { fits = fits }) $
         sets ! (addr ! (from ! (fld ! refl (hop ! (look_in_at ! 3 (sub ! 0 refl (whole !))) (stop !))))) refl (tt, tt) $
         sets ! (agg ! (and_then ! (get ! refl) (and_then ! (get_in ! (fld ! refl (stop !)) (sub ! 1 refl (whole !))) (no_more !)))) refl (tt, (tt, (record { fits = room.0 }, tt))) $
@@ -195,7 +195,7 @@ module _ (T : Able) {M : Type 1} {𝓤 : Ura M} (𝓛 : Logic 𝓤) (at_mem : Me
         use1 𝓛 (gave 𝓛 at_mem run κ q b o γ xs ys n Both v') (gives 𝓛 at_mem run κ q b o γ xs ys n Both v' wrote) $ await ! tt $ pick ! (λ r. learn ! (λ handed. split3 ! $
         lands_as ! handed.word refl (tt, (tt, (record { fits = handed.fits }, tt))) $
         returns ! (look_at ! 0 refl) $ free_all ! refl $
-        -- [the result; the token of κ; what is lent; the references; the token of κv; the other tokens]
+        -- [the result; the token of κ; the loan; the references; the token of κv; the other tokens]
         suffices ! _ (ends_at 𝓛 (ended T) (stayed T) clauses bound (slice_val r.ref_ptr (length r.now)) r (tt, (tt, (tt, (tt, (tt, tt))))) (tt, (tt, (tt, (tt, (tt, tt)))))) $
         keep ! (1 ∷ 5 ∷ 4 ∷ 0 ∷ 2 ∷ []) $ join ! $ move ! (1 ∷ 0 ∷ []) $ join ! $
         nothing ! $ nothing ! $ fjoin ! $ nothing ! $ fjoin ! $ nothing ! $ fjoin ! $ nothing ! $ fjoin ! $ nothing ! $ fjoin ! $ move ! (0 ∷ 2 ∷ []) $ join ! $ move ! (1 ∷ []) $ join ! $
@@ -207,7 +207,7 @@ join_spec 𝓤 𝓛 𝓜 𝓡 wired X Y L LY C g d gl dl gn dn gc dc gs ds gt dt
     let T : Able = record { row = X; laws = L; copy = C; options = Y; g = g; d = d; gl = gl; dl = dl; gn = gn; dn = dn; gc = gc; dc = dc; gs = gs; ds = ds; gt = gt; dt = dt } in
     let 𝓣 : Tables 𝓤 𝓛.H = tables_of 𝓤 𝓛.H 𝓜 (tables 𝓤 𝓛.H 𝓜 𝓡 𝓡.env) in
     let c = clauses T 𝓛 𝓜.mem 𝓡.returns in
-    let writes = write_joined_met 𝓤 𝓛 𝓜 𝓡 (code.calls-lexical_lines::joined::write_joined 𝓡.env wired) X Y L LY C g d gl dl gn dn gc dc gs ds gt dt writes_options writes_decimal numbers clones sizes tells in
+    let writes = write_joined_met 𝓤 𝓛 𝓜 𝓡 (code.calls-lexical_lines::joined_text::write_joined 𝓡.env wired) X Y L LY C g d gl dl gn dn gc dc gs ds gt dt writes_options writes_decimal numbers clones sizes tells in
     let fronts = front_mut_met 𝓤 𝓛 𝓜 𝓡 (code.calls-lexical_write_integer::buffer::front_mut 𝓡.env wired) in
     entered 𝓤 𝓛.H (triple_of 𝓛 (F.signature X Y) (F.spec X Y g d gl dl gn dn gc dc gs ds gt dt 𝓛 𝓜.mem 𝓡.returns)) 𝓣.C 𝓣.Λ (#self (args T)) (function T) (code.unfolded 𝓤 𝓛.H 𝓜 𝓡 wired (X, (Y, tt)) d dl dn dc ds dt)
     (walk_Meets 𝓛 (ended T) (stayed T) (

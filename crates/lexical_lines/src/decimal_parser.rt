@@ -1,11 +1,12 @@
-// Numbers that decimal digits spell.
+// Parses decimal numbers.
 
 ghost use Rattle.std.specs.Prelude.{ℕ, ◌^◌, ◌<◌, IfSome, IfNone};
 ghost use Rattle.lexical_num.specs.Format.{IsRadix};
 ghost use Rattle.lexical_write_integer.specs.Text.{IsDigits};
 ghost use Rattle.lexical_lines.specs.Decimal.{IsDecimal};
 
-/// The number that one or more decimal digits spell, with leading zeros or without, where it fits.
+/// Parses one or more decimal digits, with or without leading zeros. Returns `None` if the text is
+/// anything else, or if the number does not fit in a `u64`.
 pub fn parse_decimal(text: &[u8]) -> Option<u64>
     ensures found { IfSome result (λ number. IsDecimal number text.now) }
     ensures none { IfNone result ((number : ℕ) → number < 2 ^ 64 → IsDecimal number text.now → ⊥) }
@@ -24,7 +25,8 @@ pub fn parse_decimal(text: &[u8]) -> Option<u64>
     Some(number)
 }
 
-/// The radix from 2 to 36 that a text without leading zeros spells.
+/// Parses a radix from 2 to 36, in decimal and without leading zeros. Returns `None` if the text is
+/// anything else.
 pub fn parse_radix(text: &[u8]) -> Option<u8>
     ensures found { IfSome result (λ radix. IsRadix radix × IsDigits 10 radix text.now) }
     ensures none { IfNone result ((radix : ℕ) → IsRadix radix → IsDigits 10 radix text.now → ⊥) }

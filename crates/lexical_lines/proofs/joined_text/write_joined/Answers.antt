@@ -4,10 +4,10 @@ use Rattle.std.proofs.lemmas.List.{length-map, length-take, length-take-le}
 use Rattle.lexical_num.specs.Size.{size_in}
 use Rattle.lexical_write_integer.specs.Text.{IsText}
 use Rattle.lexical_write_integer.proofs.Buffers.Prefixes.{Writes-after}
-use Rattle.lexical_lines.specs.Joined.{IsJoined}
+use Rattle.lexical_lines.specs.JoinedText.{IsJoined}
 use Rattle.lexical_lines.proofs.Joins.{map-take_more, Ready, Ready-one, Ready-push}
-use Rattle.lexical_lines.proofs.joined.write_joined.Goals as goal
-use Rattle.lexical_lines.proofs.joined.write_joined.Goals.{then-index-gt0, else-index-gt0}
+use Rattle.lexical_lines.proofs.joined_text.write_joined.Goals as goal
+use Rattle.lexical_lines.proofs.joined_text.write_joined.Goals.{then-index-gt0, else-index-gt0}
 
 pub loop-index-preserved : goal.loop-index-preserved
 loop-index-preserved g c =
@@ -18,15 +18,24 @@ loop-index-preserved g c =
     let x = number c.index-values-index.result in
     let inside : index < length values = omega (arith, c.loop-index-test.true) in
     let room : c.loop-index.count < length c.args.buffer.now =
-    omega (arith, c.requires, c.loop-index.invariant.within, mul-le-mul_right (size_in g.T.FormattedSize.FORMATTED_SIZE g.T.FormattedSize.FORMATTED_SIZE_DECIMAL format + 1) inside) in
+    omega (
+      arith,
+      c.requires,
+      c.loop-index.invariant.within,
+      mul-le-mul_right (size_in g.T.FormattedSize.FORMATTED_SIZE g.T.FormattedSize.FORMATTED_SIZE_DECIMAL format + 1) inside,
+    ) in
     let numbers = map number (take index values) in
     let many : length numbers ≡ index = length-map (take index values) number ∙ length-take-le index values (omega arith) in
     let next = map-take_more number values index c.index-values-index.result inside c.index-values-index.is in
     let was = c.loop-index.invariant.written in
     let ready : Ready (IsText x format) (IsJoined (numbers ++ x ∷ []) c.args.mark format) c.args.buffer.now c.if-index-gt0.buffer c.if-index-gt0.count =
     elim c.if-index-gt0.branch [
-      | then-index-gt0 w ↦ rw (w.buffer-is, w.count-is) (Ready-push c.args.mark format numbers x c.args.buffer.now c.loop-index.buffer c.loop-index.count (omega (arith, many, w.if-index-gt0.true)) room was)
-      | else-index-gt0 w ↦ rw (w.buffer-is, w.count-is) (Ready-one c.args.mark format numbers x c.args.buffer.now c.loop-index.buffer c.loop-index.count (omega (arith, many, w.if-index-gt0.false)) was)
+      | then-index-gt0 w ↦
+          rw (w.buffer-is, w.count-is) (Ready-push c.args.mark format numbers x c.args.buffer.now c.loop-index.buffer
+          c.loop-index.count (omega (arith, many, w.if-index-gt0.true)) room was)
+      | else-index-gt0 w ↦
+          rw (w.buffer-is, w.count-is) (Ready-one c.args.mark format numbers x c.args.buffer.now c.loop-index.buffer
+          c.loop-index.count (omega (arith, many, w.if-index-gt0.false)) was)
     ] in
     let size = size_in g.T.FormattedSize.FORMATTED_SIZE g.T.FormattedSize.FORMATTED_SIZE_DECIMAL format in
     let before : c.if-index-gt0.count ≤ index * (size + 1) =

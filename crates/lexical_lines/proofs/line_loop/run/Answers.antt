@@ -3,7 +3,7 @@ use Rattle.std.proofs.lemmas.List.{append-nil}
 use Rattle.std.proofs.lemmas.Result.{err_from_is_err_and, IfOk-weaker}
 use Rattle.lexical_lines.proofs.Added.{added-is, added-more, grown}
 use Rattle.lexical_lines.proofs.Runs.{answers_ended, BreaksOff-open}
-use Rattle.lexical_lines.proofs.running.run.Goals as goal
+use Rattle.lexical_lines.proofs.line_loop.run.Goals as goal
 
 pub loop-byte-init : goal.loop-byte-init
 loop-byte-init g c =

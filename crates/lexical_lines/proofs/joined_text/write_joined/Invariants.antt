@@ -1,8 +1,8 @@
 use Rattle.std.proofs.Common.{◌+◌, ◌-◌, ◌*◌, ◌≤◌, map, take}
 use Rattle.lexical_num.specs.Size.{size_in}
 use Rattle.lexical_write_integer.specs.Buffer.{Writes}
-use Rattle.lexical_lines.specs.Joined.{IsJoined}
-use Rattle.lexical_lines.proofs.joined.write_joined.Given as goal
+use Rattle.lexical_lines.specs.JoinedText.{IsJoined}
+use Rattle.lexical_lines.proofs.joined_text.write_joined.Given as goal
 
 abbrev pub invariant-loop-index : goal.invariant-loop-index
 invariant-loop-index g l = record {

@@ -1,4 +1,4 @@
-// A run over the lines of an input.
+// The loop that reads bytes and answers lines.
 
 ghost use Rattle.std.specs.Prelude.{◌≡◌, ◌⊎◌, ◌+◌, ◌++◌, IsTrue, IfOk, OnOk, OnErr};
 ghost use Rattle.lexical_lines.specs.Answer.{AnswersAll, AnswersEnded};
@@ -9,18 +9,23 @@ use crate::sink::ByteSink;
 use crate::source::ByteSource;
 use std::io;
 
-/// Reads lines, and puts the answer to each before it asks for the next byte. Returns whether all
-/// lines are good ones, or the error of the device that failed, of kind `WriteZero` where the sink
-/// took no byte.
+/// Reads lines from `source`, and writes the answer to each line to `sink` before it reads the next
+/// byte. Returns whether all lines are valid. `answers_to` in `crates/uses/src/answers.rt` is an
+/// example.
 ///
-/// Each byte 10 ends a line, and the bytes after the last one are a line too if there are some. A
-/// good line has at most 64 bytes: the name of one of the ten integer types, a space, a `+` or
-/// nothing, a radix from `2` to `36`, a space, and a decimal number of the type, with leading zeros
-/// or without, and with a `-` before it only where the type is signed. Its answer is the text of the
-/// number in the radix; with the `+` a number that is not negative gets that sign. The answer to any
-/// other line is `bad line ` and its number, from 1 on. A byte 10 ends each answer.
+/// Each newline ends a line. If there are bytes after the last newline, they are a line too. A valid
+/// line has at most 64 bytes: the name of one of the ten integer types, a space, an optional `+`, a
+/// radix from `2` to `36`, a space, and a decimal number of the type. The number may have leading
+/// zeros, and if the type is signed, a `-` before its digits.
+///
+/// The answer to a valid line is the text of the number in the radix. If the line has the `+`, the
+/// text of a number that is not negative begins with that sign. The answer to any other line is
+/// `bad line ` and the number of the line; the first line is line 1. Each answer ends with a newline.
+///
+/// The first error of a device ends the run, and is returned. If the sink takes no bytes, the error is
+/// of kind `WriteZero`.
 pub fn run<S: ByteSource, K: ByteSink>(source: &mut S, sink: &mut K) -> io::Result<bool>
-    // A run adds to what was given and to what was taken.
+    // The run only appends to what the source has yielded and to what the sink has taken.
     ensures given { S.given source.new
         ≡ S.given source.old ++ added (S.given source.old) (S.given source.new) }
     ensures taken { K.taken sink.new
@@ -28,7 +33,7 @@ pub fn run<S: ByteSource, K: ByteSink>(source: &mut S, sink: &mut K) -> io::Resu
     ensures kept_source { S.keeps source.old source.new }
     ensures kept_sink { K.keeps sink.old sink.new }
 
-    // No device failed, the end was told, and all lines are answered.
+    // If the run succeeds, no device failed, the source reported its end, and all lines are answered.
     ensures ok_faults { OnOk result ((S.faults source.new ≡ S.faults source.old)
         × (K.faults sink.new ≡ K.faults sink.old)) }
     ensures ok_end { OnOk result (IsTrue (S.is_ended source.new)) }
@@ -40,8 +45,8 @@ pub fn run<S: ByteSource, K: ByteSink>(source: &mut S, sink: &mut K) -> io::Resu
         let bytes = added (S.given source.old) (S.given source.new) in
         TellsAllGood bytes all_good) }
 
-    // Either the source failed, and all lines that ended are answered, or the sink failed, in the
-    // answer to the last line.
+    // If the run fails, either the source failed, and all lines that ended are answered, or the sink
+    // failed during the answer to the last line.
     ensures err { OnErr result
         (let bytes = added (S.given source.old) (S.given source.new) in
         let put = added (K.taken sink.old) (K.taken sink.new) in

@@ -1,7 +1,7 @@
 use Rattle.std.proofs.Common.{◌≡◌, ◌++◌}
 use Rattle.lexical_lines.specs.Answerer.{HasAnswered}
 use Rattle.lexical_lines.specs.Running.{added}
-use Rattle.lexical_lines.proofs.running.run.Given as goal
+use Rattle.lexical_lines.proofs.line_loop.run.Given as goal
 
 abbrev pub invariant-loop-byte : goal.invariant-loop-byte
 invariant-loop-byte g l =

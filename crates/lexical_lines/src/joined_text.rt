@@ -1,11 +1,11 @@
-//! The texts of several numbers, joined by a byte.
+//! Writes several numbers with a separator between adjacent ones.
 
 ghost use Rattle.std.specs.Prelude.{◌+◌, ◌-◌, ◌*◌, ◌≤◌, length, map};
 ghost use Rattle.std.specs.Borrow.{sem};
 ghost use Rattle.lexical_num.specs.Size.{size_in};
 ghost use Rattle.lexical_write_integer.specs.Buffer.{Writes};
 ghost use Rattle.lexical_write_integer.specs.Lending.{LendsFront};
-ghost use Rattle.lexical_lines.specs.Joined.{IsJoined};
+ghost use Rattle.lexical_lines.specs.JoinedText.{IsJoined};
 
 use lexical_num::constants::FormattedSize;
 use lexical_num::format::NumberFormat;
@@ -15,9 +15,11 @@ use lexical_write_integer::ToLexicalWithOptions;
 use lexical_write_integer::buffer::front_mut;
 use lexical_write_integer::laws::size_suffices;
 
-/// Writes the texts of the values in order to the front of the buffer, with the mark between two
-/// neighbours, and returns the number of bytes written: 0 for no values. The buffer must have, for
-/// each value, the size of its type in the format and one byte more. The options have no effect.
+/// Writes the texts of the values, with the separator `mark` between adjacent texts, to the start of
+/// `buffer`, and returns the number of bytes written: 0 if there are no values.
+///
+/// For each value, the buffer must have the buffer size of the type in the format plus one byte. The
+/// bytes after the written ones are unchanged. The options have no effect.
 pub fn write_joined<T: ToLexicalWithOptions>(
     values: &[T],
     mark: u8,
@@ -35,7 +37,7 @@ pub fn write_joined<T: ToLexicalWithOptions>(
     let size = options.buffer_size::<T>(format);
     let mut count = 0;
     for (index, value) in values.iter().enumerate() {
-        // Before each text but the first, so that none stands after the last.
+        // A separator precedes each text except the first, so none follows the last.
         if index > 0 {
             buffer[count] = mark;
             count += 1;
@@ -47,9 +49,10 @@ pub fn write_joined<T: ToLexicalWithOptions>(
     count
 }
 
-/// Writes the texts as `write_joined` does, and returns the front of the buffer that holds them.
-/// What the caller writes there stands in those bytes of the buffer; every byte after them is
-/// unchanged.
+/// Writes the texts of the values as `write_joined` does, and returns the written prefix of `buffer`.
+///
+/// The buffer length required is that of `write_joined`. The returned slice borrows from `buffer`, so
+/// a caller that changes it changes `buffer`. The bytes after the prefix are unchanged.
 pub fn join<'a, T: ToLexicalWithOptions>(
     values: &[T],
     mark: u8,

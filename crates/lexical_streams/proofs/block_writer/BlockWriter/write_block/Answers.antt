@@ -2,10 +2,10 @@ use Rattle.std.proofs.Common.{◌≡◌, ℕ, ◌+◌, ◌-◌, ◌≤◌, List,
 use Rattle.std.specs.List.{copy_within}
 use Rattle.std.proofs.lemmas.List.{append-nil, drop-take}
 use Rattle.std.proofs.lemmas.List.Edits.{take-paste}
-use Rattle.lexical_streams.proofs.block_writer.BlockWriter.hand_on.Goals as goal
+use Rattle.lexical_streams.proofs.block_writer.BlockWriter.write_block.Goals as goal
 use Rattle.std.proofs.Common.{length-drop}
 
--- what stood after the first bytes stands at the front
+-- the bytes after the first ones are moved to the start
 take-copy_within : (xs : List ℕ) (count end : ℕ) → count ≤ end → end ≤ length xs
     → take (end - count) (copy_within xs count end 0) ≡ drop count (take end xs)
 take-copy_within xs count end ordered within =
@@ -16,7 +16,7 @@ take-copy_within xs count end ordered within =
     ∙ take-paste xs 0 (drop count xs) left (omega arith) (omega (arith, length-drop count xs))
     ∙ sym (ap (λ k. drop count (take k xs)) parts ∙ drop-take count left xs)
 
--- what was held is what was handed on, and then what is held after the move
+-- the block held the bytes that were written, followed by those that it holds after the move
 parted : (xs ys : List ℕ) (count end : ℕ) → count ≤ end → end ≤ length xs → ys ≡ copy_within xs count end 0
     → take end xs ≡ take count (take end xs) ++ take (end - count) ys
 parted xs ys count end ordered within moved =
@@ -26,11 +26,11 @@ parted xs ys count end ordered within moved =
 pub returns-clause-bytes : goal.returns-clause-bytes
 returns-clause-bytes g c =
     let w = c.args.self.now in
-    let count = c.write_while_taken-count.result.0 in
-    let bound : count ≤ w.end = omega (arith, c.write_while_taken-count.ensures.bound, length-take w.end w.block) in
+    let count = c.write_until_error-count.result.0 in
+    let bound : count ≤ w.end = omega (arith, c.write_until_error-count.ensures.bound, length-take w.end w.block) in
     record {
       same = refl;
       handed = take count (take w.end w.block);
-      bytes = c.write_while_taken-count.ensures.bytes;
+      bytes = c.write_until_error-count.ensures.bytes;
       whole = append-nil _ ∙ parted w.block c.copy_within.new.self count w.end bound (omega arith) c.copy_within.ensures.after;
     }
