@@ -1,7 +1,7 @@
 -- The elements that were appended to a list.
 use Rattle.std.proofs.Common.{◌≡◌, ℕ, List, ◌++◌, length, drop, sym, ap, ◌∙◌, append_assoc}
 use Rattle.std.proofs.Math.Seq.{drop-append_seam}
-use Rattle.lexical_lines.specs.Running.{added}
+use Rattle.lexical_lines.specs.RunOutcome.{added}
 
 pub added-is : (before after more : List ℕ) → after ≡ before ++ more → added before after ≡ more
 added-is before after more e = ap (drop (length before)) e ∙ drop-append_seam before more

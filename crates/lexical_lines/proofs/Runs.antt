@@ -11,7 +11,7 @@ use Rattle.lexical_lines.specs.Answerer.{HasAnswered}
 use Rattle.lexical_lines.specs.Line.{short_line}
 use Rattle.lexical_lines.specs.Lines.{AreLines, EndsLine, NoNewline}
 use Rattle.lexical_lines.specs.Request.{IsGood}
-use Rattle.lexical_lines.specs.Running.{added, BreaksOff}
+use Rattle.lexical_lines.specs.RunOutcome.{added, BreaksOff}
 use Rattle.lexical_lines.specs.Sink.{IsBeginning}
 use Rattle.lexical_lines.proofs.Added.{added-is}
 use Rattle.lexical_lines.proofs.Lines.{IsInside, IsCut-none, IsCut-byte, IsCut-more, IsCut-newline, AreLines-ended, AreLines-rest}

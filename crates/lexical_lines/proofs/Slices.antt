@@ -4,7 +4,7 @@ use Rattle.std.proofs.lemmas.List.{append-nil, take-append-drop, drop-drop, leng
 use Rattle.std.proofs.lemmas.Slice.{take-put_mid, drop-put_mid}
 use borrow.Rule.Slice.PartMut.{put_mid}
 use Rattle.lexical_write_integer.specs.Buffer.{Writes}
-use Rattle.lexical_lines.specs.Running.{BreaksOff}
+use Rattle.lexical_lines.specs.RunOutcome.{BreaksOff}
 use Rattle.lexical_lines.specs.declared.slice.SliceSink.{SliceSink}
 use Rattle.lexical_lines.specs.Slice.{KeepsBytes, SliceReading, KeepsBuffer, rest_in, taken_in}
 

@@ -12,7 +12,7 @@ use Rattle.lexical_lines.specs.Lines.{AreLines, EndsLine}
 use Rattle.lexical_lines.proofs.Runs.{AreAnswersFrom-push}
 use Rattle.std.proofs.lemmas.List.{append-nil}
 use Rattle.lexical_lines.specs.Request.{IsRequest, IsValue}
-use Rattle.lexical_lines.specs.Running.{BreaksOff}
+use Rattle.lexical_lines.specs.RunOutcome.{BreaksOff}
 use Rattle.lexical_lines.specs.Sink.{IsBeginning}
 use Rattle.lexical_lines.proofs.Lines.{AreLines-append, AreLines-exist, AreLines-longer, AreLines-unique}
 use Rattle.lexical_lines.proofs.Decimals.{IsDecimal-bytes, IsDecimal-value, IsDecimal-from_digits}

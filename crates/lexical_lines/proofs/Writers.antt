@@ -3,7 +3,7 @@ use Rattle.std.proofs.Common.{◌≡◌, ℕ, List, [], ◌++◌, take, Option, 
 use Rattle.std.proofs.lemmas.List.{append-nil}
 use Rattle.std.specs.Io.KnownBytes.{Appends, Keeps, WriteAppends}
 use Rattle.lexical_lines.specs.Answer.{AnswersAll}
-use Rattle.lexical_lines.specs.Running.{added}
+use Rattle.lexical_lines.specs.RunOutcome.{added}
 use Rattle.lexical_lines.specs.Sink.{taken_by}
 
 some_same : (a b : List ℕ) → Some a ≡ Some b → a ≡ b

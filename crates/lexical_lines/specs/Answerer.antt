@@ -6,7 +6,7 @@ use Rattle.lexical_lines.specs.Answer.{IsAnswer, AreAnswers}
 use Rattle.lexical_lines.specs.Line.{short_line}
 use Rattle.lexical_lines.specs.Lines.{IsCut}
 use Rattle.lexical_lines.specs.Request.{IsGood}
-use Rattle.lexical_lines.specs.Running.{added}
+use Rattle.lexical_lines.specs.RunOutcome.{added}
 use Rattle.lexical_lines.specs.Sink.{IsBeginning}
 use Rattle.lexical_lines.specs.Source.{faults_of}
 

@@ -7,7 +7,7 @@ pub mod JoinedText
 pub mod Line
 pub mod Lines
 pub mod Request
-pub mod Running
+pub mod RunOutcome
 pub mod Sign
 pub mod Sink
 pub mod Slice

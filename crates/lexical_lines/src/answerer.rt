@@ -8,7 +8,7 @@ ghost use Rattle.lexical_lines.specs.Answer.{AnswersAll};
 ghost use Rattle.lexical_lines.specs.Answerer.{HasAnswered, PutsMore, PutsAnswer};
 ghost use Rattle.lexical_lines.specs.Line.{short_line, bytes_of};
 ghost use Rattle.lexical_lines.specs.Lines.{NoNewline};
-ghost use Rattle.lexical_lines.specs.Running.{added, TellsAllGood, BreaksOff};
+ghost use Rattle.lexical_lines.specs.RunOutcome.{added, TellsAllGood, BreaksOff};
 
 use crate::answer::{MAX_ANSWER, write_answer};
 use crate::line::{Line, MAX_LENGTH};

@@ -2,7 +2,7 @@
 
 ghost use Rattle.std.specs.Prelude.{◌≡◌, ◌⊎◌, ◌+◌, ◌++◌, IsTrue, IfOk, OnOk, OnErr};
 ghost use Rattle.lexical_lines.specs.Answer.{AnswersAll, AnswersEnded};
-ghost use Rattle.lexical_lines.specs.Running.{added, TellsAllGood, BreaksOff};
+ghost use Rattle.lexical_lines.specs.RunOutcome.{added, TellsAllGood, BreaksOff};
 
 use crate::answerer::Answerer;
 use crate::sink::ByteSink;

@@ -1,4 +1,4 @@
--- How far the lines of a reader are answered.
+-- What was answered so far of the bytes that a reader has yielded.
 use Rattle.std.proofs.Common.{◌≡◌, ℕ, ◌≤◌, Bool, true, false, List, ◌++◌, length, take, drop, ap, ◌∙◌, append_assoc, append-nil}
 use Rattle.std.proofs.Transfers.{starts_with_of_append, starts_with_of_eq}
 use Rattle.std.proofs.KnownBytes.{starts_with_rest}
@@ -6,12 +6,12 @@ use Rattle.std.specs.Io.{StartsWith}
 use Rattle.lexical_lines.specs.declared.answerer.Answerer.{Answerer}
 use Rattle.lexical_lines.specs.Answer.{AnswersAll, AnswersEnded}
 use Rattle.lexical_lines.specs.Answerer.{HasAnswered}
-use Rattle.lexical_lines.specs.Running.{added, BreaksOff}
+use Rattle.lexical_lines.specs.RunOutcome.{added, BreaksOff}
 use Rattle.lexical_lines.proofs.Added.{added-is}
 use Rattle.lexical_lines.proofs.UniqueAnswers.{AnswersAll-unique, AnswersEnded-begins, BreaksOff-begins}
-use Rattle.lexical_streams.specs.Answering.{BeginsAnswers}
+use Rattle.lexical_streams.specs.StreamAnswers.{BeginsAnswers}
 
--- ---- a beginning of the answers
+-- ---- a prefix of the answers
 
 pub begins-ended : (is_whole : Bool) (read put : List ℕ) → AnswersEnded read put → BeginsAnswers is_whole read put
 begins-ended is_whole read put answered = λ more text whole all.
@@ -42,7 +42,8 @@ begins-all is_whole read put is answered = λ more text whole all.
 
 -- ---- the loop over blocks
 
--- some bytes are answered, and the next ones, at the start of the block, are not. If there are none, no more come
+-- the answerer has received the bytes that were read before the block, and not yet those at the start of the block. If
+-- there are none, the reader has reported its end
 pub record HasBegun (given_before given taken_before taken block : List ℕ) (is_ended : Bool) (count : ℕ) (answerer : Answerer) : Type 0 where
   pub read : List ℕ
   pub answered : HasAnswered taken_before read taken answerer
@@ -55,14 +56,15 @@ module _ {given_before given taken_before taken block : List ℕ} {is_ended : Bo
   pub bytes-are : added given_before given ≡ h.read ++ take count block
   bytes-are = added-is given_before given (h.read ++ take count block) h.gave
 
-  -- no more bytes come
+  -- at the end the answerer has received all bytes
   pub bytes-are-all : count ≡ 0 → added given_before given ≡ h.read
   bytes-are-all none = bytes-are ∙ ap (λ n. h.read ++ take n block) none ∙ append-nil h.read
 
   -- the block was answered, and the next one was read
   pub HasBegun-next : (given_after put next : List ℕ) (is_ended_after : Bool) (number : ℕ) (answerer_after : Answerer)
       → HasAnswered taken_before (h.read ++ take count block) put answerer_after → given_after ≡ given ++ take number next
-      → number ≤ length next → (number ≡ 0 → is_ended_after ≡ true) → HasBegun given_before given_after taken_before put next is_ended_after number answerer_after
+      → number ≤ length next → (number ≡ 0 → is_ended_after ≡ true)
+      → HasBegun given_before given_after taken_before put next is_ended_after number answerer_after
   HasBegun-next given_after put next is_ended_after number answerer_after answered more within ended = record {
     read = h.read ++ take count block;
     answered = answered;

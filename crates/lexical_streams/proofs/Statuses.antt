@@ -1,16 +1,18 @@
--- What the exit status tells.
-use Rattle.std.proofs.Common.{◌≡◌, ◌⊎◌, ℕ, ◌+◌, ◌≤◌, Bool, true, false, List, [], ◌∷◌, ◌++◌, Option, Result, Ok, Err, OnOk, OnErr, refl, sym, ap, subst, ◌∙◌, inl, inr, arith, append-nil, length, length-append}
+-- What each exit status means.
+use Rattle.std.proofs.Common.{◌≡◌, ◌⊎◌, ℕ, ◌+◌, ◌≤◌, Bool, true, false, List, [], ◌∷◌, ◌++◌, Option, Result, Ok, Err, OnOk, OnErr, refl, sym, ap, subst, ◌∙◌}
+use Rattle.std.proofs.Common.{inl, inr, arith, append-nil, length, length-append}
 use Rattle.std.specs.Prelude.{is_ok}
 use Rattle.std.specs.Io.KnownBytes.{Appends}
 use Rattle.std.proofs.KnownBytes.{starts_with_rest}
+use Rattle.std.proofs.Math.Seq.{drop-length}
 use Rattle.lexical_lines.specs.ExitStatus.{status_of}
-use Rattle.lexical_lines.specs.Running.{added}
+use Rattle.lexical_lines.specs.RunOutcome.{added}
 use Rattle.lexical_lines.specs.Source.{faults_of}
 use Rattle.lexical_lines.specs.Stream.{StreamReading, KeepsReader}
 use Rattle.lexical_lines.proofs.Readers.{given-of}
 use Rattle.lexical_streams.specs.declared.block_reader.BlockReader.{BlockReader}
 use Rattle.lexical_streams.specs.declared.block_writer.BlockWriter.{BlockWriter}
-use Rattle.lexical_streams.specs.Answering.{HandedAll, AllAnswered, ReaderFailed, WriterFailed, ReadIsAnswered, ReadFails, WriteFails, bytes_read, bytes_put}
+use Rattle.lexical_streams.specs.StreamAnswers.{HandedAll, AllAnswered, ReaderFailed, WriterFailed, ReadIsAnswered, ReadFails, WriteFails, bytes_read, bytes_put}
 use Rattle.lexical_streams.specs.Blocks.{reading, inner, held, taken, faults, HandsOn, HandsOn-both, KeepsBytes}
 use Rattle.lexical_streams.proofs.Begun.{begins-all}
 
@@ -36,8 +38,9 @@ no-fault (Ok false) false low p = absurd (omega arith)
 no-fault (Ok true) true low p = (p, refl)
 no-fault (Ok false) true low p = (p, refl)
 
--- the run failed, or the flush after it
-pub some-fault : {E : Type 0} {P Q : Type 0} (ran : Result Bool E) (flushed : Bool) → status_of ran flushed ≡ 2 → OnOk ran P → OnErr ran Q → Q ⊎ (P × (flushed ≡ false))
+-- the run or the flush after it failed
+pub some-fault : {E : Type 0} {P Q : Type 0} (ran : Result Bool E) (flushed : Bool) → status_of ran flushed ≡ 2 → OnOk ran P
+    → OnErr ran Q → Q ⊎ (P × (flushed ≡ false))
 some-fault (Err e) flushed is_2 p q = inl q
 some-fault (Ok true) false is_2 p q = inr (p, refl)
 some-fault (Ok false) false is_2 p q = inr (p, refl)
@@ -54,12 +57,23 @@ flush-failed (Err e) ok = refl
 
 -- ---- the last flush
 
--- the bytes that were taken before a flush are those taken after it
+-- a flush takes no bytes
+pub KeepsBytes-flush : {W : Type 0} {n : ℕ} (contents : W → Option (List ℕ)) (a b : BlockWriter W n)
+    → taken b ≡ taken a → HandsOn contents a b [] → KeepsBytes contents a b
+KeepsBytes-flush contents a b same flushed =
+    let none : added (taken a) (taken b) ≡ [] = ap (λ bytes. added (taken a) bytes) same ∙ drop-length (taken a) in
+    record {
+      longer = same ∙ sym (append-nil (taken a)) ∙ ap (λ more. taken a ++ more) (sym none);
+      hands_on = rw none flushed;
+    }
+
+-- a flush does not change the bytes that were taken
 same-put : {W : Type 0} {n : ℕ} (c d e : BlockWriter W n) → taken e ≡ taken d → bytes_put c e ≡ bytes_put c d
 same-put c d e same = ap (λ bytes. added (taken c) bytes) same
 
--- a writer that holds nothing was given all that it took
-handed-all : {W : Type 0} {n : ℕ} (contents : W → Option (List ℕ)) (c d e : BlockWriter W n) → KeepsBytes contents c d → HandsOn contents d e [] → taken e ≡ taken d → held e ≡ [] → HandedAll contents c e
+-- if the block is empty, all bytes that were taken are written
+handed-all : {W : Type 0} {n : ℕ} (contents : W → Option (List ℕ)) (c d e : BlockWriter W n) → KeepsBytes contents c d
+    → HandsOn contents d e [] → taken e ≡ taken d → held e ≡ [] → HandedAll contents c e
 handed-all contents c d e kept flushed same empty =
     let both = HandsOn-both contents c d e (bytes_put c d) [] kept.hands_on flushed in
     let whole = sym (ap (λ rest. both.handed ++ rest) empty ∙ append-nil both.handed) in
@@ -70,25 +84,28 @@ append-empty_right : (xs ys : List ℕ) → xs ++ ys ≡ [] → ys ≡ []
 append-empty_right [] ys e = e
 append-empty_right (x ∷ xs) ys e = absurd (cc e)
 
--- a flush of nothing leaves nothing
+-- if the block is empty before a flush, it is empty after it
 still-empty : {W : Type 0} {n : ℕ} (contents : W → Option (List ℕ)) (d e : BlockWriter W n) → held d ≡ [] → HandsOn contents d e [] → held e ≡ []
 still-empty contents d e empty flushed =
     let none : flushed.handed ++ held e ≡ [] = sym flushed.whole ∙ append-nil (held d) ∙ empty in
     append-empty_right flushed.handed (held e) none
 
--- each byte that was given counts towards the limit
-given-left : {R : Type 0} (remaining : R → Option (List ℕ)) (a b : StreamReading R) → KeepsReader remaining a b → b.left + length (added a.given b.given) ≡ a.left
+-- each byte that was yielded counts towards the limit
+given-left : {R : Type 0} (remaining : R → Option (List ℕ)) (a b : StreamReading R) → KeepsReader remaining a b
+    → b.left + length (added a.given b.given) ≡ a.left
 given-left remaining a b kept =
     let whole = ap length (starts_with_rest b.given a.given kept.longer) ∙ length-append a.given (added a.given b.given) in
     omega (arith, whole, kept.left)
 
 module _ {R W : Type 0} {n : ℕ} (remaining : R → Option (List ℕ)) (contents : W → Option (List ℕ)) (a b : BlockReader R) (c d e : BlockWriter W n)
     (same : taken e ≡ taken d) (kept : KeepsBytes contents c d) (flushed : HandsOn contents d e []) where
-  pub all-answered : KeepsReader remaining (reading a) (reading b) → ReadIsAnswered a b c d → faults e ≡ faults d → held e ≡ [] → AllAnswered remaining contents a b c e
+  pub all-answered : KeepsReader remaining (reading a) (reading b) → ReadIsAnswered a b c d → faults e ≡ faults d → held e ≡ []
+      → AllAnswered remaining contents a b c e
   all-answered read h flush_fault empty = record {
     no_fault = (h.no_fault.0, flush_fault ∙ h.no_fault.1);
     ended = h.ended;
-    all = λ unended. given-of _ _ (bytes_read a b) (reading a).left (reading b).left read.bytes (given-left remaining (reading a) (reading b) read) (λ told. read.at_end told (λ wrong. cc (wrong, unended)) h.ended);
+    all = λ unended. given-of _ _ (bytes_read a b) (reading a).left (reading b).left read.bytes
+        (given-left remaining (reading a) (reading b) read) (λ told. read.at_end told (λ wrong. cc (wrong, unended)) h.ended);
     answers = rw (same-put c d e same) h.answers;
     handed = handed-all contents c d e kept flushed same empty;
   }

@@ -1,25 +1,25 @@
-// A reader of blocks of bytes.
+// A reader that yields bytes in blocks.
 
 ghost use Rattle.std.specs.Prelude.{◌≡◌, ◌+◌, ◌-◌, ◌^◌, ◌≤◌, true, false, [], ◌++◌, length, take, Ok, IfOk};
 ghost use Rattle.lexical_lines.specs.Sink.{taken_by};
 ghost use Rattle.lexical_lines.specs.Source.{faults_of};
 ghost use Rattle.lexical_lines.specs.Stream.{KeepsReader};
-ghost use Rattle.lexical_streams.specs.Answering.{AnswersGiven};
+ghost use Rattle.lexical_streams.specs.StreamAnswers.{AnswersGiven};
 
 use crate::block_writer::BlockWriter;
 use lexical_lines::Trace;
 use std::io;
 use std::io::Read;
 
-// The largest number of bytes that a reader of blocks gives.
+// The largest number of bytes that a `BlockReader` yields.
 const LIMIT: u64 = 9_223_372_036_854_775_807;
 
-/// Gives the bytes of a reader in blocks, up to the limit of 2^63 - 1 bytes, and counts the faults
-/// of the reader, for contracts only.
+/// Yields the bytes of a reader in blocks, up to a limit of 2^63 - 1 bytes. A ghost record counts the
+/// failures of the reader; only contracts see it.
 #[derive(Drop)]
 pub struct BlockReader<'a, R> {
     reader: &'a mut R,
-    // The number of bytes that it may still give.
+    // The number of bytes that the reader may still yield.
     left: u64,
     is_ended: bool,
     trace: Trace,
@@ -28,9 +28,15 @@ pub struct BlockReader<'a, R> {
 impl<'a, R: Read> BlockReader<'a, R> {
     ghost use Rattle.lexical_streams.specs.Blocks.{reading, lent_reader, held};
 
-    /// A reader of blocks that has given no byte.
+    /// Returns a reader that has yielded no bytes.
     pub fn new(reader: &'a mut R) -> BlockReader<'a, R>
-        ensures start { reading result ≡ record { reader = reader.entry.now; left = 2 ^ 63 - 1; is_ended = false; given = []; faults = 0 } }
+        ensures start { reading result ≡ record {
+          reader = reader.entry.now;
+          left = 2 ^ 63 - 1;
+          is_ended = false;
+          given = [];
+          faults = 0;
+        } }
         ensures lent { lent_reader result ≡ reader.entry.ghost_name }
     {
         BlockReader {
@@ -41,11 +47,11 @@ impl<'a, R: Read> BlockReader<'a, R> {
         }
     }
 
-    /// Reads bytes to the start of the block with one call of the reader, and returns how many bytes
-    /// it read. An `Ok` of 0 is the end: the reader has no further byte, or the limit is reached.
+    /// Reads bytes to the start of `block` with one call of `read`, and returns their number. `Ok(0)`
+    /// means the end: the reader yields no byte, or the limit is reached.
     ///
-    /// A read may wait for its bytes. So the writer, of which only contracts speak, must have taken the
-    /// answers to all lines that ended, and must hold none of them.
+    /// A read may wait for input. So the writer must have taken the answers to all lines that have
+    /// ended, and its block must be empty. Only the contract uses `writer`.
     pub(crate) fn read<W, const SIZE: usize>(
         &mut self,
         block: &mut [u8],

@@ -18,10 +18,10 @@
 //! ```
 #![tactic(auto)]
 
-mod answering;
 mod block_reader;
 mod block_writer;
+mod stream_answers;
 
-pub use answering::{answer_lines, answer_stream};
 pub use block_reader::BlockReader;
 pub use block_writer::BlockWriter;
+pub use stream_answers::{answer_lines, answer_stream};

@@ -2,7 +2,7 @@
 
 ghost use Rattle.std.specs.Prelude.{◌++◌, IfOk, OnOk};
 ghost use Rattle.lexical_lines.specs.Answer.{AnswersAll};
-ghost use Rattle.lexical_lines.specs.Running.{added};
+ghost use Rattle.lexical_lines.specs.RunOutcome.{added};
 
 use lexical_lines::{Answerer, ByteSink, ByteSource, Writing, run};
 use std::alloc::Global;

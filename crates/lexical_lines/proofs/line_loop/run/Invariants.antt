@@ -1,6 +1,6 @@
 use Rattle.std.proofs.Common.{◌≡◌, ◌++◌}
 use Rattle.lexical_lines.specs.Answerer.{HasAnswered}
-use Rattle.lexical_lines.specs.Running.{added}
+use Rattle.lexical_lines.specs.RunOutcome.{added}
 use Rattle.lexical_lines.proofs.line_loop.run.Given as goal
 
 abbrev pub invariant-loop-byte : goal.invariant-loop-byte

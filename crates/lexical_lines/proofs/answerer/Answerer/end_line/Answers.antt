@@ -1,7 +1,7 @@
 use Rattle.std.proofs.Common.{[], ◌∷◌, ◌++◌, false, refl, sym, subst, inr, append_assoc}
 use Rattle.std.proofs.lemmas.Result.{err_from_is_err_and}
 use Rattle.lexical_lines.specs.Line.{short_line}
-use Rattle.lexical_lines.specs.Running.{added, BreaksOff}
+use Rattle.lexical_lines.specs.RunOutcome.{added, BreaksOff}
 use Rattle.lexical_lines.proofs.Runs.{HasAnswered-more, HasAnswered-line, BreaksOff-from, lines_at_newline}
 use Rattle.lexical_lines.proofs.answerer.Answerer.end_line.Goals as goal
 

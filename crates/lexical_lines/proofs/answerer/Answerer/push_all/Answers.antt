@@ -2,7 +2,7 @@ use Rattle.std.proofs.Common.{arith, ◌≡◌, ℕ, List, [], ◌∷◌, ◌++�
 use Rattle.std.proofs.lemmas.Result.{err_from_is_err_and}
 use Rattle.std.proofs.Transfers.{starts_with_of_append}
 use Rattle.lexical_lines.specs.Answerer.{HasAnswered}
-use Rattle.lexical_lines.specs.Running.{added, BreaksOff}
+use Rattle.lexical_lines.specs.RunOutcome.{added, BreaksOff}
 use Rattle.lexical_lines.proofs.Added.{grown}
 use Rattle.lexical_lines.proofs.Runs.{HasAnswered-more}
 use Rattle.lexical_lines.proofs.answerer.Answerer.push_all.Goals as goal

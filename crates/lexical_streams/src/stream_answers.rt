@@ -1,10 +1,12 @@
-//! Lines of a reader, answered to a writer.
+//! Answers the lines of a reader, and writes the answers to a writer.
 
 ghost use Rattle.std.specs.Prelude.{◌≡◌, ◌⊎◌, ◌≤◌, true, false, length, [], ◌++◌, take, Ok, IfOk, OnOk, OnErr};
-ghost use Rattle.lexical_lines.specs.Running.{TellsAllGood};
+ghost use Rattle.lexical_lines.specs.RunOutcome.{TellsAllGood};
 ghost use Rattle.lexical_lines.specs.Sink.{taken_by};
 ghost use Rattle.lexical_lines.specs.Stream.{KeepsReader};
-ghost use Rattle.lexical_streams.specs.Answering.{bytes_read, AnswersGiven, NoFault, FaultOfReader, FaultOfWriter, AllAnswered, ReaderFailed, WriterFailed, ReadIsAnswered, ReadFails, WriteFails};
+ghost use Rattle.lexical_streams.specs.StreamAnswers.{bytes_read, AnswersGiven, NoFault, FaultOfReader};
+ghost use Rattle.lexical_streams.specs.StreamAnswers.{FaultOfWriter, AllAnswered, ReaderFailed, WriterFailed};
+ghost use Rattle.lexical_streams.specs.StreamAnswers.{ReadIsAnswered, ReadFails, WriteFails};
 ghost use Rattle.lexical_streams.specs.Blocks.{reading, lent_reader, held, taken, KeepsBytes};
 
 use crate::block_reader::BlockReader;
@@ -13,13 +15,13 @@ use lexical_lines::{Answerer, status};
 use std::io;
 use std::io::{Read, Write};
 
-// A flush comes before each read, so few reads are few short writes.
+// The writer is flushed before each read, so a larger block means fewer short writes.
 const READ_BLOCK: usize = 128 * 1024;
 
 const WRITE_BLOCK: usize = 16 * 1024;
 
-/// Answers the lines of standard input on standard output, as `answer_stream` does, and returns its
-/// exit status. The standard streams are read in blocks of 128 KiB and written in blocks of 16 KiB.
+/// Answers the lines of standard input on standard output with `answer_stream`, and returns the exit
+/// status. It reads blocks of 128 KiB and writes blocks of 16 KiB.
 pub fn answer_lines(rt: HostRuntime) -> u8
     ensures { result ≤ 2 }
 {
@@ -31,30 +33,32 @@ pub fn answer_lines(rt: HostRuntime) -> u8
 }
 
 /// Reads lines and writes their answers, as `lexical_lines::run` does, and then flushes the writer.
-/// Returns the exit status: 0 if all lines are good ones, 1 if one is bad, and 2 if a read, a write
-/// or a flush failed. The reader is a new one, which has given no byte.
+/// Returns the exit status: 0 if all lines are valid, 1 if a line is invalid, and 2 if a read, a write
+/// or a flush failed. The reader must be new, that is, it must not have yielded any bytes. `answered`
+/// in `crates/lines_tests/src/tests/blocks.rt` is an example.
 ///
-/// When a read begins, each line that has ended is answered, and the writer holds none of the answers.
-/// So an answer never waits for the next line. The block
-/// that is read into lies on the stack, of which a call with a writer of 16 KiB takes some 160 KB, or
-/// 500 KB as Rattle's own compiler builds it; it takes no other memory.
+/// When a read begins, every line that has ended is answered, and the block of the writer is empty. So
+/// an answer never waits for the next line.
+///
+/// The block that is read into is on the stack. With a writer of 16 KiB, a call uses about 160 KB of
+/// stack, or 500 KB if Rattle's own compiler builds it, and no other memory.
 pub fn answer_stream<R: Read, W: Write, const SIZE: usize>(
     reader: &mut BlockReader<'_, R>,
     writer: &mut BlockWriter<'_, W, SIZE>,
 ) -> u8
     requires fresh { (reading reader.old).given ≡ [] }
     ensures range { result ≤ 2 }
-    // What the reader gave is what it lost, and what the writer took was handed on in order, or is
-    // held.
+    // The bytes that were yielded are those that the reader lost. The bytes that were taken are written
+    // in order, or are still in the block.
     ensures read { KeepsReader R.remaining (reading reader.old) (reading reader.new) }
     ensures lent { lent_reader reader.new ≡ lent_reader reader.old }
     ensures written { KeepsBytes W.contents writer.old writer.new }
-    // No device failed, and the answers to all lines were handed on.
+    // If the status is 0 or 1, no device failed, and the answers to all lines are written.
     ensures answered { result ≤ 1
         → AllAnswered R.remaining W.contents reader.old reader.new writer.old writer.new }
     ensures good { result ≡ 0 → TellsAllGood (bytes_read reader.old reader.new) true }
     ensures bad { result ≡ 1 → TellsAllGood (bytes_read reader.old reader.new) false }
-    // A device failed, and a beginning of the answers was handed on.
+    // If the status is 2, a device failed, and a prefix of the answers is written.
     ensures failed { result ≡ 2
         → ReaderFailed W.contents reader.old reader.new writer.old writer.new
         ⊎ WriterFailed reader.old reader.new writer.old writer.new }
@@ -64,8 +68,8 @@ pub fn answer_stream<R: Read, W: Write, const SIZE: usize>(
     status(&ran, flushed)
 }
 
-// Answers all lines of the reader, up to its limit, or up to the first fault of a device. Returns
-// whether all lines are good ones.
+// Answers all lines of the reader, up to its limit or the first failure of a device. Returns whether
+// all lines are valid.
 fn answer_blocks<R: Read, W: Write, const SIZE: usize>(
     reader: &mut BlockReader<'_, R>,
     writer: &mut BlockWriter<'_, W, SIZE>,
@@ -90,7 +94,7 @@ fn answer_blocks<R: Read, W: Write, const SIZE: usize>(
     answerer.finish(writer)
 }
 
-// Flushes the writer, and then reads a block.
+// Flushes the writer, reads a block, and returns its length.
 fn read_block<R: Read, W: Write, const SIZE: usize>(
     reader: &mut BlockReader<'_, R>,
     writer: &mut BlockWriter<'_, W, SIZE>,

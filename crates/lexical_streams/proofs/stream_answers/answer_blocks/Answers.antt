@@ -3,11 +3,11 @@ use Rattle.std.proofs.lemmas.List.{length-take-le}
 use Rattle.std.proofs.lemmas.Result.{err_from_is_err_and, IfOk-weaker, on_ok_weaker, on_err_weaker}
 use Rattle.lexical_lines.specs.Answerer.{HasAnswered}
 use Rattle.lexical_lines.specs.Stream.{KeepsReader-transitive}
-use Rattle.lexical_streams.specs.Answering.{NoFault}
+use Rattle.lexical_streams.specs.StreamAnswers.{NoFault}
 use Rattle.lexical_streams.specs.Blocks.{taken, reading, KeepsBytes-reflexive, KeepsBytes-transitive}
 use Rattle.lexical_streams.proofs.Begun.{HasBegun-next, bytes-are, bytes-are-all, begins-broken}
 use Rattle.lexical_streams.proofs.Failures.{answers-given, fails-after, failed-read, failed-write, answered-all, failed-last}
-use Rattle.lexical_streams.proofs.answering.answer_blocks.Goals as goal
+use Rattle.lexical_streams.proofs.stream_answers.answer_blocks.Goals as goal
 
 pub read_block-requires : goal.read_block-requires
 read_block-requires g c =
@@ -21,7 +21,8 @@ pub returns-in_err-count-clause-err : goal.returns-in_err-count-clause-err
 returns-in_err-count-clause-err g c = rw (err_from_is_err_and c.from_residual.result c.from_residual.ensures.1).1 (
     let start = taken c.args.writer.now in
     let none = subst (λ bytes. HasAnswered start [] bytes c.new-answerer.result) (sym c.read_block.ensures.taken) (c.new-answerer.ensures start) in
-    failed-read c.args.reader.now c.read_block.new.reader c.args.writer.now c.read_block.new.writer [] c.new-answerer.result none c.in_err-count.ensures.given c.in_err-count.ensures.err)
+    failed-read c.args.reader.now c.read_block.new.reader c.args.writer.now c.read_block.new.writer [] c.new-answerer.result none
+    c.in_err-count.ensures.given c.in_err-count.ensures.err)
 
 pub loop-count-init : goal.loop-count-init
 loop-count-init g c =
@@ -49,8 +50,14 @@ read_block-requires-in-loop-count g c =
     let start = c.args.writer.now in
     let read = loop.begun.read ++ take c.loop-count.count c.loop-count.block in
     let answered = c.in_ok-push_all.ensures.ok (taken start) loop.begun.read loop.begun.answered in
-    let kept = KeepsBytes-transitive g.W.Write.contents _ _ _ loop.written c.push_all.ensures.puts.kept in
-    (search, (search rules, answers-given g.W.Write.contents c.args.reader.now c.loop-count.reader start c.push_all.new.sink read c.push_all.new.self c.requires loop.begun.gave answered kept))
+    let kept = KeepsBytes-transitive g.W.Write.contents _ _ _ loop.written c.push_all.ensures.puts.kept in (
+      search,
+      (
+        search rules,
+        answers-given g.W.Write.contents c.args.reader.now c.loop-count.reader start c.push_all.new.sink read
+            c.push_all.new.self c.requires loop.begun.gave answered kept,
+      ),
+    )
 
 pub returns-in_err-push_all-clause-err : goal.returns-in_err-push_all-clause-err
 returns-in_err-push_all-clause-err g c =
@@ -72,12 +79,15 @@ returns-in_err-count-2-clause-err g c =
     let start = taken c.args.writer.now in
     let answered = c.in_ok-push_all.ensures.ok start loop.begun.read loop.begun.answered in
     let failed = c.in_err-count-2.ensures in
-    let before : NoFault c.args.reader.now c.loop-count.reader c.args.writer.now c.push_all.new.sink = (loop.no_fault.0, omega (arith, c.in_ok-push_all.ensures.puts.faults, loop.no_fault.1)) in
+    let before : NoFault c.args.reader.now c.loop-count.reader c.args.writer.now c.push_all.new.sink =
+    (loop.no_fault.0, omega (arith, c.in_ok-push_all.ensures.puts.faults, loop.no_fault.1)) in
     rw (err_from_is_err_and c.from_residual-in_err-count-2.result c.from_residual-in_err-count-2.ensures.1).1 (
-    failed-read c.args.reader.now c.read_block-in-loop-count.new.reader c.args.writer.now c.read_block-in-loop-count.new.writer (loop.begun.read ++ next) c.push_all.new.self
+    failed-read c.args.reader.now c.read_block-in-loop-count.new.reader c.args.writer.now c.read_block-in-loop-count.new.writer
+    (loop.begun.read ++ next) c.push_all.new.self
     (subst (λ bytes. HasAnswered start (loop.begun.read ++ next) bytes c.push_all.new.self) (sym c.read_block-in-loop-count.ensures.taken) answered)
     (failed.given ∙ append-nil _ ∙ loop.begun.gave)
-    (fails-after c.args.reader.now c.loop-count.reader c.read_block-in-loop-count.new.reader c.args.writer.now c.push_all.new.sink c.read_block-in-loop-count.new.writer before failed.err))
+    (fails-after c.args.reader.now c.loop-count.reader c.read_block-in-loop-count.new.reader c.args.writer.now c.push_all.new.sink
+    c.read_block-in-loop-count.new.writer before failed.err))
 
 pub returns-in_err-count-2-clause-read : goal.returns-in_err-count-2-clause-read
 returns-in_err-count-2-clause-read g c = KeepsReader-transitive g.R.Read.remaining _ _ _ c.loop-count.invariant.read c.read_block-in-loop-count.ensures.read
@@ -108,7 +118,9 @@ loop-count-preserved g c =
       no_fault = (next.ok.0 ∙ loop.no_fault.0, omega (arith, next.ok.1, c.in_ok-push_all.ensures.puts.faults, loop.no_fault.1));
       read = KeepsReader-transitive g.R.Read.remaining _ _ _ loop.read c.read_block-in-loop-count.ensures.read;
       lent = c.read_block-in-loop-count.ensures.lent ∙ loop.lent;
-      written = KeepsBytes-transitive g.W.Write.contents _ _ _ (KeepsBytes-transitive g.W.Write.contents _ _ _ loop.written c.push_all.ensures.puts.kept) c.read_block-in-loop-count.ensures.written;
+      written = KeepsBytes-transitive g.W.Write.contents _ _ _
+          (KeepsBytes-transitive g.W.Write.contents _ _ _ loop.written c.push_all.ensures.puts.kept)
+          c.read_block-in-loop-count.ensures.written;
     }
 
 pub returns-clause-ok : goal.returns-clause-ok
@@ -116,8 +128,10 @@ returns-clause-ok g c =
     let loop = c.loop-count.invariant in
     let none : c.loop-count.count ≡ 0 = omega arith in
     let puts = c.finish.ensures.puts in
-    answered-all c.args.reader.now c.loop-count.reader c.args.writer.now c.finish.new.sink loop.begun.read c.finish.result (bytes-are-all loop.begun none) (loop.begun.ended none)
-    loop.no_fault.0 (omega (arith, puts.faults, loop.no_fault.1)) (on_ok_weaker c.finish.result (λ answers. answers _ _ loop.begun.answered) c.finish.ensures.ok)
+    answered-all c.args.reader.now c.loop-count.reader c.args.writer.now c.finish.new.sink loop.begun.read c.finish.result
+    (bytes-are-all loop.begun none) (loop.begun.ended none)
+    loop.no_fault.0 (omega (arith, puts.faults, loop.no_fault.1))
+    (on_ok_weaker c.finish.result (λ answers. answers _ _ loop.begun.answered) c.finish.ensures.ok)
 
 pub returns-clause-good : goal.returns-clause-good
 returns-clause-good g c =
@@ -130,7 +144,8 @@ returns-clause-err g c =
     let loop = c.loop-count.invariant in
     let none : c.loop-count.count ≡ 0 = omega arith in
     let puts = c.finish.ensures.puts in
-    failed-last c.args.reader.now c.loop-count.reader c.args.writer.now c.finish.new.sink loop.begun.read c.finish.result (bytes-are-all loop.begun none) (loop.begun.ended none)
+    failed-last c.args.reader.now c.loop-count.reader c.args.writer.now c.finish.new.sink loop.begun.read c.finish.result
+    (bytes-are-all loop.begun none) (loop.begun.ended none)
     loop.no_fault.0 (omega (arith, puts.faults, loop.no_fault.1)) (on_err_weaker c.finish.result (λ broke. broke _ _ loop.begun.answered) c.finish.ensures.err)
 
 pub returns-clause-written : goal.returns-clause-written

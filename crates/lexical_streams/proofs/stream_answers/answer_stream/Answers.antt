@@ -1,8 +1,9 @@
 use Rattle.std.proofs.Common.{◌+◌, sym, ap, ◌∙◌, inl, inr, arith}
 use Rattle.std.proofs.lemmas.Result.{IfOk-at_ok}
-use Rattle.lexical_streams.specs.Blocks.{faults, KeepsBytes-transitive, KeepsBytes-flush}
-use Rattle.lexical_streams.proofs.Statuses.{all-good, one-bad, no-fault, some-fault, flush-ok, flush-failed, all-answered, reader-failed, writer-failed, flush-was-lost}
-use Rattle.lexical_streams.proofs.answering.answer_stream.Goals as goal
+use Rattle.lexical_streams.specs.Blocks.{faults, KeepsBytes-transitive}
+use Rattle.lexical_streams.proofs.Statuses.{all-good, one-bad, no-fault, some-fault, flush-ok, flush-failed, all-answered, reader-failed, writer-failed}
+use Rattle.lexical_streams.proofs.Statuses.{flush-was-lost, KeepsBytes-flush}
+use Rattle.lexical_streams.proofs.stream_answers.answer_stream.Goals as goal
 
 pub returns-clause-written : goal.returns-clause-written
 returns-clause-written g c = KeepsBytes-transitive g.W.Write.contents _ _ _ c.answer_blocks-ran.ensures.written
@@ -20,7 +21,8 @@ returns-clause-answered g c low =
     let flush = c.flush.ensures in
     let (answered, flushed) = no-fault c.answer_blocks-ran.result c.is_ok-flushed.result (rw c.status.ensures at low) ran.ok in
     let (empty, none) = flush-ok c.flush.result (sym c.is_ok-flushed.ensures.value ∙ flushed) flush.ok in
-    all-answered g.R.Read.remaining g.W.Write.contents c.args.reader.now c.answer_blocks-ran.new.reader c.args.writer.now c.answer_blocks-ran.new.writer c.flush.new.self
+    all-answered g.R.Read.remaining g.W.Write.contents c.args.reader.now c.answer_blocks-ran.new.reader c.args.writer.now
+    c.answer_blocks-ran.new.writer c.flush.new.self
     flush.taken ran.written flush.bytes ran.read answered (omega (arith, flush.faults, none)) empty
 
 pub returns-clause-failed : goal.returns-clause-failed
@@ -30,12 +32,15 @@ returns-clause-failed g c is_2 =
     let before = c.answer_blocks-ran.new in
     elim (some-fault c.answer_blocks-ran.result c.is_ok-flushed.result (sym c.status.ensures ∙ is_2) ran.ok ran.err) [
       | inl failed ↦ elim failed [
-        | inl read ↦ inl (reader-failed g.R.Read.remaining g.W.Write.contents c.args.reader.now before.reader c.args.writer.now before.writer c.flush.new.self flush.taken ran.written flush.bytes read)
-        | inr write ↦ inr (writer-failed g.R.Read.remaining g.W.Write.contents c.args.reader.now before.reader c.args.writer.now before.writer c.flush.new.self flush.taken ran.written flush.bytes
+        | inl read ↦ inl (reader-failed g.R.Read.remaining g.W.Write.contents c.args.reader.now before.reader c.args.writer.now
+            before.writer c.flush.new.self flush.taken ran.written flush.bytes read)
+        | inr write ↦ inr (writer-failed g.R.Read.remaining g.W.Write.contents c.args.reader.now before.reader c.args.writer.now
+            before.writer c.flush.new.self flush.taken ran.written flush.bytes
             (omega (arith, flush.faults)) write)
       ]
       | inr done ↦
           let lost = flush-failed c.flush.result (sym c.is_ok-flushed.ensures.value ∙ done.1) in
-          inr (flush-was-lost g.R.Read.remaining g.W.Write.contents c.args.reader.now before.reader c.args.writer.now before.writer c.flush.new.self flush.taken ran.written flush.bytes
+          inr (flush-was-lost g.R.Read.remaining g.W.Write.contents c.args.reader.now before.reader c.args.writer.now before.writer
+          c.flush.new.self flush.taken ran.written flush.bytes
           (flush.faults ∙ ap (λ more. faults before.writer + more) lost) done.0)
     ]

@@ -1,8 +1,8 @@
 use Rattle.lexical_lines.specs.Stream.{KeepsReader}
-use Rattle.lexical_streams.specs.Answering.{NoFault}
+use Rattle.lexical_streams.specs.StreamAnswers.{NoFault}
 use Rattle.lexical_streams.specs.Blocks.{reading, lent_reader, taken, KeepsBytes}
 use Rattle.lexical_streams.proofs.Begun.{HasBegun}
-use Rattle.lexical_streams.proofs.answering.answer_blocks.Given as goal
+use Rattle.lexical_streams.proofs.stream_answers.answer_blocks.Given as goal
 use Rattle.std.proofs.Common.{◌≡◌, ◌+◌}
 
 abbrev pub invariant-loop-count : goal.invariant-loop-count
