@@ -180,7 +180,7 @@ join_spec 𝓤 𝓛 𝓜 𝓡 wired X Y L LY C g d gl dl gn dn gc dc gs ds gt dt
     let T : Able = record { row = X; copy = C; options = Y; g = g; d = d; gl = gl; dl = dl; gn = gn; dn = dn; gc = gc; dc = dc; gs = gs; ds = ds; gt = gt; dt = dt } in
     let 𝓣 : Tables 𝓤 𝓛.H = tables_of 𝓤 𝓛.H 𝓜 (tables 𝓤 𝓛.H 𝓜 𝓡 𝓡.env) in
     let c = clauses T 𝓛 𝓜.mem 𝓡.returns in
-    let writes = write_joined_met 𝓤 𝓛 𝓜 𝓡 (code.calls-lexical_lines::joined::write_joined 𝓡.env wired) X Y L LY C g d gl dl gn dn gc dc gs ds gt dt writes_options writes_decimal numbers clones sizes tells in
+    let writes = write_joined_met 𝓤 𝓛 𝓜 𝓡 (code.calls-lexical_lines::joined_text::write_joined 𝓡.env wired) X Y L LY C g d gl dl gn dn gc dc gs ds gt dt writes_options writes_decimal numbers clones sizes tells in
     let fronts = front_mut_met 𝓤 𝓛 𝓜 𝓡 (code.calls-lexical_write_integer::buffer::front_mut 𝓡.env wired) in
     entered 𝓤 𝓛.H (triple_of 𝓛 (F.signature X Y) (F.spec X Y g d gl dl gn dn gc dc gs ds gt dt 𝓛 𝓜.mem 𝓡.returns)) 𝓣.C 𝓣.Λ (#self (args T)) (function T) (code.unfolded 𝓤 𝓛.H 𝓜 𝓡 wired (X, (Y, tt)) d dl dn dc ds dt)
     (walk_Meets 𝓛 (ended T) (stayed T) (
