@@ -20,7 +20,7 @@ abbrev pub rest_line : List ℕ → List (List ℕ)
 rest_line [] = []
 rest_line (byte ∷ bytes) = (byte ∷ bytes) ∷ []
 
--- these are all lines of the input: those that end with a newline, and the bytes after the last newline if there are any
+-- these are all lines of the input: those that end with a newline, and the bytes after the last newline if any
 pub record AreLines (bytes : List ℕ) (all : List (List ℕ)) : Type 0 where
   pub ended : List (List ℕ)
   pub rest : List ℕ

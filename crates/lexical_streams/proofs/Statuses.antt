@@ -12,7 +12,8 @@ use Rattle.lexical_lines.specs.Stream.{StreamReading, KeepsReader}
 use Rattle.lexical_lines.proofs.Readers.{given-of}
 use Rattle.lexical_streams.specs.declared.block_reader.BlockReader.{BlockReader}
 use Rattle.lexical_streams.specs.declared.block_writer.BlockWriter.{BlockWriter}
-use Rattle.lexical_streams.specs.StreamAnswers.{HandedAll, AllAnswered, ReaderFailed, WriterFailed, ReadIsAnswered, ReadFails, WriteFails, bytes_read, bytes_put}
+use Rattle.lexical_streams.specs.StreamAnswers.{HandedAll, AllAnswered, ReaderFailed, WriterFailed, ReadIsAnswered, ReadFails, WriteFails}
+use Rattle.lexical_streams.specs.StreamAnswers.{bytes_read, bytes_put}
 use Rattle.lexical_streams.specs.Blocks.{reading, inner, held, taken, faults, HandsOn, HandsOn-both, KeepsBytes}
 use Rattle.lexical_streams.proofs.Begun.{begins-all}
 
