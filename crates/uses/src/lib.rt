@@ -1,5 +1,5 @@
 //! What a caller does with the numbers that these crates write, one thing in each module, each
-//! proved over the contracts of the calls alone.
+//! proved only from the contracts of the calls, and calls whose conditions only just hold.
 #![tactic(auto)]
 
 pub mod address;
