@@ -10,6 +10,7 @@ pub mod arena;
 pub mod column;
 pub mod conditions;
 pub mod csv_row;
+pub mod date;
 pub mod date_time;
 pub mod dump_line;
 pub mod fixed_texts;
