@@ -10,6 +10,7 @@ pub mod arena;
 pub mod column;
 pub mod conditions;
 pub mod csv_row;
+pub mod date;
 pub mod date_time;
 pub mod decimal_turns;
 pub mod dump_line;
