@@ -1,5 +1,5 @@
 -- What a run over blocks has answered when a device fails.
-use Rattle.std.proofs.Common.{◌≡◌, ◌⊎◌, ℕ, ◌+◌, Bool, true, List, [], ◌++◌, Result, Ok, Err, OnOk, OnErr, sym, subst, ◌∙◌, inl, inr, arith}
+use Rattle.std.proofs.Common.{◌≡◌, ◌⊎◌, ℕ, ◌+◌, Bool, true, List, [], ◌++◌, Option, Result, Ok, Err, OnOk, OnErr, sym, ap, subst, ◌∙◌, inl, inr, arith}
 use Rattle.lexical_lines.specs.declared.answerer.Answerer.{Answerer}
 use Rattle.lexical_lines.specs.Answer.{AnswersAll, AnswersEnded}
 use Rattle.lexical_lines.specs.Answerer.{HasAnswered}
@@ -9,9 +9,15 @@ use Rattle.lexical_lines.proofs.Added.{added-is}
 use Rattle.lexical_lines.proofs.Runs.{answers_ended}
 use Rattle.lexical_streams.specs.declared.block_reader.BlockReader.{BlockReader}
 use Rattle.lexical_streams.specs.declared.block_writer.BlockWriter.{BlockWriter}
-use Rattle.lexical_streams.specs.Answering.{NoFault, FaultOfReader, FaultOfWriter, BeginsAnswers, ReadIsAnswered, ReadFails, WriteFails, bytes_put}
-use Rattle.lexical_streams.specs.Blocks.{reading, held, taken, faults}
+use Rattle.lexical_streams.specs.Answering.{AnswersGiven, NoFault, FaultOfReader, FaultOfWriter, BeginsAnswers, ReadIsAnswered, ReadFails, WriteFails, bytes_put}
+use Rattle.lexical_streams.specs.Blocks.{reading, held, taken, faults, KeepsBytes}
 use Rattle.lexical_streams.proofs.Begun.{begins-ended, begins-last}
+
+-- a reader that was new has had all its lines answered that ended
+pub answers-given : {R W : Type 0} {n : ℕ} (contents : W → Option (List ℕ)) (a b : BlockReader R) (c d : BlockWriter W n) (read : List ℕ) (answerer : Answerer)
+    → (reading a).given ≡ [] → (reading b).given ≡ (reading a).given ++ read → HasAnswered (taken c) read (taken d) answerer → KeepsBytes contents c d → AnswersGiven b d
+answers-given contents a b c d read answerer fresh given h kept =
+    (taken c, bytes_put c d, kept.longer, subst (λ xs. AnswersEnded xs (bytes_put c d)) (sym (given ∙ ap (λ xs. xs ++ read) fresh)) (answers_ended h))
 
 -- the flush before a read failed, or the read
 abbrev pub FailsAtRead : {R W : Type 0} {n : ℕ} → BlockReader R → BlockReader R → BlockWriter W n → BlockWriter W n → Type 0

@@ -29,6 +29,10 @@ FaultOfWriter a b c d = ((reading b).faults ≡ (reading a).faults) × (faults d
 
 -- ---- what was answered
 
+-- the writer took some bytes, and then the answers to all lines that end in what the reader has given
+abbrev pub AnswersGiven : {R W : Type 0} {n : ℕ} → BlockReader R → BlockWriter W n → Type 0
+AnswersGiven r w = (before text : List ℕ) × (taken w ≡ before ++ text) × AnswersEnded (reading r).given text
+
 -- the text begins the answers to each input that begins with these bytes, or if they are the whole input, to this one
 abbrev pub BeginsAnswers : Bool → List ℕ → List ℕ → Type 0
 BeginsAnswers is_whole read put = (more text : List ℕ) → (is_whole ≡ true → more ≡ []) → AnswersAll (read ++ more) text → StartsWith text put

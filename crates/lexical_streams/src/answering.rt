@@ -4,7 +4,7 @@ ghost use Rattle.std.specs.Prelude.{◌≡◌, ◌⊎◌, ◌≤◌, true, false
 ghost use Rattle.lexical_lines.specs.Running.{TellsAllGood};
 ghost use Rattle.lexical_lines.specs.Sink.{taken_by};
 ghost use Rattle.lexical_lines.specs.Stream.{KeepsReader};
-ghost use Rattle.lexical_streams.specs.Answering.{bytes_read, NoFault, FaultOfReader, FaultOfWriter, AllAnswered, ReaderFailed, WriterFailed, ReadIsAnswered, ReadFails, WriteFails};
+ghost use Rattle.lexical_streams.specs.Answering.{bytes_read, AnswersGiven, NoFault, FaultOfReader, FaultOfWriter, AllAnswered, ReaderFailed, WriterFailed, ReadIsAnswered, ReadFails, WriteFails};
 ghost use Rattle.lexical_streams.specs.Blocks.{reading, lent_reader, held, taken, KeepsBytes};
 
 use crate::block_reader::BlockReader;
@@ -32,15 +32,17 @@ pub fn answer_lines(rt: HostRuntime) -> u8
 
 /// Reads lines and writes their answers, as `lexical_lines::run` does, and then flushes the writer.
 /// Returns the exit status: 0 if all lines are good ones, 1 if one is bad, and 2 if a read, a write
-/// or a flush failed.
+/// or a flush failed. The reader is a new one, which has given no byte.
 ///
-/// The writer holds nothing when a read begins, so an answer never waits for the next line. The block
+/// When a read begins, each line that has ended is answered, and the writer holds none of the answers.
+/// So an answer never waits for the next line. The block
 /// that is read into lies on the stack, of which a call with a writer of 16 KiB takes some 160 KB, or
 /// 500 KB as Rattle's own compiler builds it; it takes no other memory.
 pub fn answer_stream<R: Read, W: Write, const SIZE: usize>(
     reader: &mut BlockReader<'_, R>,
     writer: &mut BlockWriter<'_, W, SIZE>,
 ) -> u8
+    requires fresh { (reading reader.old).given ≡ [] }
     ensures range { result ≤ 2 }
     // What the reader gave is what it lost, and what the writer took was handed on in order, or is
     // held.
@@ -68,6 +70,7 @@ fn answer_blocks<R: Read, W: Write, const SIZE: usize>(
     reader: &mut BlockReader<'_, R>,
     writer: &mut BlockWriter<'_, W, SIZE>,
 ) -> io::Result<bool>
+    requires { (reading reader.old).given ≡ [] }
     ensures ok { OnOk result (ReadIsAnswered reader.old reader.new writer.old writer.new) }
     ensures good { IfOk result (λ all_good. TellsAllGood (bytes_read reader.old reader.new) all_good) }
     ensures err { OnErr result
@@ -93,7 +96,8 @@ fn read_block<R: Read, W: Write, const SIZE: usize>(
     writer: &mut BlockWriter<'_, W, SIZE>,
     block: &mut [u8],
 ) -> io::Result<usize>
-    requires { 1 ≤ length block.old }
+    requires room { 1 ≤ length block.old }
+    requires answered { AnswersGiven reader.old writer.old }
     ensures within { IfOk result (λ count. count ≤ length block.new) }
     ensures given { (reading reader.new).given ≡ (reading reader.old).given ++ take (taken_by result) block.new }
     ensures ended { result ≡ Ok 0 → (reading reader.new).is_ended ≡ true }

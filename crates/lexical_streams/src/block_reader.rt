@@ -4,6 +4,7 @@ ghost use Rattle.std.specs.Prelude.{◌≡◌, ◌+◌, ◌-◌, ◌^◌, ◌≤
 ghost use Rattle.lexical_lines.specs.Sink.{taken_by};
 ghost use Rattle.lexical_lines.specs.Source.{faults_of};
 ghost use Rattle.lexical_lines.specs.Stream.{KeepsReader};
+ghost use Rattle.lexical_streams.specs.Answering.{AnswersGiven};
 
 use crate::block_writer::BlockWriter;
 use lexical_lines::Trace;
@@ -40,16 +41,18 @@ impl<'a, R: Read> BlockReader<'a, R> {
         }
     }
 
-    /// Reads bytes to the start of the block, by one call of the reader, and returns how many they
-    /// are. An `Ok` of 0 tells the end: the reader gave no byte, or the limit is reached.
+    /// Reads bytes to the start of the block with one call of the reader, and returns how many bytes
+    /// it read. An `Ok` of 0 is the end: the reader has no further byte, or the limit is reached.
     ///
-    /// A read may wait for its bytes, so the writer, which is only looked at, must hold nothing.
-    pub fn read<W, const SIZE: usize>(
+    /// A read may wait for its bytes. So the writer, of which only contracts speak, must have taken the
+    /// answers to all lines that ended, and must hold none of them.
+    pub(crate) fn read<W, const SIZE: usize>(
         &mut self,
         block: &mut [u8],
         writer: &BlockWriter<'_, W, SIZE>,
     ) -> io::Result<usize>
         requires room { 1 ≤ length block.old }
+        requires answered { AnswersGiven self.old writer.now }
         requires flushed { held writer.now ≡ [] }
         ensures within { IfOk result (λ count. count ≤ length block.new) }
         ensures given { (reading self.new).given ≡ (reading self.old).given ++ take (taken_by result) block.new }

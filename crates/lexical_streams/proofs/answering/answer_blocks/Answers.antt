@@ -1,13 +1,21 @@
-use Rattle.std.proofs.Common.{[], ◌++◌, Ok, take, sym, ap, subst, ◌∙◌, arith, length, ◌≡◌, append-nil, length-append}
+use Rattle.std.proofs.Common.{rules, [], ◌++◌, Ok, take, sym, ap, subst, ◌∙◌, arith, length, ◌≡◌, append-nil, length-append}
 use Rattle.std.proofs.lemmas.List.{length-take-le}
 use Rattle.std.proofs.lemmas.Result.{err_from_is_err_and, IfOk-weaker, on_ok_weaker, on_err_weaker}
 use Rattle.lexical_lines.specs.Answerer.{HasAnswered}
 use Rattle.lexical_lines.specs.Stream.{KeepsReader-transitive}
 use Rattle.lexical_streams.specs.Answering.{NoFault}
-use Rattle.lexical_streams.specs.Blocks.{taken, reading, KeepsBytes-transitive}
+use Rattle.lexical_streams.specs.Blocks.{taken, reading, KeepsBytes-reflexive, KeepsBytes-transitive}
 use Rattle.lexical_streams.proofs.Begun.{HasBegun-next, bytes-are, bytes-are-all, begins-broken}
-use Rattle.lexical_streams.proofs.Failures.{fails-after, failed-read, failed-write, answered-all, failed-last}
+use Rattle.lexical_streams.proofs.Failures.{answers-given, fails-after, failed-read, failed-write, answered-all, failed-last}
 use Rattle.lexical_streams.proofs.answering.answer_blocks.Goals as goal
+
+pub read_block-requires : goal.read_block-requires
+read_block-requires g c =
+    let start = c.args.writer.now in
+    let none = c.new-answerer.ensures (taken start) in
+    let reader = c.args.reader.now in
+    let kept = KeepsBytes-reflexive g.W.Write.contents start in
+    (search, (search rules, answers-given g.W.Write.contents reader reader start start [] c.new-answerer.result c.requires (sym (append-nil _)) none kept))
 
 pub returns-in_err-count-clause-err : goal.returns-in_err-count-clause-err
 returns-in_err-count-clause-err g c = rw (err_from_is_err_and c.from_residual.result c.from_residual.ensures.1).1 (
@@ -34,6 +42,15 @@ loop-count-init g c =
 
 pub slice_bounds-block-end : goal.slice_bounds-block-end
 slice_bounds-block-end g c = c.loop-count.invariant.begun.within
+
+pub read_block-requires-in-loop-count : goal.read_block-requires-in-loop-count
+read_block-requires-in-loop-count g c =
+    let loop = c.loop-count.invariant in
+    let start = c.args.writer.now in
+    let read = loop.begun.read ++ take c.loop-count.count c.loop-count.block in
+    let answered = c.in_ok-push_all.ensures.ok (taken start) loop.begun.read loop.begun.answered in
+    let kept = KeepsBytes-transitive g.W.Write.contents _ _ _ loop.written c.push_all.ensures.puts.kept in
+    (search, (search rules, answers-given g.W.Write.contents c.args.reader.now c.loop-count.reader start c.push_all.new.sink read c.push_all.new.self c.requires loop.begun.gave answered kept))
 
 pub returns-in_err-push_all-clause-err : goal.returns-in_err-push_all-clause-err
 returns-in_err-push_all-clause-err g c =
