@@ -7,6 +7,7 @@ use crate::amount::{width_of_amount, write_amount};
 use crate::any_format::{have_same_text, text_if_room, text_of_any, text_of_i64};
 use crate::arena::{have_same_kept_texts, keep_text};
 use crate::column::write_column;
+use crate::date::write_date;
 use crate::fixed_texts::{million, white};
 use crate::float_format::float_format;
 use crate::float_parts::write_parts;
@@ -206,6 +207,15 @@ fn texts_of_constants(rt: HostRuntime) {
 fn hexadecimal_as_an_equation(rt: HostRuntime) {
     assert_eq!(rt; hexadecimal(0, &mut [7; 10]), b"0x0".as_slice());
     assert_eq!(rt; hexadecimal(48879, &mut [7; 10]), b"0xBEEF".as_slice());
+}
+
+#[test]
+fn dates(rt: HostRuntime) {
+    let mut date = [7; 10];
+    assert_eq!(rt; write_date(2026, 11, 23, &mut date), 10);
+    assert_eq!(rt; date, *b"2026-11-23");
+    assert_eq!(rt; write_date(33, 4, 3, &mut date), 10);
+    assert_eq!(rt; date, *b"0033-04-03");
 }
 
 #[test]
