@@ -5,8 +5,8 @@ use Rattle.std.proofs.lemmas.List.{length-take, take-append-drop}
 use Rattle.lexical_num.specs.Format.{Format}
 use Rattle.lexical_num.specs.Sign.{sign_of}
 use Rattle.lexical_write_integer.specs.Buffer.{Front, Writes, WritesDigits, WritesText}
-use Rattle.lexical_write_integer.proofs.Fronts.{take-Writes}
-use Rattle.lexical_write_integer.proofs.Signs.{WritesText-over}
+use Rattle.lexical_write_integer.proofs.Buffers.Prefixes.{take-Writes}
+use Rattle.lexical_write_integer.proofs.Buffers.SignedTexts.{WritesText-over}
 use borrow.Rule.Slice.PartMut.{put_mid}
 
 -- the digits of a number that is not negative are its text
@@ -38,6 +38,9 @@ pub after_sign : (x : ℤ) (format : Format) (magnitude : ℕ) (before between w
     WritesDigits format.mantissa_radix magnitude (take (length between - count) (drop count between)) written digits →
     WritesText x format before (put_mid count (length between - count) between written) (count + digits)
 after_sign x format magnitude before between written count digits plus none long sign same rest some is w =
-    WritesText-over x format before between written written count digits digits (rw plus long) (rw plus sign) same rest some (rw is at w)
-    (rw none (own_front _ written digits w.writes))
-    (rw none (w.writes.count ∙ sym (ap length (take-Writes _ written digits w.writes))))
+    WritesText-over (rw plus sign) same rest some record {
+      sign_count = rw plus long;
+      magnitude = rw is at w;
+      groups = rw none (own_front _ written digits w.writes);
+      total_count = rw none (w.writes.count ∙ sym (ap length (take-Writes _ written digits w.writes)));
+    }

@@ -8,10 +8,9 @@ use Rattle.lexical_num.specs.Sign.{sign_of}
 use Rattle.lexical_write_integer.specs.Computed.{text_of}
 use Rattle.lexical_write_integer.specs.DigitCount.{digit_count}
 use Rattle.lexical_write_integer.specs.Text.{need}
-use Rattle.lexical_write_integer.proofs.Computed.{text_computed}
-use Rattle.lexical_write_integer.proofs.Lengths.{length-IsText}
-use Rattle.lexical_write_integer.proofs.Printed.{IsRange-small}
-use Rattle.lexical_write_integer.proofs.Signs.{grouped_length-le_need}
+use Rattle.lexical_write_integer.proofs.ComputedTexts.{text_computed}
+use Rattle.lexical_write_integer.proofs.Required.{length-IsText, grouped_length-le_need}
+use Rattle.lexical_write_integer.proofs.PrintedTexts.{IsRange-small}
 
 -- the text of a number consists of its sign, its digits, and the separators between them
 pub length-text_of : (x : ℤ) (format : Format) → IsValid format → unsigned_abs x < 2 ^ 64 →
@@ -28,5 +27,5 @@ pub text_of-le_need : (x least greatest : ℤ) (bits width : ℕ) (format : Form
 text_of-le_need x least greatest bits width format valid decimal range at_least at_most =
     let small = IsRange-small _ _ _ x range at_least at_most in
     let count = digit_count format.mantissa_radix (unsigned_abs x) in
-    let fewer = grouped_length-le_need x least greatest format width count decimal at_least at_most refl in
+    let fewer = grouped_length-le_need {count = count} format decimal at_least at_most refl in
     omega (arith, length-text_of x format valid small, fewer)

@@ -3,7 +3,7 @@ use Rattle.std.proofs.Common.{◌≡◌, ℕ, suc, ◌+◌, ◌<◌, ◌≤◌, 
 use Rattle.std.proofs.Math.Seq.{drop-cons}
 use Rattle.std.proofs.lemmas.List.{set_at, take_at}
 use Rattle.lexical_write_integer.specs.Buffer.{Front, Writes}
-use Rattle.lexical_write_integer.proofs.Fronts.{Front-after}
+use Rattle.lexical_write_integer.proofs.Buffers.Prefixes.{Front-after}
 
 -- one byte more after a text
 pub Front-push : (before between text : List ℕ) (count mark : ℕ) → count ≡ length text → Front before between text → count < length before → Front before (set between count mark) (text ++ mark ∷ [])

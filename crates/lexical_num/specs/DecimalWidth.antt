@@ -9,7 +9,9 @@ pub record IsDecimalWidth (least greatest : ℤ) (width : ℕ) : Type 0 where
   pub enough : (n : ℤ) → least ≤ℤ n → n ≤ℤ greatest → unsigned_abs n < 10 ^ width
   pub needed : 10 ^ (width - 1) ≤ unsigned_abs greatest
 
--- where both ends have no more digits than that, and the greatest number has as many
+-- ---- a proof, which is here since ghost members cite it
+
+-- the width of a type, if both ends have at most `width` digits and the greatest number has exactly `width`
 pub is_decimal_width : {least greatest : ℤ} {width : ℕ} → 1 ≤ width → unsigned_abs least < 10 ^ width → unsigned_abs greatest < 10 ^ width → 10 ^ (width - 1) ≤ unsigned_abs greatest → IsDecimalWidth least greatest width
 is_decimal_width {least} {greatest} {width} some low high full =
     record { some = some; enough = λ n. between n least greatest low high; needed = full }

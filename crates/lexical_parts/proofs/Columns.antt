@@ -3,7 +3,7 @@ use Rattle.std.proofs.Common.{◌≡◌, ℕ, ◌+◌, ◌-◌, List, ◌++◌, 
 use Rattle.std.proofs.lemmas.List.{drop-drop, drop_at, length-drop, length-replicate}
 use Rattle.lexical_write_integer.specs.Buffer.{Front, Writes}
 use Rattle.lexical_write_integer.specs.Sequence.{IsExactly}
-use Rattle.lexical_write_integer.proofs.Fronts.{Front-after, length-after, take-Writes}
+use Rattle.lexical_write_integer.proofs.Buffers.Prefixes.{Front-after, length-after, take-Writes}
 use Rattle.lexical_parts.specs.Column.{IsAtLeft, IsAtRight}
 
 -- spaces written after a text

@@ -3,7 +3,7 @@ use Rattle.std.proofs.Common.{◌≡◌, ℕ, ◌+◌, ◌<◌, List, [], ◌∷
 use Rattle.std.proofs.lemmas.List.{take_more, append-nil, length-take-le}
 use Rattle.lexical_write_integer.specs.Buffer.{Writes}
 use Rattle.lexical_write_integer.specs.Sequence.{IsExactly}
-use Rattle.lexical_write_integer.proofs.Fronts.{Front-after, length-after}
+use Rattle.lexical_write_integer.proofs.Buffers.Prefixes.{Front-after, length-after}
 use Rattle.lexical_parts.specs.Joined.{AreEach, AreJoined}
 use Rattle.lexical_parts.specs.Sequence.{◌then◌}
 

@@ -1,4 +1,4 @@
--- Where the pair of a number stands in a table: what a reader of `get_table` cites.
+-- The index of a number's pair in a table, for callers of `get_table`.
 use Rattle.std.proofs.Common.{◌≡◌, ℕ, zero, suc, ◌+◌, ◌*◌, ◌/◌, ◌%◌, ◌<◌, length, slice_index, arith, refl}
 use Rattle.std.specs.List.{flat_map, range_with_len}
 use Rattle.lexical_tables.specs.Pairs.{digit_char, pair, pairs}
@@ -7,7 +7,7 @@ length-pairs_from : (radix first count : ℕ) → length (flat_map (pair radix) 
 length-pairs_from radix first zero = refl
 length-pairs_from radix first (suc count) = omega (arith, length-pairs_from radix (first + 1) count)
 
--- the two digits of a number stand after those of the numbers before it
+-- the two digits of a number follow those of the numbers before it
 digits_from : (radix first count i number : ℕ) → i < count → first + i ≡ number →
     (slice_index (flat_map (pair radix) (range_with_len first count)) (2 * i) ≡ digit_char (number / radix))
     × (slice_index (flat_map (pair radix) (range_with_len first count)) (2 * i + 1) ≡ digit_char (number % radix))
@@ -30,5 +30,5 @@ pub slice_index-pairs_second : (radix i : ℕ) → i < radix * radix → slice_i
 unfolding pairs
 slice_index-pairs_second radix i within = (digits_from radix 0 (radix * radix) i i within (omega arith)).1
 
--- what the contract of `get_table` says beside the list of pairs
+-- the length of a table and its entries
 pub ruleset reads = (length-pairs, slice_index-pairs_first, slice_index-pairs_second)

@@ -1,4 +1,4 @@
--- The characters of digits, the signs and the marks between groups are ASCII.
+-- The characters of digits, the signs and the separators between groups are ASCII.
 use Rattle.std.proofs.Common.{Option, None, Some, Bool, true, false, ◌==◌, ℕ, ◌<◌, ◌≤◌, ◌%◌, List, [], ◌∷◌, ◌++◌, length, map, refl, arith, ℤ, pos, negsuc}
 use Rattle.std.specs.List.{All}
 use Rattle.std.specs.Option.{ForSome}
@@ -44,9 +44,13 @@ AllAscii-sign (negsuc n) required = AllAscii-one 45 (omega arith)
 AllAscii-sign (pos n) true = AllAscii-one 43 (omega arith)
 AllAscii-sign (pos n) false = All-nil (λ b. b < 128)
 
-pub IsAscii-IsText : (x : ℤ) (format : Format) (text : List ℕ) → format.mantissa_radix ≤ 36 → ForSome format.digit_grouping IsGrouping → IsText x format text → IsAscii text
+pub IsAscii-IsText : (x : ℤ) (format : Format) (text : List ℕ)
+    → format.mantissa_radix ≤ 36 → ForSome format.digit_grouping IsGrouping → IsText x format text → IsAscii text
 IsAscii-IsText x format text few good is =
     let sign = sign_of x format.required_mantissa_sign in
-    let digits : AllAscii is.digits = rw is.magnitude.characters (AllAscii-digit_chars format.mantissa_radix is.magnitude.digits few is.magnitude.numeral.numeral.below_radix) in
-    let whole = All-append (λ b. b < 128) sign (grouped format.digit_grouping is.digits) (AllAscii-sign x format.required_mantissa_sign) (AllAscii-grouped format.digit_grouping is.digits good digits) in
+    let digits : AllAscii is.digits =
+    rw is.magnitude.characters (AllAscii-digit_chars format.mantissa_radix is.magnitude.digits few is.magnitude.numeral.numeral.below_radix) in
+    let whole =
+    All-append (λ b. b < 128) sign (grouped format.digit_grouping is.digits) (AllAscii-sign x format.required_mantissa_sign)
+    (AllAscii-grouped format.digit_grouping is.digits good digits) in
     IsAscii-from_all text (rw is.whole whole)

@@ -1,4 +1,4 @@
--- Two numbers are equal exactly where their texts are.
+-- Two numbers are equal if and only if their texts are.
 use Rattle.std.proofs.Common.{◌≡◌, ℕ, ◌≤◌, List, ◌++◌, sym, ap, ◌∙◌, ℤ, unsigned_abs}
 use Rattle.std.specs.Prelude.{◌↔◌}
 use Rattle.lexical_num.specs.Format.{Format}

@@ -1,22 +1,12 @@
 -- How many digits a number has: the least exponent, from both sides, and what a division by a power of the radix leaves.
-use Rattle.std.proofs.Common.{◌≡◌, ℕ, zero, suc, ◌+◌, ◌-◌, ◌*◌, ◌/◌, ◌^◌, ◌<◌, ◌≤◌, ltb, sym, ap, ◌∙◌, inl, inr, arith}
-use Rattle.std.proofs.Math.Nat.{pow-zero, pow-suc, pow-le-pow_right, mul-le-mul_left, mul-le-mul_right, one-le-pow, div-lt_iff_lt-mul, div-mul-le_self, div-one, div-div-eq-div-mul, mul_comm}
+use Rattle.std.proofs.Common.{◌≡◌, ℕ, zero, suc, ◌+◌, ◌-◌, ◌*◌, ◌/◌, ◌^◌, ◌<◌, ◌≤◌, ltb, sym, inl, inr, arith}
+use Rattle.std.proofs.Math.Nat.{pow-zero, pow-le-pow_right, mul-le-mul_right, one-le-pow, div-lt_iff_lt-mul, div-mul-le_self, div-one}
 use Rattle.std.proofs.lemmas.Bool.{cases_lt, ltb-true, cond_both}
 use Rattle.std.proofs.lemmas.Nat.{pow-add}
 use Rattle.lexical_num.specs.BitWidth.{IsBitWidth, is_8, is_16, is_32, is_64}
 use Rattle.lexical_write_integer.specs.DigitCount.{digit_count, least_exponent}
 pub use Rattle.lexical_write_integer.specs.DigitCount.{digit_count-le, digit_count-le_bits}
-use Rattle.lexical_write_integer.proofs.Values.{pow-one}
-
--- a number is below 2 to itself, and so below any larger radix to itself
-pub lt-pow_self : (r n : ℕ) → 2 ≤ r → n < r ^ n
-lt-pow_self r zero two = omega (arith, pow-zero r)
-lt-pow_self r (suc n) two = omega (arith, lt-pow_self r n two, pow-suc r n, mul-le-mul_left (r ^ n) two)
-
-pub pow-lt_more : (r i j : ℕ) → 2 ≤ r → i < j → r ^ i < r ^ j
-pow-lt_more r i (suc j) two less =
-    omega (arith, pow-le-pow_right {n = r} (omega arith) {i = i} {j = j} (omega arith), pow-suc r j, mul-le-mul_left (r ^ j) two, one-le-pow j r (omega arith))
-pow-lt_more r i zero two less = absurd (omega arith)
+use Rattle.lexical_write_integer.proofs.Powers.{lt-pow_self, pow-lt_more, pow-one}
 
 -- ---- the least exponent
 
@@ -24,7 +14,8 @@ least_exponent-ge : (r number n steps : ℕ) → n ≤ least_exponent r number n
 unfolding least_exponent
 least_exponent-ge r number n zero = omega arith
 least_exponent-ge r number n (suc steps) =
-    cond_both (ltb number (r ^ n)) n (least_exponent r number (suc n) steps) (λ k. n ≤ k) (λ e. omega arith) (λ e. omega (arith, least_exponent-ge r number (suc n) steps))
+    cond_both (ltb number (r ^ n)) n (least_exponent r number (suc n) steps) (λ k. n ≤ k) (λ e. omega arith)
+    (λ e. omega (arith, least_exponent-ge r number (suc n) steps))
 
 least_exponent-fits : (r number n steps : ℕ) → number < r ^ (n + steps) → number < r ^ least_exponent r number n steps
 unfolding least_exponent
@@ -73,7 +64,7 @@ digit_count-one r n two short = digit_count-is r n 1 two (omega arith) (rw pow-o
 
 -- ---- what divisions leave
 
--- a division by the radix to `count` takes `count` digits off a number that has more
+-- a division by `r ^ count` removes `count` digits from a number that has more
 pub digit_count-split : (r count n : ℕ) → 2 ≤ r → r ^ count ≤ n → digit_count r n ≡ digit_count r (n / r ^ count) + count
 digit_count-split r count n two long =
     let p = r ^ count in
@@ -91,23 +82,18 @@ digit_count-split r count n two long =
     ] in
     digit_count-is r n (c + count) two (omega (arith, digit_count-pos r q)) fits full
 
--- the same, from how many digits there are
+-- a number of more than `taken` digits has `taken` fewer after a division by `r ^ taken`
 pub digit_count-left : (r n taken left : ℕ) → 2 ≤ r → taken < digit_count r n → left ≡ n / r ^ taken → digit_count r left + taken ≡ digit_count r n
 digit_count-left r n zero left two fewer is = rw (is, pow-zero, div-one) (omega arith)
 digit_count-left r n (suc taken) left two fewer is =
     let power = pow-le-pow_right {n = r} (omega arith) {i = suc taken} {j = digit_count r n - 1} (omega arith) in
     rw is (sym (digit_count-split r (suc taken) n two (omega (arith, digit_count-full r n two (omega arith)))))
 
--- a number that the radix to `count` does not hold has more digits than `count`
+-- a number that is at least `r ^ count` has more than `count` digits
 pub digit_count-more : (r count n : ℕ) → 2 ≤ r → r ^ count ≤ n → count < digit_count r n
 digit_count-more r count n two long = omega (arith, digit_count-split r count n two long, digit_count-pos r (n / r ^ count))
 
--- a division more
-pub div-pow_more : (r n step taken : ℕ) → n / r ^ taken / r ^ step ≡ n / r ^ (step + taken)
-div-pow_more r n step taken =
-    div-div-eq-div-mul n (r ^ taken) (r ^ step) ∙ ap (λ p. n / p) (mul_comm (r ^ taken) (r ^ step) ∙ sym (pow-add r step taken))
-
--- two digits
+-- a number of two digits
 pub digit_count-two : (r n : ℕ) → 2 ≤ r → r ≤ n → n < r ^ 2 → digit_count r n ≡ 2
 digit_count-two r n two more less = digit_count-is r n 2 two (omega arith) less (λ long. rw pow-one more)
 
@@ -120,20 +106,40 @@ width-le_64 bits is_16 = omega arith
 width-le_64 bits is_32 = omega arith
 width-le_64 bits is_64 = omega arith
 
--- and each has some
+-- and each has at least one
 pub width-some : (bits : ℕ) → IsBitWidth bits → 0 < bits
 width-some bits is_8 = omega arith
 width-some bits is_16 = omega arith
 width-some bits is_32 = omega arith
 width-some bits is_64 = omega arith
 
--- no number of a type has more digits than bits
+-- a number has at most one digit for each bit of its type
 pub digit_count-le_width : (r n bits : ℕ) → 2 ≤ r → IsBitWidth bits → n < 2 ^ bits → digit_count r n ≤ bits
 digit_count-le_width r n bits two is_8 fits = digit_count-le_bits r n 8 two (omega arith) fits
 digit_count-le_width r n bits two is_16 fits = digit_count-le_bits r n 16 two (omega arith) fits
 digit_count-le_width r n bits two is_32 fits = digit_count-le_bits r n 32 two (omega arith) fits
 digit_count-le_width r n bits two is_64 fits = digit_count-le_bits r n 64 two (omega arith) fits
 
--- nor more than 64
+-- and so at most 64 digits
 pub digit_count-le_64 : (r n bits : ℕ) → 2 ≤ r → IsBitWidth bits → n < 2 ^ bits → digit_count r n ≤ 64
 digit_count-le_64 r n bits two width fits = omega (arith, digit_count-le_width r n bits two width fits, width-le_64 bits width)
+
+-- ---- decimal digits, for each width
+
+pub digit_count-le_3 : (n : ℕ) → n < 2 ^ 8 → digit_count 10 n ≤ 3
+digit_count-le_3 n fits = digit_count-le 10 n 3 (omega arith) (omega arith)
+
+pub digit_count-le_5 : (n : ℕ) → n < 2 ^ 16 → digit_count 10 n ≤ 5
+digit_count-le_5 n fits = digit_count-le 10 n 5 (omega arith) (omega arith)
+
+pub digit_count-le_10 : (n : ℕ) → n < 2 ^ 32 → digit_count 10 n ≤ 10
+digit_count-le_10 n fits = digit_count-le 10 n 10 (omega arith) (omega arith)
+
+pub digit_count-le_19 : (n : ℕ) → n < 10 ^ 19 → digit_count 10 n ≤ 19
+digit_count-le_19 n fits = digit_count-le 10 n 19 (omega arith) (omega arith)
+
+pub digit_count-le_20 : (n : ℕ) → n < 2 ^ 64 → digit_count 10 n ≤ 20
+digit_count-le_20 n fits = digit_count-le 10 n 20 (omega arith) (omega arith)
+
+-- for a buffer that has room for every number of a width
+pub ruleset widths = (digit_count-le_3, digit_count-le_5, digit_count-le_10, digit_count-le_19, digit_count-le_20)

@@ -1,32 +1,30 @@
-pub mod Ascii
-pub mod Blocks
-pub mod BlocksAfter
-pub mod Comparisons
-pub mod Computed
-pub mod DecimalTables
-pub mod DigitCounts
-pub mod Fractions
-pub mod Fronts
-pub mod GroupedDigits
-pub mod GroupedTexts
-pub mod HandedFronts
-pub mod Heads
-pub mod Lengths
-pub mod Logarithms
-pub mod LoopNotes
-pub mod Loops
-pub mod Numerals
-pub mod Orders
-pub mod PaddedDigits
-pub mod PairBlocks
-pub mod Places
-pub mod PlainTexts
-pub mod Printed
+-- powers, logarithms and fractions
+pub mod Powers
 pub mod RadixPowers
-pub mod Relending
+pub mod Logarithms
+pub mod Fractions
+-- digits: their value, their numeral, and how many a number has
+pub mod DigitValues
+pub mod DigitCounts
+pub mod Numerals
+pub mod PaddedDigits
+pub mod DecimalTables
+-- the loops that divide by a power of the radix
+pub mod Loops
+-- digits in groups
+pub mod Grouping
+-- texts: their length, characters, order, and the same text as a function or as `{}` computes it
+pub mod Required
+pub mod Ascii
+pub mod Orders
+pub mod Comparisons
+pub mod ComputedTexts
+pub mod PrintedTexts
+-- what is written in a buffer
+pub mod Buffers
+pub mod PairBlocks
 pub mod Sequences
-pub mod Signs
-pub mod Sizes
-pub mod SpreadDigits
-pub mod TablePairs
-pub mod Values
+-- steps of the proofs by hand
+pub mod WrittenTypes
+pub mod Reborrows
+pub mod HandedFronts

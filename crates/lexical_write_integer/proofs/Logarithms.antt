@@ -1,11 +1,11 @@
--- Logarithms, rounded down, and what they say of the number of digits.
-use Rattle.std.proofs.Common.{◌≡◌, ℕ, zero, suc, ◌+◌, ◌-◌, ◌*◌, ◌/◌, ◌^◌, ◌<◌, ◌≤◌, Bool, true, ◌&&◌, ltb, leb, refl, sym, ap, inl, inr, arith, ◌∙◌}
-use Rattle.std.proofs.Math.Nat.{pow-zero, pow-suc, pow-le-pow_right, one-le-pow, mul-le-mul_left, mod-lt, div-add-mod'}
+-- Logarithms, rounded down, and what follows from them for the number of digits.
+use Rattle.std.proofs.Common.{◌≡◌, ℕ, zero, suc, ◌+◌, ◌-◌, ◌*◌, ◌/◌, ◌^◌, ◌<◌, ◌≤◌, Bool, true, ◌&&◌, ltb, leb, refl, ap, inl, inr, arith}
+use Rattle.std.proofs.Math.Nat.{pow-suc, pow-le-pow_right, one-le-pow, mul-le-mul_left, mod-lt, div-add-mod'}
 use Rattle.std.proofs.lemmas.Bool.{and_parts, cases_lt, cases_eq, ltb-true, leb-true}
-use Rattle.std.proofs.lemmas.Nat.{pow-add}
 use Rattle.lexical_write_integer.specs.Logarithm.{IsGreatestPower, IsLog2, IsLog10Estimate}
 use Rattle.lexical_write_integer.specs.DigitCount.{digit_count}
-use Rattle.lexical_write_integer.proofs.DigitCounts.{digit_count-is, pow-lt_more}
+use Rattle.lexical_write_integer.proofs.DigitCounts.{digit_count-is}
+use Rattle.lexical_write_integer.proofs.Powers.{pow-lt_more, pow-pow}
 
 pub IsGreatestPower-between : (base number k : ℕ) → 2 ≤ base → base ^ k ≤ number → number < base ^ (k + 1) → IsGreatestPower base number k
 IsGreatestPower-between base number k two low high = record {
@@ -34,7 +34,7 @@ IsLog2-lt number k log =
 
 -- ---- base 10
 
--- what is multiplied and shifted, at one place of the highest bit
+-- the estimate for the numbers whose highest bit is at position k
 is_estimated : ℕ → Bool
 is_estimated k = leb (10 ^ (k * 1233 / 4096)) (2 ^ k) && ltb (2 ^ k) (10 ^ (k * 1233 / 4096 + 1))
 
@@ -63,9 +63,9 @@ estimate_is k small =
     let parts = and_parts (leb (10 ^ e) (2 ^ k)) (ltb (2 ^ k) (10 ^ (e + 1))) (are_estimated-each 64 k are_estimated-64 small) in
     IsGreatestPower-between 10 (2 ^ k) e (omega arith) (leb-true (10 ^ e) (2 ^ k) (parts.0)) (ltb-true (2 ^ k) (10 ^ (e + 1)) (parts.1))
 
--- ---- digits, of what the logarithms say
+-- ---- the number of digits
 
--- the estimate says no more than the number
+-- the estimate is not too large
 log10-within : (number e : ℕ) → IsLog10Estimate number e → 0 < e → 10 ^ e ≤ number
 log10-within number e est some =
     elim (cases_lt 0 number) [
@@ -80,9 +80,17 @@ log10-lt : (number e : ℕ) → IsLog10Estimate number e → number < 10 ^ (e + 
 log10-lt number e est =
     let more : e + 2 ≡ suc (e + 1) = omega arith in
     let up : est.log2 + 1 ≡ suc est.log2 = omega arith in
-    omega (arith, IsLog2-lt number est.log2 est.is_log2, IsGreatestPower-lt 10 (2 ^ est.log2) e est.estimate, pow-suc 2 est.log2, ap (λ k. 2 ^ k) up, pow-suc 10 (e + 1), ap (λ k. 10 ^ k) more)
+    omega (
+      arith,
+      IsLog2-lt number est.log2 est.is_log2,
+      IsGreatestPower-lt 10 (2 ^ est.log2) e est.estimate,
+      pow-suc 2 est.log2,
+      ap (λ k. 2 ^ k) up,
+      pow-suc 10 (e + 1),
+      ap (λ k. 10 ^ k) more,
+    )
 
--- a number has one digit more than its estimate, or two
+-- the digit count is one or two more than the estimate
 pub digit_count-estimate : (number e : ℕ) → IsLog10Estimate number e → number < 10 ^ (e + 1) → digit_count 10 number ≡ e + 1
 digit_count-estimate number e est below =
     let last : e + 1 - 1 ≡ e = omega arith in
@@ -93,11 +101,7 @@ digit_count-estimate_more number e est above =
     let last : e + 2 - 1 ≡ e + 1 = omega arith in
     digit_count-is 10 number (e + 2) (omega arith) (omega arith) (log10-lt number e est) (λ more. rw last above)
 
--- bits, counted by several at once
-pub pow-pow : (base i j : ℕ) → (base ^ i) ^ j ≡ base ^ (i * j)
-pow-pow base i zero = let none : i * zero ≡ 0 = omega arith in pow-zero (base ^ i) ∙ sym (ap (λ k. base ^ k) none ∙ pow-zero base)
-pow-pow base i (suc j) = let more : i * suc j ≡ i * j + i = omega arith in rw (more, pow-suc (base ^ i) j, pow-add base (i * j) i, pow-pow base i j)
-
+-- in a radix that is a power of two
 pub digit_count-log2 : (number k step : ℕ) → 0 < step → IsLog2 number k → digit_count (2 ^ step) number ≡ k / step + 1
 digit_count-log2 number k step some log =
     let q = k / step in

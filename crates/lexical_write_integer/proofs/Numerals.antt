@@ -1,5 +1,6 @@
--- Laws of numerals: that there is one and only one, how many digits it has, and how it is made of parts.
-use Rattle.std.proofs.Common.{◌≡◌, ℕ, zero, suc, ◌+◌, ◌-◌, ◌*◌, ◌/◌, ◌%◌, ◌^◌, ◌<◌, ◌≤◌, List, [], ◌∷◌, ◌++◌, length, get_or, map, refl, sym, ap, ◌∙◌, inl, inr, arith, length-append}
+-- Laws of numerals: every number has exactly one, how many digits it has, and how it is put together from parts.
+use Rattle.std.proofs.Common.{◌≡◌, ℕ, zero, suc, ◌+◌, ◌-◌, ◌*◌, ◌/◌, ◌%◌, ◌^◌, ◌<◌, ◌≤◌, List, [], ◌∷◌, ◌++◌, length, get_or, map}
+use Rattle.std.proofs.Common.{refl, sym, ap, ◌∙◌, inl, inr, arith, length-append}
 use Rattle.std.specs.Int.Digits.{digits_of, number_from_digits_after}
 use Rattle.std.proofs.Math.Nat.{pow-zero, pow-suc, one-le-pow, div-add-mod'}
 use Rattle.std.proofs.lemmas.Int.Digits.{number_digits_of, all_below_base_digits_of, first_digits_of, length-digits_of_step}
@@ -12,11 +13,11 @@ use Rattle.lexical_write_integer.specs.DigitCount.{digit_count}
 use Rattle.lexical_write_integer.specs.Numeral.{IsNumeral, IsNumeralOf, IsBlockOf, value_of}
 use Rattle.lexical_write_integer.specs.Text.{IsDigits}
 use Rattle.lexical_write_integer.proofs.DigitCounts.{digit_count-is}
-use Rattle.lexical_write_integer.proofs.Values.{value_of-append, value_of-one, value_of-lt, value_of-ge, same_digits}
+use Rattle.lexical_write_integer.proofs.DigitValues.{value_of-append, value_of-one, value_of-lt, value_of-ge, same_digits}
 
 -- ---- one numeral at most
 
--- a numeral of n digits, more than one, is at least the radix to n - 1
+-- a numeral of n digits, more than one, has a value of at least `r ^ (n - 1)`
 IsNumeral-ge : (r : ℕ) (digits : List ℕ) → IsNumeral r digits → 1 < length digits → r ^ (length digits - 1) ≤ value_of r digits
 IsNumeral-ge r [] n long = absurd (omega arith)
 IsNumeral-ge r (zero ∷ digits) n long = absurd (omega (arith, ap length (n.no_leading_zero refl)))
@@ -31,7 +32,7 @@ length-IsNumeral r digits two n =
 pub length-IsNumeralOf : {r n : ℕ} {digits : List ℕ} → 2 ≤ r → IsNumeralOf r n digits → length digits ≡ digit_count r n
 length-IsNumeralOf {r} {n} {digits} two p = length-IsNumeral r digits two p.numeral ∙ ap (digit_count r) p.value
 
--- below radix 2 the one numeral is that of 0
+-- in a radix below 2 the only numeral is that of 0
 only_zero : (r : ℕ) (digits : List ℕ) → r < 2 → IsNumeral r digits → digits ≡ 0 ∷ []
 only_zero r [] small n = absurd (omega (arith, n.nonempty))
 only_zero r (d ∷ digits) small n =
@@ -42,10 +43,11 @@ pub numeral_unique : (r : ℕ) (xs ys : List ℕ) → IsNumeral r xs → IsNumer
 numeral_unique r xs ys p q same =
     elim (cases_lt r 2) [
       | inl small ↦ only_zero r xs small p ∙ sym (only_zero r ys small q)
-      | inr two ↦ same_digits r xs ys (length-IsNumeral r xs two p ∙ ap (digit_count r) same ∙ sym (length-IsNumeral r ys two q)) p.below_radix q.below_radix same
+      | inr two ↦
+          same_digits r xs ys (length-IsNumeral r xs two p ∙ ap (digit_count r) same ∙ sym (length-IsNumeral r ys two q)) p.below_radix q.below_radix same
     ]
 
--- ---- blocks of digits, and numerals before them
+-- ---- blocks of digits, and a numeral before a block
 
 pub IsBlockOf-one : (r d : ℕ) → d < r → IsBlockOf r 1 d (d ∷ [])
 IsBlockOf-one r d small = record {
@@ -85,14 +87,16 @@ IsNumeralOf-append {r} {count} {q} {m} {xs} {ys} pos p b = record {
   value = rw (value_of-append, p.value, b.value, b.counted);
 }
 
--- the numeral of a number that is not below r ^ count: that of its quotient, and then as many digits of its remainder
-pub IsNumeralOf-split : (r count n : ℕ) (front back : List ℕ) → 2 ≤ r → r ^ count ≤ n → IsNumeralOf r (n / r ^ count) front → IsBlockOf r count (n % r ^ count) back → IsNumeralOf r n (front ++ back)
+-- the numeral of a number that is at least `r ^ count`: that of its quotient, and then `count` digits of its remainder
+pub IsNumeralOf-split : (r count n : ℕ) (front back : List ℕ)
+    → 2 ≤ r → r ^ count ≤ n → IsNumeralOf r (n / r ^ count) front → IsBlockOf r count (n % r ^ count) back
+    → IsNumeralOf r n (front ++ back)
 IsNumeralOf-split r count n front back two long p b =
     let some = one-le-pow count r (omega arith) in
     let pos : 0 < n / r ^ count = le-div 1 n (r ^ count) some (omega arith) in
     rw (div-add-mod' n (r ^ count)) at (IsNumeralOf-append pos p b)
 
--- ---- one numeral at least: the digits that std's numbers are printed by
+-- ---- at least one numeral: the digits with which std prints numbers
 
 value_of-after : (r n : ℕ) (ds : List ℕ) → number_from_digits_after r n ds ≡ n * r ^ length ds + value_of r ds
 value_of-after r n [] = rw pow-zero (omega arith)
@@ -110,14 +114,14 @@ IsNumeralOf-digits_of r n two pos = record {
   value = omega (arith, number_digits_of r n two, value_of-after r 0 (digits_of r n));
 }
 
--- every number has a numeral, of as many digits as its digit count
+-- every number has a numeral, whose length is the digit count of the number
 pub numeral_exists : (r n : ℕ) → 2 ≤ r → (digits : List ℕ) × IsNumeralOf r n digits × (length digits ≡ digit_count r n)
 numeral_exists r zero two = (0 ∷ [], IsNumeralOf-zero r (omega arith), length-IsNumeralOf two (IsNumeralOf-zero r (omega arith)))
 numeral_exists r (suc n) two =
     let p = IsNumeralOf-digits_of r (suc n) two (omega arith) in
     (digits_of r (suc n), p, length-IsNumeralOf two p)
 
--- as many digits as the number has are its numeral
+-- a block whose length is the digit count of the number is its numeral
 pub IsNumeralOf-block : (r n count : ℕ) (digits : List ℕ) → 2 ≤ r → digit_count r n ≡ count → IsBlockOf r count n digits → IsNumeralOf r n digits
 IsNumeralOf-block r n count digits two few b =
     let numeral = numeral_exists r n two in

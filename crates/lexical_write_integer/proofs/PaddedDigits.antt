@@ -1,4 +1,4 @@
--- Numbers with leading zeros: digits after zeros.
+-- Numbers with leading zeros: zeros, and then the digits.
 use Rattle.std.proofs.Common.{◌≡◌, ℕ, zero, suc, ◌+◌, ◌*◌, ◌/◌, ◌%◌, ◌^◌, ◌<◌, ◌≤◌, ◌↔◌, List, [], ◌∷◌, ◌++◌, map, replicate, refl, sym, ap, ◌∙◌, arith}
 use Rattle.std.proofs.Math.Nat.{pow-zero, pow-suc, mod-lt, div-add-mod', div-lt_iff_lt-mul}
 use Rattle.std.proofs.lemmas.List.{length-replicate, map-append}
@@ -10,7 +10,8 @@ use Rattle.lexical_write_integer.specs.Numeral.{IsBlockOf, value_of}
 use Rattle.lexical_write_integer.specs.Padded.{IsPadded}
 use Rattle.lexical_write_integer.specs.Text.{IsDigits}
 use Rattle.lexical_write_integer.proofs.Numerals.{IsBlockOf-one, IsBlockOf-append, length-IsNumeralOf}
-use Rattle.lexical_write_integer.proofs.Values.{pow-one, same_digits}
+use Rattle.lexical_write_integer.proofs.Powers.{pow-one}
+use Rattle.lexical_write_integer.proofs.DigitValues.{same_digits}
 
 value_of-zeros : (r k : ℕ) → value_of r (replicate k 0) ≡ 0
 value_of-zeros r zero = refl
@@ -27,8 +28,9 @@ map-zeros : (k : ℕ) → map digit_char (replicate k 0) ≡ replicate k 48
 map-zeros zero = refl
 map-zeros (suc k) = ap (λ text. 48 ∷ text) (map-zeros k)
 
--- zeros, and then the digits of the number
-pub IsPadded-digits : (r n zeros width : ℕ) (text : List ℕ) → 2 ≤ r → zeros + digit_count r n ≡ width → IsDigits r n text → IsPadded r width n (replicate zeros 48 ++ text)
+-- zeros before the digits of the number
+pub IsPadded-digits : (r n zeros width : ℕ) (text : List ℕ)
+    → 2 ≤ r → zeros + digit_count r n ≡ width → IsDigits r n text → IsPadded r width n (replicate zeros 48 ++ text)
 IsPadded-digits r n zeros width text two long is =
     let block : IsBlockOf r (digit_count r n) n is.digits = record {
       counted = length-IsNumeralOf two is.numeral;
@@ -39,12 +41,14 @@ IsPadded-digits r n zeros width text two long is =
     record {
       digits = replicate zeros 0 ++ is.digits;
       block = rw (long, none) at (IsBlockOf-append (IsBlockOf-zeros r zeros (omega arith)) block);
-      characters = ap (λ t. replicate zeros 48 ++ t) is.characters ∙ ap (λ t. t ++ map digit_char is.digits) (sym (map-zeros zeros)) ∙ sym (map-append digit_char (replicate zeros 0) is.digits);
+      characters = ap (λ t. replicate zeros 48 ++ t) is.characters
+          ∙ ap (λ t. t ++ map digit_char is.digits) (sym (map-zeros zeros))
+          ∙ sym (map-append digit_char (replicate zeros 0) is.digits);
     }
 
--- ---- the text as a list that computes
+-- ---- the text as a function computes it
 
--- a text of one more digit
+-- a text of one further digit
 IsPadded-more : (r width n : ℕ) (text : List ℕ) → 2 ≤ r → IsPadded r width (n / r) text → IsPadded r (suc width) n (text ++ digit_char (n % r) ∷ [])
 IsPadded-more r width n text two is =
     let whole : n / r * r ^ 1 + n % r ≡ n = rw pow-one (div-add-mod' n r) in
@@ -67,7 +71,8 @@ IsPadded-padded_text r (suc width) n two fits =
 
 padded_unique : (r width n : ℕ) (a b : List ℕ) → IsPadded r width n a → IsPadded r width n b → a ≡ b
 padded_unique r width n a b p q =
-    let same = same_digits r p.digits q.digits (p.block.counted ∙ sym q.block.counted) p.block.below_radix q.block.below_radix (p.block.value ∙ sym q.block.value) in
+    let same =
+    same_digits r p.digits q.digits (p.block.counted ∙ sym q.block.counted) p.block.below_radix q.block.below_radix (p.block.value ∙ sym q.block.value) in
     p.characters ∙ ap (map digit_char) same ∙ sym q.characters
 
 pub padded_computed : (r width n : ℕ) (text : List ℕ) → 2 ≤ r → n < r ^ width → IsPadded r width n text ↔ (text ≡ padded_text r width n)

@@ -1,44 +1,29 @@
--- Pairs of decimal digits: what stands in the table, and how the pairs of a fraction make up the digits that it carries.
+-- Pairs of decimal digits: those of the table, and how the pairs of a fraction make up the digits that it carries.
 use Rattle.std.proofs.Common.{◌≡◌, ℕ, ◌+◌, ◌*◌, ◌/◌, ◌%◌, ◌^◌, ◌<◌, ◌≤◌, List, length, get_or, set, arith}
 use Rattle.lexical_tables.specs.Pairs.{pairs}
 use Rattle.lexical_tables.proofs.Pairs.{slice_index-pairs_first, slice_index-pairs_second}
 use Rattle.lexical_write_integer.specs.Buffer.{WritesBlock, WritesDigits}
 use Rattle.lexical_write_integer.specs.Carries.{carried}
 use Rattle.lexical_write_integer.specs.DigitCount.{digit_count}
-use Rattle.lexical_write_integer.proofs.BlocksAfter.{WritesDigits-after}
-use Rattle.lexical_write_integer.proofs.DigitCounts.{digit_count-le, digit_count-monotone, digit_count-split}
+use Rattle.lexical_write_integer.proofs.Buffers.BlocksAfter.{WritesDigits-after}
+use Rattle.lexical_write_integer.proofs.DigitCounts.{digit_count-monotone, digit_count-split}
 use Rattle.lexical_write_integer.proofs.Fractions.{carried-more, carried-monotone}
-use Rattle.lexical_write_integer.proofs.TablePairs.{WritesBlock-two}
+use Rattle.lexical_write_integer.proofs.Buffers.TablePairs.{WritesBlock-two}
+pub use Rattle.lexical_write_integer.proofs.DigitCounts.{widths}
 
 -- a pair from the table
-pub WritesBlock-table : (r pair at : ℕ) (list table : List ℕ) → 0 < r → table ≡ pairs r → pair < r * r → at + 2 ≤ length list → WritesBlock r 2 pair at list (set (set list (at + 1) (get_or table (2 * pair + 1) 0)) at (get_or table (2 * pair) 0))
+pub WritesBlock-table : (r pair at : ℕ) (list table : List ℕ)
+    → 0 < r → table ≡ pairs r → pair < r * r → at + 2 ≤ length list
+    → WritesBlock r 2 pair at list (set (set list (at + 1) (get_or table (2 * pair + 1) 0)) at (get_or table (2 * pair) 0))
 WritesBlock-table r pair at list table some is small room =
     rw (is, slice_index-pairs_first r pair small, slice_index-pairs_second r pair small) (WritesBlock-two r pair at list some small room)
 
--- how many digits the numbers of a type have at most
-pub digit_count-le_3 : (n : ℕ) → n < 2 ^ 8 → digit_count 10 n ≤ 3
-digit_count-le_3 n fits = digit_count-le 10 n 3 (omega arith) (omega arith)
-
-pub digit_count-le_5 : (n : ℕ) → n < 2 ^ 16 → digit_count 10 n ≤ 5
-digit_count-le_5 n fits = digit_count-le 10 n 5 (omega arith) (omega arith)
-
-pub digit_count-le_10 : (n : ℕ) → n < 2 ^ 32 → digit_count 10 n ≤ 10
-digit_count-le_10 n fits = digit_count-le 10 n 10 (omega arith) (omega arith)
-
-pub digit_count-le_19 : (n : ℕ) → n < 10 ^ 19 → digit_count 10 n ≤ 19
-digit_count-le_19 n fits = digit_count-le 10 n 19 (omega arith) (omega arith)
-
-pub digit_count-le_20 : (n : ℕ) → n < 2 ^ 64 → digit_count 10 n ≤ 20
-digit_count-le_20 n fits = digit_count-le 10 n 20 (omega arith) (omega arith)
-
-pub ruleset widths = (digit_count-le_3, digit_count-le_5, digit_count-le_10, digit_count-le_19, digit_count-le_20)
-
--- fewer pairs need no more room
+-- fewer pairs have no more digits
 pub room_for_carried : (y i k room : ℕ) → i ≤ k → digit_count 10 (carried y k) ≤ room → digit_count 10 (carried y i) ≤ room
 room_for_carried y i k room fewer enough =
     omega (arith, digit_count-monotone 10 (carried y i) (carried y k) (omega arith) (carried-monotone y i k fewer))
 
--- what a pair more adds, to a fraction whose first pair is not 0
+-- what one further pair adds, to a fraction whose first pair is not 0
 carried-long : (y i : ℕ) → 1 ≤ y / 2 ^ 32 → 10 ^ 2 ≤ carried y (i + 1)
 carried-long y i first = omega (arith, carried-more y i, carried-monotone y 0 i (omega arith))
 
@@ -53,6 +38,10 @@ digit_count-carried y i first =
     rw carried-front at (digit_count-split 10 2 (carried y (i + 1)) (omega arith) (carried-long y i first))
 
 -- the next pair, after the pairs that are written
-pub WritesDigits-pair : (y i pair count : ℕ) (before between after : List ℕ) → 1 ≤ y / 2 ^ 32 → digit_count 10 (carried y (i + 1)) ≤ length before → pair ≡ y * 100 ^ i % 2 ^ 32 * 100 / 2 ^ 32 → WritesDigits 10 (carried y i) before between count → WritesBlock 10 2 pair count between after → WritesDigits 10 (carried y (i + 1)) before after (count + 2)
-WritesDigits-pair y i pair count before between after first room is front last =
-    WritesDigits-after 10 (carried y (i + 1)) 2 count before between after (omega arith) (carried-long y i first) room (rw (carried-front y i) front) (rw (carried-last y i, ← is) last)
+pub WritesDigits-pair : (y i : ℕ) {pair count : ℕ} {before between after : List ℕ}
+    → 1 ≤ y / 2 ^ 32 → digit_count 10 (carried y (i + 1)) ≤ length before → pair ≡ y * 100 ^ i % 2 ^ 32 * 100 / 2 ^ 32
+    → WritesDigits 10 (carried y i) before between count → WritesBlock 10 2 pair count between after
+    → WritesDigits 10 (carried y (i + 1)) before after (count + 2)
+WritesDigits-pair y i {between = between} first room is front last =
+    let more = carried-long y i first in
+    WritesDigits-after (carried y (i + 1)) {between = between} (omega arith) more room (rw (carried-front y i) front) (rw (carried-last y i, ← is) last)

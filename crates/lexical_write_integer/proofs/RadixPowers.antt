@@ -1,15 +1,15 @@
--- The powers of a radix that the loops divide by: which of them fit which type.
-use Rattle.std.proofs.Common.{◌≡◌, ◌≢◌, ℕ, ◌+◌, ◌*◌, ◌^◌, ◌<◌, ◌≤◌, ◌↔◌, true, ltb, leb, IsTrue, refl, inl, inr, arith}
-use Rattle.std.proofs.Math.Nat.{pow-zero, pow-suc, pow-le-pow_left, pow-le-pow_right}
+-- The powers of a radix by which the loops divide: which of them fit in which type.
+use Rattle.std.proofs.Common.{◌≡◌, ◌≢◌, ℕ, ◌+◌, ◌^◌, ◌<◌, ◌≤◌, ◌↔◌, true, ltb, leb, IsTrue, refl, inl, inr, arith}
+use Rattle.std.proofs.Math.Nat.{pow-zero, pow-le-pow_left, pow-le-pow_right}
 use Rattle.std.proofs.lemmas.Bool.{leb-true, le-leb, ltb-true, cases_lt}
-use Rattle.std.proofs.lemmas.Nat.{pow-add}
 use Rattle.lexical_num.specs.BitWidth.{IsBitWidth, is_8, is_16, is_32, is_64}
 use Rattle.lexical_write_integer.specs.LoopTurns.{IsStep, takes_one, takes_two, takes_four}
-use Rattle.lexical_write_integer.proofs.DigitCounts.{pow-lt_more}
-use Rattle.lexical_write_integer.proofs.Values.{pow-one}
+use Rattle.lexical_write_integer.proofs.Powers.{pow-lt_more}
 
--- where the radices up to a limit are not too large
-pub fits_up_to : (limit radix exponent bits : ℕ) → ltb (limit ^ exponent) (2 ^ bits) ≡ true → leb (2 ^ bits) ((limit + 1) ^ exponent) ≡ true → IsTrue (leb radix limit) ↔ (radix ^ exponent < 2 ^ bits)
+-- if the powers of the radices up to a limit fit, and the power of the next does not
+pub fits_up_to : (limit radix exponent bits : ℕ)
+    → ltb (limit ^ exponent) (2 ^ bits) ≡ true → leb (2 ^ bits) ((limit + 1) ^ exponent) ≡ true
+    → IsTrue (leb radix limit) ↔ (radix ^ exponent < 2 ^ bits)
 fits_up_to limit radix exponent bits low high = (
   λ few. omega (arith, ltb-true (limit ^ exponent) (2 ^ bits) low, pow-le-pow_left {n = radix} {m = limit} (leb-true radix limit few) exponent),
   λ fits. elim (cases_lt limit radix) [
@@ -22,8 +22,10 @@ fits_36 : (radix exponent bits : ℕ) → radix ≤ 36 → ltb (36 ^ exponent) (
 fits_36 radix exponent bits few low =
     (λ _. omega (arith, ltb-true (36 ^ exponent) (2 ^ bits) low, pow-le-pow_left {n = radix} {m = 36} few exponent), λ _. refl)
 
--- where no radix is too large
-pub fits_always : (radix exponent bits : ℕ) → radix ≤ 36 → IsStep exponent → IsBitWidth bits → (exponent ≡ 4 → bits ≢ 8) → (exponent ≡ 4 → bits ≢ 16) → (exponent ≡ 2 → bits ≢ 8) → IsTrue true ↔ (radix ^ exponent < 2 ^ bits)
+-- if the power of every radix fits
+pub fits_always : (radix exponent bits : ℕ)
+    → radix ≤ 36 → IsStep exponent → IsBitWidth bits → (exponent ≡ 4 → bits ≢ 8) → (exponent ≡ 4 → bits ≢ 16)
+    → (exponent ≡ 2 → bits ≢ 8) → IsTrue true ↔ (radix ^ exponent < 2 ^ bits)
 fits_always radix exponent bits few takes_one is_8 four_8 four_16 two_8 = fits_36 radix 1 8 few refl
 fits_always radix exponent bits few takes_one is_16 four_8 four_16 two_8 = fits_36 radix 1 16 few refl
 fits_always radix exponent bits few takes_one is_32 four_8 four_16 two_8 = fits_36 radix 1 32 few refl
@@ -52,19 +54,10 @@ step-le_4 step takes_one = omega arith
 step-le_4 step takes_two = omega arith
 step-le_4 step takes_four = omega arith
 
--- each is a number of 32 bits
+-- each of them fits in 32 bits
 pub power-small : (r step : ℕ) → r ≤ 36 → IsStep step → r ^ step < 4294967296
 power-small r step few stepped =
     omega (arith, pow-le-pow_left {n = r} {m = 36} few step, pow-le-pow_right {n = 36} (omega arith) {i = step} {j = 4} (step-le_4 step stepped))
 
 pub power-gt_one : (r step : ℕ) → 2 ≤ r → IsStep step → 1 < r ^ step
 power-gt_one r step two stepped = omega (arith, pow-lt_more r 0 step two (step-pos step stepped), pow-zero r)
-
-pub pow-two : (r : ℕ) → r ^ 2 ≡ r * r
-pow-two r = rw (pow-suc r 1, pow-one) refl
-
-pub pow-four : (r : ℕ) → r ^ 4 ≡ r * r * (r * r)
-pow-four r = rw (pow-add r 2 2, pow-two) refl
-
-pub pow-eight : (r : ℕ) → r ^ 8 ≡ r * r * (r * r) * (r * r * (r * r))
-pow-eight r = rw (pow-add r 4 4, pow-four) refl

@@ -1,5 +1,4 @@
--- How many digits a number has, and that no smaller count would do, which the sizes of the types rest on. The other laws of
--- the digit count stand in proofs/.
+-- How many digits a number has.
 use Rattle.std.specs.Prelude.{if◌then◌else◌, nat_lt, suc, zero, ℕ, ◌<◌, ◌^◌, ◌≤◌}
 use Rattle.std.proofs.Common.{ltb, inl, inr, arith}
 use Rattle.std.proofs.Math.Nat.{pow-le-pow_left}
@@ -14,8 +13,9 @@ least_exponent r number n (suc steps) = if nat_lt number (r ^ n) then n else lea
 unfoldable pub digit_count : ℕ → ℕ → ℕ
 digit_count r number = least_exponent r number 1 number
 
--- ---- no smaller count would do
+-- ---- proofs, which are here since ghost members rest on them
 
+-- no smaller count would do
 least_exponent-le : (r number n steps m : ℕ) → n ≤ m → number < r ^ m → least_exponent r number n steps ≤ m
 unfolding least_exponent
 least_exponent-le r number n zero m most fits = most

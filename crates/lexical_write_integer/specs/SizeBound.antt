@@ -1,4 +1,4 @@
--- That the size of a type in a format is enough for each number of the type.
+-- The size of a type in a format is enough for each number of the type.
 use Rattle.std.specs.Prelude.{◌≡◌, ℕ, suc, ◌+◌, ◌-◌, ◌*◌, ◌/◌, ◌^◌, ◌<◌, ◌≤◌, Option, None, Some, Bool, true, false, length, ℤ, pos, negsuc, ◌≤ℤ◌, if◌then◌else◌, ◌==◌, refl}
 use Rattle.std.proofs.Common.{arith, inl, inr}
 use Rattle.std.proofs.Math.Nat.{div-le_self, div-mul-le_self, div-zero}
@@ -11,24 +11,20 @@ use Rattle.lexical_num.specs.Size.{size_in}
 use Rattle.lexical_write_integer.specs.DigitCount.{digit_count, digit_count-le_bits}
 use Rattle.lexical_write_integer.specs.Text.{need}
 
--- ---- what digits take with the marks of their groups
+-- ---- proofs, which are here since ghost members cite the last two
 
--- no less than the digits
-pub grouped_length-ge : (grouping : Option (ℕ × ℕ)) (n : ℕ) → n ≤ grouped_length grouping n
-grouped_length-ge None n = omega arith
-grouped_length-ge (Some grouping) n = omega arith
+-- a larger number has no smaller quotient
+pub div-monotone : (m n k : ℕ) → m ≤ n → m / k ≤ n / k
+div-monotone m n k less =
+    elim (cases_eq k 0) [
+      | inl none ↦ rw (none, div-zero m, div-zero n) (omega arith)
+      | inr some ↦ le-div (m / k) n k (omega arith) (omega (arith, div-mul-le_self m k))
+    ]
 
 -- more digits take as many bytes more, at least
 pub grouped_length-more : (grouping : Option (ℕ × ℕ)) (m n more : ℕ) → m + more ≤ n → grouped_length grouping m + more ≤ grouped_length grouping n
 grouped_length-more None m n more less = less
 grouped_length-more (Some grouping) m n more less = omega (arith, div-monotone (m - 1) (n - 1) grouping.0 (omega arith))
-  where
-    div-monotone : (m n k : ℕ) → m ≤ n → m / k ≤ n / k
-    div-monotone m n k less =
-        elim (cases_eq k 0) [
-          | inl none ↦ rw (none, div-zero m, div-zero n) (omega arith)
-          | inr some ↦ le-div (m / k) n k (omega arith) (omega (arith, div-mul-le_self m k))
-        ]
 
 -- no more than a mark between each two neighbours
 pub grouped_length-le : (grouping : Option (ℕ × ℕ)) (m n : ℕ) → m ≤ n → 1 ≤ n → grouped_length grouping m + 1 ≤ 2 * n

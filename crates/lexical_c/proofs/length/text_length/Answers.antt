@@ -2,7 +2,7 @@ use Rattle.std.proofs.Common.{ap, ◌∙◌, arith, rules}
 use Rattle.lexical_num.specs.Format.{IsValid, grouped_length}
 use Rattle.lexical_c.specs.Format.{format_of, grouping_of}
 use Rattle.lexical_write_integer.specs.DigitCount.{digit_count}
-use Rattle.lexical_write_integer.proofs.Printed.{IsRange-small}
+use Rattle.lexical_write_integer.proofs.PrintedTexts.{IsRange-small}
 use Rattle.lexical_c.proofs.TextLengths.{length-text_of}
 use Rattle.lexical_c.proofs.length.text_length.Goals as goal
 

@@ -1,4 +1,4 @@
-use Rattle.lexical_write_integer.proofs.Fronts.{Writes-after}
+use Rattle.lexical_write_integer.proofs.Buffers.Prefixes.{Writes-after}
 use Rattle.lexical_lines.proofs.Answers.{IsBadLine-from}
 use Rattle.lexical_lines.proofs.answer.write_bad_line.Goals as goal
 

@@ -6,7 +6,7 @@ use mathlib.Core.List.{List, [], ◌∷◌, map}
 use lib.ListN.{length}
 use seplogic.Ra.Ura.{Ura}
 use base.Fraction.{full_share}
-use mir.Syntax.{Fn, Args, Dict, a_type, named, dcons, dnil, w8}
+use mir.Syntax.{Fn, Args, a_type, named, dcons, dnil, w8}
 use mir.MapTy.{inst_fn}
 use mir.Val.{Val}
 use base.Logic.{SProp, ent, emp, id⊢}
@@ -27,7 +27,6 @@ use sound.WpLaws.{WpFn-mono, fm_of}
 use denote.Builtin.{u8, usize}
 use denote.Exit.{no, yes}
 use denote.Param.{bounded, copied, param}
-use denote.Param.Laws.{Laws, IsCopy}
 use denote.Plain.{uint_vals, uint_Tells}
 use denote.RattleType.{RattleType, owns}
 use denote.Ref.{Bor, MutBor, ShrRef, shr_vals, shr_Tells}
@@ -40,20 +39,15 @@ use denote.Triple.Spec.{triple_of}
 use denote.Triple.Statement.{Triple, Contract}
 use denote.Triple.Table.{entered}
 use denote.Triple.Walked.{says, Stays, stay_dropped, walk_of, ends_at, walked, Goes-dropped, Goes-spent_slice, walk_Meets}
-use Rattle.std.specs.declared.clone.Clone as cloned
 use Rattle.lexical_num.specs.Format.{Format}
 use Rattle.lexical_num.specs.Size.{size_in}
 use Rattle.lexical_num.specs.contracts.format.NumberFormat.{the_row as NumberFormat}
-use Rattle.lexical_num.specs.declared.constants.FormattedSize as sized
-use Rattle.lexical_num.specs.declared.num.LexicalInteger as numbered
-use Rattle.lexical_num.specs.declared.options.WriteOptions as told
 use Rattle.lexical_write_integer.specs.Buffer.{Writes as Written}
 use Rattle.lexical_write_integer.specs.contracts.buffer.front_mut.Key.{name as #front_mut}
-use Rattle.lexical_write_integer.specs.declared.api.ToLexical as decimal
-use Rattle.lexical_write_integer.specs.declared.api.ToLexicalWithOptions as declared
-use Rattle.lexical_write_integer.proofs.HandedFronts.{Fronts, called, asks, gave, gives}
-use Rattle.lexical_write_integer.proofs.Lengths.{Writes-short}
-use Rattle.lexical_write_integer.proofs.Relending.{lent_again, lends_again, came_back, comes_back}
+use Rattle.lexical_write_integer.proofs.WrittenTypes.{Able}
+use Rattle.lexical_write_integer.proofs.HandedFronts.{Fronts, calls_front}
+use Rattle.lexical_write_integer.proofs.Buffers.Prefixes.{Writes-short}
+use Rattle.lexical_write_integer.proofs.Reborrows.{lent_again, lends_again, came_back, comes_back}
 use Rattle.lexical_write_integer.proofs.buffer.front_mut.Met.{met as front_mut_met}
 use Rattle.lexical_lines.specs.Joined.{IsJoined}
 use Rattle.lexical_lines.specs.contracts.joined.write_joined as W
@@ -63,25 +57,6 @@ use Rattle.lexical_lines.specs.contracts.joined.join as F
 use Rattle.lexical_lines.specs.contracts.joined.join.Key.{name as #self}
 use Rattle.lexical_lines.proofs.joined.join.Statement as stated
 use Rattle.lexical_lines.proofs.joined.join.Code as code
-
--- the type of the values, and the type of its options
-record Able : Type 2 where
-  pub row : RattleType
-  pub laws : Laws row
-  pub copy : IsCopy row
-  pub options : RattleType
-  pub g : declared.Ghosts row.Denot options.Denot
-  pub d : Dict
-  pub gl : decimal.Ghosts row.Denot
-  pub dl : Dict
-  pub gn : numbered.Ghosts row.Denot
-  pub dn : Dict
-  pub gc : cloned.Ghosts row.Denot
-  pub dc : Dict
-  pub gs : sized.Ghosts row.Denot
-  pub ds : Dict
-  pub gt : told.Ghosts options.Denot
-  pub dt : Dict
 
 module _ (T : Able) where
   abbrev args : Args
@@ -189,22 +164,20 @@ module _ (T : Able) {M : Type 1} {𝓤 : Ura M} (𝓛 : Logic 𝓤) (at_mem : Me
         lands_as ! (ap only is) refl (tt, record { fits = fits }) $
         sets ! (addr ! (from ! (fld ! refl (hop ! (look_in_at ! 3 (sub ! 0 refl (whole !))) (stop !))))) refl (tt, tt) $
         sets ! (agg ! (and_then ! (get ! refl) (and_then ! (get_in ! (fld ! refl (stop !)) (sub ! 1 refl (whole !))) (no_more !)))) refl (tt, (tt, (record { fits = room.0 }, tt))) $
-        let y : (Fronts 𝓛 at_mem run).Ghost = called 𝓛 at_mem run κ q b o γ xs ys n in
-        use2 𝓛 (raw ((Fronts 𝓛 at_mem run).pre y)) (asks 𝓛 at_mem run κ q b o γ xs ys n wrote fits long) $
-        calls_at ! (fm_of 𝓤 H 𝓛.laws 𝓣) (Fronts 𝓛 at_mem run) fronts y (and_then ! (get ! refl) (and_then ! (get ! refl) (no_more !))) (λ v'.
-        use1 𝓛 (gave 𝓛 at_mem run κ q b o γ xs ys n Both v') (gives 𝓛 at_mem run κ q b o γ xs ys n Both v' wrote) $ await ! tt $ pick ! (λ r. learn ! (λ handed. split3 ! $
+        calls_front 𝓛 at_mem run κ q b o γ xs ys n ! Both (fm_of 𝓤 H 𝓛.laws 𝓣) fronts wrote fits long
+        (and_then ! (get ! refl) (and_then ! (get ! refl) (no_more !))) (λ v' r handed.
         lands_as ! handed.word refl (tt, (tt, (record { fits = handed.fits }, tt))) $
         returns ! (look_at ! 0 refl) $ free_all ! refl $
         -- [the result; the token of κ; what is lent; the references; the token of κv; the other tokens]
         suffices ! _ (ends_at 𝓛 (ended T) (stayed T) clauses bound (slice_val r.ref_ptr (length r.now)) r (tt, (tt, (tt, (tt, (tt, tt))))) (tt, (tt, (tt, (tt, (tt, tt)))))) $
         keep ! (1 ∷ 5 ∷ 4 ∷ 0 ∷ 2 ∷ []) $ join ! $ move ! (1 ∷ 0 ∷ []) $ join ! $
         nothing ! $ nothing ! $ fjoin ! $ nothing ! $ fjoin ! $ nothing ! $ fjoin ! $ nothing ! $ fjoin ! $ nothing ! $ fjoin ! $ move ! (0 ∷ 2 ∷ []) $ join ! $ move ! (1 ∷ []) $ join ! $
-        frame ! $ frame ! $ says ! handed.is.1 $ use0 𝓛 (raw (fact 𝓤 (Text r.now))) (fact_i 𝓤 _ (emp 𝓤) handed.is.0) $ done !)))))))))))))))))
+        frame ! $ frame ! $ says ! handed.is.1 $ use0 𝓛 (raw (fact 𝓤 (Text r.now))) (fact_i 𝓤 _ (emp 𝓤) handed.is.0) $ done !)))))))))))))))
 
 pub join_spec : {M : Type 1} → stated.statement M
 unfolding tables_of
 join_spec 𝓤 𝓛 𝓜 𝓡 wired X Y L LY C g d gl dl gn dn gc dc gs ds gt dt writes_options writes_decimal numbers clones sizes tells =
-    let T : Able = record { row = X; laws = L; copy = C; options = Y; g = g; d = d; gl = gl; dl = dl; gn = gn; dn = dn; gc = gc; dc = dc; gs = gs; ds = ds; gt = gt; dt = dt } in
+    let T : Able = record { row = X; copy = C; options = Y; g = g; d = d; gl = gl; dl = dl; gn = gn; dn = dn; gc = gc; dc = dc; gs = gs; ds = ds; gt = gt; dt = dt } in
     let 𝓣 : Tables 𝓤 𝓛.H = tables_of 𝓤 𝓛.H 𝓜 (tables 𝓤 𝓛.H 𝓜 𝓡 𝓡.env) in
     let c = clauses T 𝓛 𝓜.mem 𝓡.returns in
     let writes = write_joined_met 𝓤 𝓛 𝓜 𝓡 (code.calls-lexical_lines::joined::write_joined 𝓡.env wired) X Y L LY C g d gl dl gn dn gc dc gs ds gt dt writes_options writes_decimal numbers clones sizes tells in

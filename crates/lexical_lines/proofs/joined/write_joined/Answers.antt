@@ -3,7 +3,7 @@ use Rattle.std.proofs.Math.Nat.{mul-le-mul_right}
 use Rattle.std.proofs.lemmas.List.{length-map, length-take, length-take-le}
 use Rattle.lexical_num.specs.Size.{size_in}
 use Rattle.lexical_write_integer.specs.Text.{IsText}
-use Rattle.lexical_write_integer.proofs.Fronts.{Writes-after}
+use Rattle.lexical_write_integer.proofs.Buffers.Prefixes.{Writes-after}
 use Rattle.lexical_lines.specs.Joined.{IsJoined}
 use Rattle.lexical_lines.proofs.Joins.{map-take_more, Ready, Ready-one, Ready-push}
 use Rattle.lexical_lines.proofs.joined.write_joined.Goals as goal

@@ -1,5 +1,5 @@
 -- in the other arms the search finds it: here the table is too long for the numbers that it compares
-use Rattle.lexical_write_integer.proofs.TablePairs.{begins_in_arm}
+use Rattle.lexical_write_integer.proofs.Buffers.TablePairs.{begins_in_arm}
 use Rattle.lexical_write_integer.proofs.algorithm.write_number.Goals as goal
 
 pub write_digits-requires-in-23-clause-table : goal.write_digits-requires-in-23-clause-table

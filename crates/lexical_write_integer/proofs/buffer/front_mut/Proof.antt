@@ -1,4 +1,4 @@
--- `front_mut` lends the first bytes of a slice. The borrow checker shows no write-back clause for a
+-- `front_mut` returns a borrow of the first bytes of a slice. The borrow checker shows no write-back clause for a
 -- part of a slice, so this proof walks the code by hand.
 use mathlib.Core.Path.{◌≡◌, refl, sym, ap}
 use Prim.Native.Nat.{ℕ, ◌^◌, ◌<◌, ◌≤◌}
@@ -15,7 +15,8 @@ use prog.Memory.{Memory}
 use prog.Routine.{Routine}
 use prog.Wp.{Calls, Loops, WpFn, Tables}
 use types.Logic.{Logic, sem}
-use types.Kit.{Item, ‵, ◌⊛◌, some, later, ◌$◌, ◌∵◌, !, qed, move, keep, drop, split, split3, join, fsplit, fsplit3, fjoin, feq_i, feq_l, use1, use2, await, pick, suffices, frame, done, updating, group, now, show, rewrite}
+use types.Kit.{Item, ‵, ◌⊛◌, some, later, ◌$◌, ◌∵◌, !, qed, move, keep, drop, split, split3, join, fsplit, fsplit3, fjoin, feq_i}
+use types.Kit.{feq_l, use1, use2, await, pick, suffices, frame, done, updating, group, now, show, rewrite}
 use types.Follow.{takes_part}
 use types.Mut.{open_ref}
 use types.Part.{whole, sub, agg}
@@ -68,22 +69,26 @@ module _ {M : Type 1} {𝓤 : Ura M} (𝓛 : Logic 𝓤) where
     abbrev result : GName → MutBor (List ℕ)
     result δ = record { ref_ptr = (b, o); ghost_name = δ; now = front }
 
-    -- the slice, where ws was left in its front
+    -- the slice, if ws was left in its prefix
     abbrev after : List ℕ → List ℕ
     after ws = ws ++ back
 
-    -- where the bytes after a front of k bytes begin
+    -- the offset of the bytes after the first k
     abbrev past : ℕ → ℕ
     past = at o (mem u8).size
 
-    -- the front, whose machine value has the count k, under a new name
+    -- the prefix, whose machine value has the length k, under a new name
     abbrev Lent : ℕ → GName → SProp 𝓤
-    Lent k δ = sep 𝓤 (sem 𝓛 ((MutSlice (named 0) κ u8).own_val (result δ) (slice_val (b, o) k ∷ []))) (sep 𝓤 (A.lft κ q) (sem 𝓛 (follows (Array u8 0) (Array u8 0) γ δ after)))
+    Lent k δ =
+        sep 𝓤 (sem 𝓛 ((MutSlice (named 0) κ u8).own_val (result δ) (slice_val (b, o) k ∷ [])))
+        (sep 𝓤 (A.lft κ q) (sem 𝓛 (follows (Array u8 0) (Array u8 0) γ δ after)))
 
     abbrev lent : ℕ → GName → Item 𝓤
     lent k δ = ‵ ((MutSlice (named 0) κ u8).own_val (result δ) (slice_val (b, o) k ∷ [])) ⊛ ‵ (flft κ q) ⊛ ‵ (follows (Array u8 0) (Array u8 0) γ δ after)
 
-    put : (ws : List ℕ) → ent 𝓤 (sep 𝓤 (sem 𝓛 ((Arr (mem u8) (length front)).own_at ws b o)) (sem 𝓛 (cells (mem u8) back b (past (length front))))) (sem 𝓛 ((Arr (mem u8) (length xs)).own_at (after ws) b o))
+    put : (ws : List ℕ)
+        → ent 𝓤 (sep 𝓤 (sem 𝓛 ((Arr (mem u8) (length front)).own_at ws b o)) (sem 𝓛 (cells (mem u8) back b (past (length front)))))
+        (sem 𝓛 ((Arr (mem u8) (length xs)).own_at (after ws) b o))
     put ws =
         let whole_len = length-append front back in
         let now_len = length-append ws back in
@@ -105,9 +110,15 @@ module _ {M : Type 1} {𝓤 : Ura M} (𝓛 : Logic 𝓤) where
         rewrite ! 0 (λ (l : List ℕ). ‵ (cells (mem u8) l b o)) (sym (take-append-drop m xs)) refl $
         use1 𝓛 (‵ (cells (mem u8) front b o) ⊛ ‵ (cells (mem u8) back b (past (length front)))) (cut_app 𝓛 (mem u8) front back b o) $ split ! $
         feq_i ! ℕ (length front) (length front) refl $ fjoin ! $ move ! (2 ∷ 3 ∷ 4 ∷ 0 ∷ 1 ∷ []) $ group ! 5 $
-        use1 𝓛 (later (some (λ (δ : GName). ‵ (fobs δ (code front)) ⊛ ‵ (fbor κ (Body (Arr (mem u8) (length front)) b o δ)) ⊛ ‵ (flft κ q) ⊛ ‵ (follows (Array u8 0) (Array u8 0) γ δ after))))
-        (takes_part 𝓛 (Arr (mem u8) (length xs)) (Arr (mem u8) (length front)) after κ q b o b o γ (sem 𝓛 (cells (mem u8) back b (past (length front)))) put (code xs) (code xs) front) $ await ! tt $ pick ! (λ δ. split3 ! $
-        use2 𝓛 (‵ ((MutSlice (named 0) κ u8).own_val (result δ) (slice_val (b, o) (length front) ∷ []))) (slice_of 𝓛 u8 (named 0) κ b o δ front (omega (arith, room.0), omega (arith, room.1))) $
+        use1 𝓛
+        (later
+        (some (λ (δ : GName). ‵ (fobs δ (code front)) ⊛ ‵ (fbor κ (Body (Arr (mem u8) (length front)) b o δ)) ⊛ ‵ (flft κ q)
+        ⊛ ‵ (follows (Array u8 0) (Array u8 0) γ δ after))))
+        (takes_part 𝓛 (Arr (mem u8) (length xs)) (Arr (mem u8) (length front)) after κ q b o b o γ
+        (sem 𝓛 (cells (mem u8) back b (past (length front)))) put (code xs) (code xs) front) $
+        await ! tt $ pick ! (λ δ. split3 ! $
+        use2 𝓛 (‵ ((MutSlice (named 0) κ u8).own_val (result δ) (slice_val (b, o) (length front) ∷ [])))
+        (slice_of 𝓛 u8 (named 0) κ b o δ front (omega (arith, room.0), omega (arith, room.1))) $
         rewrite ! 0 (λ (k : ℕ). ‵ ((MutSlice (named 0) κ u8).own_val (result δ) (slice_val (b, o) k ∷ []))) count refl $
         now ! $ show ! (Lent m) δ $ done !)
 
@@ -122,7 +133,8 @@ module _ {M : Type 1} {𝓤 : Ura M} (𝓛 : Logic 𝓤) where
       bound = (((κ, tt), (q, tt), tt, (self, (m, tt)), words), tt)
 
       walk : Room u8 (length xs) → m < 2 ^ 64 → m ≤ length xs
-          → ent 𝓤 (on_entry 𝓛 F.signature (κ, tt) (q, tt) (self, (m, tt)) words) (WpFn 𝓤 H C Λ code.function (slice_val (b, o) (length xs) ∷ vint w64 m ∷ []) ((walk_of 𝓛 F.ended stayed clauses).post bound))
+          → ent 𝓤 (on_entry 𝓛 F.signature (κ, tt) (q, tt) (self, (m, tt)) words)
+          (WpFn 𝓤 H C Λ code.function (slice_val (b, o) (length xs) ∷ vint w64 m ∷ []) ((walk_of 𝓛 F.ended stayed clauses).post bound))
       walk room fits le =
           qed 𝓛 ((‵ (flft κ q) ⊛ ‵ ftrue) ∷ ‵ (owns (MutSlice (named 0) κ u8 ∷ usize ∷ []) (self, (m, tt)) words) ∷ []) ∵
           enter ! C Λ code.function (slice_val (b, o) (length xs) ∷ vint w64 m ∷ []) _ $
@@ -137,8 +149,11 @@ module _ {M : Type 1} {𝓤 : Ura M} (𝓛 : Logic 𝓤) where
 
   meets : (at_mem : Memory → SProp 𝓤) (run : Routine → Fun 𝓤) (𝓣 : Tables 𝓤 H) → Meets 𝓛 F.signature (WpFn 𝓤 H 𝓣.C 𝓣.Λ code.function) (F.spec 𝓛 at_mem run)
   meets at_mem run 𝓣 =
-      walk_Meets 𝓛 F.ended stayed (Goes-spent_slice 𝓛 1 (0 ∷ []) tt (plain (λ _. u8)), (Goes-dropped 𝓛 1 (plain (λ _. usize)) yes (λ κs x f. refl), tt)) (F.clauses 𝓛 at_mem run) (WpFn 𝓤 H 𝓣.C 𝓣.Λ code.function) (WpFn-mono 𝓤 H 𝓛.laws 𝓣 code.function)
-      (walked 𝓛 F.ended stayed (F.clauses 𝓛 at_mem run) (WpFn 𝓤 H 𝓣.C 𝓣.Λ code.function) (λ κs. (mut_slice_vals, (uint_vals w64, tt))) (λ κs. (mut_slice_Tells (named 0) κs.0 u8, (uint_Tells w64, tt)))
+      walk_Meets 𝓛 F.ended stayed
+      (Goes-spent_slice 𝓛 1 (0 ∷ []) tt (plain (λ _. u8)), (Goes-dropped 𝓛 1 (plain (λ _. usize)) yes (λ κs x f. refl), tt))
+      (F.clauses 𝓛 at_mem run) (WpFn 𝓤 H 𝓣.C 𝓣.Λ code.function) (WpFn-mono 𝓤 H 𝓛.laws 𝓣 code.function)
+      (walked 𝓛 F.ended stayed (F.clauses 𝓛 at_mem run) (WpFn 𝓤 H 𝓣.C 𝓣.Λ code.function)
+      (λ κs. (mut_slice_vals, (uint_vals w64, tt))) (λ κs. (mut_slice_Tells (named 0) κs.0 u8, (uint_Tells w64, tt)))
       (λ κs qs bounds a g are. needs 𝓤 (a.1.0 ≤ length a.0.now) _
       (walk κs.0 qs.0 a.0.ref_ptr.0 a.0.ref_ptr.1 a.0.ghost_name a.0.now a.1.0 at_mem run 𝓣.C 𝓣.Λ are.0.0.1 are.1.0.1)))
 

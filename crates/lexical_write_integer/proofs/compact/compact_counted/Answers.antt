@@ -1,7 +1,7 @@
 use Rattle.std.proofs.Common.{◌≡◌, arith}
 use Rattle.lexical_write_integer.specs.DigitCount.{digit_count}
 use Rattle.lexical_write_integer.proofs.DigitCounts.{digit_count-le_64, digit_count-le_width}
-use Rattle.lexical_write_integer.proofs.LoopNotes.{length-more, length-compact_notes}
+use Rattle.lexical_write_integer.proofs.Loops.Records.{length-more, length-compact_notes}
 use Rattle.lexical_write_integer.proofs.compact.compact_counted.Goals as goal
 
 pub write_in_radix-index-requires-clause-room : goal.write_in_radix-index-requires-clause-room

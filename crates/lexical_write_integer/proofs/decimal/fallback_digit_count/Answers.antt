@@ -4,30 +4,42 @@ use Rattle.lexical_write_integer.proofs.DigitCounts.{digit_count-le_64}
 use Rattle.lexical_write_integer.proofs.Logarithms.{digit_count-estimate, digit_count-estimate_more}
 use Rattle.lexical_write_integer.proofs.DecimalTables.{entry_is, past_table}
 use Rattle.lexical_write_integer.proofs.decimal.fallback_digit_count.Goals as goal
-use Rattle.lexical_write_integer.proofs.decimal.fallback_digit_count.Goals.{Then-is_at_least, Joined-else-log10-table, else-log10-table-via-then-log10-table+else-is_at_least, else-log10-table-via-else-log10-table}
+use Rattle.lexical_write_integer.proofs.decimal.fallback_digit_count.Goals.{Then-is_at_least, Joined-else-log10-table}
+use Rattle.lexical_write_integer.proofs.decimal.fallback_digit_count.Goals.{else-log10-table-via-then-log10-table+else-is_at_least}
+use Rattle.lexical_write_integer.proofs.decimal.fallback_digit_count.Goals.{else-log10-table-via-else-log10-table}
 
 -- the entry is the power of ten after the estimate, and the number is at least that
 two_more : (g : _) (c : Then-is_at_least g) → c.fast_log10-log10.result + 2 ≡ digit_count 10 (g.T.UnsignedInteger.magnitude c.args.x)
 two_more g c =
-    let entry = entry_is (2 ^ g.T.LexicalInteger.BITS) g.T.UnsignedInteger.magnitude c.args.table.now c.fast_log10-log10.result c.index-table-log10.result c.if-log10-table.true c.index-table-log10.is c.requires in
+    let limit = 2 ^ g.T.LexicalInteger.BITS in
+    let index = c.index-table-log10 in
+    let entry =
+    entry_is limit g.T.UnsignedInteger.magnitude c.args.table.now c.fast_log10-log10.result index.result c.if-log10-table.true index.is c.requires in
     sym (digit_count-estimate_more _ _ c.fast_log10-log10.ensures (rw entry at (c.is_at_least.ensures.0 c.if-is_at_least.true)))
 
 one_more : (g : _) (c : Joined-else-log10-table g) → c.fast_log10-log10.result + 1 ≡ digit_count 10 (g.T.UnsignedInteger.magnitude c.args.x)
 one_more g c =
+    let limit = 2 ^ g.T.LexicalInteger.BITS in
     sym (digit_count-estimate _ _ c.fast_log10-log10.ensures (elim c.else-log10-table.branch [
       | else-log10-table-via-then-log10-table+else-is_at_least w ↦
-          let entry = entry_is (2 ^ g.T.LexicalInteger.BITS) g.T.UnsignedInteger.magnitude c.args.table.now c.fast_log10-log10.result w.index-table-log10.result w.if-log10-table.true w.index-table-log10.is c.requires in
+          let index = w.index-table-log10 in
+          let entry =
+          entry_is limit g.T.UnsignedInteger.magnitude c.args.table.now c.fast_log10-log10.result index.result w.if-log10-table.true index.is c.requires in
           grind (arith, w.is_at_least.ensures, w.if-is_at_least.false, entry)
-      | else-log10-table-via-else-log10-table w ↦ omega (arith, past_table (2 ^ g.T.LexicalInteger.BITS) g.T.UnsignedInteger.magnitude c.args.table.now c.fast_log10-log10.result w.if-log10-table.false c.requires, c.fits_bits.ensures)
+      | else-log10-table-via-else-log10-table w ↦
+          let past = past_table limit g.T.UnsignedInteger.magnitude c.args.table.now c.fast_log10-log10.result w.if-log10-table.false c.requires in
+          omega (arith, past, c.fits_bits.ensures)
     ]))
 
 pub overflow_add-result : goal.overflow_add-result
 overflow_add-result g c =
-    omega (arith, two_more g c, digit_count-le_64 10 (g.T.UnsignedInteger.magnitude c.args.x) g.T.LexicalInteger.BITS (omega arith) g.met.T.UnsignedInteger.range.width c.fits_bits.ensures)
+    let few = digit_count-le_64 10 _ _ (omega arith) g.met.T.UnsignedInteger.range.width c.fits_bits.ensures in
+    omega (arith, two_more g c, few)
 
 pub overflow_add-result-else-log10-table : goal.overflow_add-result-else-log10-table
 overflow_add-result-else-log10-table g c =
-    omega (arith, one_more g c, digit_count-le_64 10 (g.T.UnsignedInteger.magnitude c.args.x) g.T.LexicalInteger.BITS (omega arith) g.met.T.UnsignedInteger.range.width c.fits_bits.ensures)
+    let few = digit_count-le_64 10 _ _ (omega arith) g.met.T.UnsignedInteger.range.width c.fits_bits.ensures in
+    omega (arith, one_more g c, few)
 
 pub returns-then-is_at_least : goal.returns-then-is_at_least
 returns-then-is_at_least g c = two_more g c

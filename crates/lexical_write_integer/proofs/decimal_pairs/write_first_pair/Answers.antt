@@ -6,8 +6,8 @@ use Rattle.lexical_tables.specs.Pairs.{pairs}
 use Rattle.lexical_tables.proofs.Pairs.{slice_index-pairs_second}
 use Rattle.lexical_write_integer.specs.Buffer.{WritesDigits}
 use Rattle.lexical_write_integer.specs.DigitCount.{digit_count}
-use Rattle.lexical_write_integer.proofs.Blocks.{WritesBlock-one}
-use Rattle.lexical_write_integer.proofs.BlocksAfter.{WritesDigits-block}
+use Rattle.lexical_write_integer.proofs.Buffers.Blocks.{WritesBlock-one}
+use Rattle.lexical_write_integer.proofs.Buffers.BlocksAfter.{WritesDigits-block}
 use Rattle.lexical_write_integer.proofs.DigitCounts.{digit_count-pos, digit_count-is, digit_count-one}
 use Rattle.lexical_write_integer.proofs.PairBlocks.{WritesBlock-table}
 use Rattle.lexical_write_integer.proofs.decimal_pairs.write_first_pair.Goals as goal
@@ -19,18 +19,20 @@ counted pair false small e = sym (digit_count-one 10 pair (omega arith) (leb-fal
 
 -- the second of the pair, or the only digit, and then the first over it
 digits : (pair : ℕ) (is_pair : Bool) (list table : List ℕ) → table ≡ pairs 10 → pair < 100 → digit_count 10 pair ≤ length list → leb 10 pair ≡ is_pair
-    → WritesDigits 10 pair list (set (set list (bool_byte is_pair) (get_or table (2 * pair + 1) 0)) 0 (get_or table (2 * pair + 1 - bool_byte is_pair) 0)) (1 + bool_byte is_pair)
+    → WritesDigits 10 pair list
+    (set (set list (bool_byte is_pair) (get_or table (2 * pair + 1) 0)) 0 (get_or table (2 * pair + 1 - bool_byte is_pair) 0))
+    (1 + bool_byte is_pair)
 digits pair true list table is small room e =
     let place : 2 * pair + 1 - 1 ≡ 2 * pair = omega arith in
     let two = sym (counted pair true small e) in
-    WritesDigits-block 10 pair 2 _ _ (omega arith) two (omega arith) (rw place (WritesBlock-table 10 pair 0 list table (omega arith) is small (omega arith)))
+    WritesDigits-block (omega arith) two (omega arith) (rw place (WritesBlock-table 10 pair 0 list table (omega arith) is small (omega arith)))
 digits pair false list table is small room e =
     let short = leb-false 10 pair e in
     let place : 2 * pair + 1 - 0 ≡ 2 * pair + 1 = omega arith in
     let last : pair % 10 ≡ pair = omega arith in
     let char : get_or table (2 * pair + 1) 0 ≡ digit_char pair = rw is (slice_index-pairs_second 10 pair small ∙ ap digit_char last) in
     let one = sym (counted pair false small e) in
-    WritesDigits-block 10 pair 1 _ _ (omega arith) one (omega arith) (rw (place, set-set, char) (WritesBlock-one 10 pair 0 list short (omega arith)))
+    WritesDigits-block (omega arith) one (omega arith) (rw (place, set-set, char) (WritesBlock-one 10 pair 0 list short (omega arith)))
 
 pub bounds-buffer-is_pair : goal.bounds-buffer-is_pair
 bounds-buffer-is_pair c = omega (arith, counted c.args.pair _ c.requires.pair refl)

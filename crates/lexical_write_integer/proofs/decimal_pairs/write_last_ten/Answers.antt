@@ -1,5 +1,5 @@
 use Rattle.std.proofs.Common.{◌≡◌, ◌+◌, ◌/◌, ◌%◌, ◌^◌, arith}
-use Rattle.lexical_write_integer.proofs.Blocks.{WritesBlock-next, WritesBlock-whole}
+use Rattle.lexical_write_integer.proofs.Buffers.Blocks.{WritesBlock-next, WritesBlock-whole}
 use Rattle.lexical_write_integer.proofs.decimal_pairs.write_last_ten.Goals as goal
 
 pub returns-clause-block : goal.returns-clause-block
@@ -8,5 +8,5 @@ returns-clause-block c =
     let at = c.args.at in
     let place : at + 6 ≡ at + 2 + 4 = omega arith in
     let first : low / 10000 / 10000 ≡ low / 10 ^ 8 = omega arith in
-    let last_eight = WritesBlock-next 10 low 4 4 (at + 2) _ _ _ (omega arith) (rw place at c.write_four.ensures.block) c.write_four-2.ensures.block in
-    WritesBlock-whole 10 low 8 _ 2 at _ _ _ first last_eight c.write_counted_pair.ensures.block
+    let last_eight = WritesBlock-next low (omega arith) (rw place at c.write_four.ensures.block) c.write_four-2.ensures.block in
+    WritesBlock-whole first last_eight c.write_counted_pair.ensures.block

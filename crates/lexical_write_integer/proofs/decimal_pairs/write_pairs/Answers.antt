@@ -7,7 +7,7 @@ use Rattle.lexical_write_integer.proofs.Fractions.{rest-more}
 use Rattle.lexical_write_integer.proofs.PairBlocks.{WritesDigits-pair, digit_count-carried, room_for_carried}
 use Rattle.lexical_write_integer.proofs.decimal_pairs.write_pairs.Goals as goal
 
--- the note of one pair more
+-- the record of one further pair
 products-more : (fraction i : ℕ) → products fraction (i + 1) ≡ products fraction i ++ (fraction * 100 ^ i % 2 ^ 32 * 100) ∷ []
 products-more fraction i = map-range_with_len_more (λ j. fraction * 100 ^ j % 2 ^ 32 * 100) 0 i i (zero-add i)
 
@@ -42,7 +42,7 @@ loop-preserved c =
     let room = room_for_carried c.args.fraction (c.loop.counter + 1) c.args.pair_count _ (omega arith) c.requires.room in
     record {
       following = rw c.next2-pair.ensures.product (rest-more c.args.fraction c.loop.counter _ done.following);
-      digits = WritesDigits-pair _ _ _ _ _ _ _ c.requires.first room pair done.digits c.write_two_digits.ensures;
+      digits = WritesDigits-pair _ _ c.requires.first room pair done.digits c.write_two_digits.ensures;
       notes = let more = products-more c.args.fraction c.loop.counter in grind (arith, append_assoc);
       count = omega arith;
     }

@@ -4,4 +4,5 @@ use Rattle.lexical_write_integer.proofs.decimal_pairs.write_two_digits.Goals as 
 
 pub returns : goal.returns
 returns c =
-    WritesBlock-table 10 c.args.pair c.args.at c.args.buffer.now c.get_table-table.result.now (omega arith) c.get_table-table.ensures.table c.requires.pair c.requires.room
+    WritesBlock-table 10 c.args.pair c.args.at c.args.buffer.now c.get_table-table.result.now
+    (omega arith) c.get_table-table.ensures.table c.requires.pair c.requires.room

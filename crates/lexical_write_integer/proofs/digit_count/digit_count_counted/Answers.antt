@@ -2,23 +2,29 @@ use Rattle.std.proofs.Common.{refl, sym, arith}
 use Rattle.std.proofs.Math.Nat.{div-one}
 use Rattle.lexical_write_integer.proofs.DigitCounts.{digit_count-le_64, digit_count-pos}
 use Rattle.lexical_write_integer.proofs.Logarithms.{digit_count-log2}
-use Rattle.lexical_write_integer.proofs.LoopNotes.{none_noted, slow_noted, not_at_once}
+use Rattle.lexical_write_integer.proofs.Loops.Records.{none_noted, slow_noted, not_at_once}
 use Rattle.lexical_write_integer.proofs.digit_count.digit_count_counted.Goals as goal
 
 pub returns-in-2-clause-count : goal.returns-in-2-clause-count
-returns-in-2-clause-count g c = rw (c.in-2.is, ← div-one c.fast_log2.result) (sym (digit_count-log2 (g.T.UnsignedInteger.magnitude c.args.x) c.fast_log2.result 1 (omega arith) c.fast_log2.ensures.log2))
+returns-in-2-clause-count g c =
+    rw (c.in-2.is, ← div-one c.fast_log2.result)
+    (sym (digit_count-log2 (g.T.UnsignedInteger.magnitude c.args.x) c.fast_log2.result 1 (omega arith) c.fast_log2.ensures.log2))
 
 pub returns-in-4-clause-count : goal.returns-in-4-clause-count
-returns-in-4-clause-count g c = rw c.in-4.is (sym (digit_count-log2 (g.T.UnsignedInteger.magnitude c.args.x) c.fast_log2-in-4.result 2 (omega arith) c.fast_log2-in-4.ensures.log2))
+returns-in-4-clause-count g c =
+    rw c.in-4.is (sym (digit_count-log2 (g.T.UnsignedInteger.magnitude c.args.x) c.fast_log2-in-4.result 2 (omega arith) c.fast_log2-in-4.ensures.log2))
 
 pub returns-in-8-clause-count : goal.returns-in-8-clause-count
-returns-in-8-clause-count g c = rw c.in-8.is (sym (digit_count-log2 (g.T.UnsignedInteger.magnitude c.args.x) c.fast_log2-in-8.result 3 (omega arith) c.fast_log2-in-8.ensures.log2))
+returns-in-8-clause-count g c =
+    rw c.in-8.is (sym (digit_count-log2 (g.T.UnsignedInteger.magnitude c.args.x) c.fast_log2-in-8.result 3 (omega arith) c.fast_log2-in-8.ensures.log2))
 
 pub returns-in-16-clause-count : goal.returns-in-16-clause-count
-returns-in-16-clause-count g c = rw c.in-16.is (sym (digit_count-log2 (g.T.UnsignedInteger.magnitude c.args.x) c.fast_log2-in-16.result 4 (omega arith) c.fast_log2-in-16.ensures.log2))
+returns-in-16-clause-count g c =
+    rw c.in-16.is (sym (digit_count-log2 (g.T.UnsignedInteger.magnitude c.args.x) c.fast_log2-in-16.result 4 (omega arith) c.fast_log2-in-16.ensures.log2))
 
 pub returns-in-32-clause-count : goal.returns-in-32-clause-count
-returns-in-32-clause-count g c = rw c.in-32.is (sym (digit_count-log2 (g.T.UnsignedInteger.magnitude c.args.x) c.fast_log2-in-32.result 5 (omega arith) c.fast_log2-in-32.ensures.log2))
+returns-in-32-clause-count g c =
+    rw c.in-32.is (sym (digit_count-log2 (g.T.UnsignedInteger.magnitude c.args.x) c.fast_log2-in-32.result 5 (omega arith) c.fast_log2-in-32.ensures.log2))
 
 pub returns-in-10-clause-some : goal.returns-in-10-clause-some
 returns-in-10-clause-some g c = omega (arith, c.decimal_count.ensures, digit_count-pos 10 (g.T.UnsignedInteger.magnitude c.args.x))
@@ -47,4 +53,7 @@ returns-in-10-clause-notes g c = none_noted _ _ _ (rw c.in-10.is refl)
 
 pub returns-in_default-clause-notes : goal.returns-in_default-clause-notes
 returns-in_default-clause-notes g c =
-    slow_noted _ _ _ _ (not_at_once c.args.radix (λ e. absurd (omega arith)) (λ e. absurd (omega arith)) (λ e. absurd (omega arith)) (λ e. absurd (omega arith)) (λ e. absurd (omega arith)) (λ e. absurd (omega arith))) c.slow_digit_count_counted.ensures.notes
+    slow_noted _ _ _ _
+    (not_at_once c.args.radix (λ e. absurd (omega arith)) (λ e. absurd (omega arith)) (λ e. absurd (omega arith))
+    (λ e. absurd (omega arith)) (λ e. absurd (omega arith))
+    (λ e. absurd (omega arith))) c.slow_digit_count_counted.ensures.notes

@@ -1,6 +1,6 @@
 use Rattle.std.proofs.Common.{◌^◌, ◌≤◌, arith}
 use Rattle.lexical_write_integer.proofs.DigitCounts.{digit_count-le_64}
-use Rattle.lexical_write_integer.proofs.Loops.{IsDivided-start, IsDivided-more, TakesDigits-end, TakesDigits-none, left-smaller}
+use Rattle.lexical_write_integer.proofs.Loops.Divisions.{IsDivided-start, IsDivided-more, TakesDigits-end, TakesDigits-none, left-smaller}
 use Rattle.lexical_write_integer.proofs.RadixPowers.{power-gt_one, step-le_4}
 use Rattle.lexical_write_integer.proofs.digit_count.divide_while_long.Goals as goal
 use Rattle.lexical_write_integer.proofs.digit_count.divide_while_long.Goals.{In-loop-power}
@@ -10,10 +10,10 @@ long g c = rw c.in-Some.ensures.power at (c.is_at_least.ensures.0 c.loop-power-t
 
 pub returns-in_default : goal.returns-in_default
 returns-in_default g c =
-    TakesDigits-none _ _ _ _ c.requires.radix.at_least_two c.requires.step (omega (arith, c.fits_bits.ensures, c.in_default.ensures.too_great))
+    TakesDigits-none c.requires.radix.at_least_two c.requires.step (omega (arith, c.fits_bits.ensures, c.in_default.ensures.too_great))
 
 pub loop-power-init : goal.loop-power-init
-loop-power-init g c = IsDivided-start _ _ _ _
+loop-power-init g c = IsDivided-start
 
 pub divide_once-left-requires : goal.divide_once-left-requires
 divide_once-left-requires g c = omega (arith, c.in-Some.ensures.power, power-gt_one _ _ c.requires.radix.at_least_two c.requires.step)
@@ -25,12 +25,14 @@ overflow_add-taken g c =
 
 pub loop-power-smaller : goal.loop-power-smaller
 loop-power-smaller g c =
-    left-smaller _ _ _ _ c.requires.radix.at_least_two c.requires.step (long g (goal.at.loop-power-smaller g c).In-loop-power) (rw c.in-Some.ensures.power at c.divide_once-left.ensures.left)
+    left-smaller c.requires.radix.at_least_two c.requires.step (long g (goal.at.loop-power-smaller g c).In-loop-power)
+    (rw c.in-Some.ensures.power at c.divide_once-left.ensures.left)
 
 pub loop-power-preserved : goal.loop-power-preserved
 loop-power-preserved g c =
-    IsDivided-more _ _ _ _ _ _ _ _ _ c.requires.radix.at_least_two c.loop-power.invariant (long g (goal.at.loop-power-preserved g c).In-loop-power) (rw c.in-Some.ensures.power at c.divide_once-left.ensures.left) c.divide_once-left.ensures.notes
+    IsDivided-more c.requires.radix.at_least_two c.loop-power.invariant (long g (goal.at.loop-power-preserved g c).In-loop-power)
+    (rw c.in-Some.ensures.power at c.divide_once-left.ensures.left) c.divide_once-left.ensures.notes
 
 pub returns : goal.returns
 returns g c =
-    TakesDigits-end _ _ _ _ _ _ _ c.requires.radix.at_least_two c.requires.step c.loop-power.invariant (grind (arith, c.is_at_least.ensures, c.in-Some.ensures.power))
+    TakesDigits-end c.requires.radix.at_least_two c.requires.step c.loop-power.invariant (grind (arith, c.is_at_least.ensures, c.in-Some.ensures.power))

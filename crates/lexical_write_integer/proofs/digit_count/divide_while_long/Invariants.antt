@@ -1,4 +1,4 @@
-use Rattle.lexical_write_integer.proofs.Loops.{IsDivided}
+use Rattle.lexical_write_integer.proofs.Loops.Divisions.{IsDivided}
 use Rattle.lexical_write_integer.proofs.digit_count.divide_while_long.Given as goal
 
 abbrev pub invariant-loop-power : goal.invariant-loop-power

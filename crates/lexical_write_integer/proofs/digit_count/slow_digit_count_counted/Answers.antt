@@ -2,14 +2,17 @@ use Rattle.std.proofs.Common.{◌≡◌, ◌+◌, ◌≤◌, ◌++◌, arith}
 use Rattle.lexical_write_integer.specs.DigitCount.{digit_count}
 use Rattle.lexical_write_integer.specs.LoopTurns.{slow_notes}
 use Rattle.lexical_write_integer.proofs.DigitCounts.{digit_count-le_64}
-use Rattle.lexical_write_integer.proofs.LoopNotes.{slow_count-is, slow_notes-are, length-more, length-slow_notes}
+use Rattle.lexical_write_integer.proofs.Loops.Records.{slow_count-is, slow_notes-are, length-more, length-slow_notes}
 use Rattle.lexical_write_integer.proofs.digit_count.slow_digit_count_counted.Goals as goal
 use Rattle.lexical_write_integer.proofs.digit_count.slow_digit_count_counted.Goals.{After-divide_while_long-by_one}
 
-count_is : (g : _) (c : After-divide_while_long-by_one g) → 1 + c.divide_while_long-left.result.1 + c.divide_while_long-left-2.result.1 + c.divide_while_long-by_one.result.1 ≡ digit_count c.args.radix (g.T.UnsignedInteger.magnitude c.args.x)
+count_is : (g : _) (c : After-divide_while_long-by_one g)
+    → 1 + c.divide_while_long-left.result.1 + c.divide_while_long-left-2.result.1 + c.divide_while_long-by_one.result.1
+    ≡ digit_count c.args.radix (g.T.UnsignedInteger.magnitude c.args.x)
 count_is g c = slow_count-is c.requires.at_least_two c.divide_while_long-left.ensures c.divide_while_long-left-2.ensures c.divide_while_long-by_one.ensures
 
-notes_are : (g : _) (c : After-divide_while_long-by_one g) → c.divide_while_long-by_one.new.turns ≡ c.args.turns.now ++ slow_notes c.args.radix (g.T.UnsignedInteger.magnitude c.args.x)
+notes_are : (g : _) (c : After-divide_while_long-by_one g)
+    → c.divide_while_long-by_one.new.turns ≡ c.args.turns.now ++ slow_notes c.args.radix (g.T.UnsignedInteger.magnitude c.args.x)
 notes_are g c = slow_notes-are c.requires.at_least_two c.divide_while_long-left.ensures c.divide_while_long-left-2.ensures c.divide_while_long-by_one.ensures
 
 at_most_64 : (g : _) (c : After-divide_while_long-by_one g) → digit_count c.args.radix (g.T.UnsignedInteger.magnitude c.args.x) ≤ 64

@@ -1,4 +1,4 @@
-use Rattle.lexical_write_integer.proofs.SpreadDigits.{IsSpread}
+use Rattle.lexical_write_integer.proofs.Grouping.Spread.{IsSpread}
 use Rattle.lexical_write_integer.proofs.groups.spread.Given as goal
 
 abbrev pub invariant-loop-end : goal.invariant-loop-end

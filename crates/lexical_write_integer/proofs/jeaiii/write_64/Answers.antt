@@ -1,7 +1,7 @@
 use Rattle.std.proofs.Common.{◌/◌, ◌^◌, ◌≤◌, ◌++◌, length, ap, ◌∙◌, arith, append_assoc, length-append}
 use Rattle.std.proofs.lemmas.Bool.{le-ltb}
 use Rattle.lexical_write_integer.specs.DecimalTurns.{decimal_notes_64, pairs_from_back}
-use Rattle.lexical_write_integer.proofs.BlocksAfter.{WritesDigits-after}
+use Rattle.lexical_write_integer.proofs.Buffers.BlocksAfter.{WritesDigits-after}
 use Rattle.lexical_write_integer.proofs.DigitCounts.{digit_count-pos, digit_count-split}
 use Rattle.lexical_write_integer.proofs.jeaiii.write_64.Goals as goal
 
@@ -20,7 +20,7 @@ returns-else-n-lt10000000000 c =
     let five_more = ap length c.write_last_ten.ensures.notes ∙ length-append c.write_32-front.new.turns _ in
     let following = c.write_last_ten.ensures.notes ∙ ap (λ notes. notes ++ pairs_from_back n 5) front.noted in
     record {
-      digits = WritesDigits-after 10 n 10 _ _ _ _ (omega arith) c.if-n-lt10000000000.false c.requires front.digits c.write_last_ten.ensures.block;
+      digits = WritesDigits-after n (omega arith) c.if-n-lt10000000000.false c.requires front.digits c.write_last_ten.ensures.block;
       noted = rw (le-ltb n (10 ^ 9) long, le-ltb n (10 ^ 10) c.if-n-lt10000000000.false) (rw append_assoc at following);
       half = omega (arith, five_more, front.half, front.digits.count, digit_count-pos 10 (n / 10 ^ 10));
     }

@@ -3,4 +3,5 @@ use Rattle.lexical_write_integer.proofs.laws.digit_count_within_bits.Goals as go
 
 pub returns : goal.returns
 returns g c =
-    digit_count-le_width c.args.radix (g.T.UnsignedInteger.magnitude c.args.value) g.T.LexicalInteger.BITS c.requires.at_least_two g.met.T.UnsignedInteger.range.width c.fits_bits.ensures
+    digit_count-le_width c.args.radix
+    (g.T.UnsignedInteger.magnitude c.args.value) g.T.LexicalInteger.BITS c.requires.at_least_two g.met.T.UnsignedInteger.range.width c.fits_bits.ensures

@@ -28,7 +28,8 @@ returns-clause-log2 g c =
     record {
       of_zero = λ none. power_in_one c.ilog2.result (rw (of_none g c none) at c.ilog2.ensures.power_le);
       of_positive = λ some. let same = of_some g c some in
-          IsGreatestPower-between 2 x c.ilog2.result (omega arith) (rw same at c.ilog2.ensures.power_le) (simp unary_clauses (omega (arith, rw same at c.ilog2.ensures.next_power_gt)));
+          IsGreatestPower-between 2 x c.ilog2.result (omega arith) (rw same at c.ilog2.ensures.power_le)
+          (simp unary_clauses (omega (arith, rw same at c.ilog2.ensures.next_power_gt)));
     }
 
 pub returns-clause-within : goal.returns-clause-within

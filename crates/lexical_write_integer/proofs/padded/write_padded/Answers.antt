@@ -3,17 +3,17 @@ use Rattle.std.proofs.lemmas.Bool.{eqb-false}
 use Rattle.std.proofs.lemmas.List.{length-replicate, length-take, length-drop, length-take-le}
 use Rattle.lexical_write_integer.specs.Buffer.{Front}
 use Rattle.lexical_write_integer.specs.DigitCount.{digit_count, digit_count-le}
-use Rattle.lexical_write_integer.proofs.Fronts.{Writes-after}
+use Rattle.lexical_write_integer.proofs.Buffers.Prefixes.{Writes-after}
 use Rattle.lexical_write_integer.proofs.PaddedDigits.{IsPadded-digits}
 use Rattle.lexical_write_integer.proofs.padded.write_padded.Goals as goal
 
--- a number below the radix to the width has no more digits than that
+-- a number below `radix ^ width` has at most `width` digits
 few : (r n width count : ℕ) → (width == 0) ≡ false → n < r ^ width → count ≡ digit_count r n → count ≤ width
 few r n width count some fits counted =
     let not_none = eqb-false width 0 some in
     omega (arith, counted, digit_count-le r n width (omega arith) fits)
 
--- as many zeros are written as there are bytes before the digits
+-- a zero is written in each byte before the digits
 zeros_are : (zeros : ℕ) (before written : List ℕ) → zeros ≤ length before → written ≡ replicate (length (take zeros before)) 48 → written ≡ replicate zeros 48
 zeros_are zeros before written within is = is ∙ ap (λ n. replicate n 48) (length-take-le zeros before within)
 
@@ -23,7 +23,9 @@ overflow_sub-zeros g c = few _ _ _ _ (sym c.if-is_empty.ensures) c.requires.fits
 pub radix-requires-clause-room : goal.radix-requires-clause-room
 radix-requires-clause-room g c =
     let room = few _ _ _ _ (sym c.if-is_empty.ensures) c.requires.fits c.digit_count.ensures.count in
-    let long = ap length (zeros_are _ c.args.buffer.now _ (omega arith) c.write_zeros.ensures) ∙ length-replicate (length c.args.buffer.now - c.digit_count.result) 48 in
+    let long =
+    ap length (zeros_are _ c.args.buffer.now _ (omega arith) c.write_zeros.ensures)
+    ∙ length-replicate (length c.args.buffer.now - c.digit_count.result) 48 in
     omega (arith, room, c.digit_count.ensures.count, long, length-take {A = ℕ}, length-drop {A = ℕ}, length-append {A = ℕ})
 
 pub returns-clause-digits : goal.returns-clause-digits
@@ -35,7 +37,9 @@ returns-clause-digits g c =
       fits = omega (arith, long);
       written = rw (zeros_are zeros c.args.buffer.now _ (omega arith) c.write_zeros.ensures, long) refl;
     } in
-    let width : zeros + digit_count c.args.radix (g.T.UnsignedInteger.magnitude c.args.value) ≡ length c.args.buffer.now = omega (arith, room, c.digit_count.ensures.count) in
+    let width : zeros + digit_count c.args.radix (g.T.UnsignedInteger.magnitude c.args.value) ≡ length c.args.buffer.now =
+    omega (arith, room, c.digit_count.ensures.count) in
     Writes-after (replicate zeros 48) c.args.buffer.now _ _ zeros _ _ (sym long) front
-    (λ text. IsPadded-digits c.args.radix (g.T.UnsignedInteger.magnitude c.args.value) zeros (length c.args.buffer.now) text c.requires.radix.at_least_two width)
+    (λ text. IsPadded-digits c.args.radix (g.T.UnsignedInteger.magnitude c.args.value) zeros
+    (length c.args.buffer.now) text c.requires.radix.at_least_two width)
     c.radix.ensures.digits.writes

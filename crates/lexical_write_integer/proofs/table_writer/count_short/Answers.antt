@@ -2,8 +2,8 @@ use Rattle.std.proofs.Common.{◌≡◌, ℕ, ◌+◌, ◌^◌, ◌<◌, ◌⊎�
 use Rattle.std.proofs.Math.Nat.{pow-le-pow_right}
 use Rattle.lexical_write_integer.specs.LoopTurns.{is_counted_at_once, takes_two, takes_four}
 use Rattle.lexical_write_integer.proofs.DigitCounts.{digit_count-one, digit_count-two, digit_count-le_bits}
-use Rattle.lexical_write_integer.proofs.Loops.{TakesDigits-none}
-use Rattle.lexical_write_integer.proofs.LoopNotes.{none_noted, not_at_once, slow_count-is, slow_noted, slow_notes-are}
+use Rattle.lexical_write_integer.proofs.Loops.Divisions.{TakesDigits-none}
+use Rattle.lexical_write_integer.proofs.Loops.Records.{none_noted, not_at_once, slow_count-is, slow_noted, slow_notes-are}
 use Rattle.lexical_write_integer.proofs.table_writer.count_short.Goals as goal
 use Rattle.lexical_write_integer.proofs.table_writer.count_short.Goals.{After-take_last}
 
@@ -14,7 +14,8 @@ at_once r (inr other) = rw (other.1) refl
 by_turns : (c : After-take_last) → is_counted_at_once c.args.radix ≡ false
 by_turns c =
     let great = c.requires.great in
-    not_at_once c.args.radix (λ same. omega (arith, great, same)) (λ same. omega (arith, great, same)) (λ same. omega (arith, great, same)) (λ same. omega (arith, great, same)) c.if-radix-eq16.false c.if-radix-eq32.false
+    not_at_once c.args.radix (λ same. omega (arith, great, same)) (λ same. omega (arith, great, same))
+    (λ same. omega (arith, great, same)) (λ same. omega (arith, great, same)) c.if-radix-eq16.false c.if-radix-eq32.false
 
 short : (c : After-take_last) → c.args.value < c.args.radix ^ 4
 short c = omega (arith, c.requires.short, pow-le-pow_right {n = c.args.radix} (omega (arith, c.requires.great)) {i = 2} {j = 4} (omega arith))
@@ -32,16 +33,21 @@ pub returns-else-value-radix-clause-notes : goal.returns-else-value-radix-clause
 returns-else-value-radix-clause-notes c = none_noted c.args.radix c.args.value c.args.turns.now (at_once c.args.radix c.then-radix-eq16.either)
 
 pub overflow_add-result : goal.overflow_add-result
-overflow_add-result c = omega (arith, c.take_last.ensures.1.count, digit_count-le_bits c.args.radix c.args.value 32 c.requires.radix.at_least_two (omega arith) (omega (arith, c.ranges.value)))
+overflow_add-result c =
+    omega (
+      arith,
+      c.take_last.ensures.1.count,
+      digit_count-le_bits c.args.radix c.args.value 32 c.requires.radix.at_least_two (omega arith) (omega (arith, c.ranges.value)),
+    )
 
 pub returns-clause-count : goal.returns-clause-count
 returns-clause-count c =
     let two = c.requires.radix.at_least_two in
     let none : 1 + 0 + 0 + c.take_last.result ≡ 1 + c.take_last.result = omega arith in
-    rw none at (slow_count-is two (TakesDigits-none c.args.radix c.args.value 4 c.args.turns.now two takes_four (short c)) (TakesDigits-none c.args.radix c.args.value 2 c.args.turns.now two takes_two c.requires.short) c.take_last.ensures.1)
+    rw none at (slow_count-is two (TakesDigits-none two takes_four (short c)) (TakesDigits-none two takes_two c.requires.short) c.take_last.ensures.1)
 
 pub returns-clause-notes : goal.returns-clause-notes
 returns-clause-notes c =
     let two = c.requires.radix.at_least_two in
     slow_noted c.args.radix c.args.value _ _ (by_turns c)
-    (slow_notes-are two (TakesDigits-none c.args.radix c.args.value 4 c.args.turns.now two takes_four (short c)) (TakesDigits-none c.args.radix c.args.value 2 c.args.turns.now two takes_two c.requires.short) c.take_last.ensures.1)
+    (slow_notes-are two (TakesDigits-none two takes_four (short c)) (TakesDigits-none two takes_two c.requires.short) c.take_last.ensures.1)

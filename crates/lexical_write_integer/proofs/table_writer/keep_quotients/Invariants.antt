@@ -1,5 +1,5 @@
 use Rattle.std.proofs.Common.{◌≡◌, ℕ, ◌+◌, ◌*◌, ◌/◌, ◌^◌, ◌<◌, get_or}
-use Rattle.lexical_write_integer.proofs.Loops.{IsDivided}
+use Rattle.lexical_write_integer.proofs.Loops.Divisions.{IsDivided}
 use Rattle.lexical_write_integer.proofs.table_writer.keep_quotients.Given as goal
 
 abbrev pub invariant-loop-rest : goal.invariant-loop-rest

@@ -3,9 +3,9 @@ use Rattle.std.proofs.Math.Nat.{div-eq_of_lt}
 use Rattle.std.proofs.lemmas.Bool.{cases_lt}
 use Rattle.std.proofs.lemmas.Nat.{le-div}
 use Rattle.lexical_write_integer.specs.LoopTurns.{takes_one}
-use Rattle.lexical_write_integer.proofs.Heads.{TakesDigits-once}
-use Rattle.lexical_write_integer.proofs.Loops.{TakesDigits-none}
-use Rattle.lexical_write_integer.proofs.Values.{pow-one}
+use Rattle.lexical_write_integer.proofs.Loops.ShortNumbers.{TakesDigits-once}
+use Rattle.lexical_write_integer.proofs.Loops.Divisions.{TakesDigits-none}
+use Rattle.lexical_write_integer.proofs.Powers.{pow-one}
 use Rattle.lexical_write_integer.proofs.table_writer.take_last.Goals as goal
 
 pub returns-then-left-gt0 : goal.returns-then-left-gt0
@@ -15,7 +15,9 @@ returns-then-left-gt0 c =
       | inl less ↦ absurd (omega (arith, div-eq_of_lt less))
       | inr more ↦ more
     ] in
-    (c.args.number / c.args.radix, TakesDigits-once c.args.radix c.args.number 1 _ _ _ c.requires.radix.at_least_two takes_one (rw pow-one long) c.requires.short (ap (λ k. c.args.number / k) radix) (rw c.from.ensures at c.tick.ensures))
+    let quotient = ap (λ k. c.args.number / k) radix in
+    let notes = rw c.from.ensures at c.tick.ensures in
+    (c.args.number / c.args.radix, TakesDigits-once c.requires.radix.at_least_two takes_one (rw pow-one long) c.requires.short quotient notes)
 
 pub returns-else-left-gt0 : goal.returns-else-left-gt0
 returns-else-left-gt0 c =
@@ -23,4 +25,4 @@ returns-else-left-gt0 c =
       | inl less ↦ less
       | inr more ↦ absurd (omega (arith, le-div 1 c.args.number c.args.radix (omega (arith, c.requires.radix.at_least_two)) (omega arith)))
     ] in
-    (c.args.number, TakesDigits-none c.args.radix c.args.number 1 _ c.requires.radix.at_least_two takes_one (rw pow-one short))
+    (c.args.number, TakesDigits-none c.requires.radix.at_least_two takes_one (rw pow-one short))

@@ -1,15 +1,16 @@
 use Rattle.std.proofs.Common.{sym, ap, ◌/◌}
 use Rattle.lexical_write_integer.specs.LoopTurns.{takes_two}
-use Rattle.lexical_write_integer.proofs.Heads.{TakesDigits-once}
-use Rattle.lexical_write_integer.proofs.Loops.{TakesDigits-none}
-use Rattle.lexical_write_integer.proofs.RadixPowers.{pow-two}
+use Rattle.lexical_write_integer.proofs.Loops.ShortNumbers.{TakesDigits-once}
+use Rattle.lexical_write_integer.proofs.Loops.Divisions.{TakesDigits-none}
+use Rattle.lexical_write_integer.proofs.Powers.{pow-two}
 use Rattle.lexical_write_integer.proofs.table_writer.take_two.Goals as goal
 
 pub returns-then-number-square : goal.returns-then-number-square
 returns-then-number-square g c =
     let square = sym (pow-two g.row.R) in
-    TakesDigits-once g.row.R c.args.number 2 _ _ _ c.requires.radix.at_least_two takes_two (rw square at c.if-number-square.true) c.requires.short (ap (λ k. c.args.number / k) square) (rw c.from.ensures at c.tick.ensures)
+    TakesDigits-once c.requires.radix.at_least_two takes_two (rw square at c.if-number-square.true) c.requires.short
+    (ap (λ k. c.args.number / k) square) (rw c.from.ensures at c.tick.ensures)
 
 pub returns-else-number-square : goal.returns-else-number-square
 returns-else-number-square g c =
-    TakesDigits-none g.row.R c.args.number 2 _ c.requires.radix.at_least_two takes_two (rw (sym (pow-two g.row.R)) at c.if-number-square.false)
+    TakesDigits-none c.requires.radix.at_least_two takes_two (rw (sym (pow-two g.row.R)) at c.if-number-square.false)

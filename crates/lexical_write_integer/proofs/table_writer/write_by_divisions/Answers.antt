@@ -2,14 +2,14 @@ use Rattle.std.proofs.Common.{◌≡◌, ◌+◌, ◌*◌, ◌-◌, ◌<◌, ◌
 use Rattle.std.proofs.lemmas.List.{get_or-take}
 use Rattle.lexical_write_integer.specs.DigitCount.{digit_count}
 use Rattle.lexical_write_integer.proofs.DigitCounts.{digit_count-pos, digit_count-le_bits}
-use Rattle.lexical_write_integer.proofs.Heads.{few-fits, head-left, IsDigits-head, WritesDigits-cut}
-use Rattle.lexical_write_integer.proofs.Loops.{TakesDigits-counts}
-use Rattle.lexical_write_integer.proofs.LoopNotes.{loop_notes-are, slow_noted, slow_notes-are, table_notes-are}
-use Rattle.lexical_write_integer.proofs.RadixPowers.{pow-two}
+use Rattle.lexical_write_integer.proofs.Loops.ShortNumbers.{few-fits, head-left, IsDigits-head, WritesDigits-cut}
+use Rattle.lexical_write_integer.proofs.Loops.Divisions.{TakesDigits-counts}
+use Rattle.lexical_write_integer.proofs.Loops.Records.{loop_notes-are, slow_noted, slow_notes-are, table_notes-are}
+use Rattle.lexical_write_integer.proofs.Powers.{pow-two}
 use Rattle.lexical_write_integer.proofs.table_writer.write_by_divisions.Goals as goal
 use Rattle.lexical_write_integer.proofs.table_writer.write_by_divisions.Goals.{After-keep_quotients-left, After-take_last}
 
--- what the turns by four leave
+-- the quotient after the iterations that remove four digits
 short : (g : _) (c : After-keep_quotients-left g) → c.keep_quotients-left.result.0 < g.row.R ^ 4
 short g c =
     let two = c.args.table.now.is_radix.at_least_two in
@@ -18,9 +18,15 @@ short g c =
 
 head_is : (g : _) (c : After-take_last g) → 1 + c.take_two-short.result.1 + c.take_last.result ≡ digit_count g.row.R c.keep_quotients-left.result.0
 head_is g c =
-    omega (arith, c.take_last.ensures.1.count, TakesDigits-counts c.args.table.now.is_radix.at_least_two c.take_two-short.ensures, digit_count-pos g.row.R c.take_two-short.result.0)
+    omega (
+      arith,
+      c.take_last.ensures.1.count,
+      TakesDigits-counts c.args.table.now.is_radix.at_least_two c.take_two-short.ensures,
+      digit_count-pos g.row.R c.take_two-short.result.0,
+    )
 
-count_is : (g : _) (c : After-take_last g) → 4 * c.keep_quotients-left.result.1 + (1 + c.take_two-short.result.1 + c.take_last.result) ≡ digit_count g.row.R c.args.value
+count_is : (g : _) (c : After-take_last g)
+    → 4 * c.keep_quotients-left.result.1 + (1 + c.take_two-short.result.1 + c.take_last.result) ≡ digit_count g.row.R c.args.value
 count_is g c = omega (arith, head_is g c, TakesDigits-counts c.args.table.now.is_radix.at_least_two c.keep_quotients-left.ensures.taken)
 
 few : (g : _) (c : After-take_last g) → digit_count g.row.R c.args.value ≤ 64
@@ -31,7 +37,9 @@ take_two-short-requires-clause-short g c = short g (goal.at.take_two-short-requi
 
 pub take_last-requires-clause-short : goal.take_last-requires-clause-short
 take_last-requires-clause-short g c =
-    rw pow-two (head-left c.args.table.now.is_radix.at_least_two (short g (goal.at.take_last-requires-clause-short g c).After-keep_quotients-left) c.take_two-short.ensures)
+    rw pow-two
+    (head-left c.args.table.now.is_radix.at_least_two
+    (short g (goal.at.take_last-requires-clause-short g c).After-keep_quotients-left) c.take_two-short.ensures)
 
 pub overflow_add-head-2 : goal.overflow_add-head-2
 overflow_add-head-2 g c =
@@ -46,13 +54,21 @@ overflow_add-count g c =
 pub slice_bounds-digits-end : goal.slice_bounds-digits-end
 slice_bounds-digits-end g c = omega (arith, count_is g (goal.at.slice_bounds-digits-end g c).After-take_last, c.requires.room)
 
-room_is : (g : _) (c : After-take_last g) → length (take (4 * c.keep_quotients-left.result.1 + (1 + c.take_two-short.result.1 + c.take_last.result)) c.args.buffer.now) ≡ 4 * c.keep_quotients-left.result.1 + (1 + c.take_two-short.result.1 + c.take_last.result)
+room_is : (g : _) (c : After-take_last g)
+    → length (take (4 * c.keep_quotients-left.result.1 + (1 + c.take_two-short.result.1 + c.take_last.result)) c.args.buffer.now)
+    ≡ 4 * c.keep_quotients-left.result.1 + (1 + c.take_two-short.result.1 + c.take_last.result)
 room_is g c =
-    omega (arith, count_is g c, c.requires.room, length-take (4 * c.keep_quotients-left.result.1 + (1 + c.take_two-short.result.1 + c.take_last.result)) c.args.buffer.now)
+    let count = 4 * c.keep_quotients-left.result.1 + (1 + c.take_two-short.result.1 + c.take_last.result) in
+    omega (arith, count_is g c, c.requires.room, length-take count c.args.buffer.now)
 
 fours_are : (g : _) (c : After-take_last g) → length (take c.keep_quotients-left.result.1 c.keep_quotients-left.new.kept) ≡ c.keep_quotients-left.result.1
 fours_are g c =
-    omega (arith, c.keep_quotients-left.ensures.within, c.keep_quotients-left.auto.kept, length-take c.keep_quotients-left.result.1 c.keep_quotients-left.new.kept)
+    omega (
+      arith,
+      c.keep_quotients-left.ensures.within,
+      c.keep_quotients-left.auto.kept,
+      length-take c.keep_quotients-left.result.1 c.keep_quotients-left.new.kept,
+    )
 
 pub slice_bounds-digits-end-2 : goal.slice_bounds-digits-end-2
 slice_bounds-digits-end-2 g c = sym (room_is g (goal.at.slice_bounds-digits-end-2 g c).After-take_last)
@@ -61,8 +77,19 @@ pub write_kept-requires : goal.write_kept-requires
 write_kept-requires g c =
     let c' = (goal.at.write_kept-requires g c).After-take_last in
     let kept = c.keep_quotients-left.ensures in
-    let few_kept = fours_are g c' in
-    (lit< tt, (omega (arith, few_kept, kept.taken.count), (λ k h. let less : k < c.keep_quotients-left.result.1 = omega (arith, few_kept, h) in get_or-take c.keep_quotients-left.result.1 c.keep_quotients-left.new.kept k 0 less ∙ kept.kept k less, room_is g c' ∙ count_is g c')))
+    let fours = c.keep_quotients-left.result.1 in
+    let few_kept = fours_are g c' in (
+      lit< tt,
+      (
+        omega (arith, few_kept, kept.taken.count),
+        (
+          λ k h.
+              let less : k < fours = omega (arith, few_kept, h) in
+              get_or-take fours c.keep_quotients-left.new.kept k 0 less ∙ kept.kept k less,
+          room_is g c' ∙ count_is g c',
+        ),
+      ),
+    )
 
 pub write_head-requires : goal.write_head-requires
 write_head-requires g c =
@@ -80,8 +107,8 @@ returns-clause-digits g c =
     let place : length front - 4 * c.keep_quotients-left.result.1 ≡ head = omega (arith, room_is g c') in
     let taken = rw (fours_are g c', ← c.keep_quotients-left.ensures.taken.rest) at c.write_kept.ensures.taken in
     let written = rw (fours_are g c', place) at c.write_kept.ensures.written in
-    WritesDigits-cut g.row.R c.args.value count c.args.buffer.now c.write_head.new.buffer two (count_is g c') (omega (arith, count_is g c', c.requires.room))
-    (IsDigits-head head front c.write_kept.new.buffer c.write_head.new.buffer two (room_is g c' ∙ count_is g c') taken (head_is g c') written c.write_head.ensures.written)
+    WritesDigits-cut two (count_is g c') (omega (arith, count_is g c', c.requires.room))
+    (IsDigits-head two (room_is g c' ∙ count_is g c') taken (head_is g c') written c.write_head.ensures.written)
 
 pub returns-clause-notes : goal.returns-clause-notes
 returns-clause-notes g c =
@@ -89,4 +116,5 @@ returns-clause-notes g c =
     let two = c.args.table.now.is_radix.at_least_two in
     let taken = rw (fours_are g c', ← c.keep_quotients-left.ensures.taken.rest) at c.write_kept.ensures.taken in
     let counted = slow_notes-are two c.keep_quotients-left.ensures.taken c.take_two-short.ensures c.take_last.ensures.1 in
-    table_notes-are g.row.R c.args.value c.args.turns.now c.take_last.new.turns _ (slow_noted g.row.R c.args.value _ _ c.requires.by_turns counted) (loop_notes-are two taken c.write_head.ensures.taken.2)
+    table_notes-are g.row.R c.args.value c.args.turns.now c.take_last.new.turns _
+    (slow_noted g.row.R c.args.value _ _ c.requires.by_turns counted) (loop_notes-are two taken c.write_head.ensures.taken.2)

@@ -1,13 +1,14 @@
 use Rattle.std.proofs.Common.{◌≡◌, ◌+◌, ◌-◌, ◌/◌, ◌<◌, ◌^◌, ◌++◌, refl, sym, ap, subst, ◌∙◌, lit<, arith}
 use Rattle.lexical_write_integer.specs.DigitCount.{digit_count}
 use Rattle.lexical_write_integer.specs.LoopTurns.{count_notes, takes_four}
-use Rattle.lexical_write_integer.proofs.Blocks.{IsWrittenBack, IsWrittenBack-start, IsWrittenBack-more, IsWrittenBack-last}
-use Rattle.lexical_write_integer.proofs.BlocksAfter.{WritesDigits-block}
+use Rattle.lexical_write_integer.proofs.Buffers.Blocks.{IsWrittenBack, IsWrittenBack-start, IsWrittenBack-at, IsWrittenBack-more, IsWrittenBack-last}
+use Rattle.lexical_write_integer.proofs.Buffers.BlocksAfter.{WritesDigits-block}
 use Rattle.lexical_write_integer.proofs.DigitCounts.{digit_count-left}
-use Rattle.lexical_write_integer.proofs.Heads.{few-fits, more-long}
-use Rattle.lexical_write_integer.proofs.Loops.{IsDivided-start, IsDivided-more, TakesDigits-end}
-use Rattle.lexical_write_integer.proofs.LoopNotes.{loop_notes-are, table_notes-are}
-use Rattle.lexical_write_integer.proofs.RadixPowers.{power-small, pow-four}
+use Rattle.lexical_write_integer.proofs.Loops.ShortNumbers.{few-fits, more-long}
+use Rattle.lexical_write_integer.proofs.Loops.Divisions.{IsDivided-start, IsDivided-more, TakesDigits-end}
+use Rattle.lexical_write_integer.proofs.Loops.Records.{loop_notes-are, table_notes-are}
+use Rattle.lexical_write_integer.proofs.RadixPowers.{power-small}
+use Rattle.lexical_write_integer.proofs.Powers.{pow-four}
 use Rattle.lexical_write_integer.proofs.table_writer.write_counted.Goals as goal
 use Rattle.lexical_write_integer.proofs.table_writer.write_counted.Goals.{In-loop-at, After-loop-at}
 
@@ -16,15 +17,20 @@ loop-at-init g c =
     let count = c.digit_count_counted-count.result in
     let none : count - count ≡ 0 = omega arith in
     record {
-      divided = rw (none, c.digit_count_counted-count.ensures.notes) (IsDivided-start g.row.R c.args.value 4 (c.args.turns.now ++ count_notes g.row.R c.args.value));
-      written = rw none (IsWrittenBack-start g.row.R c.args.value count c.args.buffer.now);
+      divided = rw (none, c.digit_count_counted-count.ensures.notes) IsDivided-start;
+      written = rw none IsWrittenBack-start;
       within = omega arith;
       room = refl;
     }
 
 pub write_turn-requires : goal.write_turn-requires
-write_turn-requires g c =
-    (lit< tt, (ap (λ k. c.loop-at.left / k) (c.from-power.ensures ∙ sym (pow-four g.row.R)), omega (arith, c.requires.room, c.digit_count_counted-count.ensures.count, c.loop-at.invariant.within, c.loop-at.invariant.room, c.loop-at-test.true)))
+write_turn-requires g c = (
+  lit< tt,
+  (
+    ap (λ k. c.loop-at.left / k) (c.from-power.ensures ∙ sym (pow-four g.row.R)),
+    omega (arith, c.requires.room, c.digit_count_counted-count.ensures.count, c.loop-at.invariant, c.loop-at-test.true),
+  ),
+)
 
 pub loop-at-preserved : goal.loop-at-preserved
 loop-at-preserved g c =
@@ -33,24 +39,27 @@ loop-at-preserved g c =
     let taken = count - c.loop-at.at in
     let divided = c.loop-at.invariant.divided in
     let counts = digit_count-left g.row.R c.args.value taken c.loop-at.left two divided.fewer divided.rest in
-    let long = more-long g.row.R c.loop-at.left (omega (arith, counts, c.digit_count_counted-count.ensures.count, c.loop-at-test.true, c.loop-at.invariant.within)) in
+    let long =
+    more-long g.row.R c.loop-at.left (omega (arith, counts, c.digit_count_counted-count.ensures.count, c.loop-at-test.true, c.loop-at.invariant.within)) in
     let next = ap (λ k. c.loop-at.left / k) (c.from-power.ensures ∙ sym (pow-four g.row.R)) in
     let turn : taken + 4 ≡ count - (c.loop-at.at - 4) = omega (arith, c.loop-at-test.true, c.loop-at.invariant.within) in
     let order : 4 + taken ≡ count - (c.loop-at.at - 4) = omega (arith, c.loop-at-test.true, c.loop-at.invariant.within) in
     let place : c.loop-at.at ≡ c.loop-at.at - 4 + 4 = omega (arith, c.loop-at-test.true) in
     record {
-      divided = rw turn at (IsDivided-more g.row.R c.args.value 4 taken _ _ _ _ _ two divided long next c.write_turn.ensures.notes);
-      written = rw order at (IsWrittenBack-more g.row.R c.args.value taken c.loop-at.left 4 (c.loop-at.left / c.from-power.result) (c.loop-at.at - 4) c.args.buffer.now c.loop-at.buffer c.write_turn.new.buffer two long next
-          (subst (λ k. IsWrittenBack g.row.R c.args.value taken c.loop-at.left k c.args.buffer.now c.loop-at.buffer) place c.loop-at.invariant.written) c.write_turn.ensures.written);
+      divided = rw turn at (IsDivided-more two divided long next c.write_turn.ensures.notes);
+      written = rw order at (IsWrittenBack-more two long next (IsWrittenBack-at place c.loop-at.invariant.written) c.write_turn.ensures.written);
       within = omega (arith, c.loop-at.invariant.within);
       room = c.write_turn.auto.buffer ∙ c.loop-at.invariant.room;
     }
 
--- how many digits are left, which is few
+-- the remaining digits, at most four
 count_left : (g : _) (c : After-loop-at g) → c.loop-at.at ≡ digit_count g.row.R c.loop-at.left
 count_left g c =
+    let two = c.args.table.now.is_radix.at_least_two in
     let divided = c.loop-at.invariant.divided in
-    omega (arith, c.digit_count_counted-count.ensures.count, c.loop-at.invariant.within, digit_count-left g.row.R c.args.value (c.digit_count_counted-count.result - c.loop-at.at) c.loop-at.left c.args.table.now.is_radix.at_least_two divided.fewer divided.rest)
+    let taken = c.digit_count_counted-count.result - c.loop-at.at in
+    let counts = digit_count-left g.row.R c.args.value taken c.loop-at.left two divided.fewer divided.rest in
+    omega (arith, c.digit_count_counted-count.ensures.count, c.loop-at.invariant.within, counts)
 
 short : (g : _) (c : After-loop-at g) → c.loop-at.left < g.row.R ^ 4
 short g c = few-fits g.row.R c.loop-at.left c.args.table.now.is_radix.at_least_two (omega (arith, count_left g c))
@@ -61,8 +70,16 @@ overflow_cast-left g c =
 
 pub write_head-requires : goal.write_head-requires
 write_head-requires g c =
-    let c' = (goal.at.write_head-requires g c).After-loop-at in
-    (lit< tt, (short g c', (count_left g c', omega (arith, c.requires.room, c.digit_count_counted-count.ensures.count, c.loop-at.invariant.within, c.loop-at.invariant.room))))
+    let c' = (goal.at.write_head-requires g c).After-loop-at in (
+      lit< tt,
+      (
+        short g c',
+        (
+          count_left g c',
+          omega (arith, c.requires.room, c.digit_count_counted-count.ensures.count, c.loop-at.invariant),
+        ),
+      ),
+    )
 
 pub returns-clause-digits : goal.returns-clause-digits
 returns-clause-digits g c =
@@ -70,12 +87,12 @@ returns-clause-digits g c =
     let is = c.digit_count_counted-count.ensures.count in
     let whole : c.loop-at.at + (count - c.loop-at.at) ≡ count = omega (arith, c.loop-at.invariant.within) in
     let place : c.loop-at.at ≡ 0 + c.loop-at.at = omega arith in
-    let written = subst (λ k. IsWrittenBack g.row.R c.args.value (count - c.loop-at.at) c.loop-at.left k c.args.buffer.now c.loop-at.buffer) place c.loop-at.invariant.written in
-    let block = IsWrittenBack-last g.row.R c.args.value (count - c.loop-at.at) c.loop-at.left c.loop-at.at 0 c.args.buffer.now c.loop-at.buffer c.write_head.new.buffer written c.write_head.ensures.written in
-    WritesDigits-block g.row.R c.args.value count c.args.buffer.now c.write_head.new.buffer c.args.table.now.is_radix.at_least_two (sym is) (omega (arith, is, c.requires.room)) (rw whole at block)
+    let block = IsWrittenBack-last (IsWrittenBack-at place c.loop-at.invariant.written) c.write_head.ensures.written in
+    WritesDigits-block c.args.table.now.is_radix.at_least_two (sym is) (omega (arith, is, c.requires.room)) (rw whole at block)
 
 pub returns-clause-notes : goal.returns-clause-notes
 returns-clause-notes g c =
     let two = c.args.table.now.is_radix.at_least_two in
-    let taken = TakesDigits-end g.row.R c.args.value 4 _ _ _ _ two takes_four c.loop-at.invariant.divided (short g (goal.at.returns-clause-notes g c).After-loop-at) in
-    table_notes-are g.row.R c.args.value c.args.turns.now (c.args.turns.now ++ count_notes g.row.R c.args.value) _ refl (loop_notes-are two taken c.write_head.ensures.taken.2)
+    let taken = TakesDigits-end two takes_four c.loop-at.invariant.divided (short g (goal.at.returns-clause-notes g c).After-loop-at) in
+    table_notes-are g.row.R c.args.value c.args.turns.now (c.args.turns.now ++ count_notes g.row.R c.args.value) _ refl
+    (loop_notes-are two taken c.write_head.ensures.taken.2)

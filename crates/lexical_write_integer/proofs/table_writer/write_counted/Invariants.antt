@@ -1,7 +1,7 @@
 use Rattle.std.proofs.Common.{◌≡◌, ◌-◌, ◌≤◌, ◌++◌, length}
 use Rattle.lexical_write_integer.specs.LoopTurns.{count_notes}
-use Rattle.lexical_write_integer.proofs.Blocks.{IsWrittenBack}
-use Rattle.lexical_write_integer.proofs.Loops.{IsDivided}
+use Rattle.lexical_write_integer.proofs.Buffers.Blocks.{IsWrittenBack}
+use Rattle.lexical_write_integer.proofs.Loops.Divisions.{IsDivided}
 use Rattle.lexical_write_integer.proofs.table_writer.write_counted.Given as goal
 
 abbrev pub invariant-loop-at : goal.invariant-loop-at

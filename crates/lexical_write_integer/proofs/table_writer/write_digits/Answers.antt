@@ -1,8 +1,8 @@
 use Rattle.std.proofs.Common.{◌≡◌, false, ◌<◌, ◌≤◌, ◌^◌, lit<, arith}
 use Rattle.std.proofs.Math.Nat.{pow-le-pow_left}
 use Rattle.lexical_write_integer.specs.LoopTurns.{is_counted_at_once}
-use Rattle.lexical_write_integer.proofs.LoopNotes.{not_at_once}
-use Rattle.lexical_write_integer.proofs.RadixPowers.{pow-eight}
+use Rattle.lexical_write_integer.proofs.Loops.Records.{not_at_once}
+use Rattle.lexical_write_integer.proofs.Powers.{pow-eight}
 use Rattle.lexical_write_integer.proofs.table_writer.write_digits.Goals as goal
 use Rattle.lexical_write_integer.proofs.table_writer.write_digits.Goals.{After-from-square}
 
@@ -19,7 +19,7 @@ write_by_divisions-requires-then-this-gt16 g c =
     let wide : c.args.value < g.row.R ^ 16 = omega (arith, pow-le-pow_left {n = 17} {m = g.row.R} (omega (arith, c.if-this-gt16.true)) 16, c.ranges.value) in
     (lit< tt, (by_turns g (goal.at.write_by_divisions-requires-then-this-gt16 g c).After-from-square, (omega arith, (wide, c.requires.room))))
 
--- the least such radix is 3
+-- the smallest such radix is 3
 pub write_by_divisions-requires-else-this-gt16 : goal.write_by_divisions-requires-else-this-gt16
 write_by_divisions-requires-else-this-gt16 g c =
     let three : 3 ≤ g.row.R = omega (arith, c.requires.radix, c.if-this-eq2.false) in

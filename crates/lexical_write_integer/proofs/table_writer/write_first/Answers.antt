@@ -2,12 +2,11 @@ use Rattle.std.proofs.Common.{◌≡◌, ◌+◌, ◌-◌, ◌*◌, ◌/◌, ◌
 use Rattle.std.proofs.Math.Nat.{mod-eq_of_lt}
 use Rattle.std.proofs.lemmas.List.{drop-set-lt}
 use Rattle.lexical_num.specs.Digit.{digit_char}
-use Rattle.lexical_write_integer.proofs.Blocks.{WritesBlock-one}
+use Rattle.lexical_write_integer.proofs.Buffers.Blocks.{WritesBlock-one}
 use Rattle.lexical_write_integer.proofs.DigitCounts.{digit_count-one, digit_count-le, digit_count-pos, digit_count-more}
-use Rattle.lexical_write_integer.proofs.Heads.{WritesBlock-over}
-use Rattle.lexical_write_integer.proofs.RadixPowers.{pow-two}
-use Rattle.lexical_write_integer.proofs.TablePairs.{length-table, pair_second, WritesBlock-pair}
-use Rattle.lexical_write_integer.proofs.Values.{pow-one}
+use Rattle.lexical_write_integer.proofs.Loops.ShortNumbers.{WritesBlock-over}
+use Rattle.lexical_write_integer.proofs.Powers.{pow-two, pow-one}
+use Rattle.lexical_write_integer.proofs.Buffers.TablePairs.{length-table, pair_second, WritesBlock-pair}
 use Rattle.lexical_write_integer.proofs.table_writer.write_first.Goals as goal
 use Rattle.lexical_write_integer.proofs.table_writer.write_first.Goals.{then-number-radix, else-number-radix}
 
@@ -41,9 +40,11 @@ returns c =
           let less : n < r = w.if-number-radix.true in
           let one : c.args.digits ≡ 1 = c.requires.digits ∙ digit_count-one r n two less in
           let last : c.args.digits - 1 ≡ 0 = omega arith in
-          let char : get_or table (2 * n + 1) 0 ≡ digit_char n = pair_second r (2 * n) table c.requires.table (omega arith) within ∙ ap digit_char (ap (λ k. k % r) place ∙ mod-eq_of_lt less) in
+          let char : get_or table (2 * n + 1) 0 ≡ digit_char n =
+          pair_second r (2 * n) table c.requires.table (omega arith) within ∙ ap digit_char (ap (λ k. k % r) place ∙ mod-eq_of_lt less) in
           rw (w.front-is, last, one, char)
-          (WritesBlock-over r 1 n list (set list 0 (digit_char n)) _ (drop-set-lt 1 list 0 (digit_char n) (omega arith)) (WritesBlock-one r n 0 (set list 0 (digit_char n)) less (omega (arith, length-set list 0 (digit_char n)))))
+          (WritesBlock-over (drop-set-lt 1 list 0 (digit_char n) (omega arith))
+          (WritesBlock-one r n 0 (set list 0 (digit_char n)) less (omega (arith, length-set list 0 (digit_char n)))))
       | else-number-radix w ↦
           let more : r ≤ n = w.if-number-radix.false in
           let few = digit_count-le r n 2 (omega arith) (rw pow-two c.requires.short) in

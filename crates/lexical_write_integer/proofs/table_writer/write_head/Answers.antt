@@ -4,10 +4,11 @@ use Rattle.std.proofs.lemmas.List.{drop-set-lt}
 use Rattle.lexical_write_integer.specs.Buffer.{WritesBlock}
 use Rattle.lexical_write_integer.specs.LoopTurns.{takes_two}
 use Rattle.lexical_write_integer.proofs.DigitCounts.{digit_count-pos}
-use Rattle.lexical_write_integer.proofs.Heads.{head-left, WritesBlock-head}
-use Rattle.lexical_write_integer.proofs.Loops.{TakesDigits-counts}
-use Rattle.lexical_write_integer.proofs.RadixPowers.{pow-two, power-gt_one}
-use Rattle.lexical_write_integer.proofs.TablePairs.{length-table, WritesBlock-pair, half}
+use Rattle.lexical_write_integer.proofs.Loops.ShortNumbers.{head-left, WritesBlock-head}
+use Rattle.lexical_write_integer.proofs.Loops.Divisions.{TakesDigits-counts}
+use Rattle.lexical_write_integer.proofs.Powers.{pow-two}
+use Rattle.lexical_write_integer.proofs.RadixPowers.{power-gt_one}
+use Rattle.lexical_write_integer.proofs.Buffers.TablePairs.{length-table, WritesBlock-pair, half}
 use Rattle.lexical_write_integer.proofs.table_writer.write_head.Goals as goal
 use Rattle.lexical_write_integer.proofs.table_writer.write_head.Goals.{After-take_two-left}
 
@@ -36,7 +37,13 @@ bounds-buffer-digits g c = omega (arith, some g (goal.at.bounds-buffer-digits g 
 
 pub bounds-buffer-saturating_sub : goal.bounds-buffer-saturating_sub
 bounds-buffer-saturating_sub g c =
-    omega (arith, some g (goal.at.bounds-buffer-saturating_sub g c).After-take_two-left, c.requires.room, c.saturating_sub.ensures, length-set c.args.buffer.now (c.args.digits - 1))
+    omega (
+      arith,
+      some g (goal.at.bounds-buffer-saturating_sub g c).After-take_two-left,
+      c.requires.room,
+      c.saturating_sub.ensures,
+      length-set c.args.buffer.now (c.args.digits - 1),
+    )
 
 pub write_first-requires-clause-short : goal.write_first-requires-clause-short
 write_first-requires-clause-short g c = head-left c.args.table.now.is_radix.at_least_two c.requires.short c.take_two-left.ensures
@@ -57,8 +64,10 @@ returns-clause-written g c =
     let pair : 2 ≤ digits → WritesBlock g.row.R 2 k (digits - 2) list between = λ long.
     let last : digits - 1 ≡ digits - 2 + 1 = omega arith in
     let first : c.saturating_sub.result ≡ digits - 2 = omega (arith, c.saturating_sub.ensures) in
-    rw (last, first)
-    (rw half at (WritesBlock-pair g.row.R (2 * k) (digits - 2) pairs list (omega (arith, c.args.table.now.is_radix)) c.args.table.now.begins (omega arith) (rw half (pair_is g c')) (omega (arith, c.requires.room)))) in
+    let positive : 0 < g.row.R = omega (arith, c.args.table.now.is_radix) in
+    rw (last, first) (rw half at (WritesBlock-pair g.row.R (2 * k) (digits - 2) pairs list
+    positive c.args.table.now.begins (omega arith) (rw half (pair_is g c')) (omega (arith, c.requires.room)))) in
     let following : drop digits between ≡ drop digits list =
-    drop-set-lt digits last_written c.saturating_sub.result (get_or pairs (2 * k) 0) (omega (arith, least, c.saturating_sub.ensures)) ∙ drop-set-lt digits list (digits - 1) (get_or pairs (2 * k + 1) 0) (omega (arith, least)) in
-    WritesBlock-head digits list between c.write_first.new.buffer c.args.table.now.is_radix.at_least_two c.requires.short c.requires.digits c.take_two-left.ensures pair following c.write_first.ensures
+    drop-set-lt digits last_written c.saturating_sub.result (get_or pairs (2 * k) 0) (omega (arith, least, c.saturating_sub.ensures))
+    ∙ drop-set-lt digits list (digits - 1) (get_or pairs (2 * k + 1) 0) (omega (arith, least)) in
+    WritesBlock-head c.args.table.now.is_radix.at_least_two c.requires.short c.requires.digits c.take_two-left.ensures pair following c.write_first.ensures

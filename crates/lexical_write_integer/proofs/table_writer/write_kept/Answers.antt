@@ -1,9 +1,10 @@
 use Rattle.std.proofs.Common.{◌≡◌, ◌+◌, ◌-◌, ◌*◌, ◌/◌, ◌^◌, ◌<◌, ◌≤◌, get_or, refl, sym, ap, ◌∙◌, inl, inr, lit<, arith}
 use Rattle.std.proofs.lemmas.Bool.{cases_lt}
 use Rattle.lexical_write_integer.specs.DigitCount.{digit_count}
-use Rattle.lexical_write_integer.proofs.Blocks.{IsWrittenBack-start, IsWrittenBack-more}
-use Rattle.lexical_write_integer.proofs.DigitCounts.{digit_count-le, digit_count-left, div-pow_more}
-use Rattle.lexical_write_integer.proofs.Loops.{IsDivided-start, IsDivided-more}
+use Rattle.lexical_write_integer.proofs.Buffers.Blocks.{IsWrittenBack-start, IsWrittenBack-more}
+use Rattle.lexical_write_integer.proofs.DigitCounts.{digit_count-le, digit_count-left}
+use Rattle.lexical_write_integer.proofs.Powers.{div-pow_more}
+use Rattle.lexical_write_integer.proofs.Loops.Divisions.{IsDivided-start, IsDivided-more}
 use Rattle.lexical_write_integer.proofs.table_writer.write_kept.Goals as goal
 use Rattle.lexical_write_integer.proofs.table_writer.write_kept.Goals.{In-loop-next}
 
@@ -15,7 +16,10 @@ long g c =
     let divided = c.loop-next.invariant.divided in
     let two = c.args.table.now.is_radix.at_least_two in
     elim (cases_lt c.loop-next.left (g.row.R ^ 4)) [
-      | inl less ↦ absurd (omega (arith, within g c, digit_count-le g.row.R c.loop-next.left 4 (omega arith) less, digit_count-left g.row.R c.args.value (4 * c.loop-next.next-index) c.loop-next.left two divided.fewer divided.rest))
+      | inl less ↦
+          let few = digit_count-le g.row.R c.loop-next.left 4 (omega arith) less in
+          let counts = digit_count-left g.row.R c.args.value (4 * c.loop-next.next-index) c.loop-next.left two divided.fewer divided.rest in
+          absurd (omega (arith, within g c, few, counts))
       | inr more ↦ more
     ]
 
@@ -23,10 +27,13 @@ next_is : (g : _) (c : In-loop-next g) → get_or c.args.kept.now c.loop-next.ne
 next_is g c =
     let i = c.loop-next.next-index in
     let order : 4 * (i + 1) ≡ 4 + 4 * i = omega arith in
-    c.requires.kept i c.loop-next-test.true ∙ ap (λ k. c.args.value / g.row.R ^ k) order ∙ sym (div-pow_more g.row.R c.args.value 4 (4 * i)) ∙ ap (λ k. k / g.row.R ^ 4) (sym c.loop-next.invariant.divided.rest)
+    c.requires.kept i c.loop-next-test.true
+    ∙ ap (λ k. c.args.value / g.row.R ^ k) order
+    ∙ sym (div-pow_more g.row.R c.args.value 4 (4 * i))
+    ∙ ap (λ k. k / g.row.R ^ 4) (sym c.loop-next.invariant.divided.rest)
 
 pub loop-next-init : goal.loop-next-init
-loop-next-init g c = record { divided = IsDivided-start _ _ _ _; written = IsWrittenBack-start _ _ _ _; place = omega arith; room = refl }
+loop-next-init g c = record { divided = IsDivided-start; written = IsWrittenBack-start; place = omega arith; room = refl }
 
 pub write_turn-requires : goal.write_turn-requires
 write_turn-requires g c =
@@ -42,8 +49,8 @@ loop-next-preserved g c =
     let order : 4 + 4 * i ≡ 4 * (i + 1) = omega arith in
     let place : c.loop-next.at ≡ c.loop-next.at - 4 + 4 = omega (arith, c.requires.room, c.loop-next.invariant.place, within g c') in
     record {
-      divided = rw turn at (IsDivided-more g.row.R c.args.value 4 (4 * i) _ _ _ _ _ two c.loop-next.invariant.divided (long g c') (next_is g c') c.write_turn.ensures.notes);
-      written = rw order at (IsWrittenBack-more g.row.R c.args.value (4 * i) _ 4 _ _ _ _ _ two (long g c') (next_is g c') (rw place at c.loop-next.invariant.written) c.write_turn.ensures.written);
+      divided = rw turn at (IsDivided-more two c.loop-next.invariant.divided (long g c') (next_is g c') c.write_turn.ensures.notes);
+      written = rw order at (IsWrittenBack-more two (long g c') (next_is g c') (rw place at c.loop-next.invariant.written) c.write_turn.ensures.written);
       place = omega (arith, c.loop-next.invariant.place);
       room = c.write_turn.auto.buffer ∙ c.loop-next.invariant.room;
     }

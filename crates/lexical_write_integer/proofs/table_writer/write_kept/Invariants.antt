@@ -1,6 +1,6 @@
 use Rattle.std.proofs.Common.{◌≡◌, ◌-◌, ◌*◌, length}
-use Rattle.lexical_write_integer.proofs.Blocks.{IsWrittenBack}
-use Rattle.lexical_write_integer.proofs.Loops.{IsDivided}
+use Rattle.lexical_write_integer.proofs.Buffers.Blocks.{IsWrittenBack}
+use Rattle.lexical_write_integer.proofs.Loops.Divisions.{IsDivided}
 use Rattle.lexical_write_integer.proofs.table_writer.write_kept.Given as goal
 
 abbrev pub invariant-loop-next : goal.invariant-loop-next

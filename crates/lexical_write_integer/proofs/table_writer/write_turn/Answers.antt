@@ -2,8 +2,9 @@ use Rattle.std.proofs.Common.{◌≡◌, ◌+◌, ◌*◌, ◌-◌, ◌%◌, ◌
 use Rattle.std.proofs.Math.Nat.{mod-lt, div-add-mod'}
 use Rattle.std.proofs.lemmas.Nat.{div_below}
 use Rattle.lexical_write_integer.specs.LoopTurns.{takes_two, takes_four}
-use Rattle.lexical_write_integer.proofs.RadixPowers.{power-small, power-gt_one, pow-two, pow-four}
-use Rattle.lexical_write_integer.proofs.TablePairs.{half, WritesBlock-pairs}
+use Rattle.lexical_write_integer.proofs.RadixPowers.{power-small, power-gt_one}
+use Rattle.lexical_write_integer.proofs.Powers.{pow-two, pow-four}
+use Rattle.lexical_write_integer.proofs.Buffers.TablePairs.{half, WritesBlock-pairs}
 use Rattle.lexical_write_integer.proofs.table_writer.write_turn.Goals as goal
 use Rattle.lexical_write_integer.proofs.table_writer.write_turn.Goals.{After-from}
 
@@ -25,7 +26,8 @@ small g c =
     omega (arith, parts g c, mod-lt c.args.number some)
 
 pub overflow_cast-digits : goal.overflow_cast-digits
-overflow_cast-digits g c = omega (arith, small g (goal.at.overflow_cast-digits g c).After-from, power-small g.row.R 4 c.args.table.now.is_radix.at_most_36 takes_four)
+overflow_cast-digits g c =
+    omega (arith, small g (goal.at.overflow_cast-digits g c).After-from, power-small g.row.R 4 c.args.table.now.is_radix.at_most_36 takes_four)
 
 pub write_pair-requires : goal.write_pair-requires
 write_pair-requires g c =
@@ -37,11 +39,20 @@ pub write_pair-requires-2 : goal.write_pair-requires-2
 write_pair-requires-2 g c =
     let square = g.row.R * g.row.R in
     let some : 0 < square = omega (arith, pow-two g.row.R, power-gt_one g.row.R 2 c.args.table.now.is_radix.at_least_two takes_two) in
-    let number : c.args.number - c.args.left * c.from.result < square * square = rw pow-four at (small g (goal.at.write_pair-requires-2 g c).After-from) in
-    (lit< tt, (omega arith, (rw half (div_below (c.args.number - c.args.left * c.from.result) square square some number), omega (arith, c.requires.room, c.write_pair.auto.buffer))))
+    let number = c.args.number - c.args.left * c.from.result in
+    let below : number < square * square = rw pow-four at (small g (goal.at.write_pair-requires-2 g c).After-from) in (
+      lit< tt,
+      (
+        omega arith,
+        (
+          rw half (div_below number square square some below),
+          omega (arith, c.requires.room, c.write_pair.auto.buffer),
+        ),
+      ),
+    )
 
 pub returns-clause-written : goal.returns-clause-written
 returns-clause-written g c =
     let c' = (goal.at.returns-clause-written g c).After-from in
     let digits : c.args.number - c.args.left * c.from.result ≡ c.args.number % g.row.R ^ 4 = omega (arith, parts g c') in
-    rw digits at (WritesBlock-pairs g.row.R (c.args.number - c.args.left * c.from.result) (g.row.R * g.row.R) c.args.at _ _ _ refl c.write_pair.ensures c.write_pair-2.ensures)
+    rw digits at (WritesBlock-pairs g.row.R (c.args.number - c.args.left * c.from.result) (g.row.R * g.row.R) refl c.write_pair.ensures c.write_pair-2.ensures)

@@ -8,4 +8,8 @@ returns-then-radix-eq10-clause-short g c =
 
 pub returns-else-radix-eq10-clause-short : goal.returns-else-radix-eq10-clause-short
 returns-else-radix-eq10-clause-short g c =
-    omega (arith, c.radix.ensures.digits.count, digit_count-le_width _ _ _ c.requires.radix.at_least_two g.met.T.UnsignedInteger.range.width c.fits_bits.ensures)
+    omega (
+      arith,
+      c.radix.ensures.digits.count,
+      digit_count-le_width _ _ _ c.requires.radix.at_least_two g.met.T.UnsignedInteger.range.width c.fits_bits.ensures,
+    )

@@ -25,14 +25,14 @@ use contract.BorrowLft.{◌⊑◌}
 use contract.Monad.{Fun, fact, fact_i}
 use contract.Running.{tables, tables_of}
 use sound.WpLaws.{WpFn-mono, fm_of}
-use Rattle.lexical_write_integer.proofs.Relending.{lent_again, lends_again, came_back, comes_back}
-use Rattle.lexical_write_integer.proofs.HandedFronts.{Fronts, called, asks, gave, gives}
-use Rattle.lexical_write_integer.proofs.Lengths.{Writes-short}
+use Rattle.lexical_write_integer.proofs.Reborrows.{lent_again, lends_again, came_back, comes_back}
+use Rattle.lexical_write_integer.proofs.HandedFronts.{Fronts, calls_front}
+use Rattle.lexical_write_integer.proofs.Buffers.Prefixes.{Writes-short}
 use denote.Builtin.{u8, usize}
 use denote.Exit.{no}
 use denote.Param.{bounded, layout, layouts, copied}
 use denote.Laws.{Typed}
-use denote.Param.Laws.{Laws, IsCopy, copied_laws}
+use denote.Param.Laws.{IsCopy, copied_laws}
 use denote.RattleType.{RattleType}
 use denote.Ref.{MutBor}
 use denote.Signature.{plain, mut_slice_of}
@@ -58,7 +58,6 @@ use Rattle.lexical_parts.proofs.part.Part.to_text.Code as code
 -- the type that implements the trait
 record Able : Type 2 where
   pub row : RattleType
-  pub laws : Laws row
   pub copy : IsCopy row
   pub g : declared.Ghosts row.Denot
   pub d : Dict
@@ -164,22 +163,19 @@ module _ (T : Able) {M : Type 1} {𝓤 : Ura M} (𝓛 : Logic 𝓤) (at_mem : Me
         sets ! (addr ! (from ! (fld ! refl (hop ! (look_in_at ! 2 (sub ! 0 refl (whole !))) (stop !))))) refl (tt, tt) $
         sets ! (agg ! (and_then ! (get ! refl) (and_then ! (get_in ! (fld ! refl (stop !)) (sub ! 1 refl (whole !))) (no_more !)))) refl
         (tt, (tt, (record { fits = room.0 }, tt))) $
-        let y : (Fronts 𝓛 at_mem run).Ghost = called 𝓛 at_mem run κ q b o γ xs ys n in
-        use2 𝓛 (raw ((Fronts 𝓛 at_mem run).pre y)) (asks 𝓛 at_mem run κ q b o γ xs ys n wrote fits long) $
-        calls_at ! (fm_of 𝓤 H 𝓛.laws 𝓣) (Fronts 𝓛 at_mem run) fronts y (and_then ! (get ! refl) (and_then ! (get ! refl) (no_more !))) (λ v'.
-        use1 𝓛 (gave 𝓛 at_mem run κ q b o γ xs ys n Both v') (gives 𝓛 at_mem run κ q b o γ xs ys n Both v' wrote) $
-        await ! tt $ pick ! (λ r. learn ! (λ handed. split3 ! $
+        calls_front 𝓛 at_mem run κ q b o γ xs ys n ! Both (fm_of 𝓤 H 𝓛.laws 𝓣) fronts wrote fits long
+        (and_then ! (get ! refl) (and_then ! (get ! refl) (no_more !))) (λ v' r handed.
         lands_as ! handed.word refl (tt, (tt, (record { fits = handed.fits }, tt))) $
         returns ! (look_at ! 0 refl) $ free_all ! refl $
         -- [the result; the token of κ; the borrowed prefix; nothing; the other token]
         suffices ! _ (ends_at 𝓛 (ended T) (stayed T) clauses bound (slice_val r.ref_ptr (length r.now)) r (tt, (tt, tt)) (tt, (tt, tt))) $
         keep ! (1 ∷ 4 ∷ 0 ∷ 2 ∷ []) $ join ! $ nothing ! $ nothing ! $ fjoin ! $ nothing ! $ fjoin ! $ move ! (0 ∷ 2 ∷ []) $ join ! $ move ! (1 ∷ []) $ join ! $
-        frame ! $ frame ! $ says ! handed.is.1 $ use0 𝓛 (raw (fact 𝓤 (Text r.now))) (fact_i 𝓤 _ (emp 𝓤) handed.is.0) $ done !)))))))))))))))))
+        frame ! $ frame ! $ says ! handed.is.1 $ use0 𝓛 (raw (fact 𝓤 (Text r.now))) (fact_i 𝓤 _ (emp 𝓤) handed.is.0) $ done !)))))))))))))))
 
 pub to_text_spec : {M : Type 1} → stated.statement M
 unfolding tables_of
 to_text_spec 𝓤 𝓛 𝓜 𝓡 wired X L C g d gc dc met' _ =
-    let T : Able = record { row = X; laws = L; copy = C; g = g; d = d; gc = gc; dc = dc } in
+    let T : Able = record { row = X; copy = C; g = g; d = d; gc = gc; dc = dc } in
     let 𝓣 : Tables 𝓤 𝓛.H = tables_of 𝓤 𝓛.H 𝓜 (tables 𝓤 𝓛.H 𝓜 𝓡 𝓡.env) in
     let c = clauses T 𝓛 𝓜.mem 𝓡.returns in
     entered 𝓤 𝓛.H (triple_of 𝓛 (F.signature X) (F.spec X g d gc dc 𝓛 𝓜.mem 𝓡.returns)) 𝓣.C 𝓣.Λ (#self (args T)) (function T)

@@ -1,6 +1,6 @@
 use Rattle.lexical_write_integer.specs.Text.{IsText}
-use Rattle.lexical_write_integer.proofs.Fronts.{Writes-is}
-use Rattle.lexical_write_integer.proofs.PlainTexts.{IsText-without_marks}
+use Rattle.lexical_write_integer.proofs.Buffers.Prefixes.{Writes-is}
+use Rattle.lexical_write_integer.proofs.Grouping.Plain.{IsText-without_marks}
 use Rattle.lexical_write_integer.proofs.api.ToLexicalWithOptions.write_lexical_with_options.Goals as goal
 
 pub returns-clause-plain : goal.returns-clause-plain

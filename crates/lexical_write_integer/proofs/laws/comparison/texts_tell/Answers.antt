@@ -4,4 +4,5 @@ use Rattle.lexical_write_integer.proofs.laws.comparison.texts_tell.Goals as goal
 pub returns : goal.returns
 returns g c =
     let two = c.is_valid.ensures.valid.mantissa.at_least_two in
-    texts_tell (g.T.LexicalInteger.number c.args.a) (g.T.LexicalInteger.number c.args.b) c.args.format.now c.args.s.now c.args.t.now two c.requires.s c.requires.t
+    texts_tell (g.T.LexicalInteger.number c.args.a)
+    (g.T.LexicalInteger.number c.args.b) c.args.format.now c.args.s.now c.args.t.now two c.requires.s c.requires.t

@@ -1,10 +1,11 @@
-use Rattle.lexical_write_integer.proofs.Sizes.{size_in-within}
+use Rattle.lexical_write_integer.proofs.Required.{size_in-within}
 use Rattle.lexical_write_integer.proofs.laws.room.size_is_enough.Goals as goal
 
 pub returns-clause-size : goal.returns-clause-size
 returns-clause-size g c =
     let radix = c.is_valid.ensures.valid.mantissa in
-    g.met.T.ToLexicalWithOptions.size_is_enough (g.T.LexicalInteger.number c.args.value) c.args.format.now radix c.in_range.ensures.at_least c.in_range.ensures.at_most
+    g.met.T.ToLexicalWithOptions.size_is_enough
+    (g.T.LexicalInteger.number c.args.value) c.args.format.now radix c.in_range.ensures.at_least c.in_range.ensures.at_most
 
 pub returns-clause-buffer : goal.returns-clause-buffer
 returns-clause-buffer g c =

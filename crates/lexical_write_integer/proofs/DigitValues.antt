@@ -6,9 +6,6 @@ use Rattle.std.proofs.lemmas.List.Elements.{All-head, All-tail}
 use Rattle.std.proofs.lemmas.Nat.{same_from_place, pow-add, mul-add-lt}
 use Rattle.lexical_write_integer.specs.Numeral.{value_of}
 
-pub pow-one : (r : ℕ) → r ^ 1 ≡ r
-pow-one r = rw (pow-suc r 0, pow-zero) (omega arith)
-
 pub value_of-append : (r : ℕ) (xs ys : List ℕ) → value_of r (xs ++ ys) ≡ value_of r xs * r ^ length ys + value_of r ys
 value_of-append r [] ys = omega arith
 value_of-append r (x ∷ xs) ys =
@@ -19,7 +16,7 @@ value_of-append r (x ∷ xs) ys =
 pub value_of-one : (r d : ℕ) → value_of r (d ∷ []) ≡ d
 value_of-one r d = rw pow-zero (omega arith)
 
--- as many digits hold no more than the radix to their number
+-- the value of n digits is below `r ^ n`
 pub value_of-lt : (r : ℕ) (xs : List ℕ) → All (λ d. d < r) xs → value_of r xs < r ^ length xs
 value_of-lt r [] below = omega (arith, pow-zero r)
 value_of-lt r (x ∷ xs) below =
@@ -29,11 +26,11 @@ value_of-lt r (x ∷ xs) below =
     let more = pow-suc r (length xs) in
     omega arith
 
--- and no less where the first of them is not 0
+-- if the first of n + 1 digits is not 0, their value is at least `r ^ n`
 pub value_of-ge : (r x : ℕ) (xs : List ℕ) → 0 < x → r ^ length xs ≤ value_of r (x ∷ xs)
 value_of-ge r x xs some = omega (arith, mul-le-mul_left (r ^ length xs) some)
 
--- a list of digits is fixed by its length and its value
+-- two lists of digits of the same length and value are equal
 pub same_digits : (r : ℕ) (xs ys : List ℕ) → length xs ≡ length ys → All (λ d. d < r) xs → All (λ d. d < r) ys → value_of r xs ≡ value_of r ys → xs ≡ ys
 same_digits r [] [] long p q same = refl
 same_digits r [] (y ∷ ys) long p q same = absurd (omega arith)

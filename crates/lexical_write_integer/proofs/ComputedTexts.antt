@@ -1,5 +1,6 @@
 -- The computed text of a number is its text.
-use Rattle.std.proofs.Common.{◌≡◌, ℕ, zero, suc, ◌+◌, ◌/◌, ◌%◌, ◌^◌, ◌<◌, ◌≤◌, List, [], ◌∷◌, ◌++◌, min, true, inl, inr, refl, sym, ap, ◌∙◌, arith, ℤ, unsigned_abs, append_assoc}
+use Rattle.std.proofs.Common.{◌≡◌, ℕ, zero, suc, ◌+◌, ◌/◌, ◌%◌, ◌^◌, ◌<◌, ◌≤◌, List, [], ◌∷◌, ◌++◌, min, true, inl, inr, refl}
+use Rattle.std.proofs.Common.{sym, ap, ◌∙◌, arith, ℤ, unsigned_abs, append_assoc}
 use Rattle.std.specs.Prelude.{◌↔◌}
 use Rattle.std.specs.Fmt.{digits_onto}
 use Rattle.std.proofs.Math.Nat.{pow-suc, pow-zero, div-add-mod', div-eq_of_lt, div-lt_iff_lt-mul, mod-lt, pow-le-pow_left}
@@ -10,9 +11,9 @@ use Rattle.lexical_num.specs.Format.{Format}
 use Rattle.lexical_write_integer.specs.Computed.{digits_text, text_of}
 use Rattle.lexical_write_integer.specs.Text.{IsDigits, IsText}
 use Rattle.lexical_write_integer.proofs.Comparisons.{texts_unique}
-use Rattle.lexical_write_integer.proofs.DigitCounts.{lt-pow_self, pow-lt_more}
+use Rattle.lexical_write_integer.proofs.Powers.{lt-pow_self, pow-lt_more, pow-one}
 use Rattle.lexical_write_integer.proofs.Numerals.{IsBlockOf-one, IsNumeralOf-split, digits_unique}
-use Rattle.lexical_write_integer.proofs.Values.{pow-one, value_of-one}
+use Rattle.lexical_write_integer.proofs.DigitValues.{value_of-one}
 
 -- ---- digit by digit, from the last
 
@@ -58,7 +59,8 @@ begins-digits_onto (suc places) r n after two some fits =
       | inr more ↦
           let fewer : n / r < r ^ places = quotient-fits r n places (omega arith) fits in
           let left : 0 < places = exponent-pos r places (omega (arith, fewer, more)) in
-          let step : digits_onto (suc places) r true n after ≡ digits_onto places r true (n / r) (digit_char (n % r) ∷ after) = cond-false _ _ _ (ne_eqb (n / r) 0 more) in
+          let step : digits_onto (suc places) r true n after ≡ digits_onto places r true (n / r) (digit_char (n % r) ∷ after) =
+          cond-false _ _ _ (ne_eqb (n / r) 0 more) in
           let front = begins-digits_onto places r (n / r) (digit_char (n % r) ∷ after) two left fewer in
           record {
             text = front.text ++ digit_char (n % r) ∷ [];
@@ -103,7 +105,8 @@ IsText-text_of x format two small = record {
   whole = refl;
 }
 
-pub text_computed : (x : ℤ) (format : Format) (text : List ℕ) → 2 ≤ format.mantissa_radix → unsigned_abs x < 2 ^ 64 → IsText x format text ↔ (text ≡ text_of x format)
+pub text_computed : (x : ℤ) (format : Format) (text : List ℕ)
+    → 2 ≤ format.mantissa_radix → unsigned_abs x < 2 ^ 64 → IsText x format text ↔ (text ≡ text_of x format)
 text_computed x format text two small =
     let computed = IsText-text_of x format two small in
     (λ is. texts_unique x format text (text_of x format) two is computed, λ same. rw same computed)

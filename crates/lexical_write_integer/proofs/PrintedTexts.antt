@@ -10,10 +10,10 @@ use Rattle.lexical_num.specs.Format.{standard}
 use Rattle.lexical_num.specs.Range.{IsRange, unsigned, signed}
 use Rattle.lexical_num.specs.BitWidth.{IsBitWidth, is_8, is_16, is_32, is_64}
 use Rattle.lexical_write_integer.specs.Text.{IsDigits, IsText}
-use Rattle.lexical_write_integer.proofs.Computed.{IsDigits-one, IsDigits-more}
+use Rattle.lexical_write_integer.proofs.ComputedTexts.{IsDigits-one, IsDigits-more}
 use Rattle.lexical_write_integer.proofs.Numerals.{digits_unique}
 
--- ---- the numbers of every type fit 64 bits
+-- ---- the magnitude of every number fits in 64 bits
 
 pow-le_64 : (bits : ℕ) → IsBitWidth bits → 2 ^ bits ≤ 2 ^ 64
 pow-le_64 _ is_8 = lit≤ tt

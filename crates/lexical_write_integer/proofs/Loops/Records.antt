@@ -1,12 +1,16 @@
--- What the loops note, one after the other, and how many notes these are.
-use Rattle.std.proofs.Common.{◌≡◌, ◌≢◌, ℕ, ◌+◌, ◌-◌, ◌*◌, ◌/◌, ◌%◌, ◌^◌, ◌<◌, ◌≤◌, Bool, true, false, cond, ltb, eqb, List, [], ◌∷◌, ◌++◌, length, refl, sym, ap, ◌∙◌, inl, inr, arith, append_assoc, length-append}
+-- The quotients that the loops record, and how many of them there are.
+use Rattle.std.proofs.Common.{◌≡◌, ◌≢◌, ℕ, ◌+◌, ◌-◌, ◌*◌, ◌/◌, ◌%◌, ◌^◌, ◌<◌, ◌≤◌, Bool, true, false, cond, ltb, eqb, List, []}
+use Rattle.std.proofs.Common.{◌∷◌, ◌++◌, length, refl, sym, ap, ◌∙◌, inl, inr, arith, append_assoc, length-append}
 use Rattle.std.proofs.Math.Nat.{pow-le-pow_left, div-one}
 use Rattle.std.proofs.lemmas.List.{append-nil}
 use Rattle.std.proofs.lemmas.Bool.{cond_both, ltb-true, ltb-false, eqb-true, eqb-false, or_from, ne_eqb, cases_eq}
 use Rattle.lexical_write_integer.specs.DigitCount.{digit_count}
-use Rattle.lexical_write_integer.specs.LoopTurns.{TakesDigits, digits_after_first, quotients, loop_notes, slow_notes, count_notes, table_notes, compact_notes, is_counted_at_once, loop_turns, slow_turns, count_turns, table_turns, compact_turns}
-use Rattle.lexical_write_integer.proofs.DigitCounts.{digit_count-pos, digit_count-le, div-pow_more}
-use Rattle.lexical_write_integer.proofs.Loops.{quotients-none, quotients-more, length-quotients, TakesDigits-counts}
+use Rattle.lexical_write_integer.specs.LoopTurns.{TakesDigits, digits_after_first, quotients, loop_notes, slow_notes, count_notes}
+use Rattle.lexical_write_integer.specs.LoopTurns.{table_notes, compact_notes, is_counted_at_once, loop_turns, slow_turns}
+use Rattle.lexical_write_integer.specs.LoopTurns.{count_turns, table_turns, compact_turns}
+use Rattle.lexical_write_integer.proofs.DigitCounts.{digit_count-pos, digit_count-le}
+use Rattle.lexical_write_integer.proofs.Powers.{div-pow_more}
+use Rattle.lexical_write_integer.proofs.Loops.Divisions.{quotients-none, quotients-more, length-quotients, TakesDigits-counts}
 
 length-cond : (test : Bool) (xs ys : List ℕ) → length (cond test xs ys) ≡ cond test (length xs) (length ys)
 length-cond true xs ys = refl
@@ -20,33 +24,42 @@ quotients-one r n step =
 left_left : (r n i j : ℕ) → n / r ^ i / r ^ j ≡ n / r ^ (i + j)
 left_left r n i j = let order : j + i ≡ i + j = omega arith in div-pow_more r n j i ∙ ap (λ k. n / r ^ k) order
 
--- ---- the loop by the square of the radix, after that by its fourth power
+-- ---- the loop that divides by the square of the radix, after the one that divides by its fourth power
 
--- it takes two digits off once, or never
-two_notes : {r n four left : ℕ} {a b : List ℕ} → 2 ≤ r → TakesDigits r n 4 four left a b → quotients r left 2 (digits_after_first r left / 2) ≡ cond (ltb (digits_after_first r n % 4) 2) [] (n / r ^ (4 * (digits_after_first r n / 4) + 2) ∷ [])
+-- it has at most one iteration
+two_notes : {r n four left : ℕ} {a b : List ℕ}
+    → 2 ≤ r → TakesDigits r n 4 four left a b
+    → quotients r left 2 (digits_after_first r left / 2) ≡ cond (ltb (digits_after_first r n % 4) 2) [] (n / r ^ (4 * (digits_after_first r n / 4) + 2) ∷ [])
 two_notes {r} {n} {four} {left} two t =
     let following : digits_after_first r left ≡ digits_after_first r n % 4 = omega (arith, t.count, TakesDigits-counts two t, digit_count-pos r left) in
-    cond_both (ltb (digits_after_first r n % 4) 2) [] (n / r ^ (4 * (digits_after_first r n / 4) + 2) ∷ []) (λ ys. quotients r left 2 (digits_after_first r left / 2) ≡ ys)
+    cond_both (ltb (digits_after_first r n % 4) 2) [] (n / r ^ (4 * (digits_after_first r n / 4) + 2) ∷ [])
+    (λ ys. quotients r left 2 (digits_after_first r left / 2) ≡ ys)
     (λ few.
     let none : digits_after_first r left / 2 ≡ 0 = omega (arith, ltb-true (digits_after_first r n % 4) 2 few) in
     rw none (quotients-none r left 2))
     (λ more.
     let one : digits_after_first r left / 2 ≡ 1 = omega (arith, ltb-false (digits_after_first r n % 4) 2 more) in
-    rw (one, t.rest, t.count) (quotients-one r (n / r ^ (4 * (digits_after_first r n / 4))) 2 ∙ ap (λ k. k ∷ []) (left_left r n (4 * (digits_after_first r n / 4)) 2)))
+    rw (one, t.rest, t.count)
+    (quotients-one r (n / r ^ (4 * (digits_after_first r n / 4))) 2 ∙ ap (λ k. k ∷ []) (left_left r n (4 * (digits_after_first r n / 4)) 2)))
 
-pub loop_notes-are : {r n four left_four by_two left_two : ℕ} {a b c : List ℕ} → 2 ≤ r → TakesDigits r n 4 four left_four a b → TakesDigits r left_four 2 by_two left_two b c → c ≡ a ++ loop_notes r n
+pub loop_notes-are : {r n four left_four by_two left_two : ℕ} {a b c : List ℕ}
+    → 2 ≤ r → TakesDigits r n 4 four left_four a b → TakesDigits r left_four 2 by_two left_two b c → c ≡ a ++ loop_notes r n
 unfolding loop_notes
 loop_notes-are {r} {n} {a = a} two t u =
     rw (u.notes, t.notes, two_notes two t) (append_assoc a (quotients r n 4 (digits_after_first r n / 4)) _)
 
--- ---- the slow count, which takes the last digits off one by one
+-- ---- the slow count, whose last loop removes single digits
 
-pub slow_count-is : {r n four left_four by_two left_two by_one left_one : ℕ} {a b c d : List ℕ} → 2 ≤ r → TakesDigits r n 4 four left_four a b → TakesDigits r left_four 2 by_two left_two b c → TakesDigits r left_two 1 by_one left_one c d → 1 + four + by_two + by_one ≡ digit_count r n
+pub slow_count-is : {r n four left_four by_two left_two by_one left_one : ℕ} {a b c d : List ℕ}
+    → 2 ≤ r → TakesDigits r n 4 four left_four a b → TakesDigits r left_four 2 by_two left_two b c
+    → TakesDigits r left_two 1 by_one left_one c d → 1 + four + by_two + by_one ≡ digit_count r n
 slow_count-is {r} {left_two = left} two t u v =
     omega (arith, v.count, TakesDigits-counts two t, TakesDigits-counts two u, digit_count-pos r left)
 
--- it does so once where the digits are even
-last_notes : {r n four left_four by_two left_two : ℕ} {a b c : List ℕ} → 2 ≤ r → TakesDigits r n 4 four left_four a b → TakesDigits r left_four 2 by_two left_two b c → quotients r left_two 1 (digits_after_first r left_two / 1) ≡ cond (eqb (digit_count r n % 2) 0) (n / r ^ digits_after_first r n ∷ []) []
+-- that loop has one iteration if the number of digits is even, and otherwise none
+last_notes : {r n four left_four by_two left_two : ℕ} {a b c : List ℕ}
+    → 2 ≤ r → TakesDigits r n 4 four left_four a b → TakesDigits r left_four 2 by_two left_two b c
+    → quotients r left_two 1 (digits_after_first r left_two / 1) ≡ cond (eqb (digit_count r n % 2) 0) (n / r ^ digits_after_first r n ∷ []) []
 last_notes {r} {n} {four} {left_four} {by_two} {left_two} two t u =
     let counts : digit_count r left_two + (four + by_two) ≡ digit_count r n = omega (arith, TakesDigits-counts two t, TakesDigits-counts two u) in
     let some = digit_count-pos r left_two in
@@ -62,18 +75,20 @@ last_notes {r} {n} {four} {left_four} {by_two} {left_two} two t u =
     let none : digits_after_first r left_two / 1 ≡ 0 = omega (arith, eqb-false (digit_count r n % 2) 0 odd) in
     rw none (quotients-none r left_two 1))
 
-pub slow_notes-are : {r n four left_four by_two left_two by_one left_one : ℕ} {a b c d : List ℕ} → 2 ≤ r → TakesDigits r n 4 four left_four a b → TakesDigits r left_four 2 by_two left_two b c → TakesDigits r left_two 1 by_one left_one c d → d ≡ a ++ slow_notes r n
+pub slow_notes-are : {r n four left_four by_two left_two by_one left_one : ℕ} {a b c d : List ℕ}
+    → 2 ≤ r → TakesDigits r n 4 four left_four a b → TakesDigits r left_four 2 by_two left_two b c
+    → TakesDigits r left_two 1 by_one left_one c d → d ≡ a ++ slow_notes r n
 unfolding slow_notes
 slow_notes-are {r} {n} {a = a} two t u v =
     rw (v.notes, loop_notes-are two t u, last_notes two t u) (append_assoc a (loop_notes r n) _)
 
--- ---- one digit a turn
+-- ---- one digit per iteration
 
 pub compact_notes-are : {r n taken left : ℕ} {a b : List ℕ} → TakesDigits r n 1 taken left a b → b ≡ a ++ compact_notes r n
 unfolding compact_notes
 compact_notes-are {r} {n} {a = a} t = t.notes ∙ ap (λ k. a ++ quotients r n 1 k) (div-one (digits_after_first r n))
 
--- ---- the radices in which digits are counted at once
+-- ---- the radices in which digits are counted without a loop
 
 pub none_noted : (r n : ℕ) (notes : List ℕ) → is_counted_at_once r ≡ true → notes ≡ notes ++ count_notes r n
 unfolding count_notes
@@ -85,7 +100,8 @@ slow_noted r n a b by_turns noted = rw by_turns noted
 
 pub not_at_once : (r : ℕ) → r ≢ 2 → r ≢ 4 → r ≢ 8 → r ≢ 10 → r ≢ 16 → r ≢ 32 → is_counted_at_once r ≡ false
 not_at_once r p2 p4 p8 p10 p16 p32 =
-    or_from _ _ (ne_eqb r 2 p2) (or_from _ _ (ne_eqb r 4 p4) (or_from _ _ (ne_eqb r 8 p8) (or_from _ _ (ne_eqb r 10 p10) (or_from _ _ (ne_eqb r 16 p16) (ne_eqb r 32 p32)))))
+    or_from _ _ (ne_eqb r 2 p2)
+    (or_from _ _ (ne_eqb r 4 p4) (or_from _ _ (ne_eqb r 8 p8) (or_from _ _ (ne_eqb r 10 p10) (or_from _ _ (ne_eqb r 16 p16) (ne_eqb r 32 p32)))))
 
 -- ---- the table writer
 
@@ -93,9 +109,9 @@ pub table_notes-are : (r n : ℕ) (a b c : List ℕ) → b ≡ a ++ count_notes 
 unfolding table_notes
 table_notes-are r n a b c counted written = rw (written, counted) (append_assoc a (count_notes r n) (loop_notes r n))
 
--- ---- how many notes there are
+-- ---- how many quotients are recorded
 
--- this number more
+-- a list to which some numbers are appended
 pub length-more : (a b notes : List ℕ) (more : ℕ) → b ≡ a ++ notes → length notes ≡ more → length b ≡ length a + more
 length-more a b notes more noted count = ap length noted ∙ length-append a notes ∙ ap (λ k. length a + k) count
 
@@ -103,7 +119,8 @@ pub length-loop_notes : (r n : ℕ) → length (loop_notes r n) ≡ loop_turns (
 unfolding loop_notes
 length-loop_notes r n =
     let b = digits_after_first r n in
-    length-more (quotients r n 4 (b / 4)) (loop_notes r n) (cond (ltb (b % 4) 2) [] (n / r ^ (4 * (b / 4) + 2) ∷ [])) (cond (ltb (b % 4) 2) 0 1) refl (length-cond (ltb (b % 4) 2) [] _)
+    length-more (quotients r n 4 (b / 4)) (loop_notes r n) (cond (ltb (b % 4) 2) [] (n / r ^ (4 * (b / 4) + 2) ∷ []))
+    (cond (ltb (b % 4) 2) 0 1) refl (length-cond (ltb (b % 4) 2) [] _)
     ∙ ap (λ k. k + cond (ltb (b % 4) 2) 0 1) (length-quotients r n 4 (b / 4))
 
 pub length-slow_notes : (r n : ℕ) → length (slow_notes r n) ≡ slow_turns (digit_count r n)
@@ -127,7 +144,7 @@ pub length-compact_notes : (r n : ℕ) → length (compact_notes r n) ≡ compac
 unfolding compact_notes
 length-compact_notes r n = length-quotients r n 1 (digits_after_first r n)
 
--- ---- the most turns of the table writer
+-- ---- the largest number of iterations of the table writer
 
 loop_turns-le : (digits most : ℕ) → digits ≤ 4 * most + 1 → loop_turns digits ≤ most
 loop_turns-le digits most few =
@@ -135,7 +152,7 @@ loop_turns-le digits most few =
     (λ _. omega arith)
     (λ more. omega (arith, ltb-false ((digits - 1) % 4) 2 more))
 
--- both times the loops, and one turn where the digits are even
+-- the loops of the count and of the writer, and one iteration more if the number of digits is even
 twice_turns-le : (digits : ℕ) → digits ≤ 41 → slow_turns digits + loop_turns digits ≤ 21
 twice_turns-le digits few =
     cond_both (eqb (digits % 2) 0) 1 0 (λ k. loop_turns digits + k + loop_turns digits ≤ 21)
@@ -145,7 +162,7 @@ twice_turns-le digits few =
 count_turns-le : (r digits : ℕ) → count_turns r digits ≤ slow_turns digits
 count_turns-le r digits = cond_both (is_counted_at_once r) 0 (slow_turns digits) (λ k. k ≤ slow_turns digits) (λ _. omega arith) (λ _. omega arith)
 
--- in radix 2 nothing is counted, and from radix 3 on a number of 64 bits has at most 41 digits
+-- radix 2 needs no loop to count, and in radix 3 and above a number of 64 bits has at most 41 digits
 pub table_turns-le_21 : (r n : ℕ) → 2 ≤ r → n < 2 ^ 64 → table_turns r (digit_count r n) ≤ 21
 table_turns-le_21 r n two fits =
     elim (cases_eq r 2) [

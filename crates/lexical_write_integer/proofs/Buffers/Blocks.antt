@@ -1,0 +1,125 @@
+-- Blocks of digits in a buffer: how they join, and how the digits of a number are made of them.
+use Rattle.std.proofs.Common.{◌≡◌, ℕ, ◌+◌, ◌*◌, ◌/◌, ◌%◌, ◌^◌, ◌<◌, ◌≤◌, List, [], ◌∷◌, ◌++◌, length, take, drop, set, map, refl}
+use Rattle.std.proofs.Common.{sym, ap, subst, ◌∙◌, arith, add-zero, add_assoc, append_assoc, take-take}
+use Rattle.std.proofs.Math.Nat.{pow-zero, one-le-pow, mod-one, mod-lt, div-one, div-add-mod', add-mul, mul_assoc}
+use Rattle.std.proofs.lemmas.List.{map-append, append-nil, drop_all, drop-set, take-set}
+use Rattle.std.proofs.lemmas.List.Elements.{All-nil}
+use Rattle.std.proofs.lemmas.Nat.{pow-add, mul-add-lt, mod-mul-add}
+use Rattle.lexical_num.specs.Digit.{digit_char}
+use Rattle.lexical_write_integer.specs.Buffer.{WritesBlock}
+use Rattle.lexical_write_integer.specs.DigitCount.{digit_count}
+use Rattle.lexical_write_integer.specs.Text.{IsDigits}
+use Rattle.lexical_write_integer.proofs.DigitCounts.{digit_count-pos, digit_count-left, digit_count-more}
+use Rattle.lexical_write_integer.proofs.Powers.{div-pow_more}
+use Rattle.lexical_write_integer.proofs.Numerals.{IsBlockOf-one, IsBlockOf-append, IsNumeralOf-block}
+
+-- no digit
+WritesBlock-none : (n : ℕ) {r at : ℕ} {list : List ℕ} → WritesBlock r 0 (n % r ^ 0) at list list
+WritesBlock-none n {r} = record {
+  digits = [];
+  block = record { counted = refl; below_radix = All-nil (λ d. d < r); value = sym (ap (λ p. n % p) (pow-zero r) ∙ mod-one n) };
+  written = rw add-zero refl;
+  kept = refl;
+}
+
+-- one digit
+pub WritesBlock-one : (r d at : ℕ) (list : List ℕ) → d < r → at < length list → WritesBlock r 1 d at list (set list at (digit_char d))
+WritesBlock-one r d at list small room = record {
+  digits = d ∷ [];
+  block = IsBlockOf-one r d small;
+  written = drop-set list at (digit_char d) room;
+  kept = take-set list at (digit_char d);
+}
+
+-- a block before one that is written
+pub WritesBlock-front : {r i j m n at : ℕ} {before between after : List ℕ}
+    → WritesBlock r j n (at + i) before between → WritesBlock r i m at between after → WritesBlock r (i + j) (m * r ^ j + n) at before after
+WritesBlock-front {i = i} {at = at} {before} {between} last first = record {
+  digits = first.digits ++ last.digits;
+  block = IsBlockOf-append first.block last.block;
+  written = rw (map-append, append_assoc, ← add_assoc, ← last.written) first.written;
+  kept = first.kept
+      ∙ sym (take-take at (at + i) between (omega arith))
+      ∙ ap (take at) last.kept
+      ∙ take-take at (at + i) before (omega arith);
+}
+
+-- the last digits of a number, in two parts
+mod-pow_split : (r n i j : ℕ) → 2 ≤ r → n % r ^ (i + j) ≡ n / r ^ j % r ^ i * r ^ j + n % r ^ j
+mod-pow_split r n i j two =
+    let p = r ^ j in
+    let s = r ^ i in
+    let q = n / p in
+    let first = mod-lt q {m = s} (one-le-pow i r (omega arith)) in
+    let last = mod-lt n {m = p} (one-le-pow j r (omega arith)) in
+    let low : q % s * p + n % p < s * p = omega (arith, mul-add-lt (q % s) p (n % p) s first last) in
+    let parts : q / s * (s * p) + (q % s * p + n % p) ≡ n =
+    ap (λ k. k + (q % s * p + n % p)) (sym (mul_assoc (q / s) s p))
+    ∙ omega (arith, add-mul (q / s * s) (q % s) p, ap (λ k. k * p) (div-add-mod' q s), div-add-mod' n p) in
+    ap (λ k. n % k) (pow-add r i j)
+    ∙ ap (λ k. k % (s * p)) (sym parts)
+    ∙ mod-mul-add (q / s) (s * p) (q % s * p + n % p) low
+
+-- the next digits of a number, before its last ones
+pub WritesBlock-next : {r taken step at : ℕ} (n : ℕ) {before between after : List ℕ}
+    → 2 ≤ r → WritesBlock r taken (n % r ^ taken) (at + step) before between → WritesBlock r step (n / r ^ taken % r ^ step) at between after
+    → WritesBlock r (step + taken) (n % r ^ (step + taken)) at before after
+WritesBlock-next {r} {taken} {step} n two last first = rw (mod-pow_split r n step taken two) (WritesBlock-front last first)
+
+-- the first digits of a number, before its last ones
+pub WritesBlock-whole : {r n taken rest count at : ℕ} {before between after : List ℕ}
+    → rest ≡ n / r ^ taken → WritesBlock r taken (n % r ^ taken) (at + count) before between → WritesBlock r count rest at between after
+    → WritesBlock r (count + taken) n at before after
+WritesBlock-whole {r} {n} {taken} is last first = rw (div-add-mod' n (r ^ taken)) at (WritesBlock-front last (rw is at first))
+
+-- ---- a number that is written from its last digit
+
+-- the last `taken` digits of n are at index `at`, and `rest` is the quotient that remains, of at least one digit
+pub record IsWrittenBack (r n taken rest at : ℕ) (before after : List ℕ) : Type 0 where
+  pub fewer : taken < digit_count r n
+  pub left : rest ≡ n / r ^ taken
+  pub block : WritesBlock r taken (n % r ^ taken) at before after
+
+pub IsWrittenBack-start : {r n at : ℕ} {list : List ℕ} → IsWrittenBack r n 0 n at list list
+IsWrittenBack-start {r} {n} = record {
+  fewer = digit_count-pos r n;
+  left = rw (pow-zero, div-one) refl;
+  block = WritesBlock-none n;
+}
+
+-- an equal index
+pub IsWrittenBack-at : {r n taken rest at at' : ℕ} {before after : List ℕ}
+    → at ≡ at' → IsWrittenBack r n taken rest at before after → IsWrittenBack r n taken rest at' before after
+IsWrittenBack-at {r} {n} {taken} {rest} {before = before} {after} same w = subst (λ k. IsWrittenBack r n taken rest k before after) same w
+
+-- the digits that remain and those that are written are the number's
+pub IsWrittenBack-counts : {r n taken rest at : ℕ} {before after : List ℕ}
+    → 2 ≤ r → IsWrittenBack r n taken rest at before after → digit_count r rest + taken ≡ digit_count r n
+IsWrittenBack-counts {r} {n} {taken} {rest} two w = digit_count-left r n taken rest two w.fewer w.left
+
+-- `step` further digits, of a number that has more
+pub IsWrittenBack-more : {r n taken rest step next at : ℕ} {before between after : List ℕ}
+    → 2 ≤ r → r ^ step ≤ rest → next ≡ rest / r ^ step → IsWrittenBack r n taken rest (at + step) before between
+    → WritesBlock r step (rest % r ^ step) at between after → IsWrittenBack r n (step + taken) next at before after
+IsWrittenBack-more {r} {n} {taken} {rest} {step} two long is w b = record {
+  fewer = omega (arith, digit_count-more r step rest two long, IsWrittenBack-counts two w);
+  left = is ∙ ap (λ k. k / r ^ step) w.left ∙ div-pow_more r n step taken;
+  block = WritesBlock-next n two w.block (rw w.left at b);
+}
+
+-- the first digits complete the number
+pub IsWrittenBack-last : {r n taken rest count at : ℕ} {before between after : List ℕ}
+    → IsWrittenBack r n taken rest (at + count) before between → WritesBlock r count rest at between after
+    → WritesBlock r (count + taken) n at before after
+IsWrittenBack-last w b = WritesBlock-whole w.left w.block b
+
+-- a block of all digits of the number, to the end of the list, is its text
+pub IsDigits-block : (r n count at : ℕ) (before after : List ℕ)
+    → 2 ≤ r → digit_count r n ≡ count → at + count ≡ length before → WritesBlock r count n at before after → IsDigits r n (drop at after)
+IsDigits-block r n count at before after two few just b =
+    let none : drop (at + count) before ≡ [] = drop_all (at + count) before (omega arith) in
+    record {
+      digits = b.digits;
+      numeral = IsNumeralOf-block r n count b.digits two few b.block;
+      characters = b.written ∙ ap (λ ys. map digit_char b.digits ++ ys) none ∙ append-nil (map digit_char b.digits);
+    }
