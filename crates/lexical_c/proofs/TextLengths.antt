@@ -27,5 +27,5 @@ pub text_of-le_need : (x least greatest : ℤ) (bits width : ℕ) (format : Form
 text_of-le_need x least greatest bits width format valid decimal range at_least at_most =
     let small = IsRange-small _ _ _ x range at_least at_most in
     let count = digit_count format.mantissa_radix (unsigned_abs x) in
-    let fewer = grouped_length-le_need {count = count} format decimal at_least at_most refl in
+    let fewer = grouped_length-le_need format {count = count} decimal at_least at_most refl in
     omega (arith, length-text_of x format valid small, fewer)
