@@ -17,14 +17,16 @@ IfSome-map (Some x) f h = f x h
 taken : {text before after : List ℕ} {count next : ℕ} →
     count ≤ length before → Adds text count before after next → take next after ≡ take count before ++ text
 taken {text} {before} {after} {count} {next} within a =
-    let long = omega (arith, a.count_is, length-append (take count before) text, length-take-le count before within) in
+    let long : length (take count before ++ text) ≡ next =
+    omega (arith, a.count_is, length-append (take count before) text, length-take-le count before within) in
     ap (take next) a.written ∙ take_at (take count before ++ text) (drop next before) next long
 
 -- the bytes from `next` are unchanged
 left : {text before after : List ℕ} {count next : ℕ} →
     count ≤ length before → Adds text count before after next → drop next after ≡ drop next before
 left {text} {before} {after} {count} {next} within a =
-    let long = omega (arith, a.count_is, length-append (take count before) text, length-take-le count before within) in
+    let long : length (take count before ++ text) ≡ next =
+    omega (arith, a.count_is, length-append (take count before) text, length-take-le count before within) in
     ap (drop next) a.written ∙ drop_at (take count before ++ text) (drop next before) next long
 
 -- lists that are equal from an index are equal from every later index
@@ -68,9 +70,9 @@ added numbers index d lead {whole} before {between} {after} {count} {next} insid
     ∙ ap (λ numbers. take count between ++ elements lead numbers ++ codes "]") (sym element) ∙ split
 
 -- the bytes after the text are still those of the buffer before the first text
-pub still_left : {text before between after : List ℕ} {count next : ℕ} →
+pub still_left : {text : List ℕ} (before : List ℕ) {between after : List ℕ} {count next : ℕ} →
     count ≤ length between → Adds text count between after next → drop count between ≡ drop count before → drop next after ≡ drop next before
-still_left {text} {before} {between} {after} {count} {next} within a kept =
+still_left {text} before {between} {after} {count} {next} within a kept =
     left within a ∙ left_later count next between before (omega (arith, a.count_is)) kept
 
 -- if the bracket is written after the last element, the text of the whole array is written

@@ -8,4 +8,5 @@ use Rattle.uses.specs.declared.date_time.DateTime.{DateTime}
 abbrev pub IsDateTime : DateTime → List ℕ → Type 0
 IsDateTime at =
     IsPadded 10 4 at.year then IsStr "-" then IsPadded 10 2 at.month then IsStr "-" then IsPadded 10 2 at.day
-    then IsStr "T" then IsPadded 10 2 at.hour then IsStr ":" then IsPadded 10 2 at.minute then IsStr ":" then IsPadded 10 2 at.second
+    then IsStr "T" then IsPadded 10 2 at.hour then IsStr ":" then IsPadded 10 2 at.minute
+    then IsStr ":" then IsPadded 10 2 at.second

@@ -1,4 +1,4 @@
-//! A date, in digits of a fixed width.
+//! Writes a date in digits of a fixed width.
 
 ghost use Rattle.std.specs.Prelude.{◌≡◌, ◌<◌, ◌≤◌, codes, length};
 ghost use Rattle.lexical_write_integer.specs.Buffer.{Writes};
@@ -8,7 +8,7 @@ ghost use Rattle.lexical_write_integer.specs.Sequence.{IsExactly, Then};
 use lexical_write_integer::buffer::copy_to_front;
 use lexical_write_integer::padded::write_padded;
 
-// Writes the four digits of a year.
+// Writes the four digits of a year, and returns 4.
 #[tactic(auto, using(lexical_write_integer::proofs::Sequences::written_first))]
 fn write_year(year: u16, date: &mut [u8]) -> usize
     requires year { year < 10000 }
@@ -19,7 +19,7 @@ fn write_year(year: u16, date: &mut [u8]) -> usize
     write_padded(year, 10, &mut date[..4])
 }
 
-// Writes a `-` and the two digits of a month or a day.
+// Writes a `-` and the two digits of a month or a day, and returns 3.
 #[tactic(auto, using(lexical_write_integer::proofs::Sequences::in_order))]
 fn write_part(number: u8, date: &mut [u8]) -> usize
     requires number { number < 100 }
@@ -32,8 +32,8 @@ fn write_part(number: u8, date: &mut [u8]) -> usize
     start + write_padded(number, 10, &mut date[start..start + 2])
 }
 
-/// Writes the date over the array, as `2026-11-23`, and returns how many bytes it has. The year is
-/// below 10000, the month and the day are below 100.
+/// Writes the date, such as `2026-11-23`, to the array, and returns its length. The year must be
+/// below 10000, and the month and the day below 100.
 #[tactic(auto, using(lexical_write_integer::proofs::Sequences::in_order))]
 pub fn write_date(year: u16, month: u8, day: u8, date: &mut [u8; 10]) -> usize
     requires year { year < 10000 }

@@ -1,5 +1,6 @@
 //! Examples of callers. Each module writes something that a program may need, and is proved from
-//! nothing but the contracts of the functions that it calls.
+//! nothing but the contracts of the functions that it calls. The module `conditions` has calls whose
+//! conditions only just hold.
 #![tactic(auto)]
 
 pub mod address;

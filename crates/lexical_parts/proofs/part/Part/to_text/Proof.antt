@@ -155,7 +155,8 @@ module _ (T : Able) {M : Type 1} {𝓤 : Ura M} (𝓛 : Logic 𝓤) (at_mem : Me
         -- [the slice, as it was written; the token of κ; nothing; the other token]
         lands_as ! (ap only is) refl (tt, record { fits = fits }) $
         sets ! (addr ! (from ! (fld ! refl (hop ! (look_in_at ! 2 (sub ! 0 refl (whole !))) (stop !))))) refl (tt, tt) $
-        sets ! (agg ! (and_then ! (get ! refl) (and_then ! (get_in ! (fld ! refl (stop !)) (sub ! 1 refl (whole !))) (no_more !)))) refl (tt, (tt, (record { fits = room.0 }, tt))) $
+        sets ! (agg ! (and_then ! (get ! refl) (and_then ! (get_in ! (fld ! refl (stop !)) (sub ! 1 refl (whole !))) (no_more !)))) refl
+        (tt, (tt, (record { fits = room.0 }, tt))) $
         calls_front 𝓛 at_mem run κ q b o γ xs ys n ! Both (fm_of 𝓤 H 𝓛.laws 𝓣) fronts wrote fits long
         (and_then ! (get ! refl) (and_then ! (get ! refl) (no_more !))) (λ v' r handed.
         lands_as ! handed.word refl (tt, (tt, (record { fits = handed.fits }, tt))) $
