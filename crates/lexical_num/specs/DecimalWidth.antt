@@ -13,7 +13,8 @@ pub record IsDecimalWidth (least greatest : ℤ) (width : ℕ) : Type 0 where
 
 -- it is enough that neither end has more digits, and that `greatest` has `width`
 pub is_decimal_width : {least greatest : ℤ} {width : ℕ} → 1 ≤ width → unsigned_abs least < 10 ^ width
-    → unsigned_abs greatest < 10 ^ width → 10 ^ (width - 1) ≤ unsigned_abs greatest → IsDecimalWidth least greatest width
+    → unsigned_abs greatest < 10 ^ width → 10 ^ (width - 1) ≤ unsigned_abs greatest
+    → IsDecimalWidth least greatest width
 is_decimal_width {least} {greatest} {width} some low high full =
     record { some = some; enough = λ n. between n least greatest low high; needed = full }
   where

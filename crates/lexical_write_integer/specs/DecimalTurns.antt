@@ -13,7 +13,7 @@ pub record WritesDecimal (number : ℕ) (notes before after turns turned : List 
   pub noted : turned ≡ turns ++ notes
   pub half : length turned ≡ length turns + (len - 1) / 2
 
--- 100 times the part after the point of a fraction, which has 32 bits there: of the fraction, of 100 times it, and so on
+-- 100 times the part after the point, which has 32 bits there: of a fraction, of 100 times it, and so on
 abbrev pub products : ℕ → ℕ → List ℕ
 products fraction pairs = map (λ j. fraction * 100 ^ j % 2 ^ 32 * 100) (range_with_len 0 pairs)
 
@@ -21,7 +21,7 @@ products fraction pairs = map (λ j. fraction * 100 ^ j % 2 ^ 32 * 100) (range_w
 abbrev pub pairs_from_back : ℕ → ℕ → List ℕ
 pairs_from_back number pairs = map (λ j. number / 100 ^ j % 100) (range_with_len 0 pairs)
 
--- recorded for a type of up to 32 bits: nothing below 100, and otherwise the products of the fraction for the digit count
+-- recorded for a type of up to 32 bits: nothing below 100, and otherwise the products of the fraction for that length
 unfoldable pub decimal_notes_32 : ℕ → List ℕ
 decimal_notes_32 n =
     if nat_lt n 100 then []

@@ -29,8 +29,8 @@ pub record TakesDigits (r number step taken left : ℕ) (before after : List ℕ
 
 -- ---- what the iterations record
 
--- four digits per iteration while more than four are left, then two if more than two are left: for 255 in radix 3, which
--- has six digits, 3
+-- four digits per iteration while more than four are left, then two if more than two are left: for 255 in radix 3,
+-- which has six digits, 3
 unfoldable pub loop_notes : ℕ → ℕ → List ℕ
 loop_notes r number =
     quotients r number 4 (digits_after_first r number / 4)

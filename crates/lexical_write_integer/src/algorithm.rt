@@ -40,7 +40,7 @@ fn write_number<T: UnsignedInteger>(
     by_radix!(radix, write_digits(number, table, buffer, turns))
 }
 
-/// Writes the digits of the number to the start of the buffer, and returns their number. The radix is
+/// Writes the digits of the number to the start of the buffer, and returns how many there are. The radix is
 /// from 2 to 36, the table begins with the digit pairs of the radix, and the buffer has room for the
 /// digits. Each iteration of the digit count, which comes first, and of the writer records its quotient
 /// in the counter: at most 21 in total.
@@ -64,7 +64,7 @@ pub fn algorithm_counted<T: DigitCount>(
     write_number(value, radix, table, buffer, turns)
 }
 
-/// Writes the digits of the number to the start of the buffer, and returns their number. The radix is
+/// Writes the digits of the number to the start of the buffer, and returns how many there are. The radix is
 /// from 2 to 36, the table begins with the digit pairs of the radix, and the buffer has room for the
 /// digits.
 pub fn algorithm<T: DigitCount>(value: T, radix: u32, table: &[u8], buffer: &mut [u8]) -> usize

@@ -33,7 +33,7 @@ pub trait ToLexical: LexicalInteger + FormattedSize {
         self.write_text(buffer, &STANDARD)
     }
 
-    /// Writes the digits of the absolute value to the start of the buffer, and returns their number.
+    /// Writes the digits of the absolute value to the start of the buffer, and returns how many there are.
     /// They are written in the mantissa radix of the format, without groups. The buffer has room for
     /// `DECIMAL_WIDTH` bytes in radix 10, and for the digits in another radix.
     fn write_magnitude(self, format: &NumberFormat, buffer: &mut [u8]) -> usize
@@ -101,7 +101,7 @@ pub trait ToLexicalWithOptions: ToLexical {
         ensures plain { IsText (Self.number self) (without_groups format.now)
             (without_marks format.now.digit_grouping (take result buffer.new)) }
     {
-        // `plain` rests on the ranges of the format's parts.
+        // The proof of `plain` needs the ranges of the format's parts.
         format.is_valid();
         self.write_text(buffer, format)
     }

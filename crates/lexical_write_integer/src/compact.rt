@@ -53,7 +53,7 @@ fn write_in_radix(value: u64, radix: u32, buffer: &mut [u8], turns: &mut Turns) 
     by_radix!(radix, write_to_end(value, buffer, turns))
 }
 
-/// Writes the digits of the number to the start of the buffer, and returns their number. The radix is
+/// Writes the digits of the number to the start of the buffer, and returns how many there are. The radix is
 /// from 2 to 36, and the buffer has room for the digits. There is one division for each digit after the
 /// first, and its quotient is recorded in the counter.
 pub fn compact_counted<T: UnsignedInteger>(
@@ -78,7 +78,7 @@ pub fn compact_counted<T: UnsignedInteger>(
 
 /// An unsigned integer type whose digits are written by the compact writer.
 pub trait Compact: UnsignedInteger + FormattedSize {
-    /// Writes the digits of the number to the start of the buffer, and returns their number. The radix
+    /// Writes the digits of the number to the start of the buffer, and returns how many there are. The radix
     /// is from 2 to 36, and the buffer has room for the digits.
     fn compact(self, radix: u32, buffer: &mut [u8]) -> usize
         requires radix { IsRadix radix }

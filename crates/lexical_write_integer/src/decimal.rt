@@ -82,7 +82,7 @@ const POWERS_OF_TEN: [u64; 19] = [
     10000000000000000000,
 ];
 
-/// Returns the number of decimal digits of the number. The method is from Lemire, "Computing the
+/// Returns how many decimal digits the number has. The method is from Lemire, "Computing the
 /// number of digits of an integer even faster".
 pub fn fast_digit_count(x: u32) -> usize
     ensures { result ≡ digit_count 10 x }
@@ -91,7 +91,7 @@ pub fn fast_digit_count(x: u32) -> usize
     ((u64::from(x) + entry) >> 32) as usize
 }
 
-/// Returns the number of decimal digits of the number. The table holds the powers of ten from 10
+/// Returns how many decimal digits the number has. The table holds the powers of ten from 10
 /// upwards that fit in the type, in rising order, and nothing else.
 pub fn fallback_digit_count<T: UnsignedInteger>(x: T, table: &[T]) -> usize
     requires { IsPowersOfTen (2 ^ T.BITS) (map T.magnitude table.now) }
@@ -108,7 +108,7 @@ pub fn fallback_digit_count<T: UnsignedInteger>(x: T, table: &[T]) -> usize
 
 /// An unsigned integer type whose decimal digits are counted without a loop.
 pub trait DecimalCount: UnsignedInteger {
-    /// Returns the number of decimal digits of the number.
+    /// Returns how many decimal digits the number has.
     fn decimal_count(self) -> usize
         ensures { result ≡ digit_count 10 (Self.magnitude self) };
 }
@@ -151,7 +151,7 @@ pub trait Decimal: DecimalCount {
 
     ghost SIGNED_WIDTH: { ℕ };
 
-    /// Writes the digits of the number to the start of the buffer, and returns their number. The
+    /// Writes the digits of the number to the start of the buffer, and returns how many there are. The
     /// buffer has room for `DECIMAL_WIDTH` bytes.
     fn decimal(self, buffer: &mut [u8]) -> usize
         requires { Self.DECIMAL_WIDTH ≤ length buffer.old }
@@ -161,7 +161,7 @@ pub trait Decimal: DecimalCount {
         self.decimal_counted(buffer, &mut Turns::new())
     }
 
-    /// Writes the digits of the number to the start of the buffer, and returns their number. The
+    /// Writes the digits of the number to the start of the buffer, and returns how many there are. The
     /// number is below 10^`SIGNED_WIDTH`, as is the magnitude of each number of the signed type, and
     /// the buffer has room for `SIGNED_WIDTH` bytes.
     fn decimal_signed(self, buffer: &mut [u8]) -> usize

@@ -24,8 +24,8 @@ fn write_pair(pair: u32, at: usize, buffer: &mut [u8])
     buffer[at] = first;
 }
 
-/// Writes the one or two digits of a number below 100 to the start of the buffer, and returns their
-/// number.
+/// Writes the one or two digits of a number below 100 to the start of the buffer, and returns how many
+/// there are.
 pub(crate) fn write_one_or_two(pair: u32, buffer: &mut [u8]) -> usize
     requires pair { pair < 100 }
     requires room { digit_count 10 pair ≤ length buffer.old }
@@ -43,8 +43,8 @@ pub(crate) fn write_one_or_two(pair: u32, buffer: &mut [u8]) -> usize
     1 + is_pair as usize
 }
 
-/// Writes the digits of the number that a fraction carries to the start of the buffer, and returns
-/// their number. They are the whole part of the fraction, which has one or two digits, and
+/// Writes the digits of the number that a fraction carries to the start of the buffer, and returns how
+/// many there are. They are the whole part of the fraction, which has one or two digits, and
 /// `pair_count` pairs after it. Each of these pairs takes one iteration, which records the product
 /// that `next2` computes.
 pub(crate) fn write_pairs(

@@ -27,8 +27,8 @@ fn power_fits(bits: usize, radix: u32, exponent: u32) -> bool
     }
 }
 
-// Returns `radix.pow(exponent)`, or `None` if it does not fit in the type. Then every number of the type
-// is smaller, and a loop that divides by it would never run.
+// Returns `radix.pow(exponent)`, or `None` if it does not fit in the type. In that case every number of the
+// type is smaller, and a loop that divides by it would never run.
 fn power_of<T: UnsignedInteger>(radix: u32, exponent: u32) -> Option<T>
     requires radix { IsRadix radix }
     requires exponent { IsStep exponent }
@@ -74,9 +74,9 @@ fn take_digits<T: UnsignedInteger>(value: T, radix: u32, step: u32, turns: &mut 
     (left, taken)
 }
 
-/// Returns the number of digits of the number, which is counted by division: four digits per iteration
-/// while more than four are left, then two, and then one. Each quotient is recorded in the counter.
-/// The radix is from 2 to 36.
+/// Returns how many digits the number has. They are counted by division: four per iteration while more
+/// than four are left, then two, and then one. Each quotient is recorded in the counter. The radix is
+/// from 2 to 36.
 #[tactic(auto, using(crate::proofs::RadixPowers::steps))]
 pub fn slow_digit_count_counted<T: UnsignedInteger>(x: T, radix: u32, turns: &mut Turns) -> usize
     requires { IsRadix radix }
@@ -93,9 +93,9 @@ pub fn slow_digit_count_counted<T: UnsignedInteger>(x: T, radix: u32, turns: &mu
     1 + by_four + by_two + by_one
 }
 
-/// Returns the number of digits of the number. It is computed from the highest set bit if the radix is
-/// a power of 2, by `decimal_count` in radix 10, and otherwise by division, whose quotients are
-/// recorded in the counter. The radix is from 2 to 36.
+/// Returns how many digits the number has. They are counted from the highest set bit if the radix is a
+/// power of 2, by `decimal_count` in radix 10, and otherwise by division, whose quotients are recorded
+/// in the counter. The radix is from 2 to 36.
 pub fn digit_count_counted<T: DecimalCount>(x: T, radix: u32, turns: &mut Turns) -> usize
     requires { IsRadix radix }
     ensures count { result ≡ digit_count radix (T.magnitude x) }
@@ -118,7 +118,7 @@ pub fn digit_count_counted<T: DecimalCount>(x: T, radix: u32, turns: &mut Turns)
 
 /// An unsigned integer type whose digits are counted in every radix.
 pub trait DigitCount: DecimalCount {
-    /// Returns the number of digits of the number. The radix is from 2 to 36. `width_of_amount` in
+    /// Returns how many digits the number has. The radix is from 2 to 36. `width_of_amount` in
     /// `crates/uses/src/amount.rt` is an example.
     fn digit_count(self, radix: u32) -> usize
         requires { IsRadix radix }
@@ -126,8 +126,8 @@ pub trait DigitCount: DecimalCount {
         ensures some { 1 ≤ result }
         ensures at_most_64 { result ≤ 64 };
 
-    /// Returns the number of digits of the number, which is counted by division in every radix. The
-    /// radix is from 2 to 36.
+    /// Returns how many digits the number has. They are counted by division in every radix. The radix
+    /// is from 2 to 36.
     fn slow_digit_count(self, radix: u32) -> usize
         requires { IsRadix radix }
         ensures count { result ≡ digit_count radix (Self.magnitude self) }

@@ -64,7 +64,7 @@ fn write_64(n: u64, buffer: &mut [u8], turns: &mut Turns) -> usize
     }
 }
 
-/// Writes the digits of a number to the start of the buffer, and returns their number. The buffer has
+/// Writes the digits of a number to the start of the buffer, and returns how many there are. The buffer has
 /// room for 3 bytes.
 pub fn from_u8(n: u8, buffer: &mut [u8]) -> usize
     requires { 3 ≤ length buffer.old }
@@ -74,7 +74,7 @@ pub fn from_u8(n: u8, buffer: &mut [u8]) -> usize
     from_u8_counted(n, buffer, &mut Turns::new())
 }
 
-/// Writes the digits of a number to the start of the buffer, and returns their number. The buffer has
+/// Writes the digits of a number to the start of the buffer, and returns how many there are. The buffer has
 /// room for 5 bytes.
 pub fn from_u16(n: u16, buffer: &mut [u8]) -> usize
     requires { 5 ≤ length buffer.old }
@@ -84,7 +84,7 @@ pub fn from_u16(n: u16, buffer: &mut [u8]) -> usize
     from_u16_counted(n, buffer, &mut Turns::new())
 }
 
-/// Writes the digits of a number to the start of the buffer, and returns their number. The buffer has
+/// Writes the digits of a number to the start of the buffer, and returns how many there are. The buffer has
 /// room for 10 bytes.
 pub fn from_u32(n: u32, buffer: &mut [u8]) -> usize
     requires { 10 ≤ length buffer.old }
@@ -94,7 +94,7 @@ pub fn from_u32(n: u32, buffer: &mut [u8]) -> usize
     from_u32_counted(n, buffer, &mut Turns::new())
 }
 
-/// Writes the digits of a number to the start of the buffer, and returns their number. The buffer has
+/// Writes the digits of a number to the start of the buffer, and returns how many there are. The buffer has
 /// room for 20 bytes.
 pub fn from_u64(n: u64, buffer: &mut [u8]) -> usize
     requires { 20 ≤ length buffer.old }
@@ -104,7 +104,7 @@ pub fn from_u64(n: u64, buffer: &mut [u8]) -> usize
     from_u64_counted(n, buffer, &mut Turns::new())
 }
 
-/// Writes the digits of a number to the start of the buffer, and returns their number. The number is
+/// Writes the digits of a number to the start of the buffer, and returns how many there are. The number is
 /// below 10^19, as is the magnitude of each `i64`, and the buffer has room for 19 bytes.
 pub fn from_i64(n: u64, buffer: &mut [u8]) -> usize
     requires number { n < 10 ^ 19 }

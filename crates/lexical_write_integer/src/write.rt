@@ -17,7 +17,7 @@ use lexical_num::format::NumberFormat;
 use lexical_num::num::{LexicalInteger, UnsignedInteger};
 use lexical_tables::get_table;
 
-/// Writes the digits of the number to the start of the buffer, and returns their number. The radix is
+/// Writes the digits of the number to the start of the buffer, and returns how many there are. The radix is
 /// from 2 to 36. The buffer has room for `DECIMAL_WIDTH` bytes in radix 10, and for the digits in
 /// another radix. The writer records its iterations in the counter: at most 9 in radix 10, and at most
 /// 21 in any radix.
@@ -64,7 +64,7 @@ fn write_signed_magnitude<T: Decimal + Radix>(value: T, radix: u32, buffer: &mut
 /// An unsigned integer type whose numbers are written in every radix.
 ///
 /// Each method writes the digits of the number to the start of the buffer, without a sign, and returns
-/// their number. The buffer has room for `DECIMAL_WIDTH` bytes in radix 10, and for the digits in
+/// how many there are. The buffer has room for `DECIMAL_WIDTH` bytes in radix 10, and for the digits in
 /// another radix. In radix 10 the `_signed` methods write numbers below 10^`SIGNED_WIDTH`, and their
 /// buffer has room for `SIGNED_WIDTH` bytes. `write_parts` in `crates/uses/src/float_parts.rt` is an
 /// example.
