@@ -9,8 +9,8 @@ use lexical_lines::{ByteSink, Trace};
 use std::io;
 use std::io::Write;
 
-/// A sink that collects bytes in a block of `SIZE` bytes, and writes the block to a writer if it is
-/// full and at each flush.
+/// A sink that collects bytes in a block of `SIZE` bytes. It writes the block to a writer at each
+/// flush, and if the block is full, before it takes more bytes.
 ///
 /// Each byte is written once and in order, even if an earlier write returned an error. After a flush
 /// that succeeds, the block is empty. The bytes in the block are lost if the value is dropped, so call
