@@ -37,7 +37,7 @@
  * text is written to an array on the stack first.
  *
  * Strings. No terminating 0 is written; the result of the call is the length of
- * the text. For a string, reserve one more byte, which is not part of `length`:
+ * the text. For a string, reserve a further byte, which is not part of `length`:
  *
  *     char text[LEXICAL_BUFFER_SIZE_DECIMAL_I32 + 1];
  *     size_t count = lexical_write_i32(-42, &lexical_standard_format,

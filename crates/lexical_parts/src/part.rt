@@ -53,6 +53,7 @@ pub trait Part: Copy {
         requires { is_valid self }
         ensures fits { IsSome result ↔ (room self ≤ length buffer.old) }
         ensures text { IfSome result (Writes (is_text self) buffer.old buffer.new) }
+        ensures short { IfSome result (λ count. count ≤ room self) }
         ensures none { IfNone result (buffer.new ≡ buffer.old) }
     {
         if buffer.len() < self.room() {

@@ -18,7 +18,7 @@ pub record Writes (IsWritten : List ℕ → Type 0) (before after : List ℕ) (l
   pub front : Front before after text
   pub count : len ≡ length text
 
--- the buffer starts with the digits of the number, every byte after them is unchanged, and the result is the digit count
+-- the buffer starts with the digits of the number, every byte after them is unchanged, and the result is their number
 pub record WritesDigits (r number : ℕ) (before after : List ℕ) (len : ℕ) : Type 0 where
   pub writes : Writes (IsDigits r number) before after len
   pub count : len ≡ digit_count r number

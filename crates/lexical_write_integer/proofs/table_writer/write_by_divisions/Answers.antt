@@ -16,7 +16,8 @@ short g c =
     let taken = c.save_quotients-left.ensures.taken in
     few-fits g.row.R c.save_quotients-left.result.0 two (omega (arith, taken.count, TakesDigits-counts two taken, digit_count-pos g.row.R c.args.value))
 
-head_is : (g : _) (c : After-take_last_digit g) → 1 + c.take_two_digits-short.result.1 + c.take_last_digit.result ≡ digit_count g.row.R c.save_quotients-left.result.0
+head_is : (g : _) (c : After-take_last_digit g)
+    → 1 + c.take_two_digits-short.result.1 + c.take_last_digit.result ≡ digit_count g.row.R c.save_quotients-left.result.0
 head_is g c =
     omega (
       arith,

@@ -23,11 +23,13 @@ some g c = omega (arith, c.requires.digits, digit_count-pos g.row.R c.args.numbe
 
 pub bounds-table-index : goal.bounds-table-index
 bounds-table-index g c =
-    omega (arith, pair_is g (goal.at.bounds-table-index g c).After-take_two_digits-left, length-table g.row.R c.args.table.now.pairs.now c.args.table.now.begins)
+    let table = length-table g.row.R c.args.table.now.pairs.now c.args.table.now.begins in
+    omega (arith, pair_is g (goal.at.bounds-table-index g c).After-take_two_digits-left, table)
 
 pub bounds-table-index-2 : goal.bounds-table-index-2
 bounds-table-index-2 g c =
-    omega (arith, pair_is g (goal.at.bounds-table-index-2 g c).After-take_two_digits-left, length-table g.row.R c.args.table.now.pairs.now c.args.table.now.begins)
+    let table = length-table g.row.R c.args.table.now.pairs.now c.args.table.now.begins in
+    omega (arith, pair_is g (goal.at.bounds-table-index-2 g c).After-take_two_digits-left, table)
 
 pub overflow_sub-buffer : goal.overflow_sub-buffer
 overflow_sub-buffer g c = omega (arith, some g (goal.at.overflow_sub-buffer g c).After-take_two_digits-left)
@@ -49,7 +51,8 @@ pub write_one_or_two-requires-clause-short : goal.write_one_or_two-requires-clau
 write_one_or_two-requires-clause-short g c = head-left c.args.table.now.is_radix.at_least_two c.requires.short c.take_two_digits-left.ensures
 
 pub write_one_or_two-requires-clause-digits : goal.write_one_or_two-requires-clause-digits
-write_one_or_two-requires-clause-digits g c = omega (arith, c.requires.digits, TakesDigits-counts c.args.table.now.is_radix.at_least_two c.take_two_digits-left.ensures)
+write_one_or_two-requires-clause-digits g c =
+    omega (arith, c.requires.digits, TakesDigits-counts c.args.table.now.is_radix.at_least_two c.take_two_digits-left.ensures)
 
 pub returns-clause-written : goal.returns-clause-written
 returns-clause-written g c =
@@ -70,4 +73,5 @@ returns-clause-written g c =
     let following : drop digits between ≡ drop digits list =
     drop-set-lt digits last_written c.saturating_sub.result (get_or pairs (2 * k) 0) (omega (arith, least, c.saturating_sub.ensures))
     ∙ drop-set-lt digits list (digits - 1) (get_or pairs (2 * k + 1) 0) (omega (arith, least)) in
-    WritesBlock-head c.args.table.now.is_radix.at_least_two c.requires.short c.requires.digits c.take_two_digits-left.ensures pair following c.write_one_or_two.ensures
+    let two = c.args.table.now.is_radix.at_least_two in
+    WritesBlock-head two c.requires.short c.requires.digits c.take_two_digits-left.ensures pair following c.write_one_or_two.ensures

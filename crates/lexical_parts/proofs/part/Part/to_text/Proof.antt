@@ -15,7 +15,8 @@ use prog.Memory.{Memory}
 use prog.Routine.{Routine}
 use prog.Wp.{WpFn, Tables}
 use types.Logic.{Logic}
-use types.Kit.{‵, raw, given, ◌⊛◌, some, later, ◌$◌, ◌∵◌, !, qed, move, keep, drop, split, split3, join, learn, fsplit, fjoin, feq_l, flt_l, use0, use1, use2, use3, await, pick, suffices, frame, done}
+use types.Kit.{‵, raw, given, ◌⊛◌, some, later, ◌$◌, ◌∵◌, !, qed, move, keep, drop, split, split3, join, learn, fsplit, fjoin, feq_l, flt_l}
+use types.Kit.{use0, use1, use2, use3, await, pick, suffices, frame, done}
 use types.Part.{whole, sub, agg}
 use types.Run.{stop, fld, hop, from, addr, and_then, no_more, returns, enter}
 use types.ByLocal.{alloc_all, pass_all, free_all, look_at, look_in_at, get, get_in, sets, lands_as}
@@ -119,12 +120,13 @@ module _ (T : Able) {M : Type 1} {𝓤 : Ura M} (𝓛 : Logic 𝓤) (at_mem : Me
     abbrev loan : GName → MutBor (List ℕ)
     loan δ = record { ref_ptr = (b, o); ghost_name = δ; now = xs }
 
-    -- the token beside the slice's
+    -- the token in addition to the slice's
     abbrev tokens : Fml
     tokens = fsep (flft κT qT) ftrue
 
     walk : Room u8 (length xs) → Typed (layout T.row ∷ []) (x_vals T x)
-        → ent 𝓤 ((walk_of 𝓛 (ended T) (stayed T) clauses).pre bound) (WpFn 𝓤 H 𝓣.C 𝓣.Λ (function T) ((walk_of 𝓛 (ended T) (stayed T) clauses).args bound) ((walk_of 𝓛 (ended T) (stayed T) clauses).post bound))
+        → ent 𝓤 ((walk_of 𝓛 (ended T) (stayed T) clauses).pre bound)
+            (WpFn 𝓤 H 𝓣.C 𝓣.Λ (function T) ((walk_of 𝓛 (ended T) (stayed T) clauses).args bound) ((walk_of 𝓛 (ended T) (stayed T) clauses).post bound))
     walk room typed =
         qed 𝓛 (((‵ (flft κ q) ⊛ ‵ tokens) ⊛ (‵ ((R T).own_val x (x_vals T x)) ⊛ ‵ ((MutSlice (named 0) κ u8).own_val self (mut_slice_vals self)) ⊛ ‵ ftrue)) ∷
         (given (κT ⊑ T.row.lives) (‵ ftrue) ⊛ given (T.g.is_valid x) (‵ ftrue) ⊛ given (room_for ≤ length xs) (‵ ftrue)) ∷ []) ∵
@@ -133,7 +135,8 @@ module _ (T : Able) {M : Type 1} {𝓤 : Ura M} (𝓛 : Logic 𝓤) (at_mem : Me
         alloc_all ! (λ l. pass_all ! refl (typed.0, ((tt, (tt, (record { fits = room.0 }, tt))), tt)) $
         -- let p = &mut *buffer, with its count
         sets ! (addr ! (from ! (fld ! refl (hop ! (look_in_at ! 2 (sub ! 0 refl (whole !))) (stop !))))) refl (tt, tt) $
-        sets ! (agg ! (and_then ! (get ! refl) (and_then ! (get_in ! (fld ! refl (stop !)) (sub ! 1 refl (whole !))) (no_more !)))) refl (tt, (tt, (record { fits = room.0 }, tt))) $
+        sets ! (agg ! (and_then ! (get ! refl) (and_then ! (get_in ! (fld ! refl (stop !)) (sub ! 1 refl (whole !))) (no_more !)))) refl
+        (tt, (tt, (record { fits = room.0 }, tt))) $
         split ! $ move ! (2 ∷ []) $ split3 ! $
         -- [the value; the slice; nothing; the token of κ; the other token]
         lft_new ! tt (λ α. move ! (2 ∷ 4 ∷ []) $
@@ -146,12 +149,15 @@ module _ (T : Able) {M : Type 1} {𝓤 : Ura M} (𝓛 : Logic 𝓤) (at_mem : Me
         move ! (1 ∷ 0 ∷ []) $ use2 𝓛 (raw (Writes.pre z)) (id⊢ 𝓤 _) $
         calls_at ! (fm_of 𝓤 H 𝓛.laws 𝓣) Writes writes z (and_then ! (get ! refl) (and_then ! (get ! refl) (no_more !))) (λ v.
         use1 𝓛 (later (some (λ (n : ℕ). ((‵ (flft (α ∷ []) full_share) ⊛ ‵ tokens) ⊛ ‵ (usize.own_val n (v ∷ []))) ⊛
-        some (λ (ws : Unit {0} × (List ℕ × Unit {0})). ‵ (lasts (W.ended T.row T.g T.d T.gc T.dc) z.0.0 z.0.3 ws) ⊛ (raw (fact 𝓤 (Written Text xs ws.1.0 n)) ⊛ raw (fact 𝓤 (n ≤ room_for))))))) (id⊢ 𝓤 _) $
+        some (λ (ws : Unit {0} × (List ℕ × Unit {0})). ‵ (lasts (W.ended T.row T.g T.d T.gc T.dc) z.0.0 z.0.3 ws) ⊛
+        (raw (fact 𝓤 (Written Text xs ws.1.0 n)) ⊛ raw (fact 𝓤 (n ≤ room_for))))))) (id⊢ 𝓤 _) $
         await ! tt $ pick ! (λ n. split ! $ split ! $ split ! $ lft_end ! tt $ move ! (2 ∷ 3 ∷ []) $ fsplit ! $ feq_l ! (λ is. flt_l ! (λ fits.
-        pick ! (λ ws. split3 ! $ move ! (1 ∷ []) $ heard ! _ (λ text. move ! (1 ∷ []) $ heard ! _ (λ short. fsplit ! $ drop ! $ fsplit ! $ move ! (2 ∷ 4 ∷ 0 ∷ []) $
+        pick ! (λ ws. split3 ! $ move ! (1 ∷ []) $ heard ! _ (λ text. move ! (1 ∷ []) $ heard ! _ (λ short.
+        fsplit ! $ drop ! $ fsplit ! $ move ! (2 ∷ 4 ∷ 0 ∷ []) $
         let ys : List ℕ = ws.1.0 in
         let wrote : Written Both xs ys n = Writes-short room_for xs ys n text short in
-        use3 𝓛 (came_back 𝓛 u8 (named 0) κ q (α ∷ []) b o γ xs ys) (comes_back 𝓛 u8 (named 0) κ q (α ∷ []) b o γ δ xs ys) $ await ! tt $ learn ! (λ long. split ! $
+        use3 𝓛 (came_back 𝓛 u8 (named 0) κ q (α ∷ []) b o γ xs ys) (comes_back 𝓛 u8 (named 0) κ q (α ∷ []) b o γ δ xs ys) $
+        await ! tt $ learn ! (λ long. split ! $
         -- [the slice, as it was written; the token of κ; nothing; the other token]
         lands_as ! (ap only is) refl (tt, record { fits = fits }) $
         sets ! (addr ! (from ! (fld ! refl (hop ! (look_in_at ! 2 (sub ! 0 refl (whole !))) (stop !))))) refl (tt, tt) $
@@ -172,9 +178,13 @@ to_text_spec 𝓤 𝓛 𝓜 𝓡 wired X L C g d gc dc met' _ =
     let T : Able = record { row = X; copy = C; g = g; d = d; gc = gc; dc = dc } in
     let 𝓣 : Tables 𝓤 𝓛.H = tables_of 𝓤 𝓛.H 𝓜 (tables 𝓤 𝓛.H 𝓜 𝓡 𝓡.env) in
     let c = clauses T 𝓛 𝓜.mem 𝓡.returns in
-    entered 𝓤 𝓛.H (triple_of 𝓛 (F.signature X) (F.spec X g d gc dc 𝓛 𝓜.mem 𝓡.returns)) 𝓣.C 𝓣.Λ (#self (args T)) (function T) (code.unfolded 𝓤 𝓛.H 𝓜 𝓡 wired (X, tt) d dc)
-    (walk_Meets 𝓛 (ended T) (stayed T) (Goes-dropped 𝓛 2 (plain (λ _. R T)) no (λ κs x f. refl), (Goes-spent_slice 𝓛 2 (0 ∷ []) tt (plain (λ _. u8)), tt)) c (WpFn 𝓤 𝓛.H 𝓣.C 𝓣.Λ (function T)) (WpFn-mono 𝓤 𝓛.H 𝓛.laws 𝓣 (function T))
-    (walked 𝓛 (ended T) (stayed T) c (WpFn 𝓤 𝓛.H 𝓣.C 𝓣.Λ (function T)) (λ κs. (x_vals T, (mut_slice_vals, tt))) (λ κs. (C.tells, (mut_slice_Tells (named 0) κs.0 u8, tt)))
+    entered 𝓤 𝓛.H (triple_of 𝓛 (F.signature X) (F.spec X g d gc dc 𝓛 𝓜.mem 𝓡.returns)) 𝓣.C 𝓣.Λ (#self (args T)) (function T)
+    (code.unfolded 𝓤 𝓛.H 𝓜 𝓡 wired (X, tt) d dc)
+    (walk_Meets 𝓛 (ended T) (stayed T) (Goes-dropped 𝓛 2 (plain (λ _. R T)) no (λ κs x f. refl),
+      (Goes-spent_slice 𝓛 2 (0 ∷ []) tt (plain (λ _. u8)), tt)) c (WpFn 𝓤 𝓛.H 𝓣.C 𝓣.Λ (function T)) (WpFn-mono 𝓤 𝓛.H 𝓛.laws 𝓣 (function T))
+    (walked 𝓛 (ended T) (stayed T) c (WpFn 𝓤 𝓛.H 𝓣.C 𝓣.Λ (function T)) (λ κs. (x_vals T, (mut_slice_vals, tt)))
+    (λ κs. (C.tells, (mut_slice_Tells (named 0) κs.0 u8, tt)))
     (λ κs qs bounds a ghost are.
     walk T 𝓛 𝓜.mem 𝓡.returns 𝓣 met'.write_to (met 𝓤 𝓛 𝓜 𝓡 (code.calls-lexical_write_integer::buffer::front_mut 𝓡.env wired))
-    κs.0 κs.1.0 qs.0 qs.1.0 a.0 a.1.0.ref_ptr.0 a.1.0.ref_ptr.1 a.1.0.ghost_name a.1.0.now are.1.0.0.1 (((copied_laws 0 X L).lawful 𝓛).typed a.0 (x_vals T a.0) are.0))))
+    κs.0 κs.1.0 qs.0 qs.1.0 a.0 a.1.0.ref_ptr.0 a.1.0.ref_ptr.1 a.1.0.ghost_name a.1.0.now are.1.0.0.1
+    (((copied_laws 0 X L).lawful 𝓛).typed a.0 (x_vals T a.0) are.0))))

@@ -128,7 +128,7 @@ module _ (T : Able) {M : Type 1} {𝓤 : Ura M} (𝓛 : Logic 𝓤) (at_mem : Me
     abbrev loan : GName → MutBor (List ℕ)
     loan δ = record { ref_ptr = (b, o); ghost_name = δ; now = xs }
 
-    -- the token beside the slice's
+    -- the token in addition to the slice's
     abbrev tokens : Fml
     tokens = fsep (flft κT qT) ftrue
 

@@ -134,7 +134,7 @@ module _ (T : Able) {M : Type 1} {𝓤 : Ura M} (𝓛 : Logic 𝓤) (at_mem : Me
     abbrev loan : GName → MutBor (List ℕ)
     loan δ = record { ref_ptr = (b, o); ghost_name = δ; now = xs }
 
-    -- the tokens of the lifetimes beside the slice's, and the references beside the slice
+    -- the tokens of the other lifetimes than the slice's, and the references other than the slice
     abbrev tokens : Fml
     tokens = fsep (flft κf qf) (fsep (flft κo qo) (fsep (flft κT qT) (fsep (flft κO qO) ftrue)))
 
