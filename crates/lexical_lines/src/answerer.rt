@@ -16,11 +16,14 @@ use crate::newline::{NEWLINE, split_at_newline};
 use crate::sink::{ByteSink, put_all};
 use std::io;
 
-/// Answers lines whose bytes arrive in chunks. It writes the answer to a line to a sink as soon as it
-/// gets the newline that ends the line. `answer_pieces` in `crates/uses/src/answers.rt` is an example.
+/// Answers lines whose bytes arrive in chunks. The answer to a line is the text of the number that the
+/// line requests, or `bad line` and the number of the line; the documentation of `run` has the details.
+/// An answerer writes the answer to a sink as soon as it gets the newline that ends the line.
+/// `answer_pieces` in `crates/uses/src/answers.rt` is an example.
 ///
 /// An answerer keeps the line that has not ended yet, the number of that line, and whether all lines
-/// before it are valid. After an error it must not be used again: the contracts promise nothing then.
+/// before it are valid. It must not be used again after an error: the contracts then promise nothing
+/// about the answers.
 #[derive(Drop)]
 pub struct Answerer {
     line: Line,
@@ -43,7 +46,7 @@ impl Answerer {
         }
     }
 
-    /// Takes the next byte. If it is a newline, writes the answer to the line that it ends to `sink`.
+    /// Takes the next byte. If it is a newline, the answer to the line that it ends is written to `sink`.
     pub fn push<K: ByteSink>(&mut self, byte: u8, sink: &mut K) -> io::Result<()>
         ensures ok { OnOk result ((before read : List ℕ)
             → HasAnswered before read (K.taken sink.old) self.old
@@ -61,8 +64,8 @@ impl Answerer {
         }
     }
 
-    /// Takes the next bytes, and does what calling `push` for each of them would do. It returns the
-    /// first error, which is an error of the sink during the answer to a line that ends in `bytes`.
+    /// Takes the next bytes, as a call of `push` for each of them would, and stops at the first error,
+    /// which is an error of the sink at the answer to a line that ends in `bytes`.
     pub fn push_all<K: ByteSink>(&mut self, bytes: &[u8], sink: &mut K) -> io::Result<()>
         ensures ok { OnOk result ((before read : List ℕ)
             → HasAnswered before read (K.taken sink.old) self.old
@@ -82,7 +85,7 @@ impl Answerer {
         Ok(())
     }
 
-    // Takes the last bytes of a line and the newline after them, and writes the answer to the line.
+    // Takes `end`, the last bytes of a line, and the newline after them, and writes the answer to the line.
     fn end_line<K: ByteSink>(&mut self, end: &[u8], sink: &mut K) -> io::Result<()>
         requires { NoNewline end.now }
         ensures ok { OnOk result ((before read : List ℕ)
@@ -107,7 +110,7 @@ impl Answerer {
     }
 
     /// Ends the input, and returns whether all lines are valid. If there are bytes after the last
-    /// newline, they are a line too, and its answer is written first.
+    /// newline, they are a line too, and the answer to it is written first.
     pub fn finish<K: ByteSink>(&mut self, sink: &mut K) -> io::Result<bool>
         ensures ok { OnOk result ((before read : List ℕ)
             → HasAnswered before read (K.taken sink.old) self.old
@@ -129,7 +132,7 @@ impl Answerer {
 }
 
 // Writes the answer to the line that consists of `line` and then `end`, and returns whether that line
-// is valid. If `line` is empty, `end` is parsed without a copy.
+// is valid. If `line` is empty and `end` is not too long, `end` is parsed without a copy.
 fn put_line<K: ByteSink>(
     line: &mut Line,
     end: &[u8],
@@ -149,8 +152,8 @@ fn put_line<K: ByteSink>(
     put_answer(line.as_slice(), line_number, buffer, sink)
 }
 
-// Writes the answer to a line to `buffer` and from there to the sink, and returns whether the line is
-// valid.
+// Writes the answer to a line into `buffer`, and from there to the sink. Returns whether the line is
+// valid. `line` is `None` if the line is too long.
 fn put_answer<K: ByteSink>(
     line: Option<&[u8]>,
     line_number: u64,

@@ -8,19 +8,23 @@ ghost use Rattle.lexical_write_integer.specs.Lending.{LendsFront};
 use lexical_write_integer::buffer::front_mut;
 
 /// A value that has a text, such as a number or a `&str`. A tuple of parts is also a part, and its
-/// text is the texts of its members in order: `(Decimal(250), " g")` writes `250 g`.
+/// text consists of the texts of its elements, in order: `(Decimal(250), " g")` writes `250 g`.
+///
+/// A part is *valid* if it meets the condition of its type: a radix is from 2 to 36, and a padded number
+/// fits in its width. A part that contains parts is valid if they are valid. A part without a condition is
+/// always valid.
 pub trait Part: Copy {
     // Whether these bytes are the text of the part.
     ghost is_text: { Self → List ℕ → Type 0 };
 
-    // Whether the part has a text: its radix is from 2 to 36, and its number fits its width.
+    // Whether the part is valid. A valid part has a text.
     ghost is_valid: { Self → Type 0 };
 
     // A number of bytes that is enough for the text.
     ghost room: { Self → ℕ };
 
-    /// Returns a number of bytes that is enough for the text, or `usize::MAX` if that number is
-    /// larger. The part must be valid.
+    /// Returns a number of bytes that is enough for the text, or `usize::MAX` if that number does not
+    /// fit in a `usize`. The part must be valid.
     fn room(self) -> usize
         requires { is_valid self }
         ensures { result ≡ min (room self) usize.MAX };
@@ -47,8 +51,9 @@ pub trait Part: Copy {
         front_mut(buffer, count)
     }
 
-    /// Writes the text to the start of the buffer and returns its length if the buffer has `room`
-    /// bytes or more. Otherwise returns `None`, and the buffer is unchanged. The part must be valid.
+    /// If the buffer has `room` bytes or more, writes the text to its start, and returns the length of
+    /// the text; every byte after the text is unchanged. Otherwise returns `None`, and the buffer is
+    /// unchanged. The part must be valid.
     final fn try_write_to(self, buffer: &mut [u8]) -> Option<usize>
         requires { is_valid self }
         ensures fits { IsSome result ↔ (room self ≤ length buffer.old) }

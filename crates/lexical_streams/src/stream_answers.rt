@@ -15,7 +15,7 @@ use lexical_lines::{Answerer, status};
 use std::io;
 use std::io::{Read, Write};
 
-// The writer is flushed before each read, so a larger block means fewer short writes.
+// The writer is flushed before each read, so a larger block leads to fewer, longer writes.
 const READ_BLOCK: usize = 128 * 1024;
 
 const WRITE_BLOCK: usize = 16 * 1024;
@@ -40,16 +40,16 @@ pub fn answer_lines(rt: HostRuntime) -> u8
 /// When a read begins, every line that has ended is answered, and the block of the writer is empty. So
 /// an answer never waits for the next line.
 ///
-/// The block that is read into is on the stack. With a writer of 16 KiB, a call uses about 160 KB of
-/// stack, or 500 KB if Rattle's own compiler builds it, and no other memory.
+/// The block of 128 KiB that is read into is on the stack. With a `BlockWriter` of 16 KiB, a call uses
+/// about 160 KB of stack, or 500 KB if Rattle's own compiler builds it, and no other memory.
 pub fn answer_stream<R: Read, W: Write, const SIZE: usize>(
     reader: &mut BlockReader<'_, R>,
     writer: &mut BlockWriter<'_, W, SIZE>,
 ) -> u8
     requires fresh { (reading reader.old).given ≡ [] }
     ensures range { result ≤ 2 }
-    // The bytes that were yielded are those that the reader lost. The bytes that were taken are written
-    // in order, or are still in the block.
+    // The bytes that `reader` yielded are those that it read from its device, in order. The bytes that
+    // `writer` took are written to its device in order, or are still in its block.
     ensures read { KeepsReader R.remaining (reading reader.old) (reading reader.new) }
     ensures lent { lent_reader reader.new ≡ lent_reader reader.old }
     ensures written { KeepsBytes W.contents writer.old writer.new }
@@ -58,7 +58,8 @@ pub fn answer_stream<R: Read, W: Write, const SIZE: usize>(
         → AllAnswered R.remaining W.contents reader.old reader.new writer.old writer.new }
     ensures good { result ≡ 0 → TellsAllGood (bytes_read reader.old reader.new) true }
     ensures bad { result ≡ 1 → TellsAllGood (bytes_read reader.old reader.new) false }
-    // If the status is 2, a device failed, and a prefix of the answers is written.
+    // If the status is 2, a read failed, and the answers to all lines that had ended are written; or a
+    // write or a flush failed, and the bytes that `writer` took are a prefix of the answers.
     ensures failed { result ≡ 2
         → ReaderFailed W.contents reader.old reader.new writer.old writer.new
         ⊎ WriterFailed reader.old reader.new writer.old writer.new }
@@ -94,7 +95,7 @@ fn answer_blocks<R: Read, W: Write, const SIZE: usize>(
     answerer.finish(writer)
 }
 
-// Flushes the writer, reads a block, and returns its length.
+// Flushes the writer, reads a block, and returns its length, which is 0 at the end of the input.
 fn read_block<R: Read, W: Write, const SIZE: usize>(
     reader: &mut BlockReader<'_, R>,
     writer: &mut BlockWriter<'_, W, SIZE>,

@@ -23,8 +23,8 @@ use lexical_num::options::WriteOptions;
 pub trait ToLexical: LexicalInteger + FormattedSize {
     /// Writes the number in decimal to the start of the buffer, and returns the length of its text: a
     /// `-` if it is below 0, and then the digits. Every byte after the text is unchanged. The buffer
-    /// has room for `DECIMAL_WIDTH` bytes, and for one further byte if there is a `-`. `write_address`
-    /// in `crates/uses/src/address.rt` is an example.
+    /// must have room for `DECIMAL_WIDTH` bytes, and for one further byte if there is a `-`.
+    /// `write_address` in `crates/uses/src/address.rt` is an example.
     fn write_lexical(self, buffer: &mut [u8]) -> usize
         requires { need (Self.number self) Self.DECIMAL_WIDTH standard ≤ length buffer.old }
         ensures text { WritesText (Self.number self) standard buffer.old buffer.new result }
@@ -33,9 +33,9 @@ pub trait ToLexical: LexicalInteger + FormattedSize {
         self.write_text(buffer, &STANDARD)
     }
 
-    /// Writes the digits of the absolute value to the start of the buffer, and returns how many there are.
-    /// They are written in the mantissa radix of the format, without groups. The buffer has room for
-    /// `DECIMAL_WIDTH` bytes in radix 10, and for the digits in another radix.
+    /// Writes the digits of the absolute value to the start of the buffer, in the mantissa radix of the
+    /// format and without groups, and returns how many there are. The buffer must have room for
+    /// `DECIMAL_WIDTH` bytes in radix 10, and for the digits in any other radix.
     fn write_magnitude(self, format: &NumberFormat, buffer: &mut [u8]) -> usize
         requires { digits_need format.now.mantissa_radix (unsigned_abs (Self.number self)) Self.DECIMAL_WIDTH
             ≤ length buffer.old }
@@ -48,13 +48,14 @@ pub trait ToLexical: LexicalInteger + FormattedSize {
         ensures { result ≡ digit_count radix (unsigned_abs (Self.number self)) };
 
     /// Writes the number in the format to the start of the buffer, and returns the length of its text.
-    /// The buffer has room for the number of bytes that `required_len` returns. All calls that write a
-    /// text call this one.
+    /// Every byte after the text is unchanged. The buffer must have room for the number of bytes that
+    /// `ToLexicalWithOptions::required_len` returns. The other methods that write a text call this one.
     fn write_text(self, buffer: &mut [u8], format: &NumberFormat) -> usize
         requires { need (Self.number self) Self.DECIMAL_WIDTH format.now ≤ length buffer.old }
         ensures text { WritesText (Self.number self) format.now buffer.old buffer.new result }
         ensures short { result ≤ need (Self.number self) Self.DECIMAL_WIDTH format.now }
     {
+        // The proof needs the range of the type. This call of a law does nothing at run time.
         self.in_range();
         let sign = write_sign(self, buffer, format);
         let digits = &mut buffer[sign..];
@@ -79,15 +80,15 @@ pub trait ToLexical: LexicalInteger + FormattedSize {
 /// An integer type whose numbers are written in any format. The documentation of this crate has
 /// examples.
 pub trait ToLexicalWithOptions: ToLexical {
-    /// The options type. Options have no effect yet.
+    /// The type of the options. Options have no effect yet.
     type Options: WriteOptions;
 
     /// Writes the number in the format to the start of the buffer, and returns the length of its text:
     /// the sign, and then the digits in the mantissa radix, in the groups of the format. Every byte
     /// after the text is unchanged. The options have no effect.
     ///
-    /// The buffer has room for the number of bytes that `required_len` returns, which is enough for the
-    /// sign, the digits and the separators between their groups. In radix 10 it is enough for
+    /// The buffer must have room for the number of bytes that `required_len` returns, which is enough
+    /// for the sign, the digits and the separators between their groups. In radix 10 it is enough for
     /// `DECIMAL_WIDTH` digits, even if the number has fewer.
     fn write_lexical_with_options(
         self,
@@ -101,13 +102,14 @@ pub trait ToLexicalWithOptions: ToLexical {
         ensures plain { IsText (Self.number self) (without_groups format.now)
             (without_marks format.now.digit_grouping (take result buffer.new)) }
     {
-        // The proof of `plain` needs the ranges of the format's parts.
+        // The result is always `true`. The contract of this call has the ranges of the format's parts,
+        // which the proof of `plain` needs.
         format.is_valid();
         self.write_text(buffer, format)
     }
 
     /// Returns the required length, which is the length of the shortest buffer that
-    /// `write_lexical_with_options` takes. It is at most `BUFFER_SIZE`.
+    /// `write_lexical_with_options` accepts. It is at most `BUFFER_SIZE`.
     final fn required_len(self, format: &NumberFormat) -> usize
         ensures need { result ≡ need (Self.number self) Self.DECIMAL_WIDTH format.now }
         ensures short { result ≤ BUFFER_SIZE }
@@ -123,7 +125,7 @@ pub trait ToLexicalWithOptions: ToLexical {
         sign + format.grouped_len(digits)
     }
 
-    // The size of the type in a format is enough for the required length of each of its numbers.
+    // The size of the type in a format is at least the required length of each number of the type.
     ghost size_suffices: { (x : ℤ) (format : Format) → IsRadix format.mantissa_radix
         → Self.least ≤ℤ x → x ≤ℤ Self.greatest
         → need x Self.DECIMAL_WIDTH format ≤ size_in Self.FORMATTED_SIZE Self.FORMATTED_SIZE_DECIMAL format };

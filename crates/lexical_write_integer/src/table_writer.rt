@@ -1,4 +1,5 @@
-// Writing the digits of a number, four per iteration, from a table of the digit pairs of the radix.
+// Writing the digits of a number, four per iteration, from a table of the digit pairs of the radix: `00`, `01`
+// and so on. The functions record their quotients in the counter `turns`, which only contracts read.
 
 ghost use Rattle.std.specs.Prelude.{◌≡◌, ℕ, ◌+◌, ◌-◌, ◌*◌, ◌/◌, ◌%◌, ◌^◌, ◌<◌, ◌≤◌};
 ghost use Rattle.std.specs.Prelude.{◌++◌, [], ◌∷◌, false, length, slice_index};
@@ -20,8 +21,8 @@ struct RadixTable<'a, const R: u32> {
     ghost begins: { BeginsWithPairs R pairs.now },
 }
 
-// Copies the pair at `index` of the table to index `at` of the buffer. The index is twice the number whose
-// digits the pair is.
+// Copies the pair at `index` of the table to index `at` of the buffer. The pair has the two digits of the
+// number `index / 2`.
 fn write_pair<const R: u32>(index: usize, table: &RadixTable<'_, R>, buffer: &mut [u8], at: usize)
     requires even { index % 2 ≡ 0 }
     requires pair { index / 2 < R * R }
@@ -34,8 +35,8 @@ fn write_pair<const R: u32>(index: usize, table: &RadixTable<'_, R>, buffer: &mu
     buffer[at] = first;
 }
 
-// Writes the last four digits of a number at index `at`, as two pairs, and records `left`, which is the
-// number without them.
+// Writes the last four digits of a number at index `at`, as two pairs. Records `left`, which is the number
+// without those digits.
 fn write_last_four<const R: u32>(
     number: u64,
     left: u64,
@@ -56,8 +57,8 @@ fn write_last_four<const R: u32>(
     turns.tick(left);
 }
 
-// Removes the last two digits of a number of up to four digits, if it has more than two, and records the
-// quotient. Returns the remaining number and the number of digits that were removed.
+// If a number of up to four digits has more than two, removes the last two digits and records the quotient.
+// Returns the remaining number, and how many digits were removed.
 fn take_two_digits<const R: u32>(number: u32, turns: &mut Turns) -> (u32, usize)
     requires radix { IsRadix R }
     requires short { number < R ^ 4 }
@@ -73,8 +74,8 @@ fn take_two_digits<const R: u32>(number: u32, turns: &mut Turns) -> (u32, usize)
     }
 }
 
-// Removes the last digit of a number of up to two digits, if it has two, and records the quotient. Returns
-// the number of digits that were removed.
+// If a number of up to two digits has two, removes the last digit and records the quotient. Returns how many
+// digits were removed.
 fn take_last_digit(number: u32, radix: u32, turns: &mut Turns) -> usize
     requires radix { IsRadix radix }
     requires short { number < radix ^ 2 }
@@ -89,8 +90,8 @@ fn take_last_digit(number: u32, radix: u32, turns: &mut Turns) -> usize
     }
 }
 
-// Removes the last four digits of a number per iteration, while it has more than four, and saves and
-// records each quotient. Returns the remaining number and the number of quotients.
+// Removes the last four digits of a number per iteration, while it has more than four. Saves each quotient
+// in `kept`, and records it. Returns the remaining number and the number of quotients.
 fn save_quotients<const R: u32>(value: u64, kept: &mut [u64], turns: &mut Turns) -> (u32, usize)
     requires radix { IsRadix R }
     requires room { value < R ^ (4 * (length kept.old + 1)) }
@@ -111,7 +112,7 @@ fn save_quotients<const R: u32>(value: u64, kept: &mut [u64], turns: &mut Turns)
     (rest as u32, count)
 }
 
-// Writes, four at a time, the digits that the saved quotients determine, at the end of the buffer.
+// Writes the last digits of a number to the end of the buffer, four for each saved quotient.
 fn write_from_quotients<const R: u32>(
     value: u64,
     kept: &[u64],
@@ -149,14 +150,14 @@ fn write_one_or_two(number: u32, digits: usize, radix: u32, table: &[u8], buffer
     let index = 2 * number as usize;
     let first = table[index];
     let second = table[index + 1];
-    // Both bytes are read before one is written, so the choice compiles to no branch.
+    // Both bytes are read before either is written, so the choice needs no branch.
     buffer[digits - 1] = second;
     let front = if number < radix { second } else { first };
     buffer[0] = front;
 }
 
-// Writes the one to four digits of a number to the start of the buffer, without a branch on how many there
-// are. The last two are written first. If the number has only those, they are written again.
+// Writes the one to four digits of a number to the start of the buffer: first the last two, and then the one
+// or two before them. A number of at most two digits is written twice instead, which avoids a branch.
 fn write_up_to_four<const R: u32>(
     number: u32,
     digits: usize,
@@ -179,7 +180,8 @@ fn write_up_to_four<const R: u32>(
     write_one_or_two(left, digits - taken, R, table.pairs, buffer);
 }
 
-// Writes a number whose digits are counted by division, and saves the quotients for the writer.
+// Writes a number whose digits are counted by division. The loop that counts them saves its quotients, at most
+// `QUOTIENTS`, so that the digits are written without the same divisions.
 #[tactic(auto, using(crate::proofs::RadixPowers::steps))]
 fn write_by_divisions<const R: u32, const QUOTIENTS: usize>(
     value: u64,
@@ -205,7 +207,7 @@ fn write_by_divisions<const R: u32, const QUOTIENTS: usize>(
     count
 }
 
-// Writes a number whose digits are counted first: four digits per iteration while it has more than four, and
+// Counts the digits of a number, and then writes them: four per iteration while more than four are left, and
 // then the others.
 fn write_after_count<const R: u32>(
     value: u64,
@@ -232,9 +234,9 @@ fn write_after_count<const R: u32>(
     count
 }
 
-// Writes a number in the radix `R`, with a table that begins with its digit pairs. A number of up to eight
-// digits has at most one quotient to save. One of 64 bits has at most ten, as in radix 3, and at most three
-// in radix 17 and above.
+// Writes a number in the radix `R`, with a table that begins with the digit pairs of that radix. A number of
+// up to eight digits has at most one quotient to save. A number of 64 bits has at most ten in radix 3, which is
+// the smallest radix whose digits are counted by division, and at most three in radix 17 and above.
 pub(crate) fn write_digits<const R: u32>(
     value: u64,
     table: &[u8],
@@ -262,8 +264,8 @@ pub(crate) fn write_digits<const R: u32>(
     }
 }
 
-// Returns the number of digits of a number of one or two digits, in radix 16 and above. It is counted by
-// division except in radix 16 and 32.
+// Returns how many digits a number of one or two digits has, in radix 16 and above. They are counted by
+// division, except in radix 16 and 32.
 fn count_short(value: u32, radix: u32, turns: &mut Turns) -> usize
     requires radix { IsRadix radix }
     requires great { 16 ≤ radix }
