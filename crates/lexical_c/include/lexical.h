@@ -10,9 +10,9 @@
  * tests/header.c, a test of the library.
  *
  * Each function is proved for all arguments that meet the conditions below
- * under "Format" and "Buffer": it writes the text of the number and nothing
- * else, or it returns 0 and leaves the buffer unchanged. The proof does not
- * cover the caller's code.
+ * under "Format" and "Buffer". A function that writes a number writes its text
+ * and nothing else, or it returns 0 and leaves the buffer unchanged. The proof
+ * does not cover the caller's code.
  *
  * Text. The text begins with a sign: '-' for a negative number, and '+' for any
  * other number if the format requires a sign. Then come the digits, '0' to '9'
@@ -21,8 +21,8 @@
  * digits.
  *
  * Format. `format` points to a struct lexical_format, which the call only
- * reads. It must not be NULL. Its fields may hold any numbers: if one is
- * invalid, the call returns 0, and lexical_check_format says which one it is.
+ * reads. The pointer must not be NULL. The fields may hold any numbers: if one
+ * is invalid, lexical_check_format says which one, and the other calls return 0.
  *
  * Buffer. `buffer` points to `length` bytes that the call may write. They must
  * not overlap the format, and no other thread may use them during the call. The
@@ -32,9 +32,10 @@
  *
  * Length of the buffer. A call writes if the text fits the buffer, and
  * otherwise returns 0. LEXICAL_BUFFER_SIZE bytes are enough for every number of
- * every type in every format. A call is fastest if the buffer is long enough
- * for every number of its type (LEXICAL_BUFFER_SIZE_.. below); otherwise the
- * text is written to an array on the stack first.
+ * every type in every format. A call is fastest if the format has no groups and
+ * no required sign, and the buffer is long enough for every number of the type
+ * (LEXICAL_BUFFER_SIZE_.. below). In other cases the text may be written to an
+ * array on the stack first; LEXICAL_BUFFER_SIZE bytes always avoid that.
  *
  * Strings. No terminating 0 is written; the result of the call is the length of
  * the text. For a string, reserve a further byte, which is not part of `length`:
@@ -100,7 +101,13 @@ LEXICAL_HAS((nothrow, const)) uint32_t lexical_version(void) LEXICAL_NOEXCEPT;
 
 /* ---- formats ------------------------------------------------------------- */
 
-/* A format: how a number is written. */
+/*
+ * A format: how a number is written.
+ *
+ * Groups are counted from the right: the format { 10, 0, 3, ',' } writes
+ * 1,234,567. The fields have 32 bits, so a radix, a group size or a mark above
+ * 255 is not truncated to a byte but is invalid.
+ */
 struct lexical_format {
     uint32_t radix;         /* from 2 to 36 */
     uint32_t required_sign; /* 0 for no '+', and any other number for a '+' */
@@ -113,10 +120,6 @@ struct lexical_format {
 /*
  * The standard format, as an initializer and as an object: decimal, with no '+'
  * and no groups.
- *
- * Groups are counted from the right: the format { 10, 0, 3, ',' } writes
- * 1,234,567. The fields have 32 bits, so a value above 255 is not truncated to a
- * byte but is invalid.
  */
 #define LEXICAL_STANDARD_FORMAT { 10, 0, 0, 0 }
 static const struct lexical_format lexical_standard_format = LEXICAL_STANDARD_FORMAT;
@@ -127,8 +130,8 @@ static const struct lexical_format lexical_standard_format = LEXICAL_STANDARD_FO
 #define LEXICAL_INVALID_GROUP_MARK 3
 
 /*
- * Returns 0 if the format is valid, and otherwise one of the constants above,
- * for its first invalid field. The radix is checked first, then the group size,
+ * Returns 0 if the format is valid, and otherwise the constant above that names
+ * its first invalid field. The radix is checked first, then the group size,
  * then the mark.
  */
 LEXICAL_READS(1)
