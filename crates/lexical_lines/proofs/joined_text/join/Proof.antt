@@ -203,7 +203,7 @@ module _ (T : Able) {M : Type 1} {𝓤 : Ura M} (𝓛 : Logic 𝓤) (at_mem : Me
         let wrote : Written Both xs ys n = Writes-short (room_for - 1) xs ys n text short in
         use3 𝓛 (came_back 𝓛 u8 (named 1) κ q (α ∷ []) b o γ xs ys) (comes_back 𝓛 u8 (named 1) κ q (α ∷ []) b o γ δ xs ys) $ await ! tt $
         learn ! (λ long. split ! $
-        -- [the slice, as it was written; the token of κ; the references; the token of κv; the other tokens]
+        -- [the written slice; the token of κ; the references; the token of κv; the other tokens]
         lands_as ! (ap only is) refl (tt, record { fits = fits }) $
         sets ! (addr ! (from ! (fld ! refl (hop ! (look_in_at ! 3 (sub ! 0 refl (whole !))) (stop !))))) refl (tt, tt) $
         sets ! (agg ! (and_then ! (get ! refl) (and_then ! (get_in ! (fld ! refl (stop !)) (sub ! 1 refl (whole !))) (no_more !)))) refl

@@ -183,7 +183,7 @@ module _ (T : Able) {M : Type 1} {𝓤 : Ura M} (𝓛 : Logic 𝓤) (at_mem : Me
         let wrote : Written All xs ys n = Writes-and xs ys n (Writes-short room_for xs ys n text short) plain in
         use3 𝓛 (came_back 𝓛 u8 (named 0) κ q (α ∷ []) b o γ xs ys) (comes_back 𝓛 u8 (named 0) κ q (α ∷ []) b o γ δ xs ys) $
         await ! tt $ learn ! (λ long. split ! $
-        -- [the slice, as it was written; the token of κ; the references; the other tokens]
+        -- [the written slice; the token of κ; the references; the other tokens]
         lands_as ! (ap only is) refl (tt, record { fits = fits }) $
         sets ! (addr ! (from ! (fld ! refl (hop ! (look_in_at ! 2 (sub ! 0 refl (whole !))) (stop !))))) refl (tt, tt) $
         sets !
