@@ -126,7 +126,7 @@ module _ (T : Able) {M : Type 1} {𝓤 : Ura M} (𝓛 : Logic 𝓤) (at_mem : Me
 
     walk : Room u8 (length xs) → Typed (layout T.row ∷ []) (x_vals T x)
         → ent 𝓤 ((walk_of 𝓛 (ended T) (stayed T) clauses).pre bound)
-            (WpFn 𝓤 H 𝓣.C 𝓣.Λ (function T) ((walk_of 𝓛 (ended T) (stayed T) clauses).args bound) ((walk_of 𝓛 (ended T) (stayed T) clauses).post bound))
+        (WpFn 𝓤 H 𝓣.C 𝓣.Λ (function T) ((walk_of 𝓛 (ended T) (stayed T) clauses).args bound) ((walk_of 𝓛 (ended T) (stayed T) clauses).post bound))
     walk room typed =
         qed 𝓛 (((‵ (flft κ q) ⊛ ‵ tokens) ⊛ (‵ ((R T).own_val x (x_vals T x)) ⊛ ‵ ((MutSlice (named 0) κ u8).own_val self (mut_slice_vals self)) ⊛ ‵ ftrue)) ∷
         (given (κT ⊑ T.row.lives) (‵ ftrue) ⊛ given (T.g.is_valid x) (‵ ftrue) ⊛ given (room_for ≤ length xs) (‵ ftrue)) ∷ []) ∵
@@ -180,8 +180,10 @@ to_text_spec 𝓤 𝓛 𝓜 𝓡 wired X L C g d gc dc met' _ =
     let c = clauses T 𝓛 𝓜.mem 𝓡.returns in
     entered 𝓤 𝓛.H (triple_of 𝓛 (F.signature X) (F.spec X g d gc dc 𝓛 𝓜.mem 𝓡.returns)) 𝓣.C 𝓣.Λ (#self (args T)) (function T)
     (code.unfolded 𝓤 𝓛.H 𝓜 𝓡 wired (X, tt) d dc)
-    (walk_Meets 𝓛 (ended T) (stayed T) (Goes-dropped 𝓛 2 (plain (λ _. R T)) no (λ κs x f. refl),
-      (Goes-spent_slice 𝓛 2 (0 ∷ []) tt (plain (λ _. u8)), tt)) c (WpFn 𝓤 𝓛.H 𝓣.C 𝓣.Λ (function T)) (WpFn-mono 𝓤 𝓛.H 𝓛.laws 𝓣 (function T))
+    (walk_Meets 𝓛 (ended T) (stayed T) (
+      Goes-dropped 𝓛 2 (plain (λ _. R T)) no (λ κs x f. refl),
+      (Goes-spent_slice 𝓛 2 (0 ∷ []) tt (plain (λ _. u8)), tt),
+    ) c (WpFn 𝓤 𝓛.H 𝓣.C 𝓣.Λ (function T)) (WpFn-mono 𝓤 𝓛.H 𝓛.laws 𝓣 (function T))
     (walked 𝓛 (ended T) (stayed T) c (WpFn 𝓤 𝓛.H 𝓣.C 𝓣.Λ (function T)) (λ κs. (x_vals T, (mut_slice_vals, tt)))
     (λ κs. (C.tells, (mut_slice_Tells (named 0) κs.0 u8, tt)))
     (λ κs qs bounds a ghost are.
