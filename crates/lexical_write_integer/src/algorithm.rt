@@ -10,12 +10,11 @@ ghost use Rattle.lexical_write_integer.specs.LoopTurns.{table_notes, table_turns
 
 use crate::digit_count::DigitCount;
 use crate::radixes::by_radix;
-use crate::table_writer::{write_digits, write_short};
+use crate::table_writer::write_digits;
 use crate::turns::Turns;
 use lexical_num::num::UnsignedInteger;
 
-// Writes a number in any radix, as a number of 64 bits. A byte has at most two digits in radix 16 and
-// above, and a number below 1024 has at most two digits above radix 32.
+// Writes a number in any radix, as a number of 64 bits.
 fn write_number<T: UnsignedInteger>(
     value: T,
     radix: u32,
@@ -31,12 +30,6 @@ fn write_number<T: UnsignedInteger>(
 {
     value.fits_bits();
     let number = value.as_usize() as u64;
-    if T::BITS == 8 && radix >= 16 {
-        return write_short(number as u32, radix, table, buffer, turns);
-    }
-    if radix > 32 && number < 1024 {
-        return write_short(number as u32, radix, table, buffer, turns);
-    }
     by_radix!(radix, write_digits(number, table, buffer, turns))
 }
 

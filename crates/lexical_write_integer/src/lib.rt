@@ -45,7 +45,7 @@ mod decimal_pairs;
 pub mod jeaiii;
 mod kernels;
 
-// Every other radix: `radix` calls `algorithm`, which writes four digits at a time from a table.
+// Every other radix, four digits at a time from a table: `radix` has the tables, and `algorithm` takes one.
 pub mod algorithm;
 pub mod radix;
 mod radixes;

@@ -1,23 +1,66 @@
 //! Writing the digits of a number in any radix, from the tables of digit pairs.
 
-ghost use Rattle.std.specs.Prelude.{◌≤◌, length};
+ghost use Rattle.std.specs.Prelude.{◌≡◌, ◌≤◌, ◌++◌, length};
 ghost use Rattle.lexical_num.specs.Format.{IsRadix};
 ghost use Rattle.lexical_write_integer.specs.Buffer.{WritesDigits};
 ghost use Rattle.lexical_write_integer.specs.DigitCount.{digit_count};
+ghost use Rattle.lexical_write_integer.specs.LoopTurns.{table_notes};
 
-use crate::algorithm::algorithm;
-use crate::digit_count::DigitCount;
+use crate::radixes::by_radix;
+use crate::table_writer::{write_digits, write_short};
+use crate::turns::Turns;
 use lexical_num::num::UnsignedInteger;
 use lexical_tables::get_table;
 
-// Calls the table writer with the table of the radix.
-fn write_by_table<T: DigitCount>(value: T, radix: u32, buffer: &mut [u8]) -> usize
+// Writes a number in the radix `R`, with the table of that radix. A byte has at most two digits in radix 16
+// and above, and a number below 1024 has at most two digits above radix 32.
+fn write_by_table<T: UnsignedInteger, const R: u32>(
+    value: T,
+    buffer: &mut [u8],
+    turns: &mut Turns,
+) -> usize
+    requires radix { IsRadix R }
+    requires room { digit_count R (T.magnitude value) ≤ length buffer.old }
+    ensures digits { WritesDigits R (T.magnitude value) buffer.old buffer.new result }
+    ensures notes { turns.new ≡ turns.old ++ table_notes R (T.magnitude value) }
+{
+    value.fits_bits();
+    let number = value.as_usize() as u64;
+    let table = get_table(R);
+    if T::BITS == 8 && R >= 16 {
+        return write_short(number as u32, R, table, buffer, turns);
+    }
+    if R > 32 && number < 1024 {
+        return write_short(number as u32, R, table, buffer, turns);
+    }
+    write_digits::<R>(number, table, buffer, turns)
+}
+
+// Does what `algorithm_counted` does, with the table of the radix. The radix is looked at only once, since
+// the code of each radix names its table.
+pub(crate) fn radix_counted<T: UnsignedInteger>(
+    value: T,
+    radix: u32,
+    buffer: &mut [u8],
+    turns: &mut Turns,
+) -> usize
+    requires radix { IsRadix radix }
+    requires room { digit_count radix (T.magnitude value) ≤ length buffer.old }
+    ensures digits { WritesDigits radix (T.magnitude value) buffer.old buffer.new result }
+    ensures notes { turns.new ≡ turns.old ++ table_notes radix (T.magnitude value) }
+{
+    by_radix!(radix, write_by_table::<T>(value, buffer, turns))
+}
+
+// Calls `radix_counted` with a counter that is not read.
+fn write_in_radix<T: UnsignedInteger>(value: T, radix: u32, buffer: &mut [u8]) -> usize
     requires radix { IsRadix radix }
     requires room { digit_count radix (T.magnitude value) ≤ length buffer.old }
     ensures digits { WritesDigits radix (T.magnitude value) buffer.old buffer.new result }
     ensures short { result ≤ T.BITS }
 {
-    algorithm(value, radix, get_table(radix), buffer)
+    value.fits_bits();
+    radix_counted(value, radix, buffer, &mut Turns::new())
 }
 
 /// An unsigned integer type whose digits are written by the table writer.
@@ -34,30 +77,30 @@ pub trait Radix: UnsignedInteger {
 
 impl Radix for u8 {
     fn radix(self, radix: u32, buffer: &mut [u8]) -> usize {
-        write_by_table(self, radix, buffer)
+        write_in_radix(self, radix, buffer)
     }
 }
 
 impl Radix for u16 {
     fn radix(self, radix: u32, buffer: &mut [u8]) -> usize {
-        write_by_table(self, radix, buffer)
+        write_in_radix(self, radix, buffer)
     }
 }
 
 impl Radix for u32 {
     fn radix(self, radix: u32, buffer: &mut [u8]) -> usize {
-        write_by_table(self, radix, buffer)
+        write_in_radix(self, radix, buffer)
     }
 }
 
 impl Radix for u64 {
     fn radix(self, radix: u32, buffer: &mut [u8]) -> usize {
-        write_by_table(self, radix, buffer)
+        write_in_radix(self, radix, buffer)
     }
 }
 
 impl Radix for usize {
     fn radix(self, radix: u32, buffer: &mut [u8]) -> usize {
-        write_by_table(self, radix, buffer)
+        write_in_radix(self, radix, buffer)
     }
 }

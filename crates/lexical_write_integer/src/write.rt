@@ -8,14 +8,12 @@ ghost use Rattle.lexical_write_integer.specs.DecimalTurns.{write_notes, write_tu
 ghost use Rattle.lexical_write_integer.specs.DigitCount.{digit_count};
 ghost use Rattle.lexical_write_integer.specs.Text.{digits_need};
 
-use crate::algorithm::algorithm_counted;
 use crate::decimal::Decimal;
 use crate::digit_count::DigitCount;
-use crate::radix::Radix;
+use crate::radix::{Radix, radix_counted};
 use crate::turns::Turns;
 use lexical_num::format::NumberFormat;
 use lexical_num::num::{LexicalInteger, UnsignedInteger};
-use lexical_tables::get_table;
 
 /// Writes the digits of the number to the start of the buffer, and returns how many there are. The radix is
 /// from 2 to 36. The buffer has room for `DECIMAL_WIDTH` bytes in radix 10, and for the digits in
@@ -40,7 +38,7 @@ pub fn write_integer_counted<T: Decimal + DigitCount>(
     if radix == 10 {
         value.decimal_counted(buffer, turns)
     } else {
-        algorithm_counted(value, radix, get_table(radix), buffer, turns)
+        radix_counted(value, radix, buffer, turns)
     }
 }
 

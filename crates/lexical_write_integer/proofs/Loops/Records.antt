@@ -1,14 +1,15 @@
 -- The quotients that the loops record, and how many of them there are.
 use Rattle.std.proofs.Common.{◌≡◌, ◌≢◌, ℕ, ◌+◌, ◌-◌, ◌*◌, ◌/◌, ◌%◌, ◌^◌, ◌<◌, ◌≤◌, Bool, true, false, cond, ltb, eqb, List, []}
 use Rattle.std.proofs.Common.{◌∷◌, ◌++◌, length, refl, sym, ap, ◌∙◌, inl, inr, arith, append_assoc, length-append}
-use Rattle.std.proofs.Math.Nat.{pow-le-pow_left, div-one}
+use Rattle.std.proofs.Math.Nat.{pow-le-pow_left, pow-le-pow_right, div-one}
 use Rattle.std.proofs.lemmas.List.{append-nil}
 use Rattle.std.proofs.lemmas.Bool.{cond_both, ltb-true, ltb-false, eqb-true, eqb-false, or_from, ne_eqb, cases_eq}
+use Rattle.lexical_num.specs.BitWidth.{IsBitWidth}
 use Rattle.lexical_write_integer.specs.DigitCount.{digit_count}
 use Rattle.lexical_write_integer.specs.LoopTurns.{TakesDigits, digits_after_first, quotients, loop_notes, slow_notes, count_notes}
 use Rattle.lexical_write_integer.specs.LoopTurns.{table_notes, compact_notes, is_counted_at_once, loop_turns, slow_turns}
 use Rattle.lexical_write_integer.specs.LoopTurns.{count_turns, table_turns, compact_turns}
-use Rattle.lexical_write_integer.proofs.DigitCounts.{digit_count-pos, digit_count-le}
+use Rattle.lexical_write_integer.proofs.DigitCounts.{digit_count-pos, digit_count-le, width-le_64}
 use Rattle.lexical_write_integer.proofs.Powers.{div-pow_more}
 use Rattle.lexical_write_integer.proofs.Loops.Divisions.{quotients-none, quotients-more, length-quotients, TakesDigits-counts}
 
@@ -172,3 +173,14 @@ table_turns-le_21 r n two fits =
           let few = digit_count-le r n 41 (omega arith) wide in
           omega (arith, count_turns-le r (digit_count r n), twice_turns-le (digit_count r n) few)
     ]
+
+-- what the table writer records, as a number of iterations
+pub table_turns-are : (r n digits : ℕ) (a b : List ℕ)
+    → b ≡ a ++ table_notes r n → digits ≡ digit_count r n → length b ≡ length a + table_turns r digits
+table_turns-are r n digits a b noted count = rw count (length-more a b _ _ noted (length-table_notes r n))
+
+pub table_turns-few : (bits r n : ℕ) (a b : List ℕ)
+    → 2 ≤ r → IsBitWidth bits → n < 2 ^ bits → b ≡ a ++ table_notes r n → length b ≤ length a + 21
+table_turns-few bits r n a b two width fits noted =
+    let wide = pow-le-pow_right {n = 2} (omega arith) {i = bits} {j = 64} (width-le_64 bits width) in
+    omega (arith, length-more a b _ _ noted (length-table_notes r n), table_turns-le_21 r n two (omega (arith, fits, wide)))

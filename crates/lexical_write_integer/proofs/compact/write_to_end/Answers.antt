@@ -1,10 +1,10 @@
-use Rattle.std.proofs.Common.{◌≡◌, ◌+◌, ◌-◌, ◌%◌, ◌^◌, ◌<◌, ◌/◌, ◌≤◌, length, set, refl, subst, arith}
+use Rattle.std.proofs.Common.{◌≡◌, ◌+◌, ◌-◌, ◌%◌, ◌^◌, ◌<◌, ◌/◌, ◌≤◌, length, set, refl, arith}
 use Rattle.std.proofs.Math.Nat.{sub_self, mod-lt}
 use Rattle.lexical_num.specs.Digit.{digit_char}
 use Rattle.lexical_write_integer.specs.Buffer.{WritesBlock}
 use Rattle.lexical_write_integer.specs.DigitCount.{digit_count}
 use Rattle.lexical_write_integer.specs.LoopTurns.{takes_one}
-use Rattle.lexical_write_integer.proofs.Buffers.Blocks.{IsWrittenBack, IsWrittenBack-start, IsWrittenBack-at, IsWrittenBack-counts}
+use Rattle.lexical_write_integer.proofs.Buffers.Blocks.{IsWrittenBack-start, IsWrittenBack-at, IsWrittenBack-counts}
 use Rattle.lexical_write_integer.proofs.Buffers.Blocks.{IsWrittenBack-more, IsWrittenBack-last, IsDigits-block, WritesBlock-one}
 use Rattle.lexical_write_integer.proofs.DigitCounts.{digit_count-one}
 use Rattle.lexical_write_integer.proofs.Loops.Divisions.{IsDivided-start, IsDivided-room, IsDivided-more, TakesDigits-end}

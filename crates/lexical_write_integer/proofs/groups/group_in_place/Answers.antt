@@ -1,4 +1,4 @@
-use Rattle.std.proofs.Common.{ℕ, List, ◌+◌, ◌-◌, ◌/◌, ◌<◌, ◌≤◌, length, arith, refl, sym}
+use Rattle.std.proofs.Common.{ℕ, List, ◌+◌, ◌-◌, ◌/◌, ◌≤◌, length, arith, refl, sym}
 use Rattle.lexical_write_integer.proofs.Grouping.Digits.{HasRoomInGroups, length-in_groups_taken}
 use Rattle.lexical_write_integer.proofs.Grouping.Spread.{IsSpread-start, IsSpread-digit, IsSpread-mark, IsSpread-end}
 use Rattle.lexical_write_integer.proofs.groups.group_in_place.Goals as goal

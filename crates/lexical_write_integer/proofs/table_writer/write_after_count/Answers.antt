@@ -1,7 +1,7 @@
-use Rattle.std.proofs.Common.{◌≡◌, ◌+◌, ◌-◌, ◌/◌, ◌<◌, ◌^◌, ◌++◌, refl, sym, ap, subst, ◌∙◌, lit<, arith}
+use Rattle.std.proofs.Common.{◌≡◌, ◌+◌, ◌-◌, ◌/◌, ◌<◌, ◌^◌, ◌++◌, refl, sym, ap, ◌∙◌, lit<, arith}
 use Rattle.lexical_write_integer.specs.DigitCount.{digit_count}
 use Rattle.lexical_write_integer.specs.LoopTurns.{count_notes, takes_four}
-use Rattle.lexical_write_integer.proofs.Buffers.Blocks.{IsWrittenBack, IsWrittenBack-start, IsWrittenBack-at, IsWrittenBack-more, IsWrittenBack-last}
+use Rattle.lexical_write_integer.proofs.Buffers.Blocks.{IsWrittenBack-start, IsWrittenBack-at, IsWrittenBack-more, IsWrittenBack-last}
 use Rattle.lexical_write_integer.proofs.Buffers.BlocksAfter.{WritesDigits-block}
 use Rattle.lexical_write_integer.proofs.DigitCounts.{digit_count-left}
 use Rattle.lexical_write_integer.proofs.Loops.ShortNumbers.{few-fits, more-long}
