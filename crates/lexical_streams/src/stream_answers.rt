@@ -5,8 +5,8 @@ ghost use Rattle.lexical_lines.specs.RunOutcome.{TellsAllGood};
 ghost use Rattle.lexical_lines.specs.Sink.{taken_by};
 ghost use Rattle.lexical_lines.specs.Stream.{KeepsReader};
 ghost use Rattle.lexical_streams.specs.StreamAnswers.{bytes_read, AnswersGiven, NoFault, NoFaultSoFar};
-ghost use Rattle.lexical_streams.specs.StreamAnswers.{FaultOfReader, FaultOfWriter, AllAnswered};
-ghost use Rattle.lexical_streams.specs.StreamAnswers.{ReaderFailed, WriterFailed, ReadIsAnswered, ReadFails, WriteFails};
+ghost use Rattle.lexical_streams.specs.StreamAnswers.{FaultOfReader, FaultOfWriter, AllAnswered, ReaderFailed};
+ghost use Rattle.lexical_streams.specs.StreamAnswers.{WriterFailed, ReadIsAnswered, ReadFails, WriteFails};
 ghost use Rattle.lexical_streams.specs.Blocks.{reading, lent_reader, held, taken, KeepsBytes};
 
 use crate::block_reader::BlockReader;
