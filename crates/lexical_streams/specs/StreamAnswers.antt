@@ -16,7 +16,13 @@ bytes_read a b = added (reading a).given (reading b).given
 abbrev pub bytes_put : {W : Type 0} {n : ℕ} → BlockWriter W n → BlockWriter W n → List ℕ
 bytes_put a b = added (taken a) (taken b)
 
--- ---- which device failed, from one state of both to a later one
+-- ---- which device failed
+
+-- neither device has failed so far
+abbrev pub NoFaultSoFar : {R W : Type 0} {n : ℕ} → BlockReader R → BlockWriter W n → Type 0
+NoFaultSoFar r w = ((reading r).faults ≡ 0) × (faults w ≡ 0)
+
+-- from one state of both to a later one, no device failed, or one of them once
 
 abbrev pub NoFault : {R W : Type 0} {n : ℕ} → BlockReader R → BlockReader R → BlockWriter W n → BlockWriter W n → Type 0
 NoFault a b c d = ((reading b).faults ≡ (reading a).faults) × (faults d ≡ faults c)

@@ -4,7 +4,7 @@ ghost use Rattle.std.specs.Prelude.{◌≡◌, ◌+◌, ◌-◌, ◌^◌, ◌≤
 ghost use Rattle.lexical_lines.specs.Sink.{taken_by};
 ghost use Rattle.lexical_lines.specs.Source.{faults_of};
 ghost use Rattle.lexical_lines.specs.Stream.{KeepsReader};
-ghost use Rattle.lexical_streams.specs.StreamAnswers.{AnswersGiven};
+ghost use Rattle.lexical_streams.specs.StreamAnswers.{AnswersGiven, NoFaultSoFar};
 
 use crate::block_writer::BlockWriter;
 use lexical_lines::Trace;
@@ -51,7 +51,8 @@ impl<'a, R: Read> BlockReader<'a, R> {
     /// means the end: the reader yields no byte, or the limit is reached.
     ///
     /// A read may wait for input. So the writer must have taken the answers to all lines that have
-    /// ended, and its block must be empty. Only the contract uses `writer`.
+    /// ended, and its block must be empty. Nothing is read after a failure, so neither the reader nor
+    /// the writer may have failed. Only the contract uses `writer`.
     pub(crate) fn read<W, const SIZE: usize>(
         &mut self,
         block: &mut [u8],
@@ -60,6 +61,7 @@ impl<'a, R: Read> BlockReader<'a, R> {
         requires room { 1 ≤ length block.old }
         requires answered { AnswersGiven self.old writer.now }
         requires flushed { held writer.now ≡ [] }
+        requires no_fault { NoFaultSoFar self.old writer.now }
         ensures within { IfOk result (λ count. count ≤ length block.new) }
         ensures given { (reading self.new).given ≡ (reading self.old).given ++ take (taken_by result) block.new }
         ensures ended { result ≡ Ok 0 → (reading self.new).is_ended ≡ true }

@@ -4,9 +4,9 @@ ghost use Rattle.std.specs.Prelude.{◌≡◌, ◌⊎◌, ◌≤◌, true, false
 ghost use Rattle.lexical_lines.specs.RunOutcome.{TellsAllGood};
 ghost use Rattle.lexical_lines.specs.Sink.{taken_by};
 ghost use Rattle.lexical_lines.specs.Stream.{KeepsReader};
-ghost use Rattle.lexical_streams.specs.StreamAnswers.{bytes_read, AnswersGiven, NoFault, FaultOfReader};
-ghost use Rattle.lexical_streams.specs.StreamAnswers.{FaultOfWriter, AllAnswered, ReaderFailed, WriterFailed};
-ghost use Rattle.lexical_streams.specs.StreamAnswers.{ReadIsAnswered, ReadFails, WriteFails};
+ghost use Rattle.lexical_streams.specs.StreamAnswers.{bytes_read, AnswersGiven, NoFault, NoFaultSoFar};
+ghost use Rattle.lexical_streams.specs.StreamAnswers.{FaultOfReader, FaultOfWriter, AllAnswered, ReaderFailed};
+ghost use Rattle.lexical_streams.specs.StreamAnswers.{WriterFailed, ReadIsAnswered, ReadFails, WriteFails};
 ghost use Rattle.lexical_streams.specs.Blocks.{reading, lent_reader, held, taken, KeepsBytes};
 
 use crate::block_reader::BlockReader;
@@ -34,11 +34,11 @@ pub fn answer_lines(rt: HostRuntime) -> u8
 
 /// Reads lines and writes their answers, as `lexical_lines::run` does, and then flushes the writer.
 /// Returns the exit status: 0 if all lines are valid, 1 if a line is invalid, and 2 if a read, a write
-/// or a flush failed. The reader must be new, that is, it must not have yielded any bytes. `answered`
-/// in `crates/lines_tests/src/tests/blocks.rt` is an example.
+/// or a flush failed. The reader must be new, that is, it must not have yielded any bytes, and neither
+/// device may have failed before. `answered` in `crates/lines_tests/src/tests/blocks.rt` is an example.
 ///
 /// When a read begins, every line that has ended is answered, and the block of the writer is empty. So
-/// an answer never waits for the next line.
+/// an answer never waits for the next line. After a failure nothing more is read.
 ///
 /// The block of 128 KiB that is read into is on the stack. With a `BlockWriter` of 16 KiB, a call uses
 /// about 160 KB of stack, or 500 KB if Rattle's own compiler builds it, and no other memory.
@@ -47,6 +47,7 @@ pub fn answer_stream<R: Read, W: Write, const SIZE: usize>(
     writer: &mut BlockWriter<'_, W, SIZE>,
 ) -> u8
     requires fresh { (reading reader.old).given ≡ [] }
+    requires no_fault { NoFaultSoFar reader.old writer.old }
     ensures range { result ≤ 2 }
     // The bytes that `reader` yielded are those that it read from its device, in order. The bytes that
     // `writer` took are written to its device in order, or are still in its block.
@@ -75,7 +76,8 @@ fn answer_blocks<R: Read, W: Write, const SIZE: usize>(
     reader: &mut BlockReader<'_, R>,
     writer: &mut BlockWriter<'_, W, SIZE>,
 ) -> io::Result<bool>
-    requires { (reading reader.old).given ≡ [] }
+    requires fresh { (reading reader.old).given ≡ [] }
+    requires no_fault { NoFaultSoFar reader.old writer.old }
     ensures ok { OnOk result (ReadIsAnswered reader.old reader.new writer.old writer.new) }
     ensures good { IfOk result (λ all_good. TellsAllGood (bytes_read reader.old reader.new) all_good) }
     ensures err { OnErr result
@@ -103,6 +105,7 @@ fn read_block<R: Read, W: Write, const SIZE: usize>(
 ) -> io::Result<usize>
     requires room { 1 ≤ length block.old }
     requires answered { AnswersGiven reader.old writer.old }
+    requires no_fault { NoFaultSoFar reader.old writer.old }
     ensures within { IfOk result (λ count. count ≤ length block.new) }
     ensures given { (reading reader.new).given ≡ (reading reader.old).given ++ take (taken_by result) block.new }
     ensures ended { result ≡ Ok 0 → (reading reader.new).is_ended ≡ true }

@@ -1,6 +1,6 @@
 use Rattle.std.proofs.Common.{◌≡◌, ℕ, ◌+◌, ◌*◌, ◌<◌, ◌≤◌, ◌++◌, [], ◌∷◌, length, map, take, ◌∙◌, arith}
 use Rattle.std.proofs.Math.Nat.{mul-le-mul_right}
-use Rattle.std.proofs.lemmas.List.{length-map, length-take, length-take-le}
+use Rattle.std.proofs.lemmas.List.{length-map, length-take, length-take-le, take_all}
 use Rattle.lexical_num.specs.Size.{size_in}
 use Rattle.lexical_write_integer.specs.Text.{IsText}
 use Rattle.lexical_write_integer.proofs.Buffers.Prefixes.{Writes-after}
@@ -50,3 +50,12 @@ loop-index-preserved g c =
       written = rw next (Writes-after ready.text _ _ _ _ _ _ ready.counted ready.front ready.whole text);
       within = omega (arith, before, text.count, text.front.fits, length-take {A = ℕ}, c.loop-index.invariant.within);
     }
+
+pub returns-clause-text : goal.returns-clause-text
+returns-clause-text g c = rw (take_all c.loop-index.index c.args.values.now c.loop-index-test.false) at c.loop-index.invariant.written
+
+pub returns-clause-short : goal.returns-clause-short
+returns-clause-short g c =
+    let size = size_in g.T.FormattedSize.FORMATTED_SIZE g.T.FormattedSize.FORMATTED_SIZE_DECIMAL c.args.format.now in
+    let inside : c.loop-index.index ≤ length c.args.values.now = omega arith in
+    omega (arith, c.loop-index.invariant.within, mul-le-mul_right (size + 1) inside)

@@ -4,7 +4,7 @@ use Rattle.std.proofs.lemmas.Result.{err_from_is_err_and, IfOk-weaker, on_ok_wea
 use Rattle.lexical_lines.specs.Answerer.{HasAnswered}
 use Rattle.lexical_lines.specs.Stream.{KeepsReader-transitive}
 use Rattle.lexical_streams.specs.StreamAnswers.{NoFault}
-use Rattle.lexical_streams.specs.Blocks.{taken, reading, KeepsBytes-reflexive, KeepsBytes-transitive}
+use Rattle.lexical_streams.specs.Blocks.{taken, faults, reading, KeepsBytes-reflexive, KeepsBytes-transitive}
 use Rattle.lexical_streams.proofs.Begun.{HasBegun-next, bytes-are, bytes-are-all, begins-broken}
 use Rattle.lexical_streams.proofs.Failures.{answers-given, fails-after, failed-read, failed-write, answered-all, failed-last}
 use Rattle.lexical_streams.proofs.stream_answers.answer_blocks.Goals as goal
@@ -15,7 +15,8 @@ read_block-requires g c =
     let none = c.new-answerer.ensures (taken start) in
     let reader = c.args.reader.now in
     let kept = KeepsBytes-reflexive g.W.Write.contents start in
-    (search, (search rules, answers-given g.W.Write.contents reader reader start start [] c.new-answerer.result c.requires (sym (append-nil _)) none kept))
+    let answered = answers-given g.W.Write.contents reader reader start start [] c.new-answerer.result c.requires.fresh (sym (append-nil _)) none kept in
+    (search, (search rules, (answered, c.requires.no_fault)))
 
 pub returns-in_err-count-clause-err : goal.returns-in_err-count-clause-err
 returns-in_err-count-clause-err g c = rw (err_from_is_err_and c.from_residual.result c.from_residual.ensures.1).1 (
@@ -50,14 +51,11 @@ read_block-requires-in-loop-count g c =
     let start = c.args.writer.now in
     let read = loop.begun.read ++ take c.loop-count.count c.loop-count.block in
     let answered = c.in_ok-push_all.ensures.ok (taken start) loop.begun.read loop.begun.answered in
-    let kept = KeepsBytes-transitive g.W.Write.contents _ _ _ loop.written c.push_all.ensures.puts.kept in (
-      search,
-      (
-        search rules,
-        answers-given g.W.Write.contents c.args.reader.now c.loop-count.reader start c.push_all.new.sink read
-            c.push_all.new.self c.requires loop.begun.gave answered kept,
-      ),
-    )
+    let kept = KeepsBytes-transitive g.W.Write.contents _ _ _ loop.written c.push_all.ensures.puts.kept in
+    let given = answers-given g.W.Write.contents c.args.reader.now c.loop-count.reader start c.push_all.new.sink read
+    c.push_all.new.self c.requires.fresh loop.begun.gave answered kept in
+    let writer : faults c.push_all.new.sink ≡ 0 = omega (arith, c.in_ok-push_all.ensures.puts.faults, loop.no_fault.1, c.requires.no_fault.1) in
+    (search, (search rules, (given, (loop.no_fault.0 ∙ c.requires.no_fault.0, writer))))
 
 pub returns-in_err-push_all-clause-err : goal.returns-in_err-push_all-clause-err
 returns-in_err-push_all-clause-err g c =
