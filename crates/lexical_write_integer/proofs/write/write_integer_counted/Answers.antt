@@ -9,11 +9,3 @@ returns-then-radix-eq10-clause-short g c =
       c.decimal_counted.ensures.writes.digits.count,
       digit_count-le_width 10 _ _ (omega arith) g.met.T.UnsignedInteger.range.width c.fits_bits.ensures,
     )
-
-pub returns-else-radix-eq10-clause-short : goal.returns-else-radix-eq10-clause-short
-returns-else-radix-eq10-clause-short g c =
-    omega (
-      arith,
-      c.algorithm_counted.ensures.digits.count,
-      digit_count-le_width _ _ _ c.requires.radix.at_least_two g.met.T.UnsignedInteger.range.width c.fits_bits.ensures,
-    )
