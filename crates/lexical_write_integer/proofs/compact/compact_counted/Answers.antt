@@ -1,4 +1,5 @@
 use Rattle.std.proofs.Common.{◌≡◌, arith}
+use Rattle.std.proofs.lemmas.Grind.{common_steps}
 use Rattle.lexical_write_integer.specs.DigitCount.{digit_count}
 use Rattle.lexical_write_integer.proofs.DigitCounts.{digit_count-le_64, digit_count-le_width}
 use Rattle.lexical_write_integer.proofs.Loops.Records.{length-more, length-compact_notes}
@@ -7,6 +8,16 @@ use Rattle.lexical_write_integer.proofs.compact.compact_counted.Goals as goal
 pub write_in_radix-index-requires-clause-room : goal.write_in_radix-index-requires-clause-room
 write_in_radix-index-requires-clause-room g c =
     rw c.as_usize.ensures (omega (arith, digit_count-le_64 _ _ _ c.requires.radix.at_least_two g.met.T.UnsignedInteger.range.width c.fits_bits.ensures))
+
+-- written out, so that the refusal of a wrong body says what differs
+pub returns-clause-digits : goal.returns-clause-digits
+returns-clause-digits g c =
+    let place = rw c.as_usize.ensures at c.write_in_radix-index.ensures.place in
+    let copied = c.copy_to_front.ensures in
+    record {
+      writes = record { text = _; is = grind (arith, common_steps); front = copied.front; count = copied.count };
+      count = omega (arith, copied.count);
+    }
 
 pub returns-clause-turns : goal.returns-clause-turns
 returns-clause-turns g c =

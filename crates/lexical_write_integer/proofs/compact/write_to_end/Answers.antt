@@ -14,7 +14,7 @@ use Rattle.lexical_write_integer.proofs.compact.write_to_end.Goals as goal
 use Rattle.lexical_write_integer.proofs.compact.write_to_end.Goals.{In-loop-rest, After-loop-rest}
 
 long : (g : _) (c : In-loop-rest g) → g.row.RADIX ^ 1 ≤ c.loop-rest.rest
-long g c = rw pow-one (omega (arith, c.loop-rest-test.true))
+long g c = rw pow-one (omega arith)
 
 -- the next digit has room, and so have those before it
 room : (g : _) (c : In-loop-rest g) → length c.args.buffer.now - c.loop-rest.index + 1 < digit_count g.row.RADIX c.args.value

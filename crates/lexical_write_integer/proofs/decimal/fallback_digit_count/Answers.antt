@@ -14,7 +14,7 @@ two_more g c =
     let limit = 2 ^ g.T.LexicalInteger.BITS in
     let index = c.index-table-log10 in
     let entry =
-    entry_is limit g.T.UnsignedInteger.magnitude c.args.table.now c.fast_log10-log10.result index.result c.if-log10-table.true index.is c.requires in
+    entry_is limit g.T.UnsignedInteger.magnitude c.args.table.now c.fast_log10-log10.result index.result (omega arith) index.is c.requires in
     sym (digit_count-estimate_more _ _ c.fast_log10-log10.ensures (rw entry at (c.is_at_least.ensures.0 c.if-is_at_least.true)))
 
 one_more : (g : _) (c : Joined-else-log10-table g) → c.fast_log10-log10.result + 1 ≡ digit_count 10 (g.T.UnsignedInteger.magnitude c.args.x)
@@ -24,10 +24,10 @@ one_more g c =
       | else-log10-table-via-then-log10-table+else-is_at_least w ↦
           let index = w.index-table-log10 in
           let entry =
-          entry_is limit g.T.UnsignedInteger.magnitude c.args.table.now c.fast_log10-log10.result index.result w.if-log10-table.true index.is c.requires in
-          grind (arith, w.is_at_least.ensures, w.if-is_at_least.false, entry)
+          entry_is limit g.T.UnsignedInteger.magnitude c.args.table.now c.fast_log10-log10.result index.result (omega arith) index.is c.requires in
+          grind (arith, w.is_at_least.ensures, entry)
       | else-log10-table-via-else-log10-table w ↦
-          let past = past_table limit g.T.UnsignedInteger.magnitude c.args.table.now c.fast_log10-log10.result w.if-log10-table.false c.requires in
+          let past = past_table limit g.T.UnsignedInteger.magnitude c.args.table.now c.fast_log10-log10.result (omega arith) c.requires in
           omega (arith, past, c.fits_bits.ensures)
     ]))
 

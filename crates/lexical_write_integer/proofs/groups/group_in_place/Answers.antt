@@ -12,16 +12,16 @@ loop-end-init c = IsSpread-start (has_room c.requires.size c.requires.some c.req
 
 pub loop-end-preserved-then-in_group-size : goal.loop-end-preserved-then-in_group-size
 loop-end-preserved-then-in_group-size c =
-    IsSpread-mark (has_room c.requires.size c.requires.some c.requires.room) (omega arith) c.loop-end-test.true c.if-in_group-size.true c.loop-end.invariant
+    IsSpread-mark (has_room c.requires.size c.requires.some c.requires.room) (omega arith) (omega arith) (omega arith) c.loop-end.invariant
 
 pub loop-end-preserved : goal.loop-end-preserved
 loop-end-preserved c =
     let room = has_room c.requires.size c.requires.some c.requires.room in
-    IsSpread-digit room (omega arith) c.loop-end-test.true (omega (arith, c.loop-end.invariant.few)) c.loop-end.invariant
+    IsSpread-digit room (omega arith) (omega arith) (omega (arith, c.loop-end.invariant.few)) c.loop-end.invariant
 
 pub returns-clause-groups : goal.returns-clause-groups
 returns-clause-groups c =
-    IsSpread-end (has_room c.requires.size c.requires.some c.requires.room) (omega (arith, c.loop-end-test.false)) c.loop-end.invariant
+    IsSpread-end (has_room c.requires.size c.requires.some c.requires.room) (omega arith) c.loop-end.invariant
 
 pub returns-clause-count : goal.returns-clause-count
 returns-clause-count c = sym (length-in_groups_taken (has_room c.requires.size c.requires.some c.requires.room))

@@ -18,7 +18,7 @@ unfolding decimal_notes_32
 returns-after-n-lt1000000000 c =
     let n = c.args.n in
     let fraction = c.if-n-lt1000000000.fraction in
-    let long : 10 ^ 8 ≤ n = c.if-n-lt100000000.false in
+    let long : 10 ^ 8 ≤ n = omega arith in
     elim c.if-n-lt1000000000.branch [
       | then-n-lt1000000000 w ↦
           let whole : carried fraction 4 ≡ n = rw w.fraction-is (omega (arith, w.fixed_8_nine-fraction.ensures.carries)) in
@@ -27,7 +27,7 @@ returns-after-n-lt1000000000 c =
             le-ltb n (10 ^ 4) (omega arith),
             le-ltb n (10 ^ 6) (omega arith),
             le-ltb n (10 ^ 8) (omega arith),
-            lt-ltb n (10 ^ 9) w.if-n-lt1000000000.true,
+            lt-ltb n (10 ^ 9) (omega arith),
           )
           (rw (whole, w.fraction-is, w.fixed_8_nine-fraction.ensures.number) at c.write_pairs-else-n-lt100000000.ensures)
       | else-n-lt1000000000 w ↦
@@ -37,7 +37,7 @@ returns-after-n-lt1000000000 c =
             le-ltb n (10 ^ 4) (omega arith),
             le-ltb n (10 ^ 6) (omega arith),
             le-ltb n (10 ^ 8) (omega arith),
-            le-ltb n (10 ^ 9) w.if-n-lt1000000000.false,
+            le-ltb n (10 ^ 9) (omega arith),
           )
           (rw (whole, w.fraction-is, w.fixed_8_ten-fraction.ensures.number) at c.write_pairs-else-n-lt100000000.ensures)
     ]

@@ -1,5 +1,5 @@
-use Rattle.std.proofs.Common.{◌≡◌, ◌==◌, false, ℕ, ◌+◌, ◌-◌, ◌^◌, ◌<◌, ◌≤◌, List, ◌++◌, length, take, drop, replicate, refl, sym, ap, ◌∙◌, arith, length-append}
-use Rattle.std.proofs.lemmas.Bool.{eqb-false}
+use Rattle.std.proofs.Common.{◌≡◌, ℕ, ◌+◌, ◌-◌, ◌^◌, ◌<◌, ◌≤◌, List, ◌++◌, length, take, drop, replicate, refl, sym, ap, ◌∙◌, arith, length-append}
+use Rattle.std.proofs.lemmas.Bool.Decides.{nat_tests}
 use Rattle.std.proofs.lemmas.List.{length-replicate, length-take, length-drop, length-take-le}
 use Rattle.lexical_write_integer.specs.Buffer.{Front}
 use Rattle.lexical_write_integer.specs.DigitCount.{digit_count, digit_count-le}
@@ -8,21 +8,20 @@ use Rattle.lexical_write_integer.proofs.PaddedDigits.{IsPadded-digits}
 use Rattle.lexical_write_integer.proofs.padded.write_padded.Goals as goal
 
 -- a number below `radix ^ width` has at most `width` digits
-few : (r n width count : ℕ) → (width == 0) ≡ false → n < r ^ width → count ≡ digit_count r n → count ≤ width
+few : (r n width count : ℕ) → 1 ≤ width → n < r ^ width → count ≡ digit_count r n → count ≤ width
 few r n width count some fits counted =
-    let not_none = eqb-false width 0 some in
-    omega (arith, counted, digit_count-le r n width (omega arith) fits)
+    omega (arith, counted, digit_count-le r n width some fits)
 
 -- a zero is written in each byte before the digits
 zeros_are : (zeros : ℕ) (before written : List ℕ) → zeros ≤ length before → written ≡ replicate (length (take zeros before)) 48 → written ≡ replicate zeros 48
 zeros_are zeros before written within is = is ∙ ap (λ n. replicate n 48) (length-take-le zeros before within)
 
 pub overflow_sub-zeros : goal.overflow_sub-zeros
-overflow_sub-zeros g c = few _ _ _ _ (sym c.if-is_empty.ensures) c.requires.fits c.digit_count.ensures.count
+overflow_sub-zeros g c = few _ _ (length c.args.buffer.now) _ (grind (arith, nat_tests)) c.requires.fits c.digit_count.ensures.count
 
 pub radix-requires-clause-room : goal.radix-requires-clause-room
 radix-requires-clause-room g c =
-    let room = few _ _ _ _ (sym c.if-is_empty.ensures) c.requires.fits c.digit_count.ensures.count in
+    let room = few _ _ (length c.args.buffer.now) _ (grind (arith, nat_tests)) c.requires.fits c.digit_count.ensures.count in
     let long =
     ap length (zeros_are _ c.args.buffer.now _ (omega arith) c.write_zeros.ensures)
     ∙ length-replicate (length c.args.buffer.now - c.digit_count.result) 48 in
@@ -30,7 +29,7 @@ radix-requires-clause-room g c =
 
 pub returns-clause-digits : goal.returns-clause-digits
 returns-clause-digits g c =
-    let room = few _ _ _ _ (sym c.if-is_empty.ensures) c.requires.fits c.digit_count.ensures.count in
+    let room = few _ _ (length c.args.buffer.now) _ (grind (arith, nat_tests)) c.requires.fits c.digit_count.ensures.count in
     let zeros = length c.args.buffer.now - c.digit_count.result in
     let long = length-replicate zeros 48 in
     let front : Front c.args.buffer.now (c.write_zeros.new.buffer ++ drop zeros c.args.buffer.now) (replicate zeros 48) = record {

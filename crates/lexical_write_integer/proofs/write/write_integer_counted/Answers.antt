@@ -1,6 +1,6 @@
 use Rattle.std.proofs.Common.{◌+◌, ◌-◌, ◌/◌, cond, length, sym, ap, ◌∙◌, arith}
-use Rattle.lexical_write_integer.specs.LoopTurns.{table_turns}
 use Rattle.std.proofs.lemmas.Bool.{ne_eqb}
+use Rattle.lexical_write_integer.specs.LoopTurns.{table_turns}
 use Rattle.lexical_write_integer.proofs.DigitCounts.{digit_count-le_width}
 use Rattle.lexical_write_integer.proofs.Loops.Records.{table_turns-are, table_turns-few}
 use Rattle.lexical_write_integer.proofs.write.write_integer_counted.Goals as goal

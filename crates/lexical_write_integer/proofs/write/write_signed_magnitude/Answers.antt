@@ -5,11 +5,3 @@ use Rattle.lexical_write_integer.proofs.write.write_signed_magnitude.Goals as go
 pub returns-then-radix-eq10-clause-short : goal.returns-then-radix-eq10-clause-short
 returns-then-radix-eq10-clause-short g c =
     omega (arith, c.decimal_signed.ensures.digits.count, digit_count-le_width 10 _ _ (omega arith) g.met.T.UnsignedInteger.range.width c.fits_bits.ensures)
-
-pub returns-else-radix-eq10-clause-short : goal.returns-else-radix-eq10-clause-short
-returns-else-radix-eq10-clause-short g c =
-    omega (
-      arith,
-      c.radix.ensures.digits.count,
-      digit_count-le_width _ _ _ c.requires.radix.at_least_two g.met.T.UnsignedInteger.range.width c.fits_bits.ensures,
-    )

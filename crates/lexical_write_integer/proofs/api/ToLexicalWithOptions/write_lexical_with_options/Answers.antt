@@ -3,6 +3,10 @@ use Rattle.lexical_write_integer.proofs.Buffers.Prefixes.{Writes-is}
 use Rattle.lexical_write_integer.proofs.Grouping.Plain.{IsText-without_marks}
 use Rattle.lexical_write_integer.proofs.api.ToLexicalWithOptions.write_lexical_with_options.Goals as goal
 
+-- written out, so that the refusal of a wrong body says what differs
+pub returns-clause-text : goal.returns-clause-text
+returns-clause-text g c = c.write_text.ensures.text
+
 pub returns-clause-plain : goal.returns-clause-plain
 returns-clause-plain g c =
     let x = g.Self.LexicalInteger.number c.args.self in
