@@ -19,5 +19,3 @@ pub mod Writers
 -- texts in a buffer, and texts with a separator between them
 pub mod Buffers
 pub mod Joins
--- proofs by hand
-pub mod Steps

@@ -2,27 +2,25 @@
 
 ghost use Rattle.std.specs.Prelude.{◌≡◌, ℕ, ◌+◌, List, [], ◌++◌};
 
-use std::marker::{Model, PhantomData};
+use lexical_num::ghost_log::GhostLog;
+use std::marker::Model;
 use std::mem::size_of;
 
 /// A ghost record of the bytes that a device has yielded or taken so far and of the number of its
 /// failures. Only contracts see it: at run time a trace has no data, and its methods do nothing.
 #[derive(Drop)]
 pub struct Trace {
-    marker: PhantomData<()>,
-    ghost noted: { List ℕ },
-    ghost faulted: { ℕ },
+    bytes: GhostLog,
+    faults: GhostLog,
 }
 
 impl Model for Trace {
-    ghost use Rattle.std.specs.Borrow.{ftrue};
+    ghost use Rattle.std.specs.Prelude.{length};
     ghost use Rattle.lexical_lines.specs.Trace.{Traced};
 
     ghost Value = { Traced };
 
-    ghost view = { λ t. record { bytes = t.noted; faults = t.faulted } };
-
-    ghost also_owns = { λ _. ftrue };
+    ghost view = { λ t. record { bytes = t.bytes; faults = length t.faults } };
 }
 
 const _: () = prove!(size_of::<Trace>() == 0);
@@ -34,7 +32,8 @@ impl Trace {
         ensures faults { result.faults ≡ 0 }
     {
         Trace {
-            marker: PhantomData,
+            bytes: GhostLog::new(),
+            faults: GhostLog::new(),
         }
     }
 
@@ -42,11 +41,15 @@ impl Trace {
     pub fn note(&mut self, bytes: &[u8])
         ensures bytes { self.new.bytes ≡ self.old.bytes ++ bytes.now }
         ensures faults { self.new.faults ≡ self.old.faults }
-    {}
+    {
+        self.bytes.extend(bytes);
+    }
 
     /// Adds 1 to the number of failures.
     pub fn fault(&mut self)
         ensures bytes { self.new.bytes ≡ self.old.bytes }
         ensures faults { self.new.faults ≡ self.old.faults + 1 }
-    {}
+    {
+        self.faults.push(0);
+    }
 }

@@ -37,6 +37,9 @@ pub mod options;
 // Laws for callers.
 pub mod laws;
 
+// A list of numbers that only contracts read.
+pub mod ghost_log;
+
 pub use constants::{BUFFER_SIZE, FormattedSize};
 pub use digit::digit_to_char;
 pub use error::{Error, Result};

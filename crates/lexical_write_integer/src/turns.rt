@@ -2,26 +2,23 @@
 
 ghost use Rattle.std.specs.Prelude.{◌≡◌, ℕ, List, [], ◌∷◌, ◌++◌};
 
-use std::marker::{Model, PhantomData};
+use lexical_num::ghost_log::GhostLog;
+use std::marker::Model;
 use std::mem::size_of;
 
 /// A counter of loop iterations (turns). Contracts see it as a list of numbers (notes), one for each
 /// iteration, in order. The list has no maximum length, and the counter has no data at run time.
 #[derive(Drop)]
 pub struct Turns {
-    marker: PhantomData<()>,
-    ghost notes: { List ℕ },
+    log: GhostLog,
 }
 
 impl Model for Turns {
     ghost use Rattle.std.specs.Prelude.{ℕ, List};
-    ghost use Rattle.std.specs.Borrow.{ftrue};
 
     ghost Value = { List ℕ };
 
-    ghost view = { λ t. t.notes };
-
-    ghost also_owns = { λ _. ftrue };
+    ghost view = { λ t. t.log };
 }
 
 const _: () = prove!(size_of::<Turns>() == 0);
@@ -32,12 +29,14 @@ impl Turns {
         ensures { result ≡ [] }
     {
         Turns {
-            marker: PhantomData,
+            log: GhostLog::new(),
         }
     }
 
     /// Appends the number that an iteration records. It does nothing at run time.
     pub fn tick(&mut self, note: u64)
         ensures { self.new ≡ self.old ++ note ∷ [] }
-    {}
+    {
+        self.log.push(note);
+    }
 }
