@@ -11,6 +11,7 @@ use std::mem::size_of;
 #[derive(Drop)]
 pub struct Trace {
     bytes: GhostLog,
+    // One number for each failure. Only their count is read.
     faults: GhostLog,
 }
 

@@ -5,7 +5,8 @@ ghost use Rattle.std.specs.Prelude.{◌≡◌, ℕ, List, [], ◌∷◌, ◌++�
 use std::marker::{Model, PhantomData};
 use std::mem::size_of;
 
-/// A list of numbers that only contracts see. It has no maximum length, and no data at run time.
+/// A list of numbers that only contracts see. It has no maximum length, and no data at run time. `Turns` of
+/// `lexical_write_integer` and `Trace` of `lexical_lines` keep what they record in such lists.
 #[derive(Drop)]
 pub struct GhostLog {
     marker: PhantomData<()>,
