@@ -18,7 +18,7 @@
 //! ```
 //!
 //! These lines are from `float_format` in `crates/uses/src/float_format.rt` and from `a_first_use` in
-//! `crates/uses/src/tests.rt`.
+//! `crates/uses_tests/src/tests.rt`.
 #![tactic(auto)]
 
 // The integer types, and the characters of digits.

@@ -15,7 +15,7 @@
 //! assert_eq!(rt; &*text, b"2026-11-03 -12 kg 0xFF;".as_slice());
 //! ```
 //!
-//! The example is from the test `texts_for_writing` in `crates/uses/src/tests/lines.rt`. The calls
+//! The example is from the test `texts_for_writing` in `crates/uses_tests/src/tests/lines.rt`. The calls
 //! that write are the methods of [`Part`], and the other types of this crate are parts.
 #![tactic(auto)]
 

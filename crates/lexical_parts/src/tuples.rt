@@ -16,7 +16,6 @@ impl<A: Part, B: Part> Part for (A, B) {
         self.0.room().saturating_add(self.1.room())
     }
 
-    #[tactic(auto, using(lexical_write_integer::proofs::Sequences::in_order))]
     fn write_to(self, buffer: &mut [u8]) -> usize {
         let first = self.0.write_to(buffer);
         first + self.1.write_to(&mut buffer[first..])

@@ -12,11 +12,10 @@ use crate::digit_count::DigitCount;
 use crate::radixes::by_radix;
 use crate::table_writer::write_digits;
 use crate::turns::Turns;
-use lexical_num::num::UnsignedInteger;
 
-// Writes a number in any radix, as a number of 64 bits.
-fn write_number<T: UnsignedInteger>(
-    value: T,
+// Calls `write_digits` for a radix that is known only at run time.
+fn write_number(
+    number: u64,
     radix: u32,
     table: &[u8],
     buffer: &mut [u8],
@@ -24,12 +23,10 @@ fn write_number<T: UnsignedInteger>(
 ) -> usize
     requires radix { IsRadix radix }
     requires table { BeginsWithPairs radix table.now }
-    requires room { digit_count radix (T.magnitude value) ≤ length buffer.old }
-    ensures digits { WritesDigits radix (T.magnitude value) buffer.old buffer.new result }
-    ensures notes { turns.new ≡ turns.old ++ table_notes radix (T.magnitude value) }
+    requires room { digit_count radix number ≤ length buffer.old }
+    ensures digits { WritesDigits radix number buffer.old buffer.new result }
+    ensures notes { turns.new ≡ turns.old ++ table_notes radix number }
 {
-    value.fits_bits();
-    let number = value.as_usize() as u64;
     by_radix!(radix, write_digits(number, table, buffer, turns))
 }
 
@@ -54,7 +51,7 @@ pub fn algorithm_counted<T: DigitCount>(
     ensures short { result ≤ T.BITS }
 {
     value.fits_bits();
-    write_number(value, radix, table, buffer, turns)
+    write_number(value.as_usize() as u64, radix, table, buffer, turns)
 }
 
 /// Writes the digits of the number to the start of the buffer, and returns how many there are. The radix is

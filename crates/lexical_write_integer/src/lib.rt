@@ -20,7 +20,7 @@
 //! assert_eq!(rt; &*text, b"+127".as_slice());
 //! ```
 //!
-//! These lines are from `a_first_use` in `crates/uses/src/tests.rt`. The crate `uses` has further
+//! These lines are from `a_first_use` in `crates/uses_tests/src/tests.rt`. The crate `uses` has further
 //! examples, and the documentation of most calls names one of them.
 //!
 //! # Words

@@ -31,6 +31,4 @@ pub mod reading;
 pub mod record;
 pub mod sorted_keys;
 pub mod table_row;
-#[cfg(test)]
-mod tests;
 pub mod turn_lists;

@@ -1,0 +1,9 @@
+use Rattle.std.proofs.Common.{◌≡◌, if◌then◌else◌, arith, rules}
+use Rattle.lexical_num.proofs.options.Options.buffer_size_const.Goals as goal
+
+-- written out, so that the refusal of a wrong body says what differs
+pub returns : goal.returns
+returns g c =
+    let decimal : c.args.format.now.mantissa_radix ≡ 10 = omega arith in
+    let sign : c.from-sign.result ≡ (if c.args.format.now.required_mantissa_sign then 1 else 0) = search rules in
+    rw (decimal, ← c.FORMATTED_SIZE_DECIMAL.ensures) (omega (arith, sign, c.grouped_len.ensures))

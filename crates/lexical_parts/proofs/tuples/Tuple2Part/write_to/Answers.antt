@@ -1,0 +1,9 @@
+use Rattle.std.proofs.Common.{arith}
+use Rattle.lexical_write_integer.proofs.Sequences.{written_then}
+use Rattle.lexical_parts.proofs.tuples.Tuple2Part.write_to.Goals as goal
+
+pub returns-clause-text : goal.returns-clause-text
+returns-clause-text g c = written_then _ _ _ _ _ _ _ _ c.write_to-first.ensures.text c.write_to.ensures.text
+
+pub returns-clause-short : goal.returns-clause-short
+returns-clause-short g c = omega (arith, c.write_to-first.ensures.short, c.write_to.ensures.short)

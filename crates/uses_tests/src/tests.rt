@@ -1,0 +1,294 @@
+// Tests of the callers with known numbers.
+
+mod lines;
+
+use lexical_write_integer::{
+    BUFFER_SIZE, Error, NumberFormat, NumberFormatBuilder, Options, ToLexical, ToLexicalWithOptions,
+};
+use std::process::Abort;
+use uses::address::write_address;
+use uses::amount::{width_of_amount, write_amount};
+use uses::any_format::{have_same_text, text_if_room, text_of_any, text_of_i64};
+use uses::arena::{have_same_kept_texts, keep_text};
+use uses::column::write_column;
+use uses::date::write_date;
+use uses::fixed_texts::{million, white};
+use uses::float_format::float_format;
+use uses::float_parts::write_parts;
+use uses::hex_dump::write_dump;
+use uses::hexadecimal::{hexadecimal, write_hexadecimal};
+use uses::identifier::{have_same_identifier, identifier, same_counter, write_identifier};
+use uses::json_array::write_array;
+use uses::key_value::write_setting;
+use uses::percentage::write_percentage;
+use uses::printed::printed;
+use uses::record::write_record;
+use uses::sorted_keys::{are_sorted, comes_before, is_earlier_key};
+
+// Checks that a call that returned `count` wrote the text to the start of the buffer, and that every byte
+// after it is still 7.
+fn check_buffer(rt: &impl Abort, buffer: &[u8], count: usize, text: &[u8]) {
+    assert_eq!(rt; count, text.len());
+    assert!(rt; buffer.starts_with(text));
+    assert!(rt; buffer[count..].iter().all(|byte| *byte == 7));
+}
+
+fn check_identifier(rt: &impl Abort, counter: u64, identifier: &[u8]) {
+    let mut buffer = [7; 14];
+    let count = write_identifier(counter, &mut buffer);
+    check_buffer(rt, &buffer, count, identifier);
+}
+
+fn check_parts(
+    rt: &impl Abort,
+    mantissa: u64,
+    mark: u8,
+    exponent: u32,
+    format: &NumberFormat,
+    text: &[u8],
+) {
+    let mut buffer = [7; BUFFER_SIZE];
+    let count = write_parts(mantissa, mark, exponent, format, &mut buffer);
+    check_buffer(rt, &buffer, count, text);
+}
+
+#[test]
+fn identifiers(rt: HostRuntime) {
+    check_identifier(&rt, 0, b"0");
+    same_counter(35, 36);
+    check_identifier(&rt, 35, b"Z");
+    check_identifier(&rt, 36, b"10");
+    check_identifier(&rt, 18446744073709551615, b"3W5E11264SGSF");
+}
+
+#[test]
+fn dump_of_eight_bytes(rt: HostRuntime) {
+    let mut dump = [7; 16];
+    write_dump(&[0x01, 0x23, 0x45, 0x67, 0x89, 0xAB, 0xCD, 0xEF], &mut dump);
+    assert_eq!(rt; dump, *b"0123456789ABCDEF");
+    write_dump(&[0, 10, 160, 255, 15, 240, 9, 144], &mut dump);
+    assert_eq!(rt; dump, *b"000AA0FF0FF00990");
+}
+
+#[test]
+fn parts_in_two_radices(rt: HostRuntime) {
+    let hexadecimal = NumberFormatBuilder::new()
+        .mantissa_radix(16)
+        .exponent_radix(2)
+        .build_strict();
+    check_parts(&rt, 10, b'^', 10, &hexadecimal, b"A^1010");
+    check_parts(
+        &rt,
+        10,
+        b'p',
+        0,
+        &NumberFormatBuilder::new().build_strict(),
+        b"10p0",
+    );
+    let mut longest = [b'1'; 97];
+    longest[64] = b'e';
+    check_parts(
+        &rt,
+        18446744073709551615,
+        b'e',
+        4294967295,
+        &NumberFormatBuilder::binary(),
+        &longest,
+    );
+}
+
+#[test]
+fn keys_in_the_order_of_the_numbers(rt: HostRuntime) {
+    assert!(rt; comes_before(9, 10));
+    assert!(rt; !comes_before(10, 9));
+    assert!(rt; !comes_before(10, 10));
+    assert!(rt; comes_before(99, 18446744073709551615));
+    assert!(rt; is_earlier_key(b"9", b"10"));
+    assert!(rt; is_earlier_key(b"19", b"20"));
+    assert!(rt; !is_earlier_key(b"20", b"20"));
+}
+
+#[test]
+fn records(rt: HostRuntime) {
+    let mut buffer = [7; 34];
+    let count = write_record(&[0, 4294967295, 10], &mut buffer);
+    check_buffer(&rt, &buffer, count, b"0,4294967295,10");
+}
+
+#[test]
+fn formats_of_floats(rt: HostRuntime) {
+    let format = float_format(16, 2);
+    assert!(rt;
+        matches!(format, Ok(format) if format.mantissa_radix() == 16 && format.exponent_radix() == 2)
+    );
+    assert!(rt; matches!(float_format(37, 2), Err(Error::InvalidMantissaRadix(37))));
+    assert!(rt; matches!(float_format(36, 1), Err(Error::InvalidExponentRadix(1))));
+}
+
+#[test]
+fn sorted_lists(rt: HostRuntime) {
+    assert!(rt; are_sorted(&[]));
+    assert!(rt; are_sorted(&[0, 9, 10, 99, 100, 18446744073709551615]));
+    assert!(rt; !are_sorted(&[9, 10, 10]));
+    assert!(rt; !are_sorted(&[10, 9]));
+}
+
+#[test]
+fn numbers_in_hexadecimal(rt: HostRuntime) {
+    let mut buffer = [7; 10];
+    assert_eq!(rt; write_hexadecimal(0, &mut buffer), 3);
+    assert_eq!(rt; buffer, *b"0x0\x07\x07\x07\x07\x07\x07\x07");
+    assert_eq!(rt; write_hexadecimal(4294967295, &mut buffer), 10);
+    assert_eq!(rt; buffer, *b"0xFFFFFFFF");
+}
+
+#[test]
+fn any_type_in_any_format(rt: HostRuntime) {
+    let binary = NumberFormatBuilder::binary();
+    let mut buffer = [7; BUFFER_SIZE];
+    assert_eq!(rt; text_of_i64(-5, &binary, &mut buffer), b"-101".as_slice());
+    assert_eq!(rt;
+        text_of_any(6u8, &binary, &Options::new(), &mut buffer),
+        b"110".as_slice()
+    );
+    let mut short = [7; 15];
+    assert!(rt; text_if_room(6u8, &binary, &Options::new(), &mut short).is_none());
+    let mut enough = [7; 16];
+    assert!(rt; text_if_room(6u8, &binary, &Options::new(), &mut enough).is_some());
+    assert!(rt; have_same_text(-5, -5, &binary));
+    assert!(rt; !have_same_text(-5, 5, &binary));
+}
+
+#[test]
+fn compared_identifiers(rt: HostRuntime) {
+    let mut buffer = [7; 13];
+    assert_eq!(rt; identifier(71, &mut buffer), b"1Z".as_slice());
+    assert!(rt; have_same_identifier(71, 71));
+    assert!(rt; !have_same_identifier(71, 72));
+}
+
+#[test]
+fn settings(rt: HostRuntime) {
+    let mut buffer = [7; 30];
+    assert_eq!(rt; write_setting(b"limit", -40, &mut buffer), 10);
+    assert!(rt; buffer.starts_with(b"limit=-40\n\x07"));
+}
+
+#[test]
+fn printed_numbers(rt: HostRuntime) {
+    assert_eq!(rt; printed(-2147483648, &mut [7; 11]), "-2147483648");
+    assert_eq!(rt; printed(0, &mut [7; 11]), "0");
+}
+
+#[test]
+fn amounts(rt: HostRuntime) {
+    let mut buffer = [7; 27];
+    assert_eq!(rt; write_amount(1234567, &mut buffer), 10);
+    assert!(rt; buffer.starts_with(b"$1,234,567\x07"));
+    assert_eq!(rt; write_amount(-9223372036854775808, &mut buffer), 27);
+    assert_eq!(rt; buffer, *b"$-9,223,372,036,854,775,808");
+}
+
+#[test]
+fn widths_of_amounts(rt: HostRuntime) {
+    assert_eq!(rt; width_of_amount(0), 1);
+    assert_eq!(rt; width_of_amount(999), 3);
+    assert_eq!(rt; width_of_amount(1000), 5);
+    assert_eq!(rt; width_of_amount(18446744073709551615), 26);
+}
+
+#[test]
+fn texts_of_constants(rt: HostRuntime) {
+    assert_eq!(rt; white(&mut [7; 6]), b"FFFFFF".as_slice());
+    assert_eq!(rt; million(&mut [7; 14]), b"+1,000,000".as_slice());
+}
+
+#[test]
+fn hexadecimal_as_an_equation(rt: HostRuntime) {
+    assert_eq!(rt; hexadecimal(0, &mut [7; 10]), b"0x0".as_slice());
+    assert_eq!(rt; hexadecimal(48879, &mut [7; 10]), b"0xBEEF".as_slice());
+}
+
+#[test]
+fn dates(rt: HostRuntime) {
+    let mut date = [7; 10];
+    assert_eq!(rt; write_date(2026, 11, 23, &mut date), 10);
+    assert_eq!(rt; date, *b"2026-11-23");
+    assert_eq!(rt; write_date(33, 4, 3, &mut date), 10);
+    assert_eq!(rt; date, *b"0033-04-03");
+}
+
+#[test]
+fn addresses(rt: HostRuntime) {
+    let mut buffer = [7; 15];
+    assert_eq!(rt; write_address(255, 255, 255, 255, &mut buffer), 15);
+    assert_eq!(rt; buffer, *b"255.255.255.255");
+    assert_eq!(rt; write_address(10, 0, 0, 1, &mut buffer), 8);
+    assert_eq!(rt; buffer, *b"10.0.0.1255.255");
+}
+
+#[test]
+fn percentages(rt: HostRuntime) {
+    let mut buffer = [7; 14];
+    assert_eq!(rt; write_percentage(1205, &mut buffer), 6);
+    assert!(rt; buffer.starts_with(b"12.05%\x07"));
+    assert_eq!(rt; write_percentage(4294967295, &mut buffer), 12);
+    assert!(rt; buffer.starts_with(b"42949672.95%\x07"));
+}
+
+#[test]
+fn columns(rt: HostRuntime) {
+    let mut column = [7; 12];
+    write_column(-5, &mut column);
+    assert_eq!(rt; column, *b"          -5");
+    write_column(-2147483648, &mut column);
+    assert_eq!(rt; column, *b" -2147483648");
+}
+
+#[test]
+fn arrays_in_json(rt: HostRuntime) {
+    let mut buffer = [7; 9];
+    assert_eq!(rt; write_array(&[1, 0, 234], &mut buffer), Some(9));
+    assert_eq!(rt; buffer, *b"[1,0,234]");
+    assert_eq!(rt; write_array(&[1, 0, 2345], &mut buffer), None);
+    assert_eq!(rt; write_array(&[18446744073709551615], &mut buffer), None);
+    assert_eq!(rt; write_array(&[], &mut buffer), Some(2));
+    assert_eq!(rt; write_array(&[], &mut buffer[..1]), None);
+}
+
+#[test]
+fn texts_in_an_arena(rt: HostRuntime) {
+    let mut arena = [7; 60];
+    let (first, rest) = keep_text(123, &mut arena);
+    let (second, rest) = keep_text(0, rest);
+    let (third, rest) = keep_text(18446744073709551615, rest);
+    assert_eq!(rt; &*first, b"123".as_slice());
+    assert_eq!(rt; &*second, b"0".as_slice());
+    assert_eq!(rt; &*third, b"18446744073709551615".as_slice());
+    assert_eq!(rt; rest.len(), 36);
+    assert!(rt; have_same_kept_texts(12, 12));
+    assert!(rt; !have_same_kept_texts(12, 21));
+}
+
+// The first example of the README.
+#[test]
+fn a_first_use(rt: HostRuntime) {
+    let mut buffer = [7u8; 20];
+    let text = 1234u64.to_lexical(&mut buffer);
+    assert_eq!(rt; &*text, b"1234".as_slice());
+    assert!(rt; buffer[4..].iter().all(|byte| *byte == 7));
+
+    let signed = NumberFormatBuilder::new()
+        .required_mantissa_sign(true)
+        .build_strict();
+    let text = 127i8.to_lexical_with_options(&mut buffer, &signed, &Options::new());
+    assert_eq!(rt; &*text, b"+127".as_slice());
+
+    let thousands = NumberFormatBuilder::new()
+        .digit_grouping(3, b',')
+        .build_strict();
+    let mut buffer = [7u8; 20];
+    let text = 1234567u32.to_lexical_with_options(&mut buffer, &thousands, &Options::new());
+    assert_eq!(rt; &*text, b"1,234,567".as_slice());
+    assert!(rt; buffer[9..].iter().all(|byte| *byte == 7));
+}

@@ -1,0 +1,133 @@
+// Tests of the callers of `lexical_parts`.
+
+use super::check_buffer;
+use lexical_parts::{Byte, Bytes, Decimal, Left, Padded, PaddedDigits, Part};
+use uses::csv_row::{write_row, write_row_of};
+use uses::date_time::DateTime;
+use uses::dump_line::write_dump_line;
+use uses::key_value::try_write_setting;
+use uses::log_entry::{Level, level_name, write_entry};
+use uses::number_list::{try_write_list, write_entries};
+use uses::reading::write_reading;
+use uses::table_row::write_table_row;
+
+const MORNING: DateTime = DateTime {
+    year: 2026,
+    month: 11,
+    day: 23,
+    hour: 7,
+    minute: 5,
+    second: 9,
+};
+
+#[test]
+fn readings(rt: HostRuntime) {
+    let mut buffer = [7; 60];
+    let count = write_reading(MORNING, -125, 255, &mut buffer);
+    check_buffer(&rt, &buffer, count, b"2026-11-23T07:05:09 -12.5 kg 0xFF;");
+    let mut buffer = [7; 57];
+    let count = write_reading(MORNING, -5, 0, &mut buffer);
+    check_buffer(&rt, &buffer, count, b"2026-11-23T07:05:09 -0.5 kg 0x0;");
+}
+
+#[test]
+fn entries_of_a_log(rt: HostRuntime) {
+    let mut buffer = [7; 57];
+    let count = write_entry(
+        MORNING,
+        Level::Error,
+        "disk",
+        -9223372036854775808,
+        &mut buffer,
+    );
+    let line = b"2026-11-23T07:05:09 ERROR disk: -9223372036854775808\n";
+    check_buffer(&rt, &buffer, count, line);
+    assert_eq!(rt; level_name(Level::Info), b"INFO".as_slice());
+    assert_eq!(rt; level_name(Level::Warn), b"WARN".as_slice());
+}
+
+#[test]
+fn rows_of_numbers(rt: HostRuntime) {
+    let mut buffer = [7; 168];
+    let count = write_row(&[-1, 0, 23, 4, 5, 6, 7, 8], &mut buffer);
+    check_buffer(&rt, &buffer, count, b"-1,0,23,4,5,6,7,8\n");
+    let least = -9223372036854775808;
+    let count = write_row_of(
+        least,
+        least,
+        least,
+        least,
+        least,
+        least,
+        least,
+        least,
+        &mut buffer,
+    );
+    assert_eq!(rt; count, 168);
+    assert!(rt; buffer.ends_with(b"-9223372036854775808,-9223372036854775808\n"));
+}
+
+#[test]
+fn lists_of_numbers(rt: HostRuntime) {
+    let mut buffer = [7; 45];
+    let count = try_write_list(&[-1, 20], &mut buffer[..44]);
+    assert_eq!(rt; count, Some(8));
+    check_buffer(&rt, &buffer, 8, b"[-1, 20]");
+    assert_eq!(rt; try_write_list(&[-1, 20], &mut [7; 43]), None);
+    assert_eq!(rt; try_write_list(&[], &mut [7; 2]), Some(2));
+    let mut buffer = [7; 45];
+    let count = write_entries(&[5, -6], &mut buffer);
+    check_buffer(&rt, &buffer, count, b"5;-6;");
+}
+
+#[test]
+fn rows_in_columns(rt: HostRuntime) {
+    let mut buffer = [7; 37];
+    let count = write_table_row(-2147483648, 0, 42, &mut buffer);
+    check_buffer(
+        &rt,
+        &buffer,
+        count,
+        b" -2147483648           0          42\n",
+    );
+    let mut buffer = [7; 8];
+    let count = (Left(Decimal(12u8), 4), Byte(b'|'), Left(Bytes(b"abc"), 2)).write_to(&mut buffer);
+    check_buffer(&rt, &buffer, count, b"12  |abc");
+}
+
+#[test]
+fn lines_of_a_dump(rt: HostRuntime) {
+    let mut buffer = [7; 22];
+    let count = write_dump_line(0xC0DE, &[0x01, 0x23, 0xAB, 0xFF], &mut buffer);
+    check_buffer(&rt, &buffer, count, b"0000C0DE: 01 23 AB FF\n");
+}
+
+#[test]
+fn settings_without_a_number(rt: HostRuntime) {
+    let mut buffer = [7; 10];
+    assert_eq!(rt; try_write_setting("limit", None, &mut buffer), Some(7));
+    check_buffer(&rt, &buffer, 7, b"limit=\n");
+    assert_eq!(rt;
+        try_write_setting("limit", Some(Decimal(5)), &mut buffer),
+        None
+    );
+    check_buffer(&rt, &buffer, 7, b"limit=\n");
+}
+
+// The example of parts in the README, and a change to the text that it returns.
+#[test]
+fn texts_for_writing(rt: HostRuntime) {
+    let mut buffer = [7; 40];
+    let date = (
+        Padded(2026u16, 4),
+        "-",
+        Padded(11u8, 2),
+        "-",
+        Padded(3u8, 2),
+    );
+    let flags = PaddedDigits(16, 255u32, 2);
+    let text = (date, " ", Decimal(-12i32), " kg 0x", flags, ";").to_text(&mut buffer);
+    assert_eq!(rt; &*text, b"2026-11-03 -12 kg 0xFF;".as_slice());
+    text[4] = b'.';
+    check_buffer(&rt, &buffer, 23, b"2026.11-03 -12 kg 0xFF;");
+}
