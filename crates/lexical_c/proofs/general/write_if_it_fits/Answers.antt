@@ -13,7 +13,7 @@ refuses number format buffer short = record {
   refused = λ _. refl;
 }
 
--- the check finds this proof by itself, but with an answer the refusal of an edit says what is wrong
+-- the check finds this proof by itself, but with an answer the refusal of a mistake says what is wrong
 pub returns-else-count-buffer : goal.returns-else-count-buffer
 returns-else-count-buffer g c =
     let same = ap (λ format. length (text_of (g.T.LexicalInteger.number c.args.value) format)) c.in-Some.ensures.format in

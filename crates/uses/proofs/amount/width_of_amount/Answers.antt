@@ -1,7 +1,7 @@
 use Rattle.std.proofs.Common.{arith}
 use Rattle.uses.proofs.amount.width_of_amount.Goals as goal
 
--- the check finds this proof by itself, but with an answer the refusal of an edit says what is wrong
+-- the check finds this proof by itself, but with an answer the refusal of a mistake says what is wrong
 pub returns : goal.returns
 returns c text is =
     let length_is = rw c.in_thousands-format.ensures at c.text_length.ensures text in

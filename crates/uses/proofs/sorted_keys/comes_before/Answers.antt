@@ -4,7 +4,7 @@ use Rattle.lexical_num.specs.Format.{standard}
 use Rattle.lexical_write_integer.specs.Text.{IsText}
 use Rattle.uses.proofs.sorted_keys.comes_before.Goals as goal
 
--- the check finds this proof by itself, but with an answer the refusal of an edit says what is wrong
+-- the check finds this proof by itself, but with an answer the refusal of a mistake says what is wrong
 pub returns : goal.returns
 returns c =
     let first : IsText (pos c.args.a) standard c.to_lexical.result.now = c.to_lexical.ensures.text in

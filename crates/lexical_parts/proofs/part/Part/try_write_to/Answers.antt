@@ -2,7 +2,7 @@ use Rattle.std.proofs.Common.{refl, arith}
 use Rattle.std.proofs.lemmas.Bool.{false≢true}
 use Rattle.lexical_parts.proofs.part.Part.try_write_to.Goals as goal
 
--- the check finds these proofs by itself, but with answers the refusal of an edit says what is wrong
+-- the check finds these proofs by itself, but with answers the refusal of a mistake says what is wrong
 pub write_to-requires-clause-room : goal.write_to-requires-clause-room
 write_to-requires-clause-room g c = omega (arith, c.room.ensures)
 
