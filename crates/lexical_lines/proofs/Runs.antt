@@ -2,18 +2,19 @@
 use Rattle.std.proofs.Common.{rules, ◌≡◌, ◌↔◌, ℕ, ◌+◌, ◌-◌, ◌^◌, min, Bool, true, false, List, [], ◌∷◌, ◌++◌, length, ◌≤◌, Some, refl, sym, ap, ◌∙◌, arith}
 use Rattle.std.proofs.Common.{append_assoc, IsTrue, length-append, inl, inr, ◌&&◌, ◌⊎◌}
 use Rattle.std.specs.List.{All}
-use Rattle.std.specs.Prelude.{nat_le}
+use Rattle.std.proofs.Common.{Result, Ok, Err}
+use Rattle.std.specs.Prelude.{nat_le, IsErr}
 use Rattle.std.proofs.lemmas.Option.{cond_some}
 use Rattle.std.proofs.lemmas.List.Elements.{All-nil, All-cons, All-head, All-tail, All-push}
 use Rattle.lexical_lines.specs.declared.answerer.Answerer.{Answerer}
 use Rattle.lexical_lines.specs.Answer.{IsAnswer, AreAnswers, AreAnswersFrom, AnswersAll, AnswersEnded}
-use Rattle.lexical_lines.specs.Answerer.{HasAnswered}
+use Rattle.lexical_lines.specs.Answerer.{HasAnswered, PutsMore}
 use Rattle.lexical_lines.specs.Line.{short_line}
 use Rattle.lexical_lines.specs.Lines.{AreLines, EndsLine, NoNewline}
 use Rattle.lexical_lines.specs.Request.{IsGood}
 use Rattle.lexical_lines.specs.RunOutcome.{added, BreaksOff}
 use Rattle.lexical_lines.specs.Sink.{IsBeginning}
-use Rattle.lexical_lines.proofs.Added.{added-is}
+use Rattle.lexical_lines.proofs.Added.{added-is, grown-once}
 use Rattle.lexical_lines.proofs.Lines.{IsInside, IsCut-none, IsCut-byte, IsCut-more, IsCut-newline, AreLines-ended, AreLines-rest}
 use Rattle.std.proofs.lemmas.List.{append-nil}
 
@@ -206,3 +207,25 @@ BreaksOff-open is_ended h = record {
   beginning = h.beginning;
   whole = h.whole;
 }
+
+-- ---- what calls do to a sink
+
+module _ {K A E : Type 0} {taken : K → List ℕ} {fault_count : K → ℕ} {keeps : K → K → Type 0} where
+  -- a call that does nothing
+  pub PutsMore-none : (sink : K) (a : A) → keeps sink sink → PutsMore {E = E} taken fault_count keeps sink sink (Ok a)
+  PutsMore-none sink a kept = record {
+    longer = grown-once (taken sink) (taken sink) [] (sym (append-nil (taken sink)));
+    faults = omega arith;
+    kept = kept;
+  }
+
+  -- a call that puts what another has put, and returns another value
+  pub PutsMore-ok : {B : Type 0} (old new : K) (a : A) (b : B) → PutsMore {E = E} taken fault_count keeps old new (Ok a)
+      → PutsMore {E = E} taken fault_count keeps old new (Ok b)
+  PutsMore-ok old new a b puts = record { longer = puts.longer; faults = puts.faults; kept = puts.kept }
+
+  -- a call that returns the error of another
+  pub PutsMore-err : {B : Type 0} (old new : K) (e : E) (result : Result B E) → IsErr result
+      → PutsMore {A = A} taken fault_count keeps old new (Err e) → PutsMore taken fault_count keeps old new result
+  PutsMore-err old new e (Ok b) failed puts = absurd (cc failed)
+  PutsMore-err old new e (Err f) failed puts = record { longer = puts.longer; faults = puts.faults; kept = puts.kept }

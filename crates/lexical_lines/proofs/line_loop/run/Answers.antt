@@ -1,7 +1,9 @@
-use Rattle.std.proofs.Common.{[], ◌++◌, ◌∙◌, refl, sym, ap, inl, inr, arith}
+use Rattle.std.proofs.Common.{[], ◌++◌, ◌∙◌, refl, sym, ap, inl, inr, true, ◌≡◌, ◌+◌, arith}
+use Rattle.std.proofs.Math.Bool.{or-true}
 use Rattle.std.proofs.lemmas.List.{append-nil}
-use Rattle.std.proofs.lemmas.Result.{err_from_is_err_and, IfOk-weaker}
-use Rattle.lexical_lines.proofs.Added.{added-is, added-more, grown}
+use Rattle.std.proofs.lemmas.Result.{err_from_is_err_and, IfOk-from_err, IfOk-weaker, on_ok_weaker}
+use Rattle.lexical_lines.proofs.Added.{added-is, added-more, grown, grown-once}
+use Rattle.lexical_lines.proofs.Results.{OnOk-from_err, OnOk-no_fault, OnErr-one_fault}
 use Rattle.lexical_lines.proofs.Runs.{answers_ended, BreaksOff-open}
 use Rattle.lexical_lines.proofs.line_loop.run.Goals as goal
 
@@ -32,6 +34,30 @@ loop-byte-preserved g c =
       sink_kept = g.met.K.ByteSink.keeps_transitive _ _ _ loop.sink_kept c.push.ensures.puts.kept;
     }
 
+pub returns-in_err-byte-clause-given : goal.returns-in_err-byte-clause-given
+returns-in_err-byte-clause-given g c = grown _ _ _ _ _ c.loop-byte.invariant.given c.in_err-byte.ensures.given
+
+pub returns-in_err-byte-clause-taken : goal.returns-in_err-byte-clause-taken
+returns-in_err-byte-clause-taken g c = grown-once _ _ _ c.loop-byte.invariant.read.whole
+
+pub returns-in_err-byte-clause-kept_source : goal.returns-in_err-byte-clause-kept_source
+returns-in_err-byte-clause-kept_source g c = g.met.S.ByteSource.keeps_transitive _ _ _ c.loop-byte.invariant.source_kept c.in_err-byte.ensures.kept
+
+pub returns-in_err-byte-clause-kept_sink : goal.returns-in_err-byte-clause-kept_sink
+returns-in_err-byte-clause-kept_sink g c = c.loop-byte.invariant.sink_kept
+
+pub returns-in_err-byte-clause-ok_faults : goal.returns-in_err-byte-clause-ok_faults
+returns-in_err-byte-clause-ok_faults g c = OnOk-from_err c.from_residual.result _ c.from_residual.ensures.0
+
+pub returns-in_err-byte-clause-ok_end : goal.returns-in_err-byte-clause-ok_end
+returns-in_err-byte-clause-ok_end g c = OnOk-from_err c.from_residual.result _ c.from_residual.ensures.0
+
+pub returns-in_err-byte-clause-ok_answers : goal.returns-in_err-byte-clause-ok_answers
+returns-in_err-byte-clause-ok_answers g c = OnOk-from_err c.from_residual.result _ c.from_residual.ensures.0
+
+pub returns-in_err-byte-clause-ok_good : goal.returns-in_err-byte-clause-ok_good
+returns-in_err-byte-clause-ok_good g c = IfOk-from_err c.from_residual.result _ c.from_residual.ensures.0
+
 pub returns-in_err-byte-clause-err : goal.returns-in_err-byte-clause-err
 returns-in_err-byte-clause-err g c =
     let loop = c.loop-byte.invariant in
@@ -42,6 +68,27 @@ returns-in_err-byte-clause-err g c =
       loop.sink_faults,
       rw same (answers_ended loop.read),
     ))
+
+pub returns-in_err-push-clause-given : goal.returns-in_err-push-clause-given
+returns-in_err-push-clause-given g c = grown _ _ _ _ _ c.loop-byte.invariant.given c.in_ok-byte.ensures.given
+
+pub returns-in_err-push-clause-taken : goal.returns-in_err-push-clause-taken
+returns-in_err-push-clause-taken g c = grown _ _ _ _ _ c.loop-byte.invariant.read.whole c.push.ensures.puts.longer
+
+pub returns-in_err-push-clause-kept_sink : goal.returns-in_err-push-clause-kept_sink
+returns-in_err-push-clause-kept_sink g c = g.met.K.ByteSink.keeps_transitive _ _ _ c.loop-byte.invariant.sink_kept c.push.ensures.puts.kept
+
+pub returns-in_err-push-clause-ok_faults : goal.returns-in_err-push-clause-ok_faults
+returns-in_err-push-clause-ok_faults g c = OnOk-from_err c.from_residual-in_err-push.result _ c.from_residual-in_err-push.ensures.0
+
+pub returns-in_err-push-clause-ok_end : goal.returns-in_err-push-clause-ok_end
+returns-in_err-push-clause-ok_end g c = OnOk-from_err c.from_residual-in_err-push.result _ c.from_residual-in_err-push.ensures.0
+
+pub returns-in_err-push-clause-ok_answers : goal.returns-in_err-push-clause-ok_answers
+returns-in_err-push-clause-ok_answers g c = OnOk-from_err c.from_residual-in_err-push.result _ c.from_residual-in_err-push.ensures.0
+
+pub returns-in_err-push-clause-ok_good : goal.returns-in_err-push-clause-ok_good
+returns-in_err-push-clause-ok_good g c = IfOk-from_err c.from_residual-in_err-push.result _ c.from_residual-in_err-push.ensures.0
 
 pub returns-in_err-push-clause-kept_source : goal.returns-in_err-push-clause-kept_source
 returns-in_err-push-clause-kept_source g c = g.met.S.ByteSource.keeps_transitive _ _ _ c.loop-byte.invariant.source_kept c.in_ok-byte.ensures.kept
@@ -57,6 +104,40 @@ returns-in_err-push-clause-err g c =
       omega (arith, c.in_err-push.ensures.puts.faults, loop.sink_faults),
       rw (added-more _ _ _ _ loop.given more) (BreaksOff-open (g.S.ByteSource.is_ended c.next.new.self) broke),
     ))
+
+pub returns-clause-given : goal.returns-clause-given
+returns-clause-given g c = grown _ _ _ _ _ c.loop-byte.invariant.given c.in_ok-byte.ensures.given
+
+pub returns-clause-taken : goal.returns-clause-taken
+returns-clause-taken g c = grown _ _ _ _ _ c.loop-byte.invariant.read.whole c.finish.ensures.puts.longer
+
+pub returns-clause-ok_faults : goal.returns-clause-ok_faults
+returns-clause-ok_faults g c =
+    let loop = c.loop-byte.invariant in
+    let source : g.S.ByteSource.faults c.next.new.self ≡ g.S.ByteSource.faults c.args.source.now = omega (arith, c.in_ok-byte.ensures.faults, loop.source_faults) in
+    OnOk-no_fault _ _ c.finish.result c.finish.ensures.puts.faults (λ same _. (source, same ∙ loop.sink_faults)) c.finish.ensures.ok
+
+pub returns-clause-ok_answers : goal.returns-clause-ok_answers
+returns-clause-ok_answers g c =
+    let loop = c.loop-byte.invariant in
+    let next = c.in_ok-byte.ensures in
+    let same = added-more _ _ _ _ loop.given (rw c.in_default.is at next.given) ∙ append-nil _ in
+    rw same (on_ok_weaker c.finish.result (λ answers. answers _ _ loop.read) c.finish.ensures.ok)
+
+pub returns-clause-ok_end : goal.returns-clause-ok_end
+returns-clause-ok_end g c =
+    let ended = (rw c.in_default.is at c.in_ok-byte.ensures.ended) ∙ or-true _ in
+    on_ok_weaker c.finish.result (λ _. ended) c.finish.ensures.ok
+
+pub returns-clause-err : goal.returns-clause-err
+returns-clause-err g c =
+    let loop = c.loop-byte.invariant in
+    let next = c.in_ok-byte.ensures in
+    let same = added-more _ _ _ _ loop.given (rw c.in_default.is at next.given) ∙ append-nil _ in
+    let source : g.S.ByteSource.faults c.next.new.self ≡ g.S.ByteSource.faults c.args.source.now = omega (arith, next.faults, loop.source_faults) in
+    let ended : g.S.ByteSource.is_ended c.next.new.self ≡ true = (rw c.in_default.is at next.ended) ∙ or-true _ in
+    rw (same, ended) (OnErr-one_fault _ _ c.finish.result c.finish.ensures.puts.faults
+    (λ failed broke. inr (source, failed ∙ ap (λ n. n + 1) loop.sink_faults, broke _ _ loop.read)) c.finish.ensures.err)
 
 pub returns-clause-kept_source : goal.returns-clause-kept_source
 returns-clause-kept_source g c = g.met.S.ByteSource.keeps_transitive _ _ _ c.loop-byte.invariant.source_kept c.in_ok-byte.ensures.kept

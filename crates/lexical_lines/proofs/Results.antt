@@ -1,0 +1,20 @@
+-- What follows if a result is an `Ok`, or an `Err`.
+use Rattle.std.proofs.Common.{◌≡◌, ◌+◌, ℕ, Result, Ok, Err, OnOk, OnErr, arith}
+use Rattle.std.specs.Prelude.{IsErr}
+use Rattle.lexical_lines.specs.Source.{faults_of}
+
+pub OnOk-from_err : {A E : Type 0} (result : Result A E) (P : Type 0) → IsErr result → OnOk result P
+OnOk-from_err (Ok a) P failed = absurd (cc failed)
+OnOk-from_err (Err e) P failed = tt
+
+-- a call that succeeded had no failure
+pub OnOk-no_fault : {A E P Q : Type 0} (before after : ℕ) (result : Result A E) → after ≡ before + faults_of result
+    → (after ≡ before → P → Q) → OnOk result P → OnOk result Q
+OnOk-no_fault before after (Ok a) faults then p = then (omega (arith, faults)) p
+OnOk-no_fault before after (Err e) faults then p = tt
+
+-- a call that failed had one failure
+pub OnErr-one_fault : {A E P Q : Type 0} (before after : ℕ) (result : Result A E) → after ≡ before + faults_of result
+    → (after ≡ before + 1 → P → Q) → OnErr result P → OnErr result Q
+OnErr-one_fault before after (Ok a) faults then p = tt
+OnErr-one_fault before after (Err e) faults then p = then faults p
