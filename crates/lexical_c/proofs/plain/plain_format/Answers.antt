@@ -2,7 +2,7 @@ use Rattle.std.proofs.Common.{◌≡◌, ◌==◌, ap, ◌∙◌, arith}
 use Rattle.std.specs.Prelude.{not}
 use Rattle.lexical_c.proofs.plain.plain_format.Goals as goal
 
--- the check finds this proof by itself, but with an answer the refusal of an edit says what is wrong
+-- the check finds this proof by itself, but with an answer the refusal of a mistake says what is wrong
 pub returns-then-size-room-clause-sign : goal.returns-then-size-room-clause-sign
 returns-then-size-room-clause-sign g c =
     let none : c.args.format.now.required_sign ≡ 0 = omega arith in
