@@ -1,7 +1,20 @@
-use Rattle.std.proofs.Common.{arith, rules}
+use Rattle.std.proofs.Common.{◌↔◌, ℤ, unsigned_abs, ap, ◌∙◌, arith, rules}
+use Rattle.std.proofs.Math.Facts.{to_z-of_z}
+use Rattle.std.specs.Prelude.{IsTrue, ◌<ℤ◌}
+use Rattle.std.specs.Int.Signed.{lt_z}
 use Rattle.lexical_num.specs.Format.{IsValid}
 use Rattle.lexical_c.proofs.WrittenTexts.{count-le, count-length, length-written, written}
 use Rattle.lexical_c.proofs.write.write_signed.Goals as goal
+
+-- what a comparison of integers says
+below : (x y : ℤ) → IsTrue (lt_z x y) ↔ x <ℤ y
+below x y = search rules
+
+pub write_sign_and_digits-count-requires-clause-negative : goal.write_sign_and_digits-count-requires-clause-negative
+write_sign_and_digits-count-requires-clause-negative g c = rw (to_z-of_z c.ranges.wide, c.requires.wide) (below _ _)
+
+pub write_sign_and_digits-count-requires-clause-magnitude : goal.write_sign_and_digits-count-requires-clause-magnitude
+write_sign_and_digits-count-requires-clause-magnitude g c = c.requires.magnitude ∙ ap unsigned_abs c.requires.wide
 
 pub write_sign_and_digits-count-requires-clause-sign : goal.write_sign_and_digits-count-requires-clause-sign
 write_sign_and_digits-count-requires-clause-sign g c = c.in-Some.ensures.sign
@@ -27,3 +40,6 @@ returns-in-Some g c =
     rw c.in-Some.ensures.format at
     (written _ _ _ _ _ valid c.write_sign_and_digits-count.ensures
     (length-written _ _ _ _ _ c.write_sign_and_digits-count.ensures c.text_computed.ensures))
+
+pub returns-in-None : goal.returns-in-None
+returns-in-None g c = rw (to_z-of_z c.ranges.wide, c.requires.wide) at c.write_if_it_fits.ensures
