@@ -2,3 +2,5 @@
 pub mod PlainTexts
 -- the lengths of texts, and the buffers that are long enough for them
 pub mod TextLengths
+-- what a function that writes promises, from what it knows of the text
+pub mod WrittenTexts

@@ -43,7 +43,6 @@ pub fn plain_format<T: FormattedSize>(format: &CFormat, room: usize) -> Option<N
 /// Writes a number of an unsigned type, whose text is its digits, to the start of the buffer, and
 /// returns the length of the text. The format must have no required sign and no groups, and the buffer
 /// must have the length that the writer of the number requires.
-#[tactic(auto, using(crate::proofs::PlainTexts::digits_are_text))]
 pub fn write_digits<T: WriteInteger>(value: T, format: &NumberFormat, buffer: &mut [u8]) -> usize
     requires sign { format.now.required_mantissa_sign ≡ false }
     requires groups { format.now.digit_grouping ≡ None }

@@ -1,20 +1,42 @@
-use Rattle.std.proofs.Common.{ℕ, ℤ, ◌<◌, List, length, ap, refl, arith}
-use Rattle.lexical_num.specs.Format.{Format}
+use Rattle.std.proofs.Common.{length, ap, arith, rules}
+use Rattle.std.proofs.lemmas.Bool.{false≢true}
+use Rattle.lexical_num.specs.Format.{IsValid}
 use Rattle.lexical_write_integer.specs.Computed.{text_of}
-use Rattle.lexical_c.specs.Buffer.{WritesOrRefuses}
+use Rattle.lexical_c.proofs.WrittenTexts.{count-le, count-length, written, written_by_copy, refused}
 use Rattle.lexical_c.proofs.general.write_if_it_fits.Goals as goal
 
--- if the text does not fit, it is right to return 0 and to leave the buffer unchanged
-refuses : (number : ℤ) (format : Format) (buffer : List ℕ) →
-    length buffer < length (text_of number format) → WritesOrRefuses number format buffer buffer 0
-refuses number format buffer short = record {
-  accepts = (λ none. absurd (omega (arith, none)), λ writable. absurd (omega (arith, writable.fits)));
-  text = λ none. absurd (omega (arith, none));
-  refused = λ _. refl;
-}
+pub returns-in_default : goal.returns-in_default
+returns-in_default g c = refused _ _ _ (λ writable. false≢true (c.in_default.ensures.valid.1 writable.valid))
+
+pub write_text-requires : goal.write_text-requires
+write_text-requires g c = omega (arith, c.size_suffices.ensures.size, c.buffer_size.ensures)
+
+pub returns-then-buffer-buffer_size : goal.returns-then-buffer-buffer_size
+returns-then-buffer-buffer_size g c =
+    let valid : IsValid c.in-Some.format = search rules in
+    rw c.in-Some.ensures.format at (written _ _ _ _ _ valid c.write_text.ensures.text c.write_text.ensures.count)
+
+pub write_text-count-requires : goal.write_text-count-requires
+write_text-count-requires g c = omega (arith, c.size_suffices.ensures.size, c.size_suffices.ensures.buffer)
+
+pub slice_bounds-text-end : goal.slice_bounds-text-end
+slice_bounds-text-end g c = count-le _ _ _ c.write_text-count.ensures.text
+
+pub slice_bounds-copy_to_front-end : goal.slice_bounds-copy_to_front-end
+slice_bounds-copy_to_front-end g c = count-length _ _ _ c.write_text-count.ensures.text
+
+pub copy_to_front-requires : goal.copy_to_front-requires
+copy_to_front-requires g c = omega (arith, count-length _ _ _ c.write_text-count.ensures.text)
+
+pub returns-then-count-buffer : goal.returns-then-count-buffer
+returns-then-count-buffer g c =
+    let valid : IsValid c.in-Some.format = search rules in
+    rw c.in-Some.ensures.format at
+    (written_by_copy _ _ _ _ _ _ _ _ valid c.write_text-count.ensures.text c.write_text-count.ensures.count
+    c.copy_to_front.ensures.front c.copy_to_front.ensures.count)
 
 -- the check finds this proof by itself, but with an answer the refusal of a mistake says what is wrong
 pub returns-else-count-buffer : goal.returns-else-count-buffer
 returns-else-count-buffer g c =
     let same = ap (λ format. length (text_of (g.T.LexicalInteger.number c.args.value) format)) c.in-Some.ensures.format in
-    refuses _ _ _ (omega (arith, same, c.write_text-count.ensures.count))
+    refused _ _ _ (λ writable. omega (arith, same, c.write_text-count.ensures.count, writable.fits))

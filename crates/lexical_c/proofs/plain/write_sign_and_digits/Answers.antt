@@ -9,6 +9,12 @@ write_minus-sign-requires-clause-room g c =
     let some = g.met.T.LexicalInteger.decimal_width.some in
     omega (arith, c.requires.room, need-pos (g.T.LexicalInteger.number c.args.value) g.T.LexicalInteger.DECIMAL_WIDTH c.args.format.now some)
 
+pub write_mantissa_signed-requires-clause-number : goal.write_mantissa_signed-requires-clause-number
+write_mantissa_signed-requires-clause-number g c = λ _.
+    let decimal = g.met.T.LexicalInteger.decimal_width in
+    rw (c.requires.magnitude, c.requires.width)
+    (decimal.enough (g.T.LexicalInteger.number c.args.value) c.in_range.ensures.at_least c.in_range.ensures.at_most)
+
 pub returns : goal.returns
 returns g c =
     let some = digit_count-pos c.args.format.now.mantissa_radix (g.U.UnsignedInteger.magnitude c.args.magnitude) in
