@@ -56,3 +56,7 @@ returns-clause-written g c =
     let c' = (goal.at.returns-clause-written g c).After-from in
     let digits : c.args.number - c.args.left * c.from.result ≡ c.args.number % g.row.R ^ 4 = omega (arith, parts g c') in
     rw digits at (WritesBlock-pairs g.row.R (c.args.number - c.args.left * c.from.result) (g.row.R * g.row.R) refl c.write_pair.ensures c.write_pair-2.ensures)
+
+-- the check finds this proof by itself, but with an answer the refusal of a mistake says what is wrong
+pub returns-clause-notes : goal.returns-clause-notes
+returns-clause-notes g c = c.tick.ensures

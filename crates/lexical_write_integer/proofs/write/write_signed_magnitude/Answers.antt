@@ -5,3 +5,7 @@ use Rattle.lexical_write_integer.proofs.write.write_signed_magnitude.Goals as go
 pub returns-then-radix-eq10-clause-short : goal.returns-then-radix-eq10-clause-short
 returns-then-radix-eq10-clause-short g c =
     omega (arith, c.decimal_signed.ensures.digits.count, digit_count-le_width 10 _ _ (omega arith) g.met.T.UnsignedInteger.range.width c.fits_bits.ensures)
+
+-- the check finds this proof by itself, but with an answer the refusal of a mistake says what is wrong
+pub returns-else-radix-eq10-clause-digits : goal.returns-else-radix-eq10-clause-digits
+returns-else-radix-eq10-clause-digits g c = c.radix.ensures.digits
