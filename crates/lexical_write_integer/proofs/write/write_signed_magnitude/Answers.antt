@@ -1,7 +1,0 @@
-use Rattle.std.proofs.Common.{arith}
-use Rattle.lexical_write_integer.proofs.DigitCounts.{digit_count-le_width}
-use Rattle.lexical_write_integer.proofs.write.write_signed_magnitude.Goals as goal
-
-pub returns-then-radix-eq10-clause-short : goal.returns-then-radix-eq10-clause-short
-returns-then-radix-eq10-clause-short g c =
-    omega (arith, c.decimal_signed.ensures.digits.count, digit_count-le_width 10 _ _ (omega arith) g.met.T.UnsignedInteger.range.width c.fits_bits.ensures)
