@@ -84,35 +84,18 @@ pub trait Compact: UnsignedInteger + FormattedSize {
         requires radix { IsRadix radix }
         requires room { digit_count radix (Self.magnitude self) ≤ length buffer.old }
         ensures digits { WritesDigits radix (Self.magnitude self) buffer.old buffer.new result }
-        ensures short { result ≤ Self.BITS };
-}
-
-impl Compact for u8 {
-    fn compact(self, radix: u32, buffer: &mut [u8]) -> usize {
+        ensures short { result ≤ Self.BITS }
+    {
         compact_counted(self, radix, buffer, &mut Turns::new())
     }
 }
 
-impl Compact for u16 {
-    fn compact(self, radix: u32, buffer: &mut [u8]) -> usize {
-        compact_counted(self, radix, buffer, &mut Turns::new())
-    }
-}
+impl Compact for u8 {}
 
-impl Compact for u32 {
-    fn compact(self, radix: u32, buffer: &mut [u8]) -> usize {
-        compact_counted(self, radix, buffer, &mut Turns::new())
-    }
-}
+impl Compact for u16 {}
 
-impl Compact for u64 {
-    fn compact(self, radix: u32, buffer: &mut [u8]) -> usize {
-        compact_counted(self, radix, buffer, &mut Turns::new())
-    }
-}
+impl Compact for u32 {}
 
-impl Compact for usize {
-    fn compact(self, radix: u32, buffer: &mut [u8]) -> usize {
-        compact_counted(self, radix, buffer, &mut Turns::new())
-    }
-}
+impl Compact for u64 {}
+
+impl Compact for usize {}

@@ -10,8 +10,7 @@ ghost use Rattle.lexical_write_integer.specs.DigitCount.{digit_count};
 ghost use Rattle.lexical_write_integer.specs.PowersOfTen.{IsPowersOfTen};
 
 use crate::jeaiii::{
-    from_i64, from_u8, from_u8_counted, from_u16, from_u16_counted, from_u32, from_u32_counted,
-    from_u64_counted,
+    from_i64, from_u8_counted, from_u16_counted, from_u32_counted, from_u64_counted,
 };
 use crate::logarithm::fast_log2;
 pub use crate::logarithm::fast_log10;
@@ -191,7 +190,7 @@ impl Decimal for u8 {
     ghost signed_width = { is_decimal_width (lit≤ tt) (lit≤ tt) (lit≤ tt) (lit≤ tt) };
 
     fn decimal_signed(self, buffer: &mut [u8]) -> usize {
-        from_u8(self, buffer)
+        self.decimal_counted(buffer, &mut Turns::new())
     }
 
     fn decimal_counted(self, buffer: &mut [u8], turns: &mut Turns) -> usize {
@@ -207,7 +206,7 @@ impl Decimal for u16 {
     ghost signed_width = { is_decimal_width (lit≤ tt) (lit≤ tt) (lit≤ tt) (lit≤ tt) };
 
     fn decimal_signed(self, buffer: &mut [u8]) -> usize {
-        from_u16(self, buffer)
+        self.decimal_counted(buffer, &mut Turns::new())
     }
 
     fn decimal_counted(self, buffer: &mut [u8], turns: &mut Turns) -> usize {
@@ -223,7 +222,7 @@ impl Decimal for u32 {
     ghost signed_width = { is_decimal_width (lit≤ tt) (lit≤ tt) (lit≤ tt) (lit≤ tt) };
 
     fn decimal_signed(self, buffer: &mut [u8]) -> usize {
-        from_u32(self, buffer)
+        self.decimal_counted(buffer, &mut Turns::new())
     }
 
     fn decimal_counted(self, buffer: &mut [u8], turns: &mut Turns) -> usize {

@@ -124,7 +124,10 @@ pub trait DigitCount: DecimalCount {
         requires { IsRadix radix }
         ensures count { result ≡ digit_count radix (Self.magnitude self) }
         ensures some { 1 ≤ result }
-        ensures at_most_64 { result ≤ 64 };
+        ensures at_most_64 { result ≤ 64 }
+    {
+        digit_count_counted(self, radix, &mut Turns::new())
+    }
 
     /// Returns how many digits the number has. They are counted by division in every radix. The radix
     /// is from 2 to 36.
@@ -132,55 +135,18 @@ pub trait DigitCount: DecimalCount {
         requires { IsRadix radix }
         ensures count { result ≡ digit_count radix (Self.magnitude self) }
         ensures some { 1 ≤ result }
-        ensures at_most_64 { result ≤ 64 };
-}
-
-impl DigitCount for u8 {
-    fn digit_count(self, radix: u32) -> usize {
-        digit_count_counted(self, radix, &mut Turns::new())
-    }
-
-    fn slow_digit_count(self, radix: u32) -> usize {
+        ensures at_most_64 { result ≤ 64 }
+    {
         slow_digit_count_counted(self, radix, &mut Turns::new())
     }
 }
 
-impl DigitCount for u16 {
-    fn digit_count(self, radix: u32) -> usize {
-        digit_count_counted(self, radix, &mut Turns::new())
-    }
+impl DigitCount for u8 {}
 
-    fn slow_digit_count(self, radix: u32) -> usize {
-        slow_digit_count_counted(self, radix, &mut Turns::new())
-    }
-}
+impl DigitCount for u16 {}
 
-impl DigitCount for u32 {
-    fn digit_count(self, radix: u32) -> usize {
-        digit_count_counted(self, radix, &mut Turns::new())
-    }
+impl DigitCount for u32 {}
 
-    fn slow_digit_count(self, radix: u32) -> usize {
-        slow_digit_count_counted(self, radix, &mut Turns::new())
-    }
-}
+impl DigitCount for u64 {}
 
-impl DigitCount for u64 {
-    fn digit_count(self, radix: u32) -> usize {
-        digit_count_counted(self, radix, &mut Turns::new())
-    }
-
-    fn slow_digit_count(self, radix: u32) -> usize {
-        slow_digit_count_counted(self, radix, &mut Turns::new())
-    }
-}
-
-impl DigitCount for usize {
-    fn digit_count(self, radix: u32) -> usize {
-        digit_count_counted(self, radix, &mut Turns::new())
-    }
-
-    fn slow_digit_count(self, radix: u32) -> usize {
-        slow_digit_count_counted(self, radix, &mut Turns::new())
-    }
-}
+impl DigitCount for usize {}

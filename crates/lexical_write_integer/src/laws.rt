@@ -1,6 +1,6 @@
 //! Laws on numerals and texts. The contract of each function is a law over the definitions. A caller
 //! obtains the law by calling the function, which does nothing at run time. An empty body cannot be
-//! changed to a wrong one, so the edits of the crate `uses` break callers that depend on a law instead.
+//! changed to a wrong one, so the mistakes of the crate `uses` are in callers that depend on a law.
 
 ghost use Rattle.std.specs.Prelude.{◌≡◌, ℕ, ◌^◌, ◌<◌, ◌≤◌, ◌↔◌, pos, ◌<ℤ◌, ◌≤ℤ◌, List, length};
 ghost use Rattle.lexical_num.specs.Format.{IsRadix};

@@ -72,35 +72,18 @@ pub trait Radix: UnsignedInteger {
         requires radix { IsRadix radix }
         requires room { digit_count radix (Self.magnitude self) ≤ length buffer.old }
         ensures digits { WritesDigits radix (Self.magnitude self) buffer.old buffer.new result }
-        ensures short { result ≤ Self.BITS };
-}
-
-impl Radix for u8 {
-    fn radix(self, radix: u32, buffer: &mut [u8]) -> usize {
+        ensures short { result ≤ Self.BITS }
+    {
         write_in_radix(self, radix, buffer)
     }
 }
 
-impl Radix for u16 {
-    fn radix(self, radix: u32, buffer: &mut [u8]) -> usize {
-        write_in_radix(self, radix, buffer)
-    }
-}
+impl Radix for u8 {}
 
-impl Radix for u32 {
-    fn radix(self, radix: u32, buffer: &mut [u8]) -> usize {
-        write_in_radix(self, radix, buffer)
-    }
-}
+impl Radix for u16 {}
 
-impl Radix for u64 {
-    fn radix(self, radix: u32, buffer: &mut [u8]) -> usize {
-        write_in_radix(self, radix, buffer)
-    }
-}
+impl Radix for u32 {}
 
-impl Radix for usize {
-    fn radix(self, radix: u32, buffer: &mut [u8]) -> usize {
-        write_in_radix(self, radix, buffer)
-    }
-}
+impl Radix for u64 {}
+
+impl Radix for usize {}
