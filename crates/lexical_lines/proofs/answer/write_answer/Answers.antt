@@ -1,4 +1,4 @@
-use Rattle.std.proofs.Common.{◌≡◌, ◌-◌, ◌^◌, min, arith, inr}
+use Rattle.std.proofs.Common.{◌≡◌, ◌-◌, ◌^◌, min, false, IsTrue, arith, inr}
 use Rattle.lexical_lines.proofs.Buffers.{Writes-within}
 use Rattle.lexical_lines.proofs.answer.write_answer.Goals as goal
 
@@ -18,3 +18,9 @@ returns-in-None-clause-within c = Writes-within c.write_bad_line.ensures
 
 pub returns-in-Some-clause-within : goal.returns-in-Some-clause-within
 returns-in-Some-clause-within c = Writes-within c.write_text.ensures
+
+-- the check finds this proof by itself, but with an answer the refusal of a mistake says what is wrong
+pub returns-in-None-clause-good : goal.returns-in-None-clause-good
+returns-in-None-clause-good c = λ bytes is.
+    let no : IsTrue false → ⊥ = λ yes. cc in
+    (λ yes. absurd (no yes), λ good. absurd (c.in-None.ensures.none bytes is good))

@@ -1,4 +1,4 @@
-use Rattle.std.proofs.Common.{◌≡◌, ℕ, ◌+◌, ◌≤◌, length, drop, ap, arith, rules, inl, inr, length-take, length-drop, ◌∙◌}
+use Rattle.std.proofs.Common.{Ok, ◌≡◌, ℕ, ◌+◌, ◌≤◌, length, drop, ap, arith, rules, inl, inr, length-take, length-drop, ◌∙◌}
 use Rattle.std.proofs.lemmas.List.{drop_all, length-take-le}
 use Rattle.lexical_lines.proofs.Slices.{put-taken, put-rest}
 use Rattle.lexical_lines.proofs.slice.SliceSinkByteSink.put.Goals as goal
@@ -56,3 +56,9 @@ returns-clause-kept c =
         | else-count-eq0 w ↦ inl (search rules)
       ];
     }
+
+-- the check finds this proof by itself, but with an answer the refusal of a mistake says what is wrong
+pub returns-clause-exact : goal.returns-clause-exact
+returns-clause-exact c =
+    let old = c.args.self.now in
+    ap Ok (omega (arith, c.min-count.ensures, length-drop old.count old.buffer.now))
