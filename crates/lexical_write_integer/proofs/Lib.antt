@@ -14,6 +14,7 @@ pub mod Loops
 -- digits in groups
 pub mod Grouping
 -- texts: their length, characters, order, and the same text as a function or as `{}` computes it
+pub mod Signs
 pub mod Required
 pub mod Ascii
 pub mod Orders

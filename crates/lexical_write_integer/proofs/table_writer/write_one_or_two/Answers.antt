@@ -2,6 +2,7 @@ use Rattle.std.proofs.Common.{◌≡◌, ◌+◌, ◌-◌, ◌*◌, ◌/◌, ◌
 use Rattle.std.proofs.Math.Nat.{mod-eq_of_lt}
 use Rattle.std.proofs.lemmas.List.{drop-set-lt}
 use Rattle.lexical_num.specs.Digit.{digit_char}
+use Rattle.lexical_write_integer.specs.Buffer.{WritesBlock}
 use Rattle.lexical_write_integer.proofs.Buffers.Blocks.{WritesBlock-one}
 use Rattle.lexical_write_integer.proofs.DigitCounts.{digit_count-one, digit_count-le, digit_count-pos, digit_count-more}
 use Rattle.lexical_write_integer.proofs.Loops.ShortNumbers.{WritesBlock-over}
@@ -42,9 +43,11 @@ returns c =
           let last : c.args.digits - 1 ≡ 0 = omega arith in
           let char : get_or table (2 * n + 1) 0 ≡ digit_char n =
           pair_second r (2 * n) table c.requires.table (omega arith) within ∙ ap digit_char (ap (λ k. k % r) place ∙ mod-eq_of_lt less) in
-          rw (w.front-is, last, one, char)
+          let twice : WritesBlock r 1 n 0 list (set (set list 0 (get_or table (2 * n + 1) 0)) 0 (get_or table (2 * n + 1) 0)) =
+          rw char
           (WritesBlock-over (drop-set-lt 1 list 0 (digit_char n) (omega arith))
-          (WritesBlock-one r n 0 (set list 0 (digit_char n)) less (omega (arith, length-set list 0 (digit_char n)))))
+          (WritesBlock-one r n 0 (set list 0 (digit_char n)) less (omega (arith, length-set list 0 (digit_char n))))) in
+          rw (w.front-is, last, one) twice
       | else-number-radix w ↦
           let more : r ≤ n = w.if-number-radix.false in
           let few = digit_count-le r n 2 (omega arith) (rw pow-two c.requires.short) in
