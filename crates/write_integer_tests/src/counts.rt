@@ -2,6 +2,7 @@
 
 ghost use Rattle.lexical_num.specs.Format.{IsRadix};
 
+use crate::checks::check_equal;
 use lexical_num::num::UnsignedInteger;
 use lexical_write_integer::decimal::{
     DecimalCount, fallback_digit_count, fast_digit_count, fast_log10,
@@ -21,10 +22,10 @@ fn logarithms(rt: HostRuntime) {
         (65537, 16),
         (u32::MAX, 31),
     ] {
-        assert_eq!(rt; fast_log2(x), log2);
+        check_equal(&rt, x, fast_log2(x), log2);
     }
     for (x, log10) in [(0u32, 0), (10, 0), (15, 0), (20, 1), (100, 1), (200, 2)] {
-        assert_eq!(rt; fast_log10(x), log10);
+        check_equal(&rt, x, fast_log10(x), log10);
     }
 }
 
@@ -43,37 +44,42 @@ fn decimal_counts(rt: HostRuntime) {
         (65537, 5),
         (u32::MAX, 10),
     ] {
-        assert_eq!(rt; fast_digit_count(x), count);
-        assert_eq!(rt; x.decimal_count(), count);
-        assert_eq!(rt; u64::from(x).decimal_count(), count);
-        assert_eq!(rt; (x as usize).decimal_count(), count);
+        let counts = [
+            fast_digit_count(x),
+            x.decimal_count(),
+            u64::from(x).decimal_count(),
+            (x as usize).decimal_count(),
+        ];
+        check_equal(&rt, x, counts, [count; 4]);
     }
     for (x, count) in [
         (9999999999999999999u64, 19),
         (10000000000000000000, 20),
         (u64::MAX, 20),
     ] {
-        assert_eq!(rt; x.decimal_count(), count);
+        check_equal(&rt, x, x.decimal_count(), count);
     }
 }
 
 #[test]
 fn tables_of_powers(rt: HostRuntime) {
-    assert_eq!(rt; fallback_digit_count(255u8, &[10, 100]), 3);
-    assert_eq!(rt; fallback_digit_count(65535u16, &[10, 100, 1000, 10000]), 5);
+    check_equal(&rt, "u8", fallback_digit_count(255u8, &[10, 100]), 3);
+    let count = fallback_digit_count(65535u16, &[10, 100, 1000, 10000]);
+    check_equal(&rt, "u16", count, 5);
     // 2^30 is above the last power of the table.
     let powers = [
         10, 100, 1000, 10000, 100000, 1000000, 10000000, 100000000, 1000000000,
     ];
-    assert_eq!(rt; fallback_digit_count(1073741824u32, &powers), 10);
+    let count = fallback_digit_count(1073741824u32, &powers);
+    check_equal(&rt, "2^30", count, 10);
 }
 
 // Checks that both functions return this digit count.
 fn check<T: DigitCount>(rt: &impl Abort, value: T, radix: u32, count: usize)
     requires { IsRadix radix }
 {
-    assert_eq!(rt; value.digit_count(radix), count);
-    assert_eq!(rt; value.slow_digit_count(radix), count);
+    let counts = [value.digit_count(radix), value.slow_digit_count(radix)];
+    check_equal(rt, (value.as_usize(), radix), counts, [count; 2]);
 }
 
 #[test]
@@ -87,23 +93,22 @@ fn zero_has_one_digit(rt: HostRuntime) {
     }
 }
 
+// Checks the digit counts of numbers in one radix.
+fn check_radix(rt: &impl Abort, radix: u32, rows: &[(u32, usize)])
+    requires { IsRadix radix }
+{
+    for (x, count) in rows {
+        check(rt, *x, radix, *count);
+    }
+}
+
 #[test]
 fn counts_of_small_numbers(rt: HostRuntime) {
-    for (x, count) in [(0u32, 1), (1, 1), (2, 2), (3, 2), (4, 3)] {
-        check(&rt, x, 2, count);
-    }
-    for (x, count) in [(0u32, 1), (1, 1), (3, 1), (4, 2), (15, 2), (16, 3)] {
-        check(&rt, x, 4, count);
-    }
-    for (x, count) in [(7u32, 1), (8, 2), (63, 2), (64, 3)] {
-        check(&rt, x, 8, count);
-    }
-    for (x, count) in [(15u32, 1), (16, 2), (255, 2), (256, 3)] {
-        check(&rt, x, 16, count);
-    }
-    for (x, count) in [(1023u32, 2), (1024, 3)] {
-        check(&rt, x, 32, count);
-    }
+    check_radix(&rt, 2, &[(0, 1), (1, 1), (2, 2), (3, 2), (4, 3)]);
+    check_radix(&rt, 4, &[(0, 1), (1, 1), (3, 1), (4, 2), (15, 2), (16, 3)]);
+    check_radix(&rt, 8, &[(7, 1), (8, 2), (63, 2), (64, 3)]);
+    check_radix(&rt, 16, &[(15, 1), (16, 2), (255, 2), (256, 3)]);
+    check_radix(&rt, 32, &[(1023, 2), (1024, 3)]);
 }
 
 // Checks numbers near the first and the second power of the radix.

@@ -2,7 +2,7 @@
 
 ghost use Rattle.std.specs.Prelude.{◌≤◌};
 
-use crate::buffers::check_buffer;
+use crate::checks::check_written;
 use lexical_num::num::LexicalInteger;
 use lexical_write_integer::decimal::Decimal;
 use lexical_write_integer::jeaiii::{from_i64, from_u8, from_u16, from_u32, from_u64};
@@ -12,10 +12,9 @@ use std::process::Abort;
 fn check<T: Decimal>(rt: &impl Abort, value: T, text: &str)
     requires { T.DECIMAL_WIDTH ≤ 20 }
 {
-    let text = text.as_bytes();
     let mut buffer = [7; 20];
-    assert_eq!(rt; value.decimal(&mut buffer), text.len());
-    check_buffer(rt, &buffer, text);
+    let length = value.decimal(&mut buffer);
+    check_written(rt, text, length, &buffer, text.as_bytes());
 }
 
 // The powers of ten, the limits of the types, and the numbers at which a writer takes another branch, each
@@ -50,9 +49,7 @@ fn u32toa_test(rt: HostRuntime) {
 #[test]
 fn u64toa_test(rt: HostRuntime) {
     for text in NUMBERS.split(' ') {
-        let Ok(value) = text.parse::<u64>() else {
-            panic!(rt; "{text} is not a number");
-        };
+        let value = text.parse::<u64>().expect(&rt, text);
         check(&rt, value, text);
         check(&rt, value as usize, text);
     }
@@ -60,24 +57,29 @@ fn u64toa_test(rt: HostRuntime) {
 
 #[test]
 fn i64_19digit_test(rt: HostRuntime) {
-    let mut buffer = [b'.'; 19];
-    assert_eq!(&rt; 5u64.decimal_signed(&mut buffer), 1);
-    assert_eq!(&rt; &buffer, b"5..................");
+    let mut buffer = [7; 19];
+    let length = 5u64.decimal_signed(&mut buffer);
+    check_written(&rt, 5, length, &buffer, b"5");
 }
 
 #[test]
 fn buffers_of_the_decimal_width(rt: HostRuntime) {
-    let mut buffer = [b'.'; 20];
-    assert_eq!(&rt; from_u8(255, &mut buffer[..3]), 3);
-    assert_eq!(&rt; &buffer, b"255.................");
-    assert_eq!(&rt; from_u16(65535, &mut buffer[..5]), 5);
-    assert_eq!(&rt; &buffer, b"65535...............");
-    assert_eq!(&rt; from_u32(4294967295, &mut buffer[..10]), 10);
-    assert_eq!(&rt; &buffer, b"4294967295..........");
-    assert_eq!(&rt; from_i64(9223372036854775808, &mut buffer[..19]), 19);
-    assert_eq!(&rt; &buffer, b"9223372036854775808.");
-    assert_eq!(&rt; from_i64(9999999999999999999, &mut buffer[..19]), 19);
-    assert_eq!(&rt; &buffer, b"9999999999999999999.");
-    assert_eq!(&rt; from_u64(100000000005, &mut buffer), 12);
-    assert_eq!(&rt; &buffer, b"1000000000059999999.");
+    let mut buffer = [7; 20];
+    let length = from_u8(255, &mut buffer[..3]);
+    check_written(&rt, "255u8", length, &buffer, b"255");
+    let mut buffer = [7; 20];
+    let length = from_u16(65535, &mut buffer[..5]);
+    check_written(&rt, "65535u16", length, &buffer, b"65535");
+    let mut buffer = [7; 20];
+    let length = from_u32(4294967295, &mut buffer[..10]);
+    check_written(&rt, "4294967295u32", length, &buffer, b"4294967295");
+    let mut buffer = [7; 20];
+    let length = from_i64(9223372036854775808, &mut buffer[..19]);
+    check_written(&rt, "2^63", length, &buffer, b"9223372036854775808");
+    let mut buffer = [7; 20];
+    let length = from_i64(9999999999999999999, &mut buffer[..19]);
+    check_written(&rt, "19 nines", length, &buffer, b"9999999999999999999");
+    let mut buffer = [7; 20];
+    let length = from_u64(100000000005, &mut buffer);
+    check_written(&rt, "100000000005u64", length, &buffer, b"100000000005");
 }

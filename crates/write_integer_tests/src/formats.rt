@@ -5,6 +5,7 @@ mod every_byte;
 ghost use Rattle.std.specs.Prelude.{◌≡◌, ◌^◌, ◌<◌};
 ghost use Rattle.lexical_num.specs.Size.{size_in};
 
+use crate::checks::check_equal;
 use lexical_num::constants::{BUFFER_SIZE, FormattedSize};
 use lexical_num::digit::digit_to_char;
 use lexical_num::error::Error;
@@ -14,6 +15,7 @@ use lexical_num::laws::{equal_builders, equal_formats, equal_options, equal_opti
 use lexical_num::num::{LexicalInteger, UnsignedInteger};
 use lexical_num::options::{self, Options, OptionsBuilder, WriteOptions};
 use std::fmt::InlineText;
+use std::process::Abort;
 use std::test::Fail;
 
 // The next functions use the types only through the bounds of a type parameter.
@@ -70,64 +72,75 @@ fn built(mantissa: u8, exponent: u8) -> Result<NumberFormat, Error> {
 
 #[test]
 fn sizes_of_the_types(rt: HostRuntime) {
-    assert_eq!(rt; sizes(0u8), [8, 3, 3, 16]);
-    assert_eq!(rt; sizes(0u16), [16, 5, 5, 32]);
-    assert_eq!(rt; sizes(0u32), [32, 10, 10, 64]);
-    assert_eq!(rt; sizes(0u64), [64, 20, 20, 128]);
-    assert_eq!(rt; sizes(0usize), [64, 20, 20, 128]);
-    assert_eq!(rt; sizes(0i8), [8, 3, 4, 16]);
-    assert_eq!(rt; sizes(0i16), [16, 5, 6, 32]);
-    assert_eq!(rt; sizes(0i32), [32, 10, 11, 64]);
-    assert_eq!(rt; sizes(0i64), [64, 19, 20, 128]);
-    assert_eq!(rt; sizes(0isize), [64, 19, 20, 128]);
-    assert_eq!(rt; BUFFER_SIZE, 128);
+    check_equal(&rt, "u8", sizes(0u8), [8, 3, 3, 16]);
+    check_equal(&rt, "u16", sizes(0u16), [16, 5, 5, 32]);
+    check_equal(&rt, "u32", sizes(0u32), [32, 10, 10, 64]);
+    check_equal(&rt, "u64", sizes(0u64), [64, 20, 20, 128]);
+    check_equal(&rt, "usize", sizes(0usize), [64, 20, 20, 128]);
+    check_equal(&rt, "i8", sizes(0i8), [8, 3, 4, 16]);
+    check_equal(&rt, "i16", sizes(0i16), [16, 5, 6, 32]);
+    check_equal(&rt, "i32", sizes(0i32), [32, 10, 11, 64]);
+    check_equal(&rt, "i64", sizes(0i64), [64, 19, 20, 128]);
+    check_equal(&rt, "isize", sizes(0isize), [64, 19, 20, 128]);
+    check_equal(&rt, "BUFFER_SIZE", BUFFER_SIZE, 128);
 }
 
 #[test]
 fn arithmetic_of_the_types(rt: HostRuntime) {
-    assert_eq!(rt; 255u8.div_rem(16), (15, 15));
-    assert_eq!(rt; divided(255u8, 16), (15, 15));
-    assert_eq!(rt; divided(65535u16, 1000), (65, 535));
-    assert_eq!(rt; divided(4294967295u32, 4294967295), (1, 0));
-    assert_eq!(rt;
-        divided(18446744073709551615u64, 10),
-        (1844674407370955161, 5)
-    );
-    assert_eq!(rt; divided(7usize, 8), (0, 7));
-    assert_eq!(rt; through::<u8>(255), 255);
-    assert_eq!(rt; through::<u16>(65535), 65535);
-    assert_eq!(rt; through::<u32>(4294967295), 4294967295);
-    assert_eq!(rt; through::<u64>(4294967295), 4294967295);
-    assert_eq!(rt; through::<usize>(0), 0);
+    check_equal(&rt, "u8", 255u8.div_rem(16), (15, 15));
+    check_equal(&rt, "u8", divided(255u8, 16), (15, 15));
+    check_equal(&rt, "u16", divided(65535u16, 1000), (65, 535));
+    check_equal(&rt, "u32", divided(4294967295u32, 4294967295), (1, 0));
+    let quotient = divided(18446744073709551615u64, 10);
+    check_equal(&rt, "u64", quotient, (1844674407370955161, 5));
+    check_equal(&rt, "usize", divided(7usize, 8), (0, 7));
+    check_equal(&rt, "u8", through::<u8>(255), 255);
+    check_equal(&rt, "u16", through::<u16>(65535), 65535);
+    check_equal(&rt, "u32", through::<u32>(4294967295), 4294967295);
+    check_equal(&rt, "u64", through::<u64>(4294967295), 4294967295);
+    check_equal(&rt, "usize", through::<usize>(0), 0);
 }
 
 #[test]
 fn comparisons_and_zeros_of_the_types(rt: HostRuntime) {
-    assert_eq!(rt; compared(1u8, 2), [false, true, true]);
-    assert_eq!(rt; compared(0u16, 65535), [false, true, true]);
-    assert_eq!(rt; compared(9u32, 10), [false, true, true]);
-    assert_eq!(rt; compared(4294967295u64, 4294967296), [false, true, true]);
-    assert_eq!(rt; compared(0usize, 1), [false, true, true]);
-    assert_eq!(rt; UnsignedInteger::leading_zeros(0u16), 16);
-    assert_eq!(rt; UnsignedInteger::leading_zeros(1u64), 63);
-    assert_eq!(rt; zeros_above(255u8), 0);
-    assert_eq!(rt; zeros_above(1u16), 15);
-    assert_eq!(rt; zeros_above(65536u32), 15);
-    assert_eq!(rt; zeros_above(0u64), 64);
-    assert_eq!(rt; zeros_above(0usize), 64);
+    let order = [false, true, true];
+    check_equal(&rt, "u8", compared(1u8, 2), order);
+    check_equal(&rt, "u16", compared(0u16, 65535), order);
+    check_equal(&rt, "u32", compared(9u32, 10), order);
+    check_equal(&rt, "u64", compared(4294967295u64, 4294967296), order);
+    check_equal(&rt, "usize", compared(0usize, 1), order);
+    check_equal(&rt, "0u16", UnsignedInteger::leading_zeros(0u16), 16);
+    check_equal(&rt, "1u64", UnsignedInteger::leading_zeros(1u64), 63);
+    check_equal(&rt, "255u8", zeros_above(255u8), 0);
+    check_equal(&rt, "1u16", zeros_above(1u16), 15);
+    check_equal(&rt, "65536u32", zeros_above(65536u32), 15);
+    check_equal(&rt, "0u64", zeros_above(0u64), 64);
+    check_equal(&rt, "0usize", zeros_above(0usize), 64);
 }
 
 #[test]
 fn characters_of_digits(rt: HostRuntime) {
     let characters = b"0123456789ABCDEFGHIJKLMNOPQRSTUVWXYZ";
     for digit in 0..36u32 {
-        assert_eq!(rt; digit_to_char(digit), characters[digit as usize]);
+        let character = digit_to_char(digit);
+        check_equal(&rt, digit, character, characters[digit as usize]);
+    }
+}
+
+// Checks the text of the error of a build.
+fn check_error(rt: &impl Abort, built: Result<NumberFormat, Error>, message: &str) {
+    match built {
+        Ok(_) => panic!(rt; "built a format in place of: {message}"),
+        Err(error) => {
+            let text = InlineText::<32>::of(error);
+            check_equal(rt, "the error", text.as_str(), message);
+        }
     }
 }
 
 #[test]
 fn build_returns_the_first_error(rt: HostRuntime) {
-    let errors = [
+    for (mantissa, exponent, message) in [
         (1, 10, "invalid mantissa radix 1"),
         (10, 37, "invalid exponent radix 37"),
         (0, 0, "invalid mantissa radix 0"),
@@ -135,18 +148,10 @@ fn build_returns_the_first_error(rt: HostRuntime) {
         (36, 1, "invalid exponent radix 1"),
         (255, 0, "invalid mantissa radix 255"),
         (10, 0, "invalid exponent radix 0"),
-    ];
-    for (mantissa, exponent, message) in errors {
-        let Err(error) = built(mantissa, exponent) else {
-            panic!(rt; "{mantissa} and {exponent} were built");
-        };
-        assert_eq!(rt; InlineText::<32>::of(error).as_str(), message);
+    ] {
+        check_error(&rt, built(mantissa, exponent), message);
     }
-}
-
-#[test]
-fn build_returns_the_error_of_the_groups(rt: HostRuntime) -> Result<(), Fail> {
-    let errors = [
+    for (radix, size, mark, message) in [
         (10, 0, 44, "invalid group size 0"),
         (10, 65, 44, "invalid group size 65"),
         (10, 0, 65, "invalid group size 0"),
@@ -155,102 +160,123 @@ fn build_returns_the_error_of_the_groups(rt: HostRuntime) -> Result<(), Fail> {
         (10, 3, 65, "invalid group mark 65"),
         (10, 3, 127, "invalid group mark 127"),
         (1, 0, 65, "invalid mantissa radix 1"),
-    ];
-    for (radix, size, mark, message) in errors {
+    ] {
         let builder = NumberFormatBuilder::new()
             .radix(radix)
             .digit_grouping(size, mark);
-        let Err(error) = builder.build() else {
-            panic!(rt; "{size} and {mark} were built");
-        };
-        assert_eq!(rt; InlineText::<32>::of(error).as_str(), message);
+        check_error(&rt, builder.build(), message);
     }
+}
+
+#[test]
+fn groups_of_formats(rt: HostRuntime) -> Result<(), Fail> {
     let ones = NumberFormatBuilder::new().digit_grouping(1, 32).build()?;
-    assert_eq!(rt; ones.digit_grouping(), Some((1, 32)));
     let long = NumberFormatBuilder::new().digit_grouping(64, 126).build()?;
-    assert_eq!(rt; long.digit_grouping(), Some((64, 126)));
-    assert!(rt; !equal_formats(&ones, &long));
     let other = NumberFormatBuilder::new().digit_grouping(1, 33).build()?;
-    assert!(rt; !equal_formats(&ones, &other));
-    assert_eq!(rt; STANDARD.digit_grouping(), None);
+    check_equal(&rt, "ones", ones.digit_grouping(), Some((1, 32)));
+    check_equal(&rt, "long", long.digit_grouping(), Some((64, 126)));
+    check_equal(&rt, "STANDARD", STANDARD.digit_grouping(), None);
+    check_equal(&rt, "ones, long", equal_formats(&ones, &long), false);
+    check_equal(&rt, "ones, other", equal_formats(&ones, &other), false);
     Ok(())
 }
 
 #[test]
 fn formats_have_the_fields_of_their_builder(rt: HostRuntime) -> Result<(), Fail> {
     let format = built(2, 36)?;
-    assert_eq!(rt; format.radix(), 2);
-    assert_eq!(rt; format.mantissa_radix(), 2);
-    assert_eq!(rt; format.exponent_radix(), 36);
-    assert!(rt; !format.required_mantissa_sign());
-    assert!(rt; format.is_valid());
+    let radices = [
+        format.radix(),
+        format.mantissa_radix(),
+        format.exponent_radix(),
+    ];
+    check_equal(&rt, "2, 36", radices, [2, 2, 36]);
+    let flags = [format.required_mantissa_sign(), format.is_valid()];
+    check_equal(&rt, "sign, valid", flags, [false, true]);
     let signed = NumberFormatBuilder::new()
         .required_mantissa_sign(true)
         .build_strict();
-    assert!(rt; signed.required_mantissa_sign());
-    assert!(rt; !equal_formats(&signed, &STANDARD));
-    assert!(rt; equal_formats(&built(10, 10)?, &STANDARD));
-    assert!(rt; equal_formats(&NumberFormatBuilder::binary(), &built(2, 2)?));
+    check_equal(&rt, "+", signed.required_mantissa_sign(), true);
+    let are_equal = [
+        equal_formats(&signed, &STANDARD),
+        equal_formats(&built(10, 10)?, &STANDARD),
+        equal_formats(&NumberFormatBuilder::binary(), &built(2, 2)?),
+    ];
+    check_equal(&rt, "+, 10, 2", are_equal, [false, true, true]);
+    let mantissa_only = NumberFormatBuilder::new().radix(16).build()?;
+    let both = NumberFormatBuilder::from_radix(16);
+    check_radices(&rt, &mantissa_only, 16, 10);
+    check_radices(&rt, &both, 16, 16);
+    check_equal(&rt, "16", equal_formats(&mantissa_only, &both), false);
     Ok(())
 }
 
-#[test]
-fn mantissa_and_exponent_radix_are_independent(rt: HostRuntime) -> Result<(), Fail> {
-    let mantissa_only = NumberFormatBuilder::new().radix(16).build()?;
-    let both = NumberFormatBuilder::from_radix(16);
-    assert_eq!(rt; mantissa_only.mantissa_radix(), 16);
-    assert_eq!(rt; mantissa_only.exponent_radix(), 10);
-    assert_eq!(rt; both.mantissa_radix(), 16);
-    assert_eq!(rt; both.exponent_radix(), 16);
-    assert!(rt; !equal_formats(&mantissa_only, &both));
-    Ok(())
+fn check_radices(rt: &impl Abort, format: &NumberFormat, mantissa: u32, exponent: u32) {
+    let radices = [format.mantissa_radix(), format.exponent_radix()];
+    check_equal(rt, "the radices", radices, [mantissa, exponent]);
 }
 
 #[test]
 fn a_builder_is_used_again(rt: HostRuntime) -> Result<(), Fail> {
     let builder = NumberFormatBuilder::default().mantissa_radix(1);
-    assert!(rt; matches!(&builder.build(), Err(Error::InvalidMantissaRadix(1))));
-    assert!(rt; matches!(&builder.build(), Err(Error::InvalidMantissaRadix(1))));
+    check_error(&rt, builder.build(), "invalid mantissa radix 1");
+    check_error(&rt, builder.build(), "invalid mantissa radix 1");
     let format = builder.mantissa_radix(2).build()?;
-    assert_eq!(rt; format.mantissa_radix(), 2);
-    assert_eq!(rt; format.exponent_radix(), 10);
-    assert!(rt; !equal_builders(&builder, &NumberFormatBuilder::new()));
-    assert!(rt; equal_builders(&NumberFormatBuilder::default(), &NumberFormatBuilder::new()));
+    check_radices(&rt, &format, 2, 10);
+    let new = NumberFormatBuilder::new();
+    let are_equal = [
+        equal_builders(&builder, &new),
+        equal_builders(&NumberFormatBuilder::default(), &new),
+    ];
+    check_equal(&rt, "radix 1, default", are_equal, [false, true]);
     Ok(())
 }
 
 #[test]
 fn options_are_valid_and_equal(rt: HostRuntime) -> Result<(), Fail> {
     let options = Options::new();
-    assert!(rt; options.is_valid());
-    assert!(rt; WriteOptions::is_valid(&options));
-    assert!(rt; equal_options(&options, &Options::default()));
-    assert!(rt; equal_options(&options, &options::STANDARD));
-    assert!(rt; equal_options(&options, &Options::from_radix(36)));
-    assert!(rt; equal_options(&options, &options.clone()?));
     let builder = OptionsBuilder::new();
-    assert!(rt; builder.is_valid());
-    assert!(rt; OptionsBuilder::default().is_valid());
-    assert!(rt; equal_options(&options, &builder.build()?));
-    assert!(rt; equal_options(&options, &OptionsBuilder::default().build()?));
-    assert!(rt; equal_options(&builder.build_strict(), &builder.build_unchecked()));
-    assert!(rt; equal_options_builders(&options.rebuild(), &Options::builder()));
-    assert!(rt; equal_options_builders(&builder, &builder.clone()?));
-    assert!(rt; options <= options::STANDARD);
+    let are_valid = [
+        options.is_valid(),
+        WriteOptions::is_valid(&options),
+        builder.is_valid(),
+        OptionsBuilder::default().is_valid(),
+    ];
+    check_equal(&rt, "valid", are_valid, [true; 4]);
+    let are_equal = [
+        equal_options(&options, &Options::default()),
+        equal_options(&options, &options::STANDARD),
+        equal_options(&options, &Options::from_radix(36)),
+        equal_options(&options, &options.clone()?),
+        equal_options(&options, &builder.build()?),
+        equal_options(&options, &OptionsBuilder::default().build()?),
+        equal_options(&builder.build_strict(), &builder.build_unchecked()),
+        equal_options_builders(&options.rebuild(), &Options::builder()),
+        equal_options_builders(&builder, &builder.clone()?),
+        options <= options::STANDARD,
+    ];
+    check_equal(&rt, "equal", are_equal, [true; 10]);
     Ok(())
 }
 
 #[test]
 fn sizes_of_the_types_in_formats(rt: HostRuntime) {
     let options = Options::new();
-    let signed = NumberFormatBuilder::new().required_mantissa_sign(true);
+    let builder = NumberFormatBuilder::new();
+    let decimal = builder.radix(10).build_strict();
+    let signed = builder.required_mantissa_sign(true);
     let signed_hexadecimal = signed.radix(16).build_strict();
     let signed = signed.build_strict();
-    let binary = NumberFormatBuilder::binary();
-    assert_eq!(rt; options.buffer_size::<u8>(&STANDARD), 3);
-    assert_eq!(rt; options.buffer_size_const::<u8>(&signed), 4);
-    assert_eq!(rt; size_of::<u64, Options>(&options, &signed), 21);
-    assert_eq!(rt; size_of::<i64, Options>(&options, &binary), 128);
-    assert_eq!(rt; size_of::<i8, Options>(&options, &signed_hexadecimal), 16);
-    assert_eq!(rt; size_of::<i8, Options>(&options, &signed), 5);
+    let binary = builder.radix(2).build_strict();
+    let sizes = [
+        options.buffer_size::<u8>(&STANDARD),
+        options.buffer_size::<u8>(&decimal),
+        options.buffer_size_const::<u8>(&signed),
+        options.buffer_size::<u8>(&signed),
+        size_of::<u64, Options>(&options, &signed),
+        size_of::<i64, Options>(&options, &NumberFormatBuilder::binary()),
+        options.buffer_size::<i64>(&binary),
+        size_of::<i8, Options>(&options, &signed_hexadecimal),
+        size_of::<i8, Options>(&options, &signed),
+    ];
+    check_equal(&rt, "sizes", sizes, [3, 3, 4, 4, 21, 128, 128, 16, 5]);
 }

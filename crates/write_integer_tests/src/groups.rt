@@ -1,5 +1,6 @@
 // Tests of texts whose digits are in groups.
 
+use crate::checks::{check_equal, check_written};
 use crate::texts::check_in;
 use lexical_num::options::{Options, WriteOptions};
 use lexical_write_integer::NumberFormatBuilder;
@@ -31,11 +32,14 @@ fn groups_of_three(rt: HostRuntime) {
     );
     check_in(&rt, 999u16, &thousands, &options, 6, b"999");
     check_in(&rt, 1000u16, &thousands, &options, 6, b"1,000");
-    assert_eq!(rt; options.buffer_size::<i64>(&thousands), 26);
-    assert_eq!(rt; options.buffer_size::<u64>(&signed), 27);
+    let sizes = [
+        options.buffer_size::<i64>(&thousands),
+        options.buffer_size::<u64>(&signed),
+    ];
+    check_equal(&rt, "the sizes of i64 and u64", sizes, [26, 27]);
     let mut buffer = [7u8; 10];
-    assert_eq!(rt; 1234567u32.write_mantissa(&thousands, &mut buffer), 7);
-    assert_eq!(rt; buffer, *b"1234567\x07\x07\x07");
+    let length = 1234567u32.write_mantissa(&thousands, &mut buffer);
+    check_written(&rt, "a mantissa", length, &buffer, b"1234567");
 }
 
 #[test]
@@ -46,7 +50,7 @@ fn groups_of_other_sizes(rt: HostRuntime) {
     let signed_binary = ones.radix(2).required_mantissa_sign(true).build_strict();
     let ones = ones.build_strict();
     check_in(&rt, -128i8, &ones, &options, 6, b"-1_2_8");
-    assert_eq!(rt; options.buffer_size::<i8>(&ones), 7);
+    check_equal(&rt, "the size of i8", options.buffer_size::<i8>(&ones), 7);
     digit_count_at_most(2, 128, 8);
     check_in(&rt, -128i8, &binary, &options, 16, b"-1_0_0_0_0_0_0_0");
     let words = NumberFormatBuilder::new()

@@ -1,6 +1,7 @@
 // Tests of the decimal kernels with known numbers: the fraction that each returns, and the pairs of digits
 // that `next2` takes from it.
 
+use crate::checks::check_equal;
 use lexical_write_integer::jeaiii::{
     fixed_2, fixed_4, fixed_6, fixed_8_nine, fixed_8_ten, fixed_8_wide, next2,
 };
@@ -8,11 +9,10 @@ use std::process::Abort;
 
 // Checks a fraction, its first pair of digits, and the pairs after it.
 fn check_fraction(rt: &impl Abort, fraction: u64, expected: u64, first: u64, pairs: &[u32]) {
-    assert_eq!(rt; fraction, expected);
-    assert_eq!(rt; fraction >> 32, first);
+    check_equal(rt, expected, (fraction, fraction >> 32), (expected, first));
     let mut rest = fraction;
     for pair in pairs {
-        assert_eq!(rt; next2(&mut rest), *pair);
+        check_equal(rt, expected, next2(&mut rest), *pair);
     }
 }
 
@@ -43,6 +43,6 @@ fn fractions_and_their_pairs(rt: HostRuntime) {
 #[test]
 fn next2_stores_its_product(rt: HostRuntime) {
     let mut product = fixed_2(1234);
-    assert_eq!(&rt; next2(&mut product), 34);
-    assert_eq!(&rt; product, 146028893000);
+    let pair = next2(&mut product);
+    check_equal(&rt, 1234, (pair, product), (34, 146028893000));
 }

@@ -2,7 +2,7 @@
 #![tactic(auto)]
 
 #[cfg(test)]
-mod buffers;
+mod checks;
 #[cfg(test)]
 mod counts;
 #[cfg(test)]
@@ -27,16 +27,3 @@ mod tables;
 mod texts;
 #[cfg(test)]
 mod writes;
-
-#[cfg(test)]
-use lexical_write_integer::ToLexical;
-
-#[test]
-fn zero_and_a_number(rt: HostRuntime) {
-    let mut buffer = [7, 7, 7];
-    assert_eq!(rt; &*0u8.to_lexical(&mut buffer), b"0".as_slice());
-    assert_eq!(rt; buffer, [48, 7, 7]);
-    let mut buffer = [7; 20];
-    assert_eq!(rt; &*1234u64.to_lexical(&mut buffer), b"1234".as_slice());
-    assert!(rt; buffer[4..].iter().all(|byte| *byte == 7));
-}

@@ -43,9 +43,7 @@ const POWERS: &str = "\
 #[test]
 fn numbers_near_powers(rt: HostRuntime) {
     for text in POWERS.split(' ') {
-        let Ok(number) = text.parse::<u64>() else {
-            panic!(rt; "{text} is not a number");
-        };
+        let number = text.parse::<u64>().expect(&rt, text);
         let text = text.as_bytes();
         if let Ok(value) = u8::try_from(number) {
             check_standard(&rt, value, text);

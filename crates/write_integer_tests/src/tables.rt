@@ -4,29 +4,16 @@ ghost use Rattle.std.specs.Prelude.{◌≤◌};
 ghost use Rattle.lexical_num.specs.Format.{IsRadix};
 ghost use Rattle.lexical_write_integer.specs.DigitCount.{digit_count};
 
-use crate::buffers::check_buffer;
+use crate::checks::check_equal;
+use crate::exact_buffers::digits::check_in;
 use lexical_num::num::UnsignedInteger;
 use lexical_write_integer::algorithm::algorithm;
 use lexical_write_integer::compact::Compact;
 use lexical_write_integer::digit_count::DigitCount;
-use lexical_write_integer::laws::digit_count_is_least;
+use lexical_write_integer::laws::{digit_count_at_most, digit_count_is_least};
 use lexical_write_integer::radix::Radix;
 use lexical_write_integer::table::get_table;
 use std::process::Abort;
-
-// Checks that both writers write the text to a buffer of `room` bytes.
-fn check_in<T: Radix + Compact>(rt: &impl Abort, value: T, radix: u32, room: usize, text: &[u8])
-    requires radix { IsRadix radix }
-    requires digits { digit_count radix (T.magnitude value) ≤ room }
-    requires room { room ≤ 67 }
-{
-    let mut buffer = [7u8; 67];
-    assert_eq!(rt; value.radix(radix, &mut buffer[..room]), text.len());
-    check_buffer(rt, &buffer, text);
-    let mut buffer = [7u8; 67];
-    assert_eq!(rt; value.compact(radix, &mut buffer[..room]), text.len());
-    check_buffer(rt, &buffer, text);
-}
 
 // Checks that both writers write the text to a buffer of exactly its length, and to a longer buffer.
 fn check<T: DigitCount + Radix + Compact>(rt: &impl Abort, value: T, radix: u32, text: &[u8])
@@ -34,7 +21,7 @@ fn check<T: DigitCount + Radix + Compact>(rt: &impl Abort, value: T, radix: u32,
 {
     digit_count_is_least(radix, value.as_usize() as u64);
     let count = value.digit_count(radix);
-    assert_eq!(rt; count, text.len());
+    check_equal(rt, (value.as_usize(), radix), count, text.len());
     check_in(rt, value, radix, count, text);
     check_in(rt, value, radix, 67, text);
 }
@@ -125,7 +112,8 @@ fn longer_table(rt: HostRuntime) {
     let mut table = [7u8; 300];
     table[..288].copy_from_slice(get_table(12));
     let mut buffer = [0u8; 2];
-    assert_eq!(rt; 128u8.digit_count(12), 2);
-    assert_eq!(rt; algorithm(128u8, 12, &table, &mut buffer), 2);
-    assert_eq!(rt; &buffer, b"A8");
+    digit_count_at_most(12, 128, 2);
+    check_equal(&rt, 128, 128u8.digit_count(12), 2);
+    let count = algorithm(128u8, 12, &table, &mut buffer);
+    check_equal(&rt, 128, (count, buffer), (2, *b"A8"));
 }

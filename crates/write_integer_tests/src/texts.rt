@@ -4,36 +4,41 @@ ghost use Rattle.std.specs.Prelude.{◌≤◌};
 ghost use Rattle.lexical_num.specs.Format.{standard};
 ghost use Rattle.lexical_write_integer.specs.Text.{need};
 
-use crate::buffers::check_buffer;
+use crate::checks::{ROOM, check_buffer, check_equal};
 use lexical_num::num::LexicalInteger;
 use lexical_num::options::{Options, WriteOptions};
 use lexical_write_integer::format::STANDARD;
 use lexical_write_integer::laws::{digit_count_at_most, equal_texts, order};
 use lexical_write_integer::{NumberFormat, NumberFormatBuilder, ToLexical, ToLexicalWithOptions};
+use std::fmt::Debug;
 use std::process::Abort;
+use std::test::Fail;
 
 // Checks the text in the standard format, written to a buffer of `room` bytes.
-pub(crate) fn check_decimal<T: ToLexical>(rt: &impl Abort, value: T, room: usize, text: &[u8])
+pub(crate) fn check_decimal<T: ToLexical + Debug + Drop>(
+    rt: &impl Abort,
+    value: T,
+    room: usize,
+    text: &[u8],
+)
     requires need { need (T.number value) T.DECIMAL_WIDTH standard ≤ room }
     requires room { room ≤ 20 }
 {
     let mut buffer = [7u8; 20];
-    assert_eq!(rt; &*value.to_lexical(&mut buffer[..room]), text);
-    check_buffer(rt, &buffer, text);
+    let written = value.to_lexical(&mut buffer[..room]);
+    check_equal(rt, (value, room), &*written, text);
+    check_buffer(rt, (value, room), &buffer, text);
 }
 
 // Checks the text in the standard format, written to a buffer of 20 bytes.
-pub(crate) fn check_standard<T: ToLexical>(rt: &impl Abort, value: T, text: &[u8])
+pub(crate) fn check_standard<T: ToLexical + Debug + Drop>(rt: &impl Abort, value: T, text: &[u8])
     requires { need (T.number value) T.DECIMAL_WIDTH standard ≤ 20 }
 {
     check_decimal(rt, value, 20, text);
 }
 
-// A length that is greater than that of every text.
-const ROOM: usize = 130;
-
 // Checks the text in a format, written to a buffer of `room` bytes.
-pub(crate) fn check_in<T: ToLexicalWithOptions>(
+pub(crate) fn check_in<T: ToLexicalWithOptions + Debug + Drop>(
     rt: &impl Abort,
     value: T,
     format: &NumberFormat,
@@ -42,16 +47,32 @@ pub(crate) fn check_in<T: ToLexicalWithOptions>(
     text: &[u8],
 )
     requires need { need (T.number value) T.DECIMAL_WIDTH format.now ≤ room }
-    requires room { room ≤ 130 }
+    requires room { room ≤ 140 }
 {
+    let row = (value, format.mantissa_radix(), room);
     let mut buffer = [7u8; ROOM];
     let written = value.to_lexical_with_options(&mut buffer[..room], format, options);
-    assert_eq!(rt; &*written, text);
-    check_buffer(rt, &buffer, text);
+    check_equal(rt, row, &*written, text);
+    check_buffer(rt, row, &buffer, text);
 }
 
-// Checks the text in a format, written to a buffer of the size of the type in the format.
-fn check<T: ToLexicalWithOptions>(
+// Checks the text in a format, written to a buffer of exactly the required length, and to one with three
+// more bytes.
+pub(crate) fn check_required<T: ToLexicalWithOptions + Debug + Drop>(
+    rt: &impl Abort,
+    value: T,
+    format: &NumberFormat,
+    options: &T::Options,
+    text: &[u8],
+) {
+    let count = value.required_len(format);
+    check_in(rt, value, format, options, count, text);
+    check_in(rt, value, format, options, count + 3, text);
+}
+
+// Checks the text in a format, written to a buffer of the size of the type in the format, and to one of 128
+// bytes.
+fn check<T: ToLexicalWithOptions + Debug + Drop>(
     rt: &impl Abort,
     value: T,
     format: &NumberFormat,
@@ -61,8 +82,9 @@ fn check<T: ToLexicalWithOptions>(
     value.in_range();
     format.mantissa_radix();
     let size = options.buffer_size::<T>(format);
-    assert!(rt; size <= ROOM);
+    assert!(rt; size <= 128, "the size of the type of {value:?} is {size}");
     check_in(rt, value, format, options, size, text);
+    check_in(rt, value, format, options, 128, text);
 }
 
 #[test]
@@ -110,19 +132,31 @@ fn limits_of_the_signed_types(rt: HostRuntime) {
 }
 
 #[test]
-fn radices(rt: HostRuntime) {
+fn radices(rt: HostRuntime) -> Result<(), Fail> {
     let options = Options::new();
     let twelve = NumberFormatBuilder::from_radix(12);
-    check(&rt, 1234u64, &STANDARD, &options, b"1234");
-    check(
-        &rt,
-        1234u64,
-        &NumberFormatBuilder::binary(),
-        &options,
-        b"10011010010",
-    );
-    check(&rt, 1234u64, &twelve, &options, b"86A");
     check(&rt, 128u8, &twelve, &options, b"A8");
+    check(&rt, 1234u64, &twelve, &options, b"86A");
+    check(&rt, 1234u64, &STANDARD, &options, b"1234");
+    let binary = NumberFormatBuilder::binary();
+    check(&rt, 1234u64, &binary, &options, b"10011010010");
+    for (radix, number, text) in [
+        (10, 9999999999, "9999999999"),
+        (10, 10000000000, "10000000000"),
+        (12, 1234, "86A"),
+    ] {
+        let format = NumberFormatBuilder::new().radix(radix).build()?;
+        check::<u64>(&rt, number, &format, &options, text.as_bytes());
+    }
+    for (radix, largest_u8) in [(3, "100110"), (4, "3333"), (15, "120"), (16, "FF")] {
+        let format = NumberFormatBuilder::new().radix(radix).build()?;
+        check(&rt, 255u8, &format, &options, largest_u8.as_bytes());
+    }
+    for (radix, largest_u16) in [(15, "14640"), (16, "FFFF")] {
+        let format = NumberFormatBuilder::new().radix(radix).build()?;
+        check(&rt, 65535u16, &format, &options, largest_u16.as_bytes());
+    }
+    Ok(())
 }
 
 #[test]

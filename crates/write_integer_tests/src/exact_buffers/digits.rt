@@ -5,8 +5,7 @@ ghost use Rattle.lexical_num.specs.Format.{IsRadix};
 ghost use Rattle.lexical_write_integer.specs.DigitCount.{digit_count};
 ghost use Rattle.lexical_write_integer.specs.Text.{digits_need};
 
-use super::texts::ROOM;
-use crate::buffers::check_buffer;
+use crate::checks::{ROOM, check_equal, check_written};
 use lexical_num::num::{LexicalInteger, UnsignedInteger};
 use lexical_write_integer::compact::Compact;
 use lexical_write_integer::decimal::Decimal;
@@ -16,24 +15,25 @@ use lexical_write_integer::radix::Radix;
 use lexical_write_integer::write::WriteInteger;
 use std::process::Abort;
 
-fn check_compact<U: Compact>(rt: &impl Abort, value: U, radix: u32, room: usize, digits: &[u8])
+// Checks that the table writer and the compact writer write the digits to a buffer of `room` bytes.
+pub(crate) fn check_in<U: Radix + Compact>(
+    rt: &impl Abort,
+    value: U,
+    radix: u32,
+    room: usize,
+    digits: &[u8],
+)
     requires radix { IsRadix radix }
     requires need { digit_count radix (U.magnitude value) ≤ room }
     requires room { room ≤ 140 }
 {
+    let row = (value.as_usize(), radix, room);
     let mut buffer = [7u8; ROOM];
-    assert_eq!(rt; value.compact(radix, &mut buffer[..room]), digits.len());
-    check_buffer(rt, &buffer, digits);
-}
-
-fn check_radix<U: Radix>(rt: &impl Abort, value: U, radix: u32, room: usize, digits: &[u8])
-    requires radix { IsRadix radix }
-    requires need { digit_count radix (U.magnitude value) ≤ room }
-    requires room { room ≤ 140 }
-{
+    let count = value.radix(radix, &mut buffer[..room]);
+    check_written(rt, row, count, &buffer, digits);
     let mut buffer = [7u8; ROOM];
-    assert_eq!(rt; value.radix(radix, &mut buffer[..room]), digits.len());
-    check_buffer(rt, &buffer, digits);
+    let count = value.compact(radix, &mut buffer[..room]);
+    check_written(rt, row, count, &buffer, digits);
 }
 
 fn check_write_integer<U: WriteInteger>(
@@ -48,11 +48,8 @@ fn check_write_integer<U: WriteInteger>(
     requires room { room ≤ 140 }
 {
     let mut buffer = [7u8; ROOM];
-    assert_eq!(rt;
-        value.write_integer(radix, &mut buffer[..room]),
-        digits.len()
-    );
-    check_buffer(rt, &buffer, digits);
+    let count = value.write_integer(radix, &mut buffer[..room]);
+    check_written(rt, (value.as_usize(), radix, room), count, &buffer, digits);
 }
 
 fn check_decimal<U: Decimal>(rt: &impl Abort, value: U, room: usize, digits: &[u8])
@@ -60,8 +57,8 @@ fn check_decimal<U: Decimal>(rt: &impl Abort, value: U, room: usize, digits: &[u
     requires room { room ≤ 140 }
 {
     let mut buffer = [7u8; ROOM];
-    assert_eq!(rt; value.decimal(&mut buffer[..room]), digits.len());
-    check_buffer(rt, &buffer, digits);
+    let count = value.decimal(&mut buffer[..room]);
+    check_written(rt, (value.as_usize(), 10, room), count, &buffer, digits);
 }
 
 // Checks the writers that require the decimal width of the type in radix 10, with a buffer of exactly the
@@ -94,12 +91,10 @@ fn check_digits<U: Compact + DigitCount + WriteInteger>(
 {
     digit_count_is_least(radix, value.as_usize() as u64);
     let count = value.digit_count(radix);
-    assert_eq!(rt; count, digits.len());
-    assert_eq!(rt; value.slow_digit_count(radix), count);
-    check_compact(rt, value, radix, count, digits);
-    check_compact(rt, value, radix, count + 3, digits);
-    check_radix(rt, value, radix, count, digits);
-    check_radix(rt, value, radix, count + 3, digits);
+    let counts = [count, value.slow_digit_count(radix)];
+    check_equal(rt, (value.as_usize(), radix), counts, [digits.len(); 2]);
+    check_in(rt, value, radix, count, digits);
+    check_in(rt, value, radix, count + 3, digits);
     check_wide(rt, value, radix, count, digits);
 }
 

@@ -6,7 +6,8 @@ ghost use Rattle.lexical_num.specs.Format.{IsRadix, IsGroupSize};
 use super::digits::check_types;
 use super::expected::Expected;
 use super::numbers::Number;
-use super::texts::check_text;
+use crate::checks::check_equal;
+use crate::texts::check_required;
 use lexical_write_integer::{NumberFormat, NumberFormatBuilder, Options};
 use std::process::Abort;
 
@@ -25,7 +26,7 @@ fn try_number<T: Number>(
         return 0;
     };
     let expected = Expected::new(is_negative, magnitude, format);
-    check_text(rt, value, format, options, expected.text());
+    check_required(rt, value, format, options, expected.text());
     // The writers of digits write neither signs nor groups.
     if !is_negative && format.digit_grouping().is_none() {
         check_types(rt, magnitude, format.mantissa_radix(), expected.digits());
@@ -151,102 +152,61 @@ fn try_type<T: Number>(rt: &impl Abort, options: &T::Options) -> usize {
     tried
 }
 
+// Checks the numbers of the type, and how many there are without groups and in groups.
+fn check_type<T: Number>(rt: &impl Abort, options: &T::Options, numbers: usize, grouped: usize) {
+    let tried = [
+        try_type::<T>(rt, options),
+        try_grouped_type::<T>(rt, options),
+    ];
+    check_equal(rt, T::ENDS, tried, [numbers, grouped]);
+}
+
 #[test]
 fn numbers_of_u8(rt: HostRuntime) {
-    assert_eq!(rt; try_type::<u8>(&rt, &Options::new()), 856);
+    check_type::<u8>(&rt, &Options::new(), 856, 630);
 }
 
 #[test]
 fn numbers_of_u16(rt: HostRuntime) {
-    assert_eq!(rt; try_type::<u16>(&rt, &Options::new()), 1372);
+    check_type::<u16>(&rt, &Options::new(), 1372, 1050);
 }
 
 #[test]
 fn numbers_of_u32(rt: HostRuntime) {
-    assert_eq!(rt; try_type::<u32>(&rt, &Options::new()), 2332);
+    check_type::<u32>(&rt, &Options::new(), 2332, 1890);
 }
 
 #[test]
 fn numbers_of_u64(rt: HostRuntime) {
-    assert_eq!(rt; try_type::<u64>(&rt, &Options::new()), 4270);
+    check_type::<u64>(&rt, &Options::new(), 4270, 3550);
 }
 
 #[test]
 fn numbers_of_usize(rt: HostRuntime) {
-    assert_eq!(rt; try_type::<usize>(&rt, &Options::new()), 4270);
+    check_type::<usize>(&rt, &Options::new(), 4270, 3550);
 }
 
 #[test]
 fn numbers_of_i8(rt: HostRuntime) {
-    assert_eq!(rt; try_type::<i8>(&rt, &Options::new()), 1412);
+    check_type::<i8>(&rt, &Options::new(), 1412, 1070);
 }
 
 #[test]
 fn numbers_of_i16(rt: HostRuntime) {
-    assert_eq!(rt; try_type::<i16>(&rt, &Options::new()), 2396);
+    check_type::<i16>(&rt, &Options::new(), 2396, 1850);
 }
 
 #[test]
 fn numbers_of_i32(rt: HostRuntime) {
-    assert_eq!(rt; try_type::<i32>(&rt, &Options::new()), 4340);
+    check_type::<i32>(&rt, &Options::new(), 4340, 3530);
 }
 
 #[test]
 fn numbers_of_i64(rt: HostRuntime) {
-    assert_eq!(rt; try_type::<i64>(&rt, &Options::new()), 8234);
+    check_type::<i64>(&rt, &Options::new(), 8234, 6890);
 }
 
 #[test]
 fn numbers_of_isize(rt: HostRuntime) {
-    assert_eq!(rt; try_type::<isize>(&rt, &Options::new()), 8234);
-}
-
-#[test]
-fn numbers_of_u8_in_groups(rt: HostRuntime) {
-    assert_eq!(rt; try_grouped_type::<u8>(&rt, &Options::new()), 630);
-}
-
-#[test]
-fn numbers_of_u16_in_groups(rt: HostRuntime) {
-    assert_eq!(rt; try_grouped_type::<u16>(&rt, &Options::new()), 1050);
-}
-
-#[test]
-fn numbers_of_u32_in_groups(rt: HostRuntime) {
-    assert_eq!(rt; try_grouped_type::<u32>(&rt, &Options::new()), 1890);
-}
-
-#[test]
-fn numbers_of_u64_in_groups(rt: HostRuntime) {
-    assert_eq!(rt; try_grouped_type::<u64>(&rt, &Options::new()), 3550);
-}
-
-#[test]
-fn numbers_of_usize_in_groups(rt: HostRuntime) {
-    assert_eq!(rt; try_grouped_type::<usize>(&rt, &Options::new()), 3550);
-}
-
-#[test]
-fn numbers_of_i8_in_groups(rt: HostRuntime) {
-    assert_eq!(rt; try_grouped_type::<i8>(&rt, &Options::new()), 1070);
-}
-
-#[test]
-fn numbers_of_i16_in_groups(rt: HostRuntime) {
-    assert_eq!(rt; try_grouped_type::<i16>(&rt, &Options::new()), 1850);
-}
-
-#[test]
-fn numbers_of_i32_in_groups(rt: HostRuntime) {
-    assert_eq!(rt; try_grouped_type::<i32>(&rt, &Options::new()), 3530);
-}
-
-#[test]
-fn numbers_of_i64_in_groups(rt: HostRuntime) {
-    assert_eq!(rt; try_grouped_type::<i64>(&rt, &Options::new()), 6890);
-}
-
-#[test]
-fn numbers_of_isize_in_groups(rt: HostRuntime) {
-    assert_eq!(rt; try_grouped_type::<isize>(&rt, &Options::new()), 6890);
+    check_type::<isize>(&rt, &Options::new(), 8234, 6890);
 }

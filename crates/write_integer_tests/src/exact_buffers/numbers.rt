@@ -1,9 +1,10 @@
 //! Makes the numbers of each integer type from a sign and a magnitude.
 
 use lexical_write_integer::ToLexicalWithOptions;
+use std::fmt::Debug;
 
 // An integer type whose numbers can be made from a sign and a magnitude.
-pub(crate) trait Number: ToLexicalWithOptions {
+pub(crate) trait Number: ToLexicalWithOptions + Debug + Drop {
     // The magnitudes of the smallest and of the largest number.
     const ENDS: [u64; 2];
 

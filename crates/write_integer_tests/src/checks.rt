@@ -1,0 +1,41 @@
+//! The assertions of all tests. Each failure shows the row of the test, which has its inputs.
+
+use std::fmt::Debug;
+use std::process::Abort;
+
+// The longest buffer of a test: a length for the longest text, three more bytes, and some bytes that are not
+// passed to the writer.
+pub(crate) const ROOM: usize = 140;
+
+// What the buffers of the tests contain before a call.
+const UNCHANGED: [u8; ROOM] = [7; ROOM];
+
+// Checks that a value is the expected one.
+pub(crate) fn check_equal<R: Debug + Drop, T: PartialEq + Debug + Drop>(
+    rt: &impl Abort,
+    row: R,
+    value: T,
+    expected: T,
+) {
+    assert_eq!(rt; value, expected, "in the row {row:?}");
+}
+
+// Checks that the buffer begins with the text, and that every byte after it is still 7.
+pub(crate) fn check_buffer<R: Debug + Drop>(rt: &impl Abort, row: R, buffer: &[u8], text: &[u8]) {
+    let Some(rest) = buffer.strip_prefix(text) else {
+        panic!(rt; "in the row {row:?}: {buffer:?} does not begin with {text:?}");
+    };
+    check_equal(rt, row, UNCHANGED.ends_with(rest), true);
+}
+
+// Checks the returned length of a text, and the buffer that the text was written to.
+pub(crate) fn check_written<R: Copy + Debug + Drop>(
+    rt: &impl Abort,
+    row: R,
+    length: usize,
+    buffer: &[u8],
+    text: &[u8],
+) {
+    check_equal(rt, row, length, text.len());
+    check_buffer(rt, row, buffer, text);
+}
