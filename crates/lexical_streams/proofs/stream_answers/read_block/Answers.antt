@@ -5,4 +5,4 @@ use Rattle.lexical_streams.proofs.stream_answers.read_block.Goals as goal
 pub read-requires : goal.read-requires
 read-requires g c =
     let (before, text, put, ended) = c.requires.answered in
-    (search, (search rules, ((before, text, cc, ended), (search rules, (search rules, search rules)))))
+    (search, (search rules, ((before, text, cc, ended), (c.in_ok-flush.ensures.ok, (search rules, search rules)))))
