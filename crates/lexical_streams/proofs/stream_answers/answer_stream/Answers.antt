@@ -27,7 +27,7 @@ returns-clause-answered g c low =
 
 pub returns-clause-failed : goal.returns-clause-failed
 returns-clause-failed g c is_2 =
-    let told : c.status.result ≡ 2 = is_2 in
+    let told : c.status.result ≡ 2 = omega (arith, is_2) in
     let ran = c.answer_blocks-ran.ensures in
     let flush = c.flush.ensures in
     let before = c.answer_blocks-ran.new in
