@@ -1,8 +1,9 @@
 use Rattle.std.proofs.Common.{rules, [], ◌++◌, Ok, take, sym, ap, subst, ◌∙◌, arith, length, ◌≡◌, append-nil, length-append}
 use Rattle.std.proofs.lemmas.List.{length-take-le}
-use Rattle.std.proofs.lemmas.Result.{err_from_is_err_and, IfOk-weaker, on_ok_weaker, on_err_weaker}
+use Rattle.std.proofs.lemmas.Result.{err_from_is_err_and, IfOk-from_err, IfOk-weaker, on_ok_weaker, on_err_weaker}
 use Rattle.lexical_lines.specs.Answerer.{HasAnswered}
 use Rattle.lexical_lines.specs.Stream.{KeepsReader-transitive}
+use Rattle.lexical_lines.proofs.Results.{OnOk-from_err}
 use Rattle.lexical_streams.specs.StreamAnswers.{NoFault}
 use Rattle.lexical_streams.specs.Blocks.{taken, faults, reading, KeepsBytes-reflexive, KeepsBytes-transitive}
 use Rattle.lexical_streams.proofs.Begun.{HasBegun-next, bytes-are, bytes-are-all, begins-broken}
@@ -17,6 +18,21 @@ read_block-requires g c =
     let kept = KeepsBytes-reflexive g.W.Write.contents start in
     let answered = answers-given g.W.Write.contents reader reader start start [] c.new-answerer.result c.requires.fresh (sym (append-nil _)) none kept in
     (search, (search rules, (answered, c.requires.no_fault)))
+
+pub returns-in_err-count-clause-ok : goal.returns-in_err-count-clause-ok
+returns-in_err-count-clause-ok g c = OnOk-from_err c.from_residual.result _ c.from_residual.ensures.0
+
+pub returns-in_err-count-clause-good : goal.returns-in_err-count-clause-good
+returns-in_err-count-clause-good g c = IfOk-from_err c.from_residual.result _ c.from_residual.ensures.0
+
+pub returns-in_err-count-clause-read : goal.returns-in_err-count-clause-read
+returns-in_err-count-clause-read g c = c.read_block.ensures.read
+
+pub returns-in_err-count-clause-lent : goal.returns-in_err-count-clause-lent
+returns-in_err-count-clause-lent g c = c.read_block.ensures.lent
+
+pub returns-in_err-count-clause-written : goal.returns-in_err-count-clause-written
+returns-in_err-count-clause-written g c = c.read_block.ensures.written
 
 pub returns-in_err-count-clause-err : goal.returns-in_err-count-clause-err
 returns-in_err-count-clause-err g c = rw (err_from_is_err_and c.from_residual.result c.from_residual.ensures.1).1 (
@@ -57,6 +73,18 @@ read_block-requires-in-loop-count g c =
     let writer : faults c.push_all.new.sink ≡ 0 = omega (arith, c.in_ok-push_all.ensures.puts.faults, loop.no_fault.1, c.requires.no_fault.1) in
     (search, (search rules, (given, (loop.no_fault.0 ∙ c.requires.no_fault.0, writer))))
 
+pub returns-in_err-push_all-clause-ok : goal.returns-in_err-push_all-clause-ok
+returns-in_err-push_all-clause-ok g c = OnOk-from_err c.from_residual-in_err-push_all.result _ c.from_residual-in_err-push_all.ensures.0
+
+pub returns-in_err-push_all-clause-good : goal.returns-in_err-push_all-clause-good
+returns-in_err-push_all-clause-good g c = IfOk-from_err c.from_residual-in_err-push_all.result _ c.from_residual-in_err-push_all.ensures.0
+
+pub returns-in_err-push_all-clause-read : goal.returns-in_err-push_all-clause-read
+returns-in_err-push_all-clause-read g c = c.loop-count.invariant.read
+
+pub returns-in_err-push_all-clause-lent : goal.returns-in_err-push_all-clause-lent
+returns-in_err-push_all-clause-lent g c = c.loop-count.invariant.lent
+
 pub returns-in_err-push_all-clause-err : goal.returns-in_err-push_all-clause-err
 returns-in_err-push_all-clause-err g c =
     let loop = c.loop-count.invariant in
@@ -69,6 +97,15 @@ returns-in_err-push_all-clause-err g c =
 
 pub returns-in_err-push_all-clause-written : goal.returns-in_err-push_all-clause-written
 returns-in_err-push_all-clause-written g c = KeepsBytes-transitive g.W.Write.contents _ _ _ c.loop-count.invariant.written c.push_all.ensures.puts.kept
+
+pub returns-in_err-count-2-clause-ok : goal.returns-in_err-count-2-clause-ok
+returns-in_err-count-2-clause-ok g c = OnOk-from_err c.from_residual-in_err-count-2.result _ c.from_residual-in_err-count-2.ensures.0
+
+pub returns-in_err-count-2-clause-good : goal.returns-in_err-count-2-clause-good
+returns-in_err-count-2-clause-good g c = IfOk-from_err c.from_residual-in_err-count-2.result _ c.from_residual-in_err-count-2.ensures.0
+
+pub returns-in_err-count-2-clause-lent : goal.returns-in_err-count-2-clause-lent
+returns-in_err-count-2-clause-lent g c = c.read_block-in-loop-count.ensures.lent ∙ c.loop-count.invariant.lent
 
 pub returns-in_err-count-2-clause-err : goal.returns-in_err-count-2-clause-err
 returns-in_err-count-2-clause-err g c =
@@ -120,6 +157,12 @@ loop-count-preserved g c =
           (KeepsBytes-transitive g.W.Write.contents _ _ _ loop.written c.push_all.ensures.puts.kept)
           c.read_block-in-loop-count.ensures.written;
     }
+
+pub returns-clause-read : goal.returns-clause-read
+returns-clause-read g c = c.loop-count.invariant.read
+
+pub returns-clause-lent : goal.returns-clause-lent
+returns-clause-lent g c = c.loop-count.invariant.lent
 
 pub returns-clause-ok : goal.returns-clause-ok
 returns-clause-ok g c =

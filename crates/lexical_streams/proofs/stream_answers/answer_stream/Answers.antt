@@ -1,4 +1,4 @@
-use Rattle.std.proofs.Common.{◌+◌, sym, ap, ◌∙◌, inl, inr, arith}
+use Rattle.std.proofs.Common.{◌≡◌, ◌+◌, sym, ap, ◌∙◌, inl, inr, arith}
 use Rattle.std.proofs.lemmas.Result.{IfOk-at_ok}
 use Rattle.lexical_streams.specs.Blocks.{faults, KeepsBytes-transitive}
 use Rattle.lexical_streams.proofs.Statuses.{all-good, one-bad, no-fault, some-fault, flush-ok, flush-failed, all-answered, reader-failed, writer-failed}
@@ -27,10 +27,11 @@ returns-clause-answered g c low =
 
 pub returns-clause-failed : goal.returns-clause-failed
 returns-clause-failed g c is_2 =
+    let told : c.status.result ≡ 2 = omega (arith, is_2) in
     let ran = c.answer_blocks-ran.ensures in
     let flush = c.flush.ensures in
     let before = c.answer_blocks-ran.new in
-    elim (some-fault c.answer_blocks-ran.result c.is_ok-flushed.result (sym c.status.ensures ∙ is_2) ran.ok ran.err) [
+    elim (some-fault c.answer_blocks-ran.result c.is_ok-flushed.result (sym c.status.ensures ∙ told) ran.ok ran.err) [
       | inl failed ↦ elim failed [
         | inl read ↦ inl (reader-failed g.R.Read.remaining g.W.Write.contents c.args.reader.now before.reader c.args.writer.now
             before.writer c.flush.new.self flush.taken ran.written flush.bytes read)

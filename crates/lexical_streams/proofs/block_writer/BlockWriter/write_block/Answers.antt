@@ -34,3 +34,7 @@ returns-clause-bytes g c =
       bytes = c.write_until_error-count.ensures.bytes;
       whole = append-nil _ ∙ parted w.block c.copy_within.new.self count w.end bound (omega arith) c.copy_within.ensures.after;
     }
+
+-- the check finds this proof by itself, but with an answer the refusal of a mistake says what is wrong
+pub returns-clause-faults : goal.returns-clause-faults
+returns-clause-faults g c = c.note_fault.ensures.faults
