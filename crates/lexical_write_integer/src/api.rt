@@ -25,7 +25,7 @@ pub trait ToLexical: LexicalInteger + FormattedSize {
     /// `-` if it is below 0, and then the digits. Every byte after the text is unchanged. The buffer
     /// must have room for `DECIMAL_WIDTH` bytes, and for one further byte if there is a `-`.
     /// `write_address` in `crates/uses/src/address.rt` is an example.
-    fn write_lexical(self, buffer: &mut [u8]) -> usize
+    final fn write_lexical(self, buffer: &mut [u8]) -> usize
         requires { need (Self.number self) Self.DECIMAL_WIDTH standard ≤ length buffer.old }
         ensures text { WritesText (Self.number self) standard buffer.old buffer.new result }
         ensures short { result ≤ need (Self.number self) Self.DECIMAL_WIDTH standard }
@@ -50,7 +50,7 @@ pub trait ToLexical: LexicalInteger + FormattedSize {
     /// Writes the number in the format to the start of the buffer, and returns the length of its text.
     /// Every byte after the text is unchanged. The buffer must have room for the number of bytes that
     /// `ToLexicalWithOptions::required_len` returns. The other methods that write a text call this one.
-    fn write_text(self, buffer: &mut [u8], format: &NumberFormat) -> usize
+    final fn write_text(self, buffer: &mut [u8], format: &NumberFormat) -> usize
         requires { need (Self.number self) Self.DECIMAL_WIDTH format.now ≤ length buffer.old }
         ensures text { WritesText (Self.number self) format.now buffer.old buffer.new result }
         ensures short { result ≤ need (Self.number self) Self.DECIMAL_WIDTH format.now }
@@ -90,7 +90,7 @@ pub trait ToLexicalWithOptions: ToLexical {
     /// The buffer must have room for the number of bytes that `required_len` returns, which is enough
     /// for the sign, the digits and the separators between their groups. In radix 10 it is enough for
     /// `DECIMAL_WIDTH` digits, even if the number has fewer.
-    fn write_lexical_with_options(
+    final fn write_lexical_with_options(
         self,
         buffer: &mut [u8],
         format: &NumberFormat,

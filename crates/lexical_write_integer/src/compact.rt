@@ -90,12 +90,4 @@ pub trait Compact: UnsignedInteger + FormattedSize {
     }
 }
 
-impl Compact for u8 {}
-
-impl Compact for u16 {}
-
-impl Compact for u32 {}
-
-impl Compact for u64 {}
-
-impl Compact for usize {}
+impl<T: UnsignedInteger + FormattedSize> Compact for T {}

@@ -152,7 +152,7 @@ pub trait Decimal: DecimalCount {
 
     /// Writes the digits of the number to the start of the buffer, and returns how many there are. The
     /// buffer has room for `DECIMAL_WIDTH` bytes.
-    fn decimal(self, buffer: &mut [u8]) -> usize
+    final fn decimal(self, buffer: &mut [u8]) -> usize
         requires { Self.DECIMAL_WIDTH ≤ length buffer.old }
         ensures digits { WritesDigits 10 (Self.magnitude self) buffer.old buffer.new result }
         ensures short { result ≤ Self.DECIMAL_WIDTH }

@@ -141,12 +141,4 @@ pub trait DigitCount: DecimalCount {
     }
 }
 
-impl DigitCount for u8 {}
-
-impl DigitCount for u16 {}
-
-impl DigitCount for u32 {}
-
-impl DigitCount for u64 {}
-
-impl DigitCount for usize {}
+impl<T: DecimalCount> DigitCount for T {}

@@ -78,12 +78,4 @@ pub trait Radix: UnsignedInteger {
     }
 }
 
-impl Radix for u8 {}
-
-impl Radix for u16 {}
-
-impl Radix for u32 {}
-
-impl Radix for u64 {}
-
-impl Radix for usize {}
+impl<T: UnsignedInteger> Radix for T {}

@@ -6,7 +6,7 @@ use mathlib.Core.List.{List, [], ◌∷◌}
 use lib.ListN.{length}
 use seplogic.Ra.Ura.{Ura}
 use base.Fraction.{full_share}
-use mir.Syntax.{Fn, Args, Dict, a_type, named, dcons, dnil, method}
+use mir.Syntax.{Fn, Args, Dict, a_type, named, dcons, dnil}
 use mir.MapTy.{inst_fn}
 use mir.Val.{Val}
 use base.Logic.{SProp, ent, emp, id⊢}
@@ -30,7 +30,7 @@ use Rattle.lexical_write_integer.proofs.HandedFronts.{Fronts, calls_front}
 use Rattle.lexical_write_integer.proofs.Buffers.Prefixes.{Writes-short}
 use denote.Builtin.{u8, usize}
 use denote.Exit.{no}
-use denote.Param.{bounded, layout, layouts, copied}
+use denote.Param.{bounded, layout, copied}
 use denote.Laws.{Typed}
 use denote.Param.Laws.{IsCopy, copied_laws}
 use denote.RattleType.{RattleType}
@@ -52,6 +52,8 @@ use Rattle.lexical_write_integer.specs.Buffer.{Writes as Written}
 use Rattle.lexical_write_integer.specs.Text.{IsText, need}
 use Rattle.lexical_write_integer.specs.declared.api.ToLexical as declared
 use Rattle.lexical_write_integer.specs.contracts.api.ToLexical.write_lexical as W
+use Rattle.lexical_write_integer.specs.contracts.api.ToLexical.write_lexical.Key.{name as #write_lexical}
+use Rattle.lexical_write_integer.proofs.api.ToLexical.write_lexical.Met.{met as write_met}
 use Rattle.lexical_write_integer.proofs.buffer.front_mut.Met.{met}
 use Rattle.lexical_write_integer.specs.contracts.buffer.front_mut.Key.{name as #front_mut}
 use Rattle.lexical_write_integer.specs.contracts.api.ToLexical.to_lexical as F
@@ -97,11 +99,11 @@ module _ (T : Able) {M : Type 1} {𝓤 : Ura M} (𝓛 : Logic 𝓤) (at_mem : Me
   abbrev clauses : Clauses 𝓤 (ended T)
   clauses = F.clauses T.row T.g T.d T.gn T.dn T.gc T.dc T.gs T.ds 𝓛 at_mem run
 
-  -- what the method that writes does
+  -- what the function that writes does
   abbrev Writes : Contract 𝓤
   Writes = triple_of 𝓛 (W.signature T.row) (W.spec T.row T.g T.d T.gn T.dn T.gc T.dc T.gs T.ds 𝓛 at_mem run)
 
-  module _ (𝓣 : Tables 𝓤 H) (writes : Triple 𝓤 (𝓣.C (method T.d 0 (layouts [] tt))) Writes) (fronts : Triple 𝓤 (𝓣.C #front_mut) (Fronts 𝓛 at_mem run))
+  module _ (𝓣 : Tables 𝓤 H) (writes : Triple 𝓤 (𝓣.C (#write_lexical (args T))) Writes) (fronts : Triple 𝓤 (𝓣.C #front_mut) (Fronts 𝓛 at_mem run))
       (κ κT : Lft) (q qT : Share) (x : T.row.Denot) (b o : ℕ) (γ : GName) (xs : List ℕ) where
     abbrev self : MutBor (List ℕ)
     self = record { ref_ptr = (b, o); ghost_name = γ; now = xs }
@@ -184,7 +186,7 @@ module _ (T : Able) {M : Type 1} {𝓤 : Ura M} (𝓛 : Logic 𝓤) (at_mem : Me
 
 pub to_lexical_spec : {M : Type 1} → stated.statement M
 unfolding tables_of
-to_lexical_spec 𝓤 𝓛 𝓜 𝓡 wired X L C g d gn dn gc dc gs ds met' _ _ _ =
+to_lexical_spec 𝓤 𝓛 𝓜 𝓡 wired X L C g d gn dn gc dc gs ds m mn mc ms =
     let T : Able = record { row = X; copy = C; g = g; d = d; gn = gn; dn = dn; gc = gc; dc = dc; gs = gs; ds = ds } in
     let 𝓣 : Tables 𝓤 𝓛.H = tables_of 𝓤 𝓛.H 𝓜 (tables 𝓤 𝓛.H 𝓜 𝓡 𝓡.env) in
     let c = clauses T 𝓛 𝓜.mem 𝓡.returns in
@@ -196,6 +198,8 @@ to_lexical_spec 𝓤 𝓛 𝓜 𝓡 wired X L C g d gn dn gc dc gs ds met' _ _ _
     (walked 𝓛 (ended T) (stayed T) c (WpFn 𝓤 𝓛.H 𝓣.C 𝓣.Λ (function T)) (λ κs. (x_vals T, (mut_slice_vals, tt)))
     (λ κs. (C.tells, (mut_slice_Tells (named 0) κs.0 u8, tt)))
     (λ κs qs bounds a ghost are.
-    walk T 𝓛 𝓜.mem 𝓡.returns 𝓣 met'.write_lexical (met 𝓤 𝓛 𝓜 𝓡 (code.calls-lexical_write_integer::buffer::front_mut 𝓡.env wired))
+    walk T 𝓛 𝓜.mem 𝓡.returns 𝓣
+    (write_met 𝓤 𝓛 𝓜 𝓡 (code.calls-lexical_write_integer::api::ToLexical::write_lexical 𝓡.env wired) X L C g d gn dn gc dc gs ds m mn mc ms)
+    (met 𝓤 𝓛 𝓜 𝓡 (code.calls-lexical_write_integer::buffer::front_mut 𝓡.env wired))
     κs.0 κs.1.0 qs.0 qs.1.0 a.0 a.1.0.ref_ptr.0 a.1.0.ref_ptr.1 a.1.0.ghost_name a.1.0.now are.1.0.0.1
     (((copied_laws 0 X L).lawful 𝓛).typed a.0 (x_vals T a.0) are.0))))

@@ -6,7 +6,7 @@ use mathlib.Core.List.{List, [], ◌∷◌}
 use lib.ListN.{length, take}
 use seplogic.Ra.Ura.{Ura}
 use base.Fraction.{full_share}
-use mir.Syntax.{Fn, Args, a_type, named, dcons, dnil, method}
+use mir.Syntax.{Fn, Args, a_type, named, dcons, dnil}
 use mir.MapTy.{inst_fn}
 use mir.Val.{Val}
 use base.Logic.{SProp, ent, emp, id⊢}
@@ -31,7 +31,7 @@ use Rattle.lexical_write_integer.proofs.HandedFronts.{Fronts, calls_front}
 use Rattle.lexical_write_integer.proofs.Buffers.Prefixes.{Writes-short, Writes-and}
 use denote.Builtin.{u8, usize}
 use denote.Exit.{no, yes}
-use denote.Param.{bounded, layout, layouts, copied, param}
+use denote.Param.{bounded, layout, copied, param}
 use denote.Laws.{Typed}
 use denote.Param.Laws.{copied_laws}
 use denote.RattleType.{RattleType, owns}
@@ -51,6 +51,8 @@ use Rattle.lexical_write_integer.specs.Buffer.{Writes as Written}
 use Rattle.lexical_write_integer.specs.Groups.{without_marks}
 use Rattle.lexical_write_integer.specs.Text.{IsText, need}
 use Rattle.lexical_write_integer.specs.contracts.api.ToLexicalWithOptions.write_lexical_with_options as W
+use Rattle.lexical_write_integer.specs.contracts.api.ToLexicalWithOptions.write_lexical_with_options.Key.{name as #write_lexical_with_options}
+use Rattle.lexical_write_integer.proofs.api.ToLexicalWithOptions.write_lexical_with_options.Met.{met as write_met}
 use Rattle.lexical_write_integer.proofs.buffer.front_mut.Met.{met}
 use Rattle.lexical_write_integer.specs.contracts.buffer.front_mut.Key.{name as #front_mut}
 use Rattle.lexical_write_integer.specs.contracts.api.ToLexicalWithOptions.to_lexical_with_options as F
@@ -95,11 +97,11 @@ module _ (T : Able) {M : Type 1} {𝓤 : Ura M} (𝓛 : Logic 𝓤) (at_mem : Me
   abbrev clauses : Clauses 𝓤 (ended T)
   clauses = F.clauses T.row T.options T.g T.d T.gl T.dl T.gn T.dn T.gc T.dc T.gs T.ds T.gt T.dt 𝓛 at_mem run
 
-  -- what the method that writes does
+  -- what the function that writes does
   abbrev Writes : Contract 𝓤
   Writes = triple_of 𝓛 (W.signature T.row T.options) (W.spec T.row T.options T.g T.d T.gl T.dl T.gn T.dn T.gc T.dc T.gs T.ds T.gt T.dt 𝓛 at_mem run)
 
-  module _ (𝓣 : Tables 𝓤 H) (writes : Triple 𝓤 (𝓣.C (method T.d 0 (layouts [] tt))) Writes) (fronts : Triple 𝓤 (𝓣.C #front_mut) (Fronts 𝓛 at_mem run))
+  module _ (𝓣 : Tables 𝓤 H) (writes : Triple 𝓤 (𝓣.C (#write_lexical_with_options (args T))) Writes) (fronts : Triple 𝓤 (𝓣.C #front_mut) (Fronts 𝓛 at_mem run))
       (κ κf κo κT κO : Lft) (q qf qo qT qO : Share) (outlives : κo ⊑ κO) (x : T.row.Denot) (b o : ℕ) (γ : GName) (xs : List ℕ)
       (format : Bor Format) (options : Bor T.options.Denot) where
     abbrev self : MutBor (List ℕ)
@@ -204,7 +206,7 @@ module _ (T : Able) {M : Type 1} {𝓤 : Ura M} (𝓛 : Logic 𝓤) (at_mem : Me
 
 pub to_lexical_with_options_spec : {M : Type 1} → stated.statement M
 unfolding tables_of
-to_lexical_with_options_spec 𝓤 𝓛 𝓜 𝓡 wired X Y L LY C g d gl dl gn dn gc dc gs ds gt dt met' _ _ _ _ _ =
+to_lexical_with_options_spec 𝓤 𝓛 𝓜 𝓡 wired X Y L LY C g d gl dl gn dn gc dc gs ds gt dt m ml mn mc ms mt =
     let T : Able =
     record { row = X; copy = C; options = Y; g = g; d = d; gl = gl; dl = dl; gn = gn; dn = dn; gc = gc; dc = dc; gs = gs; ds = ds; gt = gt; dt = dt } in
     let 𝓣 : Tables 𝓤 𝓛.H = tables_of 𝓤 𝓛.H 𝓜 (tables 𝓤 𝓛.H 𝓜 𝓡 𝓡.env) in
@@ -225,7 +227,10 @@ to_lexical_with_options_spec 𝓤 𝓛 𝓜 𝓡 wired X Y L LY C g d gl dl gn d
     (λ κs. (x_vals T, (mut_slice_vals, (shr_vals, (shr_vals, tt)))))
     (λ κs. (C.tells, (mut_slice_Tells (named 0) κs.0 u8, (shr_Tells (named 1) κs.1.0 NumberFormat, (shr_Tells (named 2) κs.1.1.0 (O T), tt)))))
     (λ κs qs bounds a ghost are.
-    walk T 𝓛 𝓜.mem 𝓡.returns 𝓣 met'.write_lexical_with_options (met 𝓤 𝓛 𝓜 𝓡 (code.calls-lexical_write_integer::buffer::front_mut 𝓡.env wired))
+    walk T 𝓛 𝓜.mem 𝓡.returns 𝓣
+    (write_met 𝓤 𝓛 𝓜 𝓡 (code.calls-lexical_write_integer::api::ToLexicalWithOptions::write_lexical_with_options 𝓡.env wired) X Y L LY C
+    g d gl dl gn dn gc dc gs ds gt dt m ml mn mc ms mt)
+    (met 𝓤 𝓛 𝓜 𝓡 (code.calls-lexical_write_integer::buffer::front_mut 𝓡.env wired))
     κs.0 κs.1.0 κs.1.1.0 κs.1.1.1.0 κs.1.1.1.1.0 qs.0 qs.1.0 qs.1.1.0 qs.1.1.1.0 qs.1.1.1.1.0
     bounds.0 a.0 a.1.0.ref_ptr.0 a.1.0.ref_ptr.1 a.1.0.ghost_name a.1.0.now a.1.1.0 a.1.1.1.0
     are.1.0.0.1 (((copied_laws 0 X L).lawful 𝓛).typed a.0 (x_vals T a.0) are.0))))
