@@ -316,7 +316,7 @@ pub trait UnsignedInteger: LexicalInteger {
         ensures { magnitude result ≡ value };
 
     /// Returns the number as a `u32`, which it fits.
-    fn as_u32(self) -> u32
+    final fn as_u32(self) -> u32
         requires { magnitude self < 2 ^ 32 }
         ensures { result ≡ magnitude self }
     {
@@ -335,7 +335,7 @@ pub trait UnsignedInteger: LexicalInteger {
         ensures remainder { magnitude result.1 ≡ magnitude self % magnitude by };
 
     /// Returns whether the number is `other` or larger.
-    fn is_at_least(self, other: Self) -> bool
+    final fn is_at_least(self, other: Self) -> bool
         ensures { IsTrue result ↔ (magnitude other ≤ magnitude self) }
     {
         self.as_usize() >= other.as_usize()

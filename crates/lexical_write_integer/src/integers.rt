@@ -5,12 +5,14 @@ ghost use Rattle.std.proofs.Common.{lit≤};
 ghost use Rattle.lexical_write_integer.specs.SizeBound.{unsigned_need-le, signed_need-le};
 
 use crate::api::{ToLexical, ToLexicalWithOptions};
+use crate::decimal::Decimal;
 use crate::digit_count::DigitCount;
 use crate::write::WriteInteger;
+use lexical_num::constants::FormattedSize;
 use lexical_num::format::NumberFormat;
 use lexical_num::options::Options;
 
-impl ToLexical for u8 {
+impl<T: Decimal + FormattedSize> ToLexical for T {
     fn write_magnitude(self, format: &NumberFormat, buffer: &mut [u8]) -> usize {
         self.write_mantissa(format, buffer)
     }
@@ -26,30 +28,10 @@ impl ToLexicalWithOptions for u8 {
     ghost size_suffices = { unsigned_need-le (2 ^ 8 - 1) 8 3 16 3 (lit≤ tt) (lit≤ tt) (lit≤ tt) (lit≤ tt) };
 }
 
-impl ToLexical for u16 {
-    fn write_magnitude(self, format: &NumberFormat, buffer: &mut [u8]) -> usize {
-        self.write_mantissa(format, buffer)
-    }
-
-    fn magnitude_digits(self, radix: u32) -> usize {
-        self.digit_count(radix)
-    }
-}
-
 impl ToLexicalWithOptions for u16 {
     type Options = Options;
 
     ghost size_suffices = { unsigned_need-le (2 ^ 16 - 1) 16 5 32 5 (lit≤ tt) (lit≤ tt) (lit≤ tt) (lit≤ tt) };
-}
-
-impl ToLexical for u32 {
-    fn write_magnitude(self, format: &NumberFormat, buffer: &mut [u8]) -> usize {
-        self.write_mantissa(format, buffer)
-    }
-
-    fn magnitude_digits(self, radix: u32) -> usize {
-        self.digit_count(radix)
-    }
 }
 
 impl ToLexicalWithOptions for u32 {
@@ -58,30 +40,10 @@ impl ToLexicalWithOptions for u32 {
     ghost size_suffices = { unsigned_need-le (2 ^ 32 - 1) 32 10 64 10 (lit≤ tt) (lit≤ tt) (lit≤ tt) (lit≤ tt) };
 }
 
-impl ToLexical for u64 {
-    fn write_magnitude(self, format: &NumberFormat, buffer: &mut [u8]) -> usize {
-        self.write_mantissa(format, buffer)
-    }
-
-    fn magnitude_digits(self, radix: u32) -> usize {
-        self.digit_count(radix)
-    }
-}
-
 impl ToLexicalWithOptions for u64 {
     type Options = Options;
 
     ghost size_suffices = { unsigned_need-le (2 ^ 64 - 1) 64 20 128 20 (lit≤ tt) (lit≤ tt) (lit≤ tt) (lit≤ tt) };
-}
-
-impl ToLexical for usize {
-    fn write_magnitude(self, format: &NumberFormat, buffer: &mut [u8]) -> usize {
-        self.write_mantissa(format, buffer)
-    }
-
-    fn magnitude_digits(self, radix: u32) -> usize {
-        self.digit_count(radix)
-    }
 }
 
 impl ToLexicalWithOptions for usize {
