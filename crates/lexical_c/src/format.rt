@@ -4,6 +4,7 @@ ghost use Rattle.std.specs.Prelude.{◌≡◌, ◌≢◌, ◌↔◌, IsTrue, IsS
 ghost use Rattle.lexical_num.specs.Format.{IsRadix, IsGroupSize, IsMark, IsValid};
 ghost use Rattle.lexical_c.specs.Format.{format_of};
 
+use lexical_num::limits::{is_group_size, is_mark, is_radix};
 use lexical_write_integer::{NumberFormat, NumberFormatBuilder};
 
 /// A format as C passes it, `struct lexical_format` of the header. Each field may hold any value. If
@@ -36,24 +37,17 @@ pub extern "C" fn lexical_check_format(format: &CFormat) -> u32
     ensures group_mark { result ≡ INVALID_GROUP_MARK
         ↔ (IsRadix format.now.radix × IsGroupSize format.now.group_size × ¬ IsMark format.now.mark) }
 {
-    if format.radix < 2 || format.radix > 36 {
+    if !is_radix(u64::from(format.radix)) {
         INVALID_RADIX
     } else if format.group_size == 0 {
         0
-    } else if format.group_size > 64 {
+    } else if !is_group_size(u64::from(format.group_size)) {
         INVALID_GROUP_SIZE
-    } else if !is_mark(format.mark) {
+    } else if !is_mark(u64::from(format.mark)) {
         INVALID_GROUP_MARK
     } else {
         0
     }
-}
-
-// Returns whether the number is a byte that can separate groups. 43 is `+`, and 45 is `-`.
-fn is_mark(mark: u32) -> bool
-    ensures { IsTrue result ↔ IsMark mark }
-{
-    32 <= mark && mark <= 126 && !(mark as u8).is_ascii_alphanumeric() && mark != 43 && mark != 45
 }
 
 /// Returns the format with these fields, which must be valid.

@@ -10,6 +10,7 @@ ghost use Rattle.lexical_write_integer.specs.Text.{need};
 ghost use Rattle.lexical_c.specs.Format.{format_of};
 
 use crate::format::{CFormat, valid_format};
+use lexical_num::limits::is_radix;
 use lexical_num::num::LexicalInteger;
 use lexical_write_integer::write::WriteInteger;
 use lexical_write_integer::{FormattedSize, NumberFormat};
@@ -28,8 +29,7 @@ pub fn plain_format<T: FormattedSize>(format: &CFormat, room: usize) -> Option<N
     } else {
         T::FORMATTED_SIZE
     };
-    if 2 <= format.radix
-        && format.radix <= 36
+    if is_radix(u64::from(format.radix))
         && format.required_sign == 0
         && format.group_size == 0
         && size <= room

@@ -5,6 +5,8 @@ ghost use Rattle.lexical_num.specs.Format.{IsRadix};
 ghost use Rattle.lexical_write_integer.specs.Text.{IsDigits};
 ghost use Rattle.lexical_lines.specs.Decimal.{IsDecimal};
 
+use lexical_num::limits::is_radix;
+
 /// Parses one or more decimal digits, with or without leading zeros. Returns `None` if the text is
 /// anything else, or if the number does not fit in a `u64`.
 pub fn parse_decimal(text: &[u8]) -> Option<u64>
@@ -33,7 +35,7 @@ pub fn parse_radix(text: &[u8]) -> Option<u8>
 {
     let radix = parse_decimal(text)?;
     let leads_with_zero = text[0] == b'0';
-    if leads_with_zero || radix < 2 || 36 < radix {
+    if leads_with_zero || !is_radix(radix) {
         None
     } else {
         Some(radix as u8)

@@ -1,11 +1,12 @@
 //! Building a format.
 
-ghost use Rattle.std.specs.Prelude.{◌≡◌, ◌↔◌, IsErrOf, IsOk, IfOk, IsTrue};
+ghost use Rattle.std.specs.Prelude.{◌≡◌, ◌↔◌, IsErrOf, IsOk, IfOk};
 ghost use Rattle.std.specs.Option.{ForSome};
 ghost use Rattle.lexical_num.specs.Format.{IsRadix, IsGroupSize, IsMark, IsValid, standard};
 
 use crate::error::{Error, Result};
 use crate::format::{NumberFormat, Parts, STANDARD};
+use crate::limits::{is_group_size, is_mark, is_radix};
 use std::marker::Model;
 
 /// A builder of formats. Its parts may be any bytes until a format is built from them.
@@ -114,17 +115,17 @@ impl NumberFormatBuilder {
             ↔ (IsRadix self.now.mantissa_radix × IsRadix self.now.exponent_radix
             × IsGroupSize grouping.0 × ¬ IsMark grouping.1)) }
     {
-        if !is_radix(self.parts.mantissa_radix) {
+        if !is_radix(u64::from(self.parts.mantissa_radix)) {
             return Err(Error::InvalidMantissaRadix(self.parts.mantissa_radix));
         }
-        if !is_radix(self.parts.exponent_radix) {
+        if !is_radix(u64::from(self.parts.exponent_radix)) {
             return Err(Error::InvalidExponentRadix(self.parts.exponent_radix));
         }
         if let Some((size, mark)) = self.parts.digit_grouping {
-            if !is_group_size(size) {
+            if !is_group_size(u64::from(size)) {
                 return Err(Error::InvalidGroupSize(size));
             }
-            if !is_mark(mark) {
+            if !is_mark(u64::from(mark)) {
                 return Err(Error::InvalidGroupMark(mark));
             }
         }
@@ -148,25 +149,4 @@ impl Default for NumberFormatBuilder {
     fn default() -> Self {
         NumberFormatBuilder::new()
     }
-}
-
-// Returns whether the radix is from 2 to 36, so that each of its digits has a character.
-fn is_radix(radix: u8) -> bool
-    ensures { IsTrue result ↔ IsRadix radix }
-{
-    2 <= radix && radix <= 36
-}
-
-// Returns whether a group can have this number of digits.
-fn is_group_size(size: u8) -> bool
-    ensures { IsTrue result ↔ IsGroupSize size }
-{
-    1 <= size && size <= 64
-}
-
-// Returns whether the byte can separate two groups.
-fn is_mark(byte: u8) -> bool
-    ensures { IsTrue result ↔ IsMark byte }
-{
-    32 <= byte && byte <= 126 && !byte.is_ascii_alphanumeric() && byte != b'+' && byte != b'-'
 }

@@ -25,10 +25,11 @@
 pub mod digit;
 pub mod num;
 
-// Formats, their builder, and its errors.
+// Formats, their limits, their builder, and its errors.
 pub mod error;
 pub mod format;
 pub mod format_builder;
+pub mod limits;
 
 // How long a buffer is enough.
 pub mod constants;
