@@ -1,5 +1,5 @@
 -- lines: separators, lines of an input, and the answers to them
-pub mod Separators
+pub mod Splits
 pub mod Lines
 pub mod AnswerTexts
 pub mod UniqueAnswers

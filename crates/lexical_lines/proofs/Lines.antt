@@ -6,7 +6,7 @@ use Rattle.std.proofs.lemmas.Grind.{flat_map-append}
 use Rattle.std.proofs.lemmas.List.{append-nil}
 use Rattle.std.proofs.lemmas.List.Elements.{All-nil, All-cons, All-head, All-tail, All-push, All-append}
 use Rattle.lexical_lines.specs.Lines.{IsCut, AreLines, EndsLine, NoNewline, with_newlines, rest_line}
-use Rattle.lexical_lines.proofs.Separators.{Lacks-not, cut_unique}
+use Rattle.lexical_lines.proofs.Splits.{Lacks-not, cut_unique}
 
 -- the byte is not a newline
 abbrev pub IsInside : ℕ → Type 0

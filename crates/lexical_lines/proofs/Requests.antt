@@ -7,14 +7,14 @@ use Rattle.lexical_lines.specs.declared.integer_type.IntegerType.{IntegerType}
 use Rattle.lexical_lines.specs.declared.integer_type.IntegerType.TheVariants.{U8, U16, U32, U64, Usize, I8, I16, I32, I64, Isize}
 use Rattle.lexical_lines.specs.IntegerType.{name_of}
 use Rattle.lexical_lines.specs.Request.{IsRequest, IsValue}
-use Rattle.lexical_lines.specs.Sign.{optional_sign}
-use Rattle.lexical_lines.proofs.Separators.{Lacks, cut_unique}
+use Rattle.lexical_lines.specs.Split.{Lacks, optional_sign}
+use Rattle.lexical_lines.proofs.Splits.{cut_unique}
 use Rattle.lexical_lines.proofs.Decimals.{IsDigitByte, IsDecimal-bytes, IsDecimal-from_digits}
 use Rattle.lexical_lines.proofs.Signs.{stripped_unique}
 
 -- no byte of the text is a space
 abbrev pub NoSpace : List ℕ → Type 0
-NoSpace text = Lacks 32 text
+NoSpace = Lacks 32
 
 abbrev lacks_space : List ℕ → Bool
 lacks_space [] = true

@@ -3,7 +3,7 @@ use Rattle.std.proofs.Common.{◌≡◌, ℕ, ◌<◌, List, [], ◌∷◌, ◌+
 use Rattle.std.specs.Io.{StartsWith}
 use Rattle.std.specs.List.{All}
 use Rattle.std.proofs.lemmas.List.Elements.{All-head}
-use Rattle.lexical_lines.specs.Sign.{optional_sign}
+use Rattle.lexical_lines.specs.Split.{optional_sign}
 use Rattle.lexical_lines.proofs.Decimals.{IsDigitByte}
 
 -- a text has one reading as an optional sign and digits

@@ -8,10 +8,10 @@ pub mod Line
 pub mod Lines
 pub mod Request
 pub mod RunOutcome
-pub mod Sign
 pub mod Sink
 pub mod Slice
 pub mod Source
+pub mod Split
 pub mod Stream
 pub mod Trace
 -- the definitions of lower crates that these contracts use

@@ -1,9 +1,10 @@
 -- The lines of an input.
-use Rattle.std.specs.Prelude.{◌≡◌, ◌≢◌, ℕ, List, [], ◌∷◌, ◌++◌, flat_map, All}
+use Rattle.std.specs.Prelude.{◌≡◌, ℕ, List, [], ◌∷◌, ◌++◌, flat_map, All}
+use Rattle.lexical_lines.specs.Split.{Lacks}
 
 -- no byte is a newline
 abbrev pub NoNewline : List ℕ → Type 0
-NoNewline bytes = All (λ byte. byte ≢ 10) bytes
+NoNewline = Lacks 10
 
 -- these lines with a newline after each
 abbrev pub with_newlines : List (List ℕ) → List ℕ

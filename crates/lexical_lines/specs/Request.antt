@@ -8,7 +8,7 @@ use Rattle.lexical_lines.specs.declared.request.Number.TheVariants.{Unsigned, Si
 use Rattle.lexical_lines.specs.declared.request.Request.{Request}
 use Rattle.lexical_lines.specs.Decimal.{IsDecimal}
 use Rattle.lexical_lines.specs.IntegerType.{name_of, with_sign, Holds}
-use Rattle.lexical_lines.specs.Sign.{optional_sign}
+use Rattle.lexical_lines.specs.Split.{optional_sign}
 
 -- the text is an optional `-` and the digits of a number that the type has
 pub record IsValue (kind : IntegerType) (number : ℤ) (text : List ℕ) : Type 0 where

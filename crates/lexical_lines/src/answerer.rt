@@ -12,9 +12,12 @@ ghost use Rattle.lexical_lines.specs.RunOutcome.{added, TellsAllGood, BreaksOff}
 
 use crate::answer::{MAX_ANSWER, write_answer};
 use crate::line::{Line, MAX_LENGTH};
-use crate::newline::{NEWLINE, split_at_newline};
 use crate::sink::{ByteSink, put_all};
+use crate::split::split_at;
 use std::io;
+
+// The byte that ends a line.
+const NEWLINE: u8 = b'\n';
 
 /// Answers lines whose bytes arrive in chunks. The answer to a line is the text of the number that the
 /// line requests, or `bad line` and the number of the line; the documentation of `run` has the details.
@@ -77,7 +80,7 @@ impl Answerer {
         ensures puts { PutsMore K.taken K.faults K.keeps sink.old sink.new result }
     {
         let mut rest = bytes;
-        while let Some((end, more)) = split_at_newline(rest) {
+        while let Some((end, more)) = split_at(NEWLINE, rest) {
             self.end_line(end, sink)?;
             rest = more;
         }

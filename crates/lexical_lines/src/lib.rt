@@ -57,10 +57,8 @@ mod answer;
 mod decimal_parser;
 mod integer_type;
 mod line;
-mod newline;
 mod request;
-mod sign;
-mod space;
+mod split;
 
 // Laws about lines and answers, for callers.
 pub mod laws;

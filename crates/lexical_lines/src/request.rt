@@ -6,8 +6,7 @@ ghost use Rattle.lexical_lines.specs.Request.{IsValue, IsGood, Asks, number_of};
 
 use crate::decimal_parser::{parse_decimal, parse_radix};
 use crate::integer_type::IntegerType;
-use crate::sign::strip_sign;
-use crate::space::split_at_space;
+use crate::split::{split_at, strip_sign};
 
 /// A number of any of the ten types, as a number of one of the two widest types.
 #[derive(Clone, Copy)]
@@ -34,8 +33,8 @@ pub fn parse(line: &[u8]) -> Option<Request>
     ensures found { IfSome result (λ request. Asks line.now request) }
     ensures none { IfNone result (IsGood line.now → ⊥) }
 {
-    let (name, rest) = split_at_space(line)?;
-    let (signed_radix, value) = split_at_space(rest)?;
+    let (name, rest) = split_at(b' ', line)?;
+    let (signed_radix, value) = split_at(b' ', rest)?;
     let kind = IntegerType::from_name(name)?;
     let (plus, radix_text) = strip_sign(b'+', signed_radix);
     let radix = parse_radix(radix_text)?;

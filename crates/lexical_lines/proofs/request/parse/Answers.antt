@@ -1,6 +1,6 @@
 use Rattle.std.proofs.Common.{◌≡◌, ◌++◌, sym, ◌∙◌}
-use Rattle.lexical_lines.specs.Sign.{optional_sign}
-use Rattle.lexical_lines.proofs.Separators.{Lacks-not}
+use Rattle.lexical_lines.specs.Split.{optional_sign}
+use Rattle.lexical_lines.proofs.Splits.{Lacks-not}
 use Rattle.lexical_lines.proofs.IntegerTypes.{name_unique}
 use Rattle.lexical_lines.proofs.Requests.{NoSpace, IsRequest-name, IsRequest-parts, IsRequest-radix}
 use Rattle.lexical_lines.proofs.request.parse.Goals as goal

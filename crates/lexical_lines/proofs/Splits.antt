@@ -1,11 +1,7 @@
 -- Texts that are cut at their first separator.
 use Rattle.std.proofs.Common.{◌≡◌, ◌≢◌, ℕ, List, [], ◌∷◌, ◌++◌, refl}
-use Rattle.std.specs.List.{All}
 use Rattle.std.proofs.lemmas.List.Elements.{All-head, All-tail}
-
--- the text does not contain the separator
-abbrev pub Lacks : ℕ → List ℕ → Type 0
-Lacks mark text = All (λ byte. byte ≢ mark) text
+use Rattle.lexical_lines.specs.Split.{Lacks}
 
 pub Lacks-not : (mark : ℕ) (a b : List ℕ) → Lacks mark (a ++ mark ∷ b) → ⊥
 Lacks-not mark [] b h = All-head (λ byte. byte ≢ mark) mark b h refl
