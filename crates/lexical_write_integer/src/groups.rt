@@ -1,15 +1,21 @@
 //! Putting digits into groups.
 
-ghost use Rattle.std.specs.Prelude.{◌≡◌, ◌+◌, ◌-◌, ◌/◌, ◌≤◌, length, take};
+ghost use Rattle.std.specs.Prelude.{◌≡◌, ◌≤◌, length, take};
 ghost use Rattle.lexical_num.specs.Format.{grouped_length};
 ghost use Rattle.lexical_write_integer.specs.Buffer.{Front};
-ghost use Rattle.lexical_write_integer.specs.Groups.{in_groups, grouped};
+ghost use Rattle.lexical_write_integer.specs.Groups.{grouped};
 
 use lexical_num::format::NumberFormat;
 
 /// Puts the first `count` bytes of the buffer into the groups of the format, and returns how many bytes
 /// then take with the separators. The count is not 0, and the buffer has room for the result. Every
 /// byte after the result is unchanged.
+///
+/// The bytes are moved from the last to the first, so no digit is overwritten before it has moved:
+///
+///     1234567      the digits
+///     12345,567    after four bytes
+///     1,234,567    after all
 pub fn group_digits(count: usize, format: &NumberFormat, buffer: &mut [u8]) -> usize
     requires some { 1 ≤ count }
     requires room { grouped_length format.now.digit_grouping count ≤ length buffer.old }
@@ -18,27 +24,10 @@ pub fn group_digits(count: usize, format: &NumberFormat, buffer: &mut [u8]) -> u
     ensures count { result ≡ length (grouped format.now.digit_grouping (take count buffer.old)) }
     ensures total { result ≡ grouped_length format.now.digit_grouping count }
 {
-    match format.digit_grouping() {
-        Some((size, mark)) => group_in_place(count, usize::from(size), mark, buffer),
-        None => count,
-    }
-}
-
-// Puts the first `count` bytes of the buffer into groups of `size` bytes, with `mark` as the separator,
-// and returns how many bytes they then take. The bytes are moved from the last to the first, so no digit
-// is overwritten before it has moved:
-//
-//     1234567      the digits
-//     12345,567    after four bytes
-//     1,234,567    after all
-fn group_in_place(count: usize, size: usize, mark: u8, buffer: &mut [u8]) -> usize
-    requires size { 1 ≤ size }
-    requires some { 1 ≤ count }
-    requires room { count + (count - 1) / size ≤ length buffer.old }
-    ensures groups { Front buffer.old buffer.new (in_groups (size, mark) (take count buffer.old)) }
-    ensures count { result ≡ length (in_groups (size, mark) (take count buffer.old)) }
-    ensures total { result ≡ count + (count - 1) / size }
-{
+    let Some((size, mark)) = format.digit_grouping() else {
+        return count;
+    };
+    let size = usize::from(size);
     let total = count + (count - 1) / size;
     let mut left = count;
     let mut end = total;
