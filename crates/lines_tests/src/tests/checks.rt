@@ -1,5 +1,7 @@
 // The assertions of all tests. Each failure shows the row of the test, which has its inputs.
 
+ghost use Rattle.std.specs.Prelude.{◌≤◌};
+
 use lexical_lines::{ByteSource, SliceSink, SliceSource, answer_slice, run, status};
 use std::fmt::Debug;
 use std::io;
@@ -55,8 +57,8 @@ pub fn check_outcome<R: Copy + Debug + Drop>(
     check_equal(rt, row, outcome, expected);
 }
 
-/// Answers the lines of the source in a buffer of `room` bytes, at most 256, and checks what was written
-/// and how the run ended.
+/// Answers the lines of the source in a buffer of `room` bytes, and checks what was written and how the run
+/// ended.
 pub fn check_run<R: Copy + Debug + Drop, S: ByteSource>(
     rt: &impl Abort,
     row: R,
@@ -64,8 +66,9 @@ pub fn check_run<R: Copy + Debug + Drop, S: ByteSource>(
     room: usize,
     output: &[u8],
     expected: Outcome,
-) {
-    assert!(rt; room <= 256);
+)
+    requires { room ≤ 256 }
+{
     let mut buffer = UNCHANGED;
     let mut sink = SliceSink::new(&mut buffer[..room]);
     let ran = run(source, &mut sink);
@@ -74,7 +77,7 @@ pub fn check_run<R: Copy + Debug + Drop, S: ByteSource>(
     check_outcome(rt, row, ran, expected);
 }
 
-/// Answers the input with `run` and with `answer_slice`, each in a buffer of `room` bytes, at most 256.
+/// Answers the input with `run` and with `answer_slice`, each in a buffer of `room` bytes.
 pub fn check_slice<R: Copy + Debug + Drop>(
     rt: &impl Abort,
     row: R,
@@ -82,7 +85,9 @@ pub fn check_slice<R: Copy + Debug + Drop>(
     room: usize,
     output: &[u8],
     expected: Outcome,
-) {
+)
+    requires { room ≤ 256 }
+{
     check_run(
         rt,
         row,
@@ -91,7 +96,6 @@ pub fn check_slice<R: Copy + Debug + Drop>(
         output,
         expected,
     );
-    assert!(rt; room <= 256);
     let mut buffer = UNCHANGED;
     let count = answer_slice(input, &mut buffer[..room]);
     let wanted = if expected.is_ok() {

@@ -43,33 +43,38 @@ fn answered(newlines: &[(usize, &'static str)], given: usize) -> &'static str {
     output
 }
 
-// The source fails after each number of bytes up to the whole input: all lines that have ended are
-// answered, and the error is the source's.
-fn check_sources(rt: &impl Abort, case: Case, kind: ErrorKind) {
+// The source fails after `position` bytes: all lines that have ended are answered, and the error is the
+// source's.
+fn check_source(rt: &impl Abort, case: Case, position: usize, kind: ErrorKind) {
     let (input, _, newlines) = case;
-    for position in 0..=input.len() {
-        let flushed = Cell::new(0);
-        let mut reader = Giver::new(input.as_bytes(), &flushed);
-        reader.bad_read = position;
-        reader.kind = kind;
-        let mut source = Reading::new(reader, 1000);
-        let output = answered(newlines, position).as_bytes();
-        check_run(
-            rt,
-            (input, position, kind),
-            &mut source,
-            256,
-            output,
-            Err(kind),
-        );
+    let flushed = Cell::new(0);
+    let mut reader = Giver::new(input.as_bytes(), &flushed);
+    reader.bad_read = position;
+    reader.kind = kind;
+    let mut source = Reading::new(reader, 1000);
+    let output = answered(newlines, position).as_bytes();
+    check_run(
+        rt,
+        (input, position, kind),
+        &mut source,
+        256,
+        output,
+        Err(kind),
+    );
+}
+
+// The source fails after each number of bytes up to the whole input.
+fn check_sources(rt: &impl Abort, case: Case) {
+    for position in 0..=case.0.len() {
+        check_source(rt, case, position, ErrorKind::Interrupted);
+        check_source(rt, case, position, ErrorKind::BrokenPipe);
     }
 }
 
 #[test]
 fn sources_that_fail(rt: HostRuntime) {
     for case in CASES {
-        check_sources(&rt, *case, ErrorKind::Interrupted);
-        check_sources(&rt, *case, ErrorKind::BrokenPipe);
+        check_sources(&rt, *case);
     }
 }
 
