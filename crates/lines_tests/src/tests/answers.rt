@@ -1,7 +1,6 @@
 // The answers to known lines.
 
-use crate::tests::checks::{Outcome, check_run, check_slice};
-use lexical_lines::Reading;
+use crate::tests::checks::check_slice;
 use std::io::ErrorKind;
 
 // Inputs, their answers, and whether all lines are valid.
@@ -81,7 +80,9 @@ fn answers_to_known_lines(rt: HostRuntime) {
 #[test]
 fn a_line_of_ten_thousand_bytes(rt: HostRuntime) {
     let mut input = [b'0'; 10007];
-    input[10000..].copy_from_slice(b"\nu8 2 5");
+    if let Some(end) = input.last_chunk_mut() {
+        *end = *b"\nu8 2 5";
+    }
     let output = b"bad line 1\n101\n";
     check_slice(&rt, "10000 zeros", &input, 256, output, Ok(false));
 }
@@ -91,19 +92,4 @@ fn full_buffers(rt: HostRuntime) {
     let full = Err(ErrorKind::WriteZero);
     check_slice(&rt, "five bytes", b"u8 10 256", 5, b"bad l", full);
     check_slice(&rt, "three bytes", b"i8 10 -128", 3, b"-12", full);
-}
-
-// Inputs, the numbers of bytes that are read, and the answers.
-const LIMITS: &[(&str, u64, &str, bool)] = &[
-    ("u8 10 5", 3, "bad line 1\n", false),
-    ("u8 10 5\nu8 2 5", 100, "5\n101\n", true),
-];
-
-#[test]
-fn readers_up_to_a_limit(rt: HostRuntime) {
-    for (input, limit, output, all_good) in LIMITS {
-        let mut source = Reading::new(input.as_bytes(), *limit);
-        let expected: Outcome = Ok(*all_good);
-        check_run(&rt, *input, &mut source, 256, output.as_bytes(), expected);
-    }
 }

@@ -2,7 +2,7 @@
 // is lost or written twice.
 
 use crate::tests::checks::{Outcome, check_equal, check_outcome, check_run};
-use crate::tests::devices::{Giver, Taker};
+use crate::tests::devices::{Giver, NEVER, Taker};
 use lexical_lines::{Reading, SliceSource, Writing, run};
 use std::cell::Cell;
 use std::io::ErrorKind;
@@ -43,31 +43,54 @@ fn answered(newlines: &[(usize, &'static str)], given: usize) -> &'static str {
     output
 }
 
-// The source fails after `position` bytes: all lines that have ended are answered, and the error is the
-// source's.
-fn check_source(rt: &impl Abort, case: Case, position: usize, kind: ErrorKind) {
-    let (input, _, newlines) = case;
+// The source yields up to `limit` bytes, and the read `bad_read` fails with the expected error.
+fn check_source(
+    rt: &impl Abort,
+    input: &str,
+    limit: u64,
+    bad_read: usize,
+    output: &str,
+    expected: Outcome,
+) {
     let flushed = Cell::new(0);
     let mut reader = Giver::new(input.as_bytes(), &flushed);
-    reader.bad_read = position;
-    reader.kind = kind;
-    let mut source = Reading::new(reader, 1000);
-    let output = answered(newlines, position).as_bytes();
-    check_run(
-        rt,
-        (input, position, kind),
-        &mut source,
-        256,
-        output,
-        Err(kind),
-    );
+    reader.bad_read = bad_read;
+    if let Err(kind) = expected {
+        reader.kind = kind;
+    }
+    let mut source = Reading::new(reader, limit);
+    let row = (input, limit, bad_read, expected);
+    check_run(rt, row, &mut source, 256, output.as_bytes(), expected);
 }
 
-// The source fails after each number of bytes up to the whole input.
+#[test]
+fn sources_with_a_limit(rt: HostRuntime) {
+    check_source(&rt, "u8 10 5", 3, NEVER, "bad line 1\n", Ok(false));
+    check_source(&rt, "u8 10 5\nu8 2 5", 100, NEVER, "5\n101\n", Ok(true));
+}
+
+// The source fails after each number of bytes up to the whole input: all lines that have ended are
+// answered, and the error is the source's.
 fn check_sources(rt: &impl Abort, case: Case) {
-    for position in 0..=case.0.len() {
-        check_source(rt, case, position, ErrorKind::Interrupted);
-        check_source(rt, case, position, ErrorKind::BrokenPipe);
+    let (input, _, newlines) = case;
+    for position in 0..=input.len() {
+        let output = answered(newlines, position);
+        check_source(
+            rt,
+            input,
+            1000,
+            position,
+            output,
+            Err(ErrorKind::Interrupted),
+        );
+        check_source(
+            rt,
+            input,
+            1000,
+            position,
+            output,
+            Err(ErrorKind::BrokenPipe),
+        );
     }
 }
 
@@ -78,23 +101,19 @@ fn sources_that_fail(rt: HostRuntime) {
     }
 }
 
-// The sink takes at most `piece` bytes in each call, and fails after as many bytes as the output has.
-fn check_sink(
-    rt: &impl Abort,
-    input: &'static str,
-    piece: usize,
-    kind: ErrorKind,
-    output: &[u8],
-    expected: Outcome,
-) {
+// The sink takes at most `piece` bytes in each call, and fails with the expected error after as many bytes
+// as the output has.
+fn check_sink(rt: &impl Abort, input: &str, piece: usize, output: &[u8], expected: Outcome) {
     let flushed = Cell::new(0);
     let mut writer = Taker::new(&flushed);
     writer.piece = piece;
     writer.bad_byte = output.len();
-    writer.kind = kind;
+    if let Err(kind) = expected {
+        writer.kind = kind;
+    }
     let mut sink = Writing::new(writer);
     let ran = run(&mut SliceSource::new(input.as_bytes()), &mut sink);
-    let row = (input, piece, kind, output.len());
+    let row = (input, piece, output.len(), expected);
     check_outcome(rt, row, ran, expected);
     check_equal(rt, row, sink.into_inner().taken(), Some(output));
 }
@@ -105,10 +124,10 @@ fn check_sinks(rt: &impl Abort, case: Case, kind: ErrorKind) {
     let (input, output, _) = case;
     let output = output.as_bytes();
     for position in 0..output.len() {
-        check_sink(rt, input, 64, kind, &output[..position], Err(kind));
-        check_sink(rt, input, 1, kind, &output[..position], Err(kind));
+        check_sink(rt, input, 64, &output[..position], Err(kind));
+        check_sink(rt, input, 1, &output[..position], Err(kind));
     }
-    check_sink(rt, input, 1, kind, output, Ok(false));
+    check_sink(rt, input, 1, output, Ok(false));
 }
 
 // With `WriteZero` the sink takes no bytes in place of an error.

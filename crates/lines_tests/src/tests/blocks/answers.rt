@@ -56,15 +56,18 @@ fn check_row(rt: &impl Abort, row: Row) {
     writer.bad_byte = bad_byte;
     writer.bad_flush = bad_flush;
     writer.is_for_good = is_for_good;
-    check_equal(rt, row, status_of(&mut reader, &mut writer), wanted);
+    check_equal(rt, row, answer(&mut reader, &mut writer).0, wanted);
     check_equal(rt, row, writer.taken(), Some(output));
 }
 
-// Answers the lines and returns the exit status.
-fn status_of(reader: &mut Giver<'_>, writer: &mut Taker<'_>) -> u8 {
+// Answers the lines, and returns the exit status, how often the devices were called, and the number of bytes
+// taken.
+fn answer(reader: &mut Giver<'_>, writer: &mut Taker<'_>) -> (u8, [usize; 4]) {
     let mut input = BlockReader::new(reader);
     let mut output = BlockWriter::<_, 16_384>::new(writer);
-    answer_stream(&mut input, &mut output)
+    let status = answer_stream(&mut input, &mut output);
+    let calls = [reader.reads, writer.writes, writer.flushes, writer.count];
+    (status, calls)
 }
 
 #[test]
@@ -91,9 +94,9 @@ fn each_answer_is_flushed_before_the_next_read(rt: HostRuntime) {
     let mut reader = Giver::new(LINES.as_bytes(), &flushed);
     reader.piece = 11;
     let mut writer = Taker::new(&flushed);
-    check_equal(&rt, "the status", status_of(&mut reader, &mut writer), 0);
+    let answered = answer(&mut reader, &mut writer);
+    check_equal(&rt, "calls", answered, (0, [4, 3, 5, 10]));
     check_equal(&rt, "flushed by each read", reader.seen, [0, 2, 6, 10]);
-    check_equal(&rt, "calls", [reader.reads, writer.flushes], [4, 5]);
 }
 
 const LINE: [u8; 16] = *b"u64 10 00000055\n";
@@ -109,8 +112,6 @@ fn a_read_takes_128_kib_and_a_write_16_kib(rt: HostRuntime) {
     let flushed = Cell::new(0);
     let mut reader = Giver::new(&lines, &flushed);
     let mut writer = Taker::new(&flushed);
-    check_equal(&rt, "the status", status_of(&mut reader, &mut writer), 0);
-    check_equal(&rt, "the number of bytes", writer.count, 61_440);
-    let calls = [reader.reads, writer.writes, writer.flushes];
-    check_equal(&rt, "calls", calls, [4, 5, 5]);
+    let answered = answer(&mut reader, &mut writer);
+    check_equal(&rt, "calls", answered, (0, [4, 5, 5, 61_440]));
 }
