@@ -79,12 +79,17 @@ fn answers_to_known_lines(rt: HostRuntime) {
 
 #[test]
 fn a_line_of_ten_thousand_bytes(rt: HostRuntime) {
-    let mut input = [b'0'; 10007];
-    if let Some(end) = input.last_chunk_mut() {
-        *end = *b"\nu8 2 5";
-    }
+    let mut lines = [*b"00000000"; 1251];
+    lines[1250] = *b"\nu8 2 05";
     let output = b"bad line 1\n101\n";
-    check_slice(&rt, "10000 zeros", &input, 256, output, Ok(false));
+    check_slice(
+        &rt,
+        "10000 zeros",
+        lines.as_flattened(),
+        256,
+        output,
+        Ok(false),
+    );
 }
 
 #[test]

@@ -31,6 +31,16 @@ const ROWS: &[Row] = &[
     (LINES, 1, NEVER, NEVER, false, 2, b"5\n"),
     (LINES, 2, NEVER, NEVER, false, 2, b"5\n101\n"),
     (LINES, 3, NEVER, NEVER, false, 2, ANSWERS),
+    (LINES, NEVER, 0, NEVER, true, 2, b""),
+    (LINES, NEVER, 1, NEVER, true, 2, b"5"),
+    (LINES, NEVER, 2, NEVER, true, 2, b"5\n"),
+    (LINES, NEVER, 3, NEVER, true, 2, b"5\n1"),
+    (LINES, NEVER, 4, NEVER, true, 2, b"5\n10"),
+    (LINES, NEVER, 5, NEVER, true, 2, b"5\n101"),
+    (LINES, NEVER, 6, NEVER, true, 2, b"5\n101\n"),
+    (LINES, NEVER, 7, NEVER, true, 2, b"5\n101\n-"),
+    (LINES, NEVER, 8, NEVER, true, 2, b"5\n101\n-8"),
+    (LINES, NEVER, 9, NEVER, true, 2, b"5\n101\n-80"),
     (LINES, NEVER, NEVER, 0, false, 2, b""),
     (LINES, NEVER, NEVER, 0, true, 2, b""),
     (LINES, NEVER, NEVER, 1, false, 2, b"5\n"),
@@ -74,16 +84,6 @@ fn answer(reader: &mut Giver<'_>, writer: &mut Taker<'_>) -> (u8, [usize; 4]) {
 fn devices_that_fail(rt: HostRuntime) {
     for row in ROWS {
         check_row(&rt, *row);
-    }
-}
-
-#[test]
-fn writes_that_fail(rt: HostRuntime) {
-    for count in 0..ANSWERS.len() {
-        check_row(
-            &rt,
-            (LINES, NEVER, count, NEVER, true, 2, &ANSWERS[..count]),
-        );
     }
 }
 
