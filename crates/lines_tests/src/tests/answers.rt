@@ -6,6 +6,7 @@ use std::io::ErrorKind;
 // Inputs, their answers, and whether all lines are valid.
 const ANSWERS: &[(&str, &str, bool)] = &[
     ("", "", true),
+    ("u8 10 5\nu8 10 6", "5\n6\n", true),
     (
         "i8 10 -128\nu8 +10 5\nu8 10 256\nu8 37 5",
         "-128\n+5\nbad line 3\nbad line 4\n",

@@ -3,20 +3,26 @@
 
 use crate::tests::checks::{Outcome, check_equal, check_outcome, check_run};
 use crate::tests::devices::{Giver, NEVER, Taker};
-use lexical_lines::{Reading, SliceSource, Writing, run};
+use lexical_lines::{Reading, Writing, run};
 use std::cell::Cell;
 use std::io::ErrorKind;
 use std::process::Abort;
 
-// An input, the answers to all its lines, and for each newline of the input the number of bytes up to and
-// including it with the answers to the lines up to there.
-type Case = (&'static str, &'static str, &'static [(usize, &'static str)]);
+// An input, the answers to all its lines, whether they are valid, and for each newline of the input the number
+// of bytes up to and including it with the answers to the lines up to there.
+type Case = (
+    &'static str,
+    &'static str,
+    bool,
+    &'static [(usize, &'static str)],
+);
 
 const CASES: &[Case] = &[
-    ("u8 10 5\nu8 10 256", "5\nbad line 2\n", &[(8, "5\n")]),
+    ("u8 10 5\nu8 10 6", "5\n6\n", true, &[(8, "5\n")]),
     (
         "i8 10 -128\nu8 +10 5\nu8 10 256\nu8 37 5",
         "-128\n+5\nbad line 3\nbad line 4\n",
+        false,
         &[
             (11, "-128\n"),
             (20, "-128\n+5\n"),
@@ -28,6 +34,7 @@ const CASES: &[Case] = &[
         "u8 10 00000000000000000000000000000000000000000000000000000000005\n\
          u8 10 0000000000000000000000000000000000000000000000000000000005\n",
         "bad line 1\n5\n",
+        false,
         &[(66, "bad line 1\n"), (131, "bad line 1\n5\n")],
     ),
 ];
@@ -72,7 +79,7 @@ fn sources_with_a_limit(rt: HostRuntime) {
 // The source fails after each number of bytes up to the whole input: all lines that have ended are
 // answered, and the error is the source's.
 fn check_sources(rt: &impl Abort, case: Case) {
-    let (input, _, newlines) = case;
+    let (input, _, _, newlines) = case;
     for position in 0..=input.len() {
         let output = answered(newlines, position);
         check_source(
@@ -112,7 +119,7 @@ fn check_sink(rt: &impl Abort, input: &str, piece: usize, output: &[u8], expecte
         writer.kind = kind;
     }
     let mut sink = Writing::new(writer);
-    let ran = run(&mut SliceSource::new(input.as_bytes()), &mut sink);
+    let ran = run(&mut Reading::new(input.as_bytes(), 1000), &mut sink);
     let row = (input, piece, output.len(), expected);
     check_outcome(rt, row, ran, expected);
     check_equal(rt, row, sink.into_inner().taken(), Some(output));
@@ -121,13 +128,13 @@ fn check_sink(rt: &impl Abort, input: &str, piece: usize, output: &[u8], expecte
 // The sink takes all bytes at once, or one byte in each call. It fails after each number of bytes below the
 // whole output, and then only after the last answer.
 fn check_sinks(rt: &impl Abort, case: Case, kind: ErrorKind) {
-    let (input, output, _) = case;
+    let (input, output, all_good, _) = case;
     let output = output.as_bytes();
     for position in 0..output.len() {
         check_sink(rt, input, 64, &output[..position], Err(kind));
         check_sink(rt, input, 1, &output[..position], Err(kind));
     }
-    check_sink(rt, input, 1, output, Ok(false));
+    check_sink(rt, input, 1, output, Ok(all_good));
 }
 
 // With `WriteZero` the sink takes no bytes in place of an error.

@@ -11,8 +11,8 @@ use lexical_num::options::Options;
 use lexical_write_integer::ToLexicalWithOptions;
 use std::process::Abort;
 
-// Borrows the joined values from a buffer of `room` bytes. When the text is then overwritten with the bytes
-// of an empty buffer, the whole buffer is empty again.
+// Borrows the joined values from a buffer of `room` bytes, and overwrites them. The front of the buffer is then
+// overwritten, and the bytes after it are unchanged.
 fn check_joined<T: ToLexicalWithOptions>(
     rt: &impl Abort,
     values: &[T],
@@ -29,8 +29,10 @@ fn check_joined<T: ToLexicalWithOptions>(
     let mut buffer = UNCHANGED;
     let joined = join(values, mark, &mut buffer[..room], format, options);
     check_equal(rt, text, &*joined, text.as_bytes());
-    joined.fill(b'.');
-    check_buffer(rt, text, &buffer, b"");
+    joined.fill(b'#');
+    let overwritten = [b'#'; 32];
+    let front = overwritten.get(..text.len()).unwrap_or(b"");
+    check_buffer(rt, text, &buffer, front);
 }
 
 #[test]
