@@ -1,10 +1,7 @@
 mod answers;
 mod blocks;
+mod checks;
 mod devices;
 mod faults;
 mod joined;
 mod lines;
-mod memory;
-mod runs;
-mod single_runs;
-mod streams;

@@ -1,15 +1,14 @@
 mod answers;
-mod calls;
-mod devices;
 
-ghost use Rattle.std.specs.Prelude.{◌≡◌, ◌-◌, ◌^◌, ◌≤◌, take};
+ghost use Rattle.std.specs.Prelude.{◌≡◌, ◌-◌, ◌^◌, ◌≤◌, length, take, IfOk};
 ghost use Rattle.lexical_lines.specs.Answer.{AnswersAll};
 
-use devices::{Fault, Taker};
+use crate::tests::checks::check_equal;
+use crate::tests::devices::Taker;
 use lexical_lines::ByteSink;
 use lexical_streams::{BlockReader, BlockWriter, answer_stream};
 use std::alloc::Global;
-use std::io;
+use std::cell::Cell;
 use std::io::ErrorKind;
 use std::process::Abort;
 
@@ -30,34 +29,39 @@ fn answered(alloc: Global, bytes: &[u8]) -> (u8, Vec<u8>)
 #[test]
 fn answers_go_into_a_vector(rt: HostRuntime) {
     let (status, answers) = answered(rt.alloc(), b"u8 10 5\nu8 2 256\ni8 16 -128");
-    assert_eq!(rt; status, 1);
-    assert_eq!(rt; answers.as_slice(), b"5\nbad line 2\n-80\n".as_slice());
+    check_equal(&rt, "the status", status, 1);
+    let expected = b"5\nbad line 2\n-80\n".as_slice();
+    check_equal(&rt, "the answers", answers.as_slice(), expected);
 }
 
-// Writes a text and flushes. Repeats a step that fails, and returns the number of failures, each of
-// which must be of this kind.
-fn write_through<const SIZE: usize>(
-    rt: &impl Abort,
-    writer: &mut BlockWriter<'_, Taker, SIZE>,
-    text: &[u8],
-    kind: ErrorKind,
-) -> u32 {
+// Puts the bytes, and returns how many were taken. If there are none, flushes and returns 0.
+fn put_or_flush(
+    writer: &mut BlockWriter<'_, Taker<'_>, 7>,
+    bytes: &[u8],
+) -> Result<usize, ErrorKind>
+    ensures { IfOk result (λ count. count ≤ length bytes.now) }
+{
+    let outcome = if bytes.is_empty() {
+        writer.flush().map(|()| 0)
+    } else {
+        writer.put(bytes)
+    };
+    outcome.map_err(|error| error.kind())
+}
+
+// Writes the text, at most `size` bytes at a time, and flushes. Repeats a step that fails, up to 40 steps,
+// and returns the number of failures, each of which must be of the kind of the writer.
+fn write_through(rt: &impl Abort, taker: &mut Taker<'_>, size: usize) -> u32 {
+    let kind = taker.kind;
+    let mut writer = BlockWriter::<_, 7>::new(taker);
     let mut errors = 0u32;
-    let mut rest = text;
+    let mut rest = TEXT;
     for _ in 0..40 {
-        let step = if rest.is_empty() {
-            writer.flush().map(|_| 0)
-        } else {
-            writer.put(rest)
-        };
-        match step {
+        match put_or_flush(&mut writer, &rest[..size.min(rest.len())]) {
             Ok(0) => break,
-            Ok(count) => {
-                assert!(rt; count <= rest.len());
-                rest = &rest[count..];
-            }
+            Ok(count) => rest = &rest[count..],
             Err(error) => {
-                assert!(rt; error.kind() == kind);
+                check_equal(rt, "the error", error, kind);
                 errors = errors.saturating_add(1);
             }
         }
@@ -65,46 +69,47 @@ fn write_through<const SIZE: usize>(
     errors
 }
 
+// Puts one byte at a time, and checks how often the writer is called.
+fn check_calls(rt: &impl Abort, piece: usize, writes: usize) {
+    let flushed = Cell::new(0);
+    let mut taker = Taker::new(&flushed);
+    taker.piece = piece;
+    let errors = write_through(rt, &mut taker, 1);
+    check_equal(rt, piece, (errors, taker.writes), (0, writes));
+    check_equal(rt, piece, taker.taken(), Some(TEXT));
+}
+
 #[test]
 fn writes_once_for_a_block(rt: HostRuntime) {
-    for (piece, calls) in [(100, 3), (4, 5), (1, 16)] {
-        let mut taker = Taker::new(piece, 100, Fault::Zero, true);
-        let mut writer = BlockWriter::<Taker, 7>::new(&mut taker);
-        for byte in TEXT {
-            let written = writer.put(&[*byte]);
-            assert!(rt; matches!(written, Ok(1)));
-        }
-        assert!(rt; writer.flush().is_ok());
-        assert_eq!(rt; taker.taken(), TEXT, "by {piece}");
-        assert_eq!(rt; taker.calls(), calls, "by {piece}");
+    check_calls(&rt, 100, 3);
+    check_calls(&rt, 4, 5);
+    check_calls(&rt, 1, 16);
+}
+
+// The writer fails after `bad_byte` bytes, once or for good, and takes the text.
+fn check_fault(rt: &impl Abort, kind: ErrorKind, is_for_good: bool, bad_byte: usize, text: &[u8]) {
+    let flushed = Cell::new(0);
+    let mut taker = Taker::new(&flushed);
+    taker.piece = 1;
+    taker.bad_byte = bad_byte;
+    taker.is_for_good = is_for_good;
+    taker.kind = kind;
+    let errors = write_through(rt, &mut taker, 16);
+    let row = (kind, is_for_good, bad_byte);
+    check_equal(rt, row, errors.min(2), if is_for_good { 2 } else { 1 });
+    check_equal(rt, row, taker.taken(), Some(text));
+}
+
+// After one failure everything is written. A writer that fails for good has the bytes before the failure.
+fn check_faults(rt: &impl Abort, kind: ErrorKind) {
+    for position in 0..16 {
+        check_fault(rt, kind, false, position, TEXT);
+        check_fault(rt, kind, true, position, &TEXT[..position]);
     }
 }
 
 #[test]
 fn writes_on_after_a_fault(rt: HostRuntime) {
-    let faults = [
-        (Fault::Error(ErrorKind::BrokenPipe), ErrorKind::BrokenPipe),
-        (Fault::Zero, ErrorKind::WriteZero),
-    ];
-    for (fault, kind) in faults {
-        for before_fault in 0..16 {
-            let mut taker = Taker::new(1, before_fault, fault, false);
-            let mut writer = BlockWriter::<Taker, 5>::new(&mut taker);
-            let errors = write_through(&rt, &mut writer, TEXT, kind);
-            assert_eq!(rt; errors, 1, "after {before_fault}");
-            assert_eq!(rt; taker.taken(), TEXT, "after {before_fault}");
-        }
-    }
-}
-
-#[test]
-fn hands_on_a_beginning_where_the_fault_is_for_good(rt: HostRuntime) {
-    for count in 0..16usize {
-        let fault = Fault::Error(ErrorKind::BrokenPipe);
-        let mut taker = Taker::new(1, count as u32, fault, true);
-        let mut writer = BlockWriter::<Taker, 5>::new(&mut taker);
-        let errors = write_through(&rt, &mut writer, TEXT, ErrorKind::BrokenPipe);
-        assert!(rt; 1 < errors, "after {count}");
-        assert_eq!(rt; taker.taken(), &TEXT[..count]);
-    }
+    check_faults(&rt, ErrorKind::BrokenPipe);
+    check_faults(&rt, ErrorKind::WriteZero);
 }

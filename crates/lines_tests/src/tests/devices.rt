@@ -1,145 +1,127 @@
-// Devices over slices that keep the contracts of `ByteSource` and `ByteSink`, and fail once.
+// A reader and a writer that yield and take little in each call, and fail.
 
-ghost use Rattle.std.specs.Prelude.{◌+◌, ◌≤◌};
-
-use lexical_lines::{ByteSink, ByteSource, SliceSink, SliceSource, Trace};
+use std::cell::Cell;
 use std::io;
-use std::io::ErrorKind;
+use std::io::{ErrorKind, Read, Write};
 
-/// A source that yields the bytes of a slice. After some of them one call fails, and later calls
-/// continue with the next byte.
+/// For a device that does not fail.
+pub const NEVER: usize = usize::MAX;
+
+/// A reader that yields the bytes of a slice. One of its calls may fail, and the next one continues.
 #[derive(Drop)]
-pub struct FailingSource<'a> {
-    inner: SliceSource<'a>,
-    // The number of bytes before the failure, or `None` after it.
-    until_fault: Option<usize>,
-    kind: ErrorKind,
-    trace: Trace,
+pub struct Giver<'a> {
+    bytes: &'a [u8],
+    // The largest number of bytes that a call yields.
+    pub piece: usize,
+    // The call that fails, counted from 0, and its error.
+    pub bad_read: usize,
+    pub kind: ErrorKind,
+    pub reads: usize,
+    // What the writer has flushed by now, and by the time of each of the first reads.
+    flushed: &'a Cell<usize>,
+    pub seen: [usize; 4],
 }
 
-impl<'a> FailingSource<'a> {
-    /// Returns a source that fails with an error of this kind after `until_fault` bytes.
-    pub fn new(bytes: &'a [u8], until_fault: usize, kind: ErrorKind) -> FailingSource<'a> {
-        FailingSource {
-            inner: SliceSource::new(bytes),
-            until_fault: Some(until_fault),
-            kind,
-            trace: Trace::new(),
+impl<'a> Giver<'a> {
+    pub fn new(bytes: &'a [u8], flushed: &'a Cell<usize>) -> Giver<'a> {
+        Giver {
+            bytes,
+            piece: NEVER,
+            bad_read: NEVER,
+            kind: ErrorKind::BrokenPipe,
+            reads: 0,
+            flushed,
+            seen: [NEVER; 4],
         }
     }
-
-    /// Returns whether the failure is still to come.
-    pub fn expects_fault(&self) -> bool {
-        self.until_fault.is_some()
-    }
 }
 
-impl<'a> ByteSource for FailingSource<'a> {
-    ghost use Rattle.lexical_lines.specs.Slice.{KeepsBytes-reflexive, KeepsBytes-transitive};
-
-    ghost given = { λ s. ⟦<SliceSource<'a> as ByteSource>⟧.given s.inner };
-
-    ghost is_ended = { λ s. ⟦<SliceSource<'a> as ByteSource>⟧.is_ended s.inner };
-
-    ghost faults = { λ s. s.trace.faults };
-
-    ghost remaining = { λ s. ⟦<SliceSource<'a> as ByteSource>⟧.remaining s.inner };
-
-    ghost keeps = { λ a b. ⟦<SliceSource<'a> as ByteSource>⟧.keeps a.inner b.inner };
-
-    ghost keeps_reflexive = { λ a. KeepsBytes-reflexive a.inner };
-
-    ghost keeps_transitive = { λ a b c. KeepsBytes-transitive a.inner b.inner c.inner };
-
-    fn next(&mut self) -> io::Result<Option<u8>> {
-        match self.until_fault {
-            Some(0) => {
-                self.until_fault = None;
-                self.trace.fault();
-                return Err(io::Error::from(self.kind));
-            }
-            Some(count) => self.until_fault = Some(count - 1),
-            None => {}
+impl Read for Giver<'_> {
+    fn read(&mut self, buffer: &mut [u8]) -> io::Result<usize> {
+        let read = self.reads;
+        self.reads = read.saturating_add(1);
+        if let Some(seen) = self.seen.get_mut(read) {
+            *seen = self.flushed.get();
         }
-        self.inner.next()
+        if read == self.bad_read {
+            return Err(io::Error::from(self.kind));
+        }
+        let count = buffer.len().min(self.piece);
+        self.bytes.read(&mut buffer[..count])
     }
 }
 
-/// A sink that takes at most `piece` bytes in each call. After some bytes one call fails or takes no
-/// bytes, and later calls continue.
+/// A writer that keeps the first 64 bytes that it takes, and counts all of them.
 #[derive(Drop)]
-pub struct FailingSink<'a> {
-    inner: SliceSink<'a>,
-    piece: usize,
-    // The number of bytes before the failure, or `None` after it or if there is none.
-    until_fault: Option<usize>,
-    // The error of the failure, or `None` if the failing call takes no bytes.
-    kind: Option<ErrorKind>,
-    trace: Trace,
-    ghost some: { 1 ≤ piece },
+pub struct Taker<'a> {
+    kept: [u8; 64],
+    pub count: usize,
+    // The largest number of bytes that a call takes.
+    pub piece: usize,
+    // The number of bytes after which a write fails, and the flush that fails, counted from 0.
+    pub bad_byte: usize,
+    pub bad_flush: usize,
+    // Whether the calls after a failure fail too.
+    pub is_for_good: bool,
+    // The error of a write. If it is `WriteZero`, the write takes no bytes instead.
+    pub kind: ErrorKind,
+    pub writes: usize,
+    pub flushes: usize,
+    // The number of bytes taken at the last flush.
+    flushed: &'a Cell<usize>,
 }
 
-impl<'a> FailingSink<'a> {
-    /// Returns a sink that takes at most `piece` bytes in each call, and fails after `until_fault`
-    /// bytes if that is not `None`: with an error of this kind, or without a kind by taking no bytes.
-    pub fn new(
-        buffer: &'a mut [u8],
-        piece: usize,
-        until_fault: Option<usize>,
-        kind: Option<ErrorKind>,
-    ) -> FailingSink<'a>
-        requires { 1 ≤ piece }
-    {
-        FailingSink {
-            inner: SliceSink::new(buffer),
-            piece,
-            until_fault,
-            kind,
-            trace: Trace::new(),
+impl<'a> Taker<'a> {
+    pub fn new(flushed: &'a Cell<usize>) -> Taker<'a> {
+        Taker {
+            kept: [0; 64],
+            count: 0,
+            piece: NEVER,
+            bad_byte: NEVER,
+            bad_flush: NEVER,
+            is_for_good: false,
+            kind: ErrorKind::BrokenPipe,
+            writes: 0,
+            flushes: 0,
+            flushed,
         }
     }
 
-    /// Returns the number of bytes taken.
-    pub fn len(&self) -> usize {
-        self.inner.len()
-    }
-
-    /// Returns whether the failure is still to come.
-    pub fn expects_fault(&self) -> bool {
-        self.until_fault.is_some()
+    /// Returns the bytes taken, or `None` if they are more than 64.
+    pub fn taken(&self) -> Option<&[u8]> {
+        self.kept.get(..self.count)
     }
 }
 
-impl<'a> ByteSink for FailingSink<'a> {
-    ghost use Rattle.lexical_lines.specs.Slice.{KeepsBuffer-reflexive, KeepsBuffer-transitive};
-
-    ghost taken = { λ s. ⟦<SliceSink<'a> as ByteSink>⟧.taken s.inner };
-
-    ghost faults = { λ s. ⟦<SliceSink<'a> as ByteSink>⟧.faults s.inner + s.trace.faults };
-
-    ghost keeps = { λ a b. ⟦<SliceSink<'a> as ByteSink>⟧.keeps a.inner b.inner };
-
-    ghost keeps_reflexive = { λ a. KeepsBuffer-reflexive a.inner };
-
-    ghost keeps_transitive = { λ a b c. KeepsBuffer-transitive a.inner b.inner c.inner };
-
-    fn put(&mut self, bytes: &[u8]) -> io::Result<usize> {
-        if bytes.is_empty() {
-            return Ok(0);
-        }
-        let mut count = bytes.len().min(self.piece);
-        if let Some(left) = self.until_fault {
-            if left == 0 {
-                self.until_fault = None;
-                self.trace.fault();
-                return match self.kind {
-                    Some(kind) => Err(io::Error::from(kind)),
-                    None => Ok(0),
-                };
+impl Write for Taker<'_> {
+    fn write(&mut self, bytes: &[u8]) -> io::Result<usize> {
+        self.writes = self.writes.saturating_add(1);
+        let left = self.bad_byte.saturating_sub(self.count);
+        if left == 0 {
+            if !self.is_for_good {
+                self.bad_byte = NEVER;
             }
-            count = count.min(left);
-            self.until_fault = Some(left - count);
+            if self.kind == ErrorKind::WriteZero {
+                return Ok(0);
+            }
+            return Err(io::Error::from(self.kind));
         }
-        self.inner.put(&bytes[..count])
+        let count = bytes.len().min(self.piece).min(left);
+        let start = self.count;
+        self.count = start.saturating_add(count);
+        if let Some(room) = self.kept.get_mut(start..self.count) {
+            room.copy_from_slice(&bytes[..count]);
+        }
+        Ok(count)
+    }
+
+    fn flush(&mut self) -> io::Result<()> {
+        let flush = self.flushes;
+        self.flushes = flush.saturating_add(1);
+        if flush == self.bad_flush || self.is_for_good && self.bad_flush < flush {
+            return Err(io::Error::from(ErrorKind::BrokenPipe));
+        }
+        self.flushed.set(self.count);
+        Ok(())
     }
 }

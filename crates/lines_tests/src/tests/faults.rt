@@ -1,113 +1,149 @@
 // Runs over devices that fail after each number of bytes: a run ends at the first failure, and no byte
 // is lost or written twice.
 
-ghost use Rattle.std.specs.Prelude.{◌≤◌};
-
-use crate::tests::devices::{FailingSink, FailingSource};
-use crate::tests::runs::{check_prefix, outcome, run_from};
-use lexical_lines::{SliceSource, run};
+use crate::tests::checks::{Outcome, check_equal, check_outcome, check_run};
+use crate::tests::devices::{Giver, NEVER, Taker};
+use lexical_lines::{Reading, Writing, run};
+use std::cell::Cell;
 use std::io::ErrorKind;
 use std::process::Abort;
 
-// An input and its output. For each newline of the input, `newlines` has the number of bytes up to and
-// including it, and the length of the answers to the lines up to there.
-#[derive(Clone, Copy)]
-struct Case {
-    input: &'static [u8],
-    output: &'static [u8],
-    newlines: &'static [(usize, usize)],
-}
+// An input, the answers to all its lines, whether they are valid, and for each newline of the input the number
+// of bytes up to and including it with the answers to the lines up to there.
+type Case = (
+    &'static str,
+    &'static str,
+    bool,
+    &'static [(usize, &'static str)],
+);
 
-// 37 bytes, and 30 bytes of output.
-const FOUR_LINES: Case = Case {
-    input: b"i8 10 -128\nu8 +10 5\nu8 10 256\nu8 37 5",
-    output: b"-128\n+5\nbad line 3\nbad line 4\n",
-    newlines: &[(11, 5), (20, 8), (30, 19)],
-};
+const CASES: &[Case] = &[
+    ("u8 10 5\nu8 10 6", "5\n6\n", true, &[(8, "5\n")]),
+    (
+        "i8 10 -128\nu8 +10 5\nu8 10 256\nu8 37 5",
+        "-128\n+5\nbad line 3\nbad line 4\n",
+        false,
+        &[
+            (11, "-128\n"),
+            (20, "-128\n+5\n"),
+            (30, "-128\n+5\nbad line 3\n"),
+        ],
+    ),
+    // A line of 65 bytes and one of 64.
+    (
+        "u8 10 00000000000000000000000000000000000000000000000000000000005\n\
+         u8 10 0000000000000000000000000000000000000000000000000000000005\n",
+        "bad line 1\n5\n",
+        false,
+        &[(66, "bad line 1\n"), (131, "bad line 1\n5\n")],
+    ),
+];
 
-// A line of 65 bytes and one of 64: 131 bytes, and 13 bytes of output.
-const LONG_LINES: Case = Case {
-    input: b"u8 10 00000000000000000000000000000000000000000000000000000000005\n\
-        u8 10 0000000000000000000000000000000000000000000000000000000005\n",
-    output: b"bad line 1\n5\n",
-    newlines: &[(66, 11), (131, 13)],
-};
-
-// Returns the length of the answers to the lines that end within the first `given` bytes.
-fn answered(case: Case, given: usize) -> usize {
-    let mut count = 0;
-    for (newline, answers) in case.newlines {
+// Returns the answers to the lines that end within the first `given` bytes.
+fn answered(newlines: &[(usize, &'static str)], given: usize) -> &'static str {
+    let mut output = "";
+    for (newline, answers) in newlines {
         if *newline <= given {
-            count = *answers;
+            output = *answers;
         }
     }
-    count
+    output
 }
 
-// The source fails after `position` bytes: all lines that have ended are answered, and the error is
-// the source's.
-fn check_source(rt: &impl Abort, case: Case, position: usize, kind: ErrorKind) {
-    let mut source = FailingSource::new(case.input, position, kind);
-    let count = answered(case, position);
-    assert!(rt; count <= case.output.len());
-    let ran = run_from(rt, &mut source, 64, &case.output[..count]);
-    assert_eq!(rt; outcome(ran), Err(kind));
-    assert!(rt; !source.expects_fault());
+// The source yields up to `limit` bytes, and the read `bad_read` fails with the expected error.
+fn check_source(
+    rt: &impl Abort,
+    input: &str,
+    limit: u64,
+    bad_read: usize,
+    output: &str,
+    expected: Outcome,
+) {
+    let flushed = Cell::new(0);
+    let mut reader = Giver::new(input.as_bytes(), &flushed);
+    reader.bad_read = bad_read;
+    if let Err(kind) = expected {
+        reader.kind = kind;
+    }
+    let mut source = Reading::new(reader, limit);
+    let row = (input, limit, bad_read, expected);
+    check_run(rt, row, &mut source, 256, output.as_bytes(), expected);
 }
 
-// The source fails after each number of bytes up to the whole input.
-fn check_sources(rt: &impl Abort, case: Case, kind: ErrorKind, positions: usize) {
-    assert_eq!(rt; positions, case.input.len() + 1);
-    for position in 0..positions {
-        check_source(rt, case, position, kind);
+#[test]
+fn sources_with_a_limit(rt: HostRuntime) {
+    check_source(&rt, "u8 10 5", 3, NEVER, "bad line 1\n", Ok(false));
+    check_source(&rt, "u8 10 5\nu8 2 5", 100, NEVER, "5\n101\n", Ok(true));
+}
+
+// The source fails after each number of bytes up to the whole input: all lines that have ended are
+// answered, and the error is the source's.
+fn check_sources(rt: &impl Abort, case: Case) {
+    let (input, _, _, newlines) = case;
+    for position in 0..=input.len() {
+        let output = answered(newlines, position);
+        check_source(
+            rt,
+            input,
+            1000,
+            position,
+            output,
+            Err(ErrorKind::Interrupted),
+        );
+        check_source(
+            rt,
+            input,
+            1000,
+            position,
+            output,
+            Err(ErrorKind::BrokenPipe),
+        );
     }
 }
 
-// 38 + 132 positions, with two kinds each: 340.
 #[test]
 fn sources_that_fail(rt: HostRuntime) {
-    for kind in [ErrorKind::Interrupted, ErrorKind::BrokenPipe] {
-        check_sources(&rt, FOUR_LINES, kind, 38);
-        check_sources(&rt, LONG_LINES, kind, 132);
+    for case in CASES {
+        check_sources(&rt, *case);
     }
 }
 
-// The sink fails after `position` bytes, which are then a prefix of the output. The error is the
-// sink's, or of kind `WriteZero` if the sink took no bytes.
-fn check_sink(rt: &impl Abort, case: Case, position: usize, piece: usize, kind: Option<ErrorKind>)
-    requires { 1 ≤ piece }
-{
-    let mut buffer = [b'.'; 64];
-    let mut source = SliceSource::new(case.input);
-    let mut sink = FailingSink::new(&mut buffer, piece, Some(position), kind);
-    let ran = run(&mut source, &mut sink);
-    assert!(rt; !sink.expects_fault());
-    assert_eq!(rt; sink.len(), position);
-    assert!(rt; position <= case.output.len());
-    check_prefix(rt, &buffer, &case.output[..position]);
-    let wanted = kind.unwrap_or(ErrorKind::WriteZero);
-    assert_eq!(rt; outcome(ran), Err(wanted));
-}
-
-// The sink fails after each number of bytes below the whole output. It takes all bytes at once, or one
-// byte in each call.
-fn check_sinks(rt: &impl Abort, case: Case, kind: Option<ErrorKind>, positions: usize) {
-    assert_eq!(rt; positions, case.output.len());
-    for position in 0..positions {
-        check_sink(rt, case, position, 64, kind);
-        check_sink(rt, case, position, 1, kind);
+// The sink takes at most `piece` bytes in each call, and fails with the expected error after as many bytes
+// as the output has.
+fn check_sink(rt: &impl Abort, input: &str, piece: usize, output: &[u8], expected: Outcome) {
+    let flushed = Cell::new(0);
+    let mut writer = Taker::new(&flushed);
+    writer.piece = piece;
+    writer.bad_byte = output.len();
+    if let Err(kind) = expected {
+        writer.kind = kind;
     }
+    let mut sink = Writing::new(writer);
+    let ran = run(&mut Reading::new(input.as_bytes(), 1000), &mut sink);
+    let row = (input, piece, output.len(), expected);
+    check_outcome(rt, row, ran, expected);
+    check_equal(rt, row, sink.into_inner().taken(), Some(output));
 }
 
-// 30 + 13 positions, two limits on the bytes per call, and three ways to fail: 258.
+// The sink takes all bytes at once, or one byte in each call. It fails after each number of bytes below the
+// whole output, and then only after the last answer.
+fn check_sinks(rt: &impl Abort, case: Case, kind: ErrorKind) {
+    let (input, output, all_good, _) = case;
+    let output = output.as_bytes();
+    for position in 0..output.len() {
+        check_sink(rt, input, 64, &output[..position], Err(kind));
+        check_sink(rt, input, 1, &output[..position], Err(kind));
+    }
+    check_sink(rt, input, 1, output, Ok(all_good));
+}
+
+// With `WriteZero` the sink takes no bytes in place of an error.
 #[test]
 fn sinks_that_fail(rt: HostRuntime) {
-    for kind in [
-        Some(ErrorKind::Interrupted),
-        Some(ErrorKind::BrokenPipe),
-        None,
-    ] {
-        check_sinks(&rt, FOUR_LINES, kind, 30);
-        check_sinks(&rt, LONG_LINES, kind, 13);
+    for case in CASES {
+        check_sinks(&rt, *case, ErrorKind::Interrupted);
+        check_sinks(&rt, *case, ErrorKind::BrokenPipe);
+        check_sinks(&rt, *case, ErrorKind::OutOfMemory);
+        check_sinks(&rt, *case, ErrorKind::WriteZero);
     }
 }

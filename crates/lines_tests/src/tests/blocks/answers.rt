@@ -1,196 +1,117 @@
-// Lines of a reader are answered to a writer, and one of the two fails at one of its calls.
+// Lines of a reader are answered to a writer, and one of the two may fail at one of its calls.
 
-use crate::tests::blocks::devices::{Fault, Taker};
+use crate::tests::checks::check_equal;
+use crate::tests::devices::{Giver, NEVER, Taker};
 use lexical_streams::{BlockReader, BlockWriter, answer_stream};
 use std::cell::Cell;
-use std::io;
-use std::io::{ErrorKind, Read, Write};
 use std::process::Abort;
 
-const LINES: &[u8] = b"u8 10 5\nu8 2 5\ni8 16 -128\n";
+// Three lines of 11 bytes, each of which is yielded by one read.
+const LINES: &str = "u8 10 0005\nu8 2 00005\ni8 16 -128\n";
 
 const ANSWERS: &[u8] = b"5\n101\n-80\n";
 
-// The length of the answers to the first `n` lines, for `n` from 0 to 3.
-const ANSWERED: [usize; 4] = [0, 2, 6, 10];
+// The lines, the read that fails, the number of bytes after which the writer fails, the flush that fails,
+// whether the writer fails for good, the exit status, and what the writer has taken.
+type Row = (&'static str, usize, usize, usize, bool, u8, &'static [u8]);
 
-// A reader that yields one line at each read, and records how many bytes were flushed by then.
-#[derive(Drop)]
-struct LineGiver<'a> {
-    lines: &'a [u8],
-    // The number of reads before the one that fails.
-    before_fault: Option<u32>,
-    flushed: &'a Cell<usize>,
-    seen: [usize; 4],
-    reads: usize,
-}
+const ROWS: &[Row] = &[
+    (LINES, NEVER, NEVER, NEVER, false, 0, ANSWERS),
+    ("", NEVER, NEVER, NEVER, false, 0, b""),
+    (
+        "u8 10 256\nu8 10 5",
+        NEVER,
+        NEVER,
+        NEVER,
+        false,
+        1,
+        b"bad line 1\n5\n",
+    ),
+    (LINES, 0, NEVER, NEVER, false, 2, b""),
+    (LINES, 1, NEVER, NEVER, false, 2, b"5\n"),
+    (LINES, 2, NEVER, NEVER, false, 2, b"5\n101\n"),
+    (LINES, 3, NEVER, NEVER, false, 2, ANSWERS),
+    (LINES, NEVER, 0, NEVER, true, 2, b""),
+    (LINES, NEVER, 1, NEVER, true, 2, b"5"),
+    (LINES, NEVER, 2, NEVER, true, 2, b"5\n"),
+    (LINES, NEVER, 3, NEVER, true, 2, b"5\n1"),
+    (LINES, NEVER, 4, NEVER, true, 2, b"5\n10"),
+    (LINES, NEVER, 5, NEVER, true, 2, b"5\n101"),
+    (LINES, NEVER, 6, NEVER, true, 2, b"5\n101\n"),
+    (LINES, NEVER, 7, NEVER, true, 2, b"5\n101\n-"),
+    (LINES, NEVER, 8, NEVER, true, 2, b"5\n101\n-8"),
+    (LINES, NEVER, 9, NEVER, true, 2, b"5\n101\n-80"),
+    (LINES, NEVER, NEVER, 0, false, 2, b""),
+    (LINES, NEVER, NEVER, 0, true, 2, b""),
+    (LINES, NEVER, NEVER, 1, false, 2, b"5\n"),
+    (LINES, NEVER, NEVER, 1, true, 2, b"5\n"),
+    (LINES, NEVER, NEVER, 2, false, 2, b"5\n101\n"),
+    (LINES, NEVER, NEVER, 2, true, 2, b"5\n101\n"),
+    (LINES, NEVER, NEVER, 3, false, 2, ANSWERS),
+    (LINES, NEVER, NEVER, 3, true, 2, ANSWERS),
+    // The last of the five flushes comes after the last answer.
+    (LINES, NEVER, NEVER, 4, false, 2, ANSWERS),
+    (LINES, NEVER, NEVER, 4, true, 2, ANSWERS),
+];
 
-impl Read for LineGiver<'_> {
-    fn read(&mut self, buffer: &mut [u8]) -> io::Result<usize> {
-        if let Some(seen) = self.seen.get_mut(self.reads) {
-            *seen = self.flushed.get();
-        }
-        self.reads = self.reads.saturating_add(1);
-        if self.before_fault == Some(0) {
-            return Err(io::Error::from(ErrorKind::BrokenPipe));
-        }
-        self.before_fault = self.before_fault.map(|reads| reads.saturating_sub(1));
-        let line = self.lines.split_inclusive(|byte| *byte == b'\n').next();
-        let count = line.map_or(0, |line| line.len()).min(buffer.len());
-        self.lines.read(&mut buffer[..count])
-    }
-}
-
-// A writer that counts its flushes, and reports how many bytes it had taken by the last of them.
-#[derive(Drop)]
-struct Flushed<'a> {
-    taker: Taker,
-    // The number of flushes before the one that fails.
-    before_fault: Option<u32>,
-    fails_once: bool,
-    flushed: &'a Cell<usize>,
-    flushes: u32,
-}
-
-impl Write for Flushed<'_> {
-    fn write(&mut self, bytes: &[u8]) -> io::Result<usize> {
-        self.taker.write(bytes)
-    }
-
-    fn flush(&mut self) -> io::Result<()> {
-        self.flushes = self.flushes.saturating_add(1);
-        if self.before_fault == Some(0) {
-            if self.fails_once {
-                self.before_fault = None;
-            }
-            return Err(io::Error::from(ErrorKind::BrokenPipe));
-        }
-        self.before_fault = self.before_fault.map(|flushes| flushes.saturating_sub(1));
-        self.flushed.set(self.taker.taken().len());
-        Ok(())
-    }
-}
-
-// The call at which each device fails, if any. Calls are counted from 0.
-#[derive(Clone, Copy)]
-struct Faults {
-    read: Option<u32>,
-    write: Option<u32>,
-    flush: Option<u32>,
-    // Whether only that one flush fails, or each one after it too.
-    flush_fails_once: bool,
-}
-
-const NONE: Faults = Faults {
-    read: None,
-    write: None,
-    flush: None,
-    flush_fails_once: false,
-};
-
-// Answers the lines and returns the exit status.
-fn answered(reader: &mut LineGiver<'_>, writer: &mut Flushed<'_>) -> u8 {
-    let mut input = BlockReader::new(reader);
-    let mut output = BlockWriter::<_, 64>::new(writer);
-    answer_stream(&mut input, &mut output)
-}
-
-// Answers the lines, checks that the writer has taken exactly `output`, and returns the exit status.
-fn status_of(rt: &impl Abort, lines: &[u8], faults: Faults, output: &[u8]) -> u8 {
+// Answers the lines, and checks the exit status and that the writer has taken exactly the output.
+fn check_row(rt: &impl Abort, row: Row) {
+    let (lines, bad_read, bad_byte, bad_flush, is_for_good, wanted, output) = row;
     let flushed = Cell::new(0);
-    let mut reader = LineGiver {
-        lines,
-        before_fault: faults.read,
-        flushed: &flushed,
-        seen: [0; 4],
-        reads: 0,
-    };
-    let (piece, before_fault) = match faults.write {
-        Some(writes) => (1, writes),
-        None => (32, 32),
-    };
-    let fault = Fault::Error(ErrorKind::BrokenPipe);
-    let mut writer = Flushed {
-        taker: Taker::new(piece, before_fault, fault, true),
-        before_fault: faults.flush,
-        fails_once: faults.flush_fails_once,
-        flushed: &flushed,
-        flushes: 0,
-    };
-    let status = answered(&mut reader, &mut writer);
-    assert_eq!(rt; writer.taker.taken(), output);
-    status
+    let mut reader = Giver::new(lines.as_bytes(), &flushed);
+    reader.piece = 11;
+    reader.bad_read = bad_read;
+    let mut writer = Taker::new(&flushed);
+    writer.piece = 1;
+    writer.bad_byte = bad_byte;
+    writer.bad_flush = bad_flush;
+    writer.is_for_good = is_for_good;
+    check_equal(rt, row, answer(&mut reader, &mut writer).0, wanted);
+    check_equal(rt, row, writer.taken(), Some(output));
+}
+
+// Answers the lines, and returns the exit status, how often the devices were called, and the number of bytes
+// taken.
+fn answer(reader: &mut Giver<'_>, writer: &mut Taker<'_>) -> (u8, [usize; 4]) {
+    let mut input = BlockReader::new(reader);
+    let mut output = BlockWriter::<_, 16_384>::new(writer);
+    let status = answer_stream(&mut input, &mut output);
+    let calls = [reader.reads, writer.writes, writer.flushes, writer.count];
+    (status, calls)
 }
 
 #[test]
-fn the_exit_status(rt: HostRuntime) {
-    assert_eq!(&rt; status_of(&rt, LINES, NONE, ANSWERS), 0);
-    assert_eq!(&rt; status_of(&rt, b"", NONE, b""), 0);
-    assert_eq!(&rt;
-        status_of(&rt, b"u8 10 256\nu8 10 5", NONE, b"bad line 1\n5\n"),
-        1
-    );
+fn devices_that_fail(rt: HostRuntime) {
+    for row in ROWS {
+        check_row(&rt, *row);
+    }
 }
 
+// There is one read for each line and one for the end. The writer is flushed before each, and at the end.
 #[test]
 fn each_answer_is_flushed_before_the_next_read(rt: HostRuntime) {
     let flushed = Cell::new(0);
-    let mut reader = LineGiver {
-        lines: LINES,
-        before_fault: None,
-        flushed: &flushed,
-        seen: [32; 4],
-        reads: 0,
-    };
-    let mut writer = Flushed {
-        taker: Taker::new(32, 32, Fault::Zero, true),
-        before_fault: None,
-        fails_once: false,
-        flushed: &flushed,
-        flushes: 0,
-    };
-    assert_eq!(rt; answered(&mut reader, &mut writer), 0);
-    assert_eq!(rt; reader.seen, ANSWERED);
-    // One read for each line and one for the end. The writer is flushed before each, and at the end.
-    assert_eq!(rt; reader.reads, 4);
-    assert_eq!(rt; writer.flushes, 5);
+    let mut reader = Giver::new(LINES.as_bytes(), &flushed);
+    reader.piece = 11;
+    let mut writer = Taker::new(&flushed);
+    let answered = answer(&mut reader, &mut writer);
+    check_equal(&rt, "calls", answered, (0, [4, 3, 5, 10]));
+    check_equal(&rt, "flushed by each read", reader.seen, [0, 2, 6, 10]);
 }
 
-#[test]
-fn reads_that_fail(rt: HostRuntime) {
-    for (read, count) in (0..4).zip(ANSWERED) {
-        let faults = Faults {
-            read: Some(read),
-            ..NONE
-        };
-        assert!(&rt; count <= ANSWERS.len());
-        assert_eq!(&rt; status_of(&rt, LINES, faults, &ANSWERS[..count]), 2);
-    }
-}
+const LINE: [u8; 16] = *b"u64 10 00000055\n";
 
+// The 20480 lines of 16 bytes fill two and a half blocks of 128 KiB. The answers have 3 bytes, so those to a
+// whole block take a write of 16 KiB and one of 8 KiB, and the others take one of 12 KiB.
 #[test]
-fn writes_that_fail(rt: HostRuntime) {
-    for count in 0..ANSWERS.len() {
-        let faults = Faults {
-            write: Some(count as u32),
-            ..NONE
-        };
-        assert_eq!(&rt; status_of(&rt, LINES, faults, &ANSWERS[..count]), 2);
+fn a_read_takes_128_kib_and_a_write_16_kib(rt: HostRuntime) {
+    let mut lines = [0; 327_680];
+    for (index, byte) in lines.iter_mut().enumerate() {
+        *byte = LINE[index % 16];
     }
-}
-
-// The last of the five flushes comes after the last answer.
-#[test]
-fn flushes_that_fail(rt: HostRuntime) {
-    for (flush, count) in [(0, 0), (1, 2), (2, 6), (3, 10), (4, 10)] {
-        for flush_fails_once in [false, true] {
-            let faults = Faults {
-                flush: Some(flush),
-                flush_fails_once,
-                ..NONE
-            };
-            assert!(&rt; count <= ANSWERS.len());
-            assert_eq!(&rt; status_of(&rt, LINES, faults, &ANSWERS[..count]), 2);
-        }
-    }
+    let flushed = Cell::new(0);
+    let mut reader = Giver::new(&lines, &flushed);
+    let mut writer = Taker::new(&flushed);
+    let answered = answer(&mut reader, &mut writer);
+    check_equal(&rt, "calls", answered, (0, [4, 5, 5, 61_440]));
 }
