@@ -31,16 +31,15 @@ own_front before written count w =
     }
 
 -- the digits of the magnitude after the sign are the text
-pub after_sign : (x : ℤ) (format : Format) (magnitude : ℕ) (before between written : List ℕ) (count digits : ℕ) →
-    format.required_mantissa_sign ≡ false → format.digit_grouping ≡ None →
-    count ≡ length (sign_of x false) → take count between ≡ sign_of x false →
-    length between ≡ length before → drop 1 between ≡ drop 1 before → 1 ≤ digits → magnitude ≡ unsigned_abs x →
-    WritesDigits format.mantissa_radix magnitude (take (length between - count) (drop count between)) written digits →
+pub after_sign : (x : ℤ) (format : Format) (before between written : List ℕ) (count digits : ℕ) → format.digit_grouping ≡ None →
+    count ≡ length (sign_of x format.required_mantissa_sign) → take count between ≡ sign_of x format.required_mantissa_sign →
+    length between ≡ length before → drop 1 between ≡ drop 1 before → 1 ≤ digits →
+    WritesDigits format.mantissa_radix (unsigned_abs x) (take (length between - count) (drop count between)) written digits →
     WritesText x format before (put_mid count (length between - count) between written) (count + digits)
-after_sign x format magnitude before between written count digits plus none long sign same rest some is w =
-    WritesText-over (rw plus sign) same rest some record {
-      sign_count = rw plus long;
-      magnitude = rw is at w;
+after_sign x format before between written count digits none long sign same rest some w =
+    WritesText-over sign same rest some record {
+      sign_count = long;
+      magnitude = w;
       groups = rw none (own_front _ written digits w.writes);
       total_count = rw none (w.writes.count ∙ sym (ap length (take-Writes _ written digits w.writes)));
     }

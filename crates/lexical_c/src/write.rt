@@ -1,7 +1,7 @@
 //! The functions that write a number. Each returns the length of the text, or returns 0 and leaves the
 //! buffer unchanged if the format is invalid or the text does not fit.
 
-ghost use Rattle.std.specs.Prelude.{◌≡◌, pos, unsigned_abs};
+ghost use Rattle.std.specs.Prelude.{◌≡◌, pos};
 ghost use Rattle.lexical_c.specs.Buffer.{WritesOrRefuses};
 ghost use Rattle.lexical_c.specs.Format.{format_of};
 
@@ -9,7 +9,7 @@ use crate::format::CFormat;
 use crate::general::write_if_it_fits;
 use crate::plain::{plain_format, write_digits, write_sign_and_digits};
 use lexical_write_integer::ToLexicalWithOptions;
-use lexical_write_integer::laws::{size_suffices, text_computed};
+use lexical_write_integer::laws::size_suffices;
 use lexical_write_integer::write::WriteInteger;
 
 // Writes a number of an unsigned type to the buffer, and returns the length of its text, or 0 if it
@@ -21,37 +21,32 @@ fn write_unsigned<T: WriteInteger + ToLexicalWithOptions>(
 ) -> usize
     ensures { WritesOrRefuses (T.number value) (format_of format.now) buffer.old buffer.new result }
 {
+    value.in_range();
     match plain_format::<T>(format, buffer.len()) {
         Some(format) => {
             size_suffices(value, &format);
-            let count = write_digits(value, &format, buffer);
-            text_computed(value, &format, &buffer[..count]);
-            count
+            write_digits(value, &format, buffer)
         }
         None => write_if_it_fits(value.as_usize(), format, buffer),
     }
 }
 
 // Writes a number of a signed type to the buffer, and returns the length of its text, or 0 if it is
-// refused. `wide` is the number as an `isize`, and `magnitude` is its magnitude.
-fn write_signed<T: ToLexicalWithOptions, U: WriteInteger>(
+// refused. `wide` is the number as an `isize`.
+fn write_signed<T: ToLexicalWithOptions>(
     value: T,
     wide: isize,
-    magnitude: U,
     format: &CFormat,
     buffer: &mut [u8],
 ) -> usize
-    requires wide { wide ≡ T.number value }
-    requires magnitude { U.magnitude magnitude ≡ unsigned_abs wide }
-    requires width { U.SIGNED_WIDTH ≡ T.DECIMAL_WIDTH }
+    requires { wide ≡ T.number value }
     ensures { WritesOrRefuses (T.number value) (format_of format.now) buffer.old buffer.new result }
 {
+    value.in_range();
     match plain_format::<T>(format, buffer.len()) {
         Some(format) => {
             size_suffices(value, &format);
-            let count = write_sign_and_digits(value, wide < 0, magnitude, &format, buffer);
-            text_computed(value, &format, &buffer[..count]);
-            count
+            write_sign_and_digits(value, &format, buffer)
         }
         None => write_if_it_fits(wide, format, buffer),
     }
@@ -102,7 +97,7 @@ pub extern "C" fn lexical_write_size(value: usize, format: &CFormat, buffer: &mu
 pub extern "C" fn lexical_write_i8(value: i8, format: &CFormat, buffer: &mut [u8]) -> usize
     ensures { WritesOrRefuses value (format_of format.now) buffer.old buffer.new result }
 {
-    write_signed::<i8, u8>(value, value as isize, value.unsigned_abs(), format, buffer)
+    write_signed::<i8>(value, value as isize, format, buffer)
 }
 
 /// Writes an `int16_t` to the buffer, and returns the length of its text, or 0 if it is refused.
@@ -110,7 +105,7 @@ pub extern "C" fn lexical_write_i8(value: i8, format: &CFormat, buffer: &mut [u8
 pub extern "C" fn lexical_write_i16(value: i16, format: &CFormat, buffer: &mut [u8]) -> usize
     ensures { WritesOrRefuses value (format_of format.now) buffer.old buffer.new result }
 {
-    write_signed::<i16, u16>(value, value as isize, value.unsigned_abs(), format, buffer)
+    write_signed::<i16>(value, value as isize, format, buffer)
 }
 
 /// Writes an `int32_t` to the buffer, and returns the length of its text, or 0 if it is refused.
@@ -118,7 +113,7 @@ pub extern "C" fn lexical_write_i16(value: i16, format: &CFormat, buffer: &mut [
 pub extern "C" fn lexical_write_i32(value: i32, format: &CFormat, buffer: &mut [u8]) -> usize
     ensures { WritesOrRefuses value (format_of format.now) buffer.old buffer.new result }
 {
-    write_signed::<i32, u32>(value, value as isize, value.unsigned_abs(), format, buffer)
+    write_signed::<i32>(value, value as isize, format, buffer)
 }
 
 /// Writes an `int64_t` to the buffer, and returns the length of its text, or 0 if it is refused.
@@ -126,5 +121,5 @@ pub extern "C" fn lexical_write_i32(value: i32, format: &CFormat, buffer: &mut [
 pub extern "C" fn lexical_write_i64(value: i64, format: &CFormat, buffer: &mut [u8]) -> usize
     ensures { WritesOrRefuses value (format_of format.now) buffer.old buffer.new result }
 {
-    write_signed::<i64, u64>(value, value as isize, value.unsigned_abs(), format, buffer)
+    write_signed::<i64>(value, value as isize, format, buffer)
 }

@@ -151,9 +151,10 @@ pub trait ToLexicalWithOptions: ToLexical {
     }
 }
 
-// Writes the sign to `buffer[0]` and returns its length, 0 or 1. The byte is written even if there is
-// no sign, to avoid a branch; the first digit then overwrites it.
-fn write_sign<T: LexicalInteger>(number: T, buffer: &mut [u8], format: &NumberFormat) -> usize
+/// Writes the sign of the number, if it has one in the format, to the first byte of the buffer, which is
+/// not empty, and returns the length of the sign, 0 or 1. The byte is written even if there is no sign,
+/// to avoid a branch: the first digit then overwrites it.
+pub fn write_sign<T: LexicalInteger>(number: T, buffer: &mut [u8], format: &NumberFormat) -> usize
     requires { 1 ≤ length buffer.old }
     ensures sign { take result buffer.new ≡ sign_of (T.number number) format.now.required_mantissa_sign }
     ensures count { result ≡ length (sign_of (T.number number) format.now.required_mantissa_sign) }

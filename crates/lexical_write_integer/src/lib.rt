@@ -73,7 +73,7 @@ pub mod turns;
 // Laws for callers.
 pub mod laws;
 
-pub use api::{ToLexical, ToLexicalWithOptions};
+pub use api::{ToLexical, ToLexicalWithOptions, write_sign};
 pub use lexical_num::constants::{BUFFER_SIZE, FormattedSize};
 pub use lexical_num::error::{Error, Result};
 pub use lexical_num::format;

@@ -1,21 +1,65 @@
-use Rattle.std.proofs.Common.{ap, ◌∙◌, arith, rules}
+use Rattle.std.proofs.Common.{◌≡◌, Bool, true, false, ◌+◌, ◌^◌, ◌<◌, ◌≤◌, length, unsigned_abs, ap, ◌∙◌, arith, rules}
 use Rattle.lexical_num.specs.Format.{IsValid, grouped_length}
-use Rattle.lexical_c.specs.Format.{format_of, grouping_of}
+use Rattle.lexical_num.specs.Sign.{sign_of}
 use Rattle.lexical_write_integer.specs.DigitCount.{digit_count}
+use Rattle.lexical_write_integer.proofs.DigitCounts.{digit_count-pos, digit_count-le_bits}
 use Rattle.lexical_write_integer.proofs.PrintedTexts.{IsRange-small}
+use Rattle.lexical_write_integer.proofs.Signs.{sign_of-below, sign_of-other, length-plus}
+use Rattle.lexical_write_integer.specs.SizeBound.{grouped_length-le}
+use Rattle.lexical_c.specs.Length.{IsLength}
 use Rattle.lexical_c.proofs.TextLengths.{length-text_of}
+use Rattle.lexical_c.proofs.WrittenTexts.{grouped_length-pos}
 use Rattle.lexical_c.proofs.length.text_length.Goals as goal
+use Rattle.lexical_c.proofs.length.text_length.Goals.{After-from-sign, then-is_negative, else-is_negative}
+use mir.Val.{bool_byte}
+
+sign_is : (g : _) (c : After-from-sign g)
+    → c.from-sign.result ≡ length (sign_of (g.T.LexicalInteger.number c.args.value) c.in-Some.format.required_mantissa_sign)
+sign_is g c =
+    let number = g.T.LexicalInteger.number c.args.value in
+    let required = c.in-Some.format.required_mantissa_sign in
+    let test = c.is_negative.ensures in
+    elim c.if-is_negative.branch [
+      | then-is_negative w ↦ rw (sign_of-below number required test w.if-is_negative.true) (rw (w.from-is, w.if-is_negative.true) at c.from-sign.ensures)
+      | else-is_negative w ↦
+          rw (sign_of-other number required test w.if-is_negative.false, length-plus required)
+          (rw (w.from-is, w.required_mantissa_sign.ensures) at c.from-sign.ensures)
+    ]
+
+bool_byte-le_one : (b : Bool) → bool_byte b ≤ 1
+bool_byte-le_one true = omega arith
+bool_byte-le_one false = omega arith
+
+count_is : (g : _) (c : After-from-sign g)
+    → c.magnitude_digits-digits.result ≡ digit_count c.in-Some.format.mantissa_radix (unsigned_abs (g.T.LexicalInteger.number c.args.value))
+count_is g c = rw c.mantissa_radix.ensures.value at c.magnitude_digits-digits.ensures
+
+small : (g : _) (c : After-from-sign g) → unsigned_abs (g.T.LexicalInteger.number c.args.value) < 2 ^ 64
+small g c = IsRange-small _ _ _ _ g.met.T.LexicalInteger.range_of_bits c.in_range.ensures.at_least c.in_range.ensures.at_most
+
+few : (g : _) (c : After-from-sign g) → c.magnitude_digits-digits.result ≤ 64
+few g c =
+    let two = (rw c.mantissa_radix.ensures.value at c.mantissa_radix.ensures.radix).at_least_two in
+    omega (arith, count_is g c, digit_count-le_bits _ _ 64 two (omega arith) (small g c))
+
+pub grouped_len-requires : goal.grouped_len-requires
+grouped_len-requires g c = omega (arith, few g (goal.at.grouped_len-requires g c).After-from-sign)
+
+pub overflow_add-result : goal.overflow_add-result
+overflow_add-result g c =
+    let fewer = grouped_length-le c.in-Some.format.digit_grouping c.magnitude_digits-digits.result 64 (few g (goal.at.overflow_add-result g c).After-from-sign) (omega arith) in
+    omega (arith, c.from-sign.ensures, bool_byte-le_one c.if-is_negative.from, c.grouped_len.ensures, fewer)
 
 pub returns : goal.returns
 returns g c =
-    let valid : IsValid (format_of c.args.format.now) = search rules in
-    let small = IsRange-small _ _ _ (g.T.LexicalInteger.number c.args.value) g.met.T.LexicalInteger.range_of_bits
-    c.in_range.ensures.at_least c.in_range.ensures.at_most in
-    let text = length-text_of (g.T.LexicalInteger.number c.args.value) (format_of c.args.format.now) valid small in
-    let counted = c.digit_count-digits.ensures.count ∙ ap (digit_count c.args.format.now.radix) (c.as_usize-magnitude.ensures ∙ c.requires.magnitude) in
-    let groups = c.mark_count.ensures.length c.args.format.now.mark ∙
-    ap (grouped_length (grouping_of c.args.format.now.group_size c.args.format.now.mark)) counted in
-    record {
-      accepts = (λ _. valid, λ _. omega (arith, c.digit_count-digits.ensures.some));
-      count = λ _. omega (arith, text, groups, c.sign_length-sign.ensures.length);
-    }
+    let before = (goal.at.returns g c).After-from-sign in
+    let valid : IsValid c.in-Some.format = search rules in
+    let text = length-text_of (g.T.LexicalInteger.number c.args.value) c.in-Some.format valid (small g before) in
+    let digits = digit_count-pos c.in-Some.format.mantissa_radix (unsigned_abs (g.T.LexicalInteger.number c.args.value)) in
+    let groups = c.grouped_len.ensures ∙ ap (grouped_length c.in-Some.format.digit_grouping) (count_is g before) in
+    let some = grouped_length-pos c.in-Some.format.digit_grouping _ digits in
+    let is : IsLength (g.T.LexicalInteger.number c.args.value) c.in-Some.format (c.from-sign.result + c.grouped_len.result) = record {
+      accepts = (λ _. valid, λ _. omega (arith, groups, some));
+      count = λ _. omega (arith, text, groups, sign_is g before);
+    } in
+    rw c.in-Some.ensures.format at is
