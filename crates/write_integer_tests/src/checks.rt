@@ -17,15 +17,20 @@ pub(crate) fn check_equal<R: Debug + Drop, T: PartialEq + Debug + Drop>(
     value: T,
     expected: T,
 ) {
-    assert_eq!(rt; value, expected, "in the row {row:?}");
+    if value != expected {
+        panic!(rt; "in the row {row:?}: {value:?} in place of {expected:?}");
+    }
 }
 
 // Checks that the buffer begins with the text, and that every byte after it is still 7.
 pub(crate) fn check_buffer<R: Debug + Drop>(rt: &impl Abort, row: R, buffer: &[u8], text: &[u8]) {
-    let Some(rest) = buffer.strip_prefix(text) else {
-        panic!(rt; "in the row {row:?}: {buffer:?} does not begin with {text:?}");
+    let is_unchanged = match buffer.strip_prefix(text) {
+        Some(rest) => UNCHANGED.ends_with(rest),
+        None => false,
     };
-    check_equal(rt, row, UNCHANGED.ends_with(rest), true);
+    if !is_unchanged {
+        panic!(rt; "in the row {row:?}: {buffer:?} in place of {text:?} and bytes 7");
+    }
 }
 
 // Checks the returned length of a text, and the buffer that the text was written to.

@@ -46,46 +46,50 @@ fn pairs_at_known_indexes(rt: HostRuntime) {
     check_equal(&rt, 35, &get_table(35)[2448..2450], b"YY");
 }
 
+// Returns the constant of a radix from 2 to 36.
+fn constant(radix: u32) -> &'static [u8] {
+    match radix {
+        2 => &DIGIT_TO_BASE2_SQUARED,
+        3 => &DIGIT_TO_BASE3_SQUARED,
+        4 => &DIGIT_TO_BASE4_SQUARED,
+        5 => &DIGIT_TO_BASE5_SQUARED,
+        6 => &DIGIT_TO_BASE6_SQUARED,
+        7 => &DIGIT_TO_BASE7_SQUARED,
+        8 => &DIGIT_TO_BASE8_SQUARED,
+        9 => &DIGIT_TO_BASE9_SQUARED,
+        10 => &DIGIT_TO_BASE10_SQUARED,
+        11 => &DIGIT_TO_BASE11_SQUARED,
+        12 => &DIGIT_TO_BASE12_SQUARED,
+        13 => &DIGIT_TO_BASE13_SQUARED,
+        14 => &DIGIT_TO_BASE14_SQUARED,
+        15 => &DIGIT_TO_BASE15_SQUARED,
+        16 => &DIGIT_TO_BASE16_SQUARED,
+        17 => &DIGIT_TO_BASE17_SQUARED,
+        18 => &DIGIT_TO_BASE18_SQUARED,
+        19 => &DIGIT_TO_BASE19_SQUARED,
+        20 => &DIGIT_TO_BASE20_SQUARED,
+        21 => &DIGIT_TO_BASE21_SQUARED,
+        22 => &DIGIT_TO_BASE22_SQUARED,
+        23 => &DIGIT_TO_BASE23_SQUARED,
+        24 => &DIGIT_TO_BASE24_SQUARED,
+        25 => &DIGIT_TO_BASE25_SQUARED,
+        26 => &DIGIT_TO_BASE26_SQUARED,
+        27 => &DIGIT_TO_BASE27_SQUARED,
+        28 => &DIGIT_TO_BASE28_SQUARED,
+        29 => &DIGIT_TO_BASE29_SQUARED,
+        30 => &DIGIT_TO_BASE30_SQUARED,
+        31 => &DIGIT_TO_BASE31_SQUARED,
+        32 => &DIGIT_TO_BASE32_SQUARED,
+        33 => &DIGIT_TO_BASE33_SQUARED,
+        34 => &DIGIT_TO_BASE34_SQUARED,
+        35 => &DIGIT_TO_BASE35_SQUARED,
+        _ => &DIGIT_TO_BASE36_SQUARED,
+    }
+}
+
 #[test]
 fn constants_are_the_tables(rt: HostRuntime) {
-    let constants: [&[u8]; 35] = [
-        &DIGIT_TO_BASE2_SQUARED,
-        &DIGIT_TO_BASE3_SQUARED,
-        &DIGIT_TO_BASE4_SQUARED,
-        &DIGIT_TO_BASE5_SQUARED,
-        &DIGIT_TO_BASE6_SQUARED,
-        &DIGIT_TO_BASE7_SQUARED,
-        &DIGIT_TO_BASE8_SQUARED,
-        &DIGIT_TO_BASE9_SQUARED,
-        &DIGIT_TO_BASE10_SQUARED,
-        &DIGIT_TO_BASE11_SQUARED,
-        &DIGIT_TO_BASE12_SQUARED,
-        &DIGIT_TO_BASE13_SQUARED,
-        &DIGIT_TO_BASE14_SQUARED,
-        &DIGIT_TO_BASE15_SQUARED,
-        &DIGIT_TO_BASE16_SQUARED,
-        &DIGIT_TO_BASE17_SQUARED,
-        &DIGIT_TO_BASE18_SQUARED,
-        &DIGIT_TO_BASE19_SQUARED,
-        &DIGIT_TO_BASE20_SQUARED,
-        &DIGIT_TO_BASE21_SQUARED,
-        &DIGIT_TO_BASE22_SQUARED,
-        &DIGIT_TO_BASE23_SQUARED,
-        &DIGIT_TO_BASE24_SQUARED,
-        &DIGIT_TO_BASE25_SQUARED,
-        &DIGIT_TO_BASE26_SQUARED,
-        &DIGIT_TO_BASE27_SQUARED,
-        &DIGIT_TO_BASE28_SQUARED,
-        &DIGIT_TO_BASE29_SQUARED,
-        &DIGIT_TO_BASE30_SQUARED,
-        &DIGIT_TO_BASE31_SQUARED,
-        &DIGIT_TO_BASE32_SQUARED,
-        &DIGIT_TO_BASE33_SQUARED,
-        &DIGIT_TO_BASE34_SQUARED,
-        &DIGIT_TO_BASE35_SQUARED,
-        &DIGIT_TO_BASE36_SQUARED,
-    ];
     for radix in 2..37u32 {
-        check_equal(&rt, radix, get_table(radix), constants[radix as usize - 2]);
+        check_equal(&rt, radix, get_table(radix), constant(radix));
     }
 }

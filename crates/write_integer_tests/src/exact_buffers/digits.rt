@@ -16,13 +16,7 @@ use lexical_write_integer::write::WriteInteger;
 use std::process::Abort;
 
 // Checks that the table writer and the compact writer write the digits to a buffer of `room` bytes.
-pub(crate) fn check_in<U: Radix + Compact>(
-    rt: &impl Abort,
-    value: U,
-    radix: u32,
-    room: usize,
-    digits: &[u8],
-)
+fn check_in<U: Radix + Compact>(rt: &impl Abort, value: U, radix: u32, room: usize, digits: &[u8])
     requires radix { IsRadix radix }
     requires need { digit_count radix (U.magnitude value) ≤ room }
     requires room { room ≤ 140 }

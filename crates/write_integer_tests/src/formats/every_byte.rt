@@ -6,67 +6,76 @@ use lexical_num::error::Error;
 use lexical_num::format_builder::NumberFormatBuilder;
 use std::process::Abort;
 
+// The part that an error names, with its byte.
+type Refused = Option<(&'static str, u8)>;
+
+fn refused(error: Error) -> Refused {
+    match error {
+        Error::InvalidMantissaRadix(byte) => Some(("mantissa radix", byte)),
+        Error::InvalidExponentRadix(byte) => Some(("exponent radix", byte)),
+        Error::InvalidGroupSize(byte) => Some(("group size", byte)),
+        Error::InvalidGroupMark(byte) => Some(("group mark", byte)),
+    }
+}
+
 // Returns whether the byte is a radix, from 2 to 36.
 fn is_radix(byte: u8) -> bool {
     (2..=36).contains(&byte)
+}
+
+// Returns the first of the two bytes that is not a radix, which the error of a build has to name.
+fn expected_of_radices(mantissa: u8, exponent: u8) -> Refused {
+    if !is_radix(mantissa) {
+        Some(("mantissa radix", mantissa))
+    } else if !is_radix(exponent) {
+        Some(("exponent radix", exponent))
+    } else {
+        None
+    }
+}
+
+// Returns the group size or the separator that the error of a build has to name.
+fn expected_of_groups(size: u8, mark: u8) -> Refused {
+    if !(1..=64).contains(&size) {
+        Some(("group size", size))
+    } else if !b" !\"#$%&'()*,./:;<=>?@[\\]^_`{|}~".contains(&mark) {
+        Some(("group mark", mark))
+    } else {
+        None
+    }
 }
 
 // Builds a format with these radices, and checks that it has them or that the error names the first byte
 // that is not a radix. Returns whether a format was built.
 fn check(rt: &impl Abort, mantissa: u8, exponent: u8) -> bool {
     let row = ("radices", mantissa, exponent);
-    match built(mantissa, exponent) {
+    let error = match built(mantissa, exponent) {
         Ok(format) => {
-            let radices = [format.mantissa_radix(), format.exponent_radix()];
-            let are_radices = [is_radix(mantissa), is_radix(exponent)];
-            check_equal(rt, row, radices, [u32::from(mantissa), u32::from(exponent)]);
-            check_equal(rt, row, are_radices, [true; 2]);
+            let radices = (format.mantissa_radix(), format.exponent_radix());
+            check_equal(rt, row, radices, (mantissa.into(), exponent.into()));
             check_equal(rt, row, format.required_mantissa_sign(), false);
-            true
+            None
         }
-        Err(Error::InvalidMantissaRadix(byte)) => {
-            check_equal(rt, row, (byte, is_radix(mantissa)), (mantissa, false));
-            false
-        }
-        Err(Error::InvalidExponentRadix(byte)) => {
-            let are_radices = [is_radix(mantissa), is_radix(exponent)];
-            check_equal(rt, row, (byte, are_radices), (exponent, [true, false]));
-            false
-        }
-        Err(Error::InvalidGroupSize(_) | Error::InvalidGroupMark(_)) => {
-            panic!(rt; "at {mantissa} and {exponent} groups that were not set were refused")
-        }
-    }
+        Err(error) => refused(error),
+    };
+    check_equal(rt, row, error, expected_of_radices(mantissa, exponent));
+    error.is_none()
 }
 
 // Builds a format with groups of this size and with this separator, and checks that it has them or that the
 // error names the first of the two that is not valid. Returns whether a format was built.
 fn check_groups(rt: &impl Abort, size: u8, mark: u8) -> bool {
-    let marks = b" !\"#$%&'()*,./:;<=>?@[\\]^_`{|}~";
-    let is_size = (1..=64).contains(&size);
-    let is_mark = marks.contains(&mark);
     let row = ("groups", size, mark);
-    match NumberFormatBuilder::new()
-        .digit_grouping(size, mark)
-        .build()
-    {
+    let builder = NumberFormatBuilder::new().digit_grouping(size, mark);
+    let error = match builder.build() {
         Ok(format) => {
-            check_equal(rt, row, [is_size, is_mark], [true; 2]);
             check_equal(rt, row, format.digit_grouping(), Some((size, mark)));
-            true
+            None
         }
-        Err(Error::InvalidGroupSize(byte)) => {
-            check_equal(rt, row, (byte, is_size), (size, false));
-            false
-        }
-        Err(Error::InvalidGroupMark(byte)) => {
-            check_equal(rt, row, (byte, [is_size, is_mark]), (mark, [true, false]));
-            false
-        }
-        Err(Error::InvalidMantissaRadix(_) | Error::InvalidExponentRadix(_)) => {
-            panic!(rt; "at {size} and {mark} radices of 10 were refused")
-        }
-    }
+        Err(error) => refused(error),
+    };
+    check_equal(rt, row, error, expected_of_groups(size, mark));
+    error.is_none()
 }
 
 // There are 35 radices.
