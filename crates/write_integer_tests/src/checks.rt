@@ -1,5 +1,7 @@
 //! The assertions of all tests. Each failure shows the row of the test, which has its inputs.
 
+use lexical_num::format::NumberFormat;
+use lexical_num::format_builder::NumberFormatBuilder;
 use std::fmt::Debug;
 use std::process::Abort;
 
@@ -28,9 +30,12 @@ pub(crate) fn check_buffer<R: Debug + Drop>(rt: &impl Abort, row: R, buffer: &[u
         Some(rest) => UNCHANGED.ends_with(rest),
         None => false,
     };
-    if !is_unchanged {
-        panic!(rt; "in the row {row:?}: {buffer:?} in place of {text:?} and bytes 7");
-    }
+    check_equal(rt, (row, text, buffer), is_unchanged, true);
+}
+
+// Returns the format that the builder builds.
+pub(crate) fn valid(rt: &impl Abort, builder: NumberFormatBuilder) -> NumberFormat {
+    builder.build().expect(rt, "a valid format")
 }
 
 // Checks the returned length of a text, and the buffer that the text was written to.

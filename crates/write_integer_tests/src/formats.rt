@@ -5,32 +5,28 @@ mod every_byte;
 mod options;
 mod types;
 
-use crate::checks::check_equal;
+use crate::checks::{check_equal, valid};
 use errors::check_error;
-use lexical_num::error::Error;
 use lexical_num::format::{NumberFormat, STANDARD};
 use lexical_num::format_builder::NumberFormatBuilder;
 use lexical_num::laws::{equal_builders, equal_formats};
 use lexical_num::options::Options;
 use std::process::Abort;
 
-fn built(mantissa: u8, exponent: u8) -> Result<NumberFormat, Error> {
-    NumberFormatBuilder::new()
-        .mantissa_radix(mantissa)
-        .exponent_radix(exponent)
-        .build()
-}
-
 // Returns the decimal format with a required sign.
 fn signed(rt: &impl Abort) -> NumberFormat {
-    let builder = NumberFormatBuilder::new().required_mantissa_sign(true);
-    builder.build().expect(rt, "a required sign")
+    valid(rt, NumberFormatBuilder::new().required_mantissa_sign(true))
 }
 
-// Returns the decimal format with groups of one digit and this separator.
-fn ones(rt: &impl Abort, mark: u8) -> NumberFormat {
-    let builder = NumberFormatBuilder::new().digit_grouping(1, mark);
-    builder.build().expect(rt, "groups of one digit")
+// Returns the decimal format with groups.
+fn grouped(rt: &impl Abort, size: u8, mark: u8) -> NumberFormat {
+    valid(rt, NumberFormatBuilder::new().digit_grouping(size, mark))
+}
+
+// Returns the format with these radices.
+fn format(rt: &impl Abort, mantissa: u8, exponent: u8) -> NumberFormat {
+    let builder = NumberFormatBuilder::new().mantissa_radix(mantissa);
+    valid(rt, builder.exponent_radix(exponent))
 }
 
 // Returns the format with this mantissa radix that a builder makes after an error.
@@ -38,9 +34,13 @@ fn built_after_an_error(rt: &impl Abort, radix: u8) -> NumberFormat {
     let builder = NumberFormatBuilder::default().mantissa_radix(1);
     check_error(rt, builder.build(), "invalid mantissa radix 1");
     check_error(rt, builder.build(), "invalid mantissa radix 1");
-    let is_new = equal_builders(&builder, &NumberFormatBuilder::new());
-    check_equal(rt, "a builder with radix 1", is_new, false);
-    builder.radix(radix).build().expect(rt, "a radix")
+    let new = NumberFormatBuilder::new();
+    let are_new = (
+        equal_builders(&builder, &new),
+        equal_builders(&NumberFormatBuilder::default(), &new),
+    );
+    check_equal(rt, "radix 1, default", are_new, (false, true));
+    valid(rt, builder.radix(radix))
 }
 
 // Checks a format without groups.
@@ -64,8 +64,7 @@ fn formats_have_the_fields_of_their_builder(rt: HostRuntime) {
     check(&rt, NumberFormatBuilder::binary(), 2, 2, false);
     check(&rt, NumberFormatBuilder::from_radix(16), 16, 16, false);
     check(&rt, built_after_an_error(&rt, 16), 16, 10, false);
-    let built = built(2, 36).expect(&rt, "radices 2 and 36");
-    check(&rt, built, 2, 36, false);
+    check(&rt, format(&rt, 2, 36), 2, 36, false);
 }
 
 fn check_equality(rt: &impl Abort, row: &str, a: NumberFormat, b: NumberFormat, expected: bool) {
@@ -74,30 +73,15 @@ fn check_equality(rt: &impl Abort, row: &str, a: NumberFormat, b: NumberFormat, 
 
 #[test]
 fn equal_and_different_formats(rt: HostRuntime) {
-    let decimal = built(10, 10).expect(&rt, "radices 10 and 10");
-    check_equality(&rt, "10", decimal, STANDARD, true);
-    let binary = built(2, 2).expect(&rt, "radices 2 and 2");
-    check_equality(&rt, "2", binary, NumberFormatBuilder::binary(), true);
+    let binary = NumberFormatBuilder::binary();
+    let sixteen = NumberFormatBuilder::from_radix(16);
+    check_equality(&rt, "10", format(&rt, 10, 10), STANDARD, true);
+    check_equality(&rt, "2", format(&rt, 2, 2), binary, true);
+    check_equality(&rt, "16", format(&rt, 16, 10), sixteen, false);
     check_equality(&rt, "sign", signed(&rt), STANDARD, false);
-    let sixteen = built(16, 10).expect(&rt, "radices 16 and 10");
-    check_equality(
-        &rt,
-        "16",
-        sixteen,
-        NumberFormatBuilder::from_radix(16),
-        false,
-    );
-}
-
-#[test]
-fn equal_and_different_groups(rt: HostRuntime) {
-    let long = NumberFormatBuilder::new().digit_grouping(64, 126);
-    let long = long.build().expect(&rt, "groups of 64 digits");
-    check_equality(&rt, "sizes 1 and 64", ones(&rt, 32), long, false);
-    check_equality(&rt, "marks 32 and 33", ones(&rt, 32), ones(&rt, 33), false);
-    let new = NumberFormatBuilder::new();
-    let default = NumberFormatBuilder::default();
-    check_equal(&rt, "default", equal_builders(&default, &new), true);
+    let ones = grouped(&rt, 1, 32);
+    check_equality(&rt, "size", ones, grouped(&rt, 64, 126), false);
+    check_equality(&rt, "mark", ones, grouped(&rt, 1, 33), false);
 }
 
 #[test]

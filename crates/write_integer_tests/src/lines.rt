@@ -8,11 +8,7 @@ pub(crate) fn read<'a, F: FromStr>(rt: &impl Abort, line: &'a str) -> (F, &'a st
 where
     F::Err: Drop,
 {
-    let Some((field, rest)) = line.split_once(' ') else {
-        panic!(rt; "one field is missing: {line}");
-    };
-    let Ok(number) = field.parse::<F>() else {
-        panic!(rt; "the first field is not a number of the type: {line}");
-    };
-    (number, rest)
+    let (field, rest) = line.split_once(' ').expect(rt, line);
+    let number = field.parse::<F>().ok();
+    (number.expect(rt, line), rest)
 }

@@ -46,8 +46,8 @@ fn pairs_at_known_indexes(rt: HostRuntime) {
     check_equal(&rt, 35, &get_table(35)[2448..2450], b"YY");
 }
 
-// Returns the constant of a radix from 2 to 36.
-fn constant(radix: u32) -> &'static [u8] {
+// Returns the constant of a radix from 2 to 18.
+fn constant_to_18(radix: u32) -> &'static [u8] {
     match radix {
         2 => &DIGIT_TO_BASE2_SQUARED,
         3 => &DIGIT_TO_BASE3_SQUARED,
@@ -65,7 +65,14 @@ fn constant(radix: u32) -> &'static [u8] {
         15 => &DIGIT_TO_BASE15_SQUARED,
         16 => &DIGIT_TO_BASE16_SQUARED,
         17 => &DIGIT_TO_BASE17_SQUARED,
-        18 => &DIGIT_TO_BASE18_SQUARED,
+        _ => &DIGIT_TO_BASE18_SQUARED,
+    }
+}
+
+// Returns the constant of a radix from 2 to 36.
+fn constant(radix: u32) -> &'static [u8] {
+    match radix {
+        2..=18 => constant_to_18(radix),
         19 => &DIGIT_TO_BASE19_SQUARED,
         20 => &DIGIT_TO_BASE20_SQUARED,
         21 => &DIGIT_TO_BASE21_SQUARED,

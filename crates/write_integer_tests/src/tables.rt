@@ -1,6 +1,6 @@
 //! Tests of the writers of digits and of the digit counts, in each radix.
 
-use crate::checks::check_equal;
+use crate::checks::{check_equal, valid};
 use crate::exact_buffers::digits::check_types;
 use crate::lines::read;
 use crate::numbers::NUMBERS;
@@ -124,10 +124,7 @@ const DIGITS: &str = "\
 fn check_line(rt: &impl Abort, line: &str) {
     let (radix, rest) = read::<u8>(rt, line);
     let (number, digits) = read::<u64>(rt, rest);
-    let format = NumberFormatBuilder::new()
-        .radix(radix)
-        .build()
-        .expect(rt, line);
+    let format = valid(rt, NumberFormatBuilder::new().radix(radix));
     check_types(rt, number, format.mantissa_radix(), digits.as_bytes());
 }
 

@@ -4,7 +4,7 @@ ghost use Rattle.std.specs.Prelude.{◌≤◌};
 ghost use Rattle.lexical_num.specs.Format.{standard};
 ghost use Rattle.lexical_write_integer.specs.Text.{need};
 
-use crate::checks::{ROOM, check_buffer, check_equal};
+use crate::checks::{ROOM, check_buffer, check_equal, valid};
 use crate::lines::read;
 use crate::numbers::NUMBERS;
 use lexical_num::num::LexicalInteger;
@@ -91,7 +91,7 @@ where
     let (value, rest) = read::<T>(rt, rest);
     let (required, rest) = read::<usize>(rt, rest);
     let (size, text) = read::<usize>(rt, rest);
-    let format = builder.radix(radix).build().expect(rt, line);
+    let format = valid(rt, builder.radix(radix));
     check_equal(rt, line, value.required_len(&format), required);
     check_equal(rt, line, options.buffer_size::<T>(&format), size);
     check(rt, value, &format, options, text.as_bytes());

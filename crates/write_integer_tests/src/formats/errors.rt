@@ -10,10 +10,7 @@ use std::process::Abort;
 
 // Checks the text of the error of a build.
 pub(crate) fn check_error(rt: &impl Abort, built: Result<NumberFormat, Error>, message: &str) {
-    let Err(error) = built else {
-        panic!(rt; "built a format in place of: {message}");
-    };
-    let text = InlineText::<32>::of(error);
+    let text = InlineText::<32>::of(built.err().expect(rt, message));
     check_equal(rt, "the error", text.as_str(), message);
 }
 

@@ -1,6 +1,5 @@
 // Tests every pair of bytes as the two radices, and as the group size and the separator.
 
-use super::built;
 use crate::checks::check_equal;
 use lexical_num::error::Error;
 use lexical_num::format_builder::NumberFormatBuilder;
@@ -45,57 +44,61 @@ fn expected_of_groups(size: u8, mark: u8) -> Refused {
     }
 }
 
-// Builds a format with these radices, and checks that it has them or that the error names the first byte
-// that is not a radix. Returns whether a format was built.
-fn check(rt: &impl Abort, mantissa: u8, exponent: u8) -> bool {
-    let row = ("radices", mantissa, exponent);
-    let error = match built(mantissa, exponent) {
-        Ok(format) => {
-            let radices = (format.mantissa_radix(), format.exponent_radix());
-            check_equal(rt, row, radices, (mantissa.into(), exponent.into()));
-            check_equal(rt, row, format.required_mantissa_sign(), false);
-            None
-        }
-        Err(error) => refused(error),
-    };
-    check_equal(rt, row, error, expected_of_radices(mantissa, exponent));
-    error.is_none()
-}
-
-// Builds a format with groups of this size and with this separator, and checks that it has them or that the
-// error names the first of the two that is not valid. Returns whether a format was built.
-fn check_groups(rt: &impl Abort, size: u8, mark: u8) -> bool {
-    let row = ("groups", size, mark);
-    let builder = NumberFormatBuilder::new().digit_grouping(size, mark);
+// Checks that the build returns a format with these parts, or else the error that names this byte.
+fn check(
+    rt: &impl Abort,
+    builder: NumberFormatBuilder,
+    parts: (u32, u32, Option<(u8, u8)>),
+    expected: Refused,
+) {
     let error = match builder.build() {
         Ok(format) => {
-            check_equal(rt, row, format.digit_grouping(), Some((size, mark)));
+            let radices = (format.mantissa_radix(), format.exponent_radix());
+            let built = (radices.0, radices.1, format.digit_grouping());
+            check_equal(rt, parts, built, parts);
+            check_equal(rt, parts, format.required_mantissa_sign(), false);
             None
         }
         Err(error) => refused(error),
     };
-    check_equal(rt, row, error, expected_of_groups(size, mark));
-    error.is_none()
+    check_equal(rt, parts, error, expected);
+}
+
+// Checks these radices without groups, and returns whether they are valid.
+fn check_radices(rt: &impl Abort, mantissa: u8, exponent: u8) -> bool {
+    let builder = NumberFormatBuilder::new().mantissa_radix(mantissa);
+    let parts = (mantissa.into(), exponent.into(), None);
+    let expected = expected_of_radices(mantissa, exponent);
+    check(rt, builder.exponent_radix(exponent), parts, expected);
+    expected.is_none()
+}
+
+// Checks groups of this size and with this separator, and returns whether they are valid.
+fn check_groups(rt: &impl Abort, size: u8, mark: u8) -> bool {
+    let builder = NumberFormatBuilder::new().digit_grouping(size, mark);
+    let expected = expected_of_groups(size, mark);
+    check(rt, builder, (10, 10, Some((size, mark))), expected);
+    expected.is_none()
 }
 
 // There are 35 radices.
 #[test]
 fn every_pair_of_bytes(rt: HostRuntime) {
-    let mut built = 0u32;
+    let mut valid = 0u32;
     for pair in 0..=65535u16 {
         let [mantissa, exponent] = pair.to_be_bytes();
-        built = built.wrapping_add(u32::from(check(&rt, mantissa, exponent)));
+        valid = valid.wrapping_add(u32::from(check_radices(&rt, mantissa, exponent)));
     }
-    check_equal(&rt, "the number of pairs", built, 1225);
+    check_equal(&rt, "the number of pairs", valid, 1225);
 }
 
 // There are 64 group sizes and 31 separators.
 #[test]
 fn every_size_and_mark(rt: HostRuntime) {
-    let mut built = 0u32;
+    let mut valid = 0u32;
     for pair in 0..=65535u16 {
         let [size, mark] = pair.to_be_bytes();
-        built = built.wrapping_add(u32::from(check_groups(&rt, size, mark)));
+        valid = valid.wrapping_add(u32::from(check_groups(&rt, size, mark)));
     }
-    check_equal(&rt, "the number of sizes and marks", built, 1984);
+    check_equal(&rt, "the number of sizes and marks", valid, 1984);
 }
