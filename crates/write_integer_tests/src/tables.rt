@@ -6,6 +6,7 @@ use crate::lines::read;
 use crate::numbers::NUMBERS;
 use lexical_write_integer::NumberFormatBuilder;
 use lexical_write_integer::algorithm::algorithm;
+use lexical_write_integer::decimal::fast_digit_count;
 use lexical_write_integer::digit_count::DigitCount;
 use lexical_write_integer::laws::digit_count_at_most;
 use lexical_write_integer::table::get_table;
@@ -140,6 +141,9 @@ fn decimal_digits(rt: HostRuntime) {
     for text in NUMBERS.split(' ') {
         if let Ok(number) = text.parse::<u64>() {
             check_types(&rt, number, 10, text.as_bytes());
+        }
+        if let Ok(number) = text.parse::<u32>() {
+            check_equal(&rt, number, fast_digit_count(number), text.len());
         }
     }
 }
