@@ -116,16 +116,22 @@ where
     }
 }
 
-// Checks a number in the standard format, with and without options.
-fn check_decimal<T: ToLexicalWithOptions + Debug + Drop>(
+// Checks a number in the standard format, with and without options, and returns whether the type has it.
+fn try_number<T: ToLexicalWithOptions + FromStr + Debug + Drop>(
     rt: &impl Abort,
-    value: T,
     options: &T::Options,
     text: &str,
-) {
+) -> bool
+where
+    T::Err: Drop,
+{
+    let Ok(value) = text.parse::<T>() else {
+        return false;
+    };
     let room = value.required_len(&STANDARD);
     check_standard(rt, value, room, text.as_bytes());
     check(rt, value, &STANDARD, options, text.as_bytes());
+    true
 }
 
 // Checks each of the numbers that the type has, and how many of them it has.
@@ -139,10 +145,7 @@ where
 {
     let mut found = 0u32;
     for text in NUMBERS.split(' ') {
-        if let Ok(value) = text.parse::<T>() {
-            check_decimal(rt, value, options, text);
-            found = found.wrapping_add(1);
-        }
+        found = found.wrapping_add(u32::from(try_number::<T>(rt, options, text)));
     }
     check_equal(rt, T::BITS, found, count);
 }
