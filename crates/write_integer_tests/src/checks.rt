@@ -1,5 +1,7 @@
 //! The assertions of all tests. Each failure shows the row of the test, which has its inputs.
 
+ghost use Rattle.std.specs.Prelude.{◌≡◌};
+
 use lexical_num::format::NumberFormat;
 use lexical_num::format_builder::NumberFormatBuilder;
 use std::fmt::Debug;
@@ -39,7 +41,9 @@ pub(crate) fn check_buffer<R: Copy + Debug + Drop>(
 }
 
 // Returns the format that the builder builds.
-pub(crate) fn valid(rt: &impl Abort, builder: NumberFormatBuilder) -> NumberFormat {
+pub(crate) fn valid(rt: &impl Abort, builder: NumberFormatBuilder) -> NumberFormat
+    ensures { result ≡ builder }
+{
     builder.build().expect(rt, "a valid format")
 }
 

@@ -1,5 +1,7 @@
 // Tests of the tables of pairs of digits.
 
+ghost use Rattle.lexical_num.specs.Format.{IsRadix};
+
 use crate::checks::check_equal;
 use lexical_tables::{
     DIGIT_TO_BASE2_SQUARED, DIGIT_TO_BASE3_SQUARED, DIGIT_TO_BASE4_SQUARED, DIGIT_TO_BASE5_SQUARED,
@@ -14,6 +16,7 @@ use lexical_tables::{
     DIGIT_TO_BASE31_SQUARED, DIGIT_TO_BASE32_SQUARED, DIGIT_TO_BASE33_SQUARED,
     DIGIT_TO_BASE34_SQUARED, DIGIT_TO_BASE35_SQUARED, DIGIT_TO_BASE36_SQUARED, get_table,
 };
+use std::process::Abort;
 
 #[test]
 fn lengths(rt: HostRuntime) {
@@ -24,19 +27,22 @@ fn lengths(rt: HostRuntime) {
     check_equal(&rt, "the sum of the lengths", total, 32_410);
 }
 
+// Checks the length of a table, and its first and its last pairs.
+fn check_ends(rt: &impl Abort, radix: u32, length: usize, first: &[u8], last: &[u8])
+    requires { IsRadix radix }
+{
+    let table = get_table(radix);
+    let ends = (table.starts_with(first), table.ends_with(last));
+    check_equal(rt, radix, (table.len(), ends), (length, (true, true)));
+}
+
 #[test]
 fn first_and_last_pairs(rt: HostRuntime) {
     check_equal(&rt, 2, get_table(2), b"00011011");
     check_equal(&rt, 3, get_table(3), b"000102101112202122");
-    for (radix, length, first, last) in [
-        (10, 200, b"00010203", b"96979899"),
-        (16, 512, b"00010203", b"FCFDFEFF"),
-        (36, 2592, b"00010203", b"ZWZXZYZZ"),
-    ] {
-        let table = get_table(radix);
-        let ends = [table.starts_with(first), table.ends_with(last)];
-        check_equal(&rt, radix, (table.len(), ends), (length, [true; 2]));
-    }
+    check_ends(&rt, 10, 200, b"00010203", b"96979899");
+    check_ends(&rt, 16, 512, b"00010203", b"FCFDFEFF");
+    check_ends(&rt, 36, 2592, b"00010203", b"ZWZXZYZZ");
 }
 
 #[test]

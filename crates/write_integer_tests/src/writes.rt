@@ -1,6 +1,6 @@
 // Tests of the methods of `WriteInteger`, other than `write_integer`, with buffers of exactly the required length.
 
-use crate::checks::check_written;
+use crate::checks::{check_written, valid};
 use lexical_write_integer::NumberFormatBuilder;
 use lexical_write_integer::format::STANDARD;
 use lexical_write_integer::laws::digit_count_at_most;
@@ -19,14 +19,12 @@ fn signed_types_in_radix_10(rt: HostRuntime) {
 // A mantissa is written without the sign and the groups of the format.
 #[test]
 fn mantissas(rt: HostRuntime) {
-    let format = NumberFormatBuilder::new()
-        .digit_grouping(3, b',')
-        .required_mantissa_sign(true)
-        .build_strict();
+    let builder = NumberFormatBuilder::new().digit_grouping(3, b',');
+    let format = valid(&rt, builder.required_mantissa_sign(true));
     let mut ten = [7; 10];
     let length = 1234567u32.write_mantissa(&format, &mut ten);
     check_written(&rt, "the mantissa 1234567", length, &ten, b"1234567");
-    let format = NumberFormatBuilder::new().radix(16).build_strict();
+    let format = valid(&rt, NumberFormatBuilder::new().radix(16));
     digit_count_at_most(16, 10, 1);
     let mut one = [7; 1];
     let length = 10u8.write_mantissa(&format, &mut one);
@@ -35,7 +33,7 @@ fn mantissas(rt: HostRuntime) {
 
 #[test]
 fn exponents(rt: HostRuntime) {
-    let format = NumberFormatBuilder::new().exponent_radix(2).build_strict();
+    let format = valid(&rt, NumberFormatBuilder::new().exponent_radix(2));
     digit_count_at_most(2, 10, 4);
     let mut four = [7; 4];
     let length = 10u8.write_exponent(&format, &mut four);
