@@ -32,8 +32,8 @@ fn format(rt: &impl Abort, mantissa: u8, exponent: u8) -> NumberFormat {
 // Returns the format with this mantissa radix that a builder makes after an error.
 fn built_after_an_error(rt: &impl Abort, radix: u8) -> NumberFormat {
     let builder = NumberFormatBuilder::default().mantissa_radix(1);
-    check_error(rt, builder.build(), "invalid mantissa radix 1");
-    check_error(rt, builder.build(), "invalid mantissa radix 1");
+    check_error(rt, "radix 1", builder.build(), "invalid mantissa radix 1");
+    check_error(rt, "radix 1", builder.build(), "invalid mantissa radix 1");
     let new = NumberFormatBuilder::new();
     let are_new = (
         equal_builders(&builder, &new),

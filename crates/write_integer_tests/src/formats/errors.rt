@@ -9,9 +9,14 @@ use std::fmt::InlineText;
 use std::process::Abort;
 
 // Checks the text of the error of a build.
-pub(crate) fn check_error(rt: &impl Abort, built: Result<NumberFormat, Error>, message: &str) {
-    let text = InlineText::<32>::of(built.err().expect(rt, message));
-    check_equal(rt, "the error", text.as_str(), message);
+pub(crate) fn check_error(
+    rt: &impl Abort,
+    row: &str,
+    built: Result<NumberFormat, Error>,
+    message: &str,
+) {
+    let text = InlineText::<32>::of(built.err().expect(rt, row));
+    check_equal(rt, row, text.as_str(), message);
 }
 
 // Each line has the two radices, the group size, the separator, and the text of the error, which names the
@@ -44,7 +49,7 @@ fn check_line(rt: &impl Abort, line: &str) {
         .exponent_radix(exponent)
         .digit_grouping(size, mark)
         .build();
-    check_error(rt, built, message);
+    check_error(rt, line, built, message);
 }
 
 #[test]
