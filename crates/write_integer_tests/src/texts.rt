@@ -76,7 +76,8 @@ fn check<T: ToLexicalWithOptions + Debug + Drop>(
     value.in_range();
     format.mantissa_radix();
     let size = options.buffer_size::<T>(format);
-    check_in(rt, value, format, options, size.min(128), text);
+    assert!(rt; size <= 128, "the size of the type of {value:?} is {size}");
+    check_in(rt, value, format, options, size, text);
     check_in(rt, value, format, options, 128, text);
 }
 
