@@ -2,6 +2,7 @@
 // In the lines, the columns are the radix, the number, its required length, the size of its type and its text.
 
 use super::check_lines;
+use lexical_write_integer::laws::equal_texts;
 use lexical_write_integer::{NumberFormatBuilder, Options};
 
 const TEXTS_OF_U8: &str = "\
@@ -61,6 +62,8 @@ fn several_radices(rt: HostRuntime) {
     check_lines::<i8>(&rt, builder, &options, TEXTS_OF_I8);
     check_lines::<i16>(&rt, builder, &options, "10 0 5 6 0");
     check_lines::<i32>(&rt, builder, &options, TEXTS_OF_I32);
+    // Only equal numbers have equal texts: the lines of an `i64` have -10 and 10.
+    equal_texts(-10i64, 10, &NumberFormatBuilder::from_radix(36));
     check_lines::<i64>(&rt, builder, &options, TEXTS_OF_I64);
     check_lines::<isize>(&rt, builder, &options, "10 5 19 20 5");
 }
