@@ -1,5 +1,9 @@
 //! The assertions of all tests. Each failure shows the row of the test, which has its inputs.
 
+ghost use Rattle.std.specs.Prelude.{◌≡◌};
+
+use lexical_num::format::NumberFormat;
+use lexical_num::format_builder::NumberFormatBuilder;
 use std::fmt::Debug;
 use std::process::Abort;
 
@@ -17,15 +21,30 @@ pub(crate) fn check_equal<R: Debug + Drop, T: PartialEq + Debug + Drop>(
     value: T,
     expected: T,
 ) {
-    assert_eq!(rt; value, expected, "in the row {row:?}");
+    if value != expected {
+        panic!(rt; "in the row {row:?}: {value:?} in place of {expected:?}");
+    }
 }
 
 // Checks that the buffer begins with the text, and that every byte after it is still 7.
-pub(crate) fn check_buffer<R: Debug + Drop>(rt: &impl Abort, row: R, buffer: &[u8], text: &[u8]) {
-    let Some(rest) = buffer.strip_prefix(text) else {
-        panic!(rt; "in the row {row:?}: {buffer:?} does not begin with {text:?}");
+pub(crate) fn check_buffer<R: Copy + Debug + Drop>(
+    rt: &impl Abort,
+    row: R,
+    buffer: &[u8],
+    text: &[u8],
+) {
+    let is_unchanged = match buffer.strip_prefix(text) {
+        Some(rest) => UNCHANGED.ends_with(rest),
+        None => false,
     };
-    check_equal(rt, row, UNCHANGED.ends_with(rest), true);
+    check_equal(rt, (row, text, buffer), is_unchanged, true);
+}
+
+// Returns the format that the builder builds.
+pub(crate) fn valid(rt: &impl Abort, builder: NumberFormatBuilder) -> NumberFormat
+    ensures { result ≡ builder }
+{
+    builder.build().expect(rt, "a valid format")
 }
 
 // Checks the returned length of a text, and the buffer that the text was written to.

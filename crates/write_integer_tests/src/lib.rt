@@ -12,15 +12,15 @@ mod exact_buffers;
 #[cfg(test)]
 mod formats;
 #[cfg(test)]
-mod groups;
-#[cfg(test)]
 mod kernel_values;
 #[cfg(test)]
 mod known_texts;
 #[cfg(test)]
-mod pair_tables;
+mod lines;
 #[cfg(test)]
-mod powers;
+mod numbers;
+#[cfg(test)]
+mod pair_tables;
 #[cfg(test)]
 mod tables;
 #[cfg(test)]

@@ -1,39 +1,23 @@
-//! Tests of the writer that uses tables and of the compact writer.
+//! Tests of the writers of digits and of the digit counts, in each radix.
 
-ghost use Rattle.std.specs.Prelude.{◌≤◌};
-ghost use Rattle.lexical_num.specs.Format.{IsRadix};
-ghost use Rattle.lexical_write_integer.specs.DigitCount.{digit_count};
-
-use crate::checks::check_equal;
-use crate::exact_buffers::digits::check_in;
-use lexical_num::num::UnsignedInteger;
+use crate::checks::{check_equal, valid};
+use crate::exact_buffers::digits::check_types;
+use crate::lines::read;
+use crate::numbers::NUMBERS;
+use lexical_write_integer::NumberFormatBuilder;
 use lexical_write_integer::algorithm::algorithm;
-use lexical_write_integer::compact::Compact;
+use lexical_write_integer::decimal::fast_digit_count;
 use lexical_write_integer::digit_count::DigitCount;
-use lexical_write_integer::laws::{digit_count_at_most, digit_count_is_least};
-use lexical_write_integer::radix::Radix;
+use lexical_write_integer::laws::digit_count_at_most;
 use lexical_write_integer::table::get_table;
 use std::process::Abort;
 
-// Checks that both writers write the text to a buffer of exactly its length, and to a longer buffer.
-fn check<T: DigitCount + Radix + Compact>(rt: &impl Abort, value: T, radix: u32, text: &[u8])
-    requires { IsRadix radix }
-{
-    digit_count_is_least(radix, value.as_usize() as u64);
-    let count = value.digit_count(radix);
-    check_equal(rt, (value.as_usize(), radix), count, text.len());
-    check_in(rt, value, radix, count, text);
-    check_in(rt, value, radix, 67, text);
-}
-
 // Checks the texts of a number in the radices from 2 to 36, which are in that order.
-fn check_radices<T: DigitCount + Radix + Compact>(rt: &impl Abort, value: T, texts: &str) {
+fn check_radices(rt: &impl Abort, number: u64, texts: &str) {
     let mut texts = texts.split(' ');
     for radix in 2..37 {
-        let Some(text) = texts.next() else {
-            panic!(rt; "no text in radix {radix}");
-        };
-        check(rt, value, radix, text.as_bytes());
+        let text = texts.next().expect(rt, "a text in each radix");
+        check_types(rt, number, radix, text.as_bytes());
     }
 }
 
@@ -66,45 +50,102 @@ const TEXTS_OF_20_DIGITS: &str = "\
 
 #[test]
 fn numbers_in_each_radix(rt: HostRuntime) {
-    check_radices(&rt, 37u32, TEXTS_OF_37);
-    check_radices(&rt, 54321u16, TEXTS_OF_54321);
-    check_radices(&rt, 3735928559u32, TEXTS_OF_3735928559);
-    check_radices(&rt, 12345678901234567890u64, TEXTS_OF_20_DIGITS);
-    check_radices(&rt, 12345678901234567890usize, TEXTS_OF_20_DIGITS);
+    check_radices(&rt, 37, TEXTS_OF_37);
+    check_radices(&rt, 54321, TEXTS_OF_54321);
+    check_radices(&rt, 3735928559, TEXTS_OF_3735928559);
+    check_radices(&rt, 12345678901234567890, TEXTS_OF_20_DIGITS);
+}
+
+// Each line has a radix, a number and its digits: numbers near the first and the second power of some
+// radices, and the largest numbers of the types. In radix 4 and radix 16, a power of the radix by which a loop
+// divides does not fit in the smaller types, so the loop does not run. In the table of radix 12, the index of
+// the last pair of 128 does not fit in a byte.
+const DIGITS: &str = "\
+2 0 0
+2 1 1
+2 2 10
+2 3 11
+2 4 100
+2 5 101
+2 18446744073709551615 1111111111111111111111111111111111111111111111111111111111111111
+3 255 100110
+4 0 0
+4 1 1
+4 3 3
+4 4 10
+4 5 11
+4 15 33
+4 16 100
+4 17 101
+4 255 3333
+8 0 0
+8 1 1
+8 7 7
+8 8 10
+8 9 11
+8 63 77
+8 64 100
+8 65 101
+10 0 0
+10 1 1
+10 9 9
+10 10 10
+10 11 11
+10 99 99
+10 100 100
+10 101 101
+12 128 A8
+15 255 120
+15 65535 14640
+16 0 0
+16 1 1
+16 15 F
+16 16 10
+16 17 11
+16 255 FF
+16 256 100
+16 257 101
+16 65535 FFFF
+16 18446744073709551615 FFFFFFFFFFFFFFFF
+32 0 0
+32 1 1
+32 31 V
+32 32 10
+32 33 11
+32 1023 VV
+32 1024 100
+32 1025 101
+36 0 0
+36 35 Z
+36 36 10
+36 18446744073709551615 3W5E11264SGSF
+";
+
+// Checks a line in each type that has its number.
+fn check_line(rt: &impl Abort, line: &str) {
+    let (radix, rest) = read::<u8>(rt, line);
+    let (number, digits) = read::<u64>(rt, rest);
+    let format = valid(rt, NumberFormatBuilder::new().radix(radix));
+    check_types(rt, number, format.mantissa_radix(), digits.as_bytes());
 }
 
 #[test]
-fn small_numbers_in_binary(rt: HostRuntime) {
-    check(&rt, 0u8, 2, b"0");
-    check(&rt, 0u64, 2, b"0");
-    check(&rt, 1u64, 2, b"1");
-    check(&rt, 5u64, 2, b"101");
+fn digits_of_known_numbers(rt: HostRuntime) {
+    for line in DIGITS.lines() {
+        check_line(&rt, line);
+    }
 }
 
-// In radix 4 and radix 16, a power of the radix by which a loop divides does not fit in the smaller types,
-// so the loop does not run.
 #[test]
-fn largest_numbers(rt: HostRuntime) {
-    check(&rt, 255u8, 3, b"100110");
-    check(&rt, 255u8, 4, b"3333");
-    check(&rt, 255u8, 15, b"120");
-    check(&rt, 255u8, 16, b"FF");
-    check(&rt, 65535u16, 15, b"14640");
-    check(&rt, 65535u16, 16, b"FFFF");
-    check(&rt, u64::MAX, 2, &[b'1'; 64]);
-    check(&rt, u64::MAX, 16, b"FFFFFFFFFFFFFFFF");
-    check(&rt, usize::MAX, 16, b"FFFFFFFFFFFFFFFF");
-    check(&rt, u64::MAX, 36, b"3W5E11264SGSF");
-    check(&rt, usize::MAX, 36, b"3W5E11264SGSF");
-}
-
-// In the table of radix 12, the index of the last pair of 128 does not fit in a byte.
-#[test]
-fn one_and_two_digits(rt: HostRuntime) {
-    check(&rt, 128u8, 12, b"A8");
-    check(&rt, 0u64, 36, b"0");
-    check(&rt, 35u8, 36, b"Z");
-    check(&rt, 36u8, 36, b"10");
+fn decimal_digits(rt: HostRuntime) {
+    for text in NUMBERS.split(' ') {
+        if let Ok(number) = text.parse::<u64>() {
+            check_types(&rt, number, 10, text.as_bytes());
+        }
+        if let Ok(number) = text.parse::<u32>() {
+            check_equal(&rt, number, fast_digit_count(number), text.len());
+        }
+    }
 }
 
 #[test]

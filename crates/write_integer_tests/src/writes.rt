@@ -1,44 +1,44 @@
-// Tests of the six methods of `WriteInteger`.
+// Tests of the methods of `WriteInteger`, other than `write_integer`, with buffers of exactly the required length.
 
-use crate::checks::check_written;
+use crate::checks::{check_written, valid};
 use lexical_write_integer::NumberFormatBuilder;
+use lexical_write_integer::format::STANDARD;
 use lexical_write_integer::laws::digit_count_at_most;
 use lexical_write_integer::write::WriteInteger;
 
 #[test]
-fn in_a_radix(rt: HostRuntime) {
-    let mut three = [7; 3];
-    let length = 255u8.write_integer(10, &mut three);
-    check_written(&rt, "255u8 in radix 10", length, &three, b"255");
-    let mut two = [7; 2];
-    digit_count_at_most(16, 255, 2);
-    let length = 255u8.write_integer(16, &mut two);
-    check_written(&rt, "255u8 in radix 16", length, &two, b"FF");
+fn signed_types_in_radix_10(rt: HostRuntime) {
     let mut nineteen = [7; 19];
     let length = 5u64.write_integer_signed(10, &mut nineteen);
     check_written(&rt, "5u64", length, &nineteen, b"5");
+    let mut three = [7; 3];
+    let length = 128u8.write_mantissa_signed(&STANDARD, &mut three);
+    check_written(&rt, "the signed mantissa 128", length, &three, b"128");
 }
 
+// A mantissa is written without the sign and the groups of the format.
 #[test]
-fn in_the_radices_of_a_format(rt: HostRuntime) {
-    let standard = NumberFormatBuilder::new().build_strict();
-    let mut three = [7; 3];
-    let length = 128u8.write_mantissa_signed(&standard, &mut three);
-    check_written(&rt, "the signed mantissa 128", length, &three, b"128");
-    let format = NumberFormatBuilder::new()
-        .radix(16)
-        .exponent_radix(2)
-        .required_mantissa_sign(true)
-        .build_strict();
+fn mantissas(rt: HostRuntime) {
+    let builder = NumberFormatBuilder::new().digit_grouping(3, b',');
+    let format = valid(&rt, builder.required_mantissa_sign(true));
+    let mut ten = [7; 10];
+    let length = 1234567u32.write_mantissa(&format, &mut ten);
+    check_written(&rt, "the mantissa 1234567", length, &ten, b"1234567");
+    let format = valid(&rt, NumberFormatBuilder::new().radix(16));
     digit_count_at_most(16, 10, 1);
-    digit_count_at_most(2, 10, 4);
     let mut one = [7; 1];
     let length = 10u8.write_mantissa(&format, &mut one);
     check_written(&rt, "the mantissa 10", length, &one, b"A");
+}
+
+#[test]
+fn exponents(rt: HostRuntime) {
+    let format = valid(&rt, NumberFormatBuilder::new().exponent_radix(2));
+    digit_count_at_most(2, 10, 4);
     let mut four = [7; 4];
     let length = 10u8.write_exponent(&format, &mut four);
     check_written(&rt, "the exponent 10", length, &four, b"1010");
-    let mut signed = [7; 4];
-    let length = 10u8.write_exponent_signed(&format, &mut signed);
-    check_written(&rt, "the signed exponent 10", length, &signed, b"1010");
+    let mut four = [7; 4];
+    let length = 10u8.write_exponent_signed(&format, &mut four);
+    check_written(&rt, "the signed exponent 10", length, &four, b"1010");
 }

@@ -8,7 +8,7 @@ ghost use Rattle.lexical_write_integer.specs.Text.{digits_need};
 use crate::checks::{ROOM, check_equal, check_written};
 use lexical_num::num::{LexicalInteger, UnsignedInteger};
 use lexical_write_integer::compact::Compact;
-use lexical_write_integer::decimal::Decimal;
+use lexical_write_integer::decimal::{Decimal, DecimalCount};
 use lexical_write_integer::digit_count::DigitCount;
 use lexical_write_integer::laws::digit_count_is_least;
 use lexical_write_integer::radix::Radix;
@@ -16,13 +16,7 @@ use lexical_write_integer::write::WriteInteger;
 use std::process::Abort;
 
 // Checks that the table writer and the compact writer write the digits to a buffer of `room` bytes.
-pub(crate) fn check_in<U: Radix + Compact>(
-    rt: &impl Abort,
-    value: U,
-    radix: u32,
-    room: usize,
-    digits: &[u8],
-)
+fn check_in<U: Radix + Compact>(rt: &impl Abort, value: U, radix: u32, room: usize, digits: &[u8])
     requires radix { IsRadix radix }
     requires need { digit_count radix (U.magnitude value) ≤ room }
     requires room { room ≤ 140 }
@@ -58,6 +52,7 @@ fn check_decimal<U: Decimal>(rt: &impl Abort, value: U, room: usize, digits: &[u
 {
     let mut buffer = [7u8; ROOM];
     let count = value.decimal(&mut buffer[..room]);
+    check_equal(rt, value.as_usize(), value.decimal_count(), digits.len());
     check_written(rt, (value.as_usize(), 10, room), count, &buffer, digits);
 }
 
