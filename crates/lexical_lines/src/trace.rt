@@ -51,6 +51,6 @@ impl Trace {
         ensures bytes { self.new.bytes ≡ self.old.bytes }
         ensures faults { self.new.faults ≡ self.old.faults + 1 }
     {
-        self.faults.push(0);
+        self.faults.tick(0);
     }
 }

@@ -37,7 +37,7 @@ impl GhostLog {
     }
 
     /// Appends a number. It does nothing at run time.
-    pub fn push(&mut self, note: u64)
+    pub fn tick(&mut self, note: u64)
         ensures { self.new ≡ self.old ++ note ∷ [] }
     {}
 
