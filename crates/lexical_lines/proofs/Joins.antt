@@ -5,50 +5,24 @@ use Rattle.lexical_num.specs.Format.{Format}
 use Rattle.lexical_write_integer.specs.Buffer.{Front, Writes}
 use Rattle.lexical_write_integer.specs.Text.{IsText}
 use Rattle.lexical_lines.proofs.Buffers.{Front-push}
-use Rattle.lexical_lines.specs.JoinedText.{AreTexts, IsJoined, joined}
+use Rattle.lexical_write_integer.proofs.Joins.{AreJoined-push}
+use Rattle.lexical_lines.specs.JoinedText.{IsJoined}
 
 -- ---- another text
 
-AreTexts-push : (numbers : List ℤ) (format : Format) (texts : List (List ℕ)) (x : ℤ) (text : List ℕ) → AreTexts numbers format texts
-    → IsText x format text → AreTexts (numbers ++ x ∷ []) format (texts ++ text ∷ [])
-AreTexts-push [] format [] x text each is = (is, tt)
-AreTexts-push [] format (_ ∷ _) x text each is = absurd each
-AreTexts-push (_ ∷ _) format [] x text each is = absurd each
-AreTexts-push (_ ∷ numbers) format (_ ∷ texts) x text each is = (each.0, AreTexts-push numbers format texts x text each.1 is)
-
-length-AreTexts : (numbers : List ℤ) (format : Format) (texts : List (List ℕ)) → AreTexts numbers format texts → length texts ≡ length numbers
-length-AreTexts [] format [] each = refl
-length-AreTexts [] format (_ ∷ _) each = absurd each
-length-AreTexts (_ ∷ _) format [] each = absurd each
-length-AreTexts (_ ∷ numbers) format (_ ∷ texts) each = omega (arith, length-AreTexts numbers format texts each.1)
-
-joined-push : (mark : ℕ) (texts : List (List ℕ)) (text : List ℕ) → 0 < length texts
-    → joined mark (texts ++ text ∷ []) ≡ (joined mark texts ++ mark ∷ []) ++ text
-joined-push mark [] text some = absurd (omega arith)
-joined-push mark (first ∷ []) text some = sym (append_assoc first (mark ∷ []) text)
-joined-push mark (first ∷ next ∷ texts) text some =
-    ap (λ rest. first ++ mark ∷ rest) (joined-push mark (next ∷ texts) text (omega arith)) ∙ simp append_assoc refl
-
-no_texts : (mark : ℕ) (format : Format) (texts : List (List ℕ)) → AreTexts [] format texts → joined mark texts ≡ []
-no_texts mark format [] each = refl
-no_texts mark format (_ ∷ _) each = absurd each
-
 IsJoined-one : (mark : ℕ) (format : Format) (numbers : List ℤ) (x : ℤ) (text last : List ℕ) → length numbers ≡ 0
     → IsJoined numbers mark format text → IsText x format last → IsJoined (numbers ++ x ∷ []) mark format (text ++ last)
-IsJoined-one mark format [] x text last none was is =
-    record { texts = last ∷ []; each = (is, tt); whole = ap (λ front. front ++ last) (was.whole ∙ no_texts mark format was.texts was.each) }
-IsJoined-one mark format (_ ∷ _) x text last none was is = absurd (omega arith)
+IsJoined-one mark format numbers x text last none was is =
+    AreJoined-push _ (mark ∷ []) [] numbers x text last record { at_first = λ _. refl; later = λ some. absurd (omega (arith, none, some)) }
+    was record { first = []; second = last; is_first = refl; is_second = is; whole = refl }
 
 IsJoined-push : (mark : ℕ) (format : Format) (numbers : List ℤ) (x : ℤ) (text last : List ℕ) → 0 < length numbers
     → IsJoined numbers mark format text → IsText x format last
     → IsJoined (numbers ++ x ∷ []) mark format ((text ++ mark ∷ []) ++ last)
 IsJoined-push mark format numbers x text last some was is =
-    let many = length-AreTexts numbers format was.texts was.each in
-    record {
-      texts = was.texts ++ last ∷ [];
-      each = AreTexts-push numbers format was.texts x last was.each is;
-      whole = ap (λ front. (front ++ mark ∷ []) ++ last) was.whole ∙ sym (joined-push mark was.texts last (omega arith));
-    }
+    rw (append_assoc text (mark ∷ []) last) (AreJoined-push _ (mark ∷ []) (mark ∷ []) numbers x text (mark ∷ last)
+    record { at_first = λ none. absurd (omega (arith, none, some)); later = λ _. refl }
+    was record { first = mark ∷ []; second = last; is_first = refl; is_second = is; whole = refl })
 
 -- the first i + 1 numbers are the first i and the next
 pub map-take_more : {X : Type 0} (f : X → ℤ) (xs : List X) (i : ℕ) (x : X) → i < length xs → x ≡ get_or xs i x

@@ -1,10 +1,11 @@
 -- The texts of the elements of a list, to whose end the text of the next element is added.
-use Rattle.std.proofs.Common.{◌≡◌, ℕ, ◌+◌, ◌<◌, List, [], ◌∷◌, ◌++◌, length, take, drop, get_or, refl, sym, ap, subst, ◌∙◌, arith, append_assoc}
+use Rattle.std.proofs.Common.{◌≡◌, ℕ, ◌+◌, ◌<◌, List, [], ◌∷◌, ◌++◌, length, take, drop, get_or, refl, sym, ap, ◌∙◌, arith, append_assoc}
 use Rattle.std.proofs.lemmas.List.{take_more, append-nil, length-take-le}
 use Rattle.lexical_write_integer.specs.Buffer.{Writes}
-use Rattle.lexical_write_integer.specs.Sequence.{IsExactly}
+use Rattle.lexical_write_integer.specs.Sequence.{IsExactly, AreJoined}
 use Rattle.lexical_write_integer.proofs.Buffers.Prefixes.{Front-after, length-after}
-use Rattle.lexical_parts.specs.Joined.{AreEach, AreJoined}
+use Rattle.lexical_write_integer.proofs.Joins.{Leads, AreJoined-push}
+use Rattle.lexical_parts.specs.Joined.{AreEach}
 use Rattle.lexical_parts.specs.Sequence.{◌then◌}
 
 AreEach-push : {A : Type 0} (IsOf : A → List ℕ → Type 0) (xs : List A) (x : A) (s t : List ℕ) →
@@ -30,37 +31,6 @@ written_each IsOf xs {i} d {before} {between} {part} {count} {more} room inside 
   front = Front-after before between part a.text b.text count room a.count a.front b.front;
   count = length-after a.text b.text count more a.count b.count;
 })
-
--- what precedes the text that is added to `count` texts: nothing if it is the first, and otherwise the separator
-pub record Leads (separator : List ℕ) (count : ℕ) (lead : List ℕ) : Type 0 where
-  pub at_first : count ≡ 0 → lead ≡ []
-  pub later : 0 < count → lead ≡ separator
-
-AreJoined-push : {A : Type 0} (IsOf : A → List ℕ → Type 0) (separator lead : List ℕ) (xs : List A) (y : A) (s t : List ℕ) →
-    Leads separator (length xs) lead → AreJoined IsOf separator xs s → (IsExactly lead then IsOf y) t →
-    AreJoined IsOf separator (xs ++ y ∷ []) (s ++ t)
-AreJoined-push IsOf separator lead [] y s t leads was is =
-    subst (IsOf y) (sym (ap (λ k. k ++ t) was ∙ is.whole ∙ ap (λ k. k ++ is.second) (is.is_first ∙ leads.at_first refl))) is.is_second
-AreJoined-push IsOf separator lead (x ∷ []) y s t leads was is =
-    record { first = s; second = t; is_first = was; is_second = subst (λ l. (IsExactly l then IsOf y) t) (leads.later (omega arith)) is; whole = refl }
-AreJoined-push IsOf separator lead (x ∷ z ∷ xs) y s t leads was is =
-    let rest = was.is_second in
-    let same : lead ≡ separator = leads.later (omega arith) in
-    let leads' : Leads separator (length (z ∷ xs)) lead = record { at_first = λ none. absurd (omega (arith, none)); later = λ _. same } in
-    let more = AreJoined-push IsOf separator lead (z ∷ xs) y rest.second t leads' rest.is_second is in
-    record {
-      first = was.first;
-      second = was.second ++ t;
-      is_first = was.is_first;
-      is_second = record {
-        first = rest.first;
-        second = rest.second ++ t;
-        is_first = rest.is_first;
-        is_second = more;
-        whole = ap (λ k. k ++ t) rest.whole ∙ append_assoc rest.first rest.second t;
-      };
-      whole = ap (λ k. k ++ t) was.whole ∙ append_assoc was.first was.second t;
-    }
 
 -- element `i` is written after the texts of the elements before it, and after the separator unless it is the first
 pub written_joined : {A : Type 0} (IsOf : A → List ℕ → Type 0) (separator lead : List ℕ) (xs : List A) {i : ℕ} {y : A}

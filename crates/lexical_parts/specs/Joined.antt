@@ -1,4 +1,4 @@
--- The texts of the elements of a list, with and without a separator.
+-- The texts of the elements of a list, and the room of texts with a separator between them.
 use Rattle.std.specs.Prelude.{ℕ, ◌+◌, ◌-◌, ◌*◌, List, [], ◌∷◌}
 use Rattle.lexical_write_integer.specs.Sequence.{IsExactly}
 use Rattle.lexical_parts.specs.Sequence.{◌then◌}
@@ -7,12 +7,6 @@ use Rattle.lexical_parts.specs.Sequence.{◌then◌}
 abbrev pub AreEach : {A : Type 0} → (A → List ℕ → Type 0) → List A → List ℕ → Type 0
 AreEach IsOf [] = IsExactly []
 AreEach IsOf (x ∷ xs) = IsOf x then AreEach IsOf xs
-
--- a text for each element, in order, with the separator between adjacent texts
-abbrev pub AreJoined : {A : Type 0} → (A → List ℕ → Type 0) → List ℕ → List A → List ℕ → Type 0
-AreJoined IsOf separator [] = IsExactly []
-AreJoined IsOf separator (x ∷ []) = IsOf x
-AreJoined IsOf separator (x ∷ y ∷ xs) = IsOf x then IsExactly separator then AreJoined IsOf separator (y ∷ xs)
 
 -- the number of bytes that is enough for `count` texts of `size` bytes, with separators of this length between them
 abbrev pub joined_room : ℕ → ℕ → ℕ → ℕ

@@ -3,7 +3,8 @@
 ghost use Rattle.std.specs.Prelude.{length, ⊤};
 ghost use Rattle.lexical_num.specs.Format.{standard};
 ghost use Rattle.lexical_write_integer.specs.Text.{IsText};
-ghost use Rattle.lexical_parts.specs.Joined.{AreJoined, joined_room};
+ghost use Rattle.lexical_write_integer.specs.Sequence.{AreJoined};
+ghost use Rattle.lexical_parts.specs.Joined.{joined_room};
 
 use crate::number::Decimal;
 use crate::part::Part;

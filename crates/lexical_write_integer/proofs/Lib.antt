@@ -25,6 +25,7 @@ pub mod PrintedTexts
 pub mod Buffers
 pub mod PairBlocks
 pub mod Sequences
+pub mod Joins
 -- steps of the proofs by hand
 pub mod WrittenTypes
 pub mod Reborrows

@@ -1,6 +1,6 @@
 -- A row of numbers in CSV.
 use Rattle.std.specs.Prelude.{ℕ, ℤ, List, codes}
-use Rattle.lexical_parts.specs.Joined.{AreJoined}
+use Rattle.lexical_write_integer.specs.Sequence.{AreJoined}
 use Rattle.lexical_parts.specs.Sequence.{◌then◌, IsDecimal, IsStr}
 
 -- the numbers with commas between them, and a newline

@@ -2,7 +2,8 @@ use Rattle.std.proofs.Common.{◌≤◌, length, take}
 use Rattle.lexical_num.specs.Format.{standard}
 use Rattle.lexical_write_integer.specs.Buffer.{Writes}
 use Rattle.lexical_write_integer.specs.Text.{IsText}
-use Rattle.lexical_parts.specs.Joined.{AreJoined, joined_room}
+use Rattle.lexical_write_integer.specs.Sequence.{AreJoined}
+use Rattle.lexical_parts.specs.Joined.{joined_room}
 use Rattle.lexical_parts.proofs.joined.JoinedPart.write_to.Given as goal
 
 abbrev pub invariant-loop-index : goal.invariant-loop-index
