@@ -8,7 +8,7 @@ use crate::format::{CFormat, number_format};
 use lexical_write_integer::ToLexical;
 
 // Returns the length of the text of the number, or 0 if the format is invalid.
-fn text_length<T: ToLexical>(value: T, format: &CFormat) -> usize
+fn counted_length<T: ToLexical>(value: T, format: &CFormat) -> usize
     ensures { IsLength (T.number value) (format_of format.now) result }
 {
     let Some(format) = number_format(format) else {
@@ -25,7 +25,7 @@ fn text_length<T: ToLexical>(value: T, format: &CFormat) -> usize
 pub extern "C" fn lexical_length_u8(value: u8, format: &CFormat) -> usize
     ensures { IsLength (pos value) (format_of format.now) result }
 {
-    text_length::<u8>(value, format)
+    counted_length::<u8>(value, format)
 }
 
 /// Returns the length of the text of a `uint16_t` in the format, or 0 if the format is invalid.
@@ -33,7 +33,7 @@ pub extern "C" fn lexical_length_u8(value: u8, format: &CFormat) -> usize
 pub extern "C" fn lexical_length_u16(value: u16, format: &CFormat) -> usize
     ensures { IsLength (pos value) (format_of format.now) result }
 {
-    text_length::<u16>(value, format)
+    counted_length::<u16>(value, format)
 }
 
 /// Returns the length of the text of a `uint32_t` in the format, or 0 if the format is invalid.
@@ -41,7 +41,7 @@ pub extern "C" fn lexical_length_u16(value: u16, format: &CFormat) -> usize
 pub extern "C" fn lexical_length_u32(value: u32, format: &CFormat) -> usize
     ensures { IsLength (pos value) (format_of format.now) result }
 {
-    text_length::<u32>(value, format)
+    counted_length::<u32>(value, format)
 }
 
 /// Returns the length of the text of a `uint64_t` in the format, or 0 if the format is invalid.
@@ -49,7 +49,7 @@ pub extern "C" fn lexical_length_u32(value: u32, format: &CFormat) -> usize
 pub extern "C" fn lexical_length_u64(value: u64, format: &CFormat) -> usize
     ensures { IsLength (pos value) (format_of format.now) result }
 {
-    text_length::<u64>(value, format)
+    counted_length::<u64>(value, format)
 }
 
 /// Returns the length of the text of a `size_t` in the format, or 0 if the format is invalid.
@@ -57,7 +57,7 @@ pub extern "C" fn lexical_length_u64(value: u64, format: &CFormat) -> usize
 pub extern "C" fn lexical_length_size(value: usize, format: &CFormat) -> usize
     ensures { IsLength (pos value) (format_of format.now) result }
 {
-    text_length::<usize>(value, format)
+    counted_length::<usize>(value, format)
 }
 
 /// Returns the length of the text of an `int8_t` in the format, or 0 if the format is invalid.
@@ -65,7 +65,7 @@ pub extern "C" fn lexical_length_size(value: usize, format: &CFormat) -> usize
 pub extern "C" fn lexical_length_i8(value: i8, format: &CFormat) -> usize
     ensures { IsLength value (format_of format.now) result }
 {
-    text_length::<i8>(value, format)
+    counted_length::<i8>(value, format)
 }
 
 /// Returns the length of the text of an `int16_t` in the format, or 0 if the format is invalid.
@@ -73,7 +73,7 @@ pub extern "C" fn lexical_length_i8(value: i8, format: &CFormat) -> usize
 pub extern "C" fn lexical_length_i16(value: i16, format: &CFormat) -> usize
     ensures { IsLength value (format_of format.now) result }
 {
-    text_length::<i16>(value, format)
+    counted_length::<i16>(value, format)
 }
 
 /// Returns the length of the text of an `int32_t` in the format, or 0 if the format is invalid.
@@ -81,7 +81,7 @@ pub extern "C" fn lexical_length_i16(value: i16, format: &CFormat) -> usize
 pub extern "C" fn lexical_length_i32(value: i32, format: &CFormat) -> usize
     ensures { IsLength value (format_of format.now) result }
 {
-    text_length::<i32>(value, format)
+    counted_length::<i32>(value, format)
 }
 
 /// Returns the length of the text of an `int64_t` in the format, or 0 if the format is invalid.
@@ -89,5 +89,5 @@ pub extern "C" fn lexical_length_i32(value: i32, format: &CFormat) -> usize
 pub extern "C" fn lexical_length_i64(value: i64, format: &CFormat) -> usize
     ensures { IsLength value (format_of format.now) result }
 {
-    text_length::<i64>(value, format)
+    counted_length::<i64>(value, format)
 }

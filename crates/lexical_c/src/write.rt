@@ -7,7 +7,7 @@ ghost use Rattle.lexical_c.specs.Format.{format_of};
 
 use crate::format::CFormat;
 use crate::general::write_if_it_fits;
-use crate::plain::{plain_format, write_digits, write_sign_and_digits};
+use crate::plain::{plain_format, write_plain_digits, write_sign_and_digits};
 use lexical_write_integer::ToLexicalWithOptions;
 use lexical_write_integer::laws::size_suffices;
 use lexical_write_integer::write::WriteInteger;
@@ -25,7 +25,7 @@ fn write_unsigned<T: WriteInteger + ToLexicalWithOptions>(
     match plain_format::<T>(format, buffer.len()) {
         Some(format) => {
             size_suffices(value, &format);
-            write_digits(value, &format, buffer)
+            write_plain_digits(value, &format, buffer)
         }
         None => write_if_it_fits(value.as_usize(), format, buffer),
     }

@@ -34,7 +34,7 @@ pub fn write_answer(line: Option<&[u8]>, line_number: u64, buffer: &mut [u8]) ->
         → IsTrue result.1 ↔ IsGood bytes }
 {
     match requested(line) {
-        Some(request) => (write_text(&request, buffer), true),
+        Some(request) => (write_requested(&request, buffer), true),
         None => (write_bad_line(line_number, buffer), false),
     }
 }
@@ -52,7 +52,7 @@ fn requested(line: Option<&[u8]>) -> Option<Request>
 }
 
 // Writes the requested text and a newline, and returns their length.
-fn write_text(request: &Request, buffer: &mut [u8]) -> usize
+fn write_requested(request: &Request, buffer: &mut [u8]) -> usize
     requires radix { IsRadix request.now.radix }
     requires room { BUFFER_SIZE + 2 ≤ length buffer.old }
     ensures { Writes

@@ -9,26 +9,8 @@ ghost use Rattle.lexical_write_integer.specs.Table.{BeginsWithPairs};
 ghost use Rattle.lexical_write_integer.specs.LoopTurns.{table_notes, table_turns};
 
 use crate::digit_count::DigitCount;
-use crate::radixes::by_radix;
-use crate::table_writer::write_digits;
+use crate::table_writer::write_digits_in;
 use crate::turns::Turns;
-
-// Calls `write_digits` for a radix that is known only at run time.
-fn write_number(
-    number: u64,
-    radix: u32,
-    table: &[u8],
-    buffer: &mut [u8],
-    turns: &mut Turns,
-) -> usize
-    requires radix { IsRadix radix }
-    requires table { BeginsWithPairs radix table.now }
-    requires room { digit_count radix number ≤ length buffer.old }
-    ensures digits { WritesDigits radix number buffer.old buffer.new result }
-    ensures notes { turns.new ≡ turns.old ++ table_notes radix number }
-{
-    by_radix!(radix, write_digits(number, table, buffer, turns))
-}
 
 /// Writes the digits of the number to the start of the buffer, and returns how many there are. The radix is
 /// from 2 to 36, the table begins with the digit pairs of the radix, and the buffer has room for the
@@ -51,7 +33,7 @@ pub fn algorithm_counted<T: DigitCount>(
     ensures short { result ≤ T.BITS }
 {
     value.fits_bits();
-    write_number(value.as_usize() as u64, radix, table, buffer, turns)
+    write_digits_in(value.as_usize() as u64, radix, table, buffer, turns)
 }
 
 /// Writes the digits of the number to the start of the buffer, and returns how many there are. The radix is

@@ -9,7 +9,7 @@ ghost use Rattle.lexical_write_integer.specs.Text.{IsDigits};
 ghost use Rattle.lexical_write_integer.specs.LoopTurns.{compact_notes, compact_turns};
 
 use crate::buffer::copy_to_front;
-use crate::radixes::by_radix;
+use crate::by_radix::by_radix;
 use crate::turns::Turns;
 use lexical_num::constants::FormattedSize;
 use lexical_num::digit::digit_to_char;
@@ -43,7 +43,7 @@ fn write_to_end<const RADIX: u32>(value: u64, buffer: &mut [u8], turns: &mut Tur
 }
 
 // Calls `write_to_end` for a radix that is known only at run time.
-fn write_in_radix(value: u64, radix: u32, buffer: &mut [u8], turns: &mut Turns) -> usize
+fn write_to_end_in(value: u64, radix: u32, buffer: &mut [u8], turns: &mut Turns) -> usize
     requires radix { IsRadix radix }
     requires room { digit_count radix value ≤ length buffer.old }
     ensures place { result + digit_count radix value ≡ length buffer.old }
@@ -72,7 +72,7 @@ pub fn compact_counted<T: UnsignedInteger>(
     value.fits_bits();
     // The last digit is computed first, so the digits go to a temporary array.
     let mut digits = [0u8; MAX_DIGITS];
-    let index = write_in_radix(value.as_usize() as u64, radix, &mut digits, turns);
+    let index = write_to_end_in(value.as_usize() as u64, radix, &mut digits, turns);
     copy_to_front(&digits[index..], buffer)
 }
 

@@ -47,8 +47,8 @@ mod kernels;
 
 // Every other radix, four digits at a time from a table: `radix` has the tables, and `algorithm` takes one.
 pub mod algorithm;
+mod by_radix;
 pub mod radix;
-mod radixes;
 mod table_writer;
 
 pub use lexical_tables as table;

@@ -6,7 +6,7 @@ ghost use Rattle.lexical_write_integer.specs.Buffer.{WritesDigits};
 ghost use Rattle.lexical_write_integer.specs.DigitCount.{digit_count};
 ghost use Rattle.lexical_write_integer.specs.LoopTurns.{table_notes};
 
-use crate::radixes::by_radix;
+use crate::by_radix::by_radix;
 use crate::table_writer::{write_digits, write_short};
 use crate::turns::Turns;
 use lexical_num::num::UnsignedInteger;
@@ -52,17 +52,6 @@ pub(crate) fn radix_counted<T: UnsignedInteger>(
     by_radix!(radix, write_by_table::<T>(value, buffer, turns))
 }
 
-// Calls `radix_counted` with a counter that is not read.
-fn write_in_radix<T: UnsignedInteger>(value: T, radix: u32, buffer: &mut [u8]) -> usize
-    requires radix { IsRadix radix }
-    requires room { digit_count radix (T.magnitude value) ≤ length buffer.old }
-    ensures digits { WritesDigits radix (T.magnitude value) buffer.old buffer.new result }
-    ensures short { result ≤ T.BITS }
-{
-    value.fits_bits();
-    radix_counted(value, radix, buffer, &mut Turns::new())
-}
-
 /// An unsigned integer type whose digits are written by the table writer.
 pub trait Radix: UnsignedInteger {
     /// Writes the digits of the number to the start of the buffer, and returns how many there are. The radix
@@ -74,7 +63,8 @@ pub trait Radix: UnsignedInteger {
         ensures digits { WritesDigits radix (Self.magnitude self) buffer.old buffer.new result }
         ensures short { result ≤ Self.BITS }
     {
-        write_in_radix(self, radix, buffer)
+        self.fits_bits();
+        radix_counted(self, radix, buffer, &mut Turns::new())
     }
 }
 

@@ -10,6 +10,7 @@ ghost use Rattle.lexical_write_integer.specs.Table.{BeginsWithPairs};
 ghost use Rattle.lexical_write_integer.specs.LoopTurns.{TakesDigits, count_notes, table_notes};
 ghost use Rattle.lexical_write_integer.specs.LoopTurns.{digits_after_first, is_counted_at_once};
 
+use crate::by_radix::by_radix;
 use crate::digit_count::digit_count_counted;
 use crate::turns::Turns;
 
@@ -262,6 +263,23 @@ pub(crate) fn write_digits<const R: u32>(
     } else {
         write_by_divisions::<R, 10>(value, &table, buffer, turns)
     }
+}
+
+// Calls `write_digits` for a radix that is known only at run time.
+pub(crate) fn write_digits_in(
+    number: u64,
+    radix: u32,
+    table: &[u8],
+    buffer: &mut [u8],
+    turns: &mut Turns,
+) -> usize
+    requires radix { IsRadix radix }
+    requires table { BeginsWithPairs radix table.now }
+    requires room { digit_count radix number ≤ length buffer.old }
+    ensures digits { WritesDigits radix number buffer.old buffer.new result }
+    ensures notes { turns.new ≡ turns.old ++ table_notes radix number }
+{
+    by_radix!(radix, write_digits(number, table, buffer, turns))
 }
 
 // Returns how many digits a number of one or two digits has, in radix 16 and above. They are counted by

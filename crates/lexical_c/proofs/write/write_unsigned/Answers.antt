@@ -4,21 +4,21 @@ use Rattle.lexical_write_integer.proofs.PrintedTexts.{IsRange-small}
 use Rattle.lexical_c.proofs.WrittenTexts.{written}
 use Rattle.lexical_c.proofs.write.write_unsigned.Goals as goal
 
-pub write_digits-requires-clause-sign : goal.write_digits-requires-clause-sign
-write_digits-requires-clause-sign g c = c.in-Some.ensures.sign
+pub write_plain_digits-requires-clause-sign : goal.write_plain_digits-requires-clause-sign
+write_plain_digits-requires-clause-sign g c = c.in-Some.ensures.sign
 
-pub write_digits-requires-clause-groups : goal.write_digits-requires-clause-groups
-write_digits-requires-clause-groups g c = c.in-Some.ensures.groups
+pub write_plain_digits-requires-clause-groups : goal.write_plain_digits-requires-clause-groups
+write_plain_digits-requires-clause-groups g c = c.in-Some.ensures.groups
 
-pub write_digits-requires-clause-room : goal.write_digits-requires-clause-room
-write_digits-requires-clause-room g c = omega (arith, c.size_suffices.ensures.size, c.in-Some.ensures.room)
+pub write_plain_digits-requires-clause-room : goal.write_plain_digits-requires-clause-room
+write_plain_digits-requires-clause-room g c = omega (arith, c.size_suffices.ensures.size, c.in-Some.ensures.room)
 
 pub returns-in-Some : goal.returns-in-Some
 returns-in-Some g c =
     let valid : IsValid c.in-Some.format = search rules in
     let range = c.in_range.ensures in
     let small = IsRange-small _ _ _ _ g.met.T.LexicalInteger.range_of_bits range.at_least range.at_most in
-    rw c.in-Some.ensures.format at (written _ _ _ _ _ valid small c.write_digits.ensures)
+    rw c.in-Some.ensures.format at (written _ _ _ _ _ valid small c.write_plain_digits.ensures)
 
 pub returns-in-None : goal.returns-in-None
 returns-in-None g c =

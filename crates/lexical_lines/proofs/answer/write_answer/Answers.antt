@@ -17,7 +17,7 @@ pub returns-in-None-clause-within : goal.returns-in-None-clause-within
 returns-in-None-clause-within c = Writes-within c.write_bad_line.ensures
 
 pub returns-in-Some-clause-within : goal.returns-in-Some-clause-within
-returns-in-Some-clause-within c = Writes-within c.write_text.ensures
+returns-in-Some-clause-within c = Writes-within c.write_requested.ensures
 
 -- the check finds this proof by itself, but with an answer the refusal of a mistake says what is wrong
 pub returns-in-None-clause-good : goal.returns-in-None-clause-good

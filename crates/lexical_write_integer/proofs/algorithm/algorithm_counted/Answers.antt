@@ -5,17 +5,17 @@ use Rattle.lexical_write_integer.proofs.algorithm.algorithm_counted.Goals as goa
 
 pub returns-clause-turns : goal.returns-clause-turns
 returns-clause-turns g c =
-    let written = rw c.as_usize.ensures at c.write_number.ensures in
+    let written = rw c.as_usize.ensures at c.write_digits_in.ensures in
     table_turns-are _ _ _ _ _ written.notes written.digits.count
 
 pub returns-clause-few_turns : goal.returns-clause-few_turns
 returns-clause-few_turns g c =
-    let notes = rw c.as_usize.ensures at c.write_number.ensures.notes in
+    let notes = rw c.as_usize.ensures at c.write_digits_in.ensures.notes in
     table_turns-few _ _ _ _ _ c.requires.radix.at_least_two g.met.T.UnsignedInteger.range.width c.fits_bits.ensures notes
 
 pub returns-clause-short : goal.returns-clause-short
 returns-clause-short g c =
-    let digits = rw c.as_usize.ensures at c.write_number.ensures.digits in
+    let digits = rw c.as_usize.ensures at c.write_digits_in.ensures.digits in
     omega (
       arith,
       digits.count,

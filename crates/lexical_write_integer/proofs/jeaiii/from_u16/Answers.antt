@@ -1,5 +1,5 @@
 use Rattle.lexical_write_integer.proofs.jeaiii.from_u16.Goals as goal
 
--- written out, so that the refusal of a wrong body says what differs
+-- the check finds this proof by itself, but with an answer the refusal of a mistake says what is wrong
 pub returns-clause-digits : goal.returns-clause-digits
 returns-clause-digits c = c.from_u16_counted.ensures.writes.digits

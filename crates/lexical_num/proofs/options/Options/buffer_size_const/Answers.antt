@@ -1,7 +1,7 @@
 use Rattle.std.proofs.Common.{◌≡◌, if◌then◌else◌, arith, rules}
 use Rattle.lexical_num.proofs.options.Options.buffer_size_const.Goals as goal
 
--- written out, so that the refusal of a wrong body says what differs
+-- the check finds this proof by itself, but with an answer the refusal of a mistake says what is wrong
 pub returns : goal.returns
 returns g c =
     let decimal : c.args.format.now.mantissa_radix ≡ 10 = omega arith in

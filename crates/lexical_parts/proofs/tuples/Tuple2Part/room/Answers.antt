@@ -1,6 +1,6 @@
 use Rattle.std.proofs.Common.{arith}
 use Rattle.lexical_parts.proofs.tuples.Tuple2Part.room.Goals as goal
 
--- written out, so that the refusal of a wrong body says what differs
+-- the check finds this proof by itself, but with an answer the refusal of a mistake says what is wrong
 pub returns : goal.returns
 returns g c = omega arith

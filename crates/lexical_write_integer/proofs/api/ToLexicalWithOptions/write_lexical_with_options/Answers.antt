@@ -3,7 +3,7 @@ use Rattle.lexical_write_integer.proofs.Buffers.Prefixes.{Writes-is}
 use Rattle.lexical_write_integer.proofs.Grouping.Plain.{IsText-without_marks}
 use Rattle.lexical_write_integer.proofs.api.ToLexicalWithOptions.write_lexical_with_options.Goals as goal
 
--- written out, so that the refusal of a wrong body says what differs
+-- the check finds this proof by itself, but with an answer the refusal of a mistake says what is wrong
 pub returns-clause-text : goal.returns-clause-text
 returns-clause-text g c = c.write_text.ensures.text
 

@@ -2,7 +2,7 @@ use Rattle.std.proofs.Common.{subst, arith}
 use Rattle.lexical_write_integer.specs.Buffer.{WritesDigits}
 use Rattle.lexical_write_integer.proofs.write.WriteInteger.write_mantissa.Goals as goal
 
--- written out, so that the refusal of a wrong body says what differs
+-- the check finds this proof by itself, but with an answer the refusal of a mistake says what is wrong
 pub returns-clause-digits : goal.returns-clause-digits
 returns-clause-digits g c =
     let number = g.Self.UnsignedInteger.magnitude c.args.self in

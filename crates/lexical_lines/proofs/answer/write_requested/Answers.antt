@@ -1,6 +1,6 @@
 use Rattle.std.proofs.Common.{◌≡◌, ◌∙◌}
 use Rattle.lexical_lines.specs.Answer.{format_of}
-use Rattle.lexical_lines.proofs.answer.write_text.Goals as goal
+use Rattle.lexical_lines.proofs.answer.write_requested.Goals as goal
 
 -- the check finds this proof by itself, but with an answer the refusal of a mistake says what is wrong
 pub returns-in-Unsigned : goal.returns-in-Unsigned

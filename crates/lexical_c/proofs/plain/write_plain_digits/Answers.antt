@@ -1,6 +1,6 @@
 use Rattle.std.proofs.Common.{arith}
 use Rattle.lexical_c.proofs.PlainTexts.{digits_are_text}
-use Rattle.lexical_c.proofs.plain.write_digits.Goals as goal
+use Rattle.lexical_c.proofs.plain.write_plain_digits.Goals as goal
 
 pub write_mantissa-requires : goal.write_mantissa-requires
 write_mantissa-requires g c =

@@ -1,11 +1,11 @@
 use Rattle.std.proofs.Common.{arith}
 use Rattle.lexical_write_integer.proofs.DigitCounts.{digit_count-le_width}
-use Rattle.lexical_write_integer.proofs.radix.write_in_radix.Goals as goal
+use Rattle.lexical_write_integer.proofs.radix.Radix.radix.Goals as goal
 
 pub returns-clause-short : goal.returns-clause-short
 returns-clause-short g c =
     omega (
       arith,
       c.radix_counted.ensures.digits.count,
-      digit_count-le_width _ _ _ c.requires.radix.at_least_two g.met.T.UnsignedInteger.range.width c.fits_bits.ensures,
+      digit_count-le_width _ _ _ c.requires.radix.at_least_two g.met.Self.UnsignedInteger.range.width c.fits_bits.ensures,
     )

@@ -1,6 +1,6 @@
 -- in the other arms the search finds it: here the table is too long for the numbers that it compares
 use Rattle.lexical_write_integer.proofs.Buffers.TablePairs.{begins_in_arm}
-use Rattle.lexical_write_integer.proofs.algorithm.write_number.Goals as goal
+use Rattle.lexical_write_integer.proofs.table_writer.write_digits_in.Goals as goal
 
 pub write_digits-requires-in-23-clause-table : goal.write_digits-requires-in-23-clause-table
 write_digits-requires-in-23-clause-table c = begins_in_arm c.requires.table c.in-23.is

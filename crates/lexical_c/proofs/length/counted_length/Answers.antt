@@ -9,8 +9,8 @@ use Rattle.lexical_write_integer.specs.SizeBound.{grouped_length-le}
 use Rattle.lexical_c.specs.Length.{IsLength}
 use Rattle.lexical_c.proofs.TextLengths.{length-text_of}
 use Rattle.lexical_c.proofs.WrittenTexts.{grouped_length-pos}
-use Rattle.lexical_c.proofs.length.text_length.Goals as goal
-use Rattle.lexical_c.proofs.length.text_length.Goals.{After-from-sign, then-is_negative, else-is_negative}
+use Rattle.lexical_c.proofs.length.counted_length.Goals as goal
+use Rattle.lexical_c.proofs.length.counted_length.Goals.{After-from-sign, then-is_negative, else-is_negative}
 use mir.Val.{bool_byte}
 
 sign_is : (g : _) (c : After-from-sign g)
