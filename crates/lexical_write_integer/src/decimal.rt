@@ -190,7 +190,7 @@ impl Decimal for u8 {
     ghost signed_width = { is_decimal_width (lit≤ tt) (lit≤ tt) (lit≤ tt) (lit≤ tt) };
 
     fn decimal_signed(self, buffer: &mut [u8]) -> usize {
-        self.decimal_counted(buffer, &mut Turns::new())
+        from_u8_counted(self, buffer, &mut Turns::new())
     }
 
     fn decimal_counted(self, buffer: &mut [u8], turns: &mut Turns) -> usize {
@@ -206,7 +206,7 @@ impl Decimal for u16 {
     ghost signed_width = { is_decimal_width (lit≤ tt) (lit≤ tt) (lit≤ tt) (lit≤ tt) };
 
     fn decimal_signed(self, buffer: &mut [u8]) -> usize {
-        self.decimal_counted(buffer, &mut Turns::new())
+        from_u16_counted(self, buffer, &mut Turns::new())
     }
 
     fn decimal_counted(self, buffer: &mut [u8], turns: &mut Turns) -> usize {
@@ -222,7 +222,7 @@ impl Decimal for u32 {
     ghost signed_width = { is_decimal_width (lit≤ tt) (lit≤ tt) (lit≤ tt) (lit≤ tt) };
 
     fn decimal_signed(self, buffer: &mut [u8]) -> usize {
-        self.decimal_counted(buffer, &mut Turns::new())
+        from_u32_counted(self, buffer, &mut Turns::new())
     }
 
     fn decimal_counted(self, buffer: &mut [u8], turns: &mut Turns) -> usize {
