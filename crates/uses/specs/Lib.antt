@@ -6,3 +6,4 @@ pub mod JsonArray
 pub mod LogEntry
 pub mod NumberList
 pub mod Reading
+pub mod TurnLists

@@ -13,7 +13,6 @@ pub mod conditions;
 pub mod csv_row;
 pub mod date;
 pub mod date_time;
-pub mod decimal_turns;
 pub mod dump_line;
 pub mod fixed_texts;
 pub mod float_format;
