@@ -120,29 +120,29 @@ pub fn notes_of_255_in_radix_3() -> Recorded
     turns_of(255u8, 3, 6)
 }
 
-/// Returns what is recorded for 255 in radix 16, which is `FF`. The square of the radix does not fit in a
-/// byte.
-pub fn notes_of_255_in_radix_16() -> Recorded
-    ensures table { result.table ≡ [] }
-    ensures slow { result.slow ≡ 15 ∷ [] }
-    ensures compact { result.compact ≡ 15 ∷ [] }
-{
-    turns_of(255u8, 16, 2)
-}
-
-/// Returns what is recorded for numbers of 1, 4, 4, 13, 40 and 64 digits. The fourth power of radix 4 does not
-/// fit in a byte, and that of radix 16 not in 16 bits. The writer that uses tables makes more iterations than
-/// for the number of 40 digits in radix 3 for no other `u64`.
-pub fn turns_by_digits() -> (Recorded, Recorded, Recorded, Recorded, Recorded, Recorded)
+/// Returns what is recorded for numbers of 1, 2, 4, 4, 13, 40 and 64 digits. The square of radix 16 does not fit
+/// in a byte, its fourth power not in 16 bits, and that of radix 4 not in a byte. For no other `u64` does the
+/// writer that uses tables make more iterations than for the number of 40 digits in radix 3.
+pub fn turns_by_digits() -> (
+    Recorded,
+    Recorded,
+    Recorded,
+    Recorded,
+    Recorded,
+    Recorded,
+    Recorded,
+)
     ensures zero { HasTurns result.0 0 0 0 }
-    ensures byte_in_radix_4 { HasTurns result.1 1 2 3 }
-    ensures u16_in_radix_16 { HasTurns result.2 1 2 3 }
-    ensures largest_in_radix_36 { HasTurns result.3 6 3 12 }
-    ensures most_in_radix_3 { HasTurns result.4 21 11 39 }
-    ensures largest_in_radix_2 { HasTurns result.5 16 17 63 }
+    ensures byte_in_radix_16 { HasTurns result.1 0 1 1 }
+    ensures byte_in_radix_4 { HasTurns result.2 1 2 3 }
+    ensures u16_in_radix_16 { HasTurns result.3 1 2 3 }
+    ensures largest_in_radix_36 { HasTurns result.4 6 3 12 }
+    ensures most_in_radix_3 { HasTurns result.5 21 11 39 }
+    ensures largest_in_radix_2 { HasTurns result.6 16 17 63 }
 {
     (
         turns_of(0u8, 2, 1),
+        turns_of(u8::MAX, 16, 2),
         turns_of(u8::MAX, 4, 4),
         turns_of(u16::MAX, 16, 4),
         turns_of(u64::MAX, 36, 13),
