@@ -21,27 +21,33 @@ use lexical_write_integer::table::get_table;
 use lexical_write_integer::turns::Turns;
 use lexical_write_integer::write::write_integer_counted;
 
-/// What three calls record: the writer that uses tables, together with the digit count that it makes,
-/// the slow digit count, and the compact writer.
+/// What four calls record: the writer that `write_integer` chooses, the writer that uses tables, together with
+/// the digit count that it makes, the slow digit count, and the compact writer.
 #[derive(Drop)]
 pub struct Recorded {
+    pub written: Turns,
     pub table: Turns,
     pub slow: Turns,
     pub compact: Turns,
 }
 
-/// Returns what three calls record for a number that has `digits` digits in the radix.
-pub fn turns_of<T: DigitCount>(value: T, radix: u32, digits: usize) -> Recorded
+/// Returns what four calls record for a number that has `digits` digits in the radix.
+pub fn turns_of<T: Decimal + DigitCount>(value: T, radix: u32, digits: usize) -> Recorded
     requires radix { IsRadix radix }
     requires some { 1 ≤ digits }
     requires enough { T.magnitude value < radix ^ digits }
     requires needed { 1 < digits → radix ^ (digits - 1) ≤ T.magnitude value }
+    requires decimal { T.DECIMAL_WIDTH ≤ 64 }
+    ensures written { result.written ≡ write_notes T.BITS radix (T.magnitude value) }
     ensures table { result.table ≡ table_notes radix (T.magnitude value) }
     ensures slow { result.slow ≡ slow_notes radix (T.magnitude value) }
     ensures compact { result.compact ≡ compact_notes radix (T.magnitude value) }
-    ensures turns { HasTurns result (table_turns radix digits) (slow_turns digits) (compact_turns digits) }
+    ensures turns { HasTurns result (write_turns radix digits) (table_turns radix digits)
+        (slow_turns digits) (compact_turns digits) }
 {
     digit_count_is_least(radix, value.as_usize() as u64);
+    let mut written = Turns::new();
+    write_integer_counted(value, radix, &mut [0; 64], &mut written);
     let mut table = Turns::new();
     algorithm_counted(value, radix, get_table(radix), &mut [0; 64], &mut table);
     let mut slow = Turns::new();
@@ -49,46 +55,11 @@ pub fn turns_of<T: DigitCount>(value: T, radix: u32, digits: usize) -> Recorded
     let mut compact = Turns::new();
     compact_counted(value, radix, &mut [0; 64], &mut compact);
     Recorded {
+        written,
         table,
         slow,
         compact,
     }
-}
-
-/// Returns what `write_integer` records for a number that has `digits` digits in the radix.
-pub fn written_turns_of<T: Decimal + DigitCount>(value: T, radix: u32, digits: usize) -> Turns
-    requires radix { IsRadix radix }
-    requires some { 1 ≤ digits }
-    requires enough { T.magnitude value < radix ^ digits }
-    requires needed { 1 < digits → radix ^ (digits - 1) ≤ T.magnitude value }
-    requires decimal { T.DECIMAL_WIDTH ≤ 64 }
-    ensures notes { result ≡ write_notes T.BITS radix (T.magnitude value) }
-    ensures turns { length result ≡ write_turns radix digits }
-{
-    digit_count_is_least(radix, value.as_usize() as u64);
-    let mut turns = Turns::new();
-    write_integer_counted(value, radix, &mut [0; 64], &mut turns);
-    turns
-}
-
-/// Returns what `write_integer` records in decimal, one number for each pair of digits after the first, and its
-/// longest record, for a number with 40 digits in radix 3.
-pub fn written_turns() -> (Turns, Turns, Turns, Turns, Turns, Turns)
-    ensures zero { length result.0 ≡ 0 }
-    ensures largest_u8 { length result.1 ≡ 1 }
-    ensures largest_u32 { length result.2 ≡ 4 }
-    ensures eleven_digits { length result.3 ≡ 5 }
-    ensures largest_u64 { length result.4 ≡ 9 }
-    ensures most { length result.5 ≡ 21 }
-{
-    (
-        written_turns_of(0u8, 10, 1),
-        written_turns_of(u8::MAX, 10, 3),
-        written_turns_of(u32::MAX, 10, 10),
-        written_turns_of(10000000000u64, 10, 11),
-        written_turns_of(u64::MAX, 10, 20),
-        written_turns_of(12157665459056928800u64, 3, 40),
-    )
 }
 
 /// Returns what is recorded for 1234: the product by which its second pair of digits is found.
@@ -120,9 +91,27 @@ pub fn notes_of_255_in_radix_3() -> Recorded
     turns_of(255u8, 3, 6)
 }
 
+/// Returns what is recorded in decimal, for which `write_integer` makes an iteration for each pair of digits after
+/// the first.
+pub fn decimal_turns() -> (Recorded, Recorded, Recorded, Recorded, Recorded)
+    ensures zero { HasTurns result.0 0 0 0 0 }
+    ensures largest_u8 { HasTurns result.1 1 1 1 2 }
+    ensures largest_u32 { HasTurns result.2 4 2 3 9 }
+    ensures eleven_digits { HasTurns result.3 5 3 3 10 }
+    ensures largest_u64 { HasTurns result.4 9 5 6 19 }
+{
+    (
+        turns_of(0u8, 10, 1),
+        turns_of(u8::MAX, 10, 3),
+        turns_of(u32::MAX, 10, 10),
+        turns_of(10000000000u64, 10, 11),
+        turns_of(u64::MAX, 10, 20),
+    )
+}
+
 /// Returns what is recorded for numbers of 1, 2, 4, 4, 13, 40 and 64 digits. The square of radix 16 does not fit
-/// in a byte, its fourth power not in 16 bits, and that of radix 4 not in a byte. For no other `u64` does the
-/// writer that uses tables make more iterations than for the number of 40 digits in radix 3.
+/// in a byte, its fourth power not in 16 bits, and that of radix 4 not in a byte. For no other `u64` does
+/// `write_integer` make more iterations than for the number of 40 digits in radix 3.
 pub fn turns_by_digits() -> (
     Recorded,
     Recorded,
@@ -132,13 +121,13 @@ pub fn turns_by_digits() -> (
     Recorded,
     Recorded,
 )
-    ensures zero { HasTurns result.0 0 0 0 }
-    ensures byte_in_radix_16 { HasTurns result.1 0 1 1 }
-    ensures byte_in_radix_4 { HasTurns result.2 1 2 3 }
-    ensures u16_in_radix_16 { HasTurns result.3 1 2 3 }
-    ensures largest_in_radix_36 { HasTurns result.4 6 3 12 }
-    ensures most_in_radix_3 { HasTurns result.5 21 11 39 }
-    ensures largest_in_radix_2 { HasTurns result.6 16 17 63 }
+    ensures zero { HasTurns result.0 0 0 0 0 }
+    ensures byte_in_radix_16 { HasTurns result.1 0 0 1 1 }
+    ensures byte_in_radix_4 { HasTurns result.2 1 1 2 3 }
+    ensures u16_in_radix_16 { HasTurns result.3 1 1 2 3 }
+    ensures largest_in_radix_36 { HasTurns result.4 6 6 3 12 }
+    ensures most_in_radix_3 { HasTurns result.5 21 21 11 39 }
+    ensures largest_in_radix_2 { HasTurns result.6 16 16 17 63 }
 {
     (
         turns_of(0u8, 2, 1),

@@ -16,7 +16,6 @@ use uses::hex_dump::write_dump;
 use uses::hexadecimal::{hexadecimal, write_hexadecimal};
 use uses::identifier::{have_same_identifier, identifier, same_counter};
 use uses::json_array::write_array;
-use uses::key_value::write_setting;
 use uses::percentage::write_percentage;
 use uses::printed::printed;
 use uses::record::write_record;
@@ -147,13 +146,6 @@ fn any_type_in_any_format(rt: HostRuntime) {
     assert!(rt; text_if_room(6u8, &binary, &Options::new(), &mut short).is_none());
     let mut enough = [7; 16];
     assert!(rt; text_if_room(6u8, &binary, &Options::new(), &mut enough).is_some());
-}
-
-#[test]
-fn settings(rt: HostRuntime) {
-    let mut buffer = [7; 30];
-    assert_eq!(rt; write_setting(b"limit", -40, &mut buffer), 10);
-    assert!(rt; buffer.starts_with(b"limit=-40\n\x07"));
 }
 
 #[test]

@@ -93,14 +93,15 @@ fn lines_of_a_dump(rt: HostRuntime) {
 }
 
 #[test]
-fn settings_without_a_number(rt: HostRuntime) {
+fn settings(rt: HostRuntime) {
+    let mut buffer = [7; 30];
+    let limit = Some(Decimal(-40i64));
+    assert_eq!(rt; try_write_setting(b"limit", limit, &mut buffer), Some(10));
+    check_buffer(&rt, &buffer, 10, b"limit=-40\n");
     let mut buffer = [7; 10];
-    assert_eq!(rt; try_write_setting("limit", None, &mut buffer), Some(7));
+    assert_eq!(rt; try_write_setting(b"limit", None, &mut buffer), Some(7));
     check_buffer(&rt, &buffer, 7, b"limit=\n");
-    assert_eq!(rt;
-        try_write_setting("limit", Some(Decimal(5)), &mut buffer),
-        None
-    );
+    assert_eq!(rt; try_write_setting(b"limit", limit, &mut buffer), None);
     check_buffer(&rt, &buffer, 7, b"limit=\n");
 }
 
