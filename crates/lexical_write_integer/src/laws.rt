@@ -33,7 +33,7 @@ pub fn digit_count_is_least(radix: u32, value: u64)
 {}
 
 /// A law: a number below the radix to the power of `count`, which is not 0, has at most `count` digits.
-/// `write_identifier` in `crates/uses/src/identifier.rt` is an example.
+/// `identifier` in `crates/uses/src/identifier.rt` is an example.
 pub fn digit_count_at_most(radix: u32, value: u64, count: u32)
     requires radix { IsRadix radix }
     requires some { 1 ≤ count }

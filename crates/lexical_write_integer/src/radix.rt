@@ -55,7 +55,7 @@ pub(crate) fn radix_counted<T: UnsignedInteger>(
 /// An unsigned integer type whose digits are written by the table writer.
 pub trait Radix: UnsignedInteger {
     /// Writes the digits of the number to the start of the buffer, and returns how many there are. The radix
-    /// is from 2 to 36, and the buffer has room for the digits. `write_identifier` in
+    /// is from 2 to 36, and the buffer has room for the digits. `identifier` in
     /// `crates/uses/src/identifier.rt` is an example.
     fn radix(self, radix: u32, buffer: &mut [u8]) -> usize
         requires radix { IsRadix radix }

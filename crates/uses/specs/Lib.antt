@@ -3,6 +3,5 @@ pub mod DateTime
 pub mod DumpLine
 pub mod FloatParts
 pub mod JsonArray
-pub mod LogEntry
-pub mod NumberList
 pub mod Reading
+pub mod TurnLists

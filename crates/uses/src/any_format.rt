@@ -1,25 +1,11 @@
 //! Writes numbers of any type in any format.
 
-ghost use Rattle.std.specs.Prelude.{◌≡◌, ◌↔◌, ◌≤◌, IsSome, IfSome, IsTrue, length};
+ghost use Rattle.std.specs.Prelude.{◌↔◌, ◌≤◌, IsSome, IfSome, length};
 ghost use Rattle.lexical_num.specs.Size.{size_in};
 ghost use Rattle.lexical_write_integer.specs.Text.{IsText};
 
-use lexical_write_integer::laws::{size_suffices, texts_equal_iff};
-use lexical_write_integer::{
-    BUFFER_SIZE, NumberFormat, Options, ToLexicalWithOptions, WriteOptions,
-};
-
-/// Returns the text of the number in the format, which borrows the array.
-pub fn text_of_i64<'a>(
-    number: i64,
-    format: &NumberFormat,
-    buffer: &'a mut [u8; BUFFER_SIZE],
-) -> &'a [u8]
-    ensures { IsText number format.now result.now }
-{
-    size_suffices(number, format);
-    number.to_lexical_with_options(buffer, format, &Options::new())
-}
+use lexical_write_integer::laws::size_suffices;
+use lexical_write_integer::{BUFFER_SIZE, NumberFormat, ToLexicalWithOptions, WriteOptions};
 
 /// Returns the text of a number of any type in the format, which borrows the array.
 pub fn text_of_any<'a, T: ToLexicalWithOptions>(
@@ -51,17 +37,4 @@ pub fn text_if_room<'a, T: ToLexicalWithOptions>(
         return None;
     }
     Some(number.to_lexical_with_options(buffer, format, options))
-}
-
-/// Returns whether two numbers have the same text in the format, which is the case if and only if
-/// they are equal.
-pub fn have_same_text(a: i64, b: i64, format: &NumberFormat) -> bool
-    ensures { IsTrue result ↔ (a ≡ b) }
-{
-    let mut first = [0; BUFFER_SIZE];
-    let mut second = [0; BUFFER_SIZE];
-    let first = text_of_i64(a, format, &mut first);
-    let second = text_of_i64(b, format, &mut second);
-    texts_equal_iff(a, b, format, first, second);
-    first == second
 }

@@ -31,11 +31,6 @@ pub fn text_of_an_i64_below_0() -> usize {
     (-1234567i64).to_lexical(&mut [0; 20]).len()
 }
 
-/// Writes 125 to 3 bytes, the number of digits of the largest `u8`, and returns its length.
-pub fn text_of_a_u8() -> usize {
-    125u8.to_lexical(&mut [0; 3]).len()
-}
-
 /// Returns the digit count of 5 in the smallest radix.
 pub fn digit_count_in_the_smallest_radix() -> usize {
     5u64.digit_count(2)

@@ -1,11 +1,14 @@
-//! Writes a row of numbers in CSV.
+//! Writes rows of numbers, as in CSV.
 
-ghost use Rattle.std.specs.Prelude.{[], ◌∷◌};
+ghost use Rattle.std.specs.Prelude.{◌≡◌, ◌↔◌, ◌+◌, ◌*◌, ◌≤◌, [], ◌∷◌};
+ghost use Rattle.std.specs.Prelude.{IfNone, IfSome, IsSome, codes, length};
 ghost use Rattle.lexical_write_integer.specs.Buffer.{Writes};
-ghost use Rattle.uses.specs.CsvRow.{IsRow};
+ghost use Rattle.lexical_parts.specs.Joined.{AreEach, AreJoined, joined_room};
+ghost use Rattle.lexical_parts.specs.Sequence.{◌then◌, IsDecimal, IsStr};
+ghost use Rattle.uses.specs.CsvRow.{IsEntry, IsRow};
 
 use lexical_num::constants::FormattedSize;
-use lexical_parts::{Joined, Part};
+use lexical_parts::{Decimal, Joined, Part};
 
 /// A number of bytes that is enough for a row: eight numbers, and a comma or a newline after each.
 pub const ROW_SIZE: usize = 8 * (i64::FORMATTED_SIZE_DECIMAL + 1);
@@ -34,4 +37,31 @@ pub fn write_row_of(
     ensures { Writes (IsRow (a ∷ b ∷ c ∷ d ∷ e ∷ f ∷ g ∷ h ∷ [])) buffer.old buffer.new result }
 {
     write_row(&[a, b, c, d, e, f, g, h], buffer)
+}
+
+/// Writes the numbers in brackets, with `, ` between adjacent numbers, to the start of the buffer, and
+/// returns the number of bytes written. Returns `None`, and leaves the buffer unchanged, if the buffer
+/// does not have 20 bytes for each number, 2 for each separator and 2 for the brackets.
+pub fn try_write_list(numbers: &[i64], buffer: &mut [u8]) -> Option<usize>
+    ensures fits { IsSome result
+        ↔ (1 + (joined_room 20 2 (length numbers.now) + 1) ≤ length buffer.old) }
+    ensures text { IfSome result (Writes
+        (IsStr "[" then AreJoined IsDecimal (codes ", ") numbers.now then IsStr "]")
+        buffer.old buffer.new) }
+    ensures none { IfNone result (buffer.new ≡ buffer.old) }
+{
+    ("[", Joined(numbers, ", "), "]").try_write_to(buffer)
+}
+
+/// Writes each number and a semicolon after it to the start of the buffer, and returns the number of
+/// bytes written. The buffer must have 21 bytes for each number.
+pub fn write_entries(numbers: &[i64], buffer: &mut [u8]) -> usize
+    requires { 21 * length numbers.now ≤ length buffer.old }
+    ensures { Writes (AreEach IsEntry numbers.now) buffer.old buffer.new result }
+{
+    let mut count = 0;
+    for number in numbers {
+        count += (Decimal(*number), ";").write_to(&mut buffer[count..]);
+    }
+    count
 }

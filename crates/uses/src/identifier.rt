@@ -1,21 +1,18 @@
-//! Writes a counter as a short identifier, its digits in radix 36.
+//! Returns a counter as a short identifier, its digits in radix 36.
 
-ghost use Rattle.std.specs.Prelude.{◌≡◌, ◌≤◌, ◌↔◌, IsTrue, List, ℕ, length};
-ghost use Rattle.lexical_write_integer.specs.Buffer.{WritesDigits};
+ghost use Rattle.std.specs.Prelude.{◌≡◌, ◌↔◌, IsTrue, List, ℕ};
 ghost use Rattle.lexical_write_integer.specs.Text.{IsDigits};
 
 use lexical_write_integer::laws::{digit_count_at_most, digits_equal_iff, equal_digits};
 use lexical_write_integer::radix::Radix;
 
-/// Writes the identifier of the counter to the start of the buffer, and returns its length, at most
-/// 13. The bytes after it are unchanged. The buffer must have room for 13 bytes.
-pub fn write_identifier(counter: u64, buffer: &mut [u8]) -> usize
-    requires { 13 ≤ length buffer.old }
-    ensures identifier { WritesDigits 36 counter buffer.old buffer.new result }
-    ensures short { result ≤ 13 }
+/// Returns the identifier of the counter, which borrows the array. It has at most 13 digits.
+pub fn identifier(counter: u64, buffer: &mut [u8; 13]) -> &[u8]
+    ensures { IsDigits 36 counter result.now }
 {
     digit_count_at_most(36, counter, 13);
-    counter.radix(36, buffer)
+    let count = counter.radix(36, buffer);
+    &buffer[..count]
 }
 
 /// A law: two counters with equal identifiers are equal.
@@ -23,14 +20,6 @@ pub fn same_counter(a: u64, b: u64)
     ensures { (identifier : List ℕ) → IsDigits 36 a identifier → IsDigits 36 b identifier → a ≡ b }
 {
     equal_digits(36, a, b);
-}
-
-/// Returns the identifier of the counter, which borrows the array.
-pub fn identifier(counter: u64, buffer: &mut [u8; 13]) -> &[u8]
-    ensures { IsDigits 36 counter result.now }
-{
-    let count = write_identifier(counter, buffer);
-    &buffer[..count]
 }
 
 /// Returns whether two counters have the same identifier, which is the case if and only if they are

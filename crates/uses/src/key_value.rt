@@ -1,6 +1,6 @@
-//! Writes a setting: a key, `=` and a number.
+//! Writes a setting: a key, `=` and a number, if there is one.
 
-ghost use Rattle.std.specs.Prelude.{◌≡◌, ◌+◌, ◌≤◌, IfNone, IfSome, length};
+ghost use Rattle.std.specs.Prelude.{◌≡◌, IfNone, IfSome};
 ghost use Rattle.lexical_write_integer.specs.Buffer.{Writes};
 ghost use Rattle.lexical_write_integer.specs.Sequence.{IsExactly};
 ghost use Rattle.lexical_parts.specs.Optional.{IsOptional};
@@ -8,21 +8,11 @@ ghost use Rattle.lexical_parts.specs.Sequence.{◌then◌, IsDecimal, IsStr};
 
 use lexical_parts::{Bytes, Decimal, Part};
 
-/// Writes the key, `=`, the number in decimal and a newline to the start of the buffer, and returns
-/// the number of bytes written. The bytes after them are unchanged. The buffer must have the length of
-/// the key and 22 bytes.
-pub fn write_setting(key: &[u8], number: i64, buffer: &mut [u8]) -> usize
-    requires { length key.now + 22 ≤ length buffer.old }
-    ensures { Writes (IsExactly key.now then IsStr "=" then IsDecimal number then IsStr "\n")
-        buffer.old buffer.new result }
-{
-    (Bytes(key), "=", Decimal(number), "\n").write_to(buffer)
-}
-
-/// Writes a setting as `write_setting` does, but without a number for `None`, and returns the number
-/// of bytes written. If the buffer is too short, returns `None`, and the buffer is unchanged.
+/// Writes the key, `=`, the number in decimal, or nothing for `None`, and a newline to the start of the
+/// buffer, and returns the number of bytes written. If the buffer is too short, returns `None`, and the
+/// buffer is unchanged.
 pub fn try_write_setting(
-    key: &str,
+    key: &[u8],
     number: Option<Decimal<i64>>,
     buffer: &mut [u8],
 ) -> Option<usize>
@@ -31,5 +21,5 @@ pub fn try_write_setting(
         then IsStr "\n") buffer.old buffer.new) }
     ensures none { IfNone result (buffer.new ≡ buffer.old) }
 {
-    (key, "=", number, "\n").try_write_to(buffer)
+    (Bytes(key), "=", number, "\n").try_write_to(buffer)
 }

@@ -3,19 +3,15 @@
 //! conditions only just hold.
 #![tactic(auto)]
 
-pub mod address;
 pub mod amount;
 pub mod answers;
 pub mod any_format;
 pub mod arena;
-pub mod column;
 pub mod conditions;
 pub mod csv_row;
-pub mod date;
 pub mod date_time;
-pub mod decimal_turns;
 pub mod dump_line;
-pub mod fixed_texts;
+pub mod fixed_text;
 pub mod float_format;
 pub mod float_parts;
 pub mod hex_dump;
@@ -23,12 +19,11 @@ pub mod hexadecimal;
 pub mod identifier;
 pub mod json_array;
 pub mod key_value;
-pub mod log_entry;
-pub mod number_list;
 pub mod percentage;
 pub mod printed;
 pub mod reading;
 pub mod record;
 pub mod sorted_keys;
 pub mod table_row;
+pub mod time_of_day;
 pub mod turn_lists;

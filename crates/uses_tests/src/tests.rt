@@ -6,24 +6,21 @@ use lexical_write_integer::{
     BUFFER_SIZE, Error, NumberFormat, NumberFormatBuilder, Options, ToLexical, ToLexicalWithOptions,
 };
 use std::process::Abort;
-use uses::address::write_address;
 use uses::amount::{width_of_amount, write_amount};
-use uses::any_format::{have_same_text, text_if_room, text_of_any, text_of_i64};
+use uses::any_format::{text_if_room, text_of_any};
 use uses::arena::{have_same_kept_texts, keep_text};
-use uses::column::write_column;
-use uses::date::write_date;
-use uses::fixed_texts::{million, white};
+use uses::fixed_text::million;
 use uses::float_format::float_format;
 use uses::float_parts::write_parts;
 use uses::hex_dump::write_dump;
 use uses::hexadecimal::{hexadecimal, write_hexadecimal};
-use uses::identifier::{have_same_identifier, identifier, same_counter, write_identifier};
+use uses::identifier::{have_same_identifier, identifier, same_counter};
 use uses::json_array::write_array;
-use uses::key_value::write_setting;
 use uses::percentage::write_percentage;
 use uses::printed::printed;
 use uses::record::write_record;
-use uses::sorted_keys::{are_sorted, comes_before, is_earlier_key};
+use uses::sorted_keys::{comes_before, is_earlier_key};
+use uses::time_of_day::write_time;
 
 // Checks that a call that returned `count` wrote the text to the start of the buffer, and that every byte
 // after it is still 7.
@@ -31,12 +28,6 @@ fn check_buffer(rt: &impl Abort, buffer: &[u8], count: usize, text: &[u8]) {
     assert_eq!(rt; count, text.len());
     assert!(rt; buffer.starts_with(text));
     assert!(rt; buffer[count..].iter().all(|byte| *byte == 7));
-}
-
-fn check_identifier(rt: &impl Abort, counter: u64, identifier: &[u8]) {
-    let mut buffer = [7; 14];
-    let count = write_identifier(counter, &mut buffer);
-    check_buffer(rt, &buffer, count, identifier);
 }
 
 fn check_parts(
@@ -54,11 +45,16 @@ fn check_parts(
 
 #[test]
 fn identifiers(rt: HostRuntime) {
-    check_identifier(&rt, 0, b"0");
+    let mut buffer = [7; 13];
+    assert_eq!(rt; identifier(0, &mut buffer), b"0".as_slice());
     same_counter(35, 36);
-    check_identifier(&rt, 35, b"Z");
-    check_identifier(&rt, 36, b"10");
-    check_identifier(&rt, 18446744073709551615, b"3W5E11264SGSF");
+    assert_eq!(rt; identifier(35, &mut buffer), b"Z".as_slice());
+    assert_eq!(rt; identifier(36, &mut buffer), b"10".as_slice());
+    assert_eq!(rt; identifier(71, &mut buffer), b"1Z".as_slice());
+    let largest = identifier(18446744073709551615, &mut buffer);
+    assert_eq!(rt; largest, b"3W5E11264SGSF".as_slice());
+    assert!(rt; have_same_identifier(71, 71));
+    assert!(rt; !have_same_identifier(71, 72));
 }
 
 #[test]
@@ -126,14 +122,6 @@ fn formats_of_floats(rt: HostRuntime) {
 }
 
 #[test]
-fn sorted_lists(rt: HostRuntime) {
-    assert!(rt; are_sorted(&[]));
-    assert!(rt; are_sorted(&[0, 9, 10, 99, 100, 18446744073709551615]));
-    assert!(rt; !are_sorted(&[9, 10, 10]));
-    assert!(rt; !are_sorted(&[10, 9]));
-}
-
-#[test]
 fn numbers_in_hexadecimal(rt: HostRuntime) {
     let mut buffer = [7; 10];
     assert_eq!(rt; write_hexadecimal(0, &mut buffer), 3);
@@ -146,7 +134,10 @@ fn numbers_in_hexadecimal(rt: HostRuntime) {
 fn any_type_in_any_format(rt: HostRuntime) {
     let binary = NumberFormatBuilder::binary();
     let mut buffer = [7; BUFFER_SIZE];
-    assert_eq!(rt; text_of_i64(-5, &binary, &mut buffer), b"-101".as_slice());
+    assert_eq!(rt;
+        text_of_any(-5i64, &binary, &Options::new(), &mut buffer),
+        b"-101".as_slice()
+    );
     assert_eq!(rt;
         text_of_any(6u8, &binary, &Options::new(), &mut buffer),
         b"110".as_slice()
@@ -155,23 +146,6 @@ fn any_type_in_any_format(rt: HostRuntime) {
     assert!(rt; text_if_room(6u8, &binary, &Options::new(), &mut short).is_none());
     let mut enough = [7; 16];
     assert!(rt; text_if_room(6u8, &binary, &Options::new(), &mut enough).is_some());
-    assert!(rt; have_same_text(-5, -5, &binary));
-    assert!(rt; !have_same_text(-5, 5, &binary));
-}
-
-#[test]
-fn compared_identifiers(rt: HostRuntime) {
-    let mut buffer = [7; 13];
-    assert_eq!(rt; identifier(71, &mut buffer), b"1Z".as_slice());
-    assert!(rt; have_same_identifier(71, 71));
-    assert!(rt; !have_same_identifier(71, 72));
-}
-
-#[test]
-fn settings(rt: HostRuntime) {
-    let mut buffer = [7; 30];
-    assert_eq!(rt; write_setting(b"limit", -40, &mut buffer), 10);
-    assert!(rt; buffer.starts_with(b"limit=-40\n\x07"));
 }
 
 #[test]
@@ -198,8 +172,7 @@ fn widths_of_amounts(rt: HostRuntime) {
 }
 
 #[test]
-fn texts_of_constants(rt: HostRuntime) {
-    assert_eq!(rt; white(&mut [7; 6]), b"FFFFFF".as_slice());
+fn text_of_a_constant(rt: HostRuntime) {
     assert_eq!(rt; million(&mut [7; 14]), b"+1,000,000".as_slice());
 }
 
@@ -210,21 +183,12 @@ fn hexadecimal_as_an_equation(rt: HostRuntime) {
 }
 
 #[test]
-fn dates(rt: HostRuntime) {
-    let mut date = [7; 10];
-    assert_eq!(rt; write_date(2026, 11, 23, &mut date), 10);
-    assert_eq!(rt; date, *b"2026-11-23");
-    assert_eq!(rt; write_date(33, 4, 3, &mut date), 10);
-    assert_eq!(rt; date, *b"0033-04-03");
-}
-
-#[test]
-fn addresses(rt: HostRuntime) {
-    let mut buffer = [7; 15];
-    assert_eq!(rt; write_address(255, 255, 255, 255, &mut buffer), 15);
-    assert_eq!(rt; buffer, *b"255.255.255.255");
-    assert_eq!(rt; write_address(10, 0, 0, 1, &mut buffer), 8);
-    assert_eq!(rt; buffer, *b"10.0.0.1255.255");
+fn times_of_day(rt: HostRuntime) {
+    let mut time = [7; 9];
+    assert_eq!(rt; write_time(25509, &mut time), 9);
+    assert_eq!(rt; time, *b"07:05:09Z");
+    assert_eq!(rt; write_time(86399, &mut time), 9);
+    assert_eq!(rt; time, *b"23:59:59Z");
 }
 
 #[test]
@@ -234,15 +198,6 @@ fn percentages(rt: HostRuntime) {
     assert!(rt; buffer.starts_with(b"12.05%\x07"));
     assert_eq!(rt; write_percentage(4294967295, &mut buffer), 12);
     assert!(rt; buffer.starts_with(b"42949672.95%\x07"));
-}
-
-#[test]
-fn columns(rt: HostRuntime) {
-    let mut column = [7; 12];
-    write_column(-5, &mut column);
-    assert_eq!(rt; column, *b"          -5");
-    write_column(-2147483648, &mut column);
-    assert_eq!(rt; column, *b" -2147483648");
 }
 
 #[test]
@@ -261,12 +216,13 @@ fn texts_in_an_arena(rt: HostRuntime) {
     let mut arena = [7; 60];
     let (first, rest) = keep_text(123, &mut arena);
     let (second, rest) = keep_text(0, rest);
-    let (third, rest) = keep_text(18446744073709551615, rest);
+    let (third, rest) = keep_text(-9223372036854775808, rest);
     assert_eq!(rt; &*first, b"123".as_slice());
     assert_eq!(rt; &*second, b"0".as_slice());
-    assert_eq!(rt; &*third, b"18446744073709551615".as_slice());
+    assert_eq!(rt; &*third, b"-9223372036854775808".as_slice());
     assert_eq!(rt; rest.len(), 36);
-    assert!(rt; have_same_kept_texts(12, 12));
+    assert!(rt; have_same_kept_texts(-5, -5));
+    assert!(rt; !have_same_kept_texts(-5, 5));
     assert!(rt; !have_same_kept_texts(12, 21));
 }
 

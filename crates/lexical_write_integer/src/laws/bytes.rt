@@ -31,14 +31,14 @@ pub fn text_is_decimal<T: LexicalInteger>(number: T, text: &[u8])
 }
 
 /// A law: the bytes of `text` are the digits of a number if and only if they are the list that
-/// `digits_text` computes. `white` in `crates/uses/src/fixed_texts.rt` is an example.
+/// `digits_text` computes. `hexadecimal` in `crates/uses/src/hexadecimal.rt` is an example.
 pub fn digits_computed(radix: u32, value: u64, text: &[u8])
     requires { IsRadix radix }
     ensures { IsDigits radix value text.now ↔ (text.now ≡ digits_text radix value) }
 {}
 
 /// A law: the bytes of `text` are the text of a number if and only if they are the list that `text_of`
-/// computes. `million` in `crates/uses/src/fixed_texts.rt` is an example.
+/// computes. `million` in `crates/uses/src/fixed_text.rt` is an example.
 pub fn text_computed<T: LexicalInteger>(number: T, format: &NumberFormat, text: &[u8])
     ensures { IsText (T.number number) format.now text.now
         ↔ (text.now ≡ text_of (T.number number) format.now) }

@@ -17,7 +17,7 @@ pub fn digits_equal_iff(radix: u32, a: u64, b: u64, s: &[u8], t: &[u8])
 {}
 
 /// A law: the texts of two numbers in a format are equal if and only if the numbers are.
-/// `have_same_text` in `crates/uses/src/any_format.rt` is an example.
+/// `have_same_kept_texts` in `crates/uses/src/arena.rt` is an example.
 pub fn texts_equal_iff<T: LexicalInteger>(a: T, b: T, format: &NumberFormat, s: &[u8], t: &[u8])
     requires s { IsText (T.number a) format.now s.now }
     requires t { IsText (T.number b) format.now t.now }

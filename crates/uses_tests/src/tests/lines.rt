@@ -2,12 +2,10 @@
 
 use super::check_buffer;
 use lexical_parts::{Byte, Bytes, Decimal, Left, Padded, PaddedDigits, Part};
-use uses::csv_row::{write_row, write_row_of};
+use uses::csv_row::{try_write_list, write_entries, write_row, write_row_of};
 use uses::date_time::DateTime;
 use uses::dump_line::write_dump_line;
 use uses::key_value::try_write_setting;
-use uses::log_entry::{Level, level_name, write_entry};
-use uses::number_list::{try_write_list, write_entries};
 use uses::reading::write_reading;
 use uses::table_row::write_table_row;
 
@@ -26,24 +24,16 @@ fn readings(rt: HostRuntime) {
     let count = write_reading(MORNING, -125, 255, &mut buffer);
     check_buffer(&rt, &buffer, count, b"2026-11-23T07:05:09 -12.5 kg 0xFF;");
     let mut buffer = [7; 57];
-    let count = write_reading(MORNING, -5, 0, &mut buffer);
-    check_buffer(&rt, &buffer, count, b"2026-11-23T07:05:09 -0.5 kg 0x0;");
-}
-
-#[test]
-fn entries_of_a_log(rt: HostRuntime) {
-    let mut buffer = [7; 57];
-    let count = write_entry(
-        MORNING,
-        Level::Error,
-        "disk",
-        -9223372036854775808,
-        &mut buffer,
-    );
-    let line = b"2026-11-23T07:05:09 ERROR disk: -9223372036854775808\n";
-    check_buffer(&rt, &buffer, count, line);
-    assert_eq!(rt; level_name(Level::Info), b"INFO".as_slice());
-    assert_eq!(rt; level_name(Level::Warn), b"WARN".as_slice());
+    let long_ago = DateTime {
+        year: 33,
+        month: 4,
+        day: 3,
+        hour: 0,
+        minute: 0,
+        second: 0,
+    };
+    let count = write_reading(long_ago, -5, 0, &mut buffer);
+    check_buffer(&rt, &buffer, count, b"0033-04-03T00:00:00 -0.5 kg 0x0;");
 }
 
 #[test]
@@ -103,14 +93,15 @@ fn lines_of_a_dump(rt: HostRuntime) {
 }
 
 #[test]
-fn settings_without_a_number(rt: HostRuntime) {
+fn settings(rt: HostRuntime) {
+    let mut buffer = [7; 30];
+    let limit = Some(Decimal(-40i64));
+    assert_eq!(rt; try_write_setting(b"limit", limit, &mut buffer), Some(10));
+    check_buffer(&rt, &buffer, 10, b"limit=-40\n");
     let mut buffer = [7; 10];
-    assert_eq!(rt; try_write_setting("limit", None, &mut buffer), Some(7));
+    assert_eq!(rt; try_write_setting(b"limit", None, &mut buffer), Some(7));
     check_buffer(&rt, &buffer, 7, b"limit=\n");
-    assert_eq!(rt;
-        try_write_setting("limit", Some(Decimal(5)), &mut buffer),
-        None
-    );
+    assert_eq!(rt; try_write_setting(b"limit", limit, &mut buffer), None);
     check_buffer(&rt, &buffer, 7, b"limit=\n");
 }
 

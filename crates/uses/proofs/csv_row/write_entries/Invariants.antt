@@ -1,8 +1,8 @@
 use Rattle.std.proofs.Common.{◌*◌, ◌≤◌, take}
 use Rattle.lexical_write_integer.specs.Buffer.{Writes}
 use Rattle.lexical_parts.specs.Joined.{AreEach}
-use Rattle.uses.specs.NumberList.{IsEntry}
-use Rattle.uses.proofs.number_list.write_entries.Given as goal
+use Rattle.uses.specs.CsvRow.{IsEntry}
+use Rattle.uses.proofs.csv_row.write_entries.Given as goal
 
 -- the entries so far are written
 abbrev pub invariant-loop-number : goal.invariant-loop-number

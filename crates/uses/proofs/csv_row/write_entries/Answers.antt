@@ -1,8 +1,8 @@
 use Rattle.std.specs.Prelude.{pos}
 use Rattle.std.proofs.Common.{rules, arith}
 use Rattle.lexical_parts.proofs.Lists.{written_each}
-use Rattle.uses.specs.NumberList.{IsEntry}
-use Rattle.uses.proofs.number_list.write_entries.Goals as goal
+use Rattle.uses.specs.CsvRow.{IsEntry}
+use Rattle.uses.proofs.csv_row.write_entries.Goals as goal
 
 pub loop-number-preserved : goal.loop-number-preserved
 loop-number-preserved c = record {

@@ -1,8 +1,0 @@
-use Rattle.std.proofs.Common.{◌∙◌, arith}
-use Rattle.lexical_write_integer.proofs.DigitCounts.{digit_count-is}
-use Rattle.uses.proofs.turn_lists.written_turns_of.Goals as goal
-
-pub returns : goal.returns
-returns g c =
-    let digits = digit_count-is _ _ _ c.requires.radix.at_least_two c.requires.some c.requires.enough c.requires.needed in
-    c.write_integer_counted.ensures.turns ∙ rw (c.new-turns.ensures, c.write_integer_counted.ensures.digits.count, digits) (omega arith)
