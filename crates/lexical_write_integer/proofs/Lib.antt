@@ -26,6 +26,5 @@ pub mod Buffers
 pub mod PairBlocks
 pub mod Sequences
 -- steps of the proofs by hand
-pub mod WrittenTypes
 pub mod Reborrows
 pub mod HandedFronts
