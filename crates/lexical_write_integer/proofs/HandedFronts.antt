@@ -1,34 +1,14 @@
 -- A text is written at the start of a slice, and `front_mut` returns that prefix to the caller: steps for proofs by hand.
-use mathlib.Core.Path.{◌≡◌, refl, sym, ap, ◌∙◌}
-use Prim.Native.Nat.{ℕ, ◌*◌, ◌^◌, ◌<◌, ◌≤◌}
+use Rattle.lexical_num.proofs.Steps.{◌≡◌, refl, sym, ap, ◌∙◌, ℕ, ◌*◌, ◌^◌, ◌<◌, ◌≤◌, List, [], ◌∷◌, ◌++◌, length, take, Ura, Callee, Place, Opd, Body, named}
+use Rattle.lexical_num.proofs.Steps.{seq, call, w64, Val, vint, SProp, ent, sep, emp, id⊢, Lft, GName, Share, ftrue, flft, Memory, Routine, Env, Calls, Loops}
+use Rattle.lexical_num.proofs.Steps.{Fun, fact, fact_i, FmC, Logic, sem, Item, Post, Seq, runs, lands, mean, ‵, raw, given, ◌⊛◌, some, later, ◌$◌, ◌∵◌, !, qed}
+use Rattle.lexical_num.proofs.Steps.{done, move, keep, split, split3, join, fsplit, fjoin, feq_i, feq_l, flt_i, flt_l, use0, use1, use2, await, pick, updating}
+use Rattle.lexical_num.proofs.Steps.{now, show, check, rewrite, learn, Opds, u8, mem, MutBor, MutSlice, slice_val, mut_slice_vals, nothing, heard, only}
+use Rattle.lexical_num.proofs.Steps.{calls_at, lasts, triple_of, Contract, Triple}
 use native.Mathlib.Omega.{arith}
-use mathlib.Core.List.{List, [], ◌∷◌, ◌++◌}
-use lib.ListN.{length, take, drop as drop_list}
-use seplogic.Ra.Ura.{Ura}
-use mir.Syntax.{Callee, Place, Opd as Operand, Body, named, seq, call, w64}
-use mir.Val.{Val, vint}
-use base.Logic.{SProp, ent, emp, id⊢, sep}
-use base.Fml.{Lft, GName, Share, ftrue, flft}
-use prog.Memory.{Memory}
-use prog.Routine.{Routine}
-use prog.Wp.{Env, Calls, Loops}
-use sound.WpLaws.{FmC}
-use types.Logic.{Logic, sem}
-use types.Run.{Opds}
-use types.Kit.{Item, Post, Seq, runs, lands, mean, ‵, raw, given, ◌⊛◌, some, later, ◌$◌, ◌∵◌, !, qed, move, keep, split, split3, join, check, fsplit}
-use types.Kit.{fjoin, feq_i, feq_l, flt_i, flt_l, use0, use1, use2, await, pick, updating, now, show, done, rewrite, learn}
-use contract.Monad.{Fun, fact, fact_i}
+use lib.ListN.{drop as drop_list}
 use denote.Array.{Array}
-use denote.Builtin.{u8}
 use denote.Follow.{follows}
-use denote.Memory.{mem}
-use denote.Ref.{MutBor}
-use denote.Slice.{MutSlice, slice_val, mut_slice_vals}
-use denote.Steps.{nothing, heard, only}
-use denote.Triple.Call.{calls_at}
-use denote.Triple.Clauses.{lasts}
-use denote.Triple.Spec.{triple_of}
-use denote.Triple.Statement.{Contract, Triple}
 use Rattle.std.proofs.lemmas.List.{take_at, drop_at}
 use Rattle.lexical_write_integer.specs.Buffer.{Writes}
 use Rattle.lexical_write_integer.specs.Lending.{LendsFront}
@@ -98,7 +78,7 @@ module _ {M : Type 1} {𝓤 : Ura M} (𝓛 : Logic 𝓤) (at_mem : Memory → SP
 
     -- the call on a slice in which a text was written, as a step
     module _ {K : Type 0} {Γ : List (Item 𝓤)} {C : Calls 𝓤 𝓛.H} {Λ : Loops 𝓤 𝓛.H} {E : Env 𝓤 𝓛.H} {f : Callee}
-        {operands : List Operand} {d : Place} {rest : Body} {Q : Post 𝓤 𝓛.H} where
+        {operands : List Opd} {d : Place} {rest : Body} {Q : Post 𝓤 𝓛.H} where
       pub calls_front : K → (Is : List ℕ → Type 0) → FmC 𝓤 𝓛.H 𝓛.laws C → Triple 𝓤 (C f) Fronts
           → Writes Is xs ys n → n < 2 ^ 64 → length ys ≡ length xs
           → Opds K 𝓛 (raw (Fronts.pre called) ∷ Γ) E operands (Fronts.args called)

@@ -27,6 +27,5 @@ pub mod PairBlocks
 pub mod Sequences
 pub mod Joins
 -- steps of the proofs by hand
-pub mod WrittenTypes
 pub mod Reborrows
 pub mod HandedFronts
