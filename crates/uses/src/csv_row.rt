@@ -3,7 +3,8 @@
 ghost use Rattle.std.specs.Prelude.{◌≡◌, ◌↔◌, ◌+◌, ◌*◌, ◌≤◌, [], ◌∷◌};
 ghost use Rattle.std.specs.Prelude.{IfNone, IfSome, IsSome, codes, length};
 ghost use Rattle.lexical_write_integer.specs.Buffer.{Writes};
-ghost use Rattle.lexical_parts.specs.Joined.{AreEach, AreJoined, joined_room};
+ghost use Rattle.lexical_write_integer.specs.Sequence.{AreJoined};
+ghost use Rattle.lexical_parts.specs.Joined.{AreEach, joined_room};
 ghost use Rattle.lexical_parts.specs.Sequence.{◌then◌, IsDecimal, IsStr};
 ghost use Rattle.uses.specs.CsvRow.{IsEntry, IsRow};
 
