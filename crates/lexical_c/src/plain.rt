@@ -40,7 +40,11 @@ pub fn plain_format<T: FormattedSize>(format: &CFormat, room: usize) -> Option<N
 /// Writes a number of an unsigned type, whose text is its digits, to the start of the buffer, and
 /// returns the length of the text. The format must have no required sign and no groups, and the buffer
 /// must have the length that the writer of the number requires.
-pub fn write_plain_digits<T: WriteInteger>(value: T, format: &NumberFormat, buffer: &mut [u8]) -> usize
+pub fn write_plain_digits<T: WriteInteger>(
+    value: T,
+    format: &NumberFormat,
+    buffer: &mut [u8],
+) -> usize
     requires sign { format.now.required_mantissa_sign ≡ false }
     requires groups { format.now.digit_grouping ≡ None }
     requires room { need (T.number value) T.DECIMAL_WIDTH format.now ≤ length buffer.old }
