@@ -18,8 +18,8 @@ pub use contract.Monad.{Fun, fact, fact_i}
 pub use contract.Running.{tables}
 pub use sound.WpLaws.{FmC}
 pub use types.Logic.{Logic, sem}
-pub use types.Kit.{Item, Post, Goal, Soaks, Seq, runs, lands, mean, ‵, raw, given, ◌⊛◌, some, later, ◌$◌, ◌∵◌, !, qed, by, done, move, keep, drop, group}
-pub use types.Kit.{split, split3, join, fsplit, fsplit3, fjoin, fjoin3, fpick, fpack, feq_i, feq_l, flt_i, flt_l, use0, use1, use2, use3, learn}
+pub use types.Kit.{Item, Post, Goal, Soaks, Seq, Step, step, runs, lands, mean, ‵, raw, given, ◌⊛◌, some, later, ◌$◌, ◌∵◌, !, qed, done, move, keep, drop}
+pub use types.Kit.{split, split3, join, fsplit, fsplit3, fjoin, fjoin3, fpick, fpack, feq_i, feq_l, flt_i, flt_l, use0, use1, use2, use3, learn, group}
 pub use types.Kit.{await, pick, updating, now, show, check, suffices, frame, rewrite}
 pub use types.Tokens.{lft_new, lft_end}
 pub use types.Part.{whole, sub, agg}
