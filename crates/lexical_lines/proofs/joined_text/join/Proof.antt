@@ -10,7 +10,7 @@ use Rattle.lexical_num.proofs.Steps.{stay_dropped, Goes-dropped, Goes-spent_slic
 use Rattle.lexical_num.specs.Size.{size_in}
 use Rattle.lexical_num.specs.contracts.format.NumberFormat.{the_row as NumberFormat}
 use Rattle.lexical_write_integer.specs.Buffer.{Writes as Written}
-use Rattle.lexical_write_integer.proofs.Reborrows.{named_at, lends, comes_back}
+use Rattle.lexical_write_integer.proofs.Reborrows.{lends, comes_back}
 use Rattle.lexical_write_integer.proofs.HandedFronts.{calls_front}
 use Rattle.lexical_write_integer.proofs.Buffers.Prefixes.{Writes-short}
 use Rattle.lexical_write_integer.proofs.buffer.front_mut.Met.{met as front_met}
@@ -27,6 +27,7 @@ join_spec 𝓤 𝓛 𝓜 𝓡 wired X Y L LY C g d gl dl gn dn gc dc gs ds gt dt
     let R = copied 0 X in let O = param 1 Y in
     let T = F.ended X Y g d gl dl gn dn gc dc gs ds gt dt in
     let c = F.clauses X Y g d gl dl gn dn gc dc gs ds gt dt 𝓛 𝓜.mem 𝓡.returns in
+    -- the contract of `write_joined`, and the proofs of it and of `front_mut`
     let Writes = triple_of 𝓛 (W.signature X Y) (W.spec X Y g d gl dl gn dn gc dc gs ds gt dt 𝓛 𝓜.mem 𝓡.returns) in
     let writes = write_met 𝓤 𝓛 𝓜 𝓡 (code.calls-lexical_lines::joined_text::write_joined 𝓡.env wired)
     X Y L LY C g d gl dl gn dn gc dc gs ds gt dt m ml mn mc ms mt in
@@ -58,10 +59,10 @@ join_spec 𝓤 𝓛 𝓜 𝓡 wired X Y L LY C g d gl dl gn dn gc dc gs ds gt dt
     ))
     (λ κs qs bounds a ghost are.
     let values = a.0 in let mark = a.1.0 in let self = a.1.1.0 in let format = a.1.1.1.0 in let options = a.1.1.1.1.0 in
-    let κv = κs.0 in let qv = qs.0 in let κ = κs.1.0 in let q = qs.1.0 in let b = self.ref_ptr.0 in let o = self.ref_ptr.1 in
-    let γ = self.ghost_name in let xs = self.now in let room = are.1.1.0.0.1 in let at = named_at 𝓛 u8 (named 1) κ q b o γ xs in
+    let κv = κs.0 in let qv = qs.0 in let κ = κs.1.0 in let q = qs.1.0 in let room = are.1.1.0.0.1 in
     let words : List Val × (List Val × (List Val × (List Val × (List Val × Unit {0})))) =
     (shr_slice_vals values, (uint_vals w8 mark, (mut_slice_vals self, (shr_vals format, (shr_vals options, tt))))) in
+    -- the length of buffer that the call requires, and what a text of the numbers is
     let needed = length values.now * (size_in gs.FORMATTED_SIZE gs.FORMATTED_SIZE_DECIMAL format.now + 1) in
     let Text : List ℕ → Type 0 = IsJoined (map gn.number values.now) mark format.now in
     qed 𝓛 (((‵ (flft κv qv) ⊛ ‵ (flft κ q) ⊛ raw (toks 𝓛 4 κs.1.1 qs.1.1)) ⊛ (‵ ((ShrSlice (named 0) κv R).own_val values words.0) ⊛
@@ -77,9 +78,10 @@ join_spec 𝓤 𝓛 𝓜 𝓡 wired X Y L LY C g d gl dl gn dn gc dc gs ds gt dt
     sets ! (addr ! (from ! (fld ! refl (hop ! (look_in_at ! 3 (sub ! 0 refl (whole !))) (stop !))))) refl (tt, tt) $
     sets ! (agg ! (and_then ! (get ! refl) (and_then ! (get_in ! (fld ! refl (stop !)) (sub ! 1 refl (whole !))) (no_more !)))) refl
     (tt, (tt, (record { fits = room.0 }, tt))) $
-    move ! (1 ∷ 5 ∷ []) $ lends 𝓛 u8 (named 1) κ q b o γ xs ! tt (λ α δ.
+    move ! (1 ∷ 5 ∷ []) $ lends 𝓛 u8 (named 1) κ q self ! tt (λ α δ.
     -- [the loan; what the lender keeps; the token of α; the mark; the references; the values; the token of κv; the other tokens; what is required]
-    let z : Writes.Ghost = (((κv, (α ∷ [], κs.1.1)), (qv, (full_share, qs.1.1)), bounds, (values, (mark, (at δ xs, a.1.1.1))), words), tt) in
+    let z : Writes.Ghost =
+    (((κv, (α ∷ [], κs.1.1)), (qv, (full_share, qs.1.1)), bounds, (values, (mark, (record self { ghost_name = δ }, a.1.1.1))), words), tt) in
     move ! (0 ∷ 4 ∷ []) $ join ! $ move ! (3 ∷ 0 ∷ []) $ join ! $ move ! (3 ∷ 0 ∷ []) $ join ! $ move ! (2 ∷ 4 ∷ []) $ join ! $
     move ! (3 ∷ 0 ∷ []) $ join ! $ join ! $ move ! (0 ∷ 2 ∷ []) $ join ! $ use1 𝓛 (raw (Writes.pre z)) (id⊢ 𝓤 _) $
     calls_at ! fm Writes writes z
@@ -87,17 +89,17 @@ join_spec 𝓤 𝓛 𝓜 𝓡 wired X Y L LY C g d gl dl gn dn gc dc gs ds gt dt
     use1 𝓛 (later (some (λ (n : ℕ). ((‵ (flft κv qv) ⊛ ‵ (flft (α ∷ []) full_share) ⊛ raw (toks 𝓛 4 κs.1.1 qs.1.1)) ⊛ ‵ (usize.own_val n (v ∷ []))) ⊛
     some (λ (ws : Unit {0} × (Unit {0} × (List ℕ × (Unit {0} × (Unit {0} × Unit {0}))))).
     ‵ (lasts (W.ended X Y g d gl dl gn dn gc dc gs ds gt dt) z.0.0 z.0.3 ws) ⊛
-    (raw (fact 𝓤 (Written Text xs ws.1.1.0 n)) ⊛ raw (fact 𝓤 (n ≤ needed - 1))))))) (id⊢ 𝓤 _) $
+    (raw (fact 𝓤 (Written Text self.now ws.1.1.0 n)) ⊛ raw (fact 𝓤 (n ≤ needed - 1))))))) (id⊢ 𝓤 _) $
     await ! tt $ pick ! (λ n. split ! $ split ! $ split3 ! $ move ! (3 ∷ []) $ fsplit ! $ feq_l ! (λ is. flt_l ! (λ fits.
     move ! (3 ∷ []) $ pick ! (λ ws. split3 ! $ move ! (1 ∷ []) $ heard ! _ (λ text. move ! (1 ∷ []) $ heard ! _ (λ short.
-    fsplit ! $ drop ! $ fsplit ! $ drop ! $ fsplit ! $ move ! (3 ∷ 5 ∷ 0 ∷ []) $ comes_back 𝓛 u8 (named 1) κ q b o γ xs ! tt α δ ws.1.1.0 (λ long.
+    fsplit ! $ drop ! $ fsplit ! $ drop ! $ fsplit ! $ move ! (3 ∷ 5 ∷ 0 ∷ []) $ comes_back 𝓛 u8 (named 1) κ q self ! tt α δ ws.1.1.0 (λ long.
     -- [the written slice; the token of κ; the references; the token of κv; the other tokens]
     lands_as ! (ap only is) refl (tt, record { fits = fits }) $
     sets ! (addr ! (from ! (fld ! refl (hop ! (look_in_at ! 3 (sub ! 0 refl (whole !))) (stop !))))) refl (tt, tt) $
     sets ! (agg ! (and_then ! (get ! refl) (and_then ! (get_in ! (fld ! refl (stop !)) (sub ! 1 refl (whole !))) (no_more !)))) refl
     (tt, (tt, (record { fits = room.0 }, tt))) $
-    calls_front 𝓛 𝓜.mem 𝓡.returns κ q b o γ xs ws.1.1.0 n ! (λ text. Text text × (length text ≤ needed - 1)) fm fronts
-    (Writes-short (needed - 1) xs ws.1.1.0 n text short) fits long (and_then ! (get ! refl) (and_then ! (get ! refl) (no_more !))) (λ v' r handed.
+    calls_front 𝓛 𝓜.mem 𝓡.returns κ q self ws.1.1.0 n ! (λ text. Text text × (length text ≤ needed - 1)) fm fronts
+    (Writes-short (needed - 1) self.now ws.1.1.0 n text short) fits long (and_then ! (get ! refl) (and_then ! (get ! refl) (no_more !))) (λ v' r handed.
     -- [the result; the token of κ; what is lent; the references; the token of κv; the other tokens]
     lands_as ! handed.word refl (tt, (tt, (record { fits = handed.fits }, tt))) $
     returns ! (look_at ! 0 refl) $ free_all ! refl $

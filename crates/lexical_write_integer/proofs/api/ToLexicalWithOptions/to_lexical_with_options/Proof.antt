@@ -12,7 +12,7 @@ use Rattle.lexical_num.specs.contracts.format.NumberFormat.{the_row as NumberFor
 use Rattle.lexical_write_integer.specs.Buffer.{Writes as Written}
 use Rattle.lexical_write_integer.specs.Groups.{without_marks}
 use Rattle.lexical_write_integer.specs.Text.{IsText, need}
-use Rattle.lexical_write_integer.proofs.Reborrows.{named_at, lends, comes_back}
+use Rattle.lexical_write_integer.proofs.Reborrows.{lends, comes_back}
 use Rattle.lexical_write_integer.proofs.HandedFronts.{calls_front}
 use Rattle.lexical_write_integer.proofs.Buffers.Prefixes.{Writes-short, Writes-and}
 use Rattle.lexical_write_integer.specs.contracts.api.ToLexicalWithOptions.write_lexical_with_options as W
@@ -28,6 +28,7 @@ to_lexical_with_options_spec 𝓤 𝓛 𝓜 𝓡 wired X Y L LY C g d gl dl gn d
     let R = copied 0 X in let O = param 1 Y in
     let T = F.ended X Y g d gl dl gn dn gc dc gs ds gt dt in
     let c = F.clauses X Y g d gl dl gn dn gc dc gs ds gt dt 𝓛 𝓜.mem 𝓡.returns in
+    -- the contract of `write_lexical_with_options`, and the proofs of it and of `front_mut`
     let Writes = triple_of 𝓛 (W.signature X Y) (W.spec X Y g d gl dl gn dn gc dc gs ds gt dt 𝓛 𝓜.mem 𝓡.returns) in
     let writes = write_met 𝓤 𝓛 𝓜 𝓡 (code.calls-lexical_write_integer::api::ToLexicalWithOptions::write_lexical_with_options 𝓡.env wired)
     X Y L LY C g d gl dl gn dn gc dc gs ds gt dt m ml mn mc ms mt in
@@ -48,10 +49,9 @@ to_lexical_with_options_spec 𝓤 𝓛 𝓜 𝓡 wired X Y L LY C g d gl dl gn d
     (λ κs. ((λ x. C.val x ∷ []), (mut_slice_vals, (shr_vals, (shr_vals, tt)))))
     (λ κs. (C.tells, (mut_slice_Tells (named 0) κs.0 u8, (shr_Tells (named 1) κs.1.0 NumberFormat, (shr_Tells (named 2) κs.1.1.0 O, tt)))))
     (λ κs qs bounds a ghost are.
-    let κ = κs.0 in let q = qs.0 in let x = a.0 in let self = a.1.0 in let format = a.1.1.0 in let options = a.1.1.1.0 in let xs = self.now in
-    let b = self.ref_ptr.0 in let o = self.ref_ptr.1 in let γ = self.ghost_name in
-    let room = are.1.0.0.1 in let at = named_at 𝓛 u8 (named 0) κ q b o γ xs in
+    let κ = κs.0 in let q = qs.0 in let x = a.0 in let self = a.1.0 in let format = a.1.1.0 in let options = a.1.1.1.0 in let room = are.1.0.0.1 in
     let words : List Val × (List Val × (List Val × (List Val × Unit {0}))) = (C.val x ∷ [], (mut_slice_vals self, (shr_vals format, (shr_vals options, tt)))) in
+    -- the length of buffer that the call requires, and what a text of the number is, with its marks and without
     let needed = need (gn.number x) gn.DECIMAL_WIDTH format.now in
     let Text : List ℕ → Type 0 = IsText (gn.number x) format.now in
     let Plain : List ℕ → Type 0 = λ text. IsText (gn.number x) (without_groups format.now) (without_marks format.now.digit_grouping text) in
@@ -65,25 +65,25 @@ to_lexical_with_options_spec 𝓤 𝓛 𝓜 𝓡 wired X Y L LY C g d gl dl gn d
     sets ! (addr ! (from ! (fld ! refl (hop ! (look_in_at ! 2 (sub ! 0 refl (whole !))) (stop !))))) refl (tt, tt) $
     sets ! (agg ! (and_then ! (get ! refl) (and_then ! (get_in ! (fld ! refl (stop !)) (sub ! 1 refl (whole !))) (no_more !)))) refl
     (tt, (tt, (record { fits = room.0 }, tt))) $
-    move ! (1 ∷ 3 ∷ []) $ lends 𝓛 u8 (named 0) κ q b o γ xs ! tt (λ α δ.
+    move ! (1 ∷ 3 ∷ []) $ lends 𝓛 u8 (named 0) κ q self ! tt (λ α δ.
     -- [the loan; what the lender keeps; the token of α; the value; the references; the other tokens; what is required]
-    let z : Writes.Ghost = (((α ∷ [], κs.1), (full_share, qs.1), bounds, (x, (at δ xs, a.1.1)), words), tt) in
+    let z : Writes.Ghost = (((α ∷ [], κs.1), (full_share, qs.1), bounds, (x, (record self { ghost_name = δ }, a.1.1)), words), tt) in
     move ! (0 ∷ 4 ∷ []) $ join ! $ move ! (3 ∷ 0 ∷ []) $ join ! $ move ! (2 ∷ 3 ∷ []) $ join ! $ join ! $ move ! (0 ∷ 2 ∷ []) $ join ! $
     use1 𝓛 (raw (Writes.pre z)) (id⊢ 𝓤 _) $
     calls_at ! fm Writes writes z (and_then ! (get ! refl) (and_then ! (get ! refl) (and_then ! (get ! refl) (and_then ! (get ! refl) (no_more !))))) (λ v.
     use1 𝓛 (later (some (λ (n : ℕ). ((‵ (flft (α ∷ []) full_share) ⊛ raw (toks 𝓛 4 κs.1 qs.1)) ⊛ ‵ (usize.own_val n (v ∷ []))) ⊛
     some (λ (ws : Unit {0} × (List ℕ × (Unit {0} × (Unit {0} × Unit {0})))). ‵ (lasts (W.ended X Y g d gl dl gn dn gc dc gs ds gt dt) z.0.0 z.0.3 ws) ⊛
-    (raw (fact 𝓤 (Written Text xs ws.1.0 n)) ⊛ raw (fact 𝓤 (n ≤ needed)) ⊛ raw (fact 𝓤 (Plain (take n ws.1.0)))))))) (id⊢ 𝓤 _) $
+    (raw (fact 𝓤 (Written Text self.now ws.1.0 n)) ⊛ raw (fact 𝓤 (n ≤ needed)) ⊛ raw (fact 𝓤 (Plain (take n ws.1.0)))))))) (id⊢ 𝓤 _) $
     await ! tt $ pick ! (λ n. split ! $ split ! $ split ! $ move ! (2 ∷ []) $ fsplit ! $ feq_l ! (λ is. flt_l ! (λ fits.
     move ! (2 ∷ []) $ pick ! (λ ws. split ! $ move ! (1 ∷ []) $ split3 ! $ heard ! _ (λ text. heard ! _ (λ short. heard ! _ (λ plain.
-    fsplit ! $ drop ! $ fsplit ! $ move ! (2 ∷ 4 ∷ 0 ∷ []) $ comes_back 𝓛 u8 (named 0) κ q b o γ xs ! tt α δ ws.1.0 (λ long.
+    fsplit ! $ drop ! $ fsplit ! $ move ! (2 ∷ 4 ∷ 0 ∷ []) $ comes_back 𝓛 u8 (named 0) κ q self ! tt α δ ws.1.0 (λ long.
     -- [the written slice; the token of κ; the references; the other tokens]
     lands_as ! (ap only is) refl (tt, record { fits = fits }) $
     sets ! (addr ! (from ! (fld ! refl (hop ! (look_in_at ! 2 (sub ! 0 refl (whole !))) (stop !))))) refl (tt, tt) $
     sets ! (agg ! (and_then ! (get ! refl) (and_then ! (get_in ! (fld ! refl (stop !)) (sub ! 1 refl (whole !))) (no_more !)))) refl
     (tt, (tt, (record { fits = room.0 }, tt))) $
-    calls_front 𝓛 𝓜.mem 𝓡.returns κ q b o γ xs ws.1.0 n ! (λ text. (Text text × (length text ≤ needed)) × Plain text) fm fronts
-    (Writes-and xs ws.1.0 n (Writes-short needed xs ws.1.0 n text short) plain)
+    calls_front 𝓛 𝓜.mem 𝓡.returns κ q self ws.1.0 n ! (λ text. (Text text × (length text ≤ needed)) × Plain text) fm fronts
+    (Writes-and self.now ws.1.0 n (Writes-short needed self.now ws.1.0 n text short) plain)
     fits long (and_then ! (get ! refl) (and_then ! (get ! refl) (no_more !))) (λ v' r handed.
     -- [the result; the token of κ; what is lent; the references; the other tokens]
     lands_as ! handed.word refl (tt, (tt, (record { fits = handed.fits }, tt))) $
