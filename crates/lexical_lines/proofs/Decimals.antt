@@ -8,7 +8,7 @@ use Rattle.std.proofs.Math.Nat.{one-le-pow, mul-le-mul_left}
 use Rattle.lexical_num.specs.Digit.{digit_char}
 use Rattle.lexical_write_integer.specs.Numeral.{value_of}
 use Rattle.lexical_write_integer.specs.Text.{IsDigits}
-use Rattle.lexical_write_integer.proofs.DigitValues.{value_of-append, value_of-one}
+use Rattle.lexical_write_integer.proofs.OfDigits.DigitValues.{value_of-append, value_of-one}
 use Rattle.lexical_lines.specs.Decimal.{IsDecimal}
 
 pub record IsDigitByte (byte : ℕ) : Type 0 where

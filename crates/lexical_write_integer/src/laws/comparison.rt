@@ -2,7 +2,7 @@
 
 ghost use Rattle.std.specs.Prelude.{◌≡◌, ◌↔◌};
 ghost use Rattle.lexical_num.specs.Format.{IsRadix};
-ghost use Rattle.lexical_write_integer.specs.Text.{IsDigits, IsText};
+ghost use Rattle.lexical_write_integer.specs.Texts.Text.{IsDigits, IsText};
 
 use lexical_num::format::NumberFormat;
 use lexical_num::num::LexicalInteger;

@@ -5,10 +5,10 @@ ghost use Rattle.lexical_num.specs.Format.{grouped_length};
 ghost use Rattle.lexical_num.specs.Sign.{sign_of};
 ghost use Rattle.lexical_num.specs.Size.{size_in};
 ghost use Rattle.lexical_num.specs.declared.constants.TheConstants.{BUFFER_SIZE};
-ghost use Rattle.lexical_write_integer.specs.DigitCount.{digit_count};
-ghost use Rattle.lexical_write_integer.specs.Text.{IsText, need};
+ghost use Rattle.lexical_write_integer.specs.Digits.DigitCount.{digit_count};
+ghost use Rattle.lexical_write_integer.specs.Texts.Text.{IsText, need};
 
-use crate::api::ToLexicalWithOptions;
+use crate::texts::api::ToLexicalWithOptions;
 use lexical_num::format::NumberFormat;
 use lexical_num::num::LexicalInteger;
 

@@ -1,4 +1,4 @@
-use Rattle.lexical_write_integer.proofs.Orders.{ComesBefore-IsText}
+use Rattle.lexical_write_integer.proofs.OfTexts.Orders.{ComesBefore-IsText}
 use Rattle.lexical_write_integer.proofs.laws.order.Goals as goal
 
 pub returns : goal.returns

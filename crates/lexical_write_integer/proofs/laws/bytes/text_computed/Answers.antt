@@ -1,5 +1,5 @@
-use Rattle.lexical_write_integer.proofs.ComputedTexts.{text_computed}
-use Rattle.lexical_write_integer.proofs.PrintedTexts.{IsRange-small}
+use Rattle.lexical_write_integer.proofs.OfTexts.ComputedTexts.{text_computed}
+use Rattle.lexical_write_integer.proofs.OfTexts.PrintedTexts.{IsRange-small}
 use Rattle.lexical_write_integer.proofs.laws.bytes.text_computed.Goals as goal
 
 pub returns : goal.returns

@@ -1,5 +1,5 @@
 use Rattle.std.proofs.lemmas.Str.{IsUtf8-from_ascii}
-use Rattle.lexical_write_integer.proofs.Ascii.{IsAscii-IsText}
+use Rattle.lexical_write_integer.proofs.OfTexts.Ascii.{IsAscii-IsText}
 use Rattle.lexical_write_integer.proofs.laws.bytes.text_is_ascii.Goals as goal
 
 pub returns-clause-ascii : goal.returns-clause-ascii

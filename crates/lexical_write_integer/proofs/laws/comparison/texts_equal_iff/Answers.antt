@@ -1,4 +1,4 @@
-use Rattle.lexical_write_integer.proofs.Comparisons.{texts_equal_iff}
+use Rattle.lexical_write_integer.proofs.OfTexts.Comparisons.{texts_equal_iff}
 use Rattle.lexical_write_integer.proofs.laws.comparison.texts_equal_iff.Goals as goal
 
 pub returns : goal.returns

@@ -1,4 +1,4 @@
-use Rattle.lexical_write_integer.proofs.Grouping.Texts.{IsText-one_group, digit-in_text, mark-in_text}
+use Rattle.lexical_write_integer.proofs.OfTexts.Grouping.Texts.{IsText-one_group, digit-in_text, mark-in_text}
 use Rattle.lexical_write_integer.proofs.laws.groups.text_in_groups.Goals as goal
 
 pub returns-clause-one_group : goal.returns-clause-one_group

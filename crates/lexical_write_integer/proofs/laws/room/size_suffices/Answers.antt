@@ -1,4 +1,4 @@
-use Rattle.lexical_write_integer.proofs.Required.{size_in-within}
+use Rattle.lexical_write_integer.proofs.OfTexts.Required.{size_in-within}
 use Rattle.lexical_write_integer.proofs.laws.room.size_suffices.Goals as goal
 
 pub returns-clause-size : goal.returns-clause-size

@@ -1,4 +1,4 @@
-use Rattle.lexical_write_integer.proofs.Required.{length-IsText}
+use Rattle.lexical_write_integer.proofs.OfTexts.Required.{length-IsText}
 use Rattle.lexical_write_integer.proofs.laws.room.text_length.Goals as goal
 
 pub returns : goal.returns
