@@ -87,5 +87,5 @@ pub fn order<T: LexicalInteger>(a: T, b: T, format: &NumberFormat)
         → IsText (T.number b) format.now t
         → (T.number a <ℤ T.number b) ↔ ComesBefore s t }
 {
-    format.is_valid();
+    format.in_range();
 }

@@ -18,7 +18,7 @@ pub fn text_is_ascii<T: LexicalInteger>(number: T, format: &NumberFormat, text: 
     ensures ascii { IsAscii text.now }
     ensures utf8 { IsUtf8 text.now }
 {
-    format.is_valid();
+    format.in_range();
 }
 
 /// A law: the text of a number in decimal, without a required sign and without groups, is what `{}`
@@ -44,7 +44,7 @@ pub fn text_computed<T: LexicalInteger>(number: T, format: &NumberFormat, text: 
         ↔ (text.now ≡ text_of (T.number number) format.now) }
 {
     number.in_range();
-    format.is_valid();
+    format.in_range();
 }
 
 /// A law: the bytes of `text` are a number with leading zeros if and only if they are the list that

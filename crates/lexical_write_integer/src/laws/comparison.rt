@@ -23,5 +23,5 @@ pub fn texts_equal_iff<T: LexicalInteger>(a: T, b: T, format: &NumberFormat, s: 
     requires t { IsText (T.number b) format.now t.now }
     ensures { (s.now ≡ t.now) ↔ (T.number a ≡ T.number b) }
 {
-    format.is_valid();
+    format.in_range();
 }

@@ -31,5 +31,5 @@ pub fn text_in_groups<T: LexicalInteger>(number: T, format: &NumberFormat, size:
         → groups * size < digit_count format.now.mantissa_radix (unsigned_abs (T.number number))
         → from_right text (groups * size + groups - 1) ≡ mark }
 {
-    format.is_valid();
+    format.in_range();
 }

@@ -21,7 +21,7 @@ pub fn size_suffices<T: ToLexicalWithOptions>(value: T, format: &NumberFormat)
     ensures buffer { size_in T.FORMATTED_SIZE T.FORMATTED_SIZE_DECIMAL format.now ≤ BUFFER_SIZE }
 {
     value.in_range();
-    format.is_valid();
+    format.in_range();
 }
 
 /// A law: the length of a text is the length of its sign plus what its digits take with the separators
@@ -32,5 +32,5 @@ pub fn text_length<T: LexicalInteger>(number: T, format: &NumberFormat)
         + grouped_length format.now.digit_grouping
         (digit_count format.now.mantissa_radix (unsigned_abs (T.number number))) }
 {
-    format.is_valid();
+    format.in_range();
 }

@@ -104,7 +104,7 @@ pub trait ToLexicalWithOptions: ToLexical {
     {
         // The result is always `true`. The contract of this call has the ranges of the format's parts,
         // which the proof of `plain` needs.
-        format.is_valid();
+        format.in_range();
         self.write_text(buffer, format)
     }
 

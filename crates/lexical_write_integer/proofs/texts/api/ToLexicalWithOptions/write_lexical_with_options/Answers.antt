@@ -11,5 +11,5 @@ pub returns-clause-plain : goal.returns-clause-plain
 returns-clause-plain g c =
     let x = g.Self.LexicalInteger.number c.args.self in
     let format = c.args.format.now in
-    let valid = c.is_valid.ensures.valid in
+    let valid = c.in_range.ensures in
     IsText-without_marks x format _ valid.mantissa.at_most_36 valid.groups (Writes-is {Is = IsText x format} _ _ _ c.write_text.ensures.text)
