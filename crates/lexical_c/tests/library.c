@@ -455,6 +455,32 @@ static void check_group_bytes(void)
     }
 }
 
+/*
+ * Checks that every number except 0 as the required sign requires a sign: each bit
+ * by itself, and several bits. A required sign is one more byte of the size of a
+ * type in radix 10.
+ */
+static void check_signs(void)
+{
+    static const struct lexical_format FORMATS[] = {
+        { 10, 0, 0, 0 }, { 10, 0, 3, ',' }, { 16, 0, 0, 0 }, { 7, 0, 2, '_' },
+    };
+    static const uint32_t SEVERAL[] = { 0xffffffff, 0xffff0000, 0x7fffffff, 0xfffffffe };
+    for (uint32_t i = 0; i < 32 + sizeof SEVERAL / sizeof SEVERAL[0]; i++)
+        for (size_t t = 0; t < TYPE_COUNT; t++)
+            for (size_t f = 0; f < sizeof FORMATS / sizeof FORMATS[0]; f++) {
+                struct lexical_format format = FORMATS[f];
+                size_t unsigned_size = TYPES[t].buffer_size(&format);
+                format.required_sign = i < 32 ? (uint32_t)1 << i : SEVERAL[i - 32];
+                check(lexical_check_format(&format) == 0, "a required sign is valid");
+                check(TYPES[t].buffer_size(&format) == unsigned_size + (format.radix == 10),
+                      "the size with a required sign");
+                check_number(&TYPES[t], 0, &format);
+                check_number(&TYPES[t], 77, &format);
+                check_number(&TYPES[t], largest_bits(&TYPES[t]), &format);
+            }
+}
+
 /* Checks which of several invalid fields is reported, and that a valid format has none. */
 static void check_order(void)
 {
@@ -555,6 +581,7 @@ int main(void)
     run("no buffer", check_null);
     run("every byte as the radix", check_radices);
     run("every byte as the group size and the separator", check_group_bytes);
+    run("every bit of the required sign", check_signs);
     run("the order of invalid fields", check_order);
     run("random formats", check_random_formats);
     run("groups", check_grouped_edges);
