@@ -54,9 +54,13 @@ pub trait ToLexical: LexicalInteger + FormattedSize {
         requires { need (Self.number self) Self.DECIMAL_WIDTH format.now ≤ length buffer.old }
         ensures text { WritesText (Self.number self) format.now buffer.old buffer.new result }
         ensures short { result ≤ need (Self.number self) Self.DECIMAL_WIDTH format.now }
+        ensures plain { IsText (Self.number self) (without_groups format.now)
+            (without_marks format.now.digit_grouping (take result buffer.new)) }
     {
-        // The proof needs the range of the type. This call of a law does nothing at run time.
+        // The proof needs the ranges of the type and of the parts of the format. The calls of these laws do
+        // nothing at run time.
         self.in_range();
+        format.in_range();
         let sign = write_sign(self, buffer, format);
         let digits = &mut buffer[sign..];
         let count = self.write_magnitude(format, digits);
@@ -102,9 +106,6 @@ pub trait ToLexicalWithOptions: ToLexical {
         ensures plain { IsText (Self.number self) (without_groups format.now)
             (without_marks format.now.digit_grouping (take result buffer.new)) }
     {
-        // The result is always `true`. The contract of this call has the ranges of the format's parts,
-        // which the proof of `plain` needs.
-        format.in_range();
         self.write_text(buffer, format)
     }
 

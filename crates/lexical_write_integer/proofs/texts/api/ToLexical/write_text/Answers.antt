@@ -1,6 +1,9 @@
 use Rattle.std.proofs.Common.{arith}
 use Rattle.std.specs.Prelude.{unsigned_abs}
+use Rattle.lexical_write_integer.specs.Texts.Text.{IsText}
+use Rattle.lexical_write_integer.proofs.Buffers.Prefixes.{Writes-is}
 use Rattle.lexical_write_integer.proofs.OfDigits.Count.DigitCounts.{digit_count-pos}
+use Rattle.lexical_write_integer.proofs.OfTexts.Grouping.Plain.{IsText-without_marks}
 use Rattle.lexical_write_integer.proofs.OfTexts.Required.{grouped_length-le_need, need-pos}
 use Rattle.lexical_write_integer.proofs.OfTexts.SignedTexts.{WritesText-over}
 use Rattle.lexical_write_integer.proofs.texts.api.ToLexical.write_text.Goals as goal
@@ -34,3 +37,10 @@ returns-clause-short g c =
     let range = c.in_range.ensures in
     let fits = grouped_length-le_need c.args.format.now width range.at_least range.at_most c.write_magnitude-count.ensures.digits.count in
     omega (arith, c.write_sign-sign.ensures.count, c.group_digits.ensures.total, fits)
+
+pub returns-clause-plain : goal.returns-clause-plain
+returns-clause-plain g c =
+    let x = g.Self.LexicalInteger.number c.args.self in
+    let format = c.args.format.now in
+    let valid = c.in_range-2.ensures in
+    IsText-without_marks x format _ valid.mantissa.at_most_36 valid.groups (Writes-is {Is = IsText x format} _ _ _ (returns-clause-text g c))
