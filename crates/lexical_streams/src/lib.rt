@@ -18,10 +18,16 @@
 //! ```
 #![tactic(auto)]
 
+// Devices, and those over readers and writers of the standard library.
 mod block_reader;
 mod block_writer;
+mod call_record;
+mod device;
+mod std_device;
 mod stream_answers;
 
 pub use block_reader::BlockReader;
 pub use block_writer::BlockWriter;
+pub use device::{BlockSink, BlockSource};
+pub use std_device::{ReadSource, WriteSink};
 pub use stream_answers::{answer_lines, answer_stream};
