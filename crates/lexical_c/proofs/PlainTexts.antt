@@ -6,7 +6,7 @@ use Rattle.lexical_num.specs.Format.{Format}
 use Rattle.lexical_num.specs.Sign.{sign_of}
 use Rattle.lexical_write_integer.specs.Buffer.{Front, Writes, WritesDigits, WritesText}
 use Rattle.lexical_write_integer.proofs.Buffers.Prefixes.{take-Writes}
-use Rattle.lexical_write_integer.proofs.Buffers.SignedTexts.{WritesText-over}
+use Rattle.lexical_write_integer.proofs.OfTexts.SignedTexts.{WritesText-over}
 use borrow.Rule.Slice.PartMut.{put_mid}
 
 -- the digits of a number that is not negative are its text

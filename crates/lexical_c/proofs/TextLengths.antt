@@ -8,9 +8,9 @@ use Rattle.lexical_num.specs.Sign.{sign_of}
 use Rattle.lexical_write_integer.specs.Computed.{text_of}
 use Rattle.lexical_write_integer.specs.DigitCount.{digit_count}
 use Rattle.lexical_write_integer.specs.Text.{need}
-use Rattle.lexical_write_integer.proofs.ComputedTexts.{text_computed}
-use Rattle.lexical_write_integer.proofs.Required.{length-IsText, grouped_length-le_need}
-use Rattle.lexical_write_integer.proofs.PrintedTexts.{IsRange-small}
+use Rattle.lexical_write_integer.proofs.OfTexts.ComputedTexts.{text_computed}
+use Rattle.lexical_write_integer.proofs.OfTexts.Required.{length-IsText, grouped_length-le_need}
+use Rattle.lexical_write_integer.proofs.OfTexts.PrintedTexts.{IsRange-small}
 
 -- the text of a number consists of its sign, its digits, and the separators between them
 pub length-text_of : (x : ℤ) (format : Format) → IsValid format → unsigned_abs x < 2 ^ 64 →

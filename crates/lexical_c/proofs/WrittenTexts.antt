@@ -4,9 +4,9 @@ use Rattle.lexical_num.specs.Format.{Format, IsValid, grouped_length}
 use Rattle.lexical_write_integer.specs.Buffer.{Front, Writes, WritesText}
 use Rattle.lexical_write_integer.specs.Computed.{text_of}
 use Rattle.lexical_write_integer.proofs.Buffers.Prefixes.{take-Writes, Writes-is}
-use Rattle.lexical_write_integer.proofs.ComputedTexts.{text_computed}
-use Rattle.lexical_write_integer.proofs.DigitCounts.{digit_count-pos}
-use Rattle.lexical_write_integer.proofs.Required.{length-IsText}
+use Rattle.lexical_write_integer.proofs.OfTexts.ComputedTexts.{text_computed}
+use Rattle.lexical_write_integer.proofs.OfDigits.Count.DigitCounts.{digit_count-pos}
+use Rattle.lexical_write_integer.proofs.OfTexts.Required.{length-IsText}
 use Rattle.lexical_c.specs.Buffer.{IsWritable, WritesOrRefuses}
 
 -- the length of the written text is that of the computed text

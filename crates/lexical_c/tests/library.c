@@ -457,7 +457,7 @@ static void check_group_bytes(void)
 
 /*
  * Checks that every number except 0 as the required sign requires a sign: each bit
- * by itself, and several bits. A required sign is one more byte of the size of a
+ * by itself, and several bits. A required sign adds one byte to the size of a
  * type in radix 10.
  */
 static void check_signs(void)

@@ -8,8 +8,8 @@ use Rattle.std.proofs.Math.Nat.{one-le-pow, mul-le-mul_left}
 use Rattle.lexical_num.specs.Digit.{digit_char}
 use Rattle.lexical_write_integer.specs.Numeral.{value_of}
 use Rattle.lexical_write_integer.specs.Text.{IsDigits}
-use Rattle.lexical_write_integer.proofs.DigitValues.{value_of-append, value_of-one}
-use Rattle.lexical_lines.specs.Decimal.{IsDecimal}
+use Rattle.lexical_write_integer.proofs.OfDigits.DigitValues.{value_of-append, value_of-one}
+use Rattle.lexical_lines.specs.Decimal.{IsDecimalNumeral}
 
 pub record IsDigitByte (byte : ℕ) : Type 0 where
   pub at_least : 48 ≤ byte
@@ -47,8 +47,8 @@ digits_in-digit_char (d ∷ digits) h =
     let rest = digits_in-digit_char digits (All-tail (λ d. d < 10) d digits h) in
     cc
 
-pub IsDecimal-from : (n : ℕ) (text : List ℕ) → 0 < length text → All IsDigitByte text → n ≡ value_of 10 (digits_in text) → IsDecimal n text
-IsDecimal-from n text some bytes value = record {
+pub IsDecimalNumeral-from : (n : ℕ) (text : List ℕ) → 0 < length text → All IsDigitByte text → n ≡ value_of 10 (digits_in text) → IsDecimalNumeral n text
+IsDecimalNumeral-from n text some bytes value = record {
   digits = digits_in text;
   nonempty = rw length-map some;
   below_ten = digits_below_ten text bytes;
@@ -56,11 +56,11 @@ IsDecimal-from n text some bytes value = record {
   characters = sym (digit_char-digits_in text bytes);
 }
 
-pub IsDecimal-bytes : (n : ℕ) (text : List ℕ) → IsDecimal n text → All IsDigitByte text
-IsDecimal-bytes n text h = rw h.characters (bytes_of_digits h.digits h.below_ten)
+pub IsDecimalNumeral-bytes : (n : ℕ) (text : List ℕ) → IsDecimalNumeral n text → All IsDigitByte text
+IsDecimalNumeral-bytes n text h = rw h.characters (bytes_of_digits h.digits h.below_ten)
 
-pub IsDecimal-value : (n : ℕ) (text : List ℕ) → IsDecimal n text → value_of 10 (digits_in text) ≡ n
-IsDecimal-value n text h = rw (h.characters, digits_in-digit_char h.digits h.below_ten) h.value
+pub IsDecimalNumeral-value : (n : ℕ) (text : List ℕ) → IsDecimalNumeral n text → value_of 10 (digits_in text) ≡ n
+IsDecimalNumeral-value n text h = rw (h.characters, digits_in-digit_char h.digits h.below_ten) h.value
 
 -- ---- the digits read so far
 
@@ -86,18 +86,18 @@ value_of-more text i h =
     ∙ omega (arith, value_of-one 10 (get_or text i 0 - 48))
 
 -- each byte of a decimal number is a digit
-pub IsDecimal-byte : (n : ℕ) (text : List ℕ) (i : ℕ) → i < length text → IsDecimal n text → IsDigitByte (get_or text i 0)
-IsDecimal-byte n text i h d = All-get_or IsDigitByte text i 0 h (IsDecimal-bytes n text d)
+pub IsDecimalNumeral-byte : (n : ℕ) (text : List ℕ) (i : ℕ) → i < length text → IsDecimalNumeral n text → IsDigitByte (get_or text i 0)
+IsDecimalNumeral-byte n text i h d = All-get_or IsDigitByte text i 0 h (IsDecimalNumeral-bytes n text d)
 
 -- the value of the first bytes is at most the number
-pub IsDecimal-at_least : (n : ℕ) (text : List ℕ) (i : ℕ) → i < length text → IsDecimal n text
+pub IsDecimalNumeral-at_least : (n : ℕ) (text : List ℕ) (i : ℕ) → i < length text → IsDecimalNumeral n text
     → value_of 10 (digits_in (take i text)) * 10 + (get_or text i 0 - 48) ≤ n
-IsDecimal-at_least n text i h d = omega (arith, value_of-more text i h, value_of-front text (i + 1), IsDecimal-value n text d)
+IsDecimalNumeral-at_least n text i h d = omega (arith, value_of-more text i h, value_of-front text (i + 1), IsDecimalNumeral-value n text d)
 
 -- ---- digits without leading zeros
 
-pub IsDecimal-from_digits : (n : ℕ) (text : List ℕ) → IsDigits 10 n text → IsDecimal n text
-IsDecimal-from_digits n text h = record {
+pub IsDecimalNumeral-from_digits : (n : ℕ) (text : List ℕ) → IsDigits 10 n text → IsDecimalNumeral n text
+IsDecimalNumeral-from_digits n text h = record {
   digits = h.digits;
   nonempty = h.numeral.numeral.nonempty;
   below_ten = h.numeral.numeral.below_radix;

@@ -5,7 +5,7 @@ use Rattle.lexical_num.specs.Format.{Format}
 use Rattle.lexical_write_integer.specs.Buffer.{Front, Writes}
 use Rattle.lexical_write_integer.specs.Text.{IsText}
 use Rattle.lexical_lines.proofs.Buffers.{Front-push}
-use Rattle.lexical_write_integer.proofs.Joins.{AreJoined-push}
+use Rattle.lexical_write_integer.proofs.OfTexts.Joins.{AreJoined-push}
 use Rattle.lexical_lines.specs.JoinedText.{IsJoined}
 
 -- ---- another text

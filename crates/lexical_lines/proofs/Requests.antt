@@ -9,7 +9,7 @@ use Rattle.lexical_lines.specs.IntegerType.{name_of}
 use Rattle.lexical_lines.specs.Request.{IsRequest, IsValue}
 use Rattle.lexical_lines.specs.Split.{Lacks, optional_sign}
 use Rattle.lexical_lines.proofs.Splits.{cut_unique}
-use Rattle.lexical_lines.proofs.Decimals.{IsDigitByte, IsDecimal-bytes, IsDecimal-from_digits}
+use Rattle.lexical_lines.proofs.Decimals.{IsDigitByte, IsDecimalNumeral-bytes, IsDecimalNumeral-from_digits}
 use Rattle.lexical_lines.proofs.Signs.{stripped_unique}
 
 -- no byte of the text is a space
@@ -63,7 +63,7 @@ module _ {kind : IntegerType} {plus : Bool} {radix : ℕ} {number : ℤ} {line :
   signed_radix = optional_sign plus 43 ++ h.radix_text
 
   pub radix_bytes : All IsDigitByte h.radix_text
-  radix_bytes = IsDecimal-bytes radix h.radix_text (IsDecimal-from_digits radix h.radix_text h.radix_digits)
+  radix_bytes = IsDecimalNumeral-bytes radix h.radix_text (IsDecimalNumeral-from_digits radix h.radix_text h.radix_digits)
 
   pub whole_as : line ≡ name_of kind ++ 32 ∷ (signed_radix ++ 32 ∷ h.value_text)
   whole_as = h.whole ∙ regroup (name_of kind) (optional_sign plus 43) h.radix_text h.value_text
@@ -87,4 +87,4 @@ module _ {kind : IntegerType} {plus : Bool} {radix : ℕ} {number : ℤ} {line :
 pub IsValue-parts : {kind : IntegerType} {number : ℤ} {text : List ℕ} (h : IsValue kind number text) (digits : List ℕ) (minus : Bool)
     → text ≡ optional_sign minus 45 ++ digits → (StartsWith text (45 ∷ []) → minus ≡ true) → (minus ≡ h.minus) × (digits ≡ h.digits)
 IsValue-parts {text = text} h digits minus e stripped =
-    stripped_unique 45 text digits h.digits minus h.minus (omega arith) e stripped h.whole (IsDecimal-bytes h.magnitude h.digits h.decimal)
+    stripped_unique 45 text digits h.digits minus h.minus (omega arith) e stripped h.whole (IsDecimalNumeral-bytes h.magnitude h.digits h.decimal)

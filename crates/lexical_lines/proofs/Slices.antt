@@ -6,16 +6,16 @@ use borrow.Rule.Slice.PartMut.{put_mid}
 use Rattle.lexical_write_integer.specs.Buffer.{Writes}
 use Rattle.lexical_lines.specs.RunOutcome.{BreaksOff}
 use Rattle.lexical_lines.specs.declared.slice.SliceSink.{SliceSink}
-use Rattle.lexical_lines.specs.Slice.{KeepsBytes, SliceReading, KeepsBuffer, rest_in, taken_in}
+use Rattle.lexical_lines.specs.Slice.{KeepsSlice, SliceReading, KeepsBuffer, rest_in, taken_in}
 
 -- a source that has reported its end has yielded all its bytes
-pub given-ended : {a b : SliceReading} (bytes : List ℕ) → a.given ≡ [] → a.left ≡ bytes → a.is_ended ≡ false → KeepsBytes a b
+pub given-ended : {a b : SliceReading} (bytes : List ℕ) → a.given ≡ [] → a.left ≡ bytes → a.is_ended ≡ false → KeepsSlice a b
     → IsTrue b.is_ended → b.given ≡ bytes
 given-ended {a} {b} bytes none all unended kept ended =
     let left : b.left ≡ [] = kept.at_end (λ e. cc (e, unended)) ended in
     sym (append-nil b.given) ∙ ap (λ rest. b.given ++ rest) (sym left) ∙ kept.whole ∙ ap (λ front. front ++ a.left) none ∙ all
 
-pub given-part : {a b : SliceReading} (bytes : List ℕ) → a.given ≡ [] → a.left ≡ bytes → KeepsBytes a b → bytes ≡ b.given ++ b.left
+pub given-part : {a b : SliceReading} (bytes : List ℕ) → a.given ≡ [] → a.left ≡ bytes → KeepsSlice a b → bytes ≡ b.given ++ b.left
 given-part {a} {b} bytes none all kept = sym (kept.whole ∙ ap (λ front. front ++ a.left) none ∙ all)
 
 -- the buffer of a sink is the bytes that it has taken, and then unchanged bytes

@@ -4,7 +4,7 @@ use Rattle.std.proofs.Common.{length-append, append_assoc}
 use Rattle.std.specs.Prelude.{codes}
 use Rattle.lexical_write_integer.specs.Text.{IsText}
 use Rattle.lexical_num.specs.Sign.{sign_of}
-use Rattle.lexical_write_integer.proofs.Numerals.{digits_unique}
+use Rattle.lexical_write_integer.proofs.OfDigits.Numerals.{digits_unique}
 use Rattle.lexical_lines.specs.declared.integer_type.IntegerType.{IntegerType}
 use Rattle.lexical_lines.specs.Answer.{IsAnswer, WithNewline, IsBadLine, AreAnswersFrom, AnswersAll, AnswersEnded, format_of}
 use Rattle.lexical_lines.specs.IntegerType.{with_sign}
@@ -15,7 +15,7 @@ use Rattle.lexical_lines.specs.Request.{IsRequest, IsValue}
 use Rattle.lexical_lines.specs.RunOutcome.{BreaksOff}
 use Rattle.lexical_lines.specs.Sink.{IsBeginning}
 use Rattle.lexical_lines.proofs.Lines.{AreLines-append, AreLines-exist, AreLines-longer, AreLines-unique}
-use Rattle.lexical_lines.proofs.Decimals.{IsDecimal-bytes, IsDecimal-value, IsDecimal-from_digits}
+use Rattle.lexical_lines.proofs.Decimals.{IsDecimalNumeral-bytes, IsDecimalNumeral-value, IsDecimalNumeral-from_digits}
 use Rattle.lexical_lines.proofs.Requests.{IsRequest-name, IsRequest-parts, no_space-name, no_space-signed, radix_bytes, whole_as}
 use Rattle.lexical_lines.proofs.Signs.{signs_unique}
 
@@ -23,8 +23,8 @@ use Rattle.lexical_lines.proofs.Signs.{signs_unique}
 IsValue-number : {kind other : IntegerType} {number second : ℤ} {text : List ℕ} → IsValue kind number text → IsValue other second text → number ≡ second
 IsValue-number h k =
     let parts = signs_unique 45 h.minus k.minus h.digits k.digits (omega arith) (sym h.whole ∙ k.whole)
-    (IsDecimal-bytes h.magnitude h.digits h.decimal) (IsDecimal-bytes k.magnitude k.digits k.decimal) in
-    let same : h.magnitude ≡ k.magnitude = sym (IsDecimal-value h.magnitude h.digits h.decimal) ∙ IsDecimal-value k.magnitude h.digits (rw parts.1 k.decimal) in
+    (IsDecimalNumeral-bytes h.magnitude h.digits h.decimal) (IsDecimalNumeral-bytes k.magnitude k.digits k.decimal) in
+    let same : h.magnitude ≡ k.magnitude = sym (IsDecimalNumeral-value h.magnitude h.digits h.decimal) ∙ IsDecimalNumeral-value k.magnitude h.digits (rw parts.1 k.decimal) in
     h.value ∙ ap (λ minus. with_sign minus h.magnitude) parts.0 ∙ ap (with_sign k.minus) same ∙ sym k.value
 
 -- a line makes one request only
@@ -36,8 +36,8 @@ IsRequest-unique {kind = kind} {other = other} {plus = plus} {add = add} {radix 
     let parts = IsRequest-parts k _ _ h.value_text first.1 refl (no_space-signed plus h.radix_text (radix_bytes h)) in
     let signs = signs_unique 43 plus add h.radix_text k.radix_text (omega arith) parts.0 (radix_bytes h) (radix_bytes k) in
     let same : radix ≡ base =
-    sym (IsDecimal-value radix h.radix_text (IsDecimal-from_digits radix h.radix_text h.radix_digits))
-    ∙ IsDecimal-value base h.radix_text (rw signs.1 (IsDecimal-from_digits base k.radix_text k.radix_digits)) in
+    sym (IsDecimalNumeral-value radix h.radix_text (IsDecimalNumeral-from_digits radix h.radix_text h.radix_digits))
+    ∙ IsDecimalNumeral-value base h.radix_text (rw signs.1 (IsDecimalNumeral-from_digits base k.radix_text k.radix_digits)) in
     (signs.0, same, IsValue-number h.value (let value : IsValue other second h.value_text = rw parts.1 k.value in value))
 
 IsText-unique : (number : ℤ) (radix : ℕ) (plus : Bool) (a b : List ℕ) → 2 ≤ radix → IsText number (format_of radix plus) a

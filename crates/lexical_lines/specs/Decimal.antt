@@ -4,7 +4,7 @@ use Rattle.lexical_num.specs.Digit.{digit_char}
 use Rattle.lexical_write_integer.specs.Numeral.{value_of}
 
 -- the text is one or more decimal digits, with or without leading zeros, whose value is the number
-pub record IsDecimal (number : ℕ) (text : List ℕ) : Type 0 where
+pub record IsDecimalNumeral (number : ℕ) (text : List ℕ) : Type 0 where
   pub digits : List ℕ
   pub nonempty : 0 < length digits
   pub below_ten : All (λ d. d < 10) digits

@@ -6,7 +6,7 @@ use Rattle.lexical_lines.specs.declared.integer_type.IntegerType.{IntegerType}
 use Rattle.lexical_lines.specs.declared.request.Number.{Number}
 use Rattle.lexical_lines.specs.declared.request.Number.TheVariants.{Unsigned, Signed}
 use Rattle.lexical_lines.specs.declared.request.Request.{Request}
-use Rattle.lexical_lines.specs.Decimal.{IsDecimal}
+use Rattle.lexical_lines.specs.Decimal.{IsDecimalNumeral}
 use Rattle.lexical_lines.specs.IntegerType.{name_of, with_sign, Holds}
 use Rattle.lexical_lines.specs.Split.{optional_sign}
 
@@ -16,7 +16,7 @@ pub record IsValue (kind : IntegerType) (number : ℤ) (text : List ℕ) : Type 
   pub magnitude : ℕ
   pub digits : List ℕ
   pub holds : Holds kind minus magnitude
-  pub decimal : IsDecimal magnitude digits
+  pub decimal : IsDecimalNumeral magnitude digits
   pub whole : text ≡ optional_sign minus 45 ++ digits
   pub value : number ≡ with_sign minus magnitude
 

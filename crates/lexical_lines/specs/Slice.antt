@@ -15,7 +15,7 @@ pub record SliceReading : Type 0 where
   pub is_ended : Bool
 
 -- the bytes as a whole are unchanged, and once the source has reported its end, none are left
-pub record KeepsBytes (a b : SliceReading) : Type 0 where
+pub record KeepsSlice (a b : SliceReading) : Type 0 where
   pub whole : b.given ++ b.left ≡ a.given ++ a.left
   pub at_end : (a.is_ended ≡ true → a.left ≡ []) → b.is_ended ≡ true → b.left ≡ []
 
@@ -47,11 +47,11 @@ pub record KeepsBuffer (a b : SliceSink) : Type 0 where
 
 -- ---- proofs that ghost members cite
 
-pub KeepsBytes-reflexive : (a : SliceReading) → KeepsBytes a a
-KeepsBytes-reflexive a = record { whole = refl; at_end = λ none. none }
+pub KeepsSlice-reflexive : (a : SliceReading) → KeepsSlice a a
+KeepsSlice-reflexive a = record { whole = refl; at_end = λ none. none }
 
-pub KeepsBytes-transitive : (a b c : SliceReading) → KeepsBytes a b → KeepsBytes b c → KeepsBytes a c
-KeepsBytes-transitive a b c p q = record { whole = q.whole ∙ p.whole; at_end = λ none. q.at_end (p.at_end none) }
+pub KeepsSlice-transitive : (a b c : SliceReading) → KeepsSlice a b → KeepsSlice b c → KeepsSlice a c
+KeepsSlice-transitive a b c p q = record { whole = q.whole ∙ p.whole; at_end = λ none. q.at_end (p.at_end none) }
 
 pub KeepsBuffer-reflexive : (a : SliceSink) → KeepsBuffer a a
 KeepsBuffer-reflexive a =

@@ -114,14 +114,14 @@ impl Answerer {
 
     /// Ends the input, and returns whether all lines are valid. If there are bytes after the last
     /// newline, they are a line too, and the answer to it is written first.
-    pub fn finish<K: ByteSink>(&mut self, sink: &mut K) -> io::Result<bool>
+    pub fn finish<K: ByteSink>(mut self, sink: &mut K) -> io::Result<bool>
         ensures ok { OnOk result ((before read : List ℕ)
-            → HasAnswered before read (K.taken sink.old) self.old
+            → HasAnswered before read (K.taken sink.old) self
             → AnswersAll read (added before (K.taken sink.new))) }
         ensures good { IfOk result (λ all_good. (before read : List ℕ)
-            → HasAnswered before read (K.taken sink.old) self.old → TellsAllGood read all_good) }
+            → HasAnswered before read (K.taken sink.old) self → TellsAllGood read all_good) }
         ensures err { OnErr result ((before read : List ℕ)
-            → HasAnswered before read (K.taken sink.old) self.old
+            → HasAnswered before read (K.taken sink.old) self
             → BreaksOff true read (added before (K.taken sink.new))) }
         ensures puts { PutsMore K.taken K.faults K.keeps sink.old sink.new result }
     {

@@ -3,15 +3,15 @@
 ghost use Rattle.std.specs.Prelude.{ℕ, ◌^◌, ◌<◌, IfSome, IfNone};
 ghost use Rattle.lexical_num.specs.Format.{IsRadix};
 ghost use Rattle.lexical_write_integer.specs.Text.{IsDigits};
-ghost use Rattle.lexical_lines.specs.Decimal.{IsDecimal};
+ghost use Rattle.lexical_lines.specs.Decimal.{IsDecimalNumeral};
 
 use lexical_num::limits::is_radix;
 
 /// Parses one or more decimal digits, with or without leading zeros. Returns `None` if the text is
 /// anything else, or if the number does not fit in a `u64`.
 pub fn parse_decimal(text: &[u8]) -> Option<u64>
-    ensures found { IfSome result (λ number. IsDecimal number text.now) }
-    ensures none { IfNone result ((number : ℕ) → number < 2 ^ 64 → IsDecimal number text.now → ⊥) }
+    ensures found { IfSome result (λ number. IsDecimalNumeral number text.now) }
+    ensures none { IfNone result ((number : ℕ) → number < 2 ^ 64 → IsDecimalNumeral number text.now → ⊥) }
 {
     if text.is_empty() {
         return None;

@@ -53,7 +53,7 @@ impl<'a> SliceSource<'a> {
 }
 
 impl ByteSource for SliceSource<'_> {
-    ghost use Rattle.lexical_lines.specs.Slice.{KeepsBytes, KeepsBytes-reflexive, KeepsBytes-transitive};
+    ghost use Rattle.lexical_lines.specs.Slice.{KeepsSlice, KeepsSlice-reflexive, KeepsSlice-transitive};
 
     ghost given = { λ s. s.given };
 
@@ -63,11 +63,11 @@ impl ByteSource for SliceSource<'_> {
 
     ghost remaining = { λ s. length s.left };
 
-    ghost keeps = { KeepsBytes };
+    ghost keeps = { KeepsSlice };
 
-    ghost keeps_reflexive = { KeepsBytes-reflexive };
+    ghost keeps_reflexive = { KeepsSlice-reflexive };
 
-    ghost keeps_transitive = { KeepsBytes-transitive };
+    ghost keeps_transitive = { KeepsSlice-transitive };
 
     /// Returns the next byte, or `None` at the end of the slice.
     fn next(&mut self) -> io::Result<Option<u8>>
@@ -75,7 +75,7 @@ impl ByteSource for SliceSource<'_> {
         ensures ended { self.new.is_ended ≡ (self.old.is_ended || tells_end result) }
         ensures faults { 0 ≡ 0 + faults_of result }
         ensures remaining { length self.new.left + length (given_by result) ≤ length self.old.left }
-        ensures kept { KeepsBytes self.old self.new }
+        ensures kept { KeepsSlice self.old self.new }
         ensures exact { result ≡ Ok (slice_get self.old.left 0) }
         ensures left { self.new.left ≡ drop 1 self.old.left }
     {

@@ -102,15 +102,21 @@ impl NumberFormat {
         }
     }
 
+    /// A law: the parts of the format are in their ranges.
+    pub fn in_range(&self)
+        ensures { IsValid self.now }
+    {
+        // Reading the parts makes their invariant known to the prover.
+        let _ = &self.parts;
+    }
+
     /// Returns whether numbers can be written in the format. This is always true, since a format is
-    /// valid once it is built. A caller whose proof needs the ranges of the parts obtains them from
-    /// this call.
+    /// valid once it is built.
     pub fn is_valid(&self) -> bool
         ensures always { IsTrue result }
         ensures valid { IsValid self.now }
     {
-        // Reading the parts makes their invariant known to the prover.
-        let _ = &self.parts;
+        self.in_range();
         true
     }
 }

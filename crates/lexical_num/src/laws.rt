@@ -1,12 +1,14 @@
-//! Contracts for `==` and `clone` of formats, builders and options. The traits are derived. Each
+//! Contracts for `==`, `cmp` and `clone` of formats, builders and options. The traits are derived. Each
 //! function here calls one of them, and its contract says the result in terms of the parts.
 
 ghost use Rattle.std.specs.Prelude.{◌≡◌, ◌↔◌, IsTrue, Ok};
+ghost use Rattle.std.specs.declared.cmp.Ordering.TheVariants.{Equal};
 
 use crate::format::NumberFormat;
 use crate::format_builder::NumberFormatBuilder;
 use crate::options::{Options, OptionsBuilder};
 use std::alloc::AllocError;
+use std::cmp::Ordering;
 
 /// Returns whether two formats are equal, which means that all their parts are equal.
 pub fn equal_formats(a: &NumberFormat, b: &NumberFormat) -> bool
@@ -34,6 +36,20 @@ pub fn equal_options_builders(a: &OptionsBuilder, b: &OptionsBuilder) -> bool
     ensures { IsTrue result }
 {
     a == b
+}
+
+/// Compares two options, which are always equal.
+pub fn order_of_options(a: &Options, b: &Options) -> Ordering
+    ensures { result ≡ Equal }
+{
+    a.cmp(b)
+}
+
+/// Compares two builders of options, which are always equal.
+pub fn order_of_options_builders(a: &OptionsBuilder, b: &OptionsBuilder) -> Ordering
+    ensures { result ≡ Equal }
+{
+    a.cmp(b)
 }
 
 /// Returns a clone of a format, which is equal to it.

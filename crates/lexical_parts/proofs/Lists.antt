@@ -4,7 +4,7 @@ use Rattle.std.proofs.lemmas.List.{take_more, append-nil, length-take-le}
 use Rattle.lexical_write_integer.specs.Buffer.{Writes}
 use Rattle.lexical_write_integer.specs.Sequence.{IsExactly, AreJoined}
 use Rattle.lexical_write_integer.proofs.Buffers.Prefixes.{Front-after, length-after}
-use Rattle.lexical_write_integer.proofs.Joins.{Leads, AreJoined-push}
+use Rattle.lexical_write_integer.proofs.OfTexts.Joins.{Leads, AreJoined-push}
 use Rattle.lexical_parts.specs.Joined.{AreEach}
 use Rattle.lexical_parts.specs.Sequence.{◌then◌}
 

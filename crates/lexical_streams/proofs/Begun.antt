@@ -1,17 +1,14 @@
--- What was answered so far of the bytes that a reader has yielded.
-use Rattle.std.proofs.Common.{◌≡◌, ℕ, ◌≤◌, Bool, true, false, List, ◌++◌, length, take, drop, ap, ◌∙◌, append_assoc, append-nil}
-use Rattle.std.proofs.Transfers.{starts_with_of_append, starts_with_of_eq}
+-- A prefix of the answers, if a device fails.
+use Rattle.std.proofs.Common.{◌≡◌, ℕ, Bool, true, false, List, ◌++◌, length, drop, ap, ◌∙◌, append_assoc}
+use Rattle.std.proofs.Transfers.{starts_with_of_append}
 use Rattle.std.proofs.KnownBytes.{starts_with_rest}
 use Rattle.std.specs.Io.{StartsWith}
-use Rattle.lexical_lines.specs.declared.answerer.Answerer.{Answerer}
 use Rattle.lexical_lines.specs.Answer.{AnswersAll, AnswersEnded}
-use Rattle.lexical_lines.specs.Answerer.{HasAnswered}
-use Rattle.lexical_lines.specs.RunOutcome.{added, BreaksOff}
-use Rattle.lexical_lines.proofs.Added.{added-is}
+use Rattle.lexical_lines.specs.RunOutcome.{BreaksOff}
 use Rattle.lexical_lines.proofs.UniqueAnswers.{AnswersAll-unique, AnswersEnded-begins, BreaksOff-begins}
 use Rattle.lexical_streams.specs.StreamAnswers.{BeginsAnswers}
-
--- ---- a prefix of the answers
+use Rattle.std.proofs.Common.{append-nil}
+use Rattle.std.proofs.Transfers.{starts_with_of_eq}
 
 pub begins-ended : (is_whole : Bool) (read put : List ℕ) → AnswersEnded read put → BeginsAnswers is_whole read put
 begins-ended is_whole read put answered = λ more text whole all.
@@ -39,36 +36,3 @@ pub begins-all : (is_whole : Bool) (read put : List ℕ) → is_whole ≡ true �
 begins-all is_whole read put is answered = λ more text whole all.
     let same : read ++ more ≡ read = ap (λ bytes. read ++ bytes) (whole is) ∙ append-nil read in
     starts_with_of_eq text put (AnswersAll-unique read text put (rw same at all) answered)
-
--- ---- the loop over blocks
-
--- the answerer has received the bytes that were read before the block, and not yet those at the start of the block. If
--- there are none, the reader has reported its end
-pub record HasBegun (given_before given taken_before taken block : List ℕ) (is_ended : Bool) (count : ℕ) (answerer : Answerer) : Type 0 where
-  pub read : List ℕ
-  pub answered : HasAnswered taken_before read taken answerer
-  pub gave : given ≡ given_before ++ (read ++ take count block)
-  pub within : count ≤ length block
-  pub ended : count ≡ 0 → is_ended ≡ true
-
-module _ {given_before given taken_before taken block : List ℕ} {is_ended : Bool} {count : ℕ} {answerer : Answerer}
-    (h : HasBegun given_before given taken_before taken block is_ended count answerer) where
-  pub bytes-are : added given_before given ≡ h.read ++ take count block
-  bytes-are = added-is given_before given (h.read ++ take count block) h.gave
-
-  -- at the end the answerer has received all bytes
-  pub bytes-are-all : count ≡ 0 → added given_before given ≡ h.read
-  bytes-are-all none = bytes-are ∙ ap (λ n. h.read ++ take n block) none ∙ append-nil h.read
-
-  -- the block was answered, and the next one was read
-  pub HasBegun-next : (given_after put next : List ℕ) (is_ended_after : Bool) (number : ℕ) (answerer_after : Answerer)
-      → HasAnswered taken_before (h.read ++ take count block) put answerer_after → given_after ≡ given ++ take number next
-      → number ≤ length next → (number ≡ 0 → is_ended_after ≡ true)
-      → HasBegun given_before given_after taken_before put next is_ended_after number answerer_after
-  HasBegun-next given_after put next is_ended_after number answerer_after answered more within ended = record {
-    read = h.read ++ take count block;
-    answered = answered;
-    gave = more ∙ ap (λ bytes. bytes ++ take number next) h.gave ∙ append_assoc given_before (h.read ++ take count block) (take number next);
-    within = within;
-    ended = ended;
-  }

@@ -1,11 +1,9 @@
--- What callers know if the bytes of the reader and the contents of the writer are known.
-use Rattle.std.proofs.Common.{◌≡◌, ℕ, false, List, [], ◌++◌, take, Option, Some, None, IfSome, sym, ap, subst, ◌∙◌}
+-- What callers know if the bytes of the source and the contents of the sink are known.
+use Rattle.std.proofs.Common.{◌≡◌, ℕ, List, [], ◌++◌, take, Option, Some, None, IfSome, sym, ap, subst, ◌∙◌}
 use Rattle.std.specs.Io.KnownBytes.{Appends}
 use Rattle.lexical_lines.specs.Answer.{AnswersAll}
-use Rattle.lexical_streams.specs.declared.block_reader.BlockReader.{BlockReader}
-use Rattle.lexical_streams.specs.declared.block_writer.BlockWriter.{BlockWriter}
+use Rattle.lexical_streams.specs.Blocks.{BlockReading, BlockWriting}
 use Rattle.lexical_streams.specs.StreamAnswers.{AllAnswered, bytes_read, bytes_put}
-use Rattle.lexical_streams.specs.Blocks.{reading, inner, held}
 
 known-all : (known : Option (List ℕ)) (P : List ℕ → Type 0) (bytes : List ℕ) → known ≡ Some bytes → IfSome known P → P bytes
 known-all known P bytes is all = subst (λ o. IfSome o P) is all
@@ -18,13 +16,10 @@ known-text (Some xs) (Some ys) more items none some appends = same_items items y
     same_items : (a b : List ℕ) → Some a ≡ Some b → a ≡ b
     same_items a b e = cc
 
--- a writer that was empty now contains the answers to all lines
-pub answers-known : {R W : Type 0} {n : ℕ} (remaining : R → Option (List ℕ)) (contents : W → Option (List ℕ)) (a b : BlockReader R)
-    (c d : BlockWriter W n) (bytes items : List ℕ)
-    → AllAnswered remaining contents a b c d → (reading a).is_ended ≡ false → remaining (reading a).reader ≡ Some bytes
-    → held c ≡ [] → contents (inner c) ≡ Some [] → contents (inner d) ≡ Some items
-    → AnswersAll (take (reading a).left bytes) items
-answers-known remaining contents a b c d bytes items h unended known empty none some =
-    let read = known-all _ (λ xs. bytes_read a b ≡ take (reading a).left xs) bytes known (h.all unended) in
-    let put = known-text _ _ (held c ++ bytes_put c d) items none some h.handed ∙ ap (λ front. front ++ bytes_put c d) empty in
-    subst (λ text. AnswersAll (take (reading a).left bytes) text) (sym put) (subst (λ xs. AnswersAll xs (bytes_put c d)) read h.answers)
+-- a sink that was empty now contains the answers to all lines
+pub answers-known : (a b : BlockReading) (c d : BlockWriting) (bytes items : List ℕ) → AllAnswered a b c d → a.remaining ≡ Some bytes
+    → c.held ≡ [] → c.contents ≡ Some [] → d.contents ≡ Some items → AnswersAll (take a.left bytes) items
+answers-known a b c d bytes items h known empty none some =
+    let read = known-all a.remaining (λ xs. bytes_read a b ≡ take a.left xs) bytes known h.all in
+    let put = known-text c.contents d.contents (c.held ++ bytes_put c d) items none some h.handed.contents ∙ ap (λ front. front ++ bytes_put c d) empty in
+    subst (λ text. AnswersAll (take a.left bytes) text) (sym put) (subst (λ xs. AnswersAll xs (bytes_put c d)) read h.answers)

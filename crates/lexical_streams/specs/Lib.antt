@@ -1,2 +1,3 @@
-pub mod StreamAnswers
 pub mod Blocks
+pub mod Kept
+pub mod StreamAnswers

@@ -1,45 +1,43 @@
 -- What was read and written while the lines of a stream were answered.
-use Rattle.std.specs.Prelude.{◌≡◌, ◌+◌, ◌<◌, ℕ, Bool, true, false, List, [], ◌++◌, take, Option, IfSome}
+use Rattle.std.specs.Prelude.{◌≡◌, ◌⊎◌, ℕ, ◌+◌, Bool, true, List, [], ◌++◌, take, IfSome}
 use Rattle.std.specs.Io.{StartsWith}
 use Rattle.std.specs.Io.KnownBytes.{Appends}
+use Rattle.lexical_lines.specs.declared.answerer.Answerer.{Answerer}
 use Rattle.lexical_lines.specs.Answer.{AnswersAll, AnswersEnded}
+use Rattle.lexical_lines.specs.Answerer.{HasAnswered}
 use Rattle.lexical_lines.specs.RunOutcome.{added}
-use Rattle.lexical_streams.specs.declared.block_reader.BlockReader.{BlockReader}
-use Rattle.lexical_streams.specs.declared.block_writer.BlockWriter.{BlockWriter}
-use Rattle.lexical_streams.specs.Blocks.{reading, inner, held, taken, faults}
+use Rattle.lexical_streams.specs.Blocks.{BlockReading, BlockWriting, taken, Yields, KeepsBytes, IsFlushed}
 
 -- the bytes that a reader yielded from one state to a later one
-abbrev pub bytes_read : {R : Type 0} → BlockReader R → BlockReader R → List ℕ
-bytes_read a b = added (reading a).given (reading b).given
+abbrev pub bytes_read : BlockReading → BlockReading → List ℕ
+bytes_read a b = added a.given b.given
 
 -- the bytes that a writer took from one state to a later one
-abbrev pub bytes_put : {W : Type 0} {n : ℕ} → BlockWriter W n → BlockWriter W n → List ℕ
-bytes_put a b = added (taken a) (taken b)
+abbrev pub bytes_put : BlockWriting → BlockWriting → List ℕ
+bytes_put c d = added (taken c) (taken d)
 
 -- ---- which device failed
 
 -- neither device has failed so far
-abbrev pub NoFaultSoFar : {R W : Type 0} {n : ℕ} → BlockReader R → BlockWriter W n → Type 0
-NoFaultSoFar r w = ((reading r).faults ≡ 0) × (faults w ≡ 0)
+abbrev pub NoFaultSoFar : BlockReading → BlockWriting → Type 0
+NoFaultSoFar r w = (r.faults ≡ 0) × (w.faults ≡ 0)
 
 -- from one state of both to a later one, no device failed, or one of them once
 
-abbrev pub NoFault : {R W : Type 0} {n : ℕ} → BlockReader R → BlockReader R → BlockWriter W n → BlockWriter W n → Type 0
-NoFault a b c d = ((reading b).faults ≡ (reading a).faults) × (faults d ≡ faults c)
+abbrev pub NoFault : BlockReading → BlockReading → BlockWriting → BlockWriting → Type 0
+NoFault a b c d = (b.faults ≡ a.faults) × (d.faults ≡ c.faults)
 
-abbrev pub FaultOfReader : {R W : Type 0} {n : ℕ} → BlockReader R → BlockReader R → BlockWriter W n
-    → BlockWriter W n → Type 0
-FaultOfReader a b c d = ((reading b).faults ≡ (reading a).faults + 1) × (faults d ≡ faults c)
+abbrev pub FaultOfReader : BlockReading → BlockReading → BlockWriting → BlockWriting → Type 0
+FaultOfReader a b c d = (b.faults ≡ a.faults + 1) × (d.faults ≡ c.faults)
 
-abbrev pub FaultOfWriter : {R W : Type 0} {n : ℕ} → BlockReader R → BlockReader R → BlockWriter W n
-    → BlockWriter W n → Type 0
-FaultOfWriter a b c d = ((reading b).faults ≡ (reading a).faults) × (faults d ≡ faults c + 1)
+abbrev pub FaultOfWriter : BlockReading → BlockReading → BlockWriting → BlockWriting → Type 0
+FaultOfWriter a b c d = (b.faults ≡ a.faults) × (d.faults ≡ c.faults + 1)
 
 -- ---- what was answered
 
 -- the writer has taken some bytes, and then the answers to all lines that end in the bytes that the reader has yielded
-abbrev pub AnswersGiven : {R W : Type 0} {n : ℕ} → BlockReader R → BlockWriter W n → Type 0
-AnswersGiven r w = (before text : List ℕ) × (taken w ≡ before ++ text) × AnswersEnded (reading r).given text
+abbrev pub AnswersGiven : BlockReading → BlockWriting → Type 0
+AnswersGiven r w = (before text : List ℕ) × (taken w ≡ before ++ text) × AnswersEnded r.given text
 
 -- the text is a prefix of the answers to every input that begins with these bytes, or of the answers to these bytes if
 -- they are the whole input
@@ -47,45 +45,37 @@ abbrev pub BeginsAnswers : Bool → List ℕ → List ℕ → Type 0
 BeginsAnswers is_whole read put = (more text : List ℕ) → (is_whole ≡ true → more ≡ [])
     → AnswersAll (read ++ more) text → StartsWith text put
 
--- the bytes that were in the block, and all bytes that were taken since, are written
-abbrev pub HandedAll : {W : Type 0} {n : ℕ} → (W → Option (List ℕ)) → BlockWriter W n → BlockWriter W n → Type 0
-HandedAll contents c d = Appends (contents (inner c)) (contents (inner d)) (held c ++ bytes_put c d)
+-- the bytes that were in the block, and all bytes that were taken since, are written and flushed
+pub record HandedAll (c d : BlockWriting) : Type 0 where
+  pub flushed : IsFlushed d
+  pub contents : Appends c.contents d.contents (c.held ++ bytes_put c d)
 
 -- no device failed. The reader yielded all its bytes, up to its limit, and the answers to all their lines are written
-pub record AllAnswered {R W : Type 0} {n : ℕ} (remaining : R → Option (List ℕ)) (contents : W → Option (List ℕ))
-    (a b : BlockReader R) (c d : BlockWriter W n) : Type 0 where
+pub record AllAnswered (a b : BlockReading) (c d : BlockWriting) : Type 0 where
   pub no_fault : NoFault a b c d
-  pub ended : (reading b).is_ended ≡ true
-  pub all : (reading a).is_ended ≡ false → IfSome (remaining (reading a).reader)
-      (λ bytes. bytes_read a b ≡ take (reading a).left bytes)
+  pub ended : b.is_ended ≡ true
+  pub all : IfSome a.remaining (λ bytes. bytes_read a b ≡ take a.left bytes)
   pub answers : AnswersAll (bytes_read a b) (bytes_put c d)
-  pub handed : HandedAll contents c d
+  pub handed : HandedAll c d
 
--- a read failed, and the answers to all lines that had ended are written
-pub record ReaderFailed {R W : Type 0} {n : ℕ} (contents : W → Option (List ℕ))
-    (a b : BlockReader R) (c d : BlockWriter W n) : Type 0 where
-  pub fault : (reading b).faults ≡ (reading a).faults + 1
-  pub answers : AnswersEnded (bytes_read a b) (bytes_put c d)
-  pub handed : HandedAll contents c d
-
--- a write or a flush failed, and what was taken is a prefix of the answers
-pub record WriterFailed {R W : Type 0} {n : ℕ} (a b : BlockReader R) (c d : BlockWriter W n) : Type 0 where
-  pub reader : (reading b).faults ≡ (reading a).faults
-  pub fault : faults c < faults d
-  pub begins : BeginsAnswers (reading b).is_ended (bytes_read a b) (bytes_put c d)
-
--- ---- what was read and answered before the last flush
-
-pub record ReadIsAnswered {R W : Type 0} {n : ℕ} (a b : BlockReader R) (c d : BlockWriter W n) : Type 0 where
-  pub no_fault : NoFault a b c d
-  pub ended : (reading b).is_ended ≡ true
-  pub answers : AnswersAll (bytes_read a b) (bytes_put c d)
-
-pub record ReadFails {R W : Type 0} {n : ℕ} (a b : BlockReader R) (c d : BlockWriter W n) : Type 0 where
+-- only one read failed, and the answers to all lines that had ended are written
+pub record ReaderFailed (a b : BlockReading) (c d : BlockWriting) : Type 0 where
   pub fault : FaultOfReader a b c d
   pub answers : AnswersEnded (bytes_read a b) (bytes_put c d)
-  pub empty : held d ≡ []
+  pub handed : HandedAll c d
 
-pub record WriteFails {R W : Type 0} {n : ℕ} (a b : BlockReader R) (c d : BlockWriter W n) : Type 0 where
+-- only one write or one flush failed, and what was taken is a prefix of the answers
+pub record WriterFailed (a b : BlockReading) (c d : BlockWriting) : Type 0 where
   pub fault : FaultOfWriter a b c d
-  pub begins : BeginsAnswers (reading b).is_ended (bytes_read a b) (bytes_put c d)
+  pub begins : BeginsAnswers b.is_ended (bytes_read a b) (bytes_put c d)
+
+-- only one call of a device failed
+abbrev pub OneFailed : BlockReading → BlockReading → BlockWriting → BlockWriting → Type 0
+OneFailed a b c d = ReaderFailed a b c d ⊎ WriterFailed a b c d
+
+-- no device has failed, and the answerer has received the bytes that the reader has yielded since
+pub record IsUnderWay (a b : BlockReading) (c d : BlockWriting) (answerer : Answerer) : Type 0 where
+  pub no_fault : NoFault a b c d
+  pub read : Yields a b (bytes_read a b)
+  pub written : KeepsBytes c d
+  pub answered : HasAnswered (taken c) (bytes_read a b) (taken d) answerer

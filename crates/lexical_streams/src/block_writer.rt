@@ -4,122 +4,149 @@ ghost use Rattle.std.specs.Prelude.{◌≡◌, ◌+◌, ◌-◌, ◌<◌, ◌≤
 ghost use Rattle.std.specs.Io.KnownBytes.{Appends};
 ghost use Rattle.lexical_lines.specs.Sink.{taken_by, put_faults};
 ghost use Rattle.lexical_lines.specs.Source.{faults_of};
+ghost use Rattle.lexical_streams.specs.Blocks.{taken, KeepsBytes, IsFlushed};
 
-use lexical_lines::{ByteSink, Trace};
+use crate::device::BlockSink;
+use lexical_lines::ByteSink;
 use std::io;
-use std::io::Write;
+use std::marker::Model;
 
-/// A sink that collects bytes in a block of `SIZE` bytes. It writes the block to a writer at each
-/// flush, and if the block is full, before it takes more bytes.
+/// Collects bytes in a block of `SIZE` bytes. It writes the block to a sink at each flush, and if the
+/// block is full, before it takes more bytes.
 ///
 /// Each byte is written once and in order, even if an earlier write returned an error. After a flush
-/// that succeeds, the block is empty. The bytes in the block are lost if the value is dropped, so call
-/// `flush` last. The block is part of the value: no memory is allocated.
-///
-/// A flush also flushes the writer. No contract says so, but tests show it.
+/// that succeeds, the block is empty, and the sink is flushed too. The bytes in the block are lost if the
+/// value is dropped, so call `flush` last. The block is part of the value: no memory is allocated.
 #[derive(Drop)]
-pub struct BlockWriter<'a, W, const SIZE: usize> {
-    writer: &'a mut W,
+pub struct BlockWriter<K: BlockSink, const SIZE: usize> {
+    sink: K,
     // The bytes before `end` were taken but are not yet written.
     block: [u8; SIZE],
     end: usize,
-    trace: Trace,
-    ghost nonempty: { 0 < SIZE },
-    ghost within: { end ≤ SIZE },
 }
 
-impl<'a, W: Write, const SIZE: usize> BlockWriter<'a, W, SIZE> {
-    ghost use Rattle.lexical_streams.specs.Blocks.{inner, loan, held, taken, faults, HandsOn};
+impl<K: BlockSink, const SIZE: usize> Model for BlockWriter<K, SIZE> {
+    ghost use Rattle.std.specs.Prelude.{◌<◌, ◌≤◌, take};
+    ghost use Rattle.lexical_streams.specs.Blocks.{BlockWriting};
 
-    /// Returns a sink with an empty block. `SIZE` must not be 0.
-    pub fn new(writer: &'a mut W) -> BlockWriter<'a, W, SIZE>
+    ghost Value = { BlockWriting };
+
+    ghost view = { λ w. record {
+      contents = K.contents w.sink;
+      written = K.taken w.sink;
+      unflushed = K.unflushed w.sink;
+      held = take w.end w.block;
+      writes = K.writes w.sink;
+      flushes = K.flushes w.sink;
+      faults = K.faults w.sink;
+    } };
+
+    ghost invariant = { λ w. (0 < SIZE) × (w.end ≤ SIZE) };
+}
+
+impl<K: BlockSink, const SIZE: usize> BlockWriter<K, SIZE> {
+    /// Returns a writer with an empty block. `SIZE` must not be 0.
+    pub fn new(sink: K) -> BlockWriter<K, SIZE>
         requires { 0 < SIZE }
-        ensures inner { inner result ≡ writer.entry.now }
-        ensures loan { loan result ≡ writer.entry.ghost_name }
-        ensures held { held result ≡ [] }
-        ensures taken { taken result ≡ [] }
-        ensures faults { faults result ≡ 0 }
+        ensures { result ≡ record {
+          contents = K.contents sink;
+          written = K.taken sink;
+          unflushed = K.unflushed sink;
+          held = [];
+          writes = K.writes sink;
+          flushes = K.flushes sink;
+          faults = K.faults sink;
+        } }
     {
         BlockWriter {
-            writer,
+            sink,
             block: [0; SIZE],
             end: 0,
-            trace: Trace::new(),
         }
     }
 
-    /// Writes the bytes in the block to the writer, and flushes the writer. If it returns `Ok`, the
-    /// block is empty. If it returns an error, the bytes that were not written are still in the block.
-    pub fn flush(&mut self) -> io::Result<()>
-        ensures ok { OnOk result (held self.new ≡ []) }
-        ensures bytes { HandsOn W.contents self.old self.new [] }
-        ensures taken { taken self.new ≡ taken self.old }
-        ensures faults { faults self.new ≡ faults self.old + faults_of result }
+    /// Returns the sink. The bytes that are still in the block are lost.
+    pub fn into_inner(self) -> K
+        ensures contents { K.contents result ≡ self.contents }
+        ensures taken { K.taken result ≡ self.written }
     {
-        self.write_block()?;
-        let flushed = self.writer.flush();
-        note_fault(&mut self.trace, &flushed);
-        flushed
+        let BlockWriter {
+            sink,
+            block: _,
+            end: _,
+        } = self;
+        sink
     }
 
-    // Writes the bytes in the block to the writer. After an error, the bytes that were not written are
-    // still in the block.
-    fn write_block(&mut self) -> io::Result<()>
-        ensures ok { OnOk result (held self.new ≡ []) }
-        ensures bytes { HandsOn W.contents self.old self.new [] }
+    /// Writes the bytes in the block to the sink, and then flushes the sink once. If it returns an error,
+    /// the bytes that were not written are still in the block, and nothing is called after the call that
+    /// failed.
+    pub fn flush(&mut self) -> io::Result<()>
+        ensures ok { OnOk result (IsFlushed self.new) }
+        ensures once { OnOk result (self.new.flushes ≡ self.old.flushes + 1) }
+        ensures at_most_once { self.new.flushes ≤ self.old.flushes + 1 }
         ensures taken { taken self.new ≡ taken self.old }
-        ensures faults { faults self.new ≡ faults self.old + faults_of result }
+        ensures kept { KeepsBytes self.old self.new }
+        ensures faults { self.new.faults ≡ self.old.faults + faults_of result }
     {
-        let (count, result) = write_until_error(&self.block[..self.end], self.writer);
+        self.write_block()?;
+        self.sink.flush()
+    }
+
+    // Writes the bytes in the block to the sink. After an error, the bytes that were not written are still
+    // in the block.
+    fn write_block(&mut self) -> io::Result<()>
+        ensures ok { OnOk result (self.new.held ≡ []) }
+        ensures flushes { self.new.flushes ≡ self.old.flushes }
+        ensures taken { taken self.new ≡ taken self.old }
+        ensures kept { KeepsBytes self.old self.new }
+        ensures faults { self.new.faults ≡ self.old.faults + faults_of result }
+    {
+        let (count, result) = write_until_error(&self.block[..self.end], &mut self.sink);
         self.block.copy_within(count..self.end, 0);
         self.end -= count;
-        note_fault(&mut self.trace, &result);
         result
     }
 
     // Copies the prefix of `bytes` that fits into the block, and returns its length.
     fn fill_block(&mut self, bytes: &[u8]) -> usize
-        ensures count { result ≡ min (length bytes.now) (SIZE - length (held self.old)) }
-        ensures held { held self.new ≡ held self.old ++ take result bytes.now }
-        ensures inner { inner self.new ≡ inner self.old }
-        ensures loan { loan self.new ≡ loan self.old }
-        ensures taken { taken self.new ≡ taken self.old ++ take result bytes.now }
-        ensures faults { faults self.new ≡ faults self.old }
+        ensures count { result ≡ min (length bytes.now) (SIZE - length self.old.held) }
+        ensures held { self.new ≡ record self.old { held = self.old.held ++ take result bytes.now } }
     {
         let end = self.end;
         let count = bytes.len().min(SIZE - end);
         let block = &mut self.block[..];
         block[end..end + count].copy_from_slice(&bytes[..count]);
         self.end = end + count;
-        self.trace.note(&bytes[..count]);
         count
     }
 }
 
-impl<W: Write, const SIZE: usize> ByteSink for BlockWriter<'_, W, SIZE> {
-    ghost use Rattle.lexical_streams.specs.Blocks.{inner, loan, held, taken, faults, HandsOn, KeepsBytes};
-    ghost use Rattle.lexical_streams.specs.Blocks.{KeepsBytes-reflexive, KeepsBytes-transitive};
+impl<K: BlockSink, const SIZE: usize> ByteSink for BlockWriter<K, SIZE> {
+    ghost use Rattle.lexical_streams.specs.Blocks.{taken, KeepsBytes};
+    ghost use Rattle.lexical_streams.specs.Kept.{KeepsBytes-reflexive, KeepsBytes-transitive};
 
     ghost taken = { taken };
 
-    ghost faults = { faults };
+    ghost faults = { λ w. w.faults };
 
-    ghost keeps = { KeepsBytes W.contents };
+    ghost keeps = { KeepsBytes };
 
-    ghost keeps_reflexive = { KeepsBytes-reflexive W.contents };
+    ghost keeps_reflexive = { KeepsBytes-reflexive };
 
-    ghost keeps_transitive = { KeepsBytes-transitive W.contents };
+    ghost keeps_transitive = { KeepsBytes-transitive };
 
-    /// Takes the prefix of `bytes` that fits into the block, and returns its length. The writer is
-    /// called only if the block is full.
+    /// Takes the prefix of `bytes` that fits into the block, and returns its length. The sink is called
+    /// only if the block is full.
     fn put(&mut self, bytes: &[u8]) -> io::Result<usize>
         ensures within { IfOk result (λ count. count ≤ length bytes.now) }
         ensures taken { taken self.new ≡ taken self.old ++ take (taken_by result) bytes.now }
-        ensures faults { faults self.new ≡ faults self.old + put_faults result bytes.now }
-        ensures kept { KeepsBytes W.contents self.old self.new }
-        ensures count { length (held self.old) < SIZE
-            → result ≡ Ok (min (length bytes.now) (SIZE - length (held self.old))) }
-        ensures inner { length (held self.old) < SIZE → inner self.new ≡ inner self.old }
+        ensures faults { self.new.faults ≡ self.old.faults + put_faults result bytes.now }
+        ensures kept { KeepsBytes self.old self.new }
+        ensures count { length self.old.held < SIZE
+            → result ≡ Ok (min (length bytes.now) (SIZE - length self.old.held)) }
+        ensures held { length self.old.held < SIZE
+            → self.new ≡ record self.old { held = self.old.held ++ take (taken_by result) bytes.now } }
     {
         if self.end == SIZE {
             self.write_block()?;
@@ -128,25 +155,18 @@ impl<W: Write, const SIZE: usize> ByteSink for BlockWriter<'_, W, SIZE> {
     }
 }
 
-// Counts a failure if the outcome is an error.
-fn note_fault(trace: &mut Trace, outcome: &io::Result<()>)
-    ensures bytes { trace.new.bytes ≡ trace.old.bytes }
-    ensures faults { trace.new.faults ≡ trace.old.faults + faults_of outcome.now }
-{
-    if outcome.is_err() {
-        trace.fault();
-    }
-}
-
 // Writes the bytes until all are written or a write fails, and returns how many were written.
-fn write_until_error<W: Write>(bytes: &[u8], writer: &mut W) -> (usize, io::Result<()>)
+fn write_until_error<K: BlockSink>(bytes: &[u8], sink: &mut K) -> (usize, io::Result<()>)
     ensures bound { result.0 ≤ length bytes.now }
     ensures all { OnOk result.1 (result.0 ≡ length bytes.now) }
-    ensures bytes { Appends (W.contents writer.old) (W.contents writer.new) (take result.0 bytes.now) }
+    ensures taken { K.taken sink.new ≡ K.taken sink.old ++ take result.0 bytes.now }
+    ensures bytes { Appends (K.contents sink.old) (K.contents sink.new) (take result.0 bytes.now) }
+    ensures flushes { K.flushes sink.new ≡ K.flushes sink.old }
+    ensures faults { K.faults sink.new ≡ K.faults sink.old + faults_of result.1 }
 {
     let mut taken = 0;
     while taken < bytes.len() {
-        match writer.write(&bytes[taken..]) {
+        match sink.write_block(&bytes[taken..]) {
             Ok(0) => return (taken, Err(io::Error::from(io::ErrorKind::WriteZero))),
             Ok(count) => taken += count,
             Err(error) => return (taken, Err(error)),

@@ -4,10 +4,10 @@
 
 ghost use Rattle.std.specs.Prelude.{◌≡◌, ℕ, ◌^◌, ◌<◌, ◌≤◌, ◌↔◌, pos, ◌<ℤ◌, ◌≤ℤ◌, List, length};
 ghost use Rattle.lexical_num.specs.Format.{IsRadix};
-ghost use Rattle.lexical_write_integer.specs.DigitCount.{digit_count};
-ghost use Rattle.lexical_write_integer.specs.Numeral.{IsNumeral, IsNumeralOf, IsBlockOf, value_of};
-ghost use Rattle.lexical_write_integer.specs.Order.{ComesBefore};
-ghost use Rattle.lexical_write_integer.specs.Text.{IsDigits, IsText};
+ghost use Rattle.lexical_write_integer.specs.Digits.DigitCount.{digit_count};
+ghost use Rattle.lexical_write_integer.specs.Digits.Numeral.{IsNumeral, IsNumeralOf, IsBlockOf, value_of};
+ghost use Rattle.lexical_write_integer.specs.Texts.Order.{ComesBefore};
+ghost use Rattle.lexical_write_integer.specs.Texts.Text.{IsDigits, IsText};
 
 mod bytes;
 mod comparison;
@@ -87,5 +87,5 @@ pub fn order<T: LexicalInteger>(a: T, b: T, format: &NumberFormat)
         → IsText (T.number b) format.now t
         → (T.number a <ℤ T.number b) ↔ ComesBefore s t }
 {
-    format.is_valid();
+    format.in_range();
 }

@@ -32,51 +32,29 @@
 #![tactic(auto)]
 
 // The texts of numbers: the calls that most callers want.
-mod api;
-mod integers;
-pub mod options;
+mod texts;
 
 // The digits of a number in any radix, without a sign.
-pub mod write;
+mod digits;
 
-// Radix 10: `decimal` calls `jeaiii`, whose kernels produce two digits at a time.
-pub mod decimal;
-mod decimal_pairs;
-pub mod jeaiii;
-mod kernels;
-
-// Every other radix, four digits at a time from a table: `radix` has the tables, and `algorithm` takes one.
-pub mod algorithm;
-mod by_radix;
-pub mod radix;
-mod table_writer;
-
-pub use lexical_tables as table;
-
-// Every radix, in little code.
-pub mod compact;
-
-// Every radix, with leading zeros to a fixed width.
-pub mod padded;
-
-// The number of digits of a number.
-pub mod digit_count;
-mod logarithm;
-
-// The start of a buffer, and the groups of the digits there.
+// The start of a buffer.
 pub mod buffer;
-mod groups;
 
 // The iterations of the loops, which only contracts see.
 pub mod turns;
 
 // Laws for callers.
 pub mod laws;
+pub mod options;
 
-pub use api::{ToLexical, ToLexicalWithOptions, write_sign};
+pub use digits::decimal::jeaiii;
+pub use digits::radix::{algorithm, compact};
+pub use digits::{count as digit_count, decimal, padded, radix, write};
 pub use lexical_num::constants::{BUFFER_SIZE, FormattedSize};
 pub use lexical_num::error::{Error, Result};
 pub use lexical_num::format;
 pub use lexical_num::format::NumberFormat;
 pub use lexical_num::format_builder::NumberFormatBuilder;
 pub use lexical_num::options::{Options, OptionsBuilder, WriteOptions};
+pub use lexical_tables as table;
+pub use texts::api::{ToLexical, ToLexicalWithOptions, write_sign};

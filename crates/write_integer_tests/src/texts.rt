@@ -74,7 +74,7 @@ fn check<T: ToLexicalWithOptions + Debug + Drop>(
 ) {
     check_required(rt, value, format, options, text);
     value.in_range();
-    format.mantissa_radix();
+    format.in_range();
     let size = options.buffer_size::<T>(format);
     assert!(rt; size <= 128, "the size of the type of {value:?} is {size}");
     check_in(rt, value, format, options, size, text);

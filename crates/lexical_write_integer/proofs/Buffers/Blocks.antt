@@ -7,11 +7,11 @@ use Rattle.std.proofs.lemmas.List.Elements.{All-nil}
 use Rattle.std.proofs.lemmas.Nat.{pow-add, mul-add-lt, mod-mul-add}
 use Rattle.lexical_num.specs.Digit.{digit_char}
 use Rattle.lexical_write_integer.specs.Buffer.{WritesBlock}
-use Rattle.lexical_write_integer.specs.DigitCount.{digit_count}
-use Rattle.lexical_write_integer.specs.Text.{IsDigits}
-use Rattle.lexical_write_integer.proofs.DigitCounts.{digit_count-pos, digit_count-left, digit_count-more}
-use Rattle.lexical_write_integer.proofs.Powers.{div-pow_more}
-use Rattle.lexical_write_integer.proofs.Numerals.{IsBlockOf-one, IsBlockOf-append, IsNumeralOf-block}
+use Rattle.lexical_write_integer.specs.Digits.DigitCount.{digit_count}
+use Rattle.lexical_write_integer.specs.Texts.Text.{IsDigits}
+use Rattle.lexical_write_integer.proofs.OfDigits.Count.DigitCounts.{digit_count-pos, digit_count-left, digit_count-more}
+use Rattle.lexical_write_integer.proofs.OfDigits.Powers.{div-pow_more}
+use Rattle.lexical_write_integer.proofs.OfDigits.Numerals.{IsBlockOf-one, IsBlockOf-append, IsNumeralOf-block}
 
 -- no digit
 WritesBlock-none : (n : ℕ) {r at : ℕ} {list : List ℕ} → WritesBlock r 0 (n % r ^ 0) at list list

@@ -4,9 +4,9 @@ ghost use Rattle.std.specs.Prelude.{◌≡◌, ◌^◌, ◌<◌, ◌↔◌};
 ghost use Rattle.std.specs.Fmt.{signed_decimal};
 ghost use Rattle.std.specs.Str.{IsAscii, IsUtf8};
 ghost use Rattle.lexical_num.specs.Format.{IsRadix, standard};
-ghost use Rattle.lexical_write_integer.specs.Computed.{digits_text, padded_text, text_of};
-ghost use Rattle.lexical_write_integer.specs.Padded.{IsPadded};
-ghost use Rattle.lexical_write_integer.specs.Text.{IsDigits, IsText};
+ghost use Rattle.lexical_write_integer.specs.Texts.Computed.{digits_text, padded_text, text_of};
+ghost use Rattle.lexical_write_integer.specs.Digits.Padded.{IsPadded};
+ghost use Rattle.lexical_write_integer.specs.Texts.Text.{IsDigits, IsText};
 
 use lexical_num::format::NumberFormat;
 use lexical_num::num::LexicalInteger;
@@ -18,7 +18,7 @@ pub fn text_is_ascii<T: LexicalInteger>(number: T, format: &NumberFormat, text: 
     ensures ascii { IsAscii text.now }
     ensures utf8 { IsUtf8 text.now }
 {
-    format.is_valid();
+    format.in_range();
 }
 
 /// A law: the text of a number in decimal, without a required sign and without groups, is what `{}`
@@ -44,7 +44,7 @@ pub fn text_computed<T: LexicalInteger>(number: T, format: &NumberFormat, text: 
         ↔ (text.now ≡ text_of (T.number number) format.now) }
 {
     number.in_range();
-    format.is_valid();
+    format.in_range();
 }
 
 /// A law: the bytes of `text` are a number with leading zeros if and only if they are the list that

@@ -2,7 +2,7 @@
 
 ghost use Rattle.std.specs.Prelude.{◌≡◌, ◌↔◌};
 ghost use Rattle.lexical_num.specs.Format.{IsRadix};
-ghost use Rattle.lexical_write_integer.specs.Text.{IsDigits, IsText};
+ghost use Rattle.lexical_write_integer.specs.Texts.Text.{IsDigits, IsText};
 
 use lexical_num::format::NumberFormat;
 use lexical_num::num::LexicalInteger;
@@ -23,5 +23,5 @@ pub fn texts_equal_iff<T: LexicalInteger>(a: T, b: T, format: &NumberFormat, s: 
     requires t { IsText (T.number b) format.now t.now }
     ensures { (s.now ≡ t.now) ↔ (T.number a ≡ T.number b) }
 {
-    format.is_valid();
+    format.in_range();
 }

@@ -3,9 +3,9 @@
 ghost use Rattle.std.specs.Prelude.{◌≡◌, ℕ, ◌+◌, ◌-◌, ◌*◌, ◌/◌, ◌<◌, ◌≤◌, List, Some, length, unsigned_abs};
 ghost use Rattle.lexical_num.specs.Format.{grouped_length, without_groups};
 ghost use Rattle.lexical_num.specs.Sign.{sign_of};
-ghost use Rattle.lexical_write_integer.specs.DigitCount.{digit_count};
-ghost use Rattle.lexical_write_integer.specs.Groups.{without_marks, from_right};
-ghost use Rattle.lexical_write_integer.specs.Text.{IsText};
+ghost use Rattle.lexical_write_integer.specs.Digits.DigitCount.{digit_count};
+ghost use Rattle.lexical_write_integer.specs.Texts.Groups.{without_marks, from_right};
+ghost use Rattle.lexical_write_integer.specs.Texts.Text.{IsText};
 
 use lexical_num::format::NumberFormat;
 use lexical_num::num::LexicalInteger;
@@ -31,5 +31,5 @@ pub fn text_in_groups<T: LexicalInteger>(number: T, format: &NumberFormat, size:
         → groups * size < digit_count format.now.mantissa_radix (unsigned_abs (T.number number))
         → from_right text (groups * size + groups - 1) ≡ mark }
 {
-    format.is_valid();
+    format.in_range();
 }

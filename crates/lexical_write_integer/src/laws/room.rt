@@ -5,10 +5,10 @@ ghost use Rattle.lexical_num.specs.Format.{grouped_length};
 ghost use Rattle.lexical_num.specs.Sign.{sign_of};
 ghost use Rattle.lexical_num.specs.Size.{size_in};
 ghost use Rattle.lexical_num.specs.declared.constants.TheConstants.{BUFFER_SIZE};
-ghost use Rattle.lexical_write_integer.specs.DigitCount.{digit_count};
-ghost use Rattle.lexical_write_integer.specs.Text.{IsText, need};
+ghost use Rattle.lexical_write_integer.specs.Digits.DigitCount.{digit_count};
+ghost use Rattle.lexical_write_integer.specs.Texts.Text.{IsText, need};
 
-use crate::api::ToLexicalWithOptions;
+use crate::texts::api::ToLexicalWithOptions;
 use lexical_num::format::NumberFormat;
 use lexical_num::num::LexicalInteger;
 
@@ -21,7 +21,7 @@ pub fn size_suffices<T: ToLexicalWithOptions>(value: T, format: &NumberFormat)
     ensures buffer { size_in T.FORMATTED_SIZE T.FORMATTED_SIZE_DECIMAL format.now ≤ BUFFER_SIZE }
 {
     value.in_range();
-    format.is_valid();
+    format.in_range();
 }
 
 /// A law: the length of a text is the length of its sign plus what its digits take with the separators
@@ -32,5 +32,5 @@ pub fn text_length<T: LexicalInteger>(number: T, format: &NumberFormat)
         + grouped_length format.now.digit_grouping
         (digit_count format.now.mantissa_radix (unsigned_abs (T.number number))) }
 {
-    format.is_valid();
+    format.in_range();
 }

@@ -2,7 +2,7 @@ use Rattle.std.proofs.Common.{length, ap, arith, rules}
 use Rattle.std.proofs.lemmas.Bool.{false≢true}
 use Rattle.lexical_num.specs.Format.{IsValid}
 use Rattle.lexical_write_integer.specs.Computed.{text_of}
-use Rattle.lexical_write_integer.proofs.PrintedTexts.{IsRange-small}
+use Rattle.lexical_write_integer.proofs.OfTexts.PrintedTexts.{IsRange-small}
 use Rattle.lexical_c.proofs.WrittenTexts.{count-le, count-length, length-written, written, written_by_copy, refused}
 use Rattle.lexical_c.proofs.general.write_if_it_fits.Goals as goal
 

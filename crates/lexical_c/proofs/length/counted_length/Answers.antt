@@ -2,9 +2,9 @@ use Rattle.std.proofs.Common.{◌≡◌, Bool, true, false, ◌+◌, ◌^◌, �
 use Rattle.lexical_num.specs.Format.{IsValid, grouped_length}
 use Rattle.lexical_num.specs.Sign.{sign_of}
 use Rattle.lexical_write_integer.specs.DigitCount.{digit_count}
-use Rattle.lexical_write_integer.proofs.DigitCounts.{digit_count-pos, digit_count-le_bits}
-use Rattle.lexical_write_integer.proofs.PrintedTexts.{IsRange-small}
-use Rattle.lexical_write_integer.proofs.Signs.{sign_of-below, sign_of-other, length-plus}
+use Rattle.lexical_write_integer.proofs.OfDigits.Count.DigitCounts.{digit_count-pos, digit_count-le_bits}
+use Rattle.lexical_write_integer.proofs.OfTexts.PrintedTexts.{IsRange-small}
+use Rattle.lexical_write_integer.proofs.OfTexts.Signs.{sign_of-below, sign_of-other, length-plus}
 use Rattle.lexical_write_integer.specs.SizeBound.{grouped_length-le}
 use Rattle.lexical_c.specs.Length.{IsLength}
 use Rattle.lexical_c.proofs.TextLengths.{length-text_of}

@@ -1,6 +1,6 @@
 use Rattle.std.proofs.Common.{unsigned_abs, arith}
-use Rattle.lexical_write_integer.proofs.DigitCounts.{digit_count-pos}
-use Rattle.lexical_write_integer.proofs.Required.{need-pos}
+use Rattle.lexical_write_integer.proofs.OfDigits.Count.DigitCounts.{digit_count-pos}
+use Rattle.lexical_write_integer.proofs.OfTexts.Required.{need-pos}
 use Rattle.lexical_c.proofs.PlainTexts.{after_sign}
 use Rattle.lexical_c.proofs.plain.write_sign_and_digits.Goals as goal
 

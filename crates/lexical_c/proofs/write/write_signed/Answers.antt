@@ -1,7 +1,7 @@
 use Rattle.std.proofs.Common.{arith, rules}
 use Rattle.std.proofs.Math.Facts.{to_z-of_z}
 use Rattle.lexical_num.specs.Format.{IsValid}
-use Rattle.lexical_write_integer.proofs.PrintedTexts.{IsRange-small}
+use Rattle.lexical_write_integer.proofs.OfTexts.PrintedTexts.{IsRange-small}
 use Rattle.lexical_c.proofs.WrittenTexts.{written}
 use Rattle.lexical_c.proofs.write.write_signed.Goals as goal
 

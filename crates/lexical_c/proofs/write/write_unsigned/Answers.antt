@@ -1,6 +1,6 @@
 use Rattle.std.proofs.Common.{pos, sym, ap, ◌∙◌, arith, rules}
 use Rattle.lexical_num.specs.Format.{IsValid}
-use Rattle.lexical_write_integer.proofs.PrintedTexts.{IsRange-small}
+use Rattle.lexical_write_integer.proofs.OfTexts.PrintedTexts.{IsRange-small}
 use Rattle.lexical_c.proofs.WrittenTexts.{written}
 use Rattle.lexical_c.proofs.write.write_unsigned.Goals as goal
 

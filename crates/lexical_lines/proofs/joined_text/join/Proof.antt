@@ -100,7 +100,7 @@ join_spec 𝓤 𝓛 𝓜 𝓡 wired X Y L LY C g d gl dl gn dn gc dc gs ds gt dt
     (tt, (tt, (record { fits = room.0 }, tt))) $
     calls_front 𝓛 𝓜.mem 𝓡.returns κ q self ws.1.1.0 n ! (λ text. Text text × (length text ≤ needed - 1)) fm fronts
     (Writes-short (needed - 1) self.now ws.1.1.0 n text short) fits long (and_then ! (get ! refl) (and_then ! (get ! refl) (no_more !))) (λ v' r handed.
-    -- [the result; the token of κ; what is lent; the references; the token of κv; the other tokens]
+    -- [the result; the token of κ; what is borrowed; the references; the token of κv; the other tokens]
     lands_as ! handed.word refl (tt, (tt, (record { fits = handed.fits }, tt))) $
     returns ! (look_at ! 0 refl) $ free_all ! refl $
     suffices ! _ (ends_at 𝓛 T stayed c ((κs, qs, bounds, a, words), tt) (slice_val r.ref_ptr (length r.now)) r

@@ -1,20 +1,30 @@
-use Rattle.std.proofs.Common.{◌-◌, ◌++◌, length, take, drop, sym, ap, subst, ◌∙◌, arith, length-take}
+use Rattle.std.proofs.Common.{◌≡◌, ◌-◌, ◌++◌, length, take, drop, sym, ap, subst, ◌∙◌, arith, append_assoc}
+use Rattle.std.proofs.Common.{ℕ, zero, suc, List, Ok, refl}
 use lib.Seq.{take-add, take-take}
 use Rattle.std.specs.Io.KnownBytes.{Appends}
 use Rattle.std.proofs.KnownBytes.{Appends-trans}
+use Rattle.lexical_lines.specs.Sink.{put_faults}
 use Rattle.lexical_streams.proofs.block_writer.write_until_error.Goals as goal
+
+-- a write that takes some bytes is no failure
+some-taken : (count : ℕ) (bytes : List ℕ) → (count ≡ 0 → ⊥) → put_faults {E = ℕ} (Ok count) bytes ≡ 0
+some-taken zero bytes some = absurd (some refl)
+some-taken (suc count) bytes some = refl
 
 pub loop-taken-preserved : goal.loop-taken-preserved
 loop-taken-preserved g c =
+    let sink = g.K.BlockSink in
     let done = c.loop-taken.taken in
     let count = c.in-Ok.count in
     let all = c.args.bytes.now in
-    let before = c.loop-taken.invariant in
-    let fits = c.in-Ok.ensures.bound in
-    let most = length-take (length all - done) (drop done all) in
+    let loop = c.loop-taken.invariant in
+    let next = c.in-Ok.ensures in
     let joined = ap (λ l. take done all ++ l) (take-take count (length all - done) (drop done all) (omega arith)) ∙ sym (take-add done count all) in
-    (omega arith, subst (Appends _ _) joined (Appends-trans _ _ _ _ _ before.1 c.in-Ok.ensures.bytes))
-
--- the check finds this proof by itself, but with an answer the refusal of a mistake says what is wrong
-pub returns-clause-all : goal.returns-clause-all
-returns-clause-all g c = omega arith
+    record {
+      within = omega arith;
+      taken = next.taken ∙ ap (λ l. l ++ take count (take (length all - done) (drop done all))) loop.taken
+          ∙ append_assoc (sink.taken c.args.sink.now) (take done all) _ ∙ ap (λ l. sink.taken c.args.sink.now ++ l) joined;
+      contents = subst (Appends _ _) joined (Appends-trans _ _ _ _ _ loop.contents next.bytes);
+      flushes = next.flushes ∙ loop.flushes;
+      faults = omega (arith, next.faults, loop.faults, some-taken count (take (length all - done) (drop done all)) c.in-Ok.count-test.1);
+    }

@@ -20,7 +20,7 @@ use Rattle.lexical_write_integer.specs.contracts.buffer.front_mut as F
 use Rattle.lexical_write_integer.proofs.buffer.front_mut.Statement.{statement}
 use Rattle.lexical_write_integer.proofs.buffer.front_mut.Code as code
 
--- the slice is lent for κ, lies at the offset o of the block b, is named γ and holds xs; its first m bytes are returned
+-- the slice is borrowed for κ, lies at the offset o of the block b, is named γ and holds xs; its first m bytes are returned
 module _ {M : Type 1} {𝓤 : Ura M} (𝓛 : Logic 𝓤) (κ : Lft) (q : Share) (b o : ℕ) (γ : GName) (xs : List ℕ) (m : ℕ) where
   abbrev front : List ℕ
   front = take m xs
@@ -92,7 +92,7 @@ front_mut_spec 𝓤 𝓛 𝓜 𝓡 wired =
     sets ! (addr ! (from ! (fld ! refl (hop ! (look_in_at ! 1 (sub ! 0 refl (whole !))) (stop !))))) refl (tt, tt) $
     sets ! (agg ! (and_then ! (get ! refl) (and_then ! (get ! refl) (no_more !)))) refl (tt, (tt, (record { fits = are.1.0.1 }, tt))) $
     lends 𝓛 κs.0 qs.0 slice.ref_ptr.0 slice.ref_ptr.1 slice.ghost_name slice.now m ! tt le room (λ δ.
-    -- [the prefix; the token; what is lent; what the number owns]
+    -- [the prefix; the token; what is borrowed; what the number owns]
     returns ! (look_at ! 0 refl) $ free_all ! refl $ keep ! (0 ∷ 1 ∷ 2 ∷ []) $
     suffices ! _ (ends_at 𝓛 F.ended stayed c ((κs, qs, bounds, a, words), tt) (slice_val slice.ref_ptr m)
     (record slice { ghost_name = δ; now = take m slice.now }) (tt, (tt, tt)) (tt, (tt, tt))) $

@@ -1,4 +1,4 @@
-use Rattle.lexical_write_integer.proofs.DigitCounts.{digit_count-le}
+use Rattle.lexical_write_integer.proofs.OfDigits.Count.DigitCounts.{digit_count-le}
 use Rattle.lexical_write_integer.proofs.laws.digit_count_at_most.Goals as goal
 
 pub returns : goal.returns

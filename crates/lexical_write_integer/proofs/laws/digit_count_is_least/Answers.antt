@@ -1,5 +1,5 @@
 use Rattle.lexical_num.specs.BitWidth.{is_64}
-use Rattle.lexical_write_integer.proofs.DigitCounts.{digit_count-pos, digit_count-fits, digit_count-le, digit_count-le_64}
+use Rattle.lexical_write_integer.proofs.OfDigits.Count.DigitCounts.{digit_count-pos, digit_count-fits, digit_count-le, digit_count-le_64}
 use Rattle.lexical_write_integer.proofs.laws.digit_count_is_least.Goals as goal
 
 pub returns-clause-at_least_one : goal.returns-clause-at_least_one

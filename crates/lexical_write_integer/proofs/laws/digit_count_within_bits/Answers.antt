@@ -1,4 +1,4 @@
-use Rattle.lexical_write_integer.proofs.DigitCounts.{digit_count-le_width}
+use Rattle.lexical_write_integer.proofs.OfDigits.Count.DigitCounts.{digit_count-le_width}
 use Rattle.lexical_write_integer.proofs.laws.digit_count_within_bits.Goals as goal
 
 pub returns : goal.returns

@@ -1,4 +1,4 @@
-use Rattle.lexical_write_integer.proofs.Orders.{equal_from_IsText}
+use Rattle.lexical_write_integer.proofs.OfTexts.Orders.{equal_from_IsText}
 use Rattle.lexical_write_integer.proofs.laws.equal_texts.Goals as goal
 
 pub returns : goal.returns

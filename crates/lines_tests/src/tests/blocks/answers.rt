@@ -2,7 +2,7 @@
 
 use crate::tests::checks::check_equal;
 use crate::tests::devices::{Giver, NEVER, Taker};
-use lexical_streams::{BlockReader, BlockWriter, answer_stream};
+use lexical_streams::{BlockReader, BlockWriter, ReadSource, WriteSink, answer_stream};
 use std::cell::Cell;
 use std::process::Abort;
 
@@ -41,6 +41,7 @@ const ROWS: &[Row] = &[
     (LINES, NEVER, 7, NEVER, true, 2, b"5\n101\n-"),
     (LINES, NEVER, 8, NEVER, true, 2, b"5\n101\n-8"),
     (LINES, NEVER, 9, NEVER, true, 2, b"5\n101\n-80"),
+    (LINES, NEVER, 3, NEVER, false, 2, b"5\n1"),
     (LINES, NEVER, NEVER, 0, false, 2, b""),
     (LINES, NEVER, NEVER, 0, true, 2, b""),
     (LINES, NEVER, NEVER, 1, false, 2, b"5\n"),
@@ -73,8 +74,8 @@ fn check_row(rt: &impl Abort, row: Row) {
 // Answers the lines, and returns the exit status, how often the devices were called, and the number of bytes
 // taken.
 fn answer(reader: &mut Giver<'_>, writer: &mut Taker<'_>) -> (u8, [usize; 4]) {
-    let mut input = BlockReader::new(reader);
-    let mut output = BlockWriter::<_, 16_384>::new(writer);
+    let mut input = BlockReader::new(ReadSource::new(&mut *reader));
+    let mut output = BlockWriter::<_, 16_384>::new(WriteSink::new(&mut *writer));
     let status = answer_stream(&mut input, &mut output);
     let calls = [reader.reads, writer.writes, writer.flushes, writer.count];
     (status, calls)
@@ -97,6 +98,30 @@ fn each_answer_is_flushed_before_the_next_read(rt: HostRuntime) {
     let answered = answer(&mut reader, &mut writer);
     check_equal(&rt, "calls", answered, (0, [4, 3, 5, 10]));
     check_equal(&rt, "flushed by each read", reader.seen, [0, 2, 6, 10]);
+}
+
+// Answers the lines with one call that fails, and checks how often the devices were called.
+fn check_calls(rt: &impl Abort, bad: [usize; 3], expected: [usize; 4]) {
+    let [bad_read, bad_byte, bad_flush] = bad;
+    let flushed = Cell::new(0);
+    let mut reader = Giver::new(LINES.as_bytes(), &flushed);
+    reader.piece = 11;
+    reader.bad_read = bad_read;
+    let mut writer = Taker::new(&flushed);
+    writer.piece = 1;
+    writer.bad_byte = bad_byte;
+    writer.bad_flush = bad_flush;
+    let answered = answer(&mut reader, &mut writer);
+    check_equal(rt, bad, answered, (2, expected));
+}
+
+// Each device would succeed if it were called again.
+#[test]
+fn nothing_is_called_after_a_failure(rt: HostRuntime) {
+    check_calls(&rt, [1, NEVER, NEVER], [2, 2, 2, 2]);
+    check_calls(&rt, [NEVER, 3, NEVER], [2, 4, 2, 3]);
+    check_calls(&rt, [NEVER, NEVER, 1], [1, 2, 2, 2]);
+    check_calls(&rt, [NEVER, NEVER, 4], [4, 10, 5, 10]);
 }
 
 const LINE: [u8; 16] = *b"u64 10 00000055\n";

@@ -11,7 +11,7 @@ pub returns-then-is_empty-clause-good : goal.returns-then-is_empty-clause-good
 returns-then-is_empty-clause-good g c = λ before read h. (h.ended, lines_at_empty h (c.if-is_empty.ensures.0 refl), h.good)
 
 pub returns-then-is_empty-clause-puts : goal.returns-then-is_empty-clause-puts
-returns-then-is_empty-clause-puts g c = PutsMore-none c.args.sink.now c.args.self.now.all_good (g.met.K.ByteSink.keeps_reflexive c.args.sink.now)
+returns-then-is_empty-clause-puts g c = PutsMore-none c.args.sink.now c.args.self.all_good (g.met.K.ByteSink.keeps_reflexive c.args.sink.now)
 
 pub returns-in_err-is_good-clause-ok : goal.returns-in_err-is_good-clause-ok
 returns-in_err-is_good-clause-ok g c = OnOk-from_err c.from_residual.result _ c.from_residual.ensures.0

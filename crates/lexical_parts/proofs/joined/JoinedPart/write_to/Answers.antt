@@ -2,7 +2,7 @@ use Rattle.std.proofs.Common.{ℕ, ◌+◌, ◌≤◌, length, refl, arith}
 use Rattle.std.proofs.Math.Nat.{mul-le-mul_right}
 use Rattle.lexical_num.specs.Format.{standard}
 use Rattle.lexical_write_integer.specs.Text.{IsText}
-use Rattle.lexical_write_integer.proofs.Joins.{Leads}
+use Rattle.lexical_write_integer.proofs.OfTexts.Joins.{Leads}
 use Rattle.lexical_parts.specs.Joined.{joined_room}
 use Rattle.lexical_parts.proofs.Lists.{written_joined}
 use Rattle.lexical_parts.proofs.joined.JoinedPart.write_to.Goals as goal

@@ -1,6 +1,6 @@
 use Rattle.std.proofs.Common.{◌≡◌, ◌∙◌, length, take}
 use Rattle.std.proofs.lemmas.List.{length-take-le}
-use Rattle.lexical_write_integer.proofs.Sequences.{written_first}
+use Rattle.lexical_write_integer.proofs.OfTexts.Sequences.{written_first}
 use Rattle.lexical_parts.proofs.padded.PaddedDigitsPart.write_to.Goals as goal
 
 pub returns-clause-text : goal.returns-clause-text

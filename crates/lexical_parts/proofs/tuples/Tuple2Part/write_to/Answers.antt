@@ -1,5 +1,5 @@
 use Rattle.std.proofs.Common.{arith}
-use Rattle.lexical_write_integer.proofs.Sequences.{written_then}
+use Rattle.lexical_write_integer.proofs.OfTexts.Sequences.{written_then}
 use Rattle.lexical_parts.proofs.tuples.Tuple2Part.write_to.Goals as goal
 
 pub returns-clause-text : goal.returns-clause-text

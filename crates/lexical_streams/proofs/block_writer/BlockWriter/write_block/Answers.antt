@@ -1,9 +1,11 @@
-use Rattle.std.proofs.Common.{◌≡◌, ℕ, ◌+◌, ◌-◌, ◌≤◌, List, ◌++◌, length, take, drop, refl, sym, ap, ◌∙◌, arith, length-take, take-append-drop}
+use Rattle.std.proofs.Common.{◌≡◌, ℕ, ◌+◌, ◌-◌, ◌≤◌, List, ◌++◌, length, take, drop, sym, ap, ◌∙◌, arith, length-take, take-append-drop}
 use Rattle.std.specs.List.{copy_within}
 use Rattle.std.proofs.lemmas.List.{append-nil, drop-take}
 use Rattle.std.proofs.lemmas.List.Edits.{take-paste}
+use Rattle.lexical_streams.specs.Blocks.{BlockWriting, taken, Writes, KeepsBytes}
+use Rattle.lexical_streams.specs.Kept.{KeepsBytes-of}
 use Rattle.lexical_streams.proofs.block_writer.BlockWriter.write_block.Goals as goal
-use Rattle.std.proofs.Common.{length-drop}
+use Rattle.std.proofs.Common.{length-drop, append_assoc, subst, []}
 
 -- the bytes after the first ones are moved to the start
 take-copy_within : (xs : List ℕ) (count end : ℕ) → count ≤ end → end ≤ length xs
@@ -23,18 +25,25 @@ parted xs ys count end ordered within moved =
     let rest = ap (take (end - count)) moved ∙ take-copy_within xs count end ordered within in
     sym (take-append-drop count (take end xs)) ∙ ap (λ l. take count (take end xs) ++ l) (sym rest)
 
-pub returns-clause-bytes : goal.returns-clause-bytes
-returns-clause-bytes g c =
-    let w = c.args.self.now in
+-- each byte that was taken is still taken: it was written, or it is in the block
+same : (written after xs ys : List ℕ) (count end : ℕ) → after ≡ written ++ take count (take end xs)
+    → take end xs ≡ take count (take end xs) ++ take (end - count) ys → after ++ take (end - count) ys ≡ written ++ take end xs
+same written after xs ys count end passed parts =
+    ap (λ front. front ++ take (end - count) ys) passed ∙ append_assoc written (take count (take end xs)) (take (end - count) ys)
+    ∙ ap (λ held. written ++ held) (sym parts)
+
+pub returns-clause-taken : goal.returns-clause-taken
+returns-clause-taken g c =
+    let w = c.self.inside in
     let count = c.write_until_error-count.result.0 in
     let bound : count ≤ w.end = omega (arith, c.write_until_error-count.ensures.bound, length-take w.end w.block) in
-    record {
-      same = refl;
-      handed = take count (take w.end w.block);
-      bytes = c.write_until_error-count.ensures.bytes;
-      whole = append-nil _ ∙ parted w.block c.copy_within.new.self count w.end bound (omega arith) c.copy_within.ensures.after;
-    }
+    let parts = parted w.block c.copy_within.new.self count w.end bound (omega (arith, c.self.invariant.1, c.self.told)) c.copy_within.ensures.after in
+    same (g.K.BlockSink.taken w.sink) _ w.block c.copy_within.new.self count w.end c.write_until_error-count.ensures.taken parts ∙ ap taken c.self.view_is
 
--- the check finds this proof by itself, but with an answer the refusal of a mistake says what is wrong
-pub returns-clause-faults : goal.returns-clause-faults
-returns-clause-faults g c = c.note_fault.ensures.faults
+passed-on : (v a b : BlockWriting) (passed : List ℕ) → v ≡ a → taken b ≡ taken a → Writes v b passed → KeepsBytes a b
+passed-on v a b passed is e writes = KeepsBytes-of a b [] passed (e ∙ sym (append-nil (taken a))) (subst (λ w. Writes w b passed) is writes)
+
+pub returns-clause-kept : goal.returns-clause-kept
+returns-clause-kept g c =
+    let wrote = c.write_until_error-count.ensures in
+    passed-on _ _ _ _ c.self.view_is (returns-clause-taken g c) (record { written = wrote.taken; contents = wrote.bytes })

@@ -1,4 +1,4 @@
-use Rattle.lexical_write_integer.proofs.ComputedTexts.{digits_computed}
+use Rattle.lexical_write_integer.proofs.OfTexts.ComputedTexts.{digits_computed}
 use Rattle.lexical_write_integer.proofs.laws.bytes.digits_computed.Goals as goal
 
 pub returns : goal.returns

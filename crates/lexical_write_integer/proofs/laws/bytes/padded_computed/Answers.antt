@@ -1,4 +1,4 @@
-use Rattle.lexical_write_integer.proofs.PaddedDigits.{padded_computed}
+use Rattle.lexical_write_integer.proofs.OfDigits.PaddedDigits.{padded_computed}
 use Rattle.lexical_write_integer.proofs.laws.bytes.padded_computed.Goals as goal
 
 pub returns : goal.returns

@@ -1,4 +1,4 @@
-use Rattle.lexical_write_integer.proofs.PrintedTexts.{IsRange-small, text_is_decimal}
+use Rattle.lexical_write_integer.proofs.OfTexts.PrintedTexts.{IsRange-small, text_is_decimal}
 use Rattle.lexical_write_integer.proofs.laws.bytes.text_is_decimal.Goals as goal
 
 pub returns : goal.returns

@@ -1,4 +1,4 @@
-use Rattle.lexical_write_integer.proofs.Comparisons.{digits_equal_iff}
+use Rattle.lexical_write_integer.proofs.OfTexts.Comparisons.{digits_equal_iff}
 use Rattle.lexical_write_integer.proofs.laws.comparison.digits_equal_iff.Goals as goal
 
 pub returns : goal.returns

@@ -1,9 +1,9 @@
-use Rattle.lexical_write_integer.proofs.Required.{size_in-within}
+use Rattle.lexical_write_integer.proofs.OfTexts.Required.{size_in-within}
 use Rattle.lexical_write_integer.proofs.laws.room.size_suffices.Goals as goal
 
 pub returns-clause-size : goal.returns-clause-size
 returns-clause-size g c =
-    let radix = c.is_valid.ensures.valid.mantissa in
+    let radix = c.in_range-2.ensures.mantissa in
     g.met.T.ToLexicalWithOptions.size_suffices
     (g.T.LexicalInteger.number c.args.value) c.args.format.now radix c.in_range.ensures.at_least c.in_range.ensures.at_most
 

@@ -1,13 +1,15 @@
-use Rattle.std.proofs.Common.{rules, ap, subst, ◌∙◌, Some, take}
+use Rattle.std.proofs.Common.{ap, subst, sym, ◌∙◌, Some, take}
 use Rattle.lexical_lines.specs.Answer.{AnswersAll}
 use Rattle.lexical_streams.proofs.Known.{answers-known}
 use Rattle.lines_tests.proofs.tests.blocks.answered.Goals as goal
 
 pub returns : goal.returns
 returns c = λ low.
-    let start = c.new-input.ensures.start in
-    let output = c.new-output.ensures in
-    let empty = ap (λ w. Some w.items) output.inner ∙ ap Some c.new-writer.ensures.items in
-    subst (λ left. AnswersAll (take left c.args.bytes.now) c.writer-2-1.given.0.items) (ap (λ s. s.left) start)
-    (answers-known _ _ _ _ _ _ c.args.bytes.now c.writer-2-1.given.0.items (c.answer_stream-status.ensures.answered low) (ap (λ s. s.is_ended) start)
-    (ap (λ s. Some s.reader.now) start) output.held empty (search rules))
+    let start = c.new-reader.ensures in
+    let output = c.new-writer.ensures in
+    let known = ap (λ r. r.remaining) start ∙ ap (λ s. Some s.now) c.new.ensures.reader in
+    let none = ap (λ w. w.contents) output ∙ ap (λ v. Some v.items) c.new-3.ensures.writer ∙ ap Some c.new-2.ensures.items in
+    let some = sym c.into_inner.ensures.contents ∙ ap (λ v. Some v.items) (sym c.into_inner-2.ensures) in
+    subst (λ left. AnswersAll (take left c.args.bytes.now) c.into_inner-2.result.items) (ap (λ r. r.left) start)
+    (answers-known c.new-reader.result c.answer_stream-status.new.reader c.new-writer.result c.answer_stream-status.new.writer
+    c.args.bytes.now c.into_inner-2.result.items (c.answer_stream-status.ensures.answered low) known (ap (λ w. w.held) output) none some)

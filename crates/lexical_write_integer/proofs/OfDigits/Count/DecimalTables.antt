@@ -1,0 +1,126 @@
+-- The tables that the decimal digit counts read.
+use Rattle.std.proofs.Common.{◌≡◌, ℕ, zero, suc, ◌+◌, ◌-◌, ◌*◌, ◌/◌, ◌^◌, ◌<◌, ◌≤◌, Bool, true, ◌&&◌, ◌||◌, ltb, leb, eqb, List}
+use Rattle.std.proofs.Common.{[], ◌∷◌, length, map, get_or, refl, sym, ap, ◌∙◌, inl, inr, arith, add-zero, zero-add}
+use Rattle.std.proofs.Math.Nat.{pow-le-pow_right}
+use Rattle.std.proofs.lemmas.Bool.{and_parts, or_cases, cases_lt, leb-true, ltb-true, eqb-true}
+use Rattle.std.proofs.lemmas.List.{get_or-map, length-map}
+use Rattle.std.proofs.lemmas.List.FromFn.{get_or-map-range_with_len}
+use Rattle.lexical_write_integer.specs.Digits.Logarithm.{IsLog2}
+use Rattle.lexical_write_integer.specs.Digits.DigitCount.{digit_count}
+use Rattle.lexical_write_integer.specs.Digits.PowersOfTen.{IsPowersOfTen}
+use Rattle.lexical_write_integer.specs.declared.digits.count.decimal_count.TheConstants.{DIGITS_BY_LOG2, POWERS_OF_TEN}
+use Rattle.lexical_write_integer.proofs.OfDigits.Count.DigitCounts.{digit_count-is}
+use Rattle.lexical_write_integer.proofs.OfDigits.Powers.{pow-lt_more}
+use Rattle.lexical_write_integer.proofs.OfDigits.Count.Logarithms.{IsLog2-lt}
+
+-- ---- powers of ten
+
+pub entry_is : {X : Type 0} (limit : ℕ) (number : X → ℕ) (table : List X) (i : ℕ) (entry : X)
+    → i < length table → entry ≡ get_or table i entry → IsPowersOfTen limit (map number table) → number entry ≡ 10 ^ (i + 1)
+entry_is limit number table i entry within is powers =
+    let count = length-map table number in
+    ap number is
+    ∙ sym (get_or-map number table i entry 0 within)
+    ∙ ap (λ list. get_or list i 0) powers.rising
+    ∙ get_or-map-range_with_len (λ e. 10 ^ e) 1 (length (map number table)) i (i + 1) 0 (omega arith) (omega arith)
+
+pub past_table : {X : Type 0} (limit : ℕ) (number : X → ℕ) (table : List X) (i : ℕ)
+    → length table ≤ i → IsPowersOfTen limit (map number table) → limit ≤ 10 ^ (i + 1)
+past_table limit number table i past powers =
+    let count = length-map table number in
+    omega (arith, powers.all, pow-le-pow_right {n = 10} (omega arith) {i = length (map number table) + 1} {j = i + 1} (omega arith))
+
+pub IsPowersOfTen-64 : IsPowersOfTen (2 ^ 64) (map (λ n. n) POWERS_OF_TEN)
+IsPowersOfTen-64 = record { rising = refl; below = omega arith; all = omega arith }
+
+-- ---- the table that is indexed by the position of the highest bit
+
+-- every number whose highest bit is at position k has at least this number of digits
+no_fewer : ℕ → ℕ → Bool
+no_fewer k digits = leb digits 1 || leb (10 ^ (digits - 1)) (2 ^ k)
+
+no_fewer-sound : (k digits number : ℕ) → no_fewer k digits ≡ true → IsLog2 number k → 1 < digits → 10 ^ (digits - 1) ≤ number
+unfolding no_fewer
+no_fewer-sound k digits number test log several =
+    elim (or_cases (leb digits 1) (leb (10 ^ (digits - 1)) (2 ^ k)) test) [
+      | inl few ↦ absurd (omega (arith, leb-true digits 1 few))
+      | inr low ↦ elim (cases_lt 0 number) [
+        | inl some ↦ omega (arith, leb-true (10 ^ (digits - 1)) (2 ^ k) low, (log.of_positive some).within)
+        | inr none ↦
+            let first : k ≡ 0 = log.of_zero (omega arith) in
+            let one : 10 ^ (digits - 1) ≤ 2 ^ 0 = rw first at (leb-true (10 ^ (digits - 1)) (2 ^ k) low) in
+            absurd (omega (arith, pow-lt_more 10 0 (digits - 1) (omega arith) (omega arith)))
+      ]
+    ]
+
+-- The entry is c * 2^32 - p: c is the largest digit count of the numbers whose highest bit is at position k, and p is the power
+-- of ten below which they have one digit fewer, or 0 if there are none.
+is_row : ℕ → ℕ → ℕ → Bool
+is_row k c p =
+    leb (2 ^ (k + 1)) (10 ^ c)
+    && ((eqb p 0 && no_fewer k c) || (ltb 1 c && (ltb p 4294967296 && (eqb p (10 ^ (c - 1)) && no_fewer k (c - 1)))))
+
+digits_of_row : ℕ → ℕ
+digits_of_row entry = (entry + 4294967295) / 4294967296
+
+is_entry : ℕ → ℕ → Bool
+is_entry k entry = ltb 0 entry && is_row k (digits_of_row entry) (digits_of_row entry * 4294967296 - entry)
+
+are_entries : ℕ → List ℕ → Bool
+are_entries k [] = true
+are_entries k (entry ∷ rest) = is_entry k entry && are_entries (suc k) rest
+
+are_entries-each : (k : ℕ) (entries : List ℕ) (i : ℕ) → are_entries k entries ≡ true → i < length entries → is_entry (k + i) (get_or entries i 0) ≡ true
+unfolding are_entries
+are_entries-each k [] i all within = absurd (omega arith)
+are_entries-each k (entry ∷ rest) zero all within =
+    rw add-zero (and_parts (is_entry k entry) (are_entries (suc k) rest) all).0
+are_entries-each k (entry ∷ rest) (suc i) all within =
+    let place : k + suc i ≡ suc k + i = omega arith in
+    rw place (are_entries-each (suc k) rest i (and_parts (is_entry k entry) (are_entries (suc k) rest) all).1 (omega arith))
+
+row-digits : (k c p entry number : ℕ)
+    → 0 < c → entry + p ≡ c * 4294967296 → number < 4294967296 → is_row k c p ≡ true → IsLog2 number k
+    → (number + entry) / 4294967296 ≡ digit_count 10 number
+unfolding is_row
+row-digits k c p entry number some whole fits test log =
+    let parts = and_parts (leb (2 ^ (k + 1)) (10 ^ c)) _ test in
+    let below : number < 10 ^ c = omega (arith, IsLog2-lt number k log, leb-true (2 ^ (k + 1)) (10 ^ c) parts.0) in
+    elim (or_cases _ _ parts.1) [
+      | inl alike ↦
+          let both = and_parts (eqb p 0) (no_fewer k c) alike in
+          let count = digit_count-is 10 number c (omega arith) some below (no_fewer-sound k c number both.1 log) in
+          omega (arith, count, eqb-true p 0 both.0)
+      | inr apart ↦
+          let first = and_parts (ltb 1 c) _ apart in
+          let second = and_parts (ltb p 4294967296) _ first.1 in
+          let third = and_parts (eqb p (10 ^ (c - 1))) (no_fewer k (c - 1)) second.1 in
+          let more = ltb-true 1 c first.0 in
+          let small = ltb-true p 4294967296 second.0 in
+          let power : p ≡ 10 ^ (c - 1) = eqb-true p (10 ^ (c - 1)) third.0 in
+          elim (cases_lt number p) [
+            | inl less ↦
+                let count = digit_count-is 10 number (c - 1) (omega arith) (omega arith) (rw power at less) (no_fewer-sound k (c - 1) number third.1 log) in
+                omega (arith, count)
+            | inr enough ↦
+                let count = digit_count-is 10 number c (omega arith) some below (λ _. rw power at enough) in
+                omega (arith, count)
+          ]
+    ]
+
+entry-digits : (k entry number : ℕ) → is_entry k entry ≡ true → number < 4294967296 → IsLog2 number k → (number + entry) / 4294967296 ≡ digit_count 10 number
+unfolding is_entry digits_of_row
+entry-digits k entry number test fits log =
+    let parts = and_parts (ltb 0 entry) _ test in
+    let some = ltb-true 0 entry parts.0 in
+    row-digits k ((entry + 4294967295) / 4294967296) ((entry + 4294967295) / 4294967296 * 4294967296 - entry) entry number
+    (omega arith) (omega arith) fits parts.1 log
+
+DIGITS_BY_LOG2-are_entries : are_entries 0 DIGITS_BY_LOG2 ≡ true
+unfolding are_entries is_entry digits_of_row is_row no_fewer
+DIGITS_BY_LOG2-are_entries = refl
+
+pub fast_digit_count-is : (k number : ℕ)
+    → k < 32 → number < 4294967296 → IsLog2 number k → (number + get_or DIGITS_BY_LOG2 k 0) / 4294967296 ≡ digit_count 10 number
+fast_digit_count-is k number place fits log =
+    entry-digits k (get_or DIGITS_BY_LOG2 k 0) number (rw zero-add at (are_entries-each 0 DIGITS_BY_LOG2 k DIGITS_BY_LOG2-are_entries place)) fits log

@@ -1,0 +1,145 @@
+-- How many digits a number has: the least exponent, from both sides, and what a division by a power of the radix leaves.
+use Rattle.std.proofs.Common.{◌≡◌, ℕ, zero, suc, ◌+◌, ◌-◌, ◌*◌, ◌/◌, ◌^◌, ◌<◌, ◌≤◌, ltb, sym, inl, inr, arith}
+use Rattle.std.proofs.Math.Nat.{pow-zero, pow-le-pow_right, mul-le-mul_right, one-le-pow, div-lt_iff_lt-mul, div-mul-le_self, div-one}
+use Rattle.std.proofs.lemmas.Bool.{cases_lt, ltb-true, cond_both}
+use Rattle.std.proofs.lemmas.Nat.{pow-add}
+use Rattle.lexical_num.specs.BitWidth.{IsBitWidth, is_8, is_16, is_32, is_64}
+use Rattle.lexical_write_integer.specs.Digits.DigitCount.{digit_count, least_exponent}
+pub use Rattle.lexical_write_integer.specs.Digits.DigitCount.{digit_count-le, digit_count-le_bits}
+use Rattle.lexical_write_integer.proofs.OfDigits.Powers.{lt-pow_self, pow-lt_more, pow-one}
+
+-- ---- the least exponent
+
+least_exponent-ge : (r number n steps : ℕ) → n ≤ least_exponent r number n steps
+unfolding least_exponent
+least_exponent-ge r number n zero = omega arith
+least_exponent-ge r number n (suc steps) =
+    cond_both (ltb number (r ^ n)) n (least_exponent r number (suc n) steps) (λ k. n ≤ k) (λ e. omega arith)
+    (λ e. omega (arith, least_exponent-ge r number (suc n) steps))
+
+least_exponent-fits : (r number n steps : ℕ) → number < r ^ (n + steps) → number < r ^ least_exponent r number n steps
+unfolding least_exponent
+least_exponent-fits r number n zero fits = let e : n + 0 ≡ n = omega arith in rw e at fits
+least_exponent-fits r number n (suc steps) fits =
+    cond_both (ltb number (r ^ n)) n (least_exponent r number (suc n) steps) (λ k. number < r ^ k)
+    (ltb-true number (r ^ n))
+    (λ _. let e : n + suc steps ≡ suc n + steps = omega arith in least_exponent-fits r number (suc n) steps (rw e at fits))
+
+-- ---- both sides of the count
+
+pub digit_count-pos : (r number : ℕ) → 1 ≤ digit_count r number
+unfolding digit_count
+digit_count-pos r number = least_exponent-ge r number 1 number
+
+pub digit_count-fits : (r number : ℕ) → 2 ≤ r → number < r ^ digit_count r number
+unfolding digit_count
+digit_count-fits r number two =
+    least_exponent-fits r number 1 number (omega (arith, lt-pow_self r number two, pow-lt_more r number (1 + number) two (omega arith)))
+
+pub digit_count-full : (r n : ℕ) → 2 ≤ r → 1 < digit_count r n → r ^ (digit_count r n - 1) ≤ n
+digit_count-full r n two long =
+    elim (cases_lt n (r ^ (digit_count r n - 1))) [
+      | inl less ↦ absurd (omega (arith, digit_count-le r n (digit_count r n - 1) (omega arith) less))
+      | inr more ↦ more
+    ]
+
+-- a smaller number has no more digits
+pub digit_count-monotone : (r m n : ℕ) → 2 ≤ r → m ≤ n → digit_count r m ≤ digit_count r n
+digit_count-monotone r m n two less = digit_count-le r m (digit_count r n) (digit_count-pos r n) (omega (arith, digit_count-fits r n two))
+
+-- a count that both sides allow is the count
+pub digit_count-is : (r number n : ℕ) → 2 ≤ r → 1 ≤ n → number < r ^ n → (1 < n → r ^ (n - 1) ≤ number) → digit_count r number ≡ n
+digit_count-is r number n two pos fits full =
+    elim (cases_lt (digit_count r number) n) [
+      | inl less ↦
+          let one = digit_count-pos r number in
+          let below = pow-le-pow_right {n = r} (omega arith) {i = digit_count r number} {j = n - 1} (omega arith) in
+          let fit = digit_count-fits r number two in
+          absurd (omega (arith, full (omega arith)))
+      | inr more ↦ omega (arith, digit_count-le r number n pos fits)
+    ]
+
+pub digit_count-one : (r n : ℕ) → 2 ≤ r → n < r → digit_count r n ≡ 1
+digit_count-one r n two short = digit_count-is r n 1 two (omega arith) (rw pow-one short) (λ more. absurd (omega arith))
+
+-- ---- what divisions leave
+
+-- a division by `r ^ count` removes `count` digits from a number that has more
+pub digit_count-split : (r count n : ℕ) → 2 ≤ r → r ^ count ≤ n → digit_count r n ≡ digit_count r (n / r ^ count) + count
+digit_count-split r count n two long =
+    let p = r ^ count in
+    let q = n / p in
+    let c = digit_count r q in
+    let some : 0 < p = one-le-pow count r (omega arith) in
+    let fits : n < r ^ (c + count) = rw (pow-add r c count) ((div-lt_iff_lt-mul some).0 (digit_count-fits r q two)) in
+    let full : 1 < c + count → r ^ (c + count - 1) ≤ n =
+    λ _. elim (cases_lt 1 c) [
+      | inl more ↦
+          let e : c + count - 1 ≡ (c - 1) + count = omega arith in
+          let first : r ^ (c - 1) * p ≤ q * p = mul-le-mul_right p (digit_count-full r q two more) in
+          rw (e, pow-add r (c - 1) count) (omega (arith, div-mul-le_self n p))
+      | inr one ↦ let e : c + count - 1 ≡ count = omega (arith, digit_count-pos r q) in rw e long
+    ] in
+    digit_count-is r n (c + count) two (omega (arith, digit_count-pos r q)) fits full
+
+-- a number of more than `taken` digits has `taken` fewer after a division by `r ^ taken`
+pub digit_count-left : (r n taken left : ℕ) → 2 ≤ r → taken < digit_count r n → left ≡ n / r ^ taken → digit_count r left + taken ≡ digit_count r n
+digit_count-left r n zero left two fewer is = rw (is, pow-zero, div-one) (omega arith)
+digit_count-left r n (suc taken) left two fewer is =
+    let power = pow-le-pow_right {n = r} (omega arith) {i = suc taken} {j = digit_count r n - 1} (omega arith) in
+    rw is (sym (digit_count-split r (suc taken) n two (omega (arith, digit_count-full r n two (omega arith)))))
+
+-- a number that is at least `r ^ count` has more than `count` digits
+pub digit_count-more : (r count n : ℕ) → 2 ≤ r → r ^ count ≤ n → count < digit_count r n
+digit_count-more r count n two long = omega (arith, digit_count-split r count n two long, digit_count-pos r (n / r ^ count))
+
+-- a number of two digits
+pub digit_count-two : (r n : ℕ) → 2 ≤ r → r ≤ n → n < r ^ 2 → digit_count r n ≡ 2
+digit_count-two r n two more less = digit_count-is r n 2 two (omega arith) less (λ long. rw pow-one more)
+
+-- ---- the numbers of a type
+
+-- no type has more than 64 bits
+pub width-le_64 : (bits : ℕ) → IsBitWidth bits → bits ≤ 64
+width-le_64 bits is_8 = omega arith
+width-le_64 bits is_16 = omega arith
+width-le_64 bits is_32 = omega arith
+width-le_64 bits is_64 = omega arith
+
+-- and each has at least one
+pub width-some : (bits : ℕ) → IsBitWidth bits → 0 < bits
+width-some bits is_8 = omega arith
+width-some bits is_16 = omega arith
+width-some bits is_32 = omega arith
+width-some bits is_64 = omega arith
+
+-- a number has at most one digit for each bit of its type
+pub digit_count-le_width : (r n bits : ℕ) → 2 ≤ r → IsBitWidth bits → n < 2 ^ bits → digit_count r n ≤ bits
+digit_count-le_width r n bits two is_8 fits = digit_count-le_bits r n 8 two (omega arith) fits
+digit_count-le_width r n bits two is_16 fits = digit_count-le_bits r n 16 two (omega arith) fits
+digit_count-le_width r n bits two is_32 fits = digit_count-le_bits r n 32 two (omega arith) fits
+digit_count-le_width r n bits two is_64 fits = digit_count-le_bits r n 64 two (omega arith) fits
+
+-- and so at most 64 digits
+pub digit_count-le_64 : (r n bits : ℕ) → 2 ≤ r → IsBitWidth bits → n < 2 ^ bits → digit_count r n ≤ 64
+digit_count-le_64 r n bits two width fits = omega (arith, digit_count-le_width r n bits two width fits, width-le_64 bits width)
+
+-- ---- decimal digits, for each width
+
+pub digit_count-le_3 : (n : ℕ) → n < 2 ^ 8 → digit_count 10 n ≤ 3
+digit_count-le_3 n fits = digit_count-le 10 n 3 (omega arith) (omega arith)
+
+pub digit_count-le_5 : (n : ℕ) → n < 2 ^ 16 → digit_count 10 n ≤ 5
+digit_count-le_5 n fits = digit_count-le 10 n 5 (omega arith) (omega arith)
+
+pub digit_count-le_10 : (n : ℕ) → n < 2 ^ 32 → digit_count 10 n ≤ 10
+digit_count-le_10 n fits = digit_count-le 10 n 10 (omega arith) (omega arith)
+
+pub digit_count-le_19 : (n : ℕ) → n < 10 ^ 19 → digit_count 10 n ≤ 19
+digit_count-le_19 n fits = digit_count-le 10 n 19 (omega arith) (omega arith)
+
+pub digit_count-le_20 : (n : ℕ) → n < 2 ^ 64 → digit_count 10 n ≤ 20
+digit_count-le_20 n fits = digit_count-le 10 n 20 (omega arith) (omega arith)
+
+-- for a buffer that has room for every number of a width
+pub ruleset widths = (digit_count-le_3, digit_count-le_5, digit_count-le_10, digit_count-le_19, digit_count-le_20)

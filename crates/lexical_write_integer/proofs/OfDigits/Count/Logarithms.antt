@@ -1,0 +1,122 @@
+-- Logarithms, rounded down, and what follows from them for the number of digits.
+use Rattle.std.proofs.Common.{◌≡◌, ℕ, zero, suc, ◌+◌, ◌-◌, ◌*◌, ◌/◌, ◌^◌, ◌<◌, ◌≤◌, Bool, true, ◌&&◌, ltb, leb, refl, ap, inl, inr, arith}
+use Rattle.std.proofs.Math.Nat.{pow-suc, pow-le-pow_right, one-le-pow, mul-le-mul_left, mod-lt, div-add-mod'}
+use Rattle.std.proofs.lemmas.Bool.{and_parts, cases_lt, cases_eq, ltb-true, leb-true}
+use Rattle.lexical_write_integer.specs.Digits.Logarithm.{IsGreatestPower, IsLog2, IsLog10Estimate}
+use Rattle.lexical_write_integer.specs.Digits.DigitCount.{digit_count}
+use Rattle.lexical_write_integer.proofs.OfDigits.Count.DigitCounts.{digit_count-is}
+use Rattle.lexical_write_integer.proofs.OfDigits.Powers.{pow-lt_more, pow-pow}
+
+pub IsGreatestPower-between : (base number k : ℕ) → 2 ≤ base → base ^ k ≤ number → number < base ^ (k + 1) → IsGreatestPower base number k
+IsGreatestPower-between base number k two low high = record {
+  within = low;
+  greatest = λ e le. elim (cases_lt k e) [
+    | inl more ↦ absurd (omega (arith, pow-le-pow_right {n = base} (omega arith) {i = k + 1} {j = e} (omega arith)))
+    | inr less ↦ less
+  ];
+}
+
+pub IsGreatestPower-lt : (base number k : ℕ) → IsGreatestPower base number k → number < base ^ (k + 1)
+IsGreatestPower-lt base number k g =
+    elim (cases_lt number (base ^ (k + 1))) [
+      | inl less ↦ less
+      | inr more ↦ absurd (omega (arith, g.greatest (k + 1) more))
+    ]
+
+-- ---- base 2
+
+pub IsLog2-lt : (number k : ℕ) → IsLog2 number k → number < 2 ^ (k + 1)
+IsLog2-lt number k log =
+    elim (cases_lt 0 number) [
+      | inl some ↦ IsGreatestPower-lt 2 number k (log.of_positive some)
+      | inr none ↦ omega (arith, one-le-pow (k + 1) 2 (omega arith))
+    ]
+
+-- ---- base 10
+
+-- the estimate for the numbers whose highest bit is at position k
+is_estimated : ℕ → Bool
+is_estimated k = leb (10 ^ (k * 1233 / 4096)) (2 ^ k) && ltb (2 ^ k) (10 ^ (k * 1233 / 4096 + 1))
+
+are_estimated : ℕ → Bool
+are_estimated zero = true
+are_estimated (suc n) = is_estimated n && are_estimated n
+
+are_estimated-each : (n k : ℕ) → are_estimated n ≡ true → k < n → is_estimated k ≡ true
+unfolding are_estimated
+are_estimated-each zero k all less = absurd (omega arith)
+are_estimated-each (suc n) k all less =
+    let parts = and_parts (is_estimated n) (are_estimated n) all in
+    elim (cases_eq k n) [
+      | inl same ↦ rw same (parts.0)
+      | inr other ↦ are_estimated-each n k (parts.1) (omega arith)
+    ]
+
+are_estimated-64 : are_estimated 64 ≡ true
+unfolding are_estimated is_estimated
+are_estimated-64 = refl
+
+pub estimate_is : (k : ℕ) → k < 64 → IsGreatestPower 10 (2 ^ k) (k * 1233 / 4096)
+unfolding is_estimated
+estimate_is k small =
+    let e = k * 1233 / 4096 in
+    let parts = and_parts (leb (10 ^ e) (2 ^ k)) (ltb (2 ^ k) (10 ^ (e + 1))) (are_estimated-each 64 k are_estimated-64 small) in
+    IsGreatestPower-between 10 (2 ^ k) e (omega arith) (leb-true (10 ^ e) (2 ^ k) (parts.0)) (ltb-true (2 ^ k) (10 ^ (e + 1)) (parts.1))
+
+-- ---- the number of digits
+
+-- the estimate is not too large
+log10-within : (number e : ℕ) → IsLog10Estimate number e → 0 < e → 10 ^ e ≤ number
+log10-within number e est some =
+    elim (cases_lt 0 number) [
+      | inl pos ↦ omega (arith, (est.is_log2.of_positive pos).within, est.estimate.within)
+      | inr none ↦
+          let zero_is : est.log2 ≡ 0 = est.is_log2.of_zero (omega arith) in
+          let one : 10 ^ e ≤ 1 = rw zero_is at est.estimate.within in
+          absurd (omega (arith, pow-lt_more 10 0 e (omega arith) some))
+    ]
+
+log10-lt : (number e : ℕ) → IsLog10Estimate number e → number < 10 ^ (e + 2)
+log10-lt number e est =
+    let more : e + 2 ≡ suc (e + 1) = omega arith in
+    let up : est.log2 + 1 ≡ suc est.log2 = omega arith in
+    omega (
+      arith,
+      IsLog2-lt number est.log2 est.is_log2,
+      IsGreatestPower-lt 10 (2 ^ est.log2) e est.estimate,
+      pow-suc 2 est.log2,
+      ap (λ k. 2 ^ k) up,
+      pow-suc 10 (e + 1),
+      ap (λ k. 10 ^ k) more,
+    )
+
+-- the digit count is one or two more than the estimate
+pub digit_count-estimate : (number e : ℕ) → IsLog10Estimate number e → number < 10 ^ (e + 1) → digit_count 10 number ≡ e + 1
+digit_count-estimate number e est below =
+    let last : e + 1 - 1 ≡ e = omega arith in
+    digit_count-is 10 number (e + 1) (omega arith) (omega arith) below (λ more. rw last (log10-within number e est (omega arith)))
+
+pub digit_count-estimate_more : (number e : ℕ) → IsLog10Estimate number e → 10 ^ (e + 1) ≤ number → digit_count 10 number ≡ e + 2
+digit_count-estimate_more number e est above =
+    let last : e + 2 - 1 ≡ e + 1 = omega arith in
+    digit_count-is 10 number (e + 2) (omega arith) (omega arith) (log10-lt number e est) (λ more. rw last above)
+
+-- in a radix that is a power of two
+pub digit_count-log2 : (number k step : ℕ) → 0 < step → IsLog2 number k → digit_count (2 ^ step) number ≡ k / step + 1
+digit_count-log2 number k step some log =
+    let q = k / step in
+    let split = div-add-mod' k step in
+    let short = mod-lt k some in
+    let last : q + 1 - 1 ≡ q = omega arith in
+    let two : 2 ≤ 2 ^ step = omega (arith, pow-le-pow_right {n = 2} (omega arith) {i = 1} {j = step} some) in
+    let product : step * (q + 1) ≡ q * step + step = omega arith in
+    let high : number < 2 ^ (step * (q + 1)) =
+    omega (arith, IsLog2-lt number k log, pow-le-pow_right {n = 2} (omega arith) {i = k + 1} {j = step * (q + 1)} (omega arith)) in
+    let low : 0 < q → 2 ^ (step * q) ≤ number = λ pos.
+    let commuted : step * q ≡ q * step = omega arith in
+    let large : 1 ≤ k = omega (arith, mul-le-mul_left step pos) in
+    elim (cases_lt 0 number) [
+      | inl positive ↦ omega (arith, (log.of_positive positive).within, pow-le-pow_right {n = 2} (omega arith) {i = step * q} {j = k} (omega arith))
+      | inr none ↦ absurd (omega (arith, log.of_zero (omega arith)))
+    ] in
+    digit_count-is (2 ^ step) number (q + 1) two (omega arith) (rw pow-pow high) (λ more. rw (last, pow-pow) (low (omega arith)))

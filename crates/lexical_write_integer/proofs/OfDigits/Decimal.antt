@@ -1,0 +1,3 @@
+-- Pairs of decimal digits, and the fractions that carry them.
+pub mod Fractions
+pub mod PairBlocks

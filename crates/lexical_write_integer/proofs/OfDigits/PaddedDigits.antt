@@ -1,0 +1,81 @@
+-- Numbers with leading zeros: zeros, and then the digits.
+use Rattle.std.proofs.Common.{◌≡◌, ℕ, zero, suc, ◌+◌, ◌*◌, ◌/◌, ◌%◌, ◌^◌, ◌<◌, ◌≤◌, ◌↔◌, List, [], ◌∷◌, ◌++◌, map, replicate, refl, sym, ap, ◌∙◌, arith}
+use Rattle.std.proofs.Math.Nat.{pow-zero, pow-suc, mod-lt, div-add-mod', div-lt_iff_lt-mul}
+use Rattle.std.proofs.lemmas.List.{length-replicate, map-append}
+use Rattle.std.proofs.lemmas.List.Elements.{All-nil, All-replicate}
+use Rattle.lexical_num.specs.Digit.{digit_char}
+use Rattle.lexical_write_integer.specs.Texts.Computed.{padded_text}
+use Rattle.lexical_write_integer.specs.Digits.DigitCount.{digit_count}
+use Rattle.lexical_write_integer.specs.Digits.Numeral.{IsBlockOf, value_of}
+use Rattle.lexical_write_integer.specs.Digits.Padded.{IsPadded}
+use Rattle.lexical_write_integer.specs.Texts.Text.{IsDigits}
+use Rattle.lexical_write_integer.proofs.OfDigits.Numerals.{IsBlockOf-one, IsBlockOf-append, length-IsNumeralOf}
+use Rattle.lexical_write_integer.proofs.OfDigits.Powers.{pow-one}
+use Rattle.lexical_write_integer.proofs.OfDigits.DigitValues.{same_digits}
+
+value_of-zeros : (r k : ℕ) → value_of r (replicate k 0) ≡ 0
+value_of-zeros r zero = refl
+value_of-zeros r (suc k) = omega (arith, value_of-zeros r k)
+
+IsBlockOf-zeros : (r k : ℕ) → 0 < r → IsBlockOf r k 0 (replicate k 0)
+IsBlockOf-zeros r k some = record {
+  counted = length-replicate k 0;
+  below_radix = All-replicate (λ d. d < r) k 0 some;
+  value = value_of-zeros r k;
+}
+
+map-zeros : (k : ℕ) → map digit_char (replicate k 0) ≡ replicate k 48
+map-zeros zero = refl
+map-zeros (suc k) = ap (λ text. 48 ∷ text) (map-zeros k)
+
+-- zeros before the digits of the number
+pub IsPadded-digits : (r n zeros width : ℕ) (text : List ℕ)
+    → 2 ≤ r → zeros + digit_count r n ≡ width → IsDigits r n text → IsPadded r width n (replicate zeros 48 ++ text)
+IsPadded-digits r n zeros width text two long is =
+    let block : IsBlockOf r (digit_count r n) n is.digits = record {
+      counted = length-IsNumeralOf two is.numeral;
+      below_radix = is.numeral.numeral.below_radix;
+      value = is.numeral.value;
+    } in
+    let none : 0 * r ^ digit_count r n + n ≡ n = omega arith in
+    record {
+      digits = replicate zeros 0 ++ is.digits;
+      block = rw (long, none) at (IsBlockOf-append (IsBlockOf-zeros r zeros (omega arith)) block);
+      characters = ap (λ t. replicate zeros 48 ++ t) is.characters
+          ∙ ap (λ t. t ++ map digit_char is.digits) (sym (map-zeros zeros))
+          ∙ sym (map-append digit_char (replicate zeros 0) is.digits);
+    }
+
+-- ---- the text as a function computes it
+
+-- a text of one further digit
+IsPadded-more : (r width n : ℕ) (text : List ℕ) → 2 ≤ r → IsPadded r width (n / r) text → IsPadded r (suc width) n (text ++ digit_char (n % r) ∷ [])
+IsPadded-more r width n text two is =
+    let whole : n / r * r ^ 1 + n % r ≡ n = rw pow-one (div-add-mod' n r) in
+    let long : width + 1 ≡ suc width = omega arith in
+    record {
+      digits = is.digits ++ n % r ∷ [];
+      block = rw (long, whole) at (IsBlockOf-append is.block (IsBlockOf-one r (n % r) (mod-lt n (omega arith))));
+      characters = ap (λ t. t ++ digit_char (n % r) ∷ []) is.characters ∙ sym (map-append digit_char is.digits (n % r ∷ []));
+    }
+
+IsPadded-padded_text : (r width n : ℕ) → 2 ≤ r → n < r ^ width → IsPadded r width n (padded_text r width n)
+IsPadded-padded_text r zero n two fits = record {
+  digits = [];
+  block = record { counted = refl; below_radix = All-nil (λ d. d < r); value = omega (arith, pow-zero r) };
+  characters = refl;
+}
+IsPadded-padded_text r (suc width) n two fits =
+    let less : n / r < r ^ width = (div-lt_iff_lt-mul {k = r} {x = n} {y = r ^ width} (omega arith)).1 (rw pow-suc at fits) in
+    IsPadded-more r width n (padded_text r width (n / r)) two (IsPadded-padded_text r width (n / r) two less)
+
+padded_unique : (r width n : ℕ) (a b : List ℕ) → IsPadded r width n a → IsPadded r width n b → a ≡ b
+padded_unique r width n a b p q =
+    let same =
+    same_digits r p.digits q.digits (p.block.counted ∙ sym q.block.counted) p.block.below_radix q.block.below_radix (p.block.value ∙ sym q.block.value) in
+    p.characters ∙ ap (map digit_char) same ∙ sym q.characters
+
+pub padded_computed : (r width n : ℕ) (text : List ℕ) → 2 ≤ r → n < r ^ width → IsPadded r width n text ↔ (text ≡ padded_text r width n)
+padded_computed r width n text two fits =
+    let computed = IsPadded-padded_text r width n two fits in
+    (λ is. padded_unique r width n text (padded_text r width n) is computed, λ same. rw same computed)

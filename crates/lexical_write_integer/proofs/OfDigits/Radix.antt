@@ -1,0 +1,3 @@
+-- The loops that divide by a power of the radix, and the tables of digit pairs.
+pub mod Loops
+pub mod TablePairs

@@ -1,0 +1,95 @@
+-- The loops that divide a number by a power of the radix: their invariant, and the quotients that they record.
+use Rattle.std.proofs.Common.{◌≡◌, ℕ, ◌+◌, ◌-◌, ◌*◌, ◌/◌, ◌^◌, ◌<◌, ◌≤◌, List, [], ◌∷◌, ◌++◌, length, refl, sym, ap, ◌∙◌, arith, append_assoc}
+use Rattle.std.proofs.Math.Nat.{pow-zero, div-lt_self, div-one, mul-div-le}
+use Rattle.std.proofs.lemmas.List.{append-nil}
+use Rattle.std.proofs.lemmas.List.FromFn.{map-range_with_len_more, length-map-range_with_len}
+use Rattle.std.proofs.lemmas.Nat.{div-mul-add}
+use Rattle.lexical_write_integer.specs.Digits.DigitCount.{digit_count}
+use Rattle.lexical_write_integer.specs.Digits.LoopTurns.{IsStep, TakesDigits, digits_after_first, quotients}
+use Rattle.lexical_write_integer.proofs.OfDigits.Count.DigitCounts.{digit_count-pos, digit_count-le, digit_count-left, digit_count-more}
+use Rattle.lexical_write_integer.proofs.OfDigits.Powers.{div-pow_more}
+use Rattle.lexical_write_integer.proofs.OfDigits.Count.RadixPowers.{step-pos, power-gt_one}
+
+-- ---- the recorded quotients
+
+pub quotients-none : (r n step : ℕ) → quotients r n step 0 ≡ []
+unfolding quotients
+quotients-none r n step = refl
+
+pub quotients-more : (r n step count : ℕ) → quotients r n step (count + 1) ≡ quotients r n step count ++ n / r ^ (step * (count + 1)) ∷ []
+unfolding quotients
+quotients-more r n step count = map-range_with_len_more (λ turn. n / r ^ (step * turn)) 1 count (count + 1) (omega arith)
+
+pub length-quotients : (r n step count : ℕ) → length (quotients r n step count) ≡ count
+unfolding quotients
+length-quotients r n step count = length-map-range_with_len (λ turn. n / r ^ (step * turn)) 1 count
+
+-- ---- a loop that removes `step` digits in each iteration
+
+-- `taken` digits were removed from n, so `left` is the quotient; the quotients were appended to `before`, which gives `after`
+pub record IsDivided (r n step taken left : ℕ) (before after : List ℕ) : Type 0 where
+  pub turns : ℕ
+  pub by_turns : taken ≡ step * turns
+  pub rest : left ≡ n / r ^ taken
+  pub fewer : taken < digit_count r n
+  pub notes : after ≡ before ++ quotients r n step turns
+
+pub IsDivided-start : {r n step : ℕ} {notes : List ℕ} → IsDivided r n step 0 n notes notes
+IsDivided-start {r} {n} {notes = notes} = record {
+  turns = 0;
+  by_turns = omega arith;
+  rest = rw (pow-zero, div-one) refl;
+  fewer = digit_count-pos r n;
+  notes = rw quotients-none (sym (append-nil notes));
+}
+
+-- if there is a further iteration, more than `step` digits remain
+pub IsDivided-room : {r n step taken left : ℕ} {before after : List ℕ}
+    → 2 ≤ r → IsDivided r n step taken left before after → r ^ step ≤ left → taken + step < digit_count r n
+IsDivided-room {r} {n} {step} {taken} {left} two d long =
+    omega (arith, digit_count-more r step left two long, digit_count-left r n taken left two d.fewer d.rest)
+
+pub IsDivided-more : {r n step taken left next : ℕ} {before between after : List ℕ}
+    → 2 ≤ r → IsDivided r n step taken left before between → r ^ step ≤ left → next ≡ left / r ^ step → after ≡ between ++ next ∷ []
+    → IsDivided r n step (taken + step) next before after
+IsDivided-more {r} {n} {step} {taken} {next = next} {before} two d long e noted =
+    let turn : taken + step ≡ step * (d.turns + 1) = grind (arith, d.by_turns) in
+    let order : step + taken ≡ taken + step = omega arith in
+    let rest : next ≡ n / r ^ (taken + step) = e ∙ ap (λ k. k / r ^ step) d.rest ∙ div-pow_more r n step taken ∙ ap (λ k. n / r ^ k) order in
+    record {
+      turns = d.turns + 1;
+      by_turns = turn;
+      rest = rest;
+      fewer = IsDivided-room two d long;
+      notes = noted ∙ rw (d.notes, quotients-more, ← turn, ← rest) (append_assoc before (quotients r n step d.turns) (next ∷ []));
+    }
+
+-- at the end of the loop
+pub TakesDigits-end : {r n step taken left : ℕ} {before after : List ℕ}
+    → 2 ≤ r → IsStep step → IsDivided r n step taken left before after → left < r ^ step → TakesDigits r n step taken left before after
+TakesDigits-end {r} {n} {step} {taken} {left} two stepped d short =
+    let few = digit_count-le r left step (step-pos step stepped) short in
+    let counts = digit_count-left r n taken left two d.fewer d.rest in
+    let order : d.turns * step ≡ step * d.turns = grind arith in
+    let parts : digits_after_first r n ≡ d.turns * step + (digits_after_first r n - taken) = omega (arith, d.by_turns, d.fewer) in
+    let turns : digits_after_first r n / step ≡ d.turns =
+    ap (λ k. k / step) parts ∙ div-mul-add d.turns step (digits_after_first r n - taken) (omega (arith, d.fewer)) in
+    record { count = rw turns d.by_turns; rest = d.rest; notes = rw turns d.notes }
+
+-- a loop that is not entered
+pub TakesDigits-none : {r n step : ℕ} {notes : List ℕ} → 2 ≤ r → IsStep step → n < r ^ step → TakesDigits r n step 0 n notes notes
+TakesDigits-none two stepped short = TakesDigits-end two stepped IsDivided-start short
+
+-- each quotient is smaller than the one before
+pub left-smaller : {r step left next : ℕ} → 2 ≤ r → IsStep step → r ^ step ≤ left → next ≡ left / r ^ step → next < left
+left-smaller {r} {step} {left} two stepped long e =
+    let large = power-gt_one r step two stepped in
+    omega (arith, div-lt_self {n = left} {k = r ^ step} (omega (arith, large)) large)
+
+-- ---- after the loop
+
+pub TakesDigits-counts : {r n step taken left : ℕ} {before after : List ℕ}
+    → 2 ≤ r → TakesDigits r n step taken left before after → digit_count r left + taken ≡ digit_count r n
+TakesDigits-counts {r} {n} {step} {taken} {left} two t =
+    let fewer = mul-div-le (digits_after_first r n) step in
+    digit_count-left r n taken left two (omega (arith, t.count, fewer, digit_count-pos r n)) t.rest

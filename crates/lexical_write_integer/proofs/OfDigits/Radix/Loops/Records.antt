@@ -1,0 +1,186 @@
+-- The quotients that the loops record, and how many of them there are.
+use Rattle.std.proofs.Common.{◌≡◌, ◌≢◌, ℕ, ◌+◌, ◌-◌, ◌*◌, ◌/◌, ◌%◌, ◌^◌, ◌<◌, ◌≤◌, Bool, true, false, cond, ltb, eqb, List, []}
+use Rattle.std.proofs.Common.{◌∷◌, ◌++◌, length, refl, sym, ap, ◌∙◌, inl, inr, arith, append_assoc, length-append}
+use Rattle.std.proofs.Math.Nat.{pow-le-pow_left, pow-le-pow_right, div-one}
+use Rattle.std.proofs.lemmas.List.{append-nil}
+use Rattle.std.proofs.lemmas.Bool.{cond_both, ltb-true, ltb-false, eqb-true, eqb-false, or_from, ne_eqb, cases_eq}
+use Rattle.lexical_num.specs.BitWidth.{IsBitWidth}
+use Rattle.lexical_write_integer.specs.Digits.DigitCount.{digit_count}
+use Rattle.lexical_write_integer.specs.Digits.LoopTurns.{TakesDigits, digits_after_first, quotients, loop_notes, slow_notes, count_notes}
+use Rattle.lexical_write_integer.specs.Digits.LoopTurns.{table_notes, compact_notes, is_counted_at_once, loop_turns, slow_turns}
+use Rattle.lexical_write_integer.specs.Digits.LoopTurns.{count_turns, table_turns, compact_turns}
+use Rattle.lexical_write_integer.proofs.OfDigits.Count.DigitCounts.{digit_count-pos, digit_count-le, width-le_64}
+use Rattle.lexical_write_integer.proofs.OfDigits.Powers.{div-pow_more}
+use Rattle.lexical_write_integer.proofs.OfDigits.Radix.Loops.Divisions.{quotients-none, quotients-more, length-quotients, TakesDigits-counts}
+
+length-cond : (test : Bool) (xs ys : List ℕ) → length (cond test xs ys) ≡ cond test (length xs) (length ys)
+length-cond true xs ys = refl
+length-cond false xs ys = refl
+
+quotients-one : (r n step : ℕ) → quotients r n step 1 ≡ n / r ^ step ∷ []
+quotients-one r n step =
+    let once : step * (0 + 1) ≡ step = omega arith in
+    quotients-more r n step 0 ∙ ap (λ ys. ys ++ n / r ^ (step * (0 + 1)) ∷ []) (quotients-none r n step) ∙ ap (λ k. n / r ^ k ∷ []) once
+
+left_left : (r n i j : ℕ) → n / r ^ i / r ^ j ≡ n / r ^ (i + j)
+left_left r n i j = let order : j + i ≡ i + j = omega arith in div-pow_more r n j i ∙ ap (λ k. n / r ^ k) order
+
+-- ---- the loop that divides by the square of the radix, after the one that divides by its fourth power
+
+-- it has at most one iteration
+two_notes : {r n four left : ℕ} {a b : List ℕ}
+    → 2 ≤ r → TakesDigits r n 4 four left a b
+    → quotients r left 2 (digits_after_first r left / 2) ≡ cond (ltb (digits_after_first r n % 4) 2) [] (n / r ^ (4 * (digits_after_first r n / 4) + 2) ∷ [])
+two_notes {r} {n} {four} {left} two t =
+    let following : digits_after_first r left ≡ digits_after_first r n % 4 = omega (arith, t.count, TakesDigits-counts two t, digit_count-pos r left) in
+    cond_both (ltb (digits_after_first r n % 4) 2) [] (n / r ^ (4 * (digits_after_first r n / 4) + 2) ∷ [])
+    (λ ys. quotients r left 2 (digits_after_first r left / 2) ≡ ys)
+    (λ few.
+    let none : digits_after_first r left / 2 ≡ 0 = omega (arith, ltb-true (digits_after_first r n % 4) 2 few) in
+    rw none (quotients-none r left 2))
+    (λ more.
+    let one : digits_after_first r left / 2 ≡ 1 = omega (arith, ltb-false (digits_after_first r n % 4) 2 more) in
+    rw (one, t.rest, t.count)
+    (quotients-one r (n / r ^ (4 * (digits_after_first r n / 4))) 2 ∙ ap (λ k. k ∷ []) (left_left r n (4 * (digits_after_first r n / 4)) 2)))
+
+pub loop_notes-are : {r n four left_four by_two left_two : ℕ} {a b c : List ℕ}
+    → 2 ≤ r → TakesDigits r n 4 four left_four a b → TakesDigits r left_four 2 by_two left_two b c → c ≡ a ++ loop_notes r n
+unfolding loop_notes
+loop_notes-are {r} {n} {a = a} two t u =
+    rw (u.notes, t.notes, two_notes two t) (append_assoc a (quotients r n 4 (digits_after_first r n / 4)) _)
+
+-- ---- the slow count, whose last loop removes single digits
+
+pub slow_count-is : {r n four left_four by_two left_two by_one left_one : ℕ} {a b c d : List ℕ}
+    → 2 ≤ r → TakesDigits r n 4 four left_four a b → TakesDigits r left_four 2 by_two left_two b c
+    → TakesDigits r left_two 1 by_one left_one c d → 1 + four + by_two + by_one ≡ digit_count r n
+slow_count-is {r} {left_two = left} two t u v =
+    omega (arith, v.count, TakesDigits-counts two t, TakesDigits-counts two u, digit_count-pos r left)
+
+-- that loop has one iteration if the number of digits is even, and otherwise none
+last_notes : {r n four left_four by_two left_two : ℕ} {a b c : List ℕ}
+    → 2 ≤ r → TakesDigits r n 4 four left_four a b → TakesDigits r left_four 2 by_two left_two b c
+    → quotients r left_two 1 (digits_after_first r left_two / 1) ≡ cond (eqb (digit_count r n % 2) 0) (n / r ^ digits_after_first r n ∷ []) []
+last_notes {r} {n} {four} {left_four} {by_two} {left_two} two t u =
+    let counts : digit_count r left_two + (four + by_two) ≡ digit_count r n = omega (arith, TakesDigits-counts two t, TakesDigits-counts two u) in
+    let some = digit_count-pos r left_two in
+    let even_taken : (four + by_two) % 2 ≡ 0 = omega (arith, t.count, u.count) in
+    let few : digit_count r left_two ≤ 2 = omega (arith, u.count, TakesDigits-counts two u) in
+    let left_is : left_two ≡ n / r ^ (four + by_two) = u.rest ∙ ap (λ k. k / r ^ by_two) t.rest ∙ left_left r n four by_two in
+    cond_both (eqb (digit_count r n % 2) 0) (n / r ^ digits_after_first r n ∷ []) [] (λ ys. quotients r left_two 1 (digits_after_first r left_two / 1) ≡ ys)
+    (λ even.
+    let one : digits_after_first r left_two / 1 ≡ 1 = omega (arith, eqb-true (digit_count r n % 2) 0 even) in
+    let all : four + by_two + 1 ≡ digits_after_first r n = omega (arith, eqb-true (digit_count r n % 2) 0 even) in
+    rw one (quotients-one r left_two 1 ∙ ap (λ k. k / r ^ 1 ∷ []) left_is ∙ ap (λ k. k ∷ []) (left_left r n (four + by_two) 1) ∙ ap (λ e. n / r ^ e ∷ []) all))
+    (λ odd.
+    let none : digits_after_first r left_two / 1 ≡ 0 = omega (arith, eqb-false (digit_count r n % 2) 0 odd) in
+    rw none (quotients-none r left_two 1))
+
+pub slow_notes-are : {r n four left_four by_two left_two by_one left_one : ℕ} {a b c d : List ℕ}
+    → 2 ≤ r → TakesDigits r n 4 four left_four a b → TakesDigits r left_four 2 by_two left_two b c
+    → TakesDigits r left_two 1 by_one left_one c d → d ≡ a ++ slow_notes r n
+unfolding slow_notes
+slow_notes-are {r} {n} {a = a} two t u v =
+    rw (v.notes, loop_notes-are two t u, last_notes two t u) (append_assoc a (loop_notes r n) _)
+
+-- ---- one digit per iteration
+
+pub compact_notes-are : {r n taken left : ℕ} {a b : List ℕ} → TakesDigits r n 1 taken left a b → b ≡ a ++ compact_notes r n
+unfolding compact_notes
+compact_notes-are {r} {n} {a = a} t = t.notes ∙ ap (λ k. a ++ quotients r n 1 k) (div-one (digits_after_first r n))
+
+-- ---- the radices in which digits are counted without a loop
+
+pub none_noted : (r n : ℕ) (notes : List ℕ) → is_counted_at_once r ≡ true → notes ≡ notes ++ count_notes r n
+unfolding count_notes
+none_noted r n notes at_once = rw at_once (sym (append-nil notes))
+
+pub slow_noted : (r n : ℕ) (a b : List ℕ) → is_counted_at_once r ≡ false → b ≡ a ++ slow_notes r n → b ≡ a ++ count_notes r n
+unfolding count_notes
+slow_noted r n a b by_turns noted = rw by_turns noted
+
+pub not_at_once : (r : ℕ) → r ≢ 2 → r ≢ 4 → r ≢ 8 → r ≢ 10 → r ≢ 16 → r ≢ 32 → is_counted_at_once r ≡ false
+not_at_once r p2 p4 p8 p10 p16 p32 =
+    or_from _ _ (ne_eqb r 2 p2)
+    (or_from _ _ (ne_eqb r 4 p4) (or_from _ _ (ne_eqb r 8 p8) (or_from _ _ (ne_eqb r 10 p10) (or_from _ _ (ne_eqb r 16 p16) (ne_eqb r 32 p32)))))
+
+-- ---- the table writer
+
+pub table_notes-are : (r n : ℕ) (a b c : List ℕ) → b ≡ a ++ count_notes r n → c ≡ b ++ loop_notes r n → c ≡ a ++ table_notes r n
+unfolding table_notes
+table_notes-are r n a b c counted written = rw (written, counted) (append_assoc a (count_notes r n) (loop_notes r n))
+
+-- ---- how many quotients are recorded
+
+-- a list to which some numbers are appended
+pub length-more : (a b notes : List ℕ) (more : ℕ) → b ≡ a ++ notes → length notes ≡ more → length b ≡ length a + more
+length-more a b notes more noted count = ap length noted ∙ length-append a notes ∙ ap (λ k. length a + k) count
+
+pub length-loop_notes : (r n : ℕ) → length (loop_notes r n) ≡ loop_turns (digit_count r n)
+unfolding loop_notes
+length-loop_notes r n =
+    let b = digits_after_first r n in
+    length-more (quotients r n 4 (b / 4)) (loop_notes r n) (cond (ltb (b % 4) 2) [] (n / r ^ (4 * (b / 4) + 2) ∷ []))
+    (cond (ltb (b % 4) 2) 0 1) refl (length-cond (ltb (b % 4) 2) [] _)
+    ∙ ap (λ k. k + cond (ltb (b % 4) 2) 0 1) (length-quotients r n 4 (b / 4))
+
+pub length-slow_notes : (r n : ℕ) → length (slow_notes r n) ≡ slow_turns (digit_count r n)
+unfolding slow_notes
+length-slow_notes r n =
+    let even = eqb (digit_count r n % 2) 0 in
+    length-more (loop_notes r n) (slow_notes r n) (cond even (n / r ^ digits_after_first r n ∷ []) []) (cond even 1 0) refl (length-cond even _ [])
+    ∙ ap (λ k. k + cond even 1 0) (length-loop_notes r n)
+
+pub length-count_notes : (r n : ℕ) → length (count_notes r n) ≡ count_turns r (digit_count r n)
+unfolding count_notes
+length-count_notes r n =
+    length-cond (is_counted_at_once r) [] (slow_notes r n) ∙ ap (λ k. cond (is_counted_at_once r) 0 k) (length-slow_notes r n)
+
+pub length-table_notes : (r n : ℕ) → length (table_notes r n) ≡ table_turns r (digit_count r n)
+unfolding table_notes
+length-table_notes r n =
+    omega (arith, length-append (count_notes r n) (loop_notes r n), length-count_notes r n, length-loop_notes r n)
+
+pub length-compact_notes : (r n : ℕ) → length (compact_notes r n) ≡ compact_turns (digit_count r n)
+unfolding compact_notes
+length-compact_notes r n = length-quotients r n 1 (digits_after_first r n)
+
+-- ---- the largest number of iterations of the table writer
+
+loop_turns-le : (digits most : ℕ) → digits ≤ 4 * most + 1 → loop_turns digits ≤ most
+loop_turns-le digits most few =
+    cond_both (ltb ((digits - 1) % 4) 2) 0 1 (λ k. (digits - 1) / 4 + k ≤ most)
+    (λ _. omega arith)
+    (λ more. omega (arith, ltb-false ((digits - 1) % 4) 2 more))
+
+-- the loops of the count and of the writer, and one iteration more if the number of digits is even
+twice_turns-le : (digits : ℕ) → digits ≤ 41 → slow_turns digits + loop_turns digits ≤ 21
+twice_turns-le digits few =
+    cond_both (eqb (digits % 2) 0) 1 0 (λ k. loop_turns digits + k + loop_turns digits ≤ 21)
+    (λ _. omega (arith, loop_turns-le digits 10 few))
+    (λ _. omega (arith, loop_turns-le digits 10 few))
+
+count_turns-le : (r digits : ℕ) → count_turns r digits ≤ slow_turns digits
+count_turns-le r digits = cond_both (is_counted_at_once r) 0 (slow_turns digits) (λ k. k ≤ slow_turns digits) (λ _. omega arith) (λ _. omega arith)
+
+-- radix 2 needs no loop to count, and in radix 3 and above a number of 64 bits has at most 41 digits
+pub table_turns-le_21 : (r n : ℕ) → 2 ≤ r → n < 2 ^ 64 → table_turns r (digit_count r n) ≤ 21
+table_turns-le_21 r n two fits =
+    elim (cases_eq r 2) [
+      | inl same ↦ rw same (omega (arith, loop_turns-le (digit_count 2 n) 16 (omega (arith, digit_count-le 2 n 64 (omega arith) fits))))
+      | inr other ↦
+          let wide : n < r ^ 41 = omega (arith, pow-le-pow_left {n = 3} {m = r} (omega arith) 41) in
+          let few = digit_count-le r n 41 (omega arith) wide in
+          omega (arith, count_turns-le r (digit_count r n), twice_turns-le (digit_count r n) few)
+    ]
+
+-- what the table writer records, as a number of iterations
+pub table_turns-are : (r n digits : ℕ) (a b : List ℕ)
+    → b ≡ a ++ table_notes r n → digits ≡ digit_count r n → length b ≡ length a + table_turns r digits
+table_turns-are r n digits a b noted count = rw count (length-more a b _ _ noted (length-table_notes r n))
+
+pub table_turns-few : (bits r n : ℕ) (a b : List ℕ)
+    → 2 ≤ r → IsBitWidth bits → n < 2 ^ bits → b ≡ a ++ table_notes r n → length b ≤ length a + 21
+table_turns-few bits r n a b two width fits noted =
+    let wide = pow-le-pow_right {n = 2} (omega arith) {i = bits} {j = 64} (width-le_64 bits width) in
+    omega (arith, length-more a b _ _ noted (length-table_notes r n), table_turns-le_21 r n two (omega (arith, fits, wide)))

@@ -1,0 +1,56 @@
+-- The characters of digits, the signs and the separators between groups are ASCII.
+use Rattle.std.proofs.Common.{Option, None, Some, Bool, true, false, ◌==◌, ℕ, ◌<◌, ◌≤◌, ◌%◌, List, [], ◌∷◌, ◌++◌, length, map, refl, arith, ℤ, pos, negsuc}
+use Rattle.std.specs.List.{All}
+use Rattle.std.specs.Option.{ForSome}
+use Rattle.std.specs.Str.{IsAscii}
+use Rattle.std.proofs.lemmas.Bool.{cond_both}
+use Rattle.std.proofs.lemmas.Bool.Decides.{nat_tests}
+use Rattle.std.proofs.lemmas.List.Elements.{All-nil, All-cons, All-head, All-tail, All-map, All-append}
+use Rattle.std.proofs.lemmas.Str.Ascii.{IsAscii-from_all}
+use Rattle.lexical_num.specs.Digit.{digit_char}
+use Rattle.lexical_num.specs.Format.{Format, IsGrouping}
+use Rattle.lexical_num.specs.Sign.{sign_of}
+use Rattle.lexical_write_integer.specs.Texts.Groups.{mark_before, in_groups, grouped}
+use Rattle.lexical_write_integer.specs.Texts.Text.{IsText}
+
+abbrev AllAscii : List ℕ → Type 0
+AllAscii = All (λ b. b < 128)
+
+AllAscii-one : (b : ℕ) → b < 128 → AllAscii (b ∷ [])
+AllAscii-one b small = All-cons (λ b. b < 128) b [] small (All-nil (λ b. b < 128))
+
+digit_char-ascii : (d : ℕ) → d < 36 → digit_char d < 128
+digit_char-ascii d small = grind (arith, nat_tests)
+
+AllAscii-digit_chars : (r : ℕ) (digits : List ℕ) → r ≤ 36 → All (λ d. d < r) digits → AllAscii (map digit_char digits)
+AllAscii-digit_chars r digits few below = All-map (λ b. b < 128) digit_char digits (λ k d less. digit_char-ascii _ (omega (arith, below k d less)))
+
+AllAscii-in_groups : (grouping : ℕ × ℕ) (bytes : List ℕ) → grouping.1 < 128 → AllAscii bytes → AllAscii (in_groups grouping bytes)
+AllAscii-in_groups grouping [] mark all = all
+AllAscii-in_groups grouping (byte ∷ []) mark all = all
+AllAscii-in_groups grouping (byte ∷ next ∷ bytes) mark all =
+    let right = length (next ∷ bytes) in
+    let marks = cond_both (right % grouping.0 == 0) (grouping.1 ∷ []) [] AllAscii (λ _. AllAscii-one grouping.1 mark) (λ _. All-nil (λ b. b < 128)) in
+    let rest = AllAscii-in_groups grouping (next ∷ bytes) mark (All-tail (λ b. b < 128) byte (next ∷ bytes) all) in
+    All-cons (λ b. b < 128) byte (mark_before grouping right ++ in_groups grouping (next ∷ bytes)) (All-head (λ b. b < 128) byte (next ∷ bytes) all)
+    (All-append (λ b. b < 128) (mark_before grouping right) (in_groups grouping (next ∷ bytes)) marks rest)
+
+AllAscii-grouped : (grouping : Option (ℕ × ℕ)) (bytes : List ℕ) → ForSome grouping IsGrouping → AllAscii bytes → AllAscii (grouped grouping bytes)
+AllAscii-grouped None bytes good all = all
+AllAscii-grouped (Some grouping) bytes good all = AllAscii-in_groups grouping bytes (omega (arith, (good grouping refl).mark.at_most_tilde)) all
+
+AllAscii-sign : (x : ℤ) (required : Bool) → AllAscii (sign_of x required)
+AllAscii-sign (negsuc n) required = AllAscii-one 45 (omega arith)
+AllAscii-sign (pos n) true = AllAscii-one 43 (omega arith)
+AllAscii-sign (pos n) false = All-nil (λ b. b < 128)
+
+pub IsAscii-IsText : (x : ℤ) (format : Format) (text : List ℕ)
+    → format.mantissa_radix ≤ 36 → ForSome format.digit_grouping IsGrouping → IsText x format text → IsAscii text
+IsAscii-IsText x format text few good is =
+    let sign = sign_of x format.required_mantissa_sign in
+    let digits : AllAscii is.digits =
+    rw is.magnitude.characters (AllAscii-digit_chars format.mantissa_radix is.magnitude.digits few is.magnitude.numeral.numeral.below_radix) in
+    let whole =
+    All-append (λ b. b < 128) sign (grouped format.digit_grouping is.digits) (AllAscii-sign x format.required_mantissa_sign)
+    (AllAscii-grouped format.digit_grouping is.digits good digits) in
+    IsAscii-from_all text (rw is.whole whole)

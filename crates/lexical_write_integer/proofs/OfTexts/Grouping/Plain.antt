@@ -1,0 +1,85 @@
+-- A text without the separators between its groups.
+use Rattle.std.proofs.Common.{◌≡◌, ◌≢◌, Option, None, Some, Bool, true, false, not, ◌==◌, ℕ, ◌<◌, ◌≤◌, ◌%◌, List, [], ◌∷◌, ◌++◌}
+use Rattle.std.proofs.Common.{length, map, refl, sym, ap, ◌∙◌, arith, ℤ, pos, negsuc}
+use Rattle.std.specs.List.{All, filter}
+use Rattle.std.specs.Option.{ForSome}
+use Rattle.std.proofs.lemmas.Bool.{cond-true, cond-false, cond_both, eq-eqb, ne_eqb, not_from_false, not_from_true}
+use Rattle.std.proofs.lemmas.List.Elements.{All-head, All-tail, All-cons, All-nil, filter-append}
+use Rattle.lexical_num.specs.Digit.{digit_char}
+use Rattle.lexical_num.specs.Format.{Format, IsGrouping, IsMark, without_groups}
+use Rattle.lexical_num.specs.Sign.{sign_of}
+use Rattle.lexical_write_integer.specs.Texts.Groups.{mark_before, in_groups, grouped, without_marks}
+use Rattle.lexical_write_integer.specs.Texts.Text.{IsText}
+
+-- ---- the bytes other than a separator
+
+abbrev others : ℕ → List ℕ → List ℕ
+others mark = filter (λ byte. not (byte == mark))
+
+others-other : (mark byte : ℕ) (bytes : List ℕ) → byte ≢ mark → others mark (byte ∷ bytes) ≡ byte ∷ others mark bytes
+others-other mark byte bytes other = cond-true _ _ _ (not_from_false _ (ne_eqb byte mark other))
+
+others-mark : (mark : ℕ) (bytes : List ℕ) → others mark (mark ∷ bytes) ≡ others mark bytes
+others-mark mark bytes = cond-false _ _ _ (not_from_true _ (eq-eqb mark mark refl))
+
+others-mark_before : (grouping : ℕ × ℕ) (right : ℕ) → others grouping.1 (mark_before grouping right) ≡ []
+others-mark_before grouping right =
+    cond_both (right % grouping.0 == 0) (grouping.1 ∷ []) [] (λ bytes. others grouping.1 bytes ≡ []) (λ _. others-mark grouping.1 []) (λ _. refl)
+
+-- bytes in groups without the separators are the bytes
+others-in_groups : (grouping : ℕ × ℕ) (bytes : List ℕ) → All (λ byte. byte ≢ grouping.1) bytes → others grouping.1 (in_groups grouping bytes) ≡ bytes
+others-in_groups grouping [] other = refl
+others-in_groups grouping (byte ∷ []) other = others-other grouping.1 byte [] (All-head (λ byte. byte ≢ grouping.1) byte [] other)
+others-in_groups grouping (byte ∷ next ∷ bytes) other =
+    let mark = mark_before grouping (length (next ∷ bytes)) in
+    let rest = in_groups grouping (next ∷ bytes) in
+    let following = others-in_groups grouping (next ∷ bytes) (All-tail (λ byte. byte ≢ grouping.1) byte (next ∷ bytes) other) in
+    others-other grouping.1 byte (mark ++ rest) (All-head (λ byte. byte ≢ grouping.1) byte (next ∷ bytes) other)
+    ∙ ap (λ bytes. byte ∷ bytes)
+    (filter-append (λ byte. not (byte == grouping.1)) mark rest ∙ ap (λ bytes. bytes ++ others grouping.1 rest)
+    (others-mark_before grouping (length (next ∷ bytes))) ∙ following)
+
+-- ---- a separator is neither the character of a digit nor a sign
+
+digit_char-mark : (d mark : ℕ) → d < 36 → IsMark mark → digit_char d ≢ mark
+digit_char-mark d mark small is same = grind (arith, is.no_letter_or_digit)
+
+digit_chars-mark : (r mark : ℕ) (digits : List ℕ) → r ≤ 36 → IsMark mark → All (λ d. d < r) digits → All (λ byte. byte ≢ mark) (map digit_char digits)
+digit_chars-mark r mark [] few is below = All-nil (λ byte. byte ≢ mark)
+digit_chars-mark r mark (d ∷ digits) few is below =
+    let small = All-head (λ d. d < r) d digits below in
+    All-cons (λ byte. byte ≢ mark) (digit_char d) (map digit_char digits) (digit_char-mark d mark (omega arith) is)
+    (digit_chars-mark r mark digits few is (All-tail (λ d. d < r) d digits below))
+
+others-sign : (mark : ℕ) (x : ℤ) (required : Bool) (bytes : List ℕ)
+    → IsMark mark → others mark (sign_of x required ++ bytes) ≡ sign_of x required ++ others mark bytes
+others-sign mark (negsuc n) required bytes is = others-other mark 45 bytes (λ e. is.no_minus (sym e))
+others-sign mark (pos n) true bytes is = others-other mark 43 bytes (λ e. is.no_plus (sym e))
+others-sign mark (pos n) false bytes is = refl
+
+-- ---- texts
+
+without_marks-grouped : (grouping : Option (ℕ × ℕ)) (r : ℕ) (x : ℤ) (required : Bool) (digits : List ℕ)
+    → ForSome grouping IsGrouping → r ≤ 36 → All (λ d. d < r) digits
+    → without_marks grouping (sign_of x required ++ grouped grouping (map digit_char digits)) ≡ sign_of x required ++ map digit_char digits
+without_marks-grouped None r x required digits good few below = refl
+without_marks-grouped (Some grouping) r x required digits good few below =
+    let mark = (good grouping refl).mark in
+    others-sign grouping.1 x required _ mark
+    ∙ ap (λ bytes. sign_of x required ++ bytes) (others-in_groups grouping (map digit_char digits) (digit_chars-mark r grouping.1 digits few mark below))
+
+-- a text without its separators is the text in the same format without groups
+pub IsText-without_marks : (x : ℤ) (format : Format) (text : List ℕ)
+    → format.mantissa_radix ≤ 36 → ForSome format.digit_grouping IsGrouping → IsText x format text
+    → IsText x (without_groups format) (without_marks format.digit_grouping text)
+IsText-without_marks x format text few good p =
+    let chars = p.magnitude.characters in
+    let required = format.required_mantissa_sign in
+    let grouping = format.digit_grouping in
+    record {
+      digits = p.digits;
+      magnitude = p.magnitude;
+      whole = ap (without_marks grouping) (p.whole ∙ ap (λ digits. sign_of x required ++ grouped grouping digits) chars)
+          ∙ without_marks-grouped grouping format.mantissa_radix x required p.magnitude.digits good few p.magnitude.numeral.numeral.below_radix
+          ∙ ap (λ digits. sign_of x required ++ digits) (sym chars);
+    }

@@ -1,0 +1,244 @@
+-- Texts and their numbers: a text belongs to one number, and the order of texts is that of their numbers.
+use Rattle.std.proofs.Common.{◌≡◌, Option, None, Some, ℕ, suc, ◌+◌, ◌*◌, ◌^◌, ◌<◌, ◌≤◌, List, [], ◌∷◌, ◌++◌, length, get_or, map}
+use Rattle.std.proofs.Common.{Bool, true, false, ◌↔◌, inl, inr, refl, sym, ap, ◌∙◌, arith, ℤ, pos, negsuc, ◌<ℤ◌, ◌≤ℤ◌}
+use Rattle.std.proofs.Common.{length-append}
+use Rattle.std.specs.Cmp.{nat_cmp_is, ranks}
+use Rattle.std.specs.Cmp.Derive.Mapped.{lex_map}
+use Rattle.std.specs.Cmp.Lexicographic.{slice_cmp}
+use Rattle.std.specs.List.{All}
+use Rattle.std.specs.Ordering.{nat_cmp, ordering_then}
+use Rattle.std.specs.declared.cmp.Ordering.TheVariants.{Less, Equal, Greater}
+use Rattle.std.proofs.Math.Nat.{mul-le-mul_right}
+use Rattle.std.proofs.lemmas.Bool.{cases_lt, cases_order}
+use Rattle.std.proofs.lemmas.Cmp.{by_ranked, nat_cmp_total, tied_itself}
+use Rattle.std.proofs.lemmas.Int.{ints}
+use Rattle.std.proofs.lemmas.List.{append_cancel_left, length-map}
+use Rattle.std.proofs.lemmas.List.Elements.{All-tail}
+use Rattle.lexical_num.specs.Digit.{digit_char}
+use Rattle.lexical_num.specs.Format.{Format}
+use Rattle.lexical_num.specs.Sign.{sign_of}
+use Rattle.lexical_write_integer.specs.Texts.Groups.{mark_before, in_groups, grouped}
+use Rattle.lexical_write_integer.specs.Digits.Numeral.{value_of}
+use Rattle.lexical_write_integer.specs.Texts.Order.{ComesBefore}
+use Rattle.lexical_write_integer.specs.Texts.Text.{IsDigits, IsText}
+use Rattle.lexical_write_integer.proofs.OfDigits.Count.DigitCounts.{digit_count-monotone}
+use Rattle.lexical_write_integer.proofs.OfTexts.Grouping.Digits.{grouped-injective, length-grouped_lt, length-grouped_same}
+use Rattle.lexical_write_integer.proofs.OfDigits.Numerals.{length-IsDigits}
+use Rattle.lexical_write_integer.proofs.OfDigits.DigitValues.{value_of-lt}
+
+-- ---- a text has one number
+
+digit_char-ge : (d : ℕ) → 48 ≤ digit_char d
+digit_char-ge d = grind arith
+
+digit_char-injective : (c d : ℕ) → digit_char c ≡ digit_char d → c ≡ d
+digit_char-injective c d same = grind (arith, same)
+
+map-digit_char_injective : (xs ys : List ℕ) → map digit_char xs ≡ map digit_char ys → xs ≡ ys
+map-digit_char_injective [] [] same = refl
+map-digit_char_injective [] (y ∷ ys) same = cc
+map-digit_char_injective (x ∷ xs) [] same = cc
+map-digit_char_injective (x ∷ xs) (y ∷ ys) same =
+    let first : x ≡ y = digit_char-injective x y (cc) in
+    let rest : xs ≡ ys = map-digit_char_injective xs ys (cc) in
+    cc
+
+pub equal_from_IsDigits : (r m n : ℕ) (text : List ℕ) → IsDigits r m text → IsDigits r n text → m ≡ n
+equal_from_IsDigits r m n text p q =
+    sym p.numeral.value ∙ ap (value_of r) (map-digit_char_injective p.digits q.digits (sym p.characters ∙ q.characters)) ∙ q.numeral.value
+
+-- digits have the same first byte in groups
+get_or-grouped : (grouping : Option (ℕ × ℕ)) (digits : List ℕ) → get_or (grouped grouping digits) 0 0 ≡ get_or digits 0 0
+get_or-grouped None digits = refl
+get_or-grouped (Some grouping) [] = refl
+get_or-grouped (Some grouping) (digit ∷ []) = refl
+get_or-grouped (Some grouping) (digit ∷ next ∷ digits) = refl
+
+-- the characters of digits do not begin with a sign
+no_sign : (grouping : Option (ℕ × ℕ)) (sign : ℕ) (rest digits : List ℕ) → 0 < sign → sign < 48 → sign ∷ rest ≡ grouped grouping (map digit_char digits) → ⊥
+no_sign grouping sign rest digits some small e =
+    let first : sign ≡ get_or (map digit_char digits) 0 0 = ap (λ text. get_or text 0 0) e ∙ get_or-grouped grouping (map digit_char digits) in
+    differ digits first
+  where
+    differ : (digits : List ℕ) → sign ≡ get_or (map digit_char digits) 0 0 → ⊥
+    differ [] first = omega arith
+    differ (d ∷ digits) first = omega (arith, digit_char-ge d)
+
+signs_differ : (grouping : Option (ℕ × ℕ)) (required : Bool) (n : ℕ) (s digits : List ℕ)
+    → 45 ∷ s ≡ sign_of (pos n) required ++ grouped grouping (map digit_char digits) → ⊥
+signs_differ grouping true n s digits e =
+    let same : ◌≡◌ {A = ℕ} 45 43 = ap (λ text. get_or text 0 0) e in
+    omega arith
+signs_differ grouping false n s digits e = no_sign grouping 45 s digits (omega arith) (omega arith) e
+
+-- a negative number and one that is not negative have no text in common
+IsText-one_sign : (m n : ℕ) (format : Format) (text : List ℕ) → IsText (negsuc m) format text → IsText (pos n) format text → ⊥
+IsText-one_sign m n format text p q =
+    signs_differ format.digit_grouping format.required_mantissa_sign n (grouped format.digit_grouping p.digits) q.magnitude.digits
+    (sym p.whole ∙ q.whole ∙ ap (λ digits. sign_of (pos n) format.required_mantissa_sign ++ grouped format.digit_grouping digits) q.magnitude.characters)
+
+pub equal_from_IsText : (m n : ℤ) (format : Format) (text : List ℕ) → IsText m format text → IsText n format text → m ≡ n
+equal_from_IsText (pos m) (pos n) format text p q =
+    let grouping = format.digit_grouping in
+    let same =
+    grouped-injective grouping p.digits q.digits
+    (append_cancel_left (sign_of (pos m) format.required_mantissa_sign) (grouped grouping p.digits) (grouped grouping q.digits) (sym p.whole ∙ q.whole)) in
+    ap pos (equal_from_IsDigits format.mantissa_radix m n q.digits (rw same at p.magnitude) q.magnitude)
+equal_from_IsText (negsuc m) (negsuc n) format text p q =
+    let grouping = format.digit_grouping in
+    let after_sign = append_cancel_left (45 ∷ []) (grouped grouping p.digits) (grouped grouping q.digits) (sym p.whole ∙ q.whole) in
+    let same = grouped-injective grouping p.digits q.digits after_sign in
+    let abs : suc m ≡ suc n = equal_from_IsDigits format.mantissa_radix (suc m) (suc n) q.digits (rw same at p.magnitude) q.magnitude in
+    ap negsuc (omega arith)
+equal_from_IsText (negsuc m) (pos n) format text p q = absurd (IsText-one_sign m n format text p q)
+equal_from_IsText (pos m) (negsuc n) format text p q = absurd (IsText-one_sign n m format text q p)
+
+-- ---- the order of bytes, which for lists of the same length is that of their values
+
+lt-nat_cmp : (m n : ℕ) → m < n → nat_cmp m n ≡ Less
+lt-nat_cmp m n less = sym (nat_cmp_is m n Less less)
+
+nat_cmp-Less : (m n : ℕ) → nat_cmp m n ≡ Less → m < n
+nat_cmp-Less m n less = rw less at (ranks m n)
+
+-- a function that preserves `<` preserves the result of a comparison
+nat_cmp-monotone : (f : ℕ → ℕ) → ((m n : ℕ) → m < n → f m < f n) → (m n : ℕ) → nat_cmp (f m) (f n) ≡ nat_cmp m n
+nat_cmp-monotone f more m n =
+    by_ranked (m < n) (m ≡ n) (n < m) (nat_cmp m n) (ranks m n)
+    (λ e less. sym (e ∙ nat_cmp_is (f m) (f n) Less (more m n less)))
+    (λ e same. sym (e ∙ nat_cmp_is (f m) (f n) Equal (ap f same)))
+    (λ e greater. sym (e ∙ nat_cmp_is (f m) (f n) Greater (more n m greater)))
+
+nat_cmp-digit_char : (c d : ℕ) → nat_cmp (digit_char c) (digit_char d) ≡ nat_cmp c d
+nat_cmp-digit_char = nat_cmp-monotone digit_char (λ c d less. grind arith)
+
+slice_cmp-digit_char : (xs ys : List ℕ) → slice_cmp nat_cmp (map digit_char xs) (map digit_char ys) ≡ slice_cmp nat_cmp xs ys
+slice_cmp-digit_char xs ys = lex_map digit_char nat_cmp xs ys ∙ (λ i. slice_cmp (λ c d. nat_cmp-digit_char c d i) xs ys)
+
+-- the digit of the higher weight decides the comparison
+place-less : (w c d a b : ℕ) → a < w → c < d → c * w + a < d * w + b
+place-less w c d a b small less = omega (arith, mul-le-mul_right {m = suc c} {n = d} w (omega arith))
+
+nat_cmp-place : (w c d a b : ℕ) → a < w → b < w → ordering_then (nat_cmp c d) (nat_cmp a b) ≡ nat_cmp (c * w + a) (d * w + b)
+nat_cmp-place w c d a b small small' =
+    by_ranked (c < d) (c ≡ d) (d < c) (nat_cmp c d) (ranks c d)
+    (λ e less. rw e (sym (lt-nat_cmp (c * w + a) (d * w + b) (place-less w c d a b small less))))
+    (λ e same. rw (e, same) (sym (nat_cmp-monotone (λ n. d * w + n) (λ m n less. omega arith) a b)))
+    (λ e more. rw e (nat_cmp_is (c * w + a) (d * w + b) Greater (place-less w d c b a small' more)))
+
+-- digits of the same length are in the order of their values
+slice_cmp-value_of : (r : ℕ) (xs ys : List ℕ)
+    → length xs ≡ length ys → All (λ d. d < r) xs → All (λ d. d < r) ys
+    → slice_cmp nat_cmp xs ys ≡ nat_cmp (value_of r xs) (value_of r ys)
+slice_cmp-value_of r [] [] long p q = refl
+slice_cmp-value_of r [] (y ∷ ys) long p q = absurd (omega arith)
+slice_cmp-value_of r (x ∷ xs) [] long p q = absurd (omega arith)
+slice_cmp-value_of r (x ∷ xs) (y ∷ ys) long p q =
+    let long' : length xs ≡ length ys = omega arith in
+    let p' = All-tail (λ d. d < r) x xs p in
+    let q' = All-tail (λ d. d < r) y ys q in
+    ap (ordering_then (nat_cmp x y)) (slice_cmp-value_of r xs ys long' p' q')
+    ∙ nat_cmp-place (r ^ length xs) x y (value_of r xs) (value_of r ys) (value_of-lt r xs p') (rw long' (value_of-lt r ys q'))
+    ∙ ap (λ n. nat_cmp (x * r ^ length xs + value_of r xs) (y * r ^ n + value_of r ys)) long'
+
+-- texts of the same length are in the order of their numbers
+slice_cmp-IsDigits : (r m n : ℕ) (s t : List ℕ) → length s ≡ length t → IsDigits r m s → IsDigits r n t → slice_cmp nat_cmp s t ≡ nat_cmp m n
+slice_cmp-IsDigits r m n s t long p q =
+    let long' : length p.digits ≡ length q.digits =
+    sym (ap length p.characters ∙ length-map p.digits digit_char) ∙ long ∙ ap length q.characters ∙ length-map q.digits digit_char in
+    let values = slice_cmp-value_of r p.digits q.digits long' p.numeral.numeral.below_radix q.numeral.numeral.below_radix in
+    rw (p.characters, q.characters, slice_cmp-digit_char, values, p.numeral.value, q.numeral.value)
+
+-- ---- the order of texts
+
+slice_cmp-append : (front s t : List ℕ) → slice_cmp nat_cmp (front ++ s) (front ++ t) ≡ slice_cmp nat_cmp s t
+slice_cmp-append [] s t = refl
+slice_cmp-append (c ∷ front) s t = rw (tied_itself nat_cmp_total c) (slice_cmp-append front s t)
+
+ComesBefore-IsDigits : (r m n : ℕ) (s t : List ℕ) → 2 ≤ r → IsDigits r m s → IsDigits r n t → (m < n) ↔ ComesBefore s t
+ComesBefore-IsDigits r m n s t two p q =
+    let s-count = length-IsDigits r m s two p in
+    let t-count = length-IsDigits r n t two q in (
+      λ less. elim (cases_lt (length s) (length t)) [
+        | inl shorter ↦ inl shorter
+        | inr longer ↦
+            let long : length s ≡ length t = omega (arith, digit_count-monotone r m n two (omega arith)) in
+            inr (long, slice_cmp-IsDigits r m n s t long p q ∙ lt-nat_cmp m n less)
+      ],
+      λ before. elim before [
+        | inl shorter ↦ elim (cases_lt m n) [
+          | inl less ↦ less
+          | inr more ↦ absurd (omega (arith, digit_count-monotone r n m two more))
+        ]
+        | inr earlier ↦ nat_cmp-Less m n (sym (slice_cmp-IsDigits r m n s t earlier.0 p q) ∙ earlier.1)
+      ],
+    )
+
+-- a common prefix does not change the order of two texts
+ComesBefore-append : (front s t : List ℕ) → ComesBefore s t ↔ ComesBefore (front ++ s) (front ++ t)
+ComesBefore-append front s t =
+    let bytes = slice_cmp-append front s t in (
+      λ before. elim before [
+        | inl shorter ↦ inl (simp length-append (omega arith))
+        | inr earlier ↦ inr (simp length-append (omega arith), bytes ∙ earlier.1)
+      ],
+      λ before. elim before [
+        | inl shorter ↦ inl (omega (arith, length-append front s, length-append front t))
+        | inr earlier ↦ inr (omega (arith, length-append front s, length-append front t), sym bytes ∙ earlier.1)
+      ],
+    )
+
+-- groups do not change the order of digits of the same length, since their separators are at the same positions
+slice_cmp-in_groups : (grouping : ℕ × ℕ) (s t : List ℕ)
+    → length s ≡ length t → slice_cmp nat_cmp (in_groups grouping s) (in_groups grouping t) ≡ slice_cmp nat_cmp s t
+slice_cmp-in_groups grouping [] [] long = refl
+slice_cmp-in_groups grouping [] (c ∷ t) long = absurd (omega arith)
+slice_cmp-in_groups grouping (c ∷ s) [] long = absurd (omega arith)
+slice_cmp-in_groups grouping (c ∷ []) (d ∷ []) long = refl
+slice_cmp-in_groups grouping (c ∷ []) (d ∷ next ∷ t) long = absurd (omega arith)
+slice_cmp-in_groups grouping (c ∷ next ∷ s) (d ∷ []) long = absurd (omega arith)
+slice_cmp-in_groups grouping (c ∷ next ∷ s) (d ∷ other ∷ t) long =
+    let right : length (other ∷ t) ≡ length (next ∷ s) = omega arith in
+    let mark = mark_before grouping (length (next ∷ s)) in
+    ap (ordering_then (nat_cmp c d))
+    (ap (λ n. slice_cmp nat_cmp (mark ++ in_groups grouping (next ∷ s)) (mark_before grouping n ++ in_groups grouping (other ∷ t))) right
+    ∙ slice_cmp-append mark (in_groups grouping (next ∷ s)) (in_groups grouping (other ∷ t))
+    ∙ slice_cmp-in_groups grouping (next ∷ s) (other ∷ t) (omega arith))
+
+slice_cmp-grouped : (grouping : Option (ℕ × ℕ)) (s t : List ℕ)
+    → length s ≡ length t → slice_cmp nat_cmp (grouped grouping s) (grouped grouping t) ≡ slice_cmp nat_cmp s t
+slice_cmp-grouped None s t long = refl
+slice_cmp-grouped (Some grouping) s t long = slice_cmp-in_groups grouping s t long
+
+ComesBefore-grouped : (grouping : Option (ℕ × ℕ)) (s t : List ℕ) → ComesBefore s t ↔ ComesBefore (grouped grouping s) (grouped grouping t)
+ComesBefore-grouped grouping s t = (
+  λ before. elim before [
+    | inl shorter ↦ inl (length-grouped_lt grouping s t shorter)
+    | inr earlier ↦ inr (length-grouped_same grouping s t earlier.0, slice_cmp-grouped grouping s t earlier.0 ∙ earlier.1)
+  ],
+  λ before. elim (cases_order (length s) (length t)) [
+    | inl same ↦ elim before [
+      | inl shorter ↦ absurd (omega (arith, length-grouped_same grouping s t same))
+      | inr earlier ↦ inr (same, sym (slice_cmp-grouped grouping s t same) ∙ earlier.1)
+    ]
+    | inr other ↦ elim other [
+      | inl shorter ↦ inl shorter
+      | inr longer ↦ elim before [
+        | inl shorter ↦ absurd (omega (arith, length-grouped_lt grouping t s longer))
+        | inr earlier ↦ absurd (omega (arith, length-grouped_lt grouping t s longer, earlier.0))
+      ]
+    ]
+  ],
+)
+
+pub ComesBefore-IsText : (m n : ℤ) (format : Format) (s t : List ℕ)
+    → 2 ≤ format.mantissa_radix → pos 0 ≤ℤ m → pos 0 ≤ℤ n → IsText m format s → IsText n format t → (m <ℤ n) ↔ ComesBefore s t
+ComesBefore-IsText (pos m) (pos n) format s t two _ _ p q =
+    let digits = ComesBefore-IsDigits format.mantissa_radix m n p.digits q.digits two p.magnitude q.magnitude in
+    let groups = ComesBefore-grouped format.digit_grouping p.digits q.digits in
+    let whole =
+    ComesBefore-append (sign_of (pos m) format.required_mantissa_sign) (grouped format.digit_grouping p.digits) (grouped format.digit_grouping q.digits) in
+    rw (p.whole, q.whole)
+    (λ less. whole.0 (groups.0 (digits.0 (omega (arith, ints)))), λ before. let less = digits.1 (groups.1 (whole.1 before)) in omega (arith, ints))
+ComesBefore-IsText (negsuc m) n format s t two low _ p q = absurd (omega (arith, ints, low))
+ComesBefore-IsText (pos m) (negsuc n) format s t two _ low p q = absurd (omega (arith, ints, low))

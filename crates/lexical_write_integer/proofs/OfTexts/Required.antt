@@ -1,0 +1,86 @@
+-- How long a text is, and how long a buffer it requires at most.
+use Rattle.std.proofs.Common.{◌≡◌, Option, None, Some, ℕ, ◌+◌, ◌*◌, ◌^◌, ◌<◌, ◌≤◌, ◌≤ℤ◌, ◌==◌, List, length, refl, ap, ◌∙◌}
+use Rattle.std.proofs.Common.{arith, ℤ, unsigned_abs, length-append}
+use Rattle.std.specs.Option.{ForSome}
+use Rattle.std.specs.Prelude.{Bool, true, false, if◌then◌else◌}
+use Rattle.std.proofs.lemmas.Bool.{cond_both, eqb-true}
+use Rattle.lexical_num.specs.DecimalWidth.{IsDecimalWidth}
+use Rattle.lexical_num.specs.Format.{Format, IsGrouping, grouped_length}
+use Rattle.lexical_num.specs.Sign.{sign_of}
+use Rattle.lexical_num.specs.Size.{size_in}
+use Rattle.lexical_num.specs.declared.constants.TheConstants.{BUFFER_SIZE}
+use Rattle.lexical_write_integer.specs.Digits.DigitCount.{digit_count-le, digit_count}
+use Rattle.lexical_write_integer.specs.Texts.Groups.{grouped}
+use Rattle.lexical_write_integer.specs.Texts.SizeBound.{grouped_length-le, grouped_length-more}
+use Rattle.lexical_write_integer.specs.Texts.Text.{IsText, digits_need, need}
+use Rattle.lexical_write_integer.proofs.OfDigits.Count.DigitCounts.{digit_count-pos}
+use Rattle.lexical_write_integer.proofs.OfTexts.Grouping.Digits.{length-in_groups}
+use Rattle.lexical_write_integer.proofs.OfDigits.Numerals.{length-IsDigits}
+
+-- ---- the length of a text
+
+length-grouped : (grouping : Option (ℕ × ℕ)) (digits : List ℕ)
+    → ForSome grouping IsGrouping → length (grouped grouping digits) ≡ grouped_length grouping (length digits)
+length-grouped None digits good = refl
+length-grouped (Some grouping) digits good = length-in_groups grouping digits (good grouping refl).size.at_least_one
+
+-- the sign, the digits, and the separators between their groups
+pub length-IsText : (x : ℤ) (format : Format) (text : List ℕ) → 2 ≤ format.mantissa_radix → ForSome format.digit_grouping IsGrouping → IsText x format text
+    → length text ≡ length (sign_of x format.required_mantissa_sign) + grouped_length format.digit_grouping (digit_count format.mantissa_radix (unsigned_abs x))
+length-IsText x format text two good is =
+    let sign = sign_of x format.required_mantissa_sign in
+    let grouping = format.digit_grouping in
+    let digits =
+    length-grouped grouping is.digits good
+    ∙ ap (grouped_length grouping) (length-IsDigits format.mantissa_radix (unsigned_abs x) is.digits two is.magnitude) in
+    ap length is.whole ∙ length-append sign (grouped grouping is.digits) ∙ ap (λ n. length sign + n) digits
+
+-- ---- the required length
+
+-- the required length has room for the digits
+digit_count-le_need : (r n width : ℕ) → 1 ≤ width → n < 10 ^ width → digit_count r n ≤ digits_need r n width
+digit_count-le_need r n width some fits =
+    cond_both (r == 10) width (digit_count r n) (λ k. digit_count r n ≤ k)
+    (λ e. digit_count-le r n width some (rw (eqb-true r 10 e) fits))
+    (λ _. omega arith)
+
+-- and for the sign, the digits and the separators between their groups
+pub grouped_length-le_need : {x least greatest : ℤ} (format : Format) {width count : ℕ}
+    → IsDecimalWidth least greatest width → least ≤ℤ x → x ≤ℤ greatest
+    → count ≡ digit_count format.mantissa_radix (unsigned_abs x)
+    → length (sign_of x format.required_mantissa_sign) + grouped_length format.digit_grouping count ≤ need x width format
+grouped_length-le_need {x} format {width} {count} decimal low high counted =
+    let few = digit_count-le_need format.mantissa_radix (unsigned_abs x) width decimal.some (decimal.enough x low high) in
+    omega (arith, grouped_length-more format.digit_grouping count (digits_need format.mantissa_radix (unsigned_abs x) width) 0 (omega (arith, few, counted)))
+
+-- the digits with their separators are at least as long as the digits
+grouped_length-ge : (grouping : Option (ℕ × ℕ)) (n : ℕ) → n ≤ grouped_length grouping n
+grouped_length-ge None n = omega arith
+grouped_length-ge (Some grouping) n = omega arith
+
+-- a text has at least one byte
+one_of : (b : Bool) (m n : ℕ) → 1 ≤ m → 1 ≤ n → 1 ≤ (if b then m else n)
+one_of true m n first second = first
+one_of false m n first second = second
+
+pub need-pos : (x : ℤ) (width : ℕ) (format : Format) → 1 ≤ width → 1 ≤ need x width format
+need-pos x width format some =
+    let digits =
+    one_of (format.mantissa_radix == 10) width (digit_count format.mantissa_radix (unsigned_abs x)) some
+    (digit_count-pos format.mantissa_radix (unsigned_abs x)) in
+    omega (arith, digits, grouped_length-ge format.digit_grouping (digits_need format.mantissa_radix (unsigned_abs x) width))
+
+-- ---- the size of a type
+
+-- it is at most the buffer size in every format
+pub size_in-within : (size decimal : ℕ) (format : Format)
+    → size ≤ BUFFER_SIZE → 1 ≤ decimal → 2 * decimal ≤ BUFFER_SIZE → size_in size decimal format ≤ BUFFER_SIZE
+size_in-within size decimal format a some b = within (format.mantissa_radix == 10) format.required_mantissa_sign
+  where
+    grouped : grouped_length format.digit_grouping decimal + 1 ≤ 2 * decimal
+    grouped = grouped_length-le format.digit_grouping decimal decimal (omega arith) some
+
+    within : (is_decimal plus : Bool) → (if is_decimal then grouped_length format.digit_grouping decimal + (if plus then 1 else 0) else size) ≤ BUFFER_SIZE
+    within true true = omega (arith, grouped, b)
+    within true false = omega (arith, grouped, b)
+    within false plus = omega (arith, a)

@@ -1,0 +1,77 @@
+-- A sign, and the digits after it.
+use Rattle.std.proofs.Common.{◌≡◌, Option, ℕ, ◌+◌, ◌-◌, ◌≤◌, List, ◌++◌, length, take, drop, refl, sym, ap, ◌∙◌, arith, ℤ, unsigned_abs, length-append}
+use Rattle.std.proofs.lemmas.List.{length-take, length-drop, take-append-drop}
+use Rattle.std.proofs.lemmas.Slice.{drop-append-drop}
+use Rattle.lexical_num.specs.Format.{Format}
+use Rattle.lexical_num.specs.Sign.{sign_of}
+use Rattle.lexical_write_integer.specs.Buffer.{Front, Writes, WritesDigits, WritesText}
+use Rattle.lexical_write_integer.specs.Texts.Groups.{grouped}
+use Rattle.lexical_write_integer.proofs.OfTexts.Grouping.Digits.{length-grouped_ge}
+use borrow.Rule.Slice.PartMut.{put_mid}
+use Rattle.lexical_write_integer.proofs.Buffers.Prefixes.{Writes-after, Writes-over, take-Writes}
+
+-- ---- digits in groups, after the sign
+
+-- a text of some kind, in groups
+record IsGrouped (grouping : Option (ℕ × ℕ)) (Is : List ℕ → Type 0) (text : List ℕ) : Type 0 where
+  pub digits : List ℕ
+  pub is : Is digits
+  pub whole : text ≡ grouped grouping digits
+
+-- a text is written, and then put into groups
+Writes-grouped : {Is : List ℕ → Type 0} (grouping : Option (ℕ × ℕ)) {before between after : List ℕ} {count total : ℕ}
+    → Writes Is before between count → Front between after (grouped grouping (take count between))
+    → total ≡ length (grouped grouping (take count between)) → Writes (IsGrouped grouping Is) before after total
+Writes-grouped grouping {before} {between} {after} {count} w front long =
+    let taken = take-Writes before between count w in
+    let text = grouped grouping w.text in
+    let again : Front between after text = rw taken at front in
+    let more = length-grouped_ge grouping w.text in
+    let rest = drop (length w.text) before in
+    let same = ap length w.front.written in
+    record {
+      text = text;
+      is = record { digits = w.text; is = w.is; whole = refl };
+      front = record {
+        fits = omega (arith, again.fits, w.front.fits, same, length-append w.text rest, length-drop (length w.text) before);
+        written = again.written
+            ∙ ap (λ xs. text ++ drop (length text) xs) w.front.written
+            ∙ ap (λ xs. text ++ xs) (drop-append-drop (length w.text) before w.text (length text) more refl);
+      };
+      count = long ∙ ap (λ xs. length (grouped grouping xs)) taken;
+    }
+
+-- after the first `sign` bytes the digits of the magnitude are written, and then put into the groups of the format
+pub record IsAfterSign (x : ℤ) (format : Format) (between written after : List ℕ) (sign digits total : ℕ) : Type 0 where
+  pub sign_count : sign ≡ length (sign_of x format.required_mantissa_sign)
+  pub magnitude : WritesDigits format.mantissa_radix (unsigned_abs x) (take (length between - sign) (drop sign between)) written digits
+  pub groups : Front written after (grouped format.digit_grouping (take digits written))
+  pub total_count : total ≡ length (grouped format.digit_grouping (take digits written))
+
+-- with the sign before them they are the text
+WritesText-after : {x : ℤ} {format : Format} {before between written after : List ℕ} {sign digits total : ℕ}
+    → Front before between (sign_of x format.required_mantissa_sign) → IsAfterSign x format between written after sign digits total
+    → WritesText x format before (put_mid sign (length between - sign) between after) (sign + total)
+WritesText-after {x} {format} {before} {between} {written} {after} {sign} {digits} {total} front w =
+    let sign_text = sign_of x format.required_mantissa_sign in
+    Writes-after sign_text before between after sign (length between - sign) total w.sign_count front
+    (λ text is. record { digits = is.digits; magnitude = is.is; whole = ap (λ following. sign_text ++ following) is.whole })
+    (Writes-grouped format.digit_grouping w.magnitude.writes w.groups w.total_count)
+
+-- ---- a sign that may be empty, and a first byte that is written even then
+
+pub WritesText-over : {x : ℤ} {format : Format} {before between written after : List ℕ} {sign digits total : ℕ}
+    → take sign between ≡ sign_of x format.required_mantissa_sign → length between ≡ length before → drop 1 between ≡ drop 1 before
+    → 1 ≤ digits → IsAfterSign x format between written after sign digits total
+    → WritesText x format before (put_mid sign (length between - sign) between after) (sign + total)
+WritesText-over {x} {format} {before} {between} {written} {sign = sign} {digits} is_sign same rest some w =
+    let sign_text = sign_of x format.required_mantissa_sign in
+    let front : Front between between sign_text = record {
+      fits = omega (arith, ap length is_sign, length-take sign between);
+      written = sym (take-append-drop sign between)
+          ∙ ap (λ xs. xs ++ drop sign between) is_sign
+          ∙ ap (λ k. sign_text ++ drop k between) w.sign_count;
+    } in
+    let all = ap length (take-Writes _ written digits w.magnitude.writes) in
+    let more = length-grouped_ge format.digit_grouping (take digits written) in
+    Writes-over same rest (omega (arith, w.total_count, w.magnitude.writes.count)) (WritesText-after front w)

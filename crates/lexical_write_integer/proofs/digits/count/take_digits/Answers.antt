@@ -1,0 +1,38 @@
+use Rattle.std.proofs.Common.{◌^◌, ◌≤◌, arith}
+use Rattle.lexical_write_integer.proofs.OfDigits.Count.DigitCounts.{digit_count-le_64}
+use Rattle.lexical_write_integer.proofs.OfDigits.Radix.Loops.Divisions.{IsDivided-start, IsDivided-more, TakesDigits-end, TakesDigits-none, left-smaller}
+use Rattle.lexical_write_integer.proofs.OfDigits.Count.RadixPowers.{power-gt_one, step-le_4}
+use Rattle.lexical_write_integer.proofs.digits.count.take_digits.Goals as goal
+use Rattle.lexical_write_integer.proofs.digits.count.take_digits.Goals.{In-loop-power}
+
+long : (g : _) (c : In-loop-power g) → c.args.radix ^ c.args.step ≤ g.T.UnsignedInteger.magnitude c.loop-power.left
+long g c = rw c.in-Some.ensures.power at (c.is_at_least.ensures.0 c.loop-power-test.true)
+
+pub returns-in_default : goal.returns-in_default
+returns-in_default g c =
+    TakesDigits-none c.requires.radix.at_least_two c.requires.step (omega (arith, c.fits_bits.ensures, c.in_default.ensures.too_great))
+
+pub loop-power-init : goal.loop-power-init
+loop-power-init g c = IsDivided-start
+
+pub divide_and_record-left-requires : goal.divide_and_record-left-requires
+divide_and_record-left-requires g c = omega (arith, c.in-Some.ensures.power, power-gt_one _ _ c.requires.radix.at_least_two c.requires.step)
+
+pub overflow_add-taken : goal.overflow_add-taken
+overflow_add-taken g c =
+    let narrow = digit_count-le_64 _ _ _ c.requires.radix.at_least_two g.met.T.UnsignedInteger.range.width c.fits_bits.ensures in
+    omega (arith, c.loop-power.invariant.fewer, step-le_4 _ c.requires.step)
+
+pub loop-power-smaller : goal.loop-power-smaller
+loop-power-smaller g c =
+    left-smaller c.requires.radix.at_least_two c.requires.step (long g (goal.at.loop-power-smaller g c).In-loop-power)
+    (rw c.in-Some.ensures.power at c.divide_and_record-left.ensures.left)
+
+pub loop-power-preserved : goal.loop-power-preserved
+loop-power-preserved g c =
+    IsDivided-more c.requires.radix.at_least_two c.loop-power.invariant (long g (goal.at.loop-power-preserved g c).In-loop-power)
+    (rw c.in-Some.ensures.power at c.divide_and_record-left.ensures.left) c.divide_and_record-left.ensures.notes
+
+pub returns : goal.returns
+returns g c =
+    TakesDigits-end c.requires.radix.at_least_two c.requires.step c.loop-power.invariant (grind (arith, c.is_at_least.ensures, c.in-Some.ensures.power))

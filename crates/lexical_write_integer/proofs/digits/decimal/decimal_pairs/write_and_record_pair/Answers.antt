@@ -1,0 +1,5 @@
+use Rattle.lexical_write_integer.proofs.digits.decimal.decimal_pairs.write_and_record_pair.Goals as goal
+
+-- the check finds this proof by itself, but with an answer the refusal of a mistake says what is wrong
+pub returns-clause-notes : goal.returns-clause-notes
+returns-clause-notes c = rw c.from.ensures at c.tick.ensures

@@ -1,0 +1,59 @@
+use Rattle.std.proofs.Common.{◌≡◌, ℕ, ◌+◌, ◌*◌, ◌/◌, ◌%◌, ◌^◌, [], ◌∷◌, ◌++◌, length, sym, ap, ◌∙◌, arith, zero-add, length-append, append_assoc}
+use Rattle.std.proofs.lemmas.List.{append-nil}
+use Rattle.std.proofs.lemmas.List.FromFn.{map-range_with_len_more, length-map-range_with_len}
+use Rattle.lexical_write_integer.specs.Digits.Carries.{carried}
+use Rattle.lexical_write_integer.specs.Digits.DecimalTurns.{products}
+use Rattle.lexical_write_integer.proofs.OfDigits.Decimal.Fractions.{rest-more}
+use Rattle.lexical_write_integer.proofs.OfDigits.Decimal.PairBlocks.{WritesDigits-pair, digit_count-carried, room_for_carried}
+use Rattle.lexical_write_integer.proofs.digits.decimal.decimal_pairs.write_pairs.Goals as goal
+
+-- the record of one further pair
+products-more : (fraction i : ℕ) → products fraction (i + 1) ≡ products fraction i ++ (fraction * 100 ^ i % 2 ^ 32 * 100) ∷ []
+products-more fraction i = map-range_with_len_more (λ j. fraction * 100 ^ j % 2 ^ 32 * 100) 0 i i (zero-add i)
+
+length-products : (fraction pairs : ℕ) → length (products fraction pairs) ≡ pairs
+length-products fraction pairs = length-map-range_with_len (λ j. fraction * 100 ^ j % 2 ^ 32 * 100) 0 pairs
+
+pub write_one_or_two-count-requires-clause-room : goal.write_one_or_two-count-requires-clause-room
+write_one_or_two-count-requires-clause-room c =
+    let start : carried c.args.fraction 0 ≡ c.args.fraction / 2 ^ 32 = omega arith in
+    rw start at (room_for_carried c.args.fraction 0 c.args.pair_count _ (omega arith) c.requires.room)
+
+pub loop-init : goal.loop-init
+loop-init c =
+    let start : carried c.args.fraction 0 ≡ c.args.fraction / 2 ^ 32 = omega arith in
+    record {
+      following = omega arith;
+      digits = rw start c.write_one_or_two-count.ensures.digits;
+      notes = sym (append-nil c.args.turns.now);
+      count = omega arith;
+    }
+
+pub write_pair-requires-clause-room : goal.write_pair-requires-clause-room
+write_pair-requires-clause-room c =
+    let room = room_for_carried c.args.fraction (c.loop.counter + 1) c.args.pair_count _ (omega arith) c.requires.room in
+    omega (arith, digit_count-carried c.args.fraction c.loop.counter c.requires.first, c.loop.invariant.digits.count)
+
+pub loop-preserved : goal.loop-preserved
+loop-preserved c =
+    let done = c.loop.invariant in
+    let product = c.next2-pair.ensures.product ∙ ap (λ z. z * 100) done.following in
+    let pair = c.next2-pair.ensures.pair ∙ ap (λ z. z / 2 ^ 32) product in
+    let room = room_for_carried c.args.fraction (c.loop.counter + 1) c.args.pair_count _ (omega arith) c.requires.room in
+    record {
+      following = rw c.next2-pair.ensures.product (rest-more c.args.fraction c.loop.counter _ done.following);
+      digits = WritesDigits-pair _ _ c.requires.first room pair done.digits c.write_pair.ensures;
+      notes = let more = products-more c.args.fraction c.loop.counter in grind (arith, append_assoc);
+      count = omega arith;
+    }
+
+pub returns : goal.returns
+returns c =
+    let all : c.loop.counter ≡ c.args.pair_count = omega arith in
+    let longer = ap length c.loop.invariant.notes ∙ length-append c.args.turns.now (products c.args.fraction c.loop.counter) in
+    let digits = rw all at c.loop.invariant.digits in
+    record {
+      digits = digits;
+      noted = rw all at c.loop.invariant.notes;
+      half = omega (arith, length-products c.args.fraction c.loop.counter);
+    }

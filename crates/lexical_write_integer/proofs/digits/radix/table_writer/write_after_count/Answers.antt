@@ -1,0 +1,98 @@
+use Rattle.std.proofs.Common.{◌≡◌, ◌+◌, ◌-◌, ◌/◌, ◌<◌, ◌^◌, ◌++◌, refl, sym, ap, ◌∙◌, lit<, arith}
+use Rattle.lexical_write_integer.specs.Digits.DigitCount.{digit_count}
+use Rattle.lexical_write_integer.specs.Digits.LoopTurns.{count_notes, takes_four}
+use Rattle.lexical_write_integer.proofs.Buffers.Blocks.{IsWrittenBack-start, IsWrittenBack-at, IsWrittenBack-more, IsWrittenBack-last}
+use Rattle.lexical_write_integer.proofs.Buffers.BlocksAfter.{WritesDigits-block}
+use Rattle.lexical_write_integer.proofs.OfDigits.Count.DigitCounts.{digit_count-left}
+use Rattle.lexical_write_integer.proofs.OfDigits.Radix.Loops.ShortNumbers.{few-fits, more-long}
+use Rattle.lexical_write_integer.proofs.OfDigits.Radix.Loops.Divisions.{IsDivided-start, IsDivided-more, TakesDigits-end}
+use Rattle.lexical_write_integer.proofs.OfDigits.Radix.Loops.Records.{loop_notes-are, table_notes-are}
+use Rattle.lexical_write_integer.proofs.OfDigits.Count.RadixPowers.{power-small}
+use Rattle.lexical_write_integer.proofs.OfDigits.Powers.{pow-four}
+use Rattle.lexical_write_integer.proofs.digits.radix.table_writer.write_after_count.Goals as goal
+use Rattle.lexical_write_integer.proofs.digits.radix.table_writer.write_after_count.Goals.{In-loop-at, After-loop-at}
+
+pub loop-at-init : goal.loop-at-init
+loop-at-init g c =
+    let count = c.digit_count_counted-count.result in
+    let none : count - count ≡ 0 = omega arith in
+    record {
+      divided = rw (none, c.digit_count_counted-count.ensures.notes) IsDivided-start;
+      written = rw none IsWrittenBack-start;
+      within = omega arith;
+      room = refl;
+    }
+
+pub write_last_four-requires : goal.write_last_four-requires
+write_last_four-requires g c = (
+  lit< tt,
+  (
+    ap (λ k. c.loop-at.left / k) (c.from-power.ensures ∙ sym (pow-four g.row.R)),
+    omega (arith, c.requires.room, c.digit_count_counted-count.ensures.count, c.loop-at.invariant, c.loop-at-test.true),
+  ),
+)
+
+pub loop-at-preserved : goal.loop-at-preserved
+loop-at-preserved g c =
+    let two = c.args.table.now.is_radix.at_least_two in
+    let count = c.digit_count_counted-count.result in
+    let taken = count - c.loop-at.at in
+    let divided = c.loop-at.invariant.divided in
+    let counts = digit_count-left g.row.R c.args.value taken c.loop-at.left two divided.fewer divided.rest in
+    let long =
+    more-long g.row.R c.loop-at.left (omega (arith, counts, c.digit_count_counted-count.ensures.count, c.loop-at-test.true, c.loop-at.invariant.within)) in
+    let next = ap (λ k. c.loop-at.left / k) (c.from-power.ensures ∙ sym (pow-four g.row.R)) in
+    let turn : taken + 4 ≡ count - (c.loop-at.at - 4) = omega (arith, c.loop-at-test.true, c.loop-at.invariant.within) in
+    let order : 4 + taken ≡ count - (c.loop-at.at - 4) = omega (arith, c.loop-at-test.true, c.loop-at.invariant.within) in
+    let place : c.loop-at.at ≡ c.loop-at.at - 4 + 4 = omega (arith, c.loop-at-test.true) in
+    record {
+      divided = rw turn at (IsDivided-more two divided long next c.write_last_four.ensures.notes);
+      written = rw order at (IsWrittenBack-more two long next (IsWrittenBack-at place c.loop-at.invariant.written) c.write_last_four.ensures.written);
+      within = omega (arith, c.loop-at.invariant.within);
+      room = c.write_last_four.auto.buffer ∙ c.loop-at.invariant.room;
+    }
+
+-- the remaining digits, at most four
+count_left : (g : _) (c : After-loop-at g) → c.loop-at.at ≡ digit_count g.row.R c.loop-at.left
+count_left g c =
+    let two = c.args.table.now.is_radix.at_least_two in
+    let divided = c.loop-at.invariant.divided in
+    let taken = c.digit_count_counted-count.result - c.loop-at.at in
+    let counts = digit_count-left g.row.R c.args.value taken c.loop-at.left two divided.fewer divided.rest in
+    omega (arith, c.digit_count_counted-count.ensures.count, c.loop-at.invariant.within, counts)
+
+short : (g : _) (c : After-loop-at g) → c.loop-at.left < g.row.R ^ 4
+short g c = few-fits g.row.R c.loop-at.left c.args.table.now.is_radix.at_least_two (omega (arith, count_left g c))
+
+pub overflow_cast-left : goal.overflow_cast-left
+overflow_cast-left g c =
+    omega (arith, short g (goal.at.overflow_cast-left g c).After-loop-at, power-small g.row.R 4 c.args.table.now.is_radix.at_most_36 takes_four)
+
+pub write_up_to_four-requires : goal.write_up_to_four-requires
+write_up_to_four-requires g c =
+    let c' = (goal.at.write_up_to_four-requires g c).After-loop-at in (
+      lit< tt,
+      (
+        short g c',
+        (
+          count_left g c',
+          omega (arith, c.requires.room, c.digit_count_counted-count.ensures.count, c.loop-at.invariant),
+        ),
+      ),
+    )
+
+pub returns-clause-digits : goal.returns-clause-digits
+returns-clause-digits g c =
+    let count = c.digit_count_counted-count.result in
+    let is = c.digit_count_counted-count.ensures.count in
+    let whole : c.loop-at.at + (count - c.loop-at.at) ≡ count = omega (arith, c.loop-at.invariant.within) in
+    let place : c.loop-at.at ≡ 0 + c.loop-at.at = omega arith in
+    let block = IsWrittenBack-last (IsWrittenBack-at place c.loop-at.invariant.written) c.write_up_to_four.ensures.written in
+    WritesDigits-block c.args.table.now.is_radix.at_least_two (sym is) (omega (arith, is, c.requires.room)) (rw whole at block)
+
+pub returns-clause-notes : goal.returns-clause-notes
+returns-clause-notes g c =
+    let two = c.args.table.now.is_radix.at_least_two in
+    let taken = TakesDigits-end two takes_four c.loop-at.invariant.divided (short g (goal.at.returns-clause-notes g c).After-loop-at) in
+    table_notes-are g.row.R c.args.value c.args.turns.now (c.args.turns.now ++ count_notes g.row.R c.args.value) _ refl
+    (loop_notes-are two taken c.write_up_to_four.ensures.taken.2)

@@ -1,0 +1,79 @@
+-- The iterations (turns) of the loops that divide by a power of the radix: the quotient that each of them records (its
+-- note), and how many iterations there are.
+use Rattle.std.specs.Prelude.{◌≡◌, ℕ, ◌+◌, ◌-◌, ◌*◌, ◌/◌, ◌%◌, ◌^◌, List, [], ◌∷◌, ◌++◌, map}
+use Rattle.std.specs.Prelude.{Bool, ◌||◌, ◌==◌, nat_lt, if◌then◌else◌}
+use Rattle.std.specs.List.{range_with_len}
+use Rattle.lexical_write_integer.specs.Digits.DigitCount.{digit_count}
+
+-- how many digits an iteration removes
+pub data IsStep : ℕ → Type 0 where
+  takes_one : IsStep 1
+  takes_two : IsStep 2
+  takes_four : IsStep 4
+
+-- how many digits a number has after its first one
+abbrev pub digits_after_first : ℕ → ℕ → ℕ
+digits_after_first r number = digit_count r number - 1
+
+-- the quotients of a number after one iteration, two iterations and so on, each of which removes `step` digits: for 255
+-- in radix 3, two digits at a time, 28 and 3
+unfoldable pub quotients : ℕ → ℕ → ℕ → ℕ → List ℕ
+quotients r number step count = map (λ turn. number / r ^ (step * turn)) (range_with_len 1 count)
+
+-- a loop that removes `step` digits per iteration, while the number has more than that, and records each quotient: how
+-- many digits are removed, the remaining quotient, and what is recorded
+pub record TakesDigits (r number step taken left : ℕ) (before after : List ℕ) : Type 0 where
+  pub count : taken ≡ step * (digits_after_first r number / step)
+  pub rest : left ≡ number / r ^ taken
+  pub notes : after ≡ before ++ quotients r number step (digits_after_first r number / step)
+
+-- ---- what the iterations record
+
+-- four digits per iteration while more than four are left, then two if more than two are left: for 255 in radix 3,
+-- which has six digits, 3
+unfoldable pub loop_notes : ℕ → ℕ → List ℕ
+loop_notes r number =
+    quotients r number 4 (digits_after_first r number / 4)
+    ++ (if nat_lt (digits_after_first r number % 4) 2 then []
+    else number / r ^ (4 * (digits_after_first r number / 4) + 2) ∷ [])
+
+-- `loop_notes`, and then one digit if two are left: for 255 in radix 3, 3 and 1
+unfoldable pub slow_notes : ℕ → ℕ → List ℕ
+slow_notes r number =
+    loop_notes r number ++ (if digit_count r number % 2 == 0 then number / r ^ digits_after_first r number ∷ [] else [])
+
+-- a radix in which digits are counted without a loop
+abbrev pub is_counted_at_once : ℕ → Bool
+is_counted_at_once r = r == 2 || (r == 4 || (r == 8 || (r == 10 || (r == 16 || r == 32))))
+
+-- recorded by the digit count: nothing if the digits are counted without a loop
+unfoldable pub count_notes : ℕ → ℕ → List ℕ
+count_notes r number = if is_counted_at_once r then [] else slow_notes r number
+
+-- recorded by the table writer, which counts the digits and then writes them: for 255 in radix 3, 3, 1 and 3
+unfoldable pub table_notes : ℕ → ℕ → List ℕ
+table_notes r number = count_notes r number ++ loop_notes r number
+
+-- recorded by the compact writer, with one digit per iteration: for 255 in radix 16, 15
+unfoldable pub compact_notes : ℕ → ℕ → List ℕ
+compact_notes r number = quotients r number 1 (digits_after_first r number)
+
+-- ---- how many iterations there are, for a number with this number of digits
+
+-- four digits per iteration, and then two: 16 for 64 digits
+abbrev pub loop_turns : ℕ → ℕ
+loop_turns digits = (digits - 1) / 4 + (if nat_lt ((digits - 1) % 4) 2 then 0 else 1)
+
+-- and then one digit: 17 for 64 digits
+abbrev pub slow_turns : ℕ → ℕ
+slow_turns digits = loop_turns digits + (if digits % 2 == 0 then 1 else 0)
+
+abbrev pub count_turns : ℕ → ℕ → ℕ
+count_turns r digits = if is_counted_at_once r then 0 else slow_turns digits
+
+-- those of the digit count and of the writer's loops: 21 for 40 digits in radix 3
+abbrev pub table_turns : ℕ → ℕ → ℕ
+table_turns r digits = count_turns r digits + loop_turns digits
+
+abbrev pub compact_turns : ℕ → ℕ
+compact_turns digits = digits - 1

@@ -1,0 +1,7 @@
+-- The texts of numbers: a sign, and then the digits in the groups of the format.
+pub mod Groups
+pub mod Text
+pub mod SizeBound
+pub mod Computed
+pub mod Order
+pub mod Sequence

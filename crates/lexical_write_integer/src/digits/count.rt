@@ -1,0 +1,147 @@
+//! Counting the digits of a number in any radix.
+
+ghost use Rattle.std.specs.Prelude.{◌≡◌, ◌+◌, ◌/◌, ◌^◌, ◌<◌, ◌≤◌, ◌↔◌, ◌++◌, [], ◌∷◌, IsTrue, IfNone, IfSome, length};
+ghost use Rattle.lexical_num.specs.Format.{IsRadix};
+ghost use Rattle.lexical_num.specs.BitWidth.{IsBitWidth};
+ghost use Rattle.lexical_write_integer.specs.Digits.DigitCount.{digit_count};
+ghost use Rattle.lexical_write_integer.specs.Digits.LoopTurns.{IsStep, TakesDigits, count_notes, count_turns};
+ghost use Rattle.lexical_write_integer.specs.Digits.LoopTurns.{slow_notes, slow_turns};
+
+pub mod decimal_count;
+pub mod logarithm;
+
+use crate::turns::Turns;
+use decimal_count::DecimalCount;
+use lexical_num::num::UnsignedInteger;
+pub use logarithm::fast_log2;
+
+// Returns whether `radix.pow(exponent)` fits in `bits` bits. If not, a loop that divides by it never runs.
+fn power_fits(bits: usize, radix: u32, exponent: u32) -> bool
+    requires bits { IsBitWidth bits }
+    requires radix { IsRadix radix }
+    requires exponent { IsStep exponent }
+    ensures { IsTrue result ↔ (radix ^ exponent < 2 ^ bits) }
+{
+    match (exponent, bits) {
+        (4, 8) => radix <= 3,
+        (4, 16) => radix <= 15,
+        (2, 8) => radix <= 15,
+        _ => true,
+    }
+}
+
+// Returns `radix.pow(exponent)`, or `None` if it does not fit in the type. In that case every number of the
+// type is smaller, and a loop that divides by it would never run.
+fn power_of<T: UnsignedInteger>(radix: u32, exponent: u32) -> Option<T>
+    requires radix { IsRadix radix }
+    requires exponent { IsStep exponent }
+    ensures power { IfSome result (λ power. T.magnitude power ≡ radix ^ exponent) }
+    ensures too_great { IfNone result (2 ^ T.BITS ≤ radix ^ exponent) }
+{
+    if power_fits(T::BITS, radix, exponent) {
+        Some(T::from_u32(radix.pow(exponent)))
+    } else {
+        None
+    }
+}
+
+// Returns the quotient of the number and a power of the radix, and records it in the counter.
+fn divide_and_record<T: UnsignedInteger>(number: T, power: T, turns: &mut Turns) -> T
+    requires { 0 < T.magnitude power }
+    ensures left { T.magnitude result ≡ T.magnitude number / T.magnitude power }
+    ensures notes { turns.new ≡ turns.old ++ T.magnitude result ∷ [] }
+{
+    let (left, _) = number.div_rem(power);
+    turns.tick(left.as_usize() as u64);
+    left
+}
+
+// Removes the last `step` digits of the number per iteration, while it has more than `step` digits, and
+// records each quotient. Returns the remaining quotient and the number of digits that were removed.
+fn take_digits<T: UnsignedInteger>(value: T, radix: u32, step: u32, turns: &mut Turns) -> (T, usize)
+    requires radix { IsRadix radix }
+    requires step { IsStep step }
+    ensures { TakesDigits radix (T.magnitude value) step result.1 (T.magnitude result.0)
+        turns.old turns.new }
+{
+    value.fits_bits();
+    let Some(power) = power_of::<T>(radix, step) else {
+        return (value, 0);
+    };
+    let mut left = value;
+    let mut taken = 0;
+    while left.is_at_least(power) {
+        left = divide_and_record(left, power, turns);
+        taken += step as usize;
+    }
+    (left, taken)
+}
+
+/// Returns how many digits the number has. They are counted by division: four per iteration while more
+/// than four are left, then two, and then one. Each quotient is recorded in the counter. The radix is
+/// from 2 to 36.
+#[tactic(auto, using(crate::proofs::OfDigits::Count::RadixPowers::steps))]
+pub fn slow_digit_count_counted<T: UnsignedInteger>(x: T, radix: u32, turns: &mut Turns) -> usize
+    requires { IsRadix radix }
+    ensures count { result ≡ digit_count radix (T.magnitude x) }
+    ensures some { 1 ≤ result }
+    ensures at_most_64 { result ≤ 64 }
+    ensures notes { turns.new ≡ turns.old ++ slow_notes radix (T.magnitude x) }
+    ensures turns { length turns.new ≡ length turns.old + slow_turns result }
+{
+    x.fits_bits();
+    let (left, by_four) = take_digits(x, radix, 4, turns);
+    let (left, by_two) = take_digits(left, radix, 2, turns);
+    let (_, by_one) = take_digits(left, radix, 1, turns);
+    1 + by_four + by_two + by_one
+}
+
+/// Returns how many digits the number has. They are counted from the highest set bit if the radix is a
+/// power of 2, by `decimal_count` in radix 10, and otherwise by division, whose quotients are recorded
+/// in the counter. The radix is from 2 to 36.
+pub fn digit_count_counted<T: DecimalCount>(x: T, radix: u32, turns: &mut Turns) -> usize
+    requires { IsRadix radix }
+    ensures count { result ≡ digit_count radix (T.magnitude x) }
+    ensures some { 1 ≤ result }
+    ensures at_most_64 { result ≤ 64 }
+    ensures notes { turns.new ≡ turns.old ++ count_notes radix (T.magnitude x) }
+    ensures turns { length turns.new ≡ length turns.old + count_turns radix result }
+{
+    x.fits_bits();
+    match radix {
+        2 => fast_log2(x) + 1,
+        4 => fast_log2(x) / 2 + 1,
+        8 => fast_log2(x) / 3 + 1,
+        16 => fast_log2(x) / 4 + 1,
+        32 => fast_log2(x) / 5 + 1,
+        10 => x.decimal_count(),
+        _ => slow_digit_count_counted(x, radix, turns),
+    }
+}
+
+/// An unsigned integer type whose digits are counted in every radix.
+pub trait DigitCount: DecimalCount {
+    /// Returns how many digits the number has. The radix is from 2 to 36. `width_of_amount` in
+    /// `crates/uses/src/amount.rt` is an example.
+    fn digit_count(self, radix: u32) -> usize
+        requires { IsRadix radix }
+        ensures count { result ≡ digit_count radix (Self.magnitude self) }
+        ensures some { 1 ≤ result }
+        ensures at_most_64 { result ≤ 64 }
+    {
+        digit_count_counted(self, radix, &mut Turns::new())
+    }
+
+    /// Returns how many digits the number has. They are counted by division in every radix. The radix
+    /// is from 2 to 36.
+    fn slow_digit_count(self, radix: u32) -> usize
+        requires { IsRadix radix }
+        ensures count { result ≡ digit_count radix (Self.magnitude self) }
+        ensures some { 1 ≤ result }
+        ensures at_most_64 { result ≤ 64 }
+    {
+        slow_digit_count_counted(self, radix, &mut Turns::new())
+    }
+}
+
+impl<T: DecimalCount> DigitCount for T {}

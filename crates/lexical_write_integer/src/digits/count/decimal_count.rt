@@ -1,0 +1,133 @@
+//! Counting decimal digits without a loop. Examples are in `crates/write_integer_tests/src/counts.rt`.
+
+ghost use Rattle.std.specs.Prelude.{◌≡◌, ◌^◌, map};
+ghost use Rattle.lexical_write_integer.specs.Digits.DigitCount.{digit_count};
+ghost use Rattle.lexical_write_integer.specs.Digits.PowersOfTen.{IsPowersOfTen};
+
+use super::logarithm::{fast_log2, fast_log10};
+use lexical_num::num::UnsignedInteger;
+
+// One digit, in a sum whose high 32 bits count digits.
+const ONE: u64 = 1 << 32;
+
+// Indexed by the position of the highest set bit. The high 32 bits of `number + entry` are the digit
+// count. If a power of ten lies among the numbers with that highest bit, the entry is the larger count
+// minus that power, so only the numbers from that power upwards carry into the larger count.
+const DIGITS_BY_LOG2: [u64; 32] = [
+    ONE,
+    2 * ONE - 10,
+    2 * ONE - 10,
+    2 * ONE - 10,
+    3 * ONE - 100,
+    3 * ONE - 100,
+    3 * ONE - 100,
+    4 * ONE - 1000,
+    4 * ONE - 1000,
+    4 * ONE - 1000,
+    5 * ONE - 10000,
+    5 * ONE - 10000,
+    5 * ONE - 10000,
+    5 * ONE - 10000,
+    6 * ONE - 100000,
+    6 * ONE - 100000,
+    6 * ONE - 100000,
+    7 * ONE - 1000000,
+    7 * ONE - 1000000,
+    7 * ONE - 1000000,
+    8 * ONE - 10000000,
+    8 * ONE - 10000000,
+    8 * ONE - 10000000,
+    8 * ONE - 10000000,
+    9 * ONE - 100000000,
+    9 * ONE - 100000000,
+    9 * ONE - 100000000,
+    10 * ONE - 1000000000,
+    10 * ONE - 1000000000,
+    10 * ONE - 1000000000,
+    10 * ONE,
+    10 * ONE,
+];
+
+// The powers of ten from 10 upwards that fit in 64 bits.
+const POWERS_OF_TEN: [u64; 19] = [
+    10,
+    100,
+    1000,
+    10000,
+    100000,
+    1000000,
+    10000000,
+    100000000,
+    1000000000,
+    10000000000,
+    100000000000,
+    1000000000000,
+    10000000000000,
+    100000000000000,
+    1000000000000000,
+    10000000000000000,
+    100000000000000000,
+    1000000000000000000,
+    10000000000000000000,
+];
+
+/// Returns how many decimal digits the number has. The method is from Lemire, "Computing the
+/// number of digits of an integer even faster".
+pub fn fast_digit_count(x: u32) -> usize
+    ensures { result ≡ digit_count 10 x }
+{
+    let entry = DIGITS_BY_LOG2[fast_log2(x)];
+    ((u64::from(x) + entry) >> 32) as usize
+}
+
+/// Returns how many decimal digits the number has. The table holds the powers of ten from 10
+/// upwards that fit in the type, in rising order, and nothing else.
+pub fn fallback_digit_count<T: UnsignedInteger>(x: T, table: &[T]) -> usize
+    requires { IsPowersOfTen (2 ^ T.BITS) (map T.magnitude table.now) }
+    ensures { result ≡ digit_count 10 (T.magnitude x) }
+{
+    x.fits_bits();
+    let log10 = fast_log10(x);
+    if log10 < table.len() && x.is_at_least(table[log10]) {
+        log10 + 2
+    } else {
+        log10 + 1
+    }
+}
+
+/// An unsigned integer type whose decimal digits are counted without a loop.
+pub trait DecimalCount: UnsignedInteger {
+    /// Returns how many decimal digits the number has.
+    fn decimal_count(self) -> usize
+        ensures { result ≡ digit_count 10 (Self.magnitude self) };
+}
+
+impl DecimalCount for u8 {
+    fn decimal_count(self) -> usize {
+        fast_digit_count(u32::from(self))
+    }
+}
+
+impl DecimalCount for u16 {
+    fn decimal_count(self) -> usize {
+        fast_digit_count(u32::from(self))
+    }
+}
+
+impl DecimalCount for u32 {
+    fn decimal_count(self) -> usize {
+        fast_digit_count(self)
+    }
+}
+
+impl DecimalCount for u64 {
+    fn decimal_count(self) -> usize {
+        fallback_digit_count(self, &POWERS_OF_TEN)
+    }
+}
+
+impl DecimalCount for usize {
+    fn decimal_count(self) -> usize {
+        (self as u64).decimal_count()
+    }
+}

@@ -1,0 +1,26 @@
+// Logarithms, rounded down, from which digits are counted.
+
+ghost use Rattle.std.specs.Prelude.{◌<◌};
+ghost use Rattle.lexical_write_integer.specs.Digits.Logarithm.{IsLog2, IsLog10Estimate};
+
+use lexical_num::num::UnsignedInteger;
+
+/// Returns the logarithm to base 2, rounded down, which is the position of the highest set bit. It is 0
+/// for 0.
+pub fn fast_log2<T: UnsignedInteger>(x: T) -> usize
+    ensures log2 { IsLog2 (T.magnitude x) result }
+    ensures within { result < T.BITS }
+{
+    x.fits_bits();
+    // The logarithm of a number that is known not to be 0 is one instruction.
+    (x.as_usize() as u64).max(1).ilog2() as usize
+}
+
+/// Returns the logarithm to base 10 of the largest power of 2 that is at most the number, rounded down,
+/// and 0 for 0.
+pub fn fast_log10<T: UnsignedInteger>(x: T) -> usize
+    ensures { IsLog10Estimate (T.magnitude x) result }
+{
+    // 1233 / 4096 is close enough to the logarithm of 2 for the bit positions of 64 bits.
+    (fast_log2(x) * 1233) >> 12
+}

@@ -1,0 +1,108 @@
+// Writing pairs of decimal digits from the table of radix 10.
+
+ghost use Rattle.std.specs.Prelude.{◌≡◌, ◌+◌, ◌-◌, ◌*◌, ◌/◌, ◌%◌, ◌^◌, ◌<◌, ◌≤◌, [], ◌∷◌, ◌++◌, length};
+ghost use Rattle.lexical_write_integer.specs.Buffer.{WritesBlock, WritesDigits};
+ghost use Rattle.lexical_write_integer.specs.Digits.Carries.{carried};
+ghost use Rattle.lexical_write_integer.specs.Digits.DecimalTurns.{WritesDecimal, products, pairs_from_back};
+ghost use Rattle.lexical_write_integer.specs.Digits.DigitCount.{digit_count};
+
+use super::kernels::next2;
+use crate::turns::Turns;
+use lexical_tables::get_table;
+
+// Writes the two digits of a number below 100 at index `at`.
+fn write_pair(pair: u32, at: usize, buffer: &mut [u8])
+    requires pair { pair < 100 }
+    requires room { at + 2 ≤ length buffer.old }
+    ensures { WritesBlock 10 2 pair at buffer.old buffer.new }
+{
+    let table = get_table(10);
+    let index = 2 * pair as usize;
+    let first = table[index];
+    let second = table[index + 1];
+    buffer[at + 1] = second;
+    buffer[at] = first;
+}
+
+/// Writes the one or two digits of a number below 100 to the start of the buffer, and returns how many
+/// there are.
+pub(crate) fn write_one_or_two(pair: u32, buffer: &mut [u8]) -> usize
+    requires pair { pair < 100 }
+    requires room { digit_count 10 pair ≤ length buffer.old }
+    ensures digits { WritesDigits 10 pair buffer.old buffer.new result }
+    ensures few { (1 ≤ result) × (result ≤ 2) }
+{
+    // A single digit is the second of its pair. It is written twice to the same byte, to avoid a branch.
+    let is_pair = pair >= 10;
+    let table = get_table(10);
+    let index = 2 * pair as usize;
+    let first = table[index + 1 - is_pair as usize];
+    let second = table[index + 1];
+    buffer[is_pair as usize] = second;
+    buffer[0] = first;
+    1 + is_pair as usize
+}
+
+/// Writes the digits of the number that a fraction carries to the start of the buffer, and returns how
+/// many there are. They are the whole part of the fraction, which has one or two digits, and
+/// `pair_count` pairs after it. Each of these pairs takes one iteration, which records the product
+/// that `next2` computes.
+pub(crate) fn write_pairs(
+    fraction: u64,
+    pair_count: usize,
+    buffer: &mut [u8],
+    turns: &mut Turns,
+) -> usize
+    requires first { 1 ≤ fraction / 2 ^ 32 }
+    requires below { fraction / 2 ^ 32 < 100 }
+    requires room { digit_count 10 (carried fraction pair_count) ≤ length buffer.old }
+    ensures { WritesDecimal (carried fraction pair_count) (products fraction pair_count)
+        buffer.old buffer.new turns.old turns.new result }
+{
+    let mut count = write_one_or_two((fraction >> 32) as u32, buffer);
+    let mut rest = fraction;
+    for _ in 0..pair_count {
+        let pair = next2(&mut rest);
+        turns.tick(rest);
+        write_pair(pair, count, buffer);
+        count += 2;
+    }
+    count
+}
+
+// Writes the two digits of a number below 100 at index `at`, and records the number in the counter.
+fn write_and_record_pair(pair: u32, at: usize, buffer: &mut [u8], turns: &mut Turns)
+    requires pair { pair < 100 }
+    requires room { at + 2 ≤ length buffer.old }
+    ensures block { WritesBlock 10 2 pair at buffer.old buffer.new }
+    ensures notes { turns.new ≡ turns.old ++ pair ∷ [] }
+{
+    write_pair(pair, at, buffer);
+    turns.tick(u64::from(pair));
+}
+
+// Writes a number below 10000 as four digits at index `at`, with leading zeros, and records each of
+// its two pairs in the counter. The last pair is first.
+fn write_four(number: u32, at: usize, buffer: &mut [u8], turns: &mut Turns)
+    requires number { number < 10 ^ 4 }
+    requires room { at + 4 ≤ length buffer.old }
+    ensures block { WritesBlock 10 4 number at buffer.old buffer.new }
+    ensures notes { turns.new ≡ turns.old ++ pairs_from_back number 2 }
+{
+    write_and_record_pair(number % 100, at + 2, buffer, turns);
+    write_and_record_pair(number / 100, at, buffer, turns);
+}
+
+/// Writes the last ten digits of a number at index `at`, and records each of their five pairs in the
+/// counter. The last pair is first.
+pub(crate) fn write_last_ten(number: u64, at: usize, buffer: &mut [u8], turns: &mut Turns)
+    requires { at + 10 ≤ length buffer.old }
+    ensures block { WritesBlock 10 10 (number % 10 ^ 10) at buffer.old buffer.new }
+    ensures notes { turns.new ≡ turns.old ++ pairs_from_back number 5 }
+{
+    let low = number % 10_000_000_000;
+    let front = (low / 10_000) as u32;
+    write_four((low % 10_000) as u32, at + 6, buffer, turns);
+    write_four(front % 10_000, at + 2, buffer, turns);
+    write_and_record_pair(front / 10_000, at, buffer, turns);
+}

@@ -1,0 +1,172 @@
+//! The decimal writers. A number of 3 to 10 digits is multiplied by the reciprocal of a power of 100,
+//! which makes it a fixed-point fraction. Each multiplication of the fraction by 100 then yields two
+//! digits, so no digit needs a division. The algorithm is James Anhalt's jeaiii
+//! (<https://github.com/jeaiii/itoa>); Lemire, Kaser and Kurz, "Faster Remainder by Direct Computation"
+//! (2019), describe how digits are obtained from the fraction of a product with a reciprocal.
+//!
+//! Each `_counted` function writes what the function without that suffix writes, and records its
+//! iterations in a counter: one for each pair of digits after the first, and at most 9.
+//!
+//! Examples of the writers are in `crates/write_integer_tests/src/decimal_values.rt`, and of the kernels
+//! in `crates/write_integer_tests/src/kernel_values.rt`.
+#![tactic(auto, using(crate::proofs::OfDigits::Decimal::PairBlocks::widths), unfolding(crate::specs::Digits::DecimalTurns::decimal_notes_32))]
+
+ghost use Rattle.std.specs.Prelude.{◌+◌, ◌-◌, ◌/◌, ◌^◌, ◌<◌, ◌≤◌, length};
+ghost use Rattle.lexical_write_integer.specs.Buffer.{WritesDigits};
+ghost use Rattle.lexical_write_integer.specs.Digits.DecimalTurns.{WritesDecimal, decimal_notes_32, decimal_notes_64};
+ghost use Rattle.lexical_write_integer.specs.Digits.DigitCount.{digit_count};
+
+use super::decimal_pairs::{write_last_ten, write_one_or_two, write_pairs};
+pub use super::kernels::{
+    fixed_2, fixed_4, fixed_6, fixed_8_nine, fixed_8_ten, fixed_8_wide, next2,
+};
+use crate::turns::Turns;
+
+// Writes the digits of a number of up to 32 bits.
+fn write_32(n: u32, buffer: &mut [u8], turns: &mut Turns) -> usize
+    requires { digit_count 10 n ≤ length buffer.old }
+    ensures { WritesDecimal n (decimal_notes_32 n) buffer.old buffer.new turns.old turns.new result }
+{
+    if n < 100 {
+        write_one_or_two(n, buffer)
+    } else if n < 10_000 {
+        write_pairs(fixed_2(n), 1, buffer, turns)
+    } else if n < 1_000_000 {
+        write_pairs(fixed_4(n), 2, buffer, turns)
+    } else if n < 100_000_000 {
+        write_pairs(fixed_6(n), 3, buffer, turns)
+    } else {
+        // Both kernels share one call, so the compiler makes one copy of its body.
+        let fraction = if n < 1_000_000_000 {
+            fixed_8_nine(n)
+        } else {
+            fixed_8_ten(n)
+        };
+        write_pairs(fraction, 4, buffer, turns)
+    }
+}
+
+// Writes the digits of a number of up to 64 bits. If it has more than ten digits, the last ten are
+// written by division, after the digits before them.
+#[tactic(auto, using(crate::proofs::OfDigits::Decimal::PairBlocks::widths), unfolding(crate::specs::Digits::DecimalTurns::decimal_notes_64))]
+fn write_64(n: u64, buffer: &mut [u8], turns: &mut Turns) -> usize
+    requires { digit_count 10 n ≤ length buffer.old }
+    ensures { WritesDecimal n (decimal_notes_64 n) buffer.old buffer.new turns.old turns.new result }
+{
+    if n < 1_000_000_000 {
+        write_32(n as u32, buffer, turns)
+    } else if n < 10_000_000_000 {
+        write_pairs(fixed_8_wide(n), 4, buffer, turns)
+    } else {
+        let front = write_32((n / 10_000_000_000) as u32, buffer, turns);
+        write_last_ten(n, front, buffer, turns);
+        front + 10
+    }
+}
+
+/// Writes the digits of a number to the start of the buffer, and returns how many there are. The buffer has
+/// room for 3 bytes.
+pub fn from_u8(n: u8, buffer: &mut [u8]) -> usize
+    requires { 3 ≤ length buffer.old }
+    ensures digits { WritesDigits 10 n buffer.old buffer.new result }
+    ensures short { result ≤ 3 }
+{
+    from_u8_counted(n, buffer, &mut Turns::new())
+}
+
+/// Writes the digits of a number to the start of the buffer, and returns how many there are. The buffer has
+/// room for 5 bytes.
+pub fn from_u16(n: u16, buffer: &mut [u8]) -> usize
+    requires { 5 ≤ length buffer.old }
+    ensures digits { WritesDigits 10 n buffer.old buffer.new result }
+    ensures short { result ≤ 5 }
+{
+    from_u16_counted(n, buffer, &mut Turns::new())
+}
+
+/// Writes the digits of a number to the start of the buffer, and returns how many there are. The buffer has
+/// room for 10 bytes.
+pub fn from_u32(n: u32, buffer: &mut [u8]) -> usize
+    requires { 10 ≤ length buffer.old }
+    ensures digits { WritesDigits 10 n buffer.old buffer.new result }
+    ensures short { result ≤ 10 }
+{
+    from_u32_counted(n, buffer, &mut Turns::new())
+}
+
+/// Writes the digits of a number to the start of the buffer, and returns how many there are. The buffer has
+/// room for 20 bytes.
+pub fn from_u64(n: u64, buffer: &mut [u8]) -> usize
+    requires { 20 ≤ length buffer.old }
+    ensures digits { WritesDigits 10 n buffer.old buffer.new result }
+    ensures short { result ≤ 20 }
+{
+    from_u64_counted(n, buffer, &mut Turns::new())
+}
+
+/// Writes the digits of a number to the start of the buffer, and returns how many there are. The number is
+/// below 10^19, as is the magnitude of each `i64`, and the buffer has room for 19 bytes.
+pub fn from_i64(n: u64, buffer: &mut [u8]) -> usize
+    requires number { n < 10 ^ 19 }
+    requires room { 19 ≤ length buffer.old }
+    ensures digits { WritesDigits 10 n buffer.old buffer.new result }
+    ensures short { result ≤ 19 }
+{
+    from_i64_counted(n, buffer, &mut Turns::new())
+}
+
+/// Writes the digits as `from_u8` does, under the same condition, and records its iterations in the
+/// counter.
+pub fn from_u8_counted(n: u8, buffer: &mut [u8], turns: &mut Turns) -> usize
+    requires { 3 ≤ length buffer.old }
+    ensures writes { WritesDecimal n (decimal_notes_32 n) buffer.old buffer.new turns.old turns.new result }
+    ensures short { result ≤ 3 }
+    ensures few { length turns.new ≤ length turns.old + 9 }
+{
+    write_32(u32::from(n), buffer, turns)
+}
+
+/// Writes the digits as `from_u16` does, under the same condition, and records its iterations in the
+/// counter.
+pub fn from_u16_counted(n: u16, buffer: &mut [u8], turns: &mut Turns) -> usize
+    requires { 5 ≤ length buffer.old }
+    ensures writes { WritesDecimal n (decimal_notes_32 n) buffer.old buffer.new turns.old turns.new result }
+    ensures short { result ≤ 5 }
+    ensures few { length turns.new ≤ length turns.old + 9 }
+{
+    write_32(u32::from(n), buffer, turns)
+}
+
+/// Writes the digits as `from_u32` does, under the same condition, and records its iterations in the
+/// counter.
+pub fn from_u32_counted(n: u32, buffer: &mut [u8], turns: &mut Turns) -> usize
+    requires { 10 ≤ length buffer.old }
+    ensures writes { WritesDecimal n (decimal_notes_32 n) buffer.old buffer.new turns.old turns.new result }
+    ensures short { result ≤ 10 }
+    ensures few { length turns.new ≤ length turns.old + 9 }
+{
+    write_32(n, buffer, turns)
+}
+
+/// Writes the digits as `from_u64` does, under the same condition, and records its iterations in the
+/// counter.
+pub fn from_u64_counted(n: u64, buffer: &mut [u8], turns: &mut Turns) -> usize
+    requires { 20 ≤ length buffer.old }
+    ensures writes { WritesDecimal n (decimal_notes_64 n) buffer.old buffer.new turns.old turns.new result }
+    ensures short { result ≤ 20 }
+    ensures few { length turns.new ≤ length turns.old + 9 }
+{
+    write_64(n, buffer, turns)
+}
+
+/// Writes the digits as `from_i64` does, under the same conditions, and records its iterations in the
+/// counter.
+pub fn from_i64_counted(n: u64, buffer: &mut [u8], turns: &mut Turns) -> usize
+    requires number { n < 10 ^ 19 }
+    requires room { 19 ≤ length buffer.old }
+    ensures writes { WritesDecimal n (decimal_notes_64 n) buffer.old buffer.new turns.old turns.new result }
+    ensures short { result ≤ 19 }
+    ensures few { length turns.new ≤ length turns.old + 9 }
+{
+    write_64(n, buffer, turns)
+}

@@ -1,0 +1,76 @@
+//! Writing the digits of a number in any radix, from the tables of digit pairs.
+
+ghost use Rattle.std.specs.Prelude.{◌≡◌, ◌≤◌, ◌++◌, length};
+ghost use Rattle.lexical_num.specs.Format.{IsRadix};
+ghost use Rattle.lexical_write_integer.specs.Buffer.{WritesDigits};
+ghost use Rattle.lexical_write_integer.specs.Digits.DigitCount.{digit_count};
+ghost use Rattle.lexical_write_integer.specs.Digits.LoopTurns.{table_notes};
+
+pub mod algorithm;
+mod by_radix;
+pub mod compact;
+mod table_writer;
+
+use crate::turns::Turns;
+use by_radix::by_radix;
+use lexical_num::num::UnsignedInteger;
+use lexical_tables::get_table;
+use table_writer::{write_digits, write_short};
+
+// Writes a number in the radix `R`, with the table of that radix. A byte has at most two digits in radix 16
+// and above, and a number below 1024 has at most two digits above radix 32.
+fn write_by_table<T: UnsignedInteger, const R: u32>(
+    value: T,
+    buffer: &mut [u8],
+    turns: &mut Turns,
+) -> usize
+    requires radix { IsRadix R }
+    requires room { digit_count R (T.magnitude value) ≤ length buffer.old }
+    ensures digits { WritesDigits R (T.magnitude value) buffer.old buffer.new result }
+    ensures notes { turns.new ≡ turns.old ++ table_notes R (T.magnitude value) }
+{
+    value.fits_bits();
+    let number = value.as_usize() as u64;
+    let table = get_table(R);
+    if T::BITS == 8 && R >= 16 {
+        return write_short(number as u32, R, table, buffer, turns);
+    }
+    if R > 32 && number < 1024 {
+        return write_short(number as u32, R, table, buffer, turns);
+    }
+    write_digits::<R>(number, table, buffer, turns)
+}
+
+// Does what `algorithm_counted` does, with the table of the radix. The radix is looked at only once, since
+// the code of each radix names its table.
+pub(crate) fn radix_counted<T: UnsignedInteger>(
+    value: T,
+    radix: u32,
+    buffer: &mut [u8],
+    turns: &mut Turns,
+) -> usize
+    requires radix { IsRadix radix }
+    requires room { digit_count radix (T.magnitude value) ≤ length buffer.old }
+    ensures digits { WritesDigits radix (T.magnitude value) buffer.old buffer.new result }
+    ensures notes { turns.new ≡ turns.old ++ table_notes radix (T.magnitude value) }
+{
+    by_radix!(radix, write_by_table::<T>(value, buffer, turns))
+}
+
+/// An unsigned integer type whose digits are written by the table writer.
+pub trait Radix: UnsignedInteger {
+    /// Writes the digits of the number to the start of the buffer, and returns how many there are. The radix
+    /// is from 2 to 36, and the buffer has room for the digits. `identifier` in
+    /// `crates/uses/src/identifier.rt` is an example.
+    fn radix(self, radix: u32, buffer: &mut [u8]) -> usize
+        requires radix { IsRadix radix }
+        requires room { digit_count radix (Self.magnitude self) ≤ length buffer.old }
+        ensures digits { WritesDigits radix (Self.magnitude self) buffer.old buffer.new result }
+        ensures short { result ≤ Self.BITS }
+    {
+        self.fits_bits();
+        radix_counted(self, radix, buffer, &mut Turns::new())
+    }
+}
+
+impl<T: UnsignedInteger> Radix for T {}

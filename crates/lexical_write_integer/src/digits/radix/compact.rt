@@ -1,0 +1,93 @@
+//! The compact writer, which writes one digit per iteration. `crates/write_integer_tests/src/tables.rt`
+//! has examples.
+
+ghost use Rattle.std.specs.Prelude.{◌≡◌, ◌+◌, ◌/◌, ◌%◌, ◌<◌, ◌≤◌, ◌++◌, [], ◌∷◌, length, drop};
+ghost use Rattle.lexical_num.specs.Format.{IsRadix};
+ghost use Rattle.lexical_write_integer.specs.Buffer.{WritesDigits};
+ghost use Rattle.lexical_write_integer.specs.Digits.DigitCount.{digit_count};
+ghost use Rattle.lexical_write_integer.specs.Texts.Text.{IsDigits};
+ghost use Rattle.lexical_write_integer.specs.Digits.LoopTurns.{compact_notes, compact_turns};
+
+use super::by_radix::by_radix;
+use crate::buffer::copy_to_front;
+use crate::turns::Turns;
+use lexical_num::constants::FormattedSize;
+use lexical_num::digit::digit_to_char;
+use lexical_num::num::UnsignedInteger;
+
+// The number of digits of the largest `u64` in radix 2.
+const MAX_DIGITS: usize = 64;
+
+// Writes the digits of a number to the end of the buffer, the last digit first, and returns the index
+// of the first digit.
+fn write_to_end<const RADIX: u32>(value: u64, buffer: &mut [u8], turns: &mut Turns) -> usize
+    requires radix { IsRadix RADIX }
+    requires room { digit_count RADIX value ≤ length buffer.old }
+    ensures place { result + digit_count RADIX value ≡ length buffer.old }
+    ensures digits { IsDigits RADIX value (drop result buffer.new) }
+    ensures notes { turns.new ≡ turns.old ++ compact_notes RADIX value }
+{
+    let radix = u64::from(RADIX);
+    let mut index = buffer.len();
+    let mut rest = value;
+    while rest >= radix {
+        let left = rest / radix;
+        turns.tick(left);
+        index -= 1;
+        buffer[index] = digit_to_char((rest % radix) as u32);
+        rest = left;
+    }
+    index -= 1;
+    buffer[index] = digit_to_char(rest as u32);
+    index
+}
+
+// Calls `write_to_end` for a radix that is known only at run time.
+fn write_to_end_in(value: u64, radix: u32, buffer: &mut [u8], turns: &mut Turns) -> usize
+    requires radix { IsRadix radix }
+    requires room { digit_count radix value ≤ length buffer.old }
+    ensures place { result + digit_count radix value ≡ length buffer.old }
+    ensures digits { IsDigits radix value (drop result buffer.new) }
+    ensures notes { turns.new ≡ turns.old ++ compact_notes radix value }
+{
+    by_radix!(radix, write_to_end(value, buffer, turns))
+}
+
+/// Writes the digits of the number to the start of the buffer, and returns how many there are. The radix is
+/// from 2 to 36, and the buffer has room for the digits. There is one division for each digit after the
+/// first, and its quotient is recorded in the counter.
+pub fn compact_counted<T: UnsignedInteger>(
+    value: T,
+    radix: u32,
+    buffer: &mut [u8],
+    turns: &mut Turns,
+) -> usize
+    requires radix { IsRadix radix }
+    requires room { digit_count radix (T.magnitude value) ≤ length buffer.old }
+    ensures digits { WritesDigits radix (T.magnitude value) buffer.old buffer.new result }
+    ensures notes { turns.new ≡ turns.old ++ compact_notes radix (T.magnitude value) }
+    ensures turns { length turns.new ≡ length turns.old + compact_turns result }
+    ensures short { result ≤ T.BITS }
+{
+    value.fits_bits();
+    // The last digit is computed first, so the digits go to a temporary array.
+    let mut digits = [0u8; MAX_DIGITS];
+    let index = write_to_end_in(value.as_usize() as u64, radix, &mut digits, turns);
+    copy_to_front(&digits[index..], buffer)
+}
+
+/// An unsigned integer type whose digits are written by the compact writer.
+pub trait Compact: UnsignedInteger + FormattedSize {
+    /// Writes the digits of the number to the start of the buffer, and returns how many there are. The radix
+    /// is from 2 to 36, and the buffer has room for the digits.
+    fn compact(self, radix: u32, buffer: &mut [u8]) -> usize
+        requires radix { IsRadix radix }
+        requires room { digit_count radix (Self.magnitude self) ≤ length buffer.old }
+        ensures digits { WritesDigits radix (Self.magnitude self) buffer.old buffer.new result }
+        ensures short { result ≤ Self.BITS }
+    {
+        compact_counted(self, radix, buffer, &mut Turns::new())
+    }
+}
+
+impl<T: UnsignedInteger + FormattedSize> Compact for T {}

@@ -1,0 +1,167 @@
+//! The traits that write a number of any integer type.
+
+ghost use Rattle.std.specs.Prelude.{◌≡◌, ◌≤◌, ℤ, ◌≤ℤ◌, length, take, drop, unsigned_abs};
+ghost use Rattle.std.specs.Borrow.{sem};
+ghost use Rattle.lexical_num.specs.Format.{Format, IsRadix, standard, without_groups};
+ghost use Rattle.lexical_num.specs.Sign.{sign_of};
+ghost use Rattle.lexical_num.specs.declared.constants.TheConstants.{BUFFER_SIZE};
+ghost use Rattle.lexical_num.specs.Size.{size_in};
+ghost use Rattle.lexical_write_integer.specs.Buffer.{WritesDigits, WritesText};
+ghost use Rattle.lexical_write_integer.specs.Digits.DigitCount.{digit_count};
+ghost use Rattle.lexical_write_integer.specs.Texts.Groups.{without_marks};
+ghost use Rattle.lexical_write_integer.specs.Lending.{LendsFront};
+ghost use Rattle.lexical_write_integer.specs.Texts.Text.{IsText, digits_need, need};
+
+use super::groups::group_digits;
+use crate::buffer::front_mut;
+use lexical_num::constants::FormattedSize;
+use lexical_num::format::{NumberFormat, STANDARD};
+use lexical_num::num::LexicalInteger;
+use lexical_num::options::WriteOptions;
+
+/// An integer type whose numbers are written in decimal. The documentation of this crate has examples.
+pub trait ToLexical: LexicalInteger + FormattedSize {
+    /// Writes the number in decimal to the start of the buffer, and returns the length of its text: a
+    /// `-` if it is below 0, and then the digits. Every byte after the text is unchanged. The buffer
+    /// must have room for `DECIMAL_WIDTH` bytes, and for one further byte if there is a `-`.
+    /// `keep_text` in `crates/uses/src/arena.rt` is an example.
+    final fn write_lexical(self, buffer: &mut [u8]) -> usize
+        requires { need (Self.number self) Self.DECIMAL_WIDTH standard ≤ length buffer.old }
+        ensures text { WritesText (Self.number self) standard buffer.old buffer.new result }
+        ensures short { result ≤ need (Self.number self) Self.DECIMAL_WIDTH standard }
+    {
+        self.write_text(buffer, &STANDARD)
+    }
+
+    /// Writes the digits of the absolute value to the start of the buffer, in the mantissa radix of the
+    /// format and without groups, and returns how many there are. The buffer must have room for
+    /// `DECIMAL_WIDTH` bytes in radix 10, and for the digits in any other radix.
+    fn write_magnitude(self, format: &NumberFormat, buffer: &mut [u8]) -> usize
+        requires { digits_need format.now.mantissa_radix (unsigned_abs (Self.number self)) Self.DECIMAL_WIDTH
+            ≤ length buffer.old }
+        ensures digits { WritesDigits format.now.mantissa_radix (unsigned_abs (Self.number self))
+            buffer.old buffer.new result };
+
+    /// Returns the number of digits of the absolute value in the radix, which is from 2 to 36.
+    fn magnitude_digits(self, radix: u32) -> usize
+        requires { IsRadix radix }
+        ensures { result ≡ digit_count radix (unsigned_abs (Self.number self)) };
+
+    /// Writes the number in the format to the start of the buffer, and returns the length of its text.
+    /// Every byte after the text is unchanged. The buffer must have room for the number of bytes that
+    /// `ToLexicalWithOptions::required_len` returns. The other methods that write a text call this one.
+    final fn write_text(self, buffer: &mut [u8], format: &NumberFormat) -> usize
+        requires { need (Self.number self) Self.DECIMAL_WIDTH format.now ≤ length buffer.old }
+        ensures text { WritesText (Self.number self) format.now buffer.old buffer.new result }
+        ensures short { result ≤ need (Self.number self) Self.DECIMAL_WIDTH format.now }
+        ensures plain { IsText (Self.number self) (without_groups format.now)
+            (without_marks format.now.digit_grouping (take result buffer.new)) }
+    {
+        // The proof needs the ranges of the type and of the parts of the format. The calls of these laws do
+        // nothing at run time.
+        self.in_range();
+        format.in_range();
+        let sign = write_sign(self, buffer, format);
+        let digits = &mut buffer[sign..];
+        let count = self.write_magnitude(format, digits);
+        sign + group_digits(count, format, digits)
+    }
+
+    /// Writes the number as `write_lexical` does, under the same condition, and returns its text: a
+    /// mutable slice of the first bytes of the buffer. What the caller then writes to the slice
+    /// changes those bytes, and every other byte of the buffer is unchanged.
+    final fn to_lexical(self, buffer: &mut [u8]) -> &mut [u8]
+        requires { need (Self.number self) Self.DECIMAL_WIDTH standard ≤ length buffer.old }
+        ensures* lends { sem 𝓛 (LendsFront buffer.entry (length result.now) result) }
+        ensures text { IsText (Self.number self) standard result.now }
+        ensures short { length result.now ≤ need (Self.number self) Self.DECIMAL_WIDTH standard }
+    {
+        let count = self.write_lexical(buffer);
+        front_mut(buffer, count)
+    }
+}
+
+/// An integer type whose numbers are written in any format. The documentation of this crate has
+/// examples.
+pub trait ToLexicalWithOptions: ToLexical {
+    /// The type of the options. Options have no effect yet.
+    type Options: WriteOptions;
+
+    /// Writes the number in the format to the start of the buffer, and returns the length of its text:
+    /// the sign, and then the digits in the mantissa radix, in the groups of the format. Every byte
+    /// after the text is unchanged. The options have no effect.
+    ///
+    /// The buffer must have room for the number of bytes that `required_len` returns, which is enough
+    /// for the sign, the digits and the separators between their groups. In radix 10 it is enough for
+    /// `DECIMAL_WIDTH` digits, even if the number has fewer.
+    final fn write_lexical_with_options(
+        self,
+        buffer: &mut [u8],
+        format: &NumberFormat,
+        _options: &Self::Options,
+    ) -> usize
+        requires { need (Self.number self) Self.DECIMAL_WIDTH format.now ≤ length buffer.old }
+        ensures text { WritesText (Self.number self) format.now buffer.old buffer.new result }
+        ensures short { result ≤ need (Self.number self) Self.DECIMAL_WIDTH format.now }
+        ensures plain { IsText (Self.number self) (without_groups format.now)
+            (without_marks format.now.digit_grouping (take result buffer.new)) }
+    {
+        self.write_text(buffer, format)
+    }
+
+    /// Returns the required length, which is the length of the shortest buffer that
+    /// `write_lexical_with_options` accepts. It is at most `BUFFER_SIZE`.
+    final fn required_len(self, format: &NumberFormat) -> usize
+        ensures need { result ≡ need (Self.number self) Self.DECIMAL_WIDTH format.now }
+        ensures short { result ≤ BUFFER_SIZE }
+    {
+        self.in_range();
+        let radix = format.mantissa_radix();
+        let digits = if radix == 10 {
+            Self::DECIMAL_WIDTH
+        } else {
+            self.magnitude_digits(radix)
+        };
+        let sign = usize::from(self.is_negative() || format.required_mantissa_sign());
+        sign + format.grouped_len(digits)
+    }
+
+    // The size of the type in a format is at least the required length of each number of the type.
+    ghost size_suffices: { (x : ℤ) (format : Format) → IsRadix format.mantissa_radix
+        → Self.least ≤ℤ x → x ≤ℤ Self.greatest
+        → need x Self.DECIMAL_WIDTH format ≤ size_in Self.FORMATTED_SIZE Self.FORMATTED_SIZE_DECIMAL format };
+
+    /// Writes the number as `write_lexical_with_options` does, under the same condition, and returns
+    /// its text: a mutable slice of the first bytes of the buffer. What the caller then writes to the
+    /// slice changes those bytes, and every other byte of the buffer is unchanged.
+    final fn to_lexical_with_options<'a>(
+        self,
+        buffer: &'a mut [u8],
+        format: &NumberFormat,
+        options: &Self::Options,
+    ) -> &'a mut [u8]
+        requires { need (Self.number self) Self.DECIMAL_WIDTH format.now ≤ length buffer.old }
+        ensures* lends { sem 𝓛 (LendsFront buffer.entry (length result.now) result) }
+        ensures text { IsText (Self.number self) format.now result.now }
+        ensures short { length result.now ≤ need (Self.number self) Self.DECIMAL_WIDTH format.now }
+        ensures plain { IsText (Self.number self) (without_groups format.now)
+            (without_marks format.now.digit_grouping result.now) }
+    {
+        let count = self.write_lexical_with_options(buffer, format, options);
+        front_mut(buffer, count)
+    }
+}
+
+/// Writes the sign of the number, if it has one in the format, to the first byte of the buffer, which is
+/// not empty, and returns the length of the sign, 0 or 1. The byte is written even if there is no sign,
+/// to avoid a branch: the first digit then overwrites it.
+pub fn write_sign<T: LexicalInteger>(number: T, buffer: &mut [u8], format: &NumberFormat) -> usize
+    requires { 1 ≤ length buffer.old }
+    ensures sign { take result buffer.new ≡ sign_of (T.number number) format.now.required_mantissa_sign }
+    ensures count { result ≡ length (sign_of (T.number number) format.now.required_mantissa_sign) }
+    ensures rest { drop 1 buffer.new ≡ drop 1 buffer.old }
+{
+    let is_negative = number.is_negative();
+    buffer[0] = if is_negative { b'-' } else { b'+' };
+    (is_negative | format.required_mantissa_sign()) as usize
+}

@@ -1,0 +1,47 @@
+//! Putting digits into groups.
+
+ghost use Rattle.std.specs.Prelude.{◌≡◌, ◌≤◌, length, take};
+ghost use Rattle.lexical_num.specs.Format.{grouped_length};
+ghost use Rattle.lexical_write_integer.specs.Buffer.{Front};
+ghost use Rattle.lexical_write_integer.specs.Texts.Groups.{grouped};
+
+use lexical_num::format::NumberFormat;
+
+/// Puts the first `count` bytes of the buffer into the groups of the format, and returns how many bytes
+/// then take with the separators. The count is not 0, and the buffer has room for the result. Every
+/// byte after the result is unchanged.
+///
+/// The bytes are moved from the last to the first, so no digit is overwritten before it has moved:
+///
+///     1234567      the digits
+///     12345,567    after four bytes
+///     1,234,567    after all
+pub fn group_digits(count: usize, format: &NumberFormat, buffer: &mut [u8]) -> usize
+    requires some { 1 ≤ count }
+    requires room { grouped_length format.now.digit_grouping count ≤ length buffer.old }
+    ensures groups { Front buffer.old buffer.new
+        (grouped format.now.digit_grouping (take count buffer.old)) }
+    ensures count { result ≡ length (grouped format.now.digit_grouping (take count buffer.old)) }
+    ensures total { result ≡ grouped_length format.now.digit_grouping count }
+{
+    let Some((size, mark)) = format.digit_grouping() else {
+        return count;
+    };
+    let size = usize::from(size);
+    let total = count + (count - 1) / size;
+    let mut left = count;
+    let mut end = total;
+    let mut in_group = 0;
+    while end > 0 {
+        end -= 1;
+        if in_group == size {
+            buffer[end] = mark;
+            in_group = 0;
+        } else {
+            left -= 1;
+            buffer[end] = buffer[left];
+            in_group += 1;
+        }
+    }
+    total
+}
