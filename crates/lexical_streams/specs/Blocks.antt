@@ -14,7 +14,7 @@ pub record BlockReading : Type 0 where
   pub faults : ℕ
 
 -- a writer: the bytes that its sink contains if they are known, the bytes that the sink has taken, those of them that are
--- not flushed, the bytes in the block, and the numbers of writes, of flushes and of failures of the sink
+-- not flushed, the bytes in the block, and the numbers of writes, of flushes that succeeded and of failures of the sink
 pub record BlockWriting : Type 0 where
   pub contents : Option (List ℕ)
   pub written : List ℕ

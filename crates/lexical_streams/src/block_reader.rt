@@ -80,9 +80,13 @@ impl<S: BlockSource> BlockReader<S> {
         ensures faults { self.new.faults ≡ self.old.faults + faults_of result }
     {
         let size = self.left.min(block.len() as u64) as usize;
-        let count = self.source.read_block(&mut block[..size])?;
-        self.is_ended |= count == 0;
-        self.left -= count as u64;
-        Ok(count)
+        match self.source.read_block(&mut block[..size]) {
+            Ok(count) => {
+                self.is_ended |= count == 0;
+                self.left -= count as u64;
+                Ok(count)
+            }
+            Err(error) => Err(error),
+        }
     }
 }

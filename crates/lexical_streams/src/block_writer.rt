@@ -83,8 +83,7 @@ impl<K: BlockSink, const SIZE: usize> BlockWriter<K, SIZE> {
     /// failed.
     pub fn flush(&mut self) -> io::Result<()>
         ensures ok { OnOk result (IsFlushed self.new) }
-        ensures once { OnOk result (self.new.flushes ≡ self.old.flushes + 1) }
-        ensures at_most_once { self.new.flushes ≤ self.old.flushes + 1 }
+        ensures flushes { self.new.flushes + faults_of result ≡ self.old.flushes + 1 }
         ensures taken { taken self.new ≡ taken self.old }
         ensures kept { KeepsBytes self.old self.new }
         ensures faults { self.new.faults ≡ self.old.faults + faults_of result }

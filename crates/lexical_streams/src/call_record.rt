@@ -17,7 +17,7 @@ pub struct CallRecord {
     trace: Trace,
     // The bytes taken since the last flush that succeeded.
     unflushed: GhostLog,
-    // One number for each read or write, and for each flush. Only their count is read.
+    // One number for each read or write, and for each flush that succeeded. Only their count is read.
     calls: GhostLog,
     flushes: GhostLog,
 }
@@ -80,12 +80,14 @@ impl CallRecord {
         ensures ok { OnOk outcome.now (self.new.unflushed ≡ []) }
         ensures bytes { self.new.trace.bytes ≡ self.old.trace.bytes }
         ensures calls { self.new.calls ≡ self.old.calls }
-        ensures flushes { length self.new.flushes ≡ length self.old.flushes + 1 }
+        ensures flushes { length self.new.flushes + faults_of outcome.now ≡ length self.old.flushes + 1 }
         ensures faults { self.new.trace.faults ≡ self.old.trace.faults + faults_of outcome.now }
     {
-        self.flushes.tick(0);
         match outcome {
-            Ok(()) => self.unflushed = GhostLog::new(),
+            Ok(()) => {
+                self.unflushed = GhostLog::new();
+                self.flushes.tick(0);
+            }
             Err(_) => self.trace.fault(),
         }
     }

@@ -46,7 +46,7 @@ pub trait BlockSink {
     // The number of writes so far.
     ghost writes: { Self → ℕ };
 
-    // The number of flushes so far.
+    // The number of flushes that succeeded.
     ghost flushes: { Self → ℕ };
 
     // The number of failures so far.
@@ -69,7 +69,7 @@ pub trait BlockSink {
         ensures ok { OnOk result (unflushed self.new ≡ []) }
         ensures taken { taken self.new ≡ taken self.old }
         ensures writes { writes self.new ≡ writes self.old }
-        ensures flushes { flushes self.new ≡ flushes self.old + 1 }
+        ensures flushes { flushes self.new + faults_of result ≡ flushes self.old + 1 }
         ensures faults { faults self.new ≡ faults self.old + faults_of result }
         ensures bytes { Keeps (contents self.old) (contents self.new) };
 }

@@ -1,4 +1,4 @@
-use Rattle.std.proofs.Common.{◌≡◌, ◌-◌, ◌++◌, length, take, drop, sym, ap, subst, ◌∙◌, arith, append_assoc}
+use Rattle.std.proofs.Common.{◌≡◌, ◌-◌, ◌++◌, length, take, drop, sym, ap, subst, ◌∙◌, arith, append_assoc, append-nil}
 use Rattle.std.proofs.Common.{ℕ, zero, suc, List, Ok, refl}
 use lib.Seq.{take-add, take-take}
 use Rattle.std.specs.Io.KnownBytes.{Appends}
@@ -28,3 +28,24 @@ loop-taken-preserved g c =
       flushes = next.flushes ∙ loop.flushes;
       faults = omega (arith, next.faults, loop.faults, some-taken count (take (length all - done) (drop done all)) c.in-Ok.count-test.1);
     }
+
+pub returns-in-Err-clause-faults : goal.returns-in-Err-clause-faults
+returns-in-Err-clause-faults g c = omega (arith, c.in-Err.ensures.faults, c.loop-taken.invariant.faults)
+
+pub returns-clause-all : goal.returns-clause-all
+returns-clause-all g c = omega arith
+
+pub returns-clause-taken : goal.returns-clause-taken
+returns-clause-taken g c = c.loop-taken.invariant.taken
+
+pub returns-clause-bytes : goal.returns-clause-bytes
+returns-clause-bytes g c = c.loop-taken.invariant.contents
+
+pub returns-clause-flushes : goal.returns-clause-flushes
+returns-clause-flushes g c = c.loop-taken.invariant.flushes
+
+pub returns-clause-faults : goal.returns-clause-faults
+returns-clause-faults g c = omega (arith, c.loop-taken.invariant.faults)
+
+pub returns-in-Err-clause-taken : goal.returns-in-Err-clause-taken
+returns-in-Err-clause-taken g c = c.in-Err.ensures.taken ∙ append-nil _ ∙ c.loop-taken.invariant.taken

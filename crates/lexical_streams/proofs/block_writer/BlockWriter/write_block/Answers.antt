@@ -2,6 +2,7 @@ use Rattle.std.proofs.Common.{◌≡◌, ℕ, ◌+◌, ◌-◌, ◌≤◌, List,
 use Rattle.std.specs.List.{copy_within}
 use Rattle.std.proofs.lemmas.List.{append-nil, drop-take}
 use Rattle.std.proofs.lemmas.List.Edits.{take-paste}
+use Rattle.lexical_lines.specs.Source.{faults_of}
 use Rattle.lexical_streams.specs.Blocks.{BlockWriting, taken, Writes, KeepsBytes}
 use Rattle.lexical_streams.specs.Kept.{KeepsBytes-of}
 use Rattle.lexical_streams.proofs.block_writer.BlockWriter.write_block.Goals as goal
@@ -47,3 +48,9 @@ pub returns-clause-kept : goal.returns-clause-kept
 returns-clause-kept g c =
     let wrote = c.write_until_error-count.ensures in
     passed-on _ _ _ _ c.self.view_is (returns-clause-taken g c) (record { written = wrote.taken; contents = wrote.bytes })
+
+-- the check finds this proof by itself, but with an answer the refusal of a mistake says what is wrong
+pub returns-clause-faults : goal.returns-clause-faults
+returns-clause-faults g c =
+    let wrote = c.write_until_error-count in
+    wrote.ensures.faults ∙ ap (λ w. w.faults + faults_of wrote.result.1) c.self.view_is
