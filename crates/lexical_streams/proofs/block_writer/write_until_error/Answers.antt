@@ -2,7 +2,7 @@ use Rattle.std.proofs.Common.{◌≡◌, ◌-◌, ◌++◌, length, take, drop, 
 use Rattle.std.proofs.Common.{ℕ, zero, suc, List, Ok, refl}
 use lib.Seq.{take-add, take-take}
 use Rattle.std.specs.Io.KnownBytes.{Appends}
-use Rattle.std.proofs.KnownBytes.{Appends-trans}
+use Rattle.std.proofs.KnownBytes.{Appends-trans, Appends-kept}
 use Rattle.lexical_lines.specs.Sink.{put_faults}
 use Rattle.lexical_streams.proofs.block_writer.write_until_error.Goals as goal
 
@@ -49,3 +49,13 @@ returns-clause-faults g c = omega (arith, c.loop-taken.invariant.faults)
 
 pub returns-in-Err-clause-taken : goal.returns-in-Err-clause-taken
 returns-in-Err-clause-taken g c = c.in-Err.ensures.taken ∙ append-nil _ ∙ c.loop-taken.invariant.taken
+
+pub returns-in-Ok-eq0-clause-taken : goal.returns-in-Ok-eq0-clause-taken
+returns-in-Ok-eq0-clause-taken g c = (rw c.in-Ok-eq0.field-0-test at c.in-Ok-eq0.ensures.taken) ∙ append-nil _ ∙ c.loop-taken.invariant.taken
+
+pub returns-in-Ok-eq0-clause-bytes : goal.returns-in-Ok-eq0-clause-bytes
+returns-in-Ok-eq0-clause-bytes g c = subst (Appends _ _) (append-nil _)
+    (Appends-trans _ _ _ _ _ c.loop-taken.invariant.contents (rw c.in-Ok-eq0.field-0-test at c.in-Ok-eq0.ensures.bytes))
+
+pub returns-in-Err-clause-bytes : goal.returns-in-Err-clause-bytes
+returns-in-Err-clause-bytes g c = Appends-kept _ _ _ _ c.loop-taken.invariant.contents c.in-Err.ensures.bytes
