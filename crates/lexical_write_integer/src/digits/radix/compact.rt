@@ -2,6 +2,7 @@
 //! has examples.
 
 ghost use Rattle.std.specs.Prelude.{◌≡◌, ◌+◌, ◌/◌, ◌%◌, ◌<◌, ◌≤◌, ◌++◌, [], ◌∷◌, length, drop};
+ghost use Rattle.lexical_num.specs.Digit.{digit_char};
 ghost use Rattle.lexical_num.specs.Format.{IsRadix};
 ghost use Rattle.lexical_write_integer.specs.Buffer.{WritesDigits};
 ghost use Rattle.lexical_write_integer.specs.Digits.DigitCount.{digit_count};
@@ -10,6 +11,7 @@ ghost use Rattle.lexical_write_integer.specs.Digits.LoopTurns.{compact_notes, co
 
 use super::by_radix::by_radix;
 use crate::buffer::copy_to_front;
+use crate::digits::count::digit_count_counted;
 use crate::turns::Turns;
 use lexical_num::constants::FormattedSize;
 use lexical_num::digit::digit_to_char;
@@ -17,6 +19,19 @@ use lexical_num::num::UnsignedInteger;
 
 // The number of digits of the largest `u64` in radix 2.
 const MAX_DIGITS: usize = 64;
+
+// Returns the character of a digit in this radix. In radix 10 and below it is computed.
+fn char_of<const RADIX: u32>(digit: u32) -> u8
+    requires radix { IsRadix RADIX }
+    requires digit { digit < RADIX }
+    ensures { result ≡ digit_char digit }
+{
+    if RADIX <= 10 {
+        b'0' + digit as u8
+    } else {
+        digit_to_char(digit)
+    }
+}
 
 // Writes the digits of a number to the end of the buffer, the last digit first, and returns the index
 // of the first digit.
@@ -34,23 +49,41 @@ fn write_to_end<const RADIX: u32>(value: u64, buffer: &mut [u8], turns: &mut Tur
         let left = rest / radix;
         turns.tick(left);
         index -= 1;
-        buffer[index] = digit_to_char((rest % radix) as u32);
+        buffer[index] = char_of::<RADIX>((rest % radix) as u32);
         rest = left;
     }
     index -= 1;
-    buffer[index] = digit_to_char(rest as u32);
+    buffer[index] = char_of::<RADIX>(rest as u32);
     index
 }
 
-// Calls `write_to_end` for a radix that is known only at run time.
-fn write_to_end_in(value: u64, radix: u32, buffer: &mut [u8], turns: &mut Turns) -> usize
+// Writes the digits of a number to the start of the buffer, and returns how many there are.
+fn write_in_radix<const RADIX: u32>(value: u64, buffer: &mut [u8], turns: &mut Turns) -> usize
+    requires radix { IsRadix RADIX }
+    requires room { digit_count RADIX value ≤ length buffer.old }
+    ensures digits { WritesDigits RADIX value buffer.old buffer.new result }
+    ensures notes { turns.new ≡ turns.old ++ compact_notes RADIX value }
+{
+    // In these radices the digits are counted without a loop or a table, so they go to the buffer itself.
+    if RADIX == 2 || RADIX == 4 || RADIX == 8 || RADIX == 16 || RADIX == 32 {
+        let count = digit_count_counted(value, RADIX, turns);
+        write_to_end::<RADIX>(value, &mut buffer[..count], turns);
+        return count;
+    }
+    // The last digit is computed first, so the digits go to a temporary array.
+    let mut digits = [0u8; MAX_DIGITS];
+    let index = write_to_end::<RADIX>(value, &mut digits, turns);
+    copy_to_front(&digits[index..], buffer)
+}
+
+// Calls `write_in_radix` for a radix that is known only at run time.
+fn write_in(value: u64, radix: u32, buffer: &mut [u8], turns: &mut Turns) -> usize
     requires radix { IsRadix radix }
     requires room { digit_count radix value ≤ length buffer.old }
-    ensures place { result + digit_count radix value ≡ length buffer.old }
-    ensures digits { IsDigits radix value (drop result buffer.new) }
+    ensures digits { WritesDigits radix value buffer.old buffer.new result }
     ensures notes { turns.new ≡ turns.old ++ compact_notes radix value }
 {
-    by_radix!(radix, write_to_end(value, buffer, turns))
+    by_radix!(radix, write_in_radix(value, buffer, turns))
 }
 
 /// Writes the digits of the number to the start of the buffer, and returns how many there are. The radix is
@@ -70,10 +103,7 @@ pub fn compact_counted<T: UnsignedInteger>(
     ensures short { result ≤ T.BITS }
 {
     value.fits_bits();
-    // The last digit is computed first, so the digits go to a temporary array.
-    let mut digits = [0u8; MAX_DIGITS];
-    let index = write_to_end_in(value.as_usize() as u64, radix, &mut digits, turns);
-    copy_to_front(&digits[index..], buffer)
+    write_in(value.as_usize() as u64, radix, buffer, turns)
 }
 
 /// An unsigned integer type whose digits are written by the compact writer.

@@ -48,7 +48,7 @@ loop-rest-preserved g c =
     record {
       within = omega arith;
       written = rw order at (IsWrittenBack-more two (long g c') left
-          (IsWrittenBack-at place c.loop-rest.invariant.written) (rw (← c.digit_to_char.ensures) at (block g c')));
+          (IsWrittenBack-at place c.loop-rest.invariant.written) (rw (← c.char_of.ensures) at (block g c')));
       divided = rw turn at (IsDivided-more two c.loop-rest.invariant.divided (long g c') left c.tick.ensures);
     }
 
@@ -68,7 +68,7 @@ returns-clause-digits g c =
     IsDigits-block g.row.RADIX c.args.value (1 + (length c.args.buffer.now - c.loop-rest.index)) (c.loop-rest.index - 1) _ _ two
     (omega (arith, counts, single g c')) (omega (arith, place))
     (IsWrittenBack-last (IsWrittenBack-at place c.loop-rest.invariant.written)
-    (rw c.digit_to_char-2.ensures
+    (rw c.char_of-2.ensures
     (WritesBlock-one g.row.RADIX c.loop-rest.rest (c.loop-rest.index - 1) c.loop-rest.buffer (omega arith) (omega (arith, place)))))
 
 pub returns-clause-notes : goal.returns-clause-notes
