@@ -11,6 +11,7 @@ mod by_radix;
 pub mod compact;
 mod table_writer;
 
+use crate::digits::decimal::jeaiii::write_decimal;
 use crate::turns::Turns;
 use by_radix::by_radix;
 use lexical_num::num::UnsignedInteger;
@@ -57,7 +58,8 @@ pub(crate) fn radix_counted<T: UnsignedInteger>(
     by_radix!(radix, write_by_table::<T>(value, buffer, turns))
 }
 
-/// An unsigned integer type whose digits are written by the table writer.
+/// An unsigned integer type whose digits are written in every radix: by the decimal writer in radix 10, and
+/// otherwise by the table writer.
 pub trait Radix: UnsignedInteger {
     /// Writes the digits of the number to the start of the buffer, and returns how many there are. The radix
     /// is from 2 to 36, and the buffer has room for the digits. `identifier` in
@@ -69,7 +71,11 @@ pub trait Radix: UnsignedInteger {
         ensures short { result ≤ Self.BITS }
     {
         self.fits_bits();
-        radix_counted(self, radix, buffer, &mut Turns::new())
+        if radix == 10 {
+            write_decimal(self, buffer)
+        } else {
+            radix_counted(self, radix, buffer, &mut Turns::new())
+        }
     }
 }
 

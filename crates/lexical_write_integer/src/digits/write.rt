@@ -70,10 +70,11 @@ pub trait WriteInteger: Decimal + Radix {
         ensures digits { WritesDigits radix (Self.magnitude self) buffer.old buffer.new result }
         ensures short { result ≤ Self.BITS }
     {
+        self.fits_bits();
         if radix == 10 {
             self.decimal_signed(buffer)
         } else {
-            self.radix(radix, buffer)
+            radix_counted(self, radix, buffer, &mut Turns::new())
         }
     }
 

@@ -21,6 +21,7 @@ pub use super::kernels::{
     fixed_2, fixed_4, fixed_6, fixed_8_nine, fixed_8_ten, fixed_8_wide, next2,
 };
 use crate::turns::Turns;
+use lexical_num::num::UnsignedInteger;
 
 // Writes the digits of a number of up to 32 bits.
 fn write_32(n: u32, buffer: &mut [u8], turns: &mut Turns) -> usize
@@ -61,6 +62,20 @@ fn write_64(n: u64, buffer: &mut [u8], turns: &mut Turns) -> usize
         let front = write_32((n / 10_000_000_000) as u32, buffer, turns);
         write_last_ten(n, front, buffer, turns);
         front + 10
+    }
+}
+
+/// Writes the digits of a number of any type to the start of the buffer, and returns how many there are. The
+/// buffer has room for the digits.
+pub(crate) fn write_decimal<T: UnsignedInteger>(value: T, buffer: &mut [u8]) -> usize
+    requires { digit_count 10 (T.magnitude value) ≤ length buffer.old }
+    ensures { WritesDigits 10 (T.magnitude value) buffer.old buffer.new result }
+{
+    value.fits_bits();
+    if T::BITS <= 32 {
+        write_32(value.as_u32(), buffer, &mut Turns::new())
+    } else {
+        write_64(value.as_usize() as u64, buffer, &mut Turns::new())
     }
 }
 

@@ -2,8 +2,16 @@ use Rattle.std.proofs.Common.{arith}
 use Rattle.lexical_write_integer.proofs.OfDigits.Count.DigitCounts.{digit_count-le_width}
 use Rattle.lexical_write_integer.proofs.digits.radix.Radix.radix.Goals as goal
 
-pub returns-clause-short : goal.returns-clause-short
-returns-clause-short g c =
+pub returns-then-radix-eq10-clause-short : goal.returns-then-radix-eq10-clause-short
+returns-then-radix-eq10-clause-short g c =
+    omega (
+      arith,
+      c.write_decimal.ensures.count,
+      digit_count-le_width 10 _ _ (omega arith) g.met.Self.UnsignedInteger.range.width c.fits_bits.ensures,
+    )
+
+pub returns-else-radix-eq10-clause-short : goal.returns-else-radix-eq10-clause-short
+returns-else-radix-eq10-clause-short g c =
     omega (
       arith,
       c.radix_counted.ensures.digits.count,
