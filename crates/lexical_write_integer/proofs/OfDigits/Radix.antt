@@ -1,3 +1,4 @@
 -- The loops that divide by a power of the radix, and the tables of digit pairs.
+pub mod FourDigits
 pub mod Loops
 pub mod TablePairs

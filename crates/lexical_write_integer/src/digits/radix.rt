@@ -16,10 +16,10 @@ use crate::turns::Turns;
 use by_radix::by_radix;
 use lexical_num::num::UnsignedInteger;
 use lexical_tables::get_table;
-use table_writer::{write_digits, write_short};
+use table_writer::{write_byte, write_digits, write_short};
 
-// Writes a number in the radix `R`, with the table of that radix. A byte has at most two digits in radix 16
-// and above, and a number below 1024 has at most two digits above radix 32.
+// Writes a number in the radix `R`, with the table of that radix. A number below 1024 has at most two digits
+// above radix 32.
 fn write_by_table<T: UnsignedInteger, const R: u32>(
     value: T,
     buffer: &mut [u8],
@@ -33,8 +33,8 @@ fn write_by_table<T: UnsignedInteger, const R: u32>(
     value.fits_bits();
     let number = value.as_usize() as u64;
     let table = get_table(R);
-    if T::BITS == 8 && R >= 16 {
-        return write_short(number as u32, R, table, buffer, turns);
+    if T::BITS == 8 {
+        return write_byte::<R>(number, table, buffer, turns);
     }
     if R > 32 && number < 1024 {
         return write_short(number as u32, R, table, buffer, turns);

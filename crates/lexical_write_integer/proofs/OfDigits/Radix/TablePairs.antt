@@ -22,7 +22,7 @@ begins_in_arm {table = table} t is = subst (λ k. BeginsWithPairs k table) is t
 pub length-table : (r : ℕ) (table : List ℕ) → BeginsWithPairs r table → 2 * (r * r) ≤ length table
 length-table r table t = omega (arith, length-pairs r, ap length t.first, length-take (2 * (r * r)) table)
 
-pair_first : (r index : ℕ) (table : List ℕ)
+pub pair_first : (r index : ℕ) (table : List ℕ)
     → BeginsWithPairs r table → index % 2 ≡ 0 → index / 2 < r * r → get_or table index 0 ≡ digit_char (index / 2 / r)
 pair_first r index table t even within =
     let twice : 2 * (index / 2) ≡ index = omega arith in
@@ -70,3 +70,10 @@ pub WritesBlock-pairs : (r n square : ℕ) {at : ℕ} {before between after : Li
 WritesBlock-pairs r n square is last first =
     let whole : n / square * r ^ 2 + n % square ≡ n = rw (pow-two, ← is) (div-add-mod' n square) in
     rw whole at (WritesBlock-front (rw half at last) (rw half at first))
+
+-- the two characters of a pair
+pub first_digit : (r k : ℕ) (table : List ℕ) → BeginsWithPairs r table → k < r * r → get_or table (2 * k) 0 ≡ digit_char (k / r)
+first_digit r k table t small = rw half at (pair_first r (2 * k) table t (omega arith) (rw half small))
+
+pub second_digit : (r k : ℕ) (table : List ℕ) → BeginsWithPairs r table → k < r * r → get_or table (2 * k + 1) 0 ≡ digit_char (k % r)
+second_digit r k table t small = rw half at (pair_second r (2 * k) table t (omega arith) (rw half small))

@@ -7,7 +7,7 @@ ghost use Rattle.lexical_num.specs.Format.{IsRadix};
 ghost use Rattle.lexical_write_integer.specs.Buffer.{WritesBlock, WritesDigits};
 ghost use Rattle.lexical_write_integer.specs.Digits.DigitCount.{digit_count};
 ghost use Rattle.lexical_write_integer.specs.Digits.Table.{BeginsWithPairs};
-ghost use Rattle.lexical_write_integer.specs.Digits.LoopTurns.{TakesDigits, count_notes, table_notes};
+ghost use Rattle.lexical_write_integer.specs.Digits.LoopTurns.{TakesDigits, count_notes, loop_notes, table_notes};
 ghost use Rattle.lexical_write_integer.specs.Digits.LoopTurns.{digits_after_first, is_counted_at_once};
 
 use super::by_radix::by_radix;
@@ -15,16 +15,26 @@ use crate::digits::count::digit_count_counted;
 use crate::turns::Turns;
 
 // A table that begins with the digit pairs of the radix `R`.
-#[derive(Drop)]
+#[derive(Clone, Copy, Drop)]
 struct RadixTable<'a, const R: u32> {
     pairs: &'a [u8],
     ghost is_radix: { IsRadix R },
     ghost begins: { BeginsWithPairs R pairs.now },
 }
 
+// The quotients of a number of 64 bits in radix 3, the smallest radix whose digits are counted by division.
+const MAX_QUOTIENTS: usize = 10;
+
+// Returns whether digits are counted without division in the radix, from the highest set bit or a table.
+fn counts_at_once(radix: u32) -> bool
+    ensures { result ≡ is_counted_at_once radix }
+{
+    radix == 2 || radix == 4 || radix == 8 || radix == 10 || radix == 16 || radix == 32
+}
+
 // Copies the pair at `index` of the table to index `at` of the buffer. The pair has the two digits of the
 // number `index / 2`.
-fn write_pair<const R: u32>(index: usize, table: &RadixTable<'_, R>, buffer: &mut [u8], at: usize)
+fn write_pair<const R: u32>(index: usize, table: RadixTable<'_, R>, buffer: &mut [u8], at: usize)
     requires even { index % 2 ≡ 0 }
     requires pair { index / 2 < R * R }
     requires room { at + 2 ≤ length buffer.old }
@@ -36,26 +46,23 @@ fn write_pair<const R: u32>(index: usize, table: &RadixTable<'_, R>, buffer: &mu
     buffer[at] = first;
 }
 
-// Writes the last four digits of a number at index `at`, as two pairs. Records `left`, which is the number
-// without those digits.
+// Writes the last four digits of a number at index `at`, as two pairs. `left` is the number without those
+// digits.
 fn write_last_four<const R: u32>(
     number: u64,
     left: u64,
-    table: &RadixTable<'_, R>,
+    table: RadixTable<'_, R>,
     buffer: &mut [u8],
     at: usize,
-    turns: &mut Turns,
 )
     requires left { left ≡ number / R ^ 4 }
     requires room { at + 4 ≤ length buffer.old }
-    ensures written { WritesBlock R 4 (number % R ^ 4) at buffer.old buffer.new }
-    ensures notes { turns.new ≡ turns.old ++ left ∷ [] }
+    ensures { WritesBlock R 4 (number % R ^ 4) at buffer.old buffer.new }
 {
     let square = R * R;
     let digits = (number - left * u64::from(square * square)) as u32;
     write_pair(2 * (digits % square) as usize, table, buffer, at + 2);
     write_pair(2 * (digits / square) as usize, table, buffer, at);
-    turns.tick(left);
 }
 
 // If a number of up to four digits has more than two, removes the last two digits and records the quotient.
@@ -117,7 +124,7 @@ fn save_quotients<const R: u32>(value: u64, kept: &mut [u64], turns: &mut Turns)
 fn write_from_quotients<const R: u32>(
     value: u64,
     kept: &[u64],
-    table: &RadixTable<'_, R>,
+    table: RadixTable<'_, R>,
     buffer: &mut [u8],
     turns: &mut Turns,
 )
@@ -132,8 +139,9 @@ fn write_from_quotients<const R: u32>(
     let mut left = value;
     let mut at = buffer.len();
     for next in kept {
+        turns.tick(*next);
         at -= 4;
-        write_last_four(left, *next, table, buffer, at, turns);
+        write_last_four(left, *next, table, buffer, at);
         left = *next;
     }
 }
@@ -157,12 +165,12 @@ fn write_one_or_two(number: u32, digits: usize, radix: u32, table: &[u8], buffer
     buffer[0] = front;
 }
 
-// Writes the one to four digits of a number to the start of the buffer: first the last two, and then the one
-// or two before them. A number of at most two digits is written twice instead, which avoids a branch.
+// Writes the one to four digits of a number to the start of the buffer: four characters, each at its index or,
+// if it is a leading zero, at an index that a later one takes. This avoids branches.
 fn write_up_to_four<const R: u32>(
     number: u32,
     digits: usize,
-    table: &RadixTable<'_, R>,
+    table: RadixTable<'_, R>,
     buffer: &mut [u8],
     turns: &mut Turns,
 )
@@ -170,34 +178,37 @@ fn write_up_to_four<const R: u32>(
     requires digits { digits ≡ digit_count R number }
     requires room { digits ≤ length buffer.old }
     ensures written { WritesBlock R digits number 0 buffer.old buffer.new }
-    ensures taken { (taken left : ℕ) × TakesDigits R number 2 taken left turns.old turns.new }
+    ensures notes { turns.new ≡ turns.old ++ loop_notes R number }
 {
-    let (left, taken) = take_two_digits::<R>(number, turns);
-    let index = 2 * (number % (R * R)) as usize;
-    let first = table.pairs[index];
-    let second = table.pairs[index + 1];
-    buffer[digits - 1] = second;
-    buffer[digits.saturating_sub(2)] = first;
-    write_one_or_two(left, digits - taken, R, table.pairs, buffer);
+    let square = R * R;
+    let left = number / square;
+    if left > 0 {
+        turns.tick(u64::from(left));
+    }
+    let first = 2 * left as usize;
+    let last = 2 * (number % square) as usize;
+    buffer[0] = table.pairs[first];
+    buffer[digits / 4] = table.pairs[first + 1];
+    buffer[digits.saturating_sub(2)] = table.pairs[last];
+    buffer[digits - 1] = table.pairs[last + 1];
 }
 
 // Writes a number whose digits are counted by division. The loop that counts them saves its quotients, at most
-// `QUOTIENTS`, so that the digits are written without the same divisions.
+// ten, so that the digits are written without the same divisions.
 #[tactic(auto, using(crate::proofs::OfDigits::Count::RadixPowers::steps))]
-fn write_by_divisions<const R: u32, const QUOTIENTS: usize>(
+fn write_by_divisions<const R: u32>(
     value: u64,
-    table: &RadixTable<'_, R>,
+    table: RadixTable<'_, R>,
     buffer: &mut [u8],
     turns: &mut Turns,
 ) -> usize
+    requires three { 3 ≤ R }
     requires by_turns { is_counted_at_once R ≡ false }
-    requires few { QUOTIENTS ≤ 16 }
-    requires enough { value < R ^ (4 * (QUOTIENTS + 1)) }
     requires room { digit_count R value ≤ length buffer.old }
     ensures digits { WritesDigits R value buffer.old buffer.new result }
     ensures notes { turns.new ≡ turns.old ++ table_notes R value }
 {
-    let mut kept = [0; QUOTIENTS];
+    let mut kept = [0; MAX_QUOTIENTS];
     let (left, fours) = save_quotients::<R>(value, &mut kept, turns);
     let (short, by_two) = take_two_digits::<R>(left, turns);
     let head = 1 + by_two + take_last_digit(short, R, turns);
@@ -212,7 +223,7 @@ fn write_by_divisions<const R: u32, const QUOTIENTS: usize>(
 // then the others.
 fn write_after_count<const R: u32>(
     value: u64,
-    table: &RadixTable<'_, R>,
+    table: RadixTable<'_, R>,
     buffer: &mut [u8],
     turns: &mut Turns,
 ) -> usize
@@ -227,17 +238,149 @@ fn write_after_count<const R: u32>(
     let mut at = count;
     while at > 4 {
         let next = left / power;
+        turns.tick(next);
         at -= 4;
-        write_last_four(left, next, table, buffer, at, turns);
+        write_last_four(left, next, table, buffer, at);
         left = next;
     }
     write_up_to_four(left as u32, at, table, buffer, turns);
     count
 }
 
-// Writes a number in the radix `R`, with a table that begins with the digit pairs of that radix. A number of
-// up to eight digits has at most one quotient to save. A number of 64 bits has at most ten in radix 3, which is
-// the smallest radix whose digits are counted by division, and at most three in radix 17 and above.
+// Returns how many digits a number of up to four digits has.
+fn count_up_to_four<const R: u32>(number: u32, turns: &mut Turns) -> usize
+    requires radix { IsRadix R }
+    requires short { number < R ^ 4 }
+    ensures count { result ≡ digit_count R number }
+    ensures notes { turns.new ≡ turns.old ++ count_notes R number }
+{
+    if counts_at_once(R) {
+        return digit_count_counted(number, R, turns);
+    }
+    let (short, by_two) = take_two_digits::<R>(number, turns);
+    1 + by_two + take_last_digit(short, R, turns)
+}
+
+// Writes a number of five to eight digits, of which at most one quotient is needed.
+fn write_five_to_eight<const R: u32>(
+    value: u64,
+    left: u32,
+    table: RadixTable<'_, R>,
+    buffer: &mut [u8],
+    turns: &mut Turns,
+) -> usize
+    requires long { R ^ 4 ≤ value }
+    requires short { left < R ^ 4 }
+    requires left { left ≡ value / R ^ 4 }
+    requires room { digit_count R value ≤ length buffer.old }
+    ensures digits { WritesDigits R value buffer.old buffer.new result }
+    ensures notes { turns.new ≡ turns.old ++ table_notes R value }
+{
+    if !counts_at_once(R) {
+        turns.tick(u64::from(left));
+    }
+    let head = count_up_to_four::<R>(left, turns);
+    turns.tick(u64::from(left));
+    write_up_to_four(left, head, table, buffer, turns);
+    write_last_four(value, u64::from(left), table, buffer, head);
+    head + 4
+}
+
+// Writes a number of up to eight digits. `BYTE` chooses the writer of one or two digits, for numbers below 256.
+fn write_up_to_eight<const R: u32, const BYTE: bool>(
+    value: u64,
+    table: RadixTable<'_, R>,
+    buffer: &mut [u8],
+    turns: &mut Turns,
+) -> usize
+    requires short { value < R ^ 8 }
+    requires room { digit_count R value ≤ length buffer.old }
+    ensures digits { WritesDigits R value buffer.old buffer.new result }
+    ensures notes { turns.new ≡ turns.old ++ table_notes R value }
+{
+    let square = R * R;
+    let power = square * square;
+    if value >= u64::from(power) {
+        let left = if R < 16 {
+            value as u32 / power
+        } else {
+            (value / u64::from(power)) as u32
+        };
+        return write_five_to_eight(value, left, table, buffer, turns);
+    }
+    let number = value as u32;
+    if BYTE && number < square {
+        return write_short(number, R, table.pairs, buffer, turns);
+    }
+    let count = count_up_to_four::<R>(number, turns);
+    write_up_to_four(number, count, table, buffer, turns);
+    count
+}
+
+// Writes a number of more than eight digits whose radix is above 16, so that it has at most three quotients.
+fn write_by_three_quotients<const R: u32>(
+    value: u64,
+    table: RadixTable<'_, R>,
+    buffer: &mut [u8],
+    turns: &mut Turns,
+) -> usize
+    requires large { 16 < R }
+    requires by_turns { is_counted_at_once R ≡ false }
+    requires long { R ^ 8 ≤ value }
+    requires room { digit_count R value ≤ length buffer.old }
+    ensures digits { WritesDigits R value buffer.old buffer.new result }
+    ensures notes { turns.new ≡ turns.old ++ table_notes R value }
+{
+    let square = R * R;
+    let power = u64::from(square * square);
+    let first = value / power;
+    turns.tick(first);
+    let second = first / power;
+    turns.tick(second);
+    if second < power {
+        let head = count_up_to_four::<R>(second as u32, turns);
+        turns.tick(first);
+        turns.tick(second);
+        write_up_to_four(second as u32, head, table, buffer, turns);
+        write_last_four(first, second, table, buffer, head);
+        write_last_four(value, first, table, buffer, head + 4);
+        return head + 8;
+    }
+    let third = second / power;
+    turns.tick(third);
+    let head = count_up_to_four::<R>(third as u32, turns);
+    turns.tick(first);
+    turns.tick(second);
+    turns.tick(third);
+    write_up_to_four(third as u32, head, table, buffer, turns);
+    write_last_four(second, third, table, buffer, head);
+    write_last_four(first, second, table, buffer, head + 4);
+    write_last_four(value, first, table, buffer, head + 8);
+    head + 12
+}
+
+// Writes a number of more than eight digits.
+fn write_long<const R: u32>(
+    value: u64,
+    table: RadixTable<'_, R>,
+    buffer: &mut [u8],
+    turns: &mut Turns,
+) -> usize
+    requires long { R ^ 8 ≤ value }
+    requires room { digit_count R value ≤ length buffer.old }
+    ensures digits { WritesDigits R value buffer.old buffer.new result }
+    ensures notes { turns.new ≡ turns.old ++ table_notes R value }
+{
+    if counts_at_once(R) {
+        write_after_count(value, table, buffer, turns)
+    } else if R > 16 {
+        write_by_three_quotients(value, table, buffer, turns)
+    } else {
+        write_by_divisions(value, table, buffer, turns)
+    }
+}
+
+// Writes a number in the radix `R`, with a table that begins with the digit pairs of that radix.
 pub(crate) fn write_digits<const R: u32>(
     value: u64,
     table: &[u8],
@@ -251,18 +394,31 @@ pub(crate) fn write_digits<const R: u32>(
     ensures notes { turns.new ≡ turns.old ++ table_notes R value }
 {
     let table = RadixTable::<R> { pairs: table };
-    if R == 2 || R == 4 || R == 8 || R == 10 || R == 16 || R == 32 {
-        return write_after_count(value, &table, buffer, turns);
-    }
     let square = u64::from(R * R);
     let power = square * square;
     if value < power * power {
-        write_by_divisions::<R, 1>(value, &table, buffer, turns)
-    } else if R > 16 {
-        write_by_divisions::<R, 3>(value, &table, buffer, turns)
+        write_up_to_eight::<R, false>(value, table, buffer, turns)
     } else {
-        write_by_divisions::<R, 10>(value, &table, buffer, turns)
+        write_long(value, table, buffer, turns)
     }
+}
+
+// Does what `write_digits` does, for a number below 256, which has at most eight digits.
+pub(crate) fn write_byte<const R: u32>(
+    value: u64,
+    table: &[u8],
+    buffer: &mut [u8],
+    turns: &mut Turns,
+) -> usize
+    requires radix { IsRadix R }
+    requires byte { value < 2 ^ 8 }
+    requires table { BeginsWithPairs R table.now }
+    requires room { digit_count R value ≤ length buffer.old }
+    ensures digits { WritesDigits R value buffer.old buffer.new result }
+    ensures notes { turns.new ≡ turns.old ++ table_notes R value }
+{
+    let table = RadixTable::<R> { pairs: table };
+    write_up_to_eight::<R, true>(value, table, buffer, turns)
 }
 
 // Calls `write_digits` for a radix that is known only at run time.
@@ -282,22 +438,20 @@ pub(crate) fn write_digits_in(
     by_radix!(radix, write_digits(number, table, buffer, turns))
 }
 
-// Returns how many digits a number of one or two digits has, in radix 16 and above. They are counted by
-// division, except in radix 16 and 32.
+// Returns how many digits a number of one or two digits has.
 fn count_short(value: u32, radix: u32, turns: &mut Turns) -> usize
     requires radix { IsRadix radix }
-    requires great { 16 ≤ radix }
     requires short { value < radix ^ 2 }
     ensures count { result ≡ digit_count radix value }
     ensures notes { turns.new ≡ turns.old ++ count_notes radix value }
 {
-    if radix == 16 || radix == 32 {
+    if counts_at_once(radix) {
         return if value < radix { 1 } else { 2 };
     }
     1 + take_last_digit(value, radix, turns)
 }
 
-// Writes a number of one or two digits, in radix 16 and above.
+// Writes a number of one or two digits.
 pub(crate) fn write_short(
     value: u32,
     radix: u32,
@@ -306,7 +460,6 @@ pub(crate) fn write_short(
     turns: &mut Turns,
 ) -> usize
     requires radix { IsRadix radix }
-    requires great { 16 ≤ radix }
     requires short { value < radix ^ 2 }
     requires table { BeginsWithPairs radix table.now }
     requires room { digit_count radix value ≤ length buffer.old }

@@ -1,5 +1,5 @@
 -- The loops that divide a number by a power of the radix: their invariant, and the quotients that they record.
-use Rattle.std.proofs.Common.{◌≡◌, ℕ, ◌+◌, ◌-◌, ◌*◌, ◌/◌, ◌^◌, ◌<◌, ◌≤◌, List, [], ◌∷◌, ◌++◌, length, refl, sym, ap, ◌∙◌, arith, append_assoc}
+use Rattle.std.proofs.Common.{◌≡◌, ℕ, zero, suc, ◌+◌, ◌-◌, ◌*◌, ◌/◌, ◌^◌, ◌<◌, ◌≤◌, List, [], ◌∷◌, ◌++◌, length, refl, sym, ap, ◌∙◌, arith, append_assoc}
 use Rattle.std.proofs.Math.Nat.{pow-zero, div-lt_self, div-one, mul-div-le}
 use Rattle.std.proofs.lemmas.List.{append-nil}
 use Rattle.std.proofs.lemmas.List.FromFn.{map-range_with_len_more, length-map-range_with_len}
@@ -19,6 +19,24 @@ quotients-none r n step = refl
 pub quotients-more : (r n step count : ℕ) → quotients r n step (count + 1) ≡ quotients r n step count ++ n / r ^ (step * (count + 1)) ∷ []
 unfolding quotients
 quotients-more r n step count = map-range_with_len_more (λ turn. n / r ^ (step * turn)) 1 count (count + 1) (omega arith)
+
+-- the first quotient, and then those of the number that remains
+pub quotients-first : (r n step count : ℕ) → quotients r n step (count + 1) ≡ n / r ^ step ∷ quotients r (n / r ^ step) step count
+quotients-first r n step zero =
+    let once : step * (0 + 1) ≡ step = omega arith in
+    quotients-more r n step 0
+    ∙ ap (λ ys. ys ++ n / r ^ (step * (0 + 1)) ∷ []) (quotients-none r n step)
+    ∙ ap (λ k. n / r ^ k ∷ []) once
+    ∙ ap (λ ys. n / r ^ step ∷ ys) (sym (quotients-none r (n / r ^ step) step))
+quotients-first r n step (suc count) =
+    let order : step * (count + 1) + step ≡ step * (suc count + 1) = grind arith in
+    let turn : suc count ≡ count + 1 = omega arith in
+    let last : n / r ^ (step * (suc count + 1)) ≡ n / r ^ step / r ^ (step * (count + 1)) =
+    sym (div-pow_more r n (step * (count + 1)) step ∙ ap (λ k. n / r ^ k) order) in
+    quotients-more r n step (suc count)
+    ∙ ap (λ k. k ++ n / r ^ (step * (suc count + 1)) ∷ []) (ap (quotients r n step) turn ∙ quotients-first r n step count)
+    ∙ ap (λ k. n / r ^ step ∷ (quotients r (n / r ^ step) step count ++ k ∷ [])) last
+    ∙ ap (λ ys. n / r ^ step ∷ ys) (sym (ap (quotients r (n / r ^ step) step) turn ∙ quotients-more r (n / r ^ step) step count))
 
 pub length-quotients : (r n step count : ℕ) → length (quotients r n step count) ≡ count
 unfolding quotients

@@ -6,12 +6,13 @@ use Rattle.std.proofs.lemmas.List.{append-nil}
 use Rattle.std.proofs.lemmas.Bool.{cond_both, ltb-true, ltb-false, eqb-true, eqb-false, or_from, ne_eqb, cases_eq}
 use Rattle.lexical_num.specs.BitWidth.{IsBitWidth}
 use Rattle.lexical_write_integer.specs.Digits.DigitCount.{digit_count}
+use Rattle.lexical_write_integer.specs.Digits.LoopTurns.{takes_four}
 use Rattle.lexical_write_integer.specs.Digits.LoopTurns.{TakesDigits, digits_after_first, quotients, loop_notes, slow_notes, count_notes}
 use Rattle.lexical_write_integer.specs.Digits.LoopTurns.{table_notes, compact_notes, is_counted_at_once, loop_turns, slow_turns}
 use Rattle.lexical_write_integer.specs.Digits.LoopTurns.{count_turns, table_turns, compact_turns}
-use Rattle.lexical_write_integer.proofs.OfDigits.Count.DigitCounts.{digit_count-pos, digit_count-le, width-le_64}
+use Rattle.lexical_write_integer.proofs.OfDigits.Count.DigitCounts.{digit_count-pos, digit_count-le, digit_count-split, width-le_64}
 use Rattle.lexical_write_integer.proofs.OfDigits.Powers.{div-pow_more}
-use Rattle.lexical_write_integer.proofs.OfDigits.Radix.Loops.Divisions.{quotients-none, quotients-more, length-quotients, TakesDigits-counts}
+use Rattle.lexical_write_integer.proofs.OfDigits.Radix.Loops.Divisions.{TakesDigits-none, quotients-none, quotients-more, quotients-first, length-quotients, TakesDigits-counts}
 
 length-cond : (test : Bool) (xs ys : List ℕ) → length (cond test xs ys) ≡ cond test (length xs) (length ys)
 length-cond true xs ys = refl
@@ -49,6 +50,13 @@ unfolding loop_notes
 loop_notes-are {r} {n} {a = a} two t u =
     rw (u.notes, t.notes, two_notes two t) (append_assoc a (quotients r n 4 (digits_after_first r n / 4)) _)
 
+-- after the loop that divides by the fourth power, what is recorded for a number of at most four digits
+pub loop_notes-end : {r n four left : ℕ} {a b c : List ℕ}
+    → 2 ≤ r → TakesDigits r n 4 four left a b → left < r ^ 4 → c ≡ b ++ loop_notes r left → c ≡ a ++ loop_notes r n
+loop_notes-end {r} {left = left} {b = b} two t short noted =
+    let last : TakesDigits r left 2 _ _ b (b ++ quotients r left 2 (digits_after_first r left / 2)) = record { count = refl; rest = refl; notes = refl } in
+    noted ∙ sym (loop_notes-are two (TakesDigits-none two takes_four short) last) ∙ loop_notes-are two t last
+
 -- ---- the slow count, whose last loop removes single digits
 
 pub slow_count-is : {r n four left_four by_two left_two by_one left_one : ℕ} {a b c d : List ℕ}
@@ -83,6 +91,27 @@ unfolding slow_notes
 slow_notes-are {r} {n} {a = a} two t u v =
     rw (v.notes, loop_notes-are two t u, last_notes two t u) (append_assoc a (loop_notes r n) _)
 
+-- ---- a number of more than four digits: its first quotient, and then what is recorded for that quotient
+
+after_four : (r n : ℕ) → 2 ≤ r → r ^ 4 ≤ n → digits_after_first r n ≡ digits_after_first r (n / r ^ 4) + 4
+after_four r n two long = omega (arith, digit_count-split r 4 n two long, digit_count-pos r (n / r ^ 4))
+
+pub loop_notes-first : (r n : ℕ) → 2 ≤ r → r ^ 4 ≤ n → loop_notes r n ≡ n / r ^ 4 ∷ loop_notes r (n / r ^ 4)
+unfolding loop_notes
+loop_notes-first r n two long =
+    let b = digits_after_first r (n / r ^ 4) in
+    let turns : (b + 4) / 4 ≡ b / 4 + 1 = omega arith in
+    let more : (b + 4) % 4 ≡ b % 4 = omega arith in
+    let order : 4 * (b / 4) + 2 + 4 ≡ 4 * (b / 4 + 1) + 2 = omega arith in
+    rw (after_four r n two long, turns, more, quotients-first, ← order, ← div-pow_more) refl
+
+pub slow_notes-first : (r n : ℕ) → 2 ≤ r → r ^ 4 ≤ n → slow_notes r n ≡ n / r ^ 4 ∷ slow_notes r (n / r ^ 4)
+unfolding slow_notes
+slow_notes-first r n two long =
+    let split = digit_count-split r 4 n two long in
+    let even : (digit_count r (n / r ^ 4) + 4) % 2 ≡ digit_count r (n / r ^ 4) % 2 = omega arith in
+    rw (loop_notes-first r n two long, after_four r n two long, split, even, ← div-pow_more) refl
+
 -- ---- one digit per iteration
 
 pub compact_notes-are : {r n taken left : ℕ} {a b : List ℕ} → TakesDigits r n 1 taken left a b → b ≡ a ++ compact_notes r n
@@ -109,6 +138,30 @@ not_at_once r p2 p4 p8 p10 p16 p32 =
 pub table_notes-are : (r n : ℕ) (a b c : List ℕ) → b ≡ a ++ count_notes r n → c ≡ b ++ loop_notes r n → c ≡ a ++ table_notes r n
 unfolding table_notes
 table_notes-are r n a b c counted written = rw (written, counted) (append_assoc a (count_notes r n) (loop_notes r n))
+
+-- ---- a number of more than four digits, whose first quotient is recorded before what is recorded for that quotient
+
+after_first : (a b c : List ℕ) (q : ℕ) (notes : List ℕ) → b ≡ a ++ q ∷ [] → c ≡ b ++ notes → c ≡ a ++ q ∷ notes
+after_first a b c q notes noted following = rw (following, noted) (append_assoc a (q ∷ []) notes)
+
+pub loop_notes-after : (r n : ℕ) (a b c : List ℕ)
+    → 2 ≤ r → r ^ 4 ≤ n → b ≡ a ++ n / r ^ 4 ∷ [] → c ≡ b ++ loop_notes r (n / r ^ 4) → c ≡ a ++ loop_notes r n
+loop_notes-after r n a b c two long noted following =
+    rw (loop_notes-first r n two long) (after_first a b c (n / r ^ 4) (loop_notes r (n / r ^ 4)) noted following)
+
+pub count_notes-after : (r n : ℕ) (a b c : List ℕ)
+    → 2 ≤ r → r ^ 4 ≤ n → is_counted_at_once r ≡ false → b ≡ a ++ n / r ^ 4 ∷ [] → c ≡ b ++ count_notes r (n / r ^ 4)
+    → c ≡ a ++ count_notes r n
+unfolding count_notes
+count_notes-after r n a b c two long by_turns noted following =
+    let slow : c ≡ b ++ slow_notes r (n / r ^ 4) = rw by_turns at following in
+    rw (by_turns, slow_notes-first r n two long) (after_first a b c (n / r ^ 4) (slow_notes r (n / r ^ 4)) noted slow)
+
+pub count_notes-same : (r m n : ℕ) (a c : List ℕ) → is_counted_at_once r ≡ true → c ≡ a ++ count_notes r m → c ≡ a ++ count_notes r n
+unfolding count_notes
+count_notes-same r m n a c at_once noted =
+    let none : c ≡ a ++ [] = rw at_once at noted in
+    rw at_once none
 
 -- ---- how many quotients are recorded
 

@@ -1,8 +1,8 @@
 -- Numbers of one to four digits, which are written without a loop.
 use Rattle.std.proofs.Common.{◌≡◌, ℕ, ◌+◌, ◌-◌, ◌*◌, ◌/◌, ◌%◌, ◌^◌, ◌<◌, ◌≤◌, List, [], ◌∷◌, ◌++◌, length, drop, refl, sym, ◌∙◌, inl, inr, arith}
-use Rattle.std.proofs.Math.Nat.{pow-zero, div-one, pow-le-pow_right}
+use Rattle.std.proofs.Math.Nat.{pow-zero, div-one, div-eq_of_lt, pow-le-pow_right}
 use Rattle.std.proofs.lemmas.Bool.{cases_lt}
-use Rattle.std.proofs.lemmas.Nat.{pow-add, div_below}
+use Rattle.std.proofs.lemmas.Nat.{pow-add, div_below, le-div}
 use Rattle.lexical_write_integer.specs.Buffer.{WritesBlock, WritesDigits}
 use Rattle.lexical_write_integer.specs.Digits.DigitCount.{digit_count}
 use Rattle.lexical_write_integer.specs.Texts.Text.{IsDigits}
@@ -23,6 +23,19 @@ TakesDigits-once {r} {n} {step} {next} two stepped long short is noted =
     let some : 0 < r ^ step = omega (arith, power-gt_one r step two stepped) in
     let below : next < r ^ step = rw is (div_below n (r ^ step) (r ^ step) some (rw pow-add at short)) in
     TakesDigits-end two stepped (rw first at (IsDivided-more two IsDivided-start long is noted)) below
+
+-- a quotient is 0 if and only if the number is smaller than the divisor
+pub quotient-some : (k n : ℕ) → 0 < n / k → k ≤ n
+quotient-some k n some = elim (cases_lt n k) [
+  | inl less ↦ absurd (omega (arith, div-eq_of_lt less))
+  | inr more ↦ more
+]
+
+pub quotient-none : (k n : ℕ) → 0 < k → n / k ≤ 0 → n < k
+quotient-none k n pos none = elim (cases_lt n k) [
+  | inl less ↦ less
+  | inr more ↦ absurd (omega (arith, le-div 1 n k pos (omega arith)))
+]
 
 -- digits that were written before are written over
 pub WritesBlock-over : {r count n : ℕ} {before between after : List ℕ}

@@ -6,7 +6,7 @@ use Rattle.lexical_write_integer.proofs.Buffers.BlocksAfter.{WritesDigits-block}
 use Rattle.lexical_write_integer.proofs.OfDigits.Count.DigitCounts.{digit_count-left}
 use Rattle.lexical_write_integer.proofs.OfDigits.Radix.Loops.ShortNumbers.{few-fits, more-long}
 use Rattle.lexical_write_integer.proofs.OfDigits.Radix.Loops.Divisions.{IsDivided-start, IsDivided-more, TakesDigits-end}
-use Rattle.lexical_write_integer.proofs.OfDigits.Radix.Loops.Records.{loop_notes-are, table_notes-are}
+use Rattle.lexical_write_integer.proofs.OfDigits.Radix.Loops.Records.{loop_notes-end, table_notes-are}
 use Rattle.lexical_write_integer.proofs.OfDigits.Count.RadixPowers.{power-small}
 use Rattle.lexical_write_integer.proofs.OfDigits.Powers.{pow-four}
 use Rattle.lexical_write_integer.proofs.digits.radix.table_writer.write_after_count.Goals as goal
@@ -34,7 +34,7 @@ write_last_four-requires g c = (
 
 pub loop-at-preserved : goal.loop-at-preserved
 loop-at-preserved g c =
-    let two = c.args.table.now.is_radix.at_least_two in
+    let two = c.args.table.is_radix.at_least_two in
     let count = c.digit_count_counted-count.result in
     let taken = count - c.loop-at.at in
     let divided = c.loop-at.invariant.divided in
@@ -46,8 +46,8 @@ loop-at-preserved g c =
     let order : 4 + taken ≡ count - (c.loop-at.at - 4) = omega (arith, c.loop-at-test.true, c.loop-at.invariant.within) in
     let place : c.loop-at.at ≡ c.loop-at.at - 4 + 4 = omega (arith, c.loop-at-test.true) in
     record {
-      divided = rw turn at (IsDivided-more two divided long next c.write_last_four.ensures.notes);
-      written = rw order at (IsWrittenBack-more two long next (IsWrittenBack-at place c.loop-at.invariant.written) c.write_last_four.ensures.written);
+      divided = rw turn at (IsDivided-more two divided long next c.tick.ensures);
+      written = rw order at (IsWrittenBack-more two long next (IsWrittenBack-at place c.loop-at.invariant.written) c.write_last_four.ensures);
       within = omega (arith, c.loop-at.invariant.within);
       room = c.write_last_four.auto.buffer ∙ c.loop-at.invariant.room;
     }
@@ -55,18 +55,18 @@ loop-at-preserved g c =
 -- the remaining digits, at most four
 count_left : (g : _) (c : After-loop-at g) → c.loop-at.at ≡ digit_count g.row.R c.loop-at.left
 count_left g c =
-    let two = c.args.table.now.is_radix.at_least_two in
+    let two = c.args.table.is_radix.at_least_two in
     let divided = c.loop-at.invariant.divided in
     let taken = c.digit_count_counted-count.result - c.loop-at.at in
     let counts = digit_count-left g.row.R c.args.value taken c.loop-at.left two divided.fewer divided.rest in
     omega (arith, c.digit_count_counted-count.ensures.count, c.loop-at.invariant.within, counts)
 
 short : (g : _) (c : After-loop-at g) → c.loop-at.left < g.row.R ^ 4
-short g c = few-fits g.row.R c.loop-at.left c.args.table.now.is_radix.at_least_two (omega (arith, count_left g c))
+short g c = few-fits g.row.R c.loop-at.left c.args.table.is_radix.at_least_two (omega (arith, count_left g c))
 
 pub overflow_cast-left : goal.overflow_cast-left
 overflow_cast-left g c =
-    omega (arith, short g (goal.at.overflow_cast-left g c).After-loop-at, power-small g.row.R 4 c.args.table.now.is_radix.at_most_36 takes_four)
+    omega (arith, short g (goal.at.overflow_cast-left g c).After-loop-at, power-small g.row.R 4 c.args.table.is_radix.at_most_36 takes_four)
 
 pub write_up_to_four-requires : goal.write_up_to_four-requires
 write_up_to_four-requires g c =
@@ -88,11 +88,12 @@ returns-clause-digits g c =
     let whole : c.loop-at.at + (count - c.loop-at.at) ≡ count = omega (arith, c.loop-at.invariant.within) in
     let place : c.loop-at.at ≡ 0 + c.loop-at.at = omega arith in
     let block = IsWrittenBack-last (IsWrittenBack-at place c.loop-at.invariant.written) c.write_up_to_four.ensures.written in
-    WritesDigits-block c.args.table.now.is_radix.at_least_two (sym is) (omega (arith, is, c.requires.room)) (rw whole at block)
+    WritesDigits-block c.args.table.is_radix.at_least_two (sym is) (omega (arith, is, c.requires.room)) (rw whole at block)
 
 pub returns-clause-notes : goal.returns-clause-notes
 returns-clause-notes g c =
-    let two = c.args.table.now.is_radix.at_least_two in
-    let taken = TakesDigits-end two takes_four c.loop-at.invariant.divided (short g (goal.at.returns-clause-notes g c).After-loop-at) in
+    let two = c.args.table.is_radix.at_least_two in
+    let few = short g (goal.at.returns-clause-notes g c).After-loop-at in
+    let taken = TakesDigits-end two takes_four c.loop-at.invariant.divided few in
     table_notes-are g.row.R c.args.value c.args.turns.now (c.args.turns.now ++ count_notes g.row.R c.args.value) _ refl
-    (loop_notes-are two taken c.write_up_to_four.ensures.taken.2)
+    (loop_notes-end two taken few c.write_up_to_four.ensures.notes)

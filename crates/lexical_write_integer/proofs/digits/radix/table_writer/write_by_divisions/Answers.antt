@@ -1,10 +1,11 @@
 use Rattle.std.proofs.Common.{◌≡◌, ◌+◌, ◌*◌, ◌-◌, ◌<◌, ◌≤◌, ◌^◌, length, take, sym, ◌∙◌, lit<, arith, length-take}
+use Rattle.std.proofs.Math.Nat.{pow-le-pow_left}
 use Rattle.std.proofs.lemmas.List.{get_or-take}
 use Rattle.lexical_write_integer.specs.Digits.DigitCount.{digit_count}
 use Rattle.lexical_write_integer.proofs.OfDigits.Count.DigitCounts.{digit_count-pos, digit_count-le_bits}
 use Rattle.lexical_write_integer.proofs.OfDigits.Radix.Loops.ShortNumbers.{few-fits, head-left, IsDigits-head, WritesDigits-cut}
 use Rattle.lexical_write_integer.proofs.OfDigits.Radix.Loops.Divisions.{TakesDigits-counts}
-use Rattle.lexical_write_integer.proofs.OfDigits.Radix.Loops.Records.{loop_notes-are, slow_noted, slow_notes-are, table_notes-are}
+use Rattle.lexical_write_integer.proofs.OfDigits.Radix.Loops.Records.{loop_notes-end, slow_noted, slow_notes-are, table_notes-are}
 use Rattle.lexical_write_integer.proofs.OfDigits.Powers.{pow-two}
 use Rattle.lexical_write_integer.proofs.digits.radix.table_writer.write_by_divisions.Goals as goal
 use Rattle.lexical_write_integer.proofs.digits.radix.table_writer.write_by_divisions.Goals.{After-save_quotients-left, After-take_last_digit}
@@ -12,7 +13,7 @@ use Rattle.lexical_write_integer.proofs.digits.radix.table_writer.write_by_divis
 -- the quotient after the iterations that remove four digits
 short : (g : _) (c : After-save_quotients-left g) → c.save_quotients-left.result.0 < g.row.R ^ 4
 short g c =
-    let two = c.args.table.now.is_radix.at_least_two in
+    let two = c.args.table.is_radix.at_least_two in
     let taken = c.save_quotients-left.ensures.taken in
     few-fits g.row.R c.save_quotients-left.result.0 two (omega (arith, taken.count, TakesDigits-counts two taken, digit_count-pos g.row.R c.args.value))
 
@@ -22,16 +23,21 @@ head_is g c =
     omega (
       arith,
       c.take_last_digit.ensures.1.count,
-      TakesDigits-counts c.args.table.now.is_radix.at_least_two c.take_two_digits-short.ensures,
+      TakesDigits-counts c.args.table.is_radix.at_least_two c.take_two_digits-short.ensures,
       digit_count-pos g.row.R c.take_two_digits-short.result.0,
     )
 
 count_is : (g : _) (c : After-take_last_digit g)
     → 4 * c.save_quotients-left.result.1 + (1 + c.take_two_digits-short.result.1 + c.take_last_digit.result) ≡ digit_count g.row.R c.args.value
-count_is g c = omega (arith, head_is g c, TakesDigits-counts c.args.table.now.is_radix.at_least_two c.save_quotients-left.ensures.taken)
+count_is g c = omega (arith, head_is g c, TakesDigits-counts c.args.table.is_radix.at_least_two c.save_quotients-left.ensures.taken)
 
 few : (g : _) (c : After-take_last_digit g) → digit_count g.row.R c.args.value ≤ 64
-few g c = digit_count-le_bits g.row.R c.args.value 64 c.args.table.now.is_radix.at_least_two (omega arith) (omega (arith, c.ranges.value))
+few g c = digit_count-le_bits g.row.R c.args.value 64 c.args.table.is_radix.at_least_two (omega arith) (omega (arith, c.ranges.value))
+
+-- ten quotients are enough in radix 3 and above
+pub save_quotients-left-requires : goal.save_quotients-left-requires
+save_quotients-left-requires g c =
+    record { radix = c.args.table.is_radix; room = omega (arith, pow-le-pow_left {n = 3} {m = g.row.R} c.requires.three 44, c.ranges.value) }
 
 pub take_two_digits-short-requires-clause-short : goal.take_two_digits-short-requires-clause-short
 take_two_digits-short-requires-clause-short g c = short g (goal.at.take_two_digits-short-requires-clause-short g c).After-save_quotients-left
@@ -39,7 +45,7 @@ take_two_digits-short-requires-clause-short g c = short g (goal.at.take_two_digi
 pub take_last_digit-requires-clause-short : goal.take_last_digit-requires-clause-short
 take_last_digit-requires-clause-short g c =
     rw pow-two
-    (head-left c.args.table.now.is_radix.at_least_two
+    (head-left c.args.table.is_radix.at_least_two
     (short g (goal.at.take_last_digit-requires-clause-short g c).After-save_quotients-left) c.take_two_digits-short.ensures)
 
 pub overflow_add-head-2 : goal.overflow_add-head-2
@@ -101,7 +107,7 @@ write_up_to_four-requires g c =
 pub returns-clause-digits : goal.returns-clause-digits
 returns-clause-digits g c =
     let c' = (goal.at.returns-clause-digits g c).After-take_last_digit in
-    let two = c.args.table.now.is_radix.at_least_two in
+    let two = c.args.table.is_radix.at_least_two in
     let head = 1 + c.take_two_digits-short.result.1 + c.take_last_digit.result in
     let count = 4 * c.save_quotients-left.result.1 + head in
     let front = take count c.args.buffer.now in
@@ -114,8 +120,9 @@ returns-clause-digits g c =
 pub returns-clause-notes : goal.returns-clause-notes
 returns-clause-notes g c =
     let c' = (goal.at.returns-clause-notes g c).After-take_last_digit in
-    let two = c.args.table.now.is_radix.at_least_two in
+    let two = c.args.table.is_radix.at_least_two in
     let taken = rw (fours_are g c', ← c.save_quotients-left.ensures.taken.rest) at c.write_from_quotients.ensures.taken in
     let counted = slow_notes-are two c.save_quotients-left.ensures.taken c.take_two_digits-short.ensures c.take_last_digit.ensures.1 in
     table_notes-are g.row.R c.args.value c.args.turns.now c.take_last_digit.new.turns _
-    (slow_noted g.row.R c.args.value _ _ c.requires.by_turns counted) (loop_notes-are two taken c.write_up_to_four.ensures.taken.2)
+    (slow_noted g.row.R c.args.value _ _ c.requires.by_turns counted)
+    (loop_notes-end two taken (short g (goal.at.returns-clause-notes g c).After-save_quotients-left) c.write_up_to_four.ensures.notes)

@@ -14,7 +14,7 @@ within g c = omega (arith, c.requires.all, c.loop-next-test.true)
 long : (g : _) (c : In-loop-next g) → g.row.R ^ 4 ≤ c.loop-next.left
 long g c =
     let divided = c.loop-next.invariant.divided in
-    let two = c.args.table.now.is_radix.at_least_two in
+    let two = c.args.table.is_radix.at_least_two in
     elim (cases_lt c.loop-next.left (g.row.R ^ 4)) [
       | inl less ↦
           let few = digit_count-le g.row.R c.loop-next.left 4 (omega arith) less in
@@ -43,14 +43,14 @@ write_last_four-requires g c =
 pub loop-next-preserved : goal.loop-next-preserved
 loop-next-preserved g c =
     let c' = (goal.at.loop-next-preserved g c).In-loop-next in
-    let two = c.args.table.now.is_radix.at_least_two in
+    let two = c.args.table.is_radix.at_least_two in
     let i = c.loop-next.next-index in
     let turn : 4 * i + 4 ≡ 4 * (i + 1) = omega arith in
     let order : 4 + 4 * i ≡ 4 * (i + 1) = omega arith in
     let place : c.loop-next.at ≡ c.loop-next.at - 4 + 4 = omega (arith, c.requires.room, c.loop-next.invariant.place, within g c') in
     record {
-      divided = rw turn at (IsDivided-more two c.loop-next.invariant.divided (long g c') (next_is g c') c.write_last_four.ensures.notes);
-      written = rw order at (IsWrittenBack-more two (long g c') (next_is g c') (rw place at c.loop-next.invariant.written) c.write_last_four.ensures.written);
+      divided = rw turn at (IsDivided-more two c.loop-next.invariant.divided (long g c') (next_is g c') c.tick.ensures);
+      written = rw order at (IsWrittenBack-more two (long g c') (next_is g c') (rw place at c.loop-next.invariant.written) c.write_last_four.ensures);
       place = omega (arith, c.loop-next.invariant.place);
       room = c.write_last_four.auto.buffer ∙ c.loop-next.invariant.room;
     }

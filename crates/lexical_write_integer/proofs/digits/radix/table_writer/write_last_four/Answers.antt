@@ -22,23 +22,23 @@ overflow_sub-digits g c = omega (arith, parts g (goal.at.overflow_sub-digits g c
 
 small : (g : _) (c : After-from g) → c.args.number - c.args.left * c.from.result < g.row.R ^ 4
 small g c =
-    let some : 0 < g.row.R ^ 4 = omega (arith, power-gt_one g.row.R 4 c.args.table.now.is_radix.at_least_two takes_four) in
+    let some : 0 < g.row.R ^ 4 = omega (arith, power-gt_one g.row.R 4 c.args.table.is_radix.at_least_two takes_four) in
     omega (arith, parts g c, mod-lt c.args.number some)
 
 pub overflow_cast-digits : goal.overflow_cast-digits
 overflow_cast-digits g c =
-    omega (arith, small g (goal.at.overflow_cast-digits g c).After-from, power-small g.row.R 4 c.args.table.now.is_radix.at_most_36 takes_four)
+    omega (arith, small g (goal.at.overflow_cast-digits g c).After-from, power-small g.row.R 4 c.args.table.is_radix.at_most_36 takes_four)
 
 pub write_pair-requires : goal.write_pair-requires
 write_pair-requires g c =
     let square = g.row.R * g.row.R in
-    let some : 0 < square = omega (arith, pow-two g.row.R, power-gt_one g.row.R 2 c.args.table.now.is_radix.at_least_two takes_two) in
+    let some : 0 < square = omega (arith, pow-two g.row.R, power-gt_one g.row.R 2 c.args.table.is_radix.at_least_two takes_two) in
     (lit< tt, (omega arith, (rw half (mod-lt (c.args.number - c.args.left * c.from.result) some), omega (arith, c.requires.room))))
 
 pub write_pair-requires-2 : goal.write_pair-requires-2
 write_pair-requires-2 g c =
     let square = g.row.R * g.row.R in
-    let some : 0 < square = omega (arith, pow-two g.row.R, power-gt_one g.row.R 2 c.args.table.now.is_radix.at_least_two takes_two) in
+    let some : 0 < square = omega (arith, pow-two g.row.R, power-gt_one g.row.R 2 c.args.table.is_radix.at_least_two takes_two) in
     let number = c.args.number - c.args.left * c.from.result in
     let below : number < square * square = rw pow-four at (small g (goal.at.write_pair-requires-2 g c).After-from) in (
       lit< tt,
@@ -51,12 +51,8 @@ write_pair-requires-2 g c =
       ),
     )
 
-pub returns-clause-written : goal.returns-clause-written
-returns-clause-written g c =
-    let c' = (goal.at.returns-clause-written g c).After-from in
+pub returns : goal.returns
+returns g c =
+    let c' = (goal.at.returns g c).After-from in
     let digits : c.args.number - c.args.left * c.from.result ≡ c.args.number % g.row.R ^ 4 = omega (arith, parts g c') in
     rw digits at (WritesBlock-pairs g.row.R (c.args.number - c.args.left * c.from.result) (g.row.R * g.row.R) refl c.write_pair.ensures c.write_pair-2.ensures)
-
--- the check finds this proof by itself, but with an answer the refusal of a mistake says what is wrong
-pub returns-clause-notes : goal.returns-clause-notes
-returns-clause-notes g c = c.tick.ensures

@@ -1,77 +1,95 @@
-use Rattle.std.proofs.Common.{◌≡◌, ◌+◌, ◌-◌, ◌*◌, ◌%◌, ◌<◌, ◌≤◌, get_or, set, drop, ◌∙◌, arith, length-set}
+use Rattle.std.proofs.Common.{◌≡◌, ◌-◌, ◌*◌, ◌/◌, ◌%◌, ◌<◌, ◌≤◌, sym, ap, arith, length-set}
 use Rattle.std.proofs.Math.Nat.{mod-lt}
-use Rattle.std.proofs.lemmas.List.{drop-set-lt}
-use Rattle.lexical_write_integer.specs.Buffer.{WritesBlock}
-use Rattle.lexical_write_integer.specs.Digits.LoopTurns.{takes_two}
-use Rattle.lexical_write_integer.proofs.OfDigits.Count.DigitCounts.{digit_count-pos}
-use Rattle.lexical_write_integer.proofs.OfDigits.Radix.Loops.ShortNumbers.{head-left, WritesBlock-head}
-use Rattle.lexical_write_integer.proofs.OfDigits.Radix.Loops.Divisions.{TakesDigits-counts}
-use Rattle.lexical_write_integer.proofs.OfDigits.Powers.{pow-two}
+use Rattle.std.proofs.lemmas.Nat.{div_below}
+use Rattle.lexical_write_integer.specs.Digits.LoopTurns.{takes_two, takes_four}
+use Rattle.lexical_write_integer.proofs.OfDigits.Count.DigitCounts.{digit_count-pos, digit_count-le}
 use Rattle.lexical_write_integer.proofs.OfDigits.Count.RadixPowers.{power-gt_one}
-use Rattle.lexical_write_integer.proofs.OfDigits.Radix.TablePairs.{length-table, WritesBlock-pair, half}
+use Rattle.lexical_write_integer.proofs.OfDigits.Powers.{pow-two, pow-four}
+use Rattle.lexical_write_integer.proofs.OfDigits.Radix.FourDigits.{WritesBlock-four}
+use Rattle.lexical_write_integer.proofs.OfDigits.Radix.Loops.Divisions.{TakesDigits-none}
+use Rattle.lexical_write_integer.proofs.OfDigits.Radix.Loops.Records.{loop_notes-are}
+use Rattle.lexical_write_integer.proofs.OfDigits.Radix.Loops.ShortNumbers.{TakesDigits-once, quotient-some, quotient-none}
+use Rattle.lexical_write_integer.proofs.OfDigits.Radix.TablePairs.{length-table, first_digit, second_digit}
 use Rattle.lexical_write_integer.proofs.digits.radix.table_writer.write_up_to_four.Goals as goal
-use Rattle.lexical_write_integer.proofs.digits.radix.table_writer.write_up_to_four.Goals.{After-take_two_digits-left}
+use Rattle.lexical_write_integer.proofs.digits.radix.table_writer.write_up_to_four.Goals.{Start, then-left-gt0, else-left-gt0}
 
--- the last two digits are a pair
-pair_is : (g : _) (c : After-take_two_digits-left g) → c.args.number % (g.row.R * g.row.R) < g.row.R * g.row.R
-pair_is g c =
-    let some : 0 < g.row.R * g.row.R = omega (arith, pow-two g.row.R, power-gt_one g.row.R 2 c.args.table.now.is_radix.at_least_two takes_two) in
-    mod-lt c.args.number some
+some : (g : _) (c : Start g) → 0 < g.row.R * g.row.R
+some g c = omega (arith, pow-two g.row.R, power-gt_one g.row.R 2 c.args.table.is_radix.at_least_two takes_two)
 
-some : (g : _) (c : After-take_two_digits-left g) → 1 ≤ c.args.digits
-some g c = omega (arith, c.requires.digits, digit_count-pos g.row.R c.args.number)
+-- the numbers of the two pairs
+first : (g : _) (c : Start g) → c.args.number / (g.row.R * g.row.R) < g.row.R * g.row.R
+first g c = div_below c.args.number (g.row.R * g.row.R) (g.row.R * g.row.R) (some g c) (rw pow-four at c.requires.short)
 
-pub bounds-table-index : goal.bounds-table-index
-bounds-table-index g c =
-    let table = length-table g.row.R c.args.table.now.pairs.now c.args.table.now.begins in
-    omega (arith, pair_is g (goal.at.bounds-table-index g c).After-take_two_digits-left, table)
+last : (g : _) (c : Start g) → c.args.number % (g.row.R * g.row.R) < g.row.R * g.row.R
+last g c = mod-lt c.args.number (some g c)
 
-pub bounds-table-index-2 : goal.bounds-table-index-2
-bounds-table-index-2 g c =
-    let table = length-table g.row.R c.args.table.now.pairs.now c.args.table.now.begins in
-    omega (arith, pair_is g (goal.at.bounds-table-index-2 g c).After-take_two_digits-left, table)
+pub bounds-table-first : goal.bounds-table-first
+bounds-table-first g c =
+    omega (arith, first g (goal.at.bounds-table-first g c).Start, length-table g.row.R c.args.table.pairs.now c.args.table.begins)
 
-pub overflow_sub-buffer : goal.overflow_sub-buffer
-overflow_sub-buffer g c = omega (arith, some g (goal.at.overflow_sub-buffer g c).After-take_two_digits-left)
+pub bounds-table-first-2 : goal.bounds-table-first-2
+bounds-table-first-2 g c =
+    omega (arith, first g (goal.at.bounds-table-first-2 g c).Start, length-table g.row.R c.args.table.pairs.now c.args.table.begins)
+
+pub bounds-table-last : goal.bounds-table-last
+bounds-table-last g c =
+    omega (arith, last g (goal.at.bounds-table-last g c).Start, length-table g.row.R c.args.table.pairs.now c.args.table.begins)
+
+pub bounds-table-last-2 : goal.bounds-table-last-2
+bounds-table-last-2 g c =
+    omega (arith, last g (goal.at.bounds-table-last-2 g c).Start, length-table g.row.R c.args.table.pairs.now c.args.table.begins)
+
+some_digit : (g : _) (c : Start g) → 1 ≤ c.args.digits
+some_digit g c = omega (arith, c.requires.digits, digit_count-pos g.row.R c.args.number)
+
+few_digits : (g : _) (c : Start g) → c.args.digits ≤ 4
+few_digits g c = omega (arith, c.requires.digits, digit_count-le g.row.R c.args.number 4 (omega arith) c.requires.short)
+
+pub bounds-buffer-0 : goal.bounds-buffer-0
+bounds-buffer-0 g c = omega (arith, some_digit g (goal.at.bounds-buffer-0 g c).Start, c.requires.room)
 
 pub bounds-buffer-digits : goal.bounds-buffer-digits
-bounds-buffer-digits g c = omega (arith, some g (goal.at.bounds-buffer-digits g c).After-take_two_digits-left, c.requires.room)
+bounds-buffer-digits g c = omega (arith, some_digit g (goal.at.bounds-buffer-digits g c).Start, c.requires.room, length-set c.args.buffer.now 0)
 
 pub bounds-buffer-saturating_sub : goal.bounds-buffer-saturating_sub
 bounds-buffer-saturating_sub g c =
-    omega (
-      arith,
-      some g (goal.at.bounds-buffer-saturating_sub g c).After-take_two_digits-left,
-      c.requires.room,
-      c.saturating_sub.ensures,
-      length-set c.args.buffer.now (c.args.digits - 1),
-    )
+    rw (length-set, length-set) (omega (arith, some_digit g (goal.at.bounds-buffer-saturating_sub g c).Start, c.requires.room, c.saturating_sub.ensures))
 
-pub write_one_or_two-requires-clause-short : goal.write_one_or_two-requires-clause-short
-write_one_or_two-requires-clause-short g c = head-left c.args.table.now.is_radix.at_least_two c.requires.short c.take_two_digits-left.ensures
+pub overflow_sub-buffer : goal.overflow_sub-buffer
+overflow_sub-buffer g c = some_digit g (goal.at.overflow_sub-buffer g c).Start
 
-pub write_one_or_two-requires-clause-digits : goal.write_one_or_two-requires-clause-digits
-write_one_or_two-requires-clause-digits g c =
-    omega (arith, c.requires.digits, TakesDigits-counts c.args.table.now.is_radix.at_least_two c.take_two_digits-left.ensures)
+pub bounds-buffer-digits-2 : goal.bounds-buffer-digits-2
+bounds-buffer-digits-2 g c =
+    rw (length-set, length-set, length-set) (omega (arith, some_digit g (goal.at.bounds-buffer-digits-2 g c).Start, c.requires.room))
 
 pub returns-clause-written : goal.returns-clause-written
 returns-clause-written g c =
-    let c' = (goal.at.returns-clause-written g c).After-take_two_digits-left in
-    let list = c.args.buffer.now in
-    let pairs = c.args.table.now.pairs.now in
-    let digits = c.args.digits in
-    let k = c.args.number % (g.row.R * g.row.R) in
-    let least = some g c' in
-    let last_written = set list (digits - 1) (get_or pairs (2 * k + 1) 0) in
-    let between = set last_written c.saturating_sub.result (get_or pairs (2 * k) 0) in
-    let pair : 2 ≤ digits → WritesBlock g.row.R 2 k (digits - 2) list between = λ long.
-    let last : digits - 1 ≡ digits - 2 + 1 = omega arith in
-    let first : c.saturating_sub.result ≡ digits - 2 = omega (arith, c.saturating_sub.ensures) in
-    let positive : 0 < g.row.R = omega (arith, c.args.table.now.is_radix) in
-    rw (last, first) (rw half at (WritesBlock-pair g.row.R (2 * k) (digits - 2) pairs list
-    positive c.args.table.now.begins (omega arith) (rw half (pair_is g c')) (omega (arith, c.requires.room)))) in
-    let following : drop digits between ≡ drop digits list =
-    drop-set-lt digits last_written c.saturating_sub.result (get_or pairs (2 * k) 0) (omega (arith, least, c.saturating_sub.ensures))
-    ∙ drop-set-lt digits list (digits - 1) (get_or pairs (2 * k + 1) 0) (omega (arith, least)) in
-    let two = c.args.table.now.is_radix.at_least_two in
-    WritesBlock-head two c.requires.short c.requires.digits c.take_two_digits-left.ensures pair following c.write_one_or_two.ensures
+    let c' = (goal.at.returns-clause-written g c).Start in
+    let pairs = c.args.table.pairs.now in
+    let begins = c.args.table.begins in
+    let place : c.saturating_sub.result ≡ c.args.digits - 2 = omega (arith, c.saturating_sub.ensures) in
+    let hi = c.args.number / (g.row.R * g.row.R) in
+    let lo = c.args.number % (g.row.R * g.row.R) in
+    let a = first_digit g.row.R hi pairs begins (first g c') in
+    let b = second_digit g.row.R hi pairs begins (first g c') in
+    let d = first_digit g.row.R lo pairs begins (last g c') in
+    let e = second_digit g.row.R lo pairs begins (last g c') in
+    rw (a, b, d, e, place)
+    (WritesBlock-four g.row.R c.args.number c.args.digits c.args.buffer.now c.args.table.is_radix.at_least_two c.requires.short c.requires.digits c.requires.room)
+
+-- the quotient is recorded if it is not 0
+pub returns-clause-notes : goal.returns-clause-notes
+returns-clause-notes g c =
+    let two = c.args.table.is_radix.at_least_two in
+    let square = sym (pow-two g.row.R) in
+    let is = ap (λ k. c.args.number / k) square in
+    let four = TakesDigits-none {notes = c.args.turns.now} two takes_four c.requires.short in
+    elim c.if-left-gt0.branch [
+      | then-left-gt0 w ↦
+          let long = quotient-some (g.row.R * g.row.R) c.args.number w.if-left-gt0.true in
+          let notes = rw w.from.ensures at w.tick.ensures in
+          rw w.turns-is (loop_notes-are two four (TakesDigits-once two takes_two (rw square at long) c.requires.short is notes))
+      | else-left-gt0 w ↦
+          let less = quotient-none (g.row.R * g.row.R) c.args.number (some g (goal.at.returns-clause-notes g c).Start) w.if-left-gt0.false in
+          rw w.turns-is (loop_notes-are two four (TakesDigits-none two takes_two (rw square at less)))
+    ]
