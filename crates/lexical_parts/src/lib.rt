@@ -27,6 +27,7 @@ mod padded;
 mod part;
 mod text;
 mod tuples;
+mod utf8;
 
 pub use column::{Left, Right};
 pub use joined::Joined;
@@ -34,3 +35,4 @@ pub use number::{Decimal, Digits, Formatted};
 pub use padded::{Padded, PaddedDigits};
 pub use part::Part;
 pub use text::{Byte, Bytes};
+pub use utf8::Utf8Part;
