@@ -7,6 +7,9 @@ ghost use Rattle.uses.specs.DateTime.{IsTimestamp};
 use crate::date_time::DateTime;
 use lexical_parts::{Padded, Utf8Part};
 
+/// The length of a timestamp.
+pub const TIMESTAMP_SIZE: usize = "2026-11-23T07:05:09.042+01:00".len();
+
 // Returns the sign of an offset, which is written even if it is `+`.
 fn sign(offset: i16) -> &'static str
     ensures sign { result.now ≡ sign_of offset true }
@@ -18,7 +21,12 @@ fn sign(offset: i16) -> &'static str
 /// Returns the date and time with milliseconds and the offset from UTC, such as
 /// `2026-11-23T07:05:09.042+01:00`, which borrows the array. The offset is in minutes, and less than
 /// a day.
-pub fn timestamp(at: DateTime, millisecond: u16, offset: i16, buffer: &mut [u8; 29]) -> &str
+pub fn timestamp(
+    at: DateTime,
+    millisecond: u16,
+    offset: i16,
+    buffer: &mut [u8; TIMESTAMP_SIZE],
+) -> &str
     requires millisecond { millisecond < 1000 }
     requires offset { unsigned_abs offset < 1440 }
     ensures { IsTimestamp at millisecond offset result.now }
