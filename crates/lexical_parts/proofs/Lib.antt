@@ -4,3 +4,5 @@ pub mod Columns
 pub mod Lists
 -- texts of parts that are UTF-8
 pub mod Utf8Texts
+-- texts that are equal to bytes, for a caller whose contract is an equation of bytes
+pub mod Equations
