@@ -16,7 +16,8 @@
 //! ```
 //!
 //! The example is from the test `texts_for_writing` in `crates/uses_tests/src/tests/lines.rt`. The calls
-//! that write are the methods of [`Part`], and the other types of this crate are parts.
+//! that write are the methods of [`Part`], and those that return a `&str` are the methods of
+//! [`Utf8Part`]. The other types of this crate are parts.
 #![tactic(auto)]
 
 mod column;
