@@ -2,3 +2,7 @@
 pub mod Columns
 -- texts of the elements of a list, which grow by one element at their end
 pub mod Lists
+-- texts of parts that are UTF-8
+pub mod Utf8Texts
+-- texts that are equal to bytes, for a caller whose contract is an equation of bytes
+pub mod Equations

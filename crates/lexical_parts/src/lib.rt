@@ -16,7 +16,8 @@
 //! ```
 //!
 //! The example is from the test `texts_for_writing` in `crates/uses_tests/src/tests/lines.rt`. The calls
-//! that write are the methods of [`Part`], and the other types of this crate are parts.
+//! that write are the methods of [`Part`], and those that return a `&str` are the methods of
+//! [`Utf8Part`]. The other types of this crate are parts.
 #![tactic(auto)]
 
 mod column;
@@ -27,6 +28,7 @@ mod padded;
 mod part;
 mod text;
 mod tuples;
+mod utf8;
 
 pub use column::{Left, Right};
 pub use joined::Joined;
@@ -34,3 +36,4 @@ pub use number::{Decimal, Digits, Formatted};
 pub use padded::{Padded, PaddedDigits};
 pub use part::Part;
 pub use text::{Byte, Bytes};
+pub use utf8::Utf8Part;

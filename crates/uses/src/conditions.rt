@@ -9,6 +9,7 @@ ghost use Rattle.lexical_write_integer.specs.Table.{BeginsWithPairs};
 use lexical_lines::join;
 use lexical_num::digit::digit_to_char;
 use lexical_num::num::UnsignedInteger;
+use lexical_parts::{Byte, Utf8Part};
 use lexical_write_integer::algorithm::algorithm;
 use lexical_write_integer::compact::Compact;
 use lexical_write_integer::decimal::{Decimal, fallback_digit_count};
@@ -120,6 +121,11 @@ pub fn division_by_one() -> (u8, u8) {
 /// Returns the largest number of 32 bits.
 pub fn largest_number_of_32_bits() -> u32 {
     4294967295u64.as_u32()
+}
+
+/// Returns the length of a `&str` with the largest byte that is ASCII.
+pub fn str_with_the_largest_ascii_byte() -> usize {
+    (Byte(127), " 5").to_str(&mut [0; 3]).len()
 }
 
 /// Writes 1, -2 and 3, joined by commas, to 15 bytes, for each the 4 bytes of an `i8` and one separator,

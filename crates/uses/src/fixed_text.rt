@@ -1,7 +1,9 @@
-//! Writes a constant, whose text the contract spells out.
+//! Texts whose bytes the contract states as an equation.
 
-ghost use Rattle.std.specs.Prelude.{◌≡◌, codes};
+ghost use Rattle.std.specs.Prelude.{◌≡◌, ◌<◌, ◌++◌, codes};
+ghost use Rattle.lexical_write_integer.specs.Computed.{padded_text};
 
+use lexical_parts::{Decimal, Padded, Part};
 use lexical_write_integer::laws::text_computed;
 use lexical_write_integer::{NumberFormatBuilder, Options, ToLexicalWithOptions};
 
@@ -16,4 +18,20 @@ pub fn million(buffer: &mut [u8; 14]) -> &[u8]
     let text = 1000000u32.to_lexical_with_options(buffer, &format, &Options::new());
     text_computed(1000000u32, &format, text);
     text
+}
+
+/// Returns `n=42 ms`, which borrows the array.
+pub fn count_and_unit(buffer: &mut [u8; 8]) -> &[u8]
+    ensures { result.now ≡ codes "n=42 ms" }
+{
+    ("n=", Decimal(42u8), " ms").to_text(buffer)
+}
+
+/// Returns the year and the month, such as `2026-11`, which borrows the array.
+pub fn year_month(year: u16, month: u8, buffer: &mut [u8; 7]) -> &[u8]
+    requires year { year < 10000 }
+    requires month { month < 100 }
+    ensures { result.now ≡ padded_text 10 4 year ++ codes "-" ++ padded_text 10 2 month }
+{
+    (Padded(year, 4), "-", Padded(month, 2)).to_text(buffer)
 }

@@ -26,4 +26,5 @@ pub mod record;
 pub mod sorted_keys;
 pub mod table_row;
 pub mod time_of_day;
+pub mod timestamp;
 pub mod turn_lists;

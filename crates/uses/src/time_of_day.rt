@@ -1,9 +1,9 @@
 //! Writes a time of day by calls that each write after the one before.
 
-ghost use Rattle.std.specs.Prelude.{◌≡◌, ◌/◌, ◌%◌, ◌<◌, ◌≤◌, codes, length};
+ghost use Rattle.std.specs.Prelude.{◌≡◌, ◌/◌, ◌%◌, ◌<◌, ◌≤◌, length};
 ghost use Rattle.lexical_write_integer.specs.Buffer.{Writes};
 ghost use Rattle.lexical_write_integer.specs.Padded.{IsPadded};
-ghost use Rattle.lexical_write_integer.specs.Sequence.{IsExactly, Then};
+ghost use Rattle.lexical_parts.specs.Sequence.{◌then◌, IsStr};
 
 use lexical_write_integer::buffer::copy_to_front;
 use lexical_write_integer::padded::write_padded;
@@ -24,8 +24,7 @@ fn write_hour(hour: u32, time: &mut [u8]) -> usize
 fn write_part(number: u32, time: &mut [u8]) -> usize
     requires number { number < 60 }
     requires room { 3 ≤ length time.old }
-    ensures text { Writes (Then (IsExactly (codes ":")) (IsPadded 10 2 number))
-        time.old time.new result }
+    ensures text { Writes (IsStr ":" then IsPadded 10 2 number) time.old time.new result }
     ensures width { result ≡ 3 }
 {
     let start = copy_to_front(b":", time);
@@ -34,14 +33,11 @@ fn write_part(number: u32, time: &mut [u8]) -> usize
 
 /// Writes the time, such as `07:05:09Z`, to the array, and returns its length. The argument is the number
 /// of seconds since midnight, below 86400.
-#[tactic(auto, using(lexical_write_integer::proofs::Sequences::in_order))]
 pub fn write_time(seconds: u32, time: &mut [u8; 9]) -> usize
     requires { seconds < 86400 }
     ensures { Writes
-        (Then (Then (Then (IsPadded 10 2 (seconds / 3600))
-        (Then (IsExactly (codes ":")) (IsPadded 10 2 (seconds / 60 % 60))))
-        (Then (IsExactly (codes ":")) (IsPadded 10 2 (seconds % 60)))) (IsExactly (codes "Z")))
-        time.old time.new result }
+        (IsPadded 10 2 (seconds / 3600) then (IsStr ":" then IsPadded 10 2 (seconds / 60 % 60))
+        then (IsStr ":" then IsPadded 10 2 (seconds % 60)) then IsStr "Z") time.old time.new result }
 {
     let end = write_hour(seconds / 3600, time);
     let end = end + write_part(seconds / 60 % 60, &mut time[end..]);

@@ -9,7 +9,7 @@ use std::process::Abort;
 use uses::amount::{width_of_amount, write_amount};
 use uses::any_format::{text_if_room, text_of_any};
 use uses::arena::{have_same_kept_texts, keep_text};
-use uses::fixed_text::million;
+use uses::fixed_text::{count_and_unit, million, year_month};
 use uses::float_format::float_format;
 use uses::float_parts::write_parts;
 use uses::hex_dump::write_dump;
@@ -174,6 +174,9 @@ fn widths_of_amounts(rt: HostRuntime) {
 #[test]
 fn text_of_a_constant(rt: HostRuntime) {
     assert_eq!(rt; million(&mut [7; 14]), b"+1,000,000".as_slice());
+    assert_eq!(rt; count_and_unit(&mut [7; 8]), b"n=42 ms".as_slice());
+    assert_eq!(rt; year_month(2026, 11, &mut [7; 7]), b"2026-11".as_slice());
+    assert_eq!(rt; year_month(33, 4, &mut [7; 7]), b"0033-04".as_slice());
 }
 
 #[test]

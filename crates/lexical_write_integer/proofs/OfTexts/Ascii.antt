@@ -39,6 +39,9 @@ AllAscii-grouped : (grouping : Option (ℕ × ℕ)) (bytes : List ℕ) → ForSo
 AllAscii-grouped None bytes good all = all
 AllAscii-grouped (Some grouping) bytes good all = AllAscii-in_groups grouping bytes (omega (arith, (good grouping refl).mark.at_most_tilde)) all
 
+pub IsAscii-digit_chars : (r : ℕ) (digits : List ℕ) → r ≤ 36 → All (λ d. d < r) digits → IsAscii (map digit_char digits)
+IsAscii-digit_chars r digits few below = IsAscii-from_all (map digit_char digits) (AllAscii-digit_chars r digits few below)
+
 AllAscii-sign : (x : ℤ) (required : Bool) → AllAscii (sign_of x required)
 AllAscii-sign (negsuc n) required = AllAscii-one 45 (omega arith)
 AllAscii-sign (pos n) true = AllAscii-one 43 (omega arith)

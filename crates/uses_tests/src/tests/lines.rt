@@ -1,13 +1,19 @@
 // Tests of the callers of `lexical_parts`.
 
 use super::check_buffer;
-use lexical_parts::{Byte, Bytes, Decimal, Left, Padded, PaddedDigits, Part};
+use lexical_parts::{
+    Byte, Bytes, Decimal, Digits, Formatted, Joined, Left, Padded, PaddedDigits, Part, Right,
+    Utf8Part,
+};
+use lexical_write_integer::NumberFormatBuilder;
+use lexical_write_integer::laws::digit_count_at_most;
 use uses::csv_row::{try_write_list, write_entries, write_row, write_row_of};
 use uses::date_time::DateTime;
 use uses::dump_line::write_dump_line;
 use uses::key_value::try_write_setting;
 use uses::reading::write_reading;
 use uses::table_row::write_table_row;
+use uses::timestamp::timestamp;
 
 const MORNING: DateTime = DateTime {
     year: 2026,
@@ -34,6 +40,53 @@ fn readings(rt: HostRuntime) {
     };
     let count = write_reading(long_ago, -5, 0, &mut buffer);
     check_buffer(&rt, &buffer, count, b"0033-04-03T00:00:00 -0.5 kg 0x0;");
+}
+
+#[test]
+fn timestamps(rt: HostRuntime) {
+    let mut buffer = [7; 29];
+    assert_eq!(rt;
+        timestamp(MORNING, 42, 60, &mut buffer),
+        "2026-11-23T07:05:09.042+01:00"
+    );
+    assert_eq!(rt;
+        timestamp(MORNING, 999, -210, &mut buffer),
+        "2026-11-23T07:05:09.999-03:30"
+    );
+    assert_eq!(rt;
+        timestamp(MORNING, 0, 0, &mut buffer),
+        "2026-11-23T07:05:09.000+00:00"
+    );
+    assert_eq!(rt;
+        timestamp(MORNING, 0, -1439, &mut buffer),
+        "2026-11-23T07:05:09.000-23:59"
+    );
+}
+
+#[test]
+fn texts_as_str(rt: HostRuntime) {
+    let mut buffer = [7; 40];
+    assert_eq!(rt; (Decimal(-5i8), " °C").to_str(&mut buffer), "-5 °C");
+    assert!(rt; buffer[6..].iter().all(|byte| *byte == 7));
+    let row = (Byte(b'<'), Joined(&[1u8, 20], ", "), Byte(b'>'));
+    assert_eq!(rt; row.to_str(&mut buffer), "<1, 20>");
+    let cells = (
+        Left(Digits(16, 255u8), 4),
+        Right(Some(PaddedDigits(2, 5u8, 4)), 6),
+        None::<Decimal<u8>>,
+    );
+    digit_count_at_most(16, 255, 2);
+    assert_eq!(rt; cells.to_str(&mut buffer), "FF    0101");
+    let thousands = NumberFormatBuilder::new()
+        .digit_grouping(3, b',')
+        .build_strict();
+    let amount = Formatted(1234567u32, &thousands);
+    assert_eq!(rt; amount.to_str(&mut buffer), "1,234,567");
+    assert_eq!(rt;
+        (Padded(7u8, 3), "é").try_to_str(&mut buffer[..5]),
+        Some("007é")
+    );
+    assert_eq!(rt; (Padded(7u8, 3), "é").try_to_str(&mut buffer[..4]), None);
 }
 
 #[test]

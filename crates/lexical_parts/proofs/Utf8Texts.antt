@@ -1,0 +1,52 @@
+-- The texts of parts are UTF-8.
+use Rattle.std.proofs.Common.{ℕ, ◌-◌, ◌<◌, ◌≤◌, List, [], ◌∷◌, length, replicate, arith, ℤ}
+use Rattle.std.specs.Str.{IsUtf8}
+use Rattle.std.proofs.lemmas.List.Elements.{All-nil, All-cons, All-replicate}
+use Rattle.std.proofs.lemmas.Str.{IsUtf8-nil, IsUtf8-from_ascii, IsUtf8-append}
+use Rattle.std.proofs.lemmas.Str.Ascii.{IsAscii-from_all}
+use Rattle.lexical_num.specs.Format.{Format, IsValid}
+use Rattle.lexical_write_integer.specs.Padded.{IsPadded}
+use Rattle.lexical_write_integer.specs.Sequence.{IsExactly, Then, AreJoined}
+use Rattle.lexical_write_integer.specs.Text.{IsDigits, IsText}
+use Rattle.lexical_write_integer.proofs.OfTexts.Ascii.{IsAscii-IsText, IsAscii-digit_chars}
+use Rattle.lexical_parts.specs.Column.{IsAtLeft, IsAtRight}
+use Rattle.lexical_parts.specs.Utf8.{AreUtf8}
+
+-- a byte below 128
+pub one_is_utf8 : (byte : ℕ) → byte < 128 → AreUtf8 (IsExactly (byte ∷ []))
+one_is_utf8 byte small text is =
+    let all = All-cons (λ b. b < 128) byte [] small (All-nil (λ b. b < 128)) in
+    rw is (IsUtf8-from_ascii (byte ∷ []) (IsAscii-from_all (byte ∷ []) all))
+
+pub digits_are_utf8 : (r number : ℕ) → r ≤ 36 → AreUtf8 (IsDigits r number)
+digits_are_utf8 r number few text is =
+    rw is.characters (IsUtf8-from_ascii _ (IsAscii-digit_chars r is.digits few is.numeral.numeral.below_radix))
+
+pub padded_is_utf8 : (r width number : ℕ) → r ≤ 36 → AreUtf8 (IsPadded r width number)
+padded_is_utf8 r width number few text is =
+    rw is.characters (IsUtf8-from_ascii _ (IsAscii-digit_chars r is.digits few is.block.below_radix))
+
+pub text_is_utf8 : (number : ℤ) (format : Format) → IsValid format → AreUtf8 (IsText number format)
+text_is_utf8 number format valid text is = IsUtf8-from_ascii text (IsAscii-IsText number format text valid.mantissa.at_most_36 valid.groups is)
+
+pub then_is_utf8 : {First Second : List ℕ → Type 0} → AreUtf8 First → AreUtf8 Second → AreUtf8 (Then First Second)
+then_is_utf8 first second text is = rw is.whole (IsUtf8-append is.first is.second (first is.first is.is_first) (second is.second is.is_second))
+
+pub joined_is_utf8 : {A : Type 0} (IsOf : A → List ℕ → Type 0) (separator : List ℕ) (xs : List A) →
+    ((x : A) → AreUtf8 (IsOf x)) → IsUtf8 separator → AreUtf8 (AreJoined IsOf separator xs)
+joined_is_utf8 IsOf separator [] each between text is = rw is IsUtf8-nil
+joined_is_utf8 IsOf separator (x ∷ []) each between text is = each x text is
+joined_is_utf8 IsOf separator (x ∷ y ∷ xs) each between text is =
+    then_is_utf8 (each x) (then_is_utf8 (λ mark same. rw same between) (joined_is_utf8 IsOf separator (y ∷ xs) each between)) text is
+
+spaces_are_utf8 : (count : ℕ) → IsUtf8 (replicate count 32)
+spaces_are_utf8 count =
+    IsUtf8-from_ascii (replicate count 32) (IsAscii-from_all (replicate count 32) (All-replicate (λ b. b < 128) count 32 (omega arith)))
+
+pub at_left_is_utf8 : {Is : List ℕ → Type 0} (width : ℕ) → AreUtf8 Is → AreUtf8 (IsAtLeft width Is)
+at_left_is_utf8 width cells text is =
+    rw is.whole (IsUtf8-append is.cell (replicate (width - length is.cell) 32) (cells is.cell is.is) (spaces_are_utf8 (width - length is.cell)))
+
+pub at_right_is_utf8 : {Is : List ℕ → Type 0} (width : ℕ) → AreUtf8 Is → AreUtf8 (IsAtRight width Is)
+at_right_is_utf8 width cells text is =
+    rw is.whole (IsUtf8-append (replicate (width - length is.cell) 32) is.cell (spaces_are_utf8 (width - length is.cell)) (cells is.cell is.is))

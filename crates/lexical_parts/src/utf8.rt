@@ -1,0 +1,150 @@
+//! Parts whose text is UTF-8, and their text as a `&str`.
+
+ghost use Rattle.std.specs.Prelude.{◌↔◌, ◌<◌, ◌≤◌, IfSome, IsSome, length, ⊤};
+ghost use Rattle.lexical_parts.specs.Optional.{IsValidOptional};
+ghost use Rattle.lexical_parts.specs.Utf8.{AreUtf8};
+
+mod tuples;
+
+use crate::column::{Left, Right};
+use crate::joined::Joined;
+use crate::number::{Decimal, Digits, Formatted};
+use crate::padded::{Padded, PaddedDigits};
+use crate::part::Part;
+use crate::text::Byte;
+use lexical_write_integer::ToLexicalWithOptions;
+use lexical_write_integer::digit_count::DigitCount;
+use lexical_write_integer::format::STANDARD;
+use lexical_write_integer::radix::Radix;
+use std::str::from_utf8;
+
+/// A part whose text is UTF-8, so that it can be returned as a `&str`: every part of this crate but
+/// `Bytes`. A `Byte` is one if it is ASCII, and a part that contains parts if they are:
+/// `(Decimal(250), " g").to_str(&mut buffer)` returns `"250 g"`.
+pub trait Utf8Part: Part {
+    // The condition under which the text is UTF-8: that a byte is below 128.
+    ghost is_utf8: { Self → Type 0 };
+
+    /// A law: the text of the part is UTF-8.
+    fn text_is_utf8(self)
+        requires valid { Self.is_valid self }
+        requires utf8 { is_utf8 self }
+        ensures { AreUtf8 (Self.is_text self) };
+
+    /// Writes the text to the start of the buffer, and returns it as a `&str`, which borrows the
+    /// buffer. The part must be valid, each `Byte` in it must be below 128, and the buffer must have
+    /// `room` bytes or more.
+    ///
+    /// At run time this is `to_text` and then a call of `std::str::from_utf8`, which reads the text
+    /// once and cannot fail. The standard library has no call that returns a `&mut str`.
+    final fn to_str(self, buffer: &mut [u8]) -> &str
+        requires valid { Self.is_valid self }
+        requires utf8 { is_utf8 self }
+        requires room { Self.room self ≤ length buffer.old }
+        ensures text { Self.is_text self result.now }
+        ensures short { length result.now ≤ Self.room self }
+    {
+        self.text_is_utf8();
+        from_utf8(self.to_text(buffer)).unwrap()
+    }
+
+    /// If the buffer has `room` bytes or more, returns the text as `to_str` does, at the same cost.
+    /// Otherwise returns `None`. The part must be valid, and each `Byte` in it must be below 128.
+    final fn try_to_str(self, buffer: &mut [u8]) -> Option<&str>
+        requires valid { Self.is_valid self }
+        requires utf8 { is_utf8 self }
+        ensures fits { IsSome result ↔ (Self.room self ≤ length buffer.old) }
+        ensures text { IfSome result (λ text. Self.is_text self text.now) }
+        ensures short { IfSome result (λ text. length text.now ≤ Self.room self) }
+    {
+        if buffer.len() < self.room() {
+            return None;
+        }
+        Some(self.to_str(buffer))
+    }
+}
+
+impl Utf8Part for &str {
+    ghost is_utf8 = { λ _. ⊤ };
+
+    fn text_is_utf8(self) {
+        // The call makes it known to the prover that the bytes of a `&str` are UTF-8.
+        let _ = self.as_bytes();
+    }
+}
+
+impl Utf8Part for Byte {
+    ghost is_utf8 = { λ part. part.0 < 128 };
+
+    fn text_is_utf8(self) {}
+}
+
+impl<T: ToLexicalWithOptions> Utf8Part for Decimal<T> {
+    ghost is_utf8 = { λ _. ⊤ };
+
+    fn text_is_utf8(self) {
+        STANDARD.in_range();
+    }
+}
+
+impl<T: Radix + DigitCount> Utf8Part for Digits<T> {
+    ghost is_utf8 = { λ _. ⊤ };
+
+    fn text_is_utf8(self) {}
+}
+
+impl<T: ToLexicalWithOptions> Utf8Part for Formatted<'_, T> {
+    ghost is_utf8 = { λ _. ⊤ };
+
+    fn text_is_utf8(self) {
+        self.1.in_range();
+    }
+}
+
+impl<T: DigitCount + Radix> Utf8Part for PaddedDigits<T> {
+    ghost is_utf8 = { λ _. ⊤ };
+
+    fn text_is_utf8(self) {}
+}
+
+impl<T: DigitCount + Radix> Utf8Part for Padded<T> {
+    ghost is_utf8 = { λ _. ⊤ };
+
+    fn text_is_utf8(self) {}
+}
+
+impl<T: ToLexicalWithOptions> Utf8Part for Joined<'_, T> {
+    ghost is_utf8 = { λ _. ⊤ };
+
+    fn text_is_utf8(self) {
+        STANDARD.in_range();
+        self.1.text_is_utf8();
+    }
+}
+
+impl<P: Utf8Part> Utf8Part for Left<P> {
+    ghost is_utf8 = { λ part. P.is_utf8 part.0 };
+
+    fn text_is_utf8(self) {
+        self.0.text_is_utf8();
+    }
+}
+
+impl<P: Utf8Part> Utf8Part for Right<P> {
+    ghost is_utf8 = { λ part. P.is_utf8 part.0 };
+
+    fn text_is_utf8(self) {
+        self.0.text_is_utf8();
+    }
+}
+
+impl<P: Utf8Part> Utf8Part for Option<P> {
+    ghost is_utf8 = { IsValidOptional P.is_utf8 };
+
+    fn text_is_utf8(self) {
+        match self {
+            Some(part) => part.text_is_utf8(),
+            None => {}
+        }
+    }
+}
