@@ -2,3 +2,5 @@
 pub mod Columns
 -- texts of the elements of a list, which grow by one element at their end
 pub mod Lists
+-- texts in lowercase
+pub mod Lowercases

@@ -21,6 +21,7 @@
 
 mod column;
 mod joined;
+mod lower;
 mod number;
 mod option;
 mod padded;
@@ -30,6 +31,7 @@ mod tuples;
 
 pub use column::{Left, Right};
 pub use joined::Joined;
+pub use lower::Lower;
 pub use number::{Decimal, Digits, Formatted};
 pub use padded::{Padded, PaddedDigits};
 pub use part::Part;

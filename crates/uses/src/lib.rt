@@ -27,3 +27,4 @@ pub mod sorted_keys;
 pub mod table_row;
 pub mod time_of_day;
 pub mod turn_lists;
+pub mod uuid;

@@ -1,6 +1,7 @@
 // Tests of the callers with known numbers.
 
 mod lines;
+mod parts;
 
 use lexical_write_integer::{
     BUFFER_SIZE, Error, NumberFormat, NumberFormatBuilder, Options, ToLexical, ToLexicalWithOptions,
