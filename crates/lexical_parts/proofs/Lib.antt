@@ -4,3 +4,5 @@ pub mod Columns
 pub mod Lists
 -- texts in lowercase
 pub mod Lowercases
+-- digits of a number of a type
+pub mod Widths

@@ -20,6 +20,7 @@
 #![tactic(auto)]
 
 mod column;
+mod hex;
 mod joined;
 mod lower;
 mod number;
@@ -30,6 +31,7 @@ mod text;
 mod tuples;
 
 pub use column::{Left, Right};
+pub use hex::{Binary, Hex};
 pub use joined::Joined;
 pub use lower::Lower;
 pub use number::{Decimal, Digits, Formatted};

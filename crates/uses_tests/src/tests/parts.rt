@@ -1,7 +1,7 @@
 // Tests of single parts, and of callers that show one part each.
 
 use super::check_buffer;
-use lexical_parts::{Decimal, Lower, PaddedDigits, Part};
+use lexical_parts::{Binary, Decimal, Hex, Lower, PaddedDigits, Part};
 use uses::uuid::write_uuid;
 
 #[test]
@@ -21,4 +21,22 @@ fn uuids(rt: HostRuntime) {
     check_buffer(&rt, &buffer, count, b"f81d4fae-7dec-11d0-a765-00a0c91e6bf6");
     let count = write_uuid(0, 0, &mut buffer);
     check_buffer(&rt, &buffer, count, b"00000000-0000-0000-0000-000000000000");
+}
+
+#[test]
+fn numbers_with_the_room_of_their_type(rt: HostRuntime) {
+    let mut buffer = [7; 70];
+    let count = (Hex(255u8), " ", Hex(0u16), " ", Lower(Hex(0xC0DEu32))).write_to(
+        &mut buffer[..16],
+    );
+    check_buffer(&rt, &buffer, count, b"FF 0 c0de");
+    let mut buffer = [7; 70];
+    let count = (Hex(18446744073709551615u64), Binary(5u8)).write_to(&mut buffer[..24]);
+    check_buffer(&rt, &buffer, count, b"FFFFFFFFFFFFFFFF101");
+    assert_eq!(rt; Hex(1u8).room(), 2);
+    assert_eq!(rt; Hex(1u16).room(), 4);
+    assert_eq!(rt; Hex(1u32).room(), 8);
+    assert_eq!(rt; Hex(1u64).room(), 16);
+    assert_eq!(rt; Binary(1u8).room(), 8);
+    assert_eq!(rt; Binary(1u64).room(), 64);
 }
