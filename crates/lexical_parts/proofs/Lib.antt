@@ -6,3 +6,5 @@ pub mod Lists
 pub mod Lowercases
 -- digits of a number of a type
 pub mod Widths
+-- digits with a point
+pub mod Points

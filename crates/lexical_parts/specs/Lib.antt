@@ -1,4 +1,5 @@
 pub mod Column
+pub mod Fixed
 pub mod Joined
 pub mod Lowercase
 pub mod Optional

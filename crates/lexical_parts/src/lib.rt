@@ -20,6 +20,8 @@
 #![tactic(auto)]
 
 mod column;
+mod fill;
+mod fixed;
 mod hex;
 mod joined;
 mod lower;
@@ -31,6 +33,7 @@ mod text;
 mod tuples;
 
 pub use column::{Left, Right};
+pub use fixed::Fixed;
 pub use hex::{Binary, Hex};
 pub use joined::Joined;
 pub use lower::Lower;

@@ -1,7 +1,8 @@
 // Tests of single parts, and of callers that show one part each.
 
 use super::check_buffer;
-use lexical_parts::{Binary, Decimal, Hex, Lower, PaddedDigits, Part};
+use lexical_parts::{Binary, Decimal, Fixed, Hex, Lower, PaddedDigits, Part};
+use uses::amount::write_cents;
 use uses::uuid::write_uuid;
 
 #[test]
@@ -39,4 +40,44 @@ fn numbers_with_the_room_of_their_type(rt: HostRuntime) {
     assert_eq!(rt; Hex(1u64).room(), 16);
     assert_eq!(rt; Binary(1u8).room(), 8);
     assert_eq!(rt; Binary(1u64).room(), 64);
+}
+
+#[test]
+fn numbers_with_decimals(rt: HostRuntime) {
+    let mut buffer = [7; 22];
+    assert_eq!(rt;
+        &*Fixed(1234u32, 3).to_text(&mut buffer),
+        b"1.234".as_slice()
+    );
+    assert_eq!(rt; &*Fixed(-7i16, 0).to_text(&mut buffer), b"-7".as_slice());
+    assert_eq!(rt; &*Fixed(0usize, 2).to_text(&mut buffer), b"0.00".as_slice());
+    assert_eq!(rt; &*Fixed(99u16, 2).to_text(&mut buffer), b"0.99".as_slice());
+    assert_eq!(rt;
+        &*Fixed(100isize, 2).to_text(&mut buffer),
+        b"1.00".as_slice()
+    );
+    assert_eq!(rt;
+        &*Fixed(255u8, 2).to_text(&mut buffer[..4]),
+        b"2.55".as_slice()
+    );
+    assert_eq!(rt;
+        &*Fixed(-128i8, 2).to_text(&mut buffer[..5]),
+        b"-1.28".as_slice()
+    );
+    let text = Fixed(-2147483648i32, 1).to_text(&mut buffer[..12]);
+    assert_eq!(rt; &*text, b"-214748364.8".as_slice());
+    let text = Fixed(18446744073709551615u64, 19).to_text(&mut buffer[..21]);
+    assert_eq!(rt; &*text, b"1.8446744073709551615".as_slice());
+    let text = Fixed(-9223372036854775808i64, 19).to_text(&mut buffer);
+    assert_eq!(rt; &*text, b"-0.9223372036854775808".as_slice());
+}
+
+#[test]
+fn amounts_in_cents(rt: HostRuntime) {
+    let mut buffer = [7; 21];
+    let count = write_cents(-5, &mut buffer);
+    check_buffer(&rt, &buffer, count, b"-0.05");
+    let mut buffer = [7; 21];
+    let count = write_cents(-9223372036854775808, &mut buffer);
+    check_buffer(&rt, &buffer, count, b"-92233720368547758.08");
 }
