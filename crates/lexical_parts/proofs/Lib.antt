@@ -6,5 +6,9 @@ pub mod Lists
 pub mod Lowercases
 -- digits of a number of a type
 pub mod Widths
+-- bytes inserted into a text
+pub mod Inserts
 -- digits with a point
 pub mod Points
+-- zeros after a sign
+pub mod ZeroPaddings

@@ -2,8 +2,7 @@
 use Rattle.std.proofs.Common.{◌≡◌, ℕ, zero, suc, ◌+◌, ◌-◌, ◌*◌, ◌/◌, ◌%◌, ◌^◌, ◌<◌, ◌≤◌, List, [], ◌∷◌, ◌++◌, length, length-append, take, drop, replicate, refl, sym, ap, ◌∙◌, inl, inr, arith}
 use Rattle.std.proofs.Math.Nat.{one-le-pow, pow-le-pow_right, div-lt_iff_lt-mul}
 use Rattle.std.proofs.lemmas.Bool.{cases_lt}
-use Rattle.std.proofs.lemmas.List.{drop-append-le, drop-map, length-drop, length-replicate, length-take, length-take-le, take-append-drop, take-append-le, take-map, take_at}
-use Rattle.std.proofs.lemmas.Slice.{drop-append-drop}
+use Rattle.std.proofs.lemmas.List.{drop-map, length-drop, length-replicate, length-take, length-take-le, take-append-drop, take-map}
 use Rattle.std.proofs.lemmas.List.Elements.{All-drop, All-take}
 use Rattle.std.proofs.lemmas.Nat.{div-mul-add, mod-mul-add}
 use Rattle.lexical_num.specs.Digit.{digit_char}
@@ -13,7 +12,8 @@ use Rattle.lexical_write_integer.specs.Numeral.{IsBlockOf, value_of}
 use Rattle.lexical_write_integer.specs.Padded.{IsPadded}
 use Rattle.lexical_write_integer.specs.Text.{IsDigits}
 use Rattle.lexical_parts.specs.Fixed.{IsUnits}
-use Rattle.lexical_write_integer.proofs.Buffers.Prefixes.{Front-after, take-Writes}
+use Rattle.lexical_parts.proofs.Inserts.{Front-inserted, Front-over}
+use Rattle.lexical_write_integer.proofs.Buffers.Prefixes.{take-Writes}
 use Rattle.lexical_write_integer.proofs.OfDigits.Count.DigitCounts.{digit_count-fits, digit_count-left, digit_count-one}
 use Rattle.lexical_write_integer.proofs.OfDigits.DigitValues.{value_of-append, value_of-lt}
 use Rattle.lexical_write_integer.proofs.OfDigits.Numerals.{IsNumeralOf-block, length-IsDigits}
@@ -82,16 +82,6 @@ digits_around_point n decimals added count whole text is counted is_zeros is_who
 
 -- ---- the point in the buffer
 
--- a text is written over a shorter one
-pub Front-over : {before between after s t : List ℕ} → Front before between s → Front between after t → length s ≤ length t → Front before after t
-Front-over {before} {between} {after} {s} {t} a b more =
-    let long = length-append s (drop (length s) before) in
-    record {
-      fits = omega (arith, b.fits, ap length a.written, long, length-drop (length s) before, a.fits);
-      written = b.written ∙ ap (λ xs. t ++ drop (length t) xs) a.written
-          ∙ ap (λ xs. t ++ xs) (drop-append-drop (length s) before s (length t) more refl);
-    }
-
 -- the point and the digits after it are a fraction, if there are such digits
 IsUnits-point : (decimals units : ℕ) (front back : List ℕ) → 1 ≤ decimals → IsDigits 10 (units / 10 ^ decimals) front
     → IsPadded 10 decimals (units % 10 ^ decimals) back → IsUnits decimals units (front ++ 46 ∷ back)
@@ -116,27 +106,12 @@ written_point {n} {decimals} {added} {count} {before} {digits} {padded} {part} w
     let long : length text ≡ added + count = omega (arith, length-append (replicate added 48) a.text, length-replicate {A = ℕ} added 48, a.count) in
     let front : Front before padded text = Front-over a.front written (omega (arith, long, a.count)) in
     let both = digits_around_point n decimals added count whole a.text a.is a.count is_zeros is_whole in
-    let rest : List ℕ = drop (length text) before in
-    let lent : List ℕ = take room (drop whole padded) in
-    let first : List ℕ = take whole text in
-    let back : List ℕ = drop whole text in
-    let first_long : length first ≡ whole = length-take-le whole text (omega arith) in
-    let back_long : length back ≡ decimals = omega (arith, length-drop whole text, long) in
-    let first_is : take whole padded ≡ first = ap (take whole) front.written ∙ take-append-le whole text rest (omega arith) in
-    let after : drop whole padded ≡ back ++ rest = ap (drop whole) front.written ∙ drop-append-le whole text rest (omega arith) in
-    let room_for : decimals ≤ length lent = omega (arith, c.fits, length-take decimals lent) in
-    let back_is : take decimals lent ≡ back =
-    sym (take-append-le decimals lent (drop room (drop whole padded)) room_for) ∙ ap (take decimals) (take-append-drop room (drop whole padded) ∙ after)
-    ∙ take_at back rest decimals back_long in
-    let point : Front lent part (46 ∷ back) = rw back_is at c in
-    let kept : Front padded padded first = record {
-      fits = omega (arith, first_long, front.fits, ap length front.written, length-append text rest);
-      written = sym (take-append-drop whole padded) ∙ ap (λ xs. xs ++ drop whole padded) first_is ∙ ap (λ k. first ++ drop k padded) (sym first_long);
-    } in
-    let total : length (first ++ 46 ∷ back) ≡ whole + 1 + decimals = omega (arith, length-append first (46 ∷ back), first_long, back_long) in
+    let room_for : decimals ≤ length (take room (drop whole padded)) = omega (arith, c.fits, length-take decimals (take room (drop whole padded))) in
+    let total : length (take whole text ++ 46 ∷ drop whole text) ≡ whole + 1 + decimals =
+    omega (arith, length-append (take whole text) (46 ∷ drop whole text), length-take-le whole text (omega arith), length-drop whole text, long) in
     record {
-      text = first ++ 46 ∷ back;
-      is = IsUnits-point decimals n first back some both.0 both.1;
-      front = Front-over front (Front-after padded padded part first (46 ∷ back) whole room (sym first_long) kept point) (omega (arith, total, long));
+      text = take whole text ++ 46 ∷ drop whole text;
+      is = IsUnits-point decimals n (take whole text) (drop whole text) some both.0 both.1;
+      front = Front-inserted (46 ∷ []) whole room front (omega arith) c room_for;
       count = sym total;
     }

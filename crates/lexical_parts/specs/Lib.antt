@@ -4,3 +4,4 @@ pub mod Joined
 pub mod Lowercase
 pub mod Optional
 pub mod Sequence
+pub mod ZeroPadded

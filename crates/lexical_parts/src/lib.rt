@@ -31,8 +31,9 @@ mod padded;
 mod part;
 mod text;
 mod tuples;
+mod zero_padded;
 
-pub use column::{Left, Right};
+pub use column::{Center, Left, Right};
 pub use fixed::Fixed;
 pub use hex::{Binary, Hex};
 pub use joined::Joined;
@@ -41,3 +42,4 @@ pub use number::{Decimal, Digits, Formatted};
 pub use padded::{Padded, PaddedDigits};
 pub use part::Part;
 pub use text::{Byte, Bytes};
+pub use zero_padded::ZeroPadded;

@@ -81,7 +81,12 @@ fn rows_in_columns(rt: HostRuntime) {
         b" -2147483648           0          42\n",
     );
     let mut buffer = [7; 8];
-    let count = (Left(Decimal(12u8), 4), Byte(b'|'), Left(Bytes(b"abc"), 2)).write_to(&mut buffer);
+    let count = (
+        Left(Decimal(12u8), 4, b' '),
+        Byte(b'|'),
+        Left(Bytes(b"abc"), 2, b' '),
+    )
+        .write_to(&mut buffer);
     check_buffer(&rt, &buffer, count, b"12  |abc");
 }
 

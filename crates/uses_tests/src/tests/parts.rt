@@ -1,8 +1,11 @@
 // Tests of single parts, and of callers that show one part each.
 
 use super::check_buffer;
-use lexical_parts::{Binary, Decimal, Fixed, Hex, Lower, PaddedDigits, Part};
+use lexical_parts::{
+    Binary, Center, Decimal, Fixed, Hex, Left, Lower, PaddedDigits, Part, Right, ZeroPadded,
+};
 use uses::amount::write_cents;
+use uses::table_row::write_total;
 use uses::uuid::write_uuid;
 
 #[test]
@@ -80,4 +83,63 @@ fn amounts_in_cents(rt: HostRuntime) {
     let mut buffer = [7; 21];
     let count = write_cents(-9223372036854775808, &mut buffer);
     check_buffer(&rt, &buffer, count, b"-92233720368547758.08");
+}
+
+// Rust's own answers: `format!("{:06}", -42)`, and so on.
+#[test]
+fn widths_as_in_rust(rt: HostRuntime) {
+    let mut buffer = [7; 12];
+    assert_eq!(rt;
+        &*ZeroPadded(Decimal(-42), 6).to_text(&mut buffer),
+        b"-00042".as_slice()
+    );
+    assert_eq!(rt;
+        &*ZeroPadded(Decimal(42u8), 8).to_text(&mut buffer),
+        b"00000042".as_slice()
+    );
+    assert_eq!(rt;
+        &*ZeroPadded(Decimal(12345), 4).to_text(&mut buffer),
+        b"12345".as_slice()
+    );
+    assert_eq!(rt;
+        &*ZeroPadded(Decimal(0u8), 0).to_text(&mut buffer),
+        b"0".as_slice()
+    );
+    assert_eq!(rt;
+        &*ZeroPadded(Hex(255u16), 6).to_text(&mut buffer),
+        b"0000FF".as_slice()
+    );
+    let text = ZeroPadded(Fixed(-5i32, 2), 9).to_text(&mut buffer);
+    assert_eq!(rt; &*text, b"-00000.05".as_slice());
+    assert_eq!(rt;
+        &*Right(Decimal(-42), 8, b' ').to_text(&mut buffer),
+        b"     -42".as_slice()
+    );
+    assert_eq!(rt;
+        &*Right(Decimal(-42), 6, b'*').to_text(&mut buffer),
+        b"***-42".as_slice()
+    );
+    assert_eq!(rt;
+        &*Left(Decimal(-42), 6, b'*').to_text(&mut buffer),
+        b"-42***".as_slice()
+    );
+    assert_eq!(rt;
+        &*Center(Decimal(-42), 6, b'*').to_text(&mut buffer),
+        b"*-42**".as_slice()
+    );
+    assert_eq!(rt;
+        &*Center("ab", 6, b'*').to_text(&mut buffer),
+        b"**ab**".as_slice()
+    );
+    assert_eq!(rt;
+        &*Center("abc", 2, b'*').to_text(&mut buffer),
+        b"abc".as_slice()
+    );
+}
+
+#[test]
+fn totals_in_columns(rt: HostRuntime) {
+    let mut buffer = [7; 24];
+    let count = write_total("total", -1234, &mut buffer);
+    check_buffer(&rt, &buffer, count, b"---total----...-1234\n");
 }
