@@ -55,9 +55,8 @@ impl<P: Part> Part for Right<P> {
 }
 
 /// A part in the centre of a column: a byte, often a space, is added before and after its text, up to
-/// the width. If an odd number is added, one more is after the text than before it, as with `{:^6}` in
-/// Rust: `Center(Decimal(-12), 6, b'*')` writes `*-12**`. Nothing is added to a text longer than the
-/// width.
+/// the width. Of an odd number of bytes the larger half is after the text, as with `{:^6}` in Rust:
+/// `Center(Decimal(-12), 6, b'*')` writes `*-12**`. Nothing is added to a text longer than the width.
 #[derive(Clone, Copy, Drop)]
 pub struct Center<P>(pub P, pub usize, pub u8);
 

@@ -42,7 +42,7 @@ fn write_units<T: ToLexicalWithOptions>(number: T, decimals: usize, buffer: &mut
 
 /// A number of units of 10^-`decimals`, such as an amount in cents: `Fixed(-5i64, 2)` writes `-0.05`,
 /// and `Fixed(1234u32, 3)` writes `1.234`. At least one digit precedes the point, and `decimals`
-/// digits follow it; without decimals there is no point. There are at most 19 decimals.
+/// digits follow it; a number without decimals has no point. There are at most 19 decimals.
 #[derive(Clone, Copy, Drop)]
 pub struct Fixed<T>(pub T, pub usize);
 
