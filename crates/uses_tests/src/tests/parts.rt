@@ -47,32 +47,37 @@ fn numbers_with_the_room_of_their_type(rt: HostRuntime) {
 
 #[test]
 fn numbers_with_decimals(rt: HostRuntime) {
-    let mut buffer = [7; 22];
     assert_eq!(rt;
-        &*Fixed(1234u32, 3).to_text(&mut buffer),
+        &*Fixed(1234u32, 3).to_text(&mut [7; 22]),
         b"1.234".as_slice()
     );
-    assert_eq!(rt; &*Fixed(-7i16, 0).to_text(&mut buffer), b"-7".as_slice());
-    assert_eq!(rt; &*Fixed(0usize, 2).to_text(&mut buffer), b"0.00".as_slice());
-    assert_eq!(rt; &*Fixed(99u16, 2).to_text(&mut buffer), b"0.99".as_slice());
+    assert_eq!(rt; &*Fixed(-7i16, 0).to_text(&mut [7; 22]), b"-7".as_slice());
     assert_eq!(rt;
-        &*Fixed(100isize, 2).to_text(&mut buffer),
+        &*Fixed(0usize, 2).to_text(&mut [7; 22]),
+        b"0.00".as_slice()
+    );
+    assert_eq!(rt; &*Fixed(99u16, 2).to_text(&mut [7; 22]), b"0.99".as_slice());
+    assert_eq!(rt;
+        &*Fixed(100isize, 2).to_text(&mut [7; 22]),
         b"1.00".as_slice()
     );
+    assert_eq!(rt; &*Fixed(255u8, 2).to_text(&mut [7; 4]), b"2.55".as_slice());
     assert_eq!(rt;
-        &*Fixed(255u8, 2).to_text(&mut buffer[..4]),
-        b"2.55".as_slice()
-    );
-    assert_eq!(rt;
-        &*Fixed(-128i8, 2).to_text(&mut buffer[..5]),
+        &*Fixed(-128i8, 2).to_text(&mut [7; 5]),
         b"-1.28".as_slice()
     );
-    let text = Fixed(-2147483648i32, 1).to_text(&mut buffer[..12]);
-    assert_eq!(rt; &*text, b"-214748364.8".as_slice());
-    let text = Fixed(18446744073709551615u64, 19).to_text(&mut buffer[..21]);
-    assert_eq!(rt; &*text, b"1.8446744073709551615".as_slice());
-    let text = Fixed(-9223372036854775808i64, 19).to_text(&mut buffer);
-    assert_eq!(rt; &*text, b"-0.9223372036854775808".as_slice());
+    assert_eq!(rt;
+        &*Fixed(-2147483648i32, 1).to_text(&mut [7; 12]),
+        b"-214748364.8".as_slice()
+    );
+    assert_eq!(rt;
+        &*Fixed(18446744073709551615u64, 19).to_text(&mut [7; 21]),
+        b"1.8446744073709551615".as_slice()
+    );
+    assert_eq!(rt;
+        &*Fixed(-9223372036854775808i64, 19).to_text(&mut [7; 22]),
+        b"-0.9223372036854775808".as_slice()
+    );
 }
 
 #[test]
