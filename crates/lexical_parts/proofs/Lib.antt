@@ -6,3 +6,13 @@ pub mod Lists
 pub mod Utf8Texts
 -- texts that are equal to bytes, for a caller whose contract is an equation of bytes
 pub mod Equations
+-- texts in lowercase
+pub mod Lowercases
+-- digits of a number of a type
+pub mod Widths
+-- bytes inserted into a text
+pub mod Inserts
+-- digits with a point
+pub mod Points
+-- zeros after a sign
+pub mod ZeroPaddings

@@ -1,15 +1,17 @@
 -- The texts of parts are UTF-8.
-use Rattle.std.proofs.Common.{ℕ, ◌-◌, ◌<◌, ◌≤◌, List, [], ◌∷◌, length, replicate, arith, ℤ}
+use Rattle.std.proofs.Common.{ℕ, zero, suc, ◌-◌, ◌/◌, ◌%◌, ◌^◌, ◌<◌, ◌≤◌, List, [], ◌∷◌, ◌++◌, false, length, replicate, arith, ℤ, pos, negsuc, unsigned_abs}
 use Rattle.std.specs.Str.{IsUtf8}
 use Rattle.std.proofs.lemmas.List.Elements.{All-nil, All-cons, All-replicate}
 use Rattle.std.proofs.lemmas.Str.{IsUtf8-nil, IsUtf8-from_ascii, IsUtf8-append}
 use Rattle.std.proofs.lemmas.Str.Ascii.{IsAscii-from_all}
 use Rattle.lexical_num.specs.Format.{Format, IsValid}
+use Rattle.lexical_num.specs.Sign.{sign_of}
 use Rattle.lexical_write_integer.specs.Padded.{IsPadded}
 use Rattle.lexical_write_integer.specs.Sequence.{IsExactly, Then, AreJoined}
 use Rattle.lexical_write_integer.specs.Text.{IsDigits, IsText}
 use Rattle.lexical_write_integer.proofs.OfTexts.Ascii.{IsAscii-IsText, IsAscii-digit_chars}
-use Rattle.lexical_parts.specs.Column.{IsAtLeft, IsAtRight}
+use Rattle.lexical_parts.specs.Column.{IsAtLeft, IsAtRight, IsCentered}
+use Rattle.lexical_parts.specs.Fixed.{IsFixed, IsFraction}
 use Rattle.lexical_parts.specs.Utf8.{AreUtf8}
 
 -- a byte below 128
@@ -39,14 +41,36 @@ joined_is_utf8 IsOf separator (x ∷ []) each between text is = each x text is
 joined_is_utf8 IsOf separator (x ∷ y ∷ xs) each between text is =
     then_is_utf8 (each x) (then_is_utf8 (λ mark same. rw same between) (joined_is_utf8 IsOf separator (y ∷ xs) each between)) text is
 
-spaces_are_utf8 : (count : ℕ) → IsUtf8 (replicate count 32)
-spaces_are_utf8 count =
-    IsUtf8-from_ascii (replicate count 32) (IsAscii-from_all (replicate count 32) (All-replicate (λ b. b < 128) count 32 (omega arith)))
+-- copies of a byte below 128
+fill_is_utf8 : (fill count : ℕ) → fill < 128 → IsUtf8 (replicate count fill)
+fill_is_utf8 fill count small =
+    IsUtf8-from_ascii (replicate count fill) (IsAscii-from_all (replicate count fill) (All-replicate (λ b. b < 128) count fill small))
 
-pub at_left_is_utf8 : {Is : List ℕ → Type 0} (width : ℕ) → AreUtf8 Is → AreUtf8 (IsAtLeft width Is)
-at_left_is_utf8 width cells text is =
-    rw is.whole (IsUtf8-append is.cell (replicate (width - length is.cell) 32) (cells is.cell is.is) (spaces_are_utf8 (width - length is.cell)))
+pub at_left_is_utf8 : {Is : List ℕ → Type 0} (width fill : ℕ) → fill < 128 → AreUtf8 Is → AreUtf8 (IsAtLeft width fill Is)
+at_left_is_utf8 width fill small cells text is =
+    rw is.whole (IsUtf8-append is.cell (replicate (width - length is.cell) fill) (cells is.cell is.is) (fill_is_utf8 fill (width - length is.cell) small))
 
-pub at_right_is_utf8 : {Is : List ℕ → Type 0} (width : ℕ) → AreUtf8 Is → AreUtf8 (IsAtRight width Is)
-at_right_is_utf8 width cells text is =
-    rw is.whole (IsUtf8-append (replicate (width - length is.cell) 32) is.cell (spaces_are_utf8 (width - length is.cell)) (cells is.cell is.is))
+pub at_right_is_utf8 : {Is : List ℕ → Type 0} (width fill : ℕ) → fill < 128 → AreUtf8 Is → AreUtf8 (IsAtRight width fill Is)
+at_right_is_utf8 width fill small cells text is =
+    rw is.whole (IsUtf8-append (replicate (width - length is.cell) fill) is.cell (fill_is_utf8 fill (width - length is.cell) small) (cells is.cell is.is))
+
+pub centered_is_utf8 : {Is : List ℕ → Type 0} (width fill : ℕ) → fill < 128 → AreUtf8 Is → AreUtf8 (IsCentered width fill Is)
+centered_is_utf8 width fill small cells text is =
+    let added = width - length is.cell in
+    let before = IsUtf8-append (replicate (added / 2) fill) is.cell (fill_is_utf8 fill (added / 2) small) (cells is.cell is.is) in
+    rw is.whole (IsUtf8-append (replicate (added / 2) fill ++ is.cell) (replicate (added - added / 2) fill) before (fill_is_utf8 fill (added - added / 2) small))
+
+sign_is_utf8 : (number : ℤ) → AreUtf8 (IsExactly (sign_of number false))
+sign_is_utf8 (pos n) text is = rw is IsUtf8-nil
+sign_is_utf8 (negsuc n) text is = one_is_utf8 45 (omega arith) text is
+
+fraction_is_utf8 : (decimals units : ℕ) → AreUtf8 (IsFraction decimals units)
+fraction_is_utf8 zero units text is = rw is IsUtf8-nil
+fraction_is_utf8 (suc decimals) units text is =
+    then_is_utf8 (one_is_utf8 46 (omega arith)) (padded_is_utf8 10 (suc decimals) units (omega arith)) text is
+
+pub fixed_is_utf8 : (decimals : ℕ) (number : ℤ) → AreUtf8 (IsFixed decimals number)
+fixed_is_utf8 decimals number text is =
+    let units = unsigned_abs number in
+    then_is_utf8 (sign_is_utf8 number)
+    (then_is_utf8 (digits_are_utf8 10 (units / 10 ^ decimals) (omega arith)) (fraction_is_utf8 decimals (units % 10 ^ decimals))) text is

@@ -1,14 +1,21 @@
--- Texts that are padded with spaces to the width of a column.
-use Rattle.std.specs.Prelude.{◌≡◌, ℕ, ◌-◌, List, ◌++◌, length, replicate}
+-- Texts that are padded with copies of a byte to the width of a column.
+use Rattle.std.specs.Prelude.{◌≡◌, ℕ, ◌-◌, ◌/◌, List, ◌++◌, length, replicate}
 
--- a text that satisfies `Is`, and spaces after it up to the width
-pub record IsAtLeft (width : ℕ) (Is : List ℕ → Type 0) (text : List ℕ) : Type 0 where
+-- a text that satisfies `Is`, and the byte after it up to the width
+pub record IsAtLeft (width fill : ℕ) (Is : List ℕ → Type 0) (text : List ℕ) : Type 0 where
   pub cell : List ℕ
   pub is : Is cell
-  pub whole : text ≡ cell ++ replicate (width - length cell) 32
+  pub whole : text ≡ cell ++ replicate (width - length cell) fill
 
--- spaces up to the width, and then a text that satisfies `Is`
-pub record IsAtRight (width : ℕ) (Is : List ℕ → Type 0) (text : List ℕ) : Type 0 where
+-- the byte up to the width, and then a text that satisfies `Is`
+pub record IsAtRight (width fill : ℕ) (Is : List ℕ → Type 0) (text : List ℕ) : Type 0 where
   pub cell : List ℕ
   pub is : Is cell
-  pub whole : text ≡ replicate (width - length cell) 32 ++ cell
+  pub whole : text ≡ replicate (width - length cell) fill ++ cell
+
+-- half of the copies, rounded down, then a text that satisfies `Is`, and then the other copies
+pub record IsCentered (width fill : ℕ) (Is : List ℕ → Type 0) (text : List ℕ) : Type 0 where
+  pub cell : List ℕ
+  pub is : Is cell
+  pub whole : text ≡ (replicate ((width - length cell) / 2) fill ++ cell)
+      ++ replicate (width - length cell - (width - length cell) / 2) fill

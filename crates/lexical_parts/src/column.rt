@@ -1,38 +1,19 @@
-//! Parts that are padded with spaces to the width of a column.
+//! Parts that are padded to the width of a column.
 
-ghost use Rattle.std.specs.Prelude.{◌+◌, ◌≤◌, ◌++◌, length, max, replicate, take};
-ghost use Rattle.lexical_write_integer.specs.Buffer.{Front, Writes};
-ghost use Rattle.lexical_write_integer.specs.Sequence.{IsExactly};
-ghost use Rattle.lexical_parts.specs.Column.{IsAtLeft, IsAtRight};
+ghost use Rattle.std.specs.Prelude.{max};
+ghost use Rattle.lexical_parts.specs.Column.{IsAtLeft, IsAtRight, IsCentered};
 
+use crate::fill::{insert_fill, write_fill};
 use crate::part::Part;
 
-// Writes `count` spaces to the start of the buffer, and returns `count`.
-fn write_spaces(count: usize, buffer: &mut [u8]) -> usize
-    requires { count ≤ length buffer.old }
-    ensures { Writes (IsExactly (replicate count 32)) buffer.old buffer.new result }
-{
-    buffer[..count].fill(b' ');
-    count
-}
-
-// Moves the first `count` bytes of the buffer to the right, and writes spaces before them.
-fn insert_spaces(spaces: usize, count: usize, buffer: &mut [u8])
-    requires { spaces + count ≤ length buffer.old }
-    ensures { Front buffer.old buffer.new (replicate spaces 32 ++ take count buffer.old) }
-{
-    buffer.copy_within(..count, spaces);
-    buffer[..spaces].fill(b' ');
-}
-
-/// A part that is aligned to the left of a column: spaces are added after its text, up to the
-/// width. `Left(Decimal(12), 4)` writes `12` and two spaces. A text longer than the width has no
-/// spaces.
+/// A part that is aligned to the left of a column: a byte, often a space, is added after its text, up to
+/// the width. `Left(Decimal(12), 4, b'.')` writes `12..`. Nothing is added to a text longer than the
+/// width.
 #[derive(Clone, Copy, Drop)]
-pub struct Left<P>(pub P, pub usize);
+pub struct Left<P>(pub P, pub usize, pub u8);
 
 impl<P: Part> Part for Left<P> {
-    ghost is_text = { λ part. IsAtLeft part.1 (P.is_text part.0) };
+    ghost is_text = { λ part. IsAtLeft part.1 part.2 (P.is_text part.0) };
 
     ghost is_valid = { λ part. P.is_valid part.0 };
 
@@ -44,18 +25,18 @@ impl<P: Part> Part for Left<P> {
 
     fn write_to(self, buffer: &mut [u8]) -> usize {
         let count = self.0.write_to(buffer);
-        count + write_spaces(self.1.saturating_sub(count), &mut buffer[count..])
+        count + write_fill(self.2, self.1.saturating_sub(count), &mut buffer[count..])
     }
 }
 
-/// A part that is aligned to the right of a column: spaces are added before its text, up to the
-/// width. `Right(Decimal(42), 12)` writes ten spaces and `42`. A text longer than the width has no
-/// spaces.
+/// A part that is aligned to the right of a column: a byte, often a space, is added before its text, up
+/// to the width. `Right(Decimal(42), 4, b' ')` writes two spaces and `42`. Nothing is added to a text
+/// longer than the width.
 #[derive(Clone, Copy, Drop)]
-pub struct Right<P>(pub P, pub usize);
+pub struct Right<P>(pub P, pub usize, pub u8);
 
 impl<P: Part> Part for Right<P> {
-    ghost is_text = { λ part. IsAtRight part.1 (P.is_text part.0) };
+    ghost is_text = { λ part. IsAtRight part.1 part.2 (P.is_text part.0) };
 
     ghost is_valid = { λ part. P.is_valid part.0 };
 
@@ -67,8 +48,35 @@ impl<P: Part> Part for Right<P> {
 
     fn write_to(self, buffer: &mut [u8]) -> usize {
         let count = self.0.write_to(buffer);
-        let spaces = self.1.saturating_sub(count);
-        insert_spaces(spaces, count, buffer);
-        count + spaces
+        let added = self.1.saturating_sub(count);
+        insert_fill(self.2, added, count, buffer);
+        added + count
+    }
+}
+
+/// A part in the centre of a column: a byte, often a space, is added before and after its text, up to
+/// the width. Of an odd number of bytes the larger half is after the text, as with `{:^6}` in Rust:
+/// `Center(Decimal(-12), 6, b'*')` writes `*-12**`. Nothing is added to a text longer than the width.
+#[derive(Clone, Copy, Drop)]
+pub struct Center<P>(pub P, pub usize, pub u8);
+
+impl<P: Part> Part for Center<P> {
+    ghost is_text = { λ part. IsCentered part.1 part.2 (P.is_text part.0) };
+
+    ghost is_valid = { λ part. P.is_valid part.0 };
+
+    ghost room = { λ part. max (P.room part.0) part.1 };
+
+    fn room(self) -> usize {
+        self.0.room().max(self.1)
+    }
+
+    fn write_to(self, buffer: &mut [u8]) -> usize {
+        let count = self.0.write_to(buffer);
+        let added = self.1.saturating_sub(count);
+        let before = added / 2;
+        insert_fill(self.2, before, count, buffer);
+        let end = before + count;
+        end + write_fill(self.2, added - before, &mut buffer[end..])
     }
 }

@@ -21,7 +21,11 @@
 #![tactic(auto)]
 
 mod column;
+mod fill;
+mod fixed;
+mod hex;
 mod joined;
+mod lower;
 mod number;
 mod option;
 mod padded;
@@ -29,11 +33,16 @@ mod part;
 mod text;
 mod tuples;
 mod utf8;
+mod zero_padded;
 
-pub use column::{Left, Right};
+pub use column::{Center, Left, Right};
+pub use fixed::Fixed;
+pub use hex::{Binary, Hex};
 pub use joined::Joined;
+pub use lower::Lower;
 pub use number::{Decimal, Digits, Formatted};
 pub use padded::{Padded, PaddedDigits};
 pub use part::Part;
 pub use text::{Byte, Bytes};
 pub use utf8::Utf8Part;
+pub use zero_padded::ZeroPadded;

@@ -6,7 +6,9 @@ ghost use Rattle.lexical_parts.specs.Utf8.{AreUtf8};
 
 mod tuples;
 
-use crate::column::{Left, Right};
+use crate::column::{Center, Left, Right};
+use crate::fixed::Fixed;
+use crate::hex::{Binary, Hex};
 use crate::joined::Joined;
 use crate::number::{Decimal, Digits, Formatted};
 use crate::padded::{Padded, PaddedDigits};
@@ -19,10 +21,10 @@ use lexical_write_integer::radix::Radix;
 use std::str::from_utf8;
 
 /// A part whose text is UTF-8, so that it can be returned as a `&str`: every part of this crate but
-/// `Bytes`. A `Byte` is one if it is ASCII, and a part that contains parts if they are:
-/// `(Decimal(250), " g").to_str(&mut buffer)` returns `"250 g"`.
+/// `Bytes`, `Lower` and `ZeroPadded`. A `Byte`, and the byte of a column, must be ASCII, and a part that
+/// contains parts is one if they are: `(Decimal(250), " g").to_str(&mut buffer)` returns `"250 g"`.
 pub trait Utf8Part: Part {
-    // The condition under which the text is UTF-8: that a byte is below 128.
+    // The condition under which the text is UTF-8: that each byte that the part names is below 128.
     ghost is_utf8: { Self → Type 0 };
 
     /// A law: the text of the part is UTF-8.
@@ -32,8 +34,8 @@ pub trait Utf8Part: Part {
         ensures { AreUtf8 (Self.is_text self) };
 
     /// Writes the text to the start of the buffer, and returns it as a `&str`, which borrows the
-    /// buffer. The part must be valid, each `Byte` in it must be below 128, and the buffer must have
-    /// `room` bytes or more.
+    /// buffer. The part must be valid, each `Byte` in it and each byte of a column must be below 128,
+    /// and the buffer must have `room` bytes or more.
     ///
     /// At run time this is `to_text` and then a call of `std::str::from_utf8`, which reads the text
     /// once and cannot fail. The standard library has no call that returns a `&mut str`.
@@ -113,6 +115,24 @@ impl<T: DigitCount + Radix> Utf8Part for Padded<T> {
     fn text_is_utf8(self) {}
 }
 
+impl<T: Radix> Utf8Part for Hex<T> {
+    ghost is_utf8 = { λ _. ⊤ };
+
+    fn text_is_utf8(self) {}
+}
+
+impl<T: Radix> Utf8Part for Binary<T> {
+    ghost is_utf8 = { λ _. ⊤ };
+
+    fn text_is_utf8(self) {}
+}
+
+impl<T: ToLexicalWithOptions> Utf8Part for Fixed<T> {
+    ghost is_utf8 = { λ _. ⊤ };
+
+    fn text_is_utf8(self) {}
+}
+
 impl<T: ToLexicalWithOptions> Utf8Part for Joined<'_, T> {
     ghost is_utf8 = { λ _. ⊤ };
 
@@ -123,7 +143,7 @@ impl<T: ToLexicalWithOptions> Utf8Part for Joined<'_, T> {
 }
 
 impl<P: Utf8Part> Utf8Part for Left<P> {
-    ghost is_utf8 = { λ part. P.is_utf8 part.0 };
+    ghost is_utf8 = { λ part. (part.2 < 128) × P.is_utf8 part.0 };
 
     fn text_is_utf8(self) {
         self.0.text_is_utf8();
@@ -131,7 +151,15 @@ impl<P: Utf8Part> Utf8Part for Left<P> {
 }
 
 impl<P: Utf8Part> Utf8Part for Right<P> {
-    ghost is_utf8 = { λ part. P.is_utf8 part.0 };
+    ghost is_utf8 = { λ part. (part.2 < 128) × P.is_utf8 part.0 };
+
+    fn text_is_utf8(self) {
+        self.0.text_is_utf8();
+    }
+}
+
+impl<P: Utf8Part> Utf8Part for Center<P> {
+    ghost is_utf8 = { λ part. (part.2 < 128) × P.is_utf8 part.0 };
 
     fn text_is_utf8(self) {
         self.0.text_is_utf8();

@@ -5,3 +5,4 @@ pub mod FloatParts
 pub mod JsonArray
 pub mod Reading
 pub mod TurnLists
+pub mod Uuid

@@ -28,3 +28,4 @@ pub mod table_row;
 pub mod time_of_day;
 pub mod timestamp;
 pub mod turn_lists;
+pub mod uuid;

@@ -1,18 +1,16 @@
 //! Writes a percentage from a number of basis points, hundredths of one percent.
 
-ghost use Rattle.std.specs.Prelude.{◌/◌, ◌%◌, pos};
+ghost use Rattle.std.specs.Prelude.{pos};
 ghost use Rattle.lexical_write_integer.specs.Buffer.{Writes};
-ghost use Rattle.lexical_write_integer.specs.Padded.{IsPadded};
-ghost use Rattle.lexical_parts.specs.Sequence.{◌then◌, IsDecimal, IsStr};
+ghost use Rattle.lexical_parts.specs.Fixed.{IsFixed};
+ghost use Rattle.lexical_parts.specs.Sequence.{◌then◌, IsStr};
 
-use lexical_parts::{Decimal, Padded, Part};
+use lexical_parts::{Fixed, Part};
 
 /// Writes the percentage with two digits after the point, such as `12.05%`, to the start of the array,
 /// and returns its length. The bytes after it are unchanged.
-pub fn write_percentage(basis_points: u32, buffer: &mut [u8; 14]) -> usize
-    ensures { Writes (IsDecimal (pos (basis_points / 100)) then IsStr "."
-        then IsPadded 10 2 (basis_points % 100) then IsStr "%") buffer.old buffer.new result }
+pub fn write_percentage(basis_points: u32, buffer: &mut [u8; 12]) -> usize
+    ensures { Writes (IsFixed 2 (pos basis_points) then IsStr "%") buffer.old buffer.new result }
 {
-    let (percent, rest) = (basis_points / 100, basis_points % 100);
-    (Decimal(percent), ".", Padded(rest, 2), "%").write_to(buffer)
+    (Fixed(basis_points, 2), "%").write_to(buffer)
 }

@@ -71,8 +71,8 @@ fn texts_as_str(rt: HostRuntime) {
     let row = (Byte(b'<'), Joined(&[1u8, 20], ", "), Byte(b'>'));
     assert_eq!(rt; row.to_str(&mut buffer), "<1, 20>");
     let cells = (
-        Left(Digits(16, 255u8), 4),
-        Right(Some(PaddedDigits(2, 5u8, 4)), 6),
+        Left(Digits(16, 255u8), 4, b' '),
+        Right(Some(PaddedDigits(2, 5u8, 4)), 6, b' '),
         None::<Decimal<u8>>,
     );
     digit_count_at_most(16, 255, 2);
@@ -134,7 +134,12 @@ fn rows_in_columns(rt: HostRuntime) {
         b" -2147483648           0          42\n",
     );
     let mut buffer = [7; 8];
-    let count = (Left(Decimal(12u8), 4), Byte(b'|'), Left(Bytes(b"abc"), 2)).write_to(&mut buffer);
+    let count = (
+        Left(Decimal(12u8), 4, b' '),
+        Byte(b'|'),
+        Left(Bytes(b"abc"), 2, b' '),
+    )
+        .write_to(&mut buffer);
     check_buffer(&rt, &buffer, count, b"12  |abc");
 }
 

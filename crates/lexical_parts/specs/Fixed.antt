@@ -1,0 +1,30 @@
+-- Numbers of units of a power of ten, with a decimal point.
+use Rattle.std.specs.Prelude.{ℕ, zero, suc, ◌+◌, ◌-◌, ◌/◌, ◌%◌, ◌^◌, max, min, ℤ, unsigned_abs, false, List, []}
+use Rattle.lexical_num.specs.Sign.{sign_of}
+use Rattle.lexical_write_integer.specs.Padded.{IsPadded}
+use Rattle.lexical_write_integer.specs.Sequence.{IsExactly}
+use Rattle.lexical_write_integer.specs.Text.{IsDigits}
+use Rattle.lexical_parts.specs.Sequence.{◌then◌, IsStr}
+
+-- the point and this many digits of the fraction, or no bytes if there are no digits
+abbrev pub IsFraction : ℕ → ℕ → List ℕ → Type 0
+IsFraction zero units = IsExactly []
+IsFraction (suc decimals) units = IsStr "." then IsPadded 10 (suc decimals) units
+
+-- a number of units of 10^-decimals without its sign: the whole part, and the fraction
+abbrev pub IsUnits : ℕ → ℕ → List ℕ → Type 0
+IsUnits decimals units =
+    IsDigits 10 (units / 10 ^ decimals) then IsFraction decimals (units % 10 ^ decimals)
+
+-- a number of units of 10^-decimals: for -5 and 2 it is `-0.05`
+abbrev pub IsFixed : ℕ → ℤ → List ℕ → Type 0
+IsFixed decimals number =
+    IsExactly (sign_of number false) then IsUnits decimals (unsigned_abs number)
+
+-- the bytes for the digits and the point, for a type whose numbers have at most `width` digits
+abbrev pub units_room : ℕ → ℕ → ℕ
+units_room width decimals = max width (decimals + 1) + min decimals 1
+
+-- the bytes for the sign too, for a type whose numbers need at most `size` bytes in decimal
+abbrev pub fixed_room : ℕ → ℕ → ℕ → ℕ
+fixed_room width size decimals = (size - width) + units_room width decimals

@@ -1,0 +1,14 @@
+-- Texts with zeros after the sign, up to a width.
+use Rattle.std.specs.Prelude.{◌≡◌, ℕ, ◌-◌, List, [], ◌∷◌, ◌++◌, length, take, drop, replicate, ◌||◌, ◌==◌, if◌then◌else◌}
+
+-- the length of the sign with which a text begins: 1 if its first byte is `-` or `+`, and otherwise 0
+abbrev pub sign_length : List ℕ → ℕ
+sign_length [] = 0
+sign_length (byte ∷ _) = if byte == 45 || byte == 43 then 1 else 0
+
+-- a text that satisfies `Is`, with zeros between its sign and its other bytes, up to the width
+pub record IsZeroPadded (width : ℕ) (Is : List ℕ → Type 0) (text : List ℕ) : Type 0 where
+  pub number : List ℕ
+  pub is : Is number
+  pub whole : text ≡ take (sign_length number) number
+      ++ (replicate (width - length number) 48 ++ drop (sign_length number) number)

@@ -1,0 +1,67 @@
+//! Numbers with a fixed number of decimals.
+
+ghost use Rattle.std.specs.Prelude.{◌≡◌, ◌≤◌, false, length, unsigned_abs};
+ghost use Rattle.lexical_num.specs.Sign.{sign_of};
+ghost use Rattle.lexical_write_integer.specs.Buffer.{Writes};
+ghost use Rattle.lexical_parts.specs.Fixed.{IsFixed, IsUnits, fixed_room, units_room};
+
+use crate::fill::insert_fill;
+use crate::part::Part;
+use lexical_num::num::LexicalInteger;
+use lexical_write_integer::ToLexicalWithOptions;
+use lexical_write_integer::buffer::copy_to_front;
+use lexical_write_integer::format::STANDARD;
+use lexical_write_integer::laws::size_suffices;
+
+// Returns the sign of a number: `-` if it is negative, and otherwise nothing.
+fn sign<T: LexicalInteger>(number: T) -> &'static [u8]
+    ensures { result.now ≡ sign_of (T.number number) false }
+{
+    if number.is_negative() { b"-" } else { b"" }
+}
+
+// Writes the absolute value of a number of units of 10^-`decimals` to the start of the buffer, and returns the
+// number of bytes written. If the number has too few digits, zeros are inserted before them.
+fn write_units<T: ToLexicalWithOptions>(number: T, decimals: usize, buffer: &mut [u8]) -> usize
+    requires decimals { decimals ≤ 19 }
+    requires room { units_room T.DECIMAL_WIDTH decimals ≤ length buffer.old }
+    ensures text { Writes (IsUnits decimals (unsigned_abs (T.number number))) buffer.old buffer.new result }
+    ensures short { result ≤ units_room T.DECIMAL_WIDTH decimals }
+{
+    number.in_range();
+    let count = number.write_magnitude(&STANDARD, buffer);
+    if decimals == 0 {
+        return count;
+    }
+    let zeros = (decimals + 1).saturating_sub(count);
+    insert_fill(b'0', zeros, count, buffer);
+    let whole = zeros + count - decimals;
+    insert_fill(b'.', 1, decimals, &mut buffer[whole..]);
+    whole + 1 + decimals
+}
+
+/// A number of units of 10^-`decimals`, such as an amount in cents: `Fixed(-5i64, 2)` writes `-0.05`,
+/// and `Fixed(1234u32, 3)` writes `1.234`. At least one digit precedes the point, and `decimals`
+/// digits follow it; a number without decimals has no point. There are at most 19 decimals.
+#[derive(Clone, Copy, Drop)]
+pub struct Fixed<T>(pub T, pub usize);
+
+impl<T: ToLexicalWithOptions> Part for Fixed<T> {
+    ghost is_text = { λ part. IsFixed part.1 (T.number part.0) };
+
+    ghost is_valid = { λ part. part.1 ≤ 19 };
+
+    ghost room = { λ part. fixed_room T.DECIMAL_WIDTH T.FORMATTED_SIZE_DECIMAL part.1 };
+
+    fn room(self) -> usize {
+        size_suffices(self.0, &STANDARD);
+        let digits = T::DECIMAL_WIDTH.max(self.1 + 1);
+        (T::FORMATTED_SIZE_DECIMAL - T::DECIMAL_WIDTH) + digits + self.1.min(1)
+    }
+
+    fn write_to(self, buffer: &mut [u8]) -> usize {
+        size_suffices(self.0, &STANDARD);
+        let start = copy_to_front(sign(self.0), buffer);
+        start + write_units(self.0, self.1, &mut buffer[start..])
+    }
+}

@@ -1,0 +1,52 @@
+//! Unsigned numbers in radix 16 and in radix 2, which need as many bytes as their type has digits.
+
+ghost use Rattle.std.specs.Prelude.{◌/◌, ⊤};
+ghost use Rattle.lexical_write_integer.specs.Text.{IsDigits};
+
+use crate::part::Part;
+use lexical_write_integer::laws::digit_count_within_bits;
+use lexical_write_integer::radix::Radix;
+
+/// The digits of an unsigned number in radix 16, without a prefix: `Hex(255u32)` writes `FF`. Its room
+/// is that of its type: 2 bytes for a `u8`, and 16 for a `u64`.
+#[derive(Clone, Copy, Drop)]
+pub struct Hex<T>(pub T);
+
+impl<T: Radix> Part for Hex<T> {
+    ghost is_text = { λ part. IsDigits 16 (T.magnitude part.0) };
+
+    ghost is_valid = { λ _. ⊤ };
+
+    ghost room = { λ _. T.BITS / 4 };
+
+    fn room(self) -> usize {
+        T::BITS / 4
+    }
+
+    fn write_to(self, buffer: &mut [u8]) -> usize {
+        self.0.fits_bits();
+        self.0.radix(16, buffer)
+    }
+}
+
+/// The digits of an unsigned number in radix 2, without a prefix: `Binary(5u8)` writes `101`. Its room
+/// is that of its type: 8 bytes for a `u8`, and 64 for a `u64`.
+#[derive(Clone, Copy, Drop)]
+pub struct Binary<T>(pub T);
+
+impl<T: Radix> Part for Binary<T> {
+    ghost is_text = { λ part. IsDigits 2 (T.magnitude part.0) };
+
+    ghost is_valid = { λ _. ⊤ };
+
+    ghost room = { λ _. T.BITS };
+
+    fn room(self) -> usize {
+        T::BITS
+    }
+
+    fn write_to(self, buffer: &mut [u8]) -> usize {
+        digit_count_within_bits(2, self.0);
+        self.0.radix(2, buffer)
+    }
+}

@@ -1,0 +1,28 @@
+//! Parts in lowercase.
+
+ghost use Rattle.lexical_parts.specs.Lowercase.{IsLowercase};
+
+use crate::part::Part;
+
+/// A part in lowercase: its text with `A` to `Z` as `a` to `z`, and every other byte unchanged.
+/// `Lower(PaddedDigits(16, 255u32, 4))` writes `00ff`.
+#[derive(Clone, Copy, Drop)]
+pub struct Lower<P>(pub P);
+
+impl<P: Part> Part for Lower<P> {
+    ghost is_text = { λ part. IsLowercase (P.is_text part.0) };
+
+    ghost is_valid = { λ part. P.is_valid part.0 };
+
+    ghost room = { λ part. P.room part.0 };
+
+    fn room(self) -> usize {
+        self.0.room()
+    }
+
+    fn write_to(self, buffer: &mut [u8]) -> usize {
+        let count = self.0.write_to(buffer);
+        buffer[..count].make_ascii_lowercase();
+        count
+    }
+}
