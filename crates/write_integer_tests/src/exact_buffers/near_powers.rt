@@ -208,9 +208,18 @@ fn numbers_of_the_unsigned_types(rt: HostRuntime) {
     check_type::<u8>(&rt, &options, [0, 255], [856, 630]);
     check_type::<u16>(&rt, &options, [0, 65535], [1372, 1050]);
     check_type::<u32>(&rt, &options, [0, 4294967295], [2332, 1890]);
+}
+
+#[test]
+fn numbers_of_u64(rt: HostRuntime) {
     let ends = [0, 18446744073709551615];
-    check_type::<u64>(&rt, &options, ends, [4270, 3550]);
-    check_type::<usize>(&rt, &options, ends, [4270, 3550]);
+    check_type::<u64>(&rt, &Options::new(), ends, [4270, 3550]);
+}
+
+#[test]
+fn numbers_of_usize(rt: HostRuntime) {
+    let ends = [0, 18446744073709551615];
+    check_type::<usize>(&rt, &Options::new(), ends, [4270, 3550]);
 }
 
 #[test]
@@ -219,7 +228,16 @@ fn numbers_of_the_signed_types(rt: HostRuntime) {
     check_type::<i8>(&rt, &options, [128, 127], [1412, 1070]);
     check_type::<i16>(&rt, &options, [32768, 32767], [2396, 1850]);
     check_type::<i32>(&rt, &options, [2147483648, 2147483647], [4340, 3530]);
+}
+
+#[test]
+fn numbers_of_i64(rt: HostRuntime) {
     let ends = [9223372036854775808, 9223372036854775807];
-    check_type::<i64>(&rt, &options, ends, [8234, 6890]);
-    check_type::<isize>(&rt, &options, ends, [8234, 6890]);
+    check_type::<i64>(&rt, &Options::new(), ends, [8234, 6890]);
+}
+
+#[test]
+fn numbers_of_isize(rt: HostRuntime) {
+    let ends = [9223372036854775808, 9223372036854775807];
+    check_type::<isize>(&rt, &Options::new(), ends, [8234, 6890]);
 }
