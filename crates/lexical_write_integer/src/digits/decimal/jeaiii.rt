@@ -138,12 +138,7 @@ pub fn from_u8_counted(n: u8, buffer: &mut [u8], turns: &mut Turns) -> usize
     ensures short { result ≤ 3 }
     ensures few { length turns.new ≤ length turns.old + 9 }
 {
-    let n = u32::from(n);
-    if n < 100 {
-        write_one_or_two(n, buffer)
-    } else {
-        write_pairs(fixed_2(n), 1, buffer, turns)
-    }
+    write_32(u32::from(n), buffer, turns)
 }
 
 /// Writes the digits as `from_u16` does, under the same condition, and records its iterations in the
