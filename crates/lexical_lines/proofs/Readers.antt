@@ -21,15 +21,6 @@ given-of (Some xs) (Some ys) given limit left gave count used_up = elim (used_up
       sym (ap (take limit) whole ∙ take_all limit given (omega (arith, count)))
 ]
 
--- if the bytes of a reader are known, a source that has reported its end has yielded all of them, up to its limit
-pub all-given : {R : Type 0} (remaining : R → Option (List ℕ)) (a b : StreamReading R) → a.given ≡ [] → a.is_ended ≡ false
-    → KeepsReader remaining a b → b.is_ended ≡ true
-    → IfSome (remaining a.reader) (λ bytes. b.given ≡ take a.left bytes)
-all-given remaining a b none unended kept ended =
-    let bytes : added a.given b.given ≡ b.given = ap (λ front. added front b.given) none in
-    given-of _ _ b.given a.left b.left (subst (Consumes _ _) bytes kept.bytes) (omega (arith, kept.left, ap length none))
-    (λ told. kept.at_end told (λ e. cc (e, unended)) ended)
-
 -- a call that yields these bytes
 pub KeepsReader-more : {R : Type 0} (remaining : R → Option (List ℕ)) (a b : StreamReading R) (more : List ℕ) → b.given ≡ a.given ++ more
     → b.left + length more ≡ a.left → Consumes (remaining a.reader) (remaining b.reader) more

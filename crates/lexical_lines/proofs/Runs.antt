@@ -18,20 +18,6 @@ use Rattle.lexical_lines.proofs.Added.{added-is, grown-once}
 use Rattle.lexical_lines.proofs.Lines.{IsInside, IsCut-none, IsCut-byte, IsCut-more, IsCut-newline, AreLines-ended, AreLines-rest}
 use Rattle.std.proofs.lemmas.List.{append-nil}
 
-pub HasAnswered-none : (taken : List ℕ) (answerer : Answerer) → answerer.line ≡ short_line [] → answerer.line_number ≡ 1
-    → answerer.all_good ≡ true → HasAnswered taken [] taken answerer
-HasAnswered-none taken answerer line number good = record {
-  ended = [];
-  rest = [];
-  answers = [];
-  cut = IsCut-none;
-  answered = refl;
-  whole = sym (append-nil taken);
-  number = number;
-  good = (λ _. All-nil IsGood, λ _. good);
-  last = line;
-}
-
 -- ---- the answer to the next line
 
 pub AreAnswersFrom-push : (i : ℕ) (ended : List (List ℕ)) (answers line answer : List ℕ) → AreAnswersFrom i ended answers
@@ -71,9 +57,6 @@ and_iff false b P Q p q = (λ e. cc, λ both. p.1 both.0)
 
 pub short_line-empty : (rest : List ℕ) → short_line rest ≡ short_line [] → rest ≡ []
 short_line-empty rest e = (cond_some (nat_le (length rest) 64) rest [] e).1
-
-pub short_line-some : (line : List ℕ) → length line ≤ 64 → Some line ≡ short_line line
-short_line-some line short = search (rules, short)
 
 module _ {before bytes taken : List ℕ} {answerer : Answerer} (h : HasAnswered before bytes taken answerer) where
   pub answers_after : (answer : List ℕ) → IsAnswer answerer.line_number h.rest answer → AreAnswers (h.ended ++ h.rest ∷ []) (h.answers ++ answer)

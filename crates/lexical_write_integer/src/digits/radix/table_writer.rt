@@ -65,23 +65,6 @@ fn write_last_four<const R: u32>(
     write_pair(2 * (digits / square) as usize, table, buffer, at);
 }
 
-// If a number of up to four digits has more than two, removes the last two digits and records the quotient.
-// Returns the remaining number, and how many digits were removed.
-fn take_two_digits<const R: u32>(number: u32, turns: &mut Turns) -> (u32, usize)
-    requires radix { IsRadix R }
-    requires short { number < R ^ 4 }
-    ensures { TakesDigits R number 2 result.1 result.0 turns.old turns.new }
-{
-    let square = R * R;
-    let left = number / square;
-    if number >= square {
-        turns.tick(u64::from(left));
-        (left, 2)
-    } else {
-        (number, 0)
-    }
-}
-
 // If a number of up to two digits has two, removes the last digit and records the quotient. Returns how many
 // digits were removed.
 fn take_last_digit(number: u32, radix: u32, turns: &mut Turns) -> usize
@@ -210,8 +193,7 @@ fn write_by_divisions<const R: u32>(
 {
     let mut kept = [0; MAX_QUOTIENTS];
     let (left, fours) = save_quotients::<R>(value, &mut kept, turns);
-    let (short, by_two) = take_two_digits::<R>(left, turns);
-    let head = 1 + by_two + take_last_digit(short, R, turns);
+    let head = count_up_to_four::<R>(left, turns);
     let count = 4 * fours + head;
     let digits = &mut buffer[..count];
     write_from_quotients(value, &kept[..fours], table, digits, turns);
@@ -257,8 +239,13 @@ fn count_up_to_four<const R: u32>(number: u32, turns: &mut Turns) -> usize
     if counts_at_once(R) {
         return digit_count_counted(number, R, turns);
     }
-    let (short, by_two) = take_two_digits::<R>(number, turns);
-    1 + by_two + take_last_digit(short, R, turns)
+    let left = number / (R * R);
+    if left > 0 {
+        turns.tick(u64::from(left));
+        3 + take_last_digit(left, R, turns)
+    } else {
+        1 + take_last_digit(number, R, turns)
+    }
 }
 
 // Writes a number of five to eight digits, of which at most one quotient is needed.

@@ -91,6 +91,14 @@ unfolding slow_notes
 slow_notes-are {r} {n} {a = a} two t u v =
     rw (v.notes, loop_notes-are two t u, last_notes two t u) (append_assoc a (loop_notes r n) _)
 
+-- after the loop that divides by the fourth power, what is recorded for a number of at most four digits
+slow_notes-end : {r n four left : ℕ} {a b c : List ℕ}
+    → 2 ≤ r → TakesDigits r n 4 four left a b → left < r ^ 4 → c ≡ b ++ slow_notes r left → c ≡ a ++ slow_notes r n
+slow_notes-end {r} {left = left} {b = b} two t short noted =
+    let pair : TakesDigits r left 2 _ _ b _ = record { count = refl; rest = refl; notes = refl } in
+    let single : TakesDigits r _ 1 _ _ _ _ = record { count = refl; rest = refl; notes = refl } in
+    noted ∙ sym (slow_notes-are two (TakesDigits-none two takes_four short) pair single) ∙ slow_notes-are two t pair single
+
 -- ---- a number of more than four digits: its first quotient, and then what is recorded for that quotient
 
 after_four : (r n : ℕ) → 2 ≤ r → r ^ 4 ≤ n → digits_after_first r n ≡ digits_after_first r (n / r ^ 4) + 4
@@ -156,6 +164,14 @@ unfolding count_notes
 count_notes-after r n a b c two long by_turns noted following =
     let slow : c ≡ b ++ slow_notes r (n / r ^ 4) = rw by_turns at following in
     rw (by_turns, slow_notes-first r n two long) (after_first a b c (n / r ^ 4) (slow_notes r (n / r ^ 4)) noted slow)
+
+pub count_notes-end : {r n four left : ℕ} {a b c : List ℕ}
+    → 2 ≤ r → is_counted_at_once r ≡ false → TakesDigits r n 4 four left a b → left < r ^ 4 → c ≡ b ++ count_notes r left
+    → c ≡ a ++ count_notes r n
+unfolding count_notes
+count_notes-end {r} {n} {left = left} {a} {b} {c} two by_turns t short noted =
+    let slow : c ≡ b ++ slow_notes r left = rw by_turns at noted in
+    rw by_turns (slow_notes-end two t short slow)
 
 pub count_notes-same : (r m n : ℕ) (a c : List ℕ) → is_counted_at_once r ≡ true → c ≡ a ++ count_notes r m → c ≡ a ++ count_notes r n
 unfolding count_notes

@@ -1,6 +1,6 @@
 -- Numbers of one to four digits, which are written without a loop.
-use Rattle.std.proofs.Common.{◌≡◌, ℕ, ◌+◌, ◌-◌, ◌*◌, ◌/◌, ◌%◌, ◌^◌, ◌<◌, ◌≤◌, List, [], ◌∷◌, ◌++◌, length, drop, refl, sym, ◌∙◌, inl, inr, arith}
-use Rattle.std.proofs.Math.Nat.{pow-zero, div-one, div-eq_of_lt, pow-le-pow_right}
+use Rattle.std.proofs.Common.{◌≡◌, ℕ, ◌+◌, ◌/◌, ◌%◌, ◌^◌, ◌<◌, ◌≤◌, List, [], ◌∷◌, ◌++◌, length, drop, refl, sym, ◌∙◌, inl, inr, arith}
+use Rattle.std.proofs.Math.Nat.{div-eq_of_lt, pow-le-pow_right}
 use Rattle.std.proofs.lemmas.Bool.{cases_lt}
 use Rattle.std.proofs.lemmas.Nat.{pow-add, div_below, le-div}
 use Rattle.lexical_write_integer.specs.Buffer.{WritesBlock, WritesDigits}
@@ -11,8 +11,7 @@ use Rattle.lexical_write_integer.proofs.Buffers.Blocks.{WritesBlock-whole, IsDig
 use Rattle.lexical_write_integer.proofs.OfDigits.Radix.Loops.Divisions.{IsDivided-start, IsDivided-more, TakesDigits-end, TakesDigits-counts}
 use Rattle.lexical_write_integer.proofs.OfDigits.Numerals.{length-IsDigits}
 use Rattle.lexical_write_integer.proofs.OfDigits.Count.RadixPowers.{power-gt_one}
-use Rattle.lexical_write_integer.proofs.OfDigits.Powers.{pow-two}
-use Rattle.lexical_write_integer.proofs.OfDigits.Count.DigitCounts.{digit_count-fits, digit_count-le, digit_count-pos}
+use Rattle.lexical_write_integer.proofs.OfDigits.Count.DigitCounts.{digit_count-fits, digit_count-le}
 
 -- one iteration, after which there is none
 pub TakesDigits-once : {r n step next : ℕ} {before after : List ℕ}
@@ -57,37 +56,6 @@ IsDigits-head {r} {n} {four} {left} {digits} {before = before} {between} {after}
     let counts = TakesDigits-counts two t in
     let place : digits ≡ 0 + digits = omega arith in
     IsDigits-block r n (digits + four) 0 before after two (omega arith) (omega arith) (WritesBlock-whole t.rest (rw place at p) s)
-
--- the quotient of a number of at most four digits
-pub head-left : {r n taken left : ℕ} {a b : List ℕ} → 2 ≤ r → n < r ^ 4 → TakesDigits r n 2 taken left a b → left < r * r
-head-left {r} {n} {taken} {left} two short t =
-    let few = digit_count-le r n 4 (omega arith) short in
-    let counts = TakesDigits-counts two t in
-    let least : digit_count r left ≤ 2 = omega (arith, t.count, digit_count-pos r n) in
-    let power = pow-le-pow_right {n = r} (omega arith) {i = digit_count r left} {j = 2} least in
-    omega (arith, digit_count-fits r left two, power, pow-two r)
-
--- A pair is written, even if the number has fewer than three digits. Then the digits before it are written, over the pair if
--- it is not part of the number.
-pub WritesBlock-head : {r n taken left digits : ℕ} {a b before between after : List ℕ}
-    → 2 ≤ r → n < r ^ 4 → digits ≡ digit_count r n → TakesDigits r n 2 taken left a b
-    → (2 ≤ digits → WritesBlock r 2 (n % (r * r)) (digits - 2) before between) → drop digits between ≡ drop digits before
-    → WritesBlock r (digits - taken) left 0 between after → WritesBlock r digits n 0 before after
-WritesBlock-head {r} {n} {taken} {left} {digits} {before = before} {between} two short is t pair following first =
-    let few = digit_count-le r n 4 (omega arith) short in
-    elim (cases_lt 2 digits) [
-      | inl more ↦
-          let twice : taken ≡ 2 = omega (arith, t.count) in
-          let whole : digits - 2 + 2 ≡ digits = omega arith in
-          let place : digits - 2 ≡ 0 + (digits - 2) = omega arith in
-          let last : WritesBlock r 2 (n % r ^ 2) (0 + (digits - 2)) before between = rw (← place, pow-two) (pair (omega arith)) in
-          rw whole at (WritesBlock-whole (rw twice at t.rest) last (rw twice at first))
-      | inr less ↦
-          let none : taken ≡ 0 = omega (arith, t.count) in
-          let all : left ≡ n = rw (none, pow-zero, div-one) at t.rest in
-          let whole : digits - 0 ≡ digits = omega arith in
-          WritesBlock-over following (rw (none, whole, all) at first)
-    ]
 
 pub few-fits : (r n : ℕ) → 2 ≤ r → digit_count r n ≤ 4 → n < r ^ 4
 few-fits r n two few =
