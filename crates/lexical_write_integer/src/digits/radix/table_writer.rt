@@ -169,11 +169,12 @@ fn write_up_to_four<const R: u32>(
         turns.tick(u64::from(left));
     }
     let first = 2 * left as usize;
-    let last = 2 * (number % square) as usize;
+    let second = 2 * (number % square) as usize;
+    let last = digits - 1;
     buffer[0] = table.pairs[first];
     buffer[digits / 4] = table.pairs[first + 1];
-    buffer[digits.saturating_sub(2)] = table.pairs[last];
-    buffer[digits - 1] = table.pairs[last + 1];
+    buffer[3 * last / 4] = table.pairs[second];
+    buffer[last] = table.pairs[second + 1];
 }
 
 // Writes a number whose digits are counted by division. The loop that counts them saves its quotients, at most
@@ -248,31 +249,6 @@ fn count_up_to_four<const R: u32>(number: u32, turns: &mut Turns) -> usize
     }
 }
 
-// Writes a number of five to eight digits, of which at most one quotient is needed.
-fn write_five_to_eight<const R: u32>(
-    value: u64,
-    left: u32,
-    table: RadixTable<'_, R>,
-    buffer: &mut [u8],
-    turns: &mut Turns,
-) -> usize
-    requires long { R ^ 4 ≤ value }
-    requires short { left < R ^ 4 }
-    requires left { left ≡ value / R ^ 4 }
-    requires room { digit_count R value ≤ length buffer.old }
-    ensures digits { WritesDigits R value buffer.old buffer.new result }
-    ensures notes { turns.new ≡ turns.old ++ table_notes R value }
-{
-    if !counts_at_once(R) {
-        turns.tick(u64::from(left));
-    }
-    let head = count_up_to_four::<R>(left, turns);
-    turns.tick(u64::from(left));
-    write_up_to_four(left, head, table, buffer, turns);
-    write_last_four(value, u64::from(left), table, buffer, head);
-    head + 4
-}
-
 // Writes a number of up to eight digits. `BYTE` chooses the writer of one or two digits, for numbers below 256.
 fn write_up_to_eight<const R: u32, const BYTE: bool>(
     value: u64,
@@ -293,7 +269,14 @@ fn write_up_to_eight<const R: u32, const BYTE: bool>(
         } else {
             (value / u64::from(power)) as u32
         };
-        return write_five_to_eight(value, left, table, buffer, turns);
+        if !counts_at_once(R) {
+            turns.tick(u64::from(left));
+        }
+        let head = count_up_to_four::<R>(left, turns);
+        turns.tick(u64::from(left));
+        write_up_to_four(left, head, table, buffer, turns);
+        write_last_four(value, u64::from(left), table, buffer, head);
+        return head + 4;
     }
     let number = value as u32;
     if BYTE && number < square {

@@ -1,19 +1,22 @@
-use Rattle.std.proofs.Common.{◌≡◌, ◌/◌, ◌^◌, ◌<◌, ◌≤◌, ap, sym, ◌∙◌, lit<, arith}
+use Rattle.std.proofs.Common.{◌≡◌, ℕ, ◌+◌, ◌++◌, ◌/◌, ◌^◌, ◌<◌, ◌≤◌, ap, sym, ◌∙◌, lit<, arith}
 use Rattle.std.proofs.Math.Nat.{pow-le-pow_left}
 use Rattle.std.proofs.lemmas.Nat.{div_below, pow-add}
-use Rattle.lexical_write_integer.specs.Digits.LoopTurns.{takes_four}
-use Rattle.lexical_write_integer.proofs.Buffers.BlocksAfter.{WritesDigits-block}
+use Rattle.lexical_write_integer.specs.Digits.DigitCount.{digit_count}
+use Rattle.lexical_write_integer.specs.Digits.LoopTurns.{count_notes, takes_four}
+use Rattle.lexical_write_integer.proofs.Buffers.BlocksAfter.{WritesDigits-block, WritesDigits-after}
+use Rattle.lexical_write_integer.proofs.OfDigits.Count.DigitCounts.{digit_count-split}
 use Rattle.lexical_write_integer.proofs.OfDigits.Count.RadixPowers.{power-small, power-gt_one}
 use Rattle.lexical_write_integer.proofs.OfDigits.Powers.{pow-four}
-use Rattle.lexical_write_integer.proofs.OfDigits.Radix.Loops.Records.{table_notes-are}
+use Rattle.lexical_write_integer.proofs.OfDigits.Radix.Loops.Records.{count_notes-after, count_notes-same, loop_notes-after, table_notes-are}
 use Rattle.lexical_write_integer.proofs.digits.radix.table_writer.write_up_to_eight.Goals as goal
-use Rattle.lexical_write_integer.proofs.digits.radix.table_writer.write_up_to_eight.Goals.{After-from, then-this-lt16, else-this-lt16}
+use Rattle.lexical_write_integer.proofs.digits.radix.table_writer.write_up_to_eight.Goals.{After-from, After-counts_at_once}
+use Rattle.lexical_write_integer.proofs.digits.radix.table_writer.write_up_to_eight.Goals.{then-this-lt16, else-this-lt16, then-not-counts_at_once, else-not-counts_at_once}
 
 -- the number without its last four digits has at most four
-left_below : (g : _) (c : After-from g) → c.args.value / g.row.R ^ 4 < g.row.R ^ 4
-left_below g c =
-    let some : 0 < g.row.R ^ 4 = omega (arith, power-gt_one g.row.R 4 c.args.table.is_radix.at_least_two takes_four) in
-    div_below c.args.value (g.row.R ^ 4) (g.row.R ^ 4) some (rw (pow-add g.row.R 4 4) at c.requires.short)
+left_below : (r n : ℕ) → 2 ≤ r → n < r ^ 8 → n / r ^ 4 < r ^ 4
+left_below r n two short =
+    let some : 0 < r ^ 4 = omega (arith, power-gt_one r 4 two takes_four) in
+    div_below n (r ^ 4) (r ^ 4) some (rw (pow-add r 4 4) at short)
 
 power_is : (g : _) (c : After-from g) → c.from.result ≡ g.row.R ^ 4
 power_is g c = c.from.ensures ∙ sym (pow-four g.row.R)
@@ -24,18 +27,78 @@ overflow_cast-left g c = omega (arith, c.requires.short, pow-le-pow_left {n = g.
 pub overflow_cast-left-else-this-lt16 : goal.overflow_cast-left-else-this-lt16
 overflow_cast-left-else-this-lt16 g c =
     let power = c.from-else-this-lt16.ensures ∙ sym (pow-four g.row.R) in
-    let below = left_below g (goal.at.overflow_cast-left-else-this-lt16 g c).After-from in
+    let below = left_below g.row.R c.args.value c.args.table.is_radix.at_least_two c.requires.short in
     rw power (omega (arith, below, power-small g.row.R 4 c.args.table.is_radix.at_most_36 takes_four))
 
-pub write_five_to_eight-requires : goal.write_five_to_eight-requires
-write_five_to_eight-requires g c =
-    let c' = (goal.at.write_five_to_eight-requires g c).After-from in
-    let left_is : c.if-this-lt16.left ≡ c.args.value / g.row.R ^ 4 = elim c.if-this-lt16.branch [
-      | then-this-lt16 w ↦ w.left-is ∙ ap (λ k. c.args.value / k) (sym (pow-four g.row.R))
-      | else-this-lt16 w ↦ w.left-is ∙ ap (λ k. c.args.value / k) (w.from-else-this-lt16.ensures ∙ sym (pow-four g.row.R))
+-- ---- more than four digits
+
+long : (g : _) (c : After-counts_at_once g) → g.row.R ^ 4 ≤ c.args.value
+long g c = omega (arith, c.from.ensures, pow-four g.row.R, c.if-value-from.true)
+
+left_is : (g : _) (c : After-counts_at_once g) → c.if-this-lt16.left ≡ c.args.value / g.row.R ^ 4
+left_is g c = elim c.if-this-lt16.branch [
+  | then-this-lt16 w ↦ w.left-is ∙ ap (λ k. c.args.value / k) (sym (pow-four g.row.R))
+  | else-this-lt16 w ↦ w.left-is ∙ ap (λ k. c.args.value / k) (w.from-else-this-lt16.ensures ∙ sym (pow-four g.row.R))
+]
+
+left_short : (g : _) (c : After-counts_at_once g) → c.if-this-lt16.left < g.row.R ^ 4
+left_short g c = rw (left_is g c) (left_below g.row.R c.args.value c.args.table.is_radix.at_least_two c.requires.short)
+
+pub count_up_to_four-head-requires-clause-short : goal.count_up_to_four-head-requires-clause-short
+count_up_to_four-head-requires-clause-short g c = left_short g (goal.at.count_up_to_four-head-requires-clause-short g c).After-counts_at_once
+
+-- the digits before the last four
+split : (g : _) (c : After-counts_at_once g) → digit_count g.row.R c.if-this-lt16.left + 4 ≡ digit_count g.row.R c.args.value
+split g c = rw (left_is g c) (sym (digit_count-split g.row.R 4 c.args.value c.args.table.is_radix.at_least_two (long g c)))
+
+pub write_up_to_four-requires : goal.write_up_to_four-requires
+write_up_to_four-requires g c =
+    let c' = (goal.at.write_up_to_four-requires g c).After-counts_at_once in
+    let head = c.count_up_to_four-head.ensures.count in
+    (lit< tt, (left_short g c', (head, omega (arith, head, split g c', c.requires.room))))
+
+pub write_last_four-requires : goal.write_last_four-requires
+write_last_four-requires g c =
+    let c' = (goal.at.write_last_four-requires g c).After-counts_at_once in
+    let head = c.count_up_to_four-head.ensures.count in (
+      lit< tt,
+      (
+        c.from-then-value-from-2.ensures ∙ left_is g c',
+        omega (arith, head, split g c', c.requires.room, c.write_up_to_four.auto.buffer),
+      ),
+    )
+
+pub returns-then-value-from-clause-digits : goal.returns-then-value-from-clause-digits
+returns-then-value-from-clause-digits g c =
+    let c' = (goal.at.returns-then-value-from-clause-digits g c).After-counts_at_once in
+    let two = c.args.table.is_radix.at_least_two in
+    let head = c.count_up_to_four-head.ensures.count in
+    let first = WritesDigits-block two (sym head) (omega (arith, head, split g c', c.requires.room)) c.write_up_to_four.ensures.written in
+    WritesDigits-after c.args.value two (long g c') c.requires.room (rw (left_is g c') at first) c.write_last_four.ensures
+
+pub returns-then-value-from-clause-notes : goal.returns-then-value-from-clause-notes
+returns-then-value-from-clause-notes g c =
+    let c' = (goal.at.returns-then-value-from-clause-notes g c).After-counts_at_once in
+    let r = g.row.R in
+    let n = c.args.value in
+    let two = c.args.table.is_radix.at_least_two in
+    let is = left_is g c' in
+    let counts : c.count_up_to_four-head.new.turns ≡ c.if-not-counts_at_once.turns ++ count_notes r (n / r ^ 4) =
+    rw is at c.count_up_to_four-head.ensures.notes in
+    let counted : c.count_up_to_four-head.new.turns ≡ c.args.turns.now ++ count_notes r n =
+    elim c.if-not-counts_at_once.branch [
+      | then-not-counts_at_once w ↦
+          count_notes-after r n c.args.turns.now c.if-not-counts_at_once.turns c.count_up_to_four-head.new.turns two (long g c')
+          (sym w.if-not-counts_at_once.ensures) (w.turns-is ∙ rw (w.from-then-not-counts_at_once.ensures, is) at w.tick.ensures) counts
+      | else-not-counts_at_once w ↦
+          count_notes-same r (n / r ^ 4) n c.args.turns.now c.count_up_to_four-head.new.turns (sym w.if-not-counts_at_once.ensures) (rw w.turns-is at counts)
     ] in
-    let long : g.row.R ^ 4 ≤ c.args.value = omega (arith, power_is g c', c.if-value-from.true) in
-    (lit< tt, (long, (rw left_is (left_below g c'), (left_is, c.requires.room))))
+    let first = rw (c.from-then-value-from.ensures, is) at c.tick-then-value-from.ensures in
+    let following = rw is at c.write_up_to_four.ensures.notes in
+    table_notes-are r n c.args.turns.now c.count_up_to_four-head.new.turns c.write_up_to_four.new.turns counted
+    (loop_notes-after r n c.count_up_to_four-head.new.turns c.tick-then-value-from.new.self c.write_up_to_four.new.turns two (long g c') first following)
+
+-- ---- up to four digits
 
 short : (g : _) (c : After-from g) → c.args.value < c.from.result → c.args.value < g.row.R ^ 4
 short g c less = omega (arith, power_is g c, less)
@@ -44,18 +107,18 @@ pub count_up_to_four-count-requires-clause-short : goal.count_up_to_four-count-r
 count_up_to_four-count-requires-clause-short g c =
     short g (goal.at.count_up_to_four-count-requires-clause-short g c).After-from c.if-value-from.false
 
-pub write_up_to_four-requires : goal.write_up_to_four-requires
-write_up_to_four-requires g c =
-    let few = short g (goal.at.write_up_to_four-requires g c).After-from c.if-value-from.false in
+pub write_up_to_four-requires-2 : goal.write_up_to_four-requires-2
+write_up_to_four-requires-2 g c =
+    let few = short g (goal.at.write_up_to_four-requires-2 g c).After-from c.if-value-from.false in
     let is = c.count_up_to_four-count.ensures.count in
     (lit< tt, (few, (is, omega (arith, is, c.requires.room))))
 
 pub returns-clause-digits : goal.returns-clause-digits
 returns-clause-digits g c =
     let is = c.count_up_to_four-count.ensures.count in
-    WritesDigits-block c.args.table.is_radix.at_least_two (sym is) (omega (arith, is, c.requires.room)) c.write_up_to_four.ensures.written
+    WritesDigits-block c.args.table.is_radix.at_least_two (sym is) (omega (arith, is, c.requires.room)) c.write_up_to_four-2.ensures.written
 
 pub returns-clause-notes : goal.returns-clause-notes
 returns-clause-notes g c =
     table_notes-are g.row.R c.args.value c.args.turns.now c.count_up_to_four-count.new.turns _ c.count_up_to_four-count.ensures.notes
-    c.write_up_to_four.ensures.notes
+    c.write_up_to_four-2.ensures.notes
