@@ -24,6 +24,7 @@ mod column;
 mod fill;
 mod fixed;
 mod hex;
+mod integers;
 mod joined;
 mod lower;
 mod number;
@@ -37,8 +38,8 @@ mod zero_padded;
 
 pub use column::{Center, Left, Right};
 pub use fixed::Fixed;
-pub use hex::{Binary, Hex};
-pub use joined::Joined;
+pub use hex::{Binary, Hex, HexBytes};
+pub use joined::{Joined, rooms_at_most};
 pub use lower::Lower;
 pub use number::{Decimal, Digits, Formatted};
 pub use padded::{Padded, PaddedDigits};
