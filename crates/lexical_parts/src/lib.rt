@@ -17,7 +17,8 @@
 //!
 //! The example is from the test `texts_for_writing` in `crates/uses_tests/src/tests/lines.rt`. The calls
 //! that write are the methods of [`Part`], and those that return a `&str` are the methods of
-//! [`Utf8Part`]. The other types of this crate are parts.
+//! [`Utf8Part`]. The other types of this crate are parts, and so are the integer types.
+//! [`rooms_at_most`] is a law, which bounds the room of a [`Joined`].
 #![tactic(auto)]
 
 mod column;
