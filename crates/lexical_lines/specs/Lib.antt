@@ -3,7 +3,6 @@ pub mod Answerer
 pub mod Decimal
 pub mod ExitStatus
 pub mod IntegerType
-pub mod JoinedText
 pub mod Line
 pub mod Lines
 pub mod Request
@@ -19,4 +18,5 @@ pub use Rattle.lexical_num.specs.Format
 pub use Rattle.lexical_num.specs.Size
 pub use Rattle.lexical_write_integer.specs.Buffer
 pub use Rattle.lexical_write_integer.specs.Lending
+pub use Rattle.lexical_write_integer.specs.Sequence
 pub use Rattle.lexical_write_integer.specs.Text

@@ -1,11 +1,12 @@
 //! Writes several numbers with a separator between adjacent ones.
 
-ghost use Rattle.std.specs.Prelude.{◌+◌, ◌-◌, ◌*◌, ◌≤◌, length, map};
+ghost use Rattle.std.specs.Prelude.{◌+◌, ◌-◌, ◌*◌, ◌≤◌, [], ◌∷◌, length};
 ghost use Rattle.std.specs.Borrow.{sem};
 ghost use Rattle.lexical_num.specs.Size.{size_in};
 ghost use Rattle.lexical_write_integer.specs.Buffer.{Writes};
 ghost use Rattle.lexical_write_integer.specs.Lending.{LendsFront};
-ghost use Rattle.lexical_lines.specs.JoinedText.{IsJoined};
+ghost use Rattle.lexical_write_integer.specs.Sequence.{AreJoined};
+ghost use Rattle.lexical_write_integer.specs.Text.{IsText};
 
 use lexical_num::constants::FormattedSize;
 use lexical_num::format::NumberFormat;
@@ -29,7 +30,8 @@ pub fn write_joined<T: ToLexicalWithOptions>(
 ) -> usize
     requires { length values.now * (size_in T.FORMATTED_SIZE T.FORMATTED_SIZE_DECIMAL format.now + 1)
         ≤ length buffer.old }
-    ensures text { Writes (IsJoined (map T.number values.now) mark format.now)
+    ensures text { Writes
+        (AreJoined (λ x. IsText (T.number x) format.now) (mark ∷ []) values.now)
         buffer.old buffer.new result }
     ensures short { result ≤ length values.now
         * (size_in T.FORMATTED_SIZE T.FORMATTED_SIZE_DECIMAL format.now + 1) - 1 }
@@ -63,7 +65,7 @@ pub fn join<'a, T: ToLexicalWithOptions>(
     requires { length values.now * (size_in T.FORMATTED_SIZE T.FORMATTED_SIZE_DECIMAL format.now + 1)
         ≤ length buffer.old }
     ensures* lends { sem 𝓛 (LendsFront buffer.entry (length result.now) result) }
-    ensures text { IsJoined (map T.number values.now) mark format.now result.now }
+    ensures text { AreJoined (λ x. IsText (T.number x) format.now) (mark ∷ []) values.now result.now }
     ensures short { length result.now ≤ length values.now
         * (size_in T.FORMATTED_SIZE T.FORMATTED_SIZE_DECIMAL format.now + 1) - 1 }
 {

@@ -2,6 +2,8 @@
 pub mod Columns
 -- texts of the elements of a list, which grow by one element at their end
 pub mod Lists
+-- the room of the elements of a list
+pub mod Rooms
 -- texts of parts that are UTF-8
 pub mod Utf8Texts
 -- texts that are equal to bytes, for a caller whose contract is an equation of bytes

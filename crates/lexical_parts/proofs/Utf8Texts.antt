@@ -1,7 +1,8 @@
 -- The texts of parts are UTF-8.
 use Rattle.std.proofs.Common.{ℕ, zero, suc, ◌-◌, ◌/◌, ◌%◌, ◌^◌, ◌<◌, ◌≤◌, List, [], ◌∷◌, ◌++◌, false, length, replicate, arith, ℤ, pos, negsuc, unsigned_abs}
+use Rattle.std.specs.List.{All}
 use Rattle.std.specs.Str.{IsUtf8}
-use Rattle.std.proofs.lemmas.List.Elements.{All-nil, All-cons, All-replicate}
+use Rattle.std.proofs.lemmas.List.Elements.{All-nil, All-cons, All-head, All-tail, All-replicate}
 use Rattle.std.proofs.lemmas.Str.{IsUtf8-nil, IsUtf8-from_ascii, IsUtf8-append}
 use Rattle.std.proofs.lemmas.Str.Ascii.{IsAscii-from_all}
 use Rattle.lexical_num.specs.Format.{Format, IsValid}
@@ -12,6 +13,7 @@ use Rattle.lexical_write_integer.specs.Text.{IsDigits, IsText}
 use Rattle.lexical_write_integer.proofs.OfTexts.Ascii.{IsAscii-IsText, IsAscii-digit_chars}
 use Rattle.lexical_parts.specs.Column.{IsAtLeft, IsAtRight, IsCentered}
 use Rattle.lexical_parts.specs.Fixed.{IsFixed, IsFraction}
+use Rattle.lexical_parts.specs.Joined.{AreEach}
 use Rattle.lexical_parts.specs.Utf8.{AreUtf8}
 
 -- a byte below 128
@@ -35,11 +37,17 @@ pub then_is_utf8 : {First Second : List ℕ → Type 0} → AreUtf8 First → Ar
 then_is_utf8 first second text is = rw is.whole (IsUtf8-append is.first is.second (first is.first is.is_first) (second is.second is.is_second))
 
 pub joined_is_utf8 : {A : Type 0} (IsOf : A → List ℕ → Type 0) (separator : List ℕ) (xs : List A) →
-    ((x : A) → AreUtf8 (IsOf x)) → IsUtf8 separator → AreUtf8 (AreJoined IsOf separator xs)
+    All (λ x. AreUtf8 (IsOf x)) xs → IsUtf8 separator → AreUtf8 (AreJoined IsOf separator xs)
 joined_is_utf8 IsOf separator [] each between text is = rw is IsUtf8-nil
-joined_is_utf8 IsOf separator (x ∷ []) each between text is = each x text is
+joined_is_utf8 IsOf separator (x ∷ []) each between text is = All-head (λ y. AreUtf8 (IsOf y)) x [] each text is
 joined_is_utf8 IsOf separator (x ∷ y ∷ xs) each between text is =
-    then_is_utf8 (each x) (then_is_utf8 (λ mark same. rw same between) (joined_is_utf8 IsOf separator (y ∷ xs) each between)) text is
+    let first = All-head (λ y. AreUtf8 (IsOf y)) x (y ∷ xs) each in
+    let rest = joined_is_utf8 IsOf separator (y ∷ xs) (All-tail (λ y. AreUtf8 (IsOf y)) x (y ∷ xs) each) between in
+    then_is_utf8 first (then_is_utf8 (λ mark same. rw same between) rest) text is
+
+pub each_is_utf8 : {A : Type 0} (IsOf : A → List ℕ → Type 0) (xs : List A) → ((x : A) → AreUtf8 (IsOf x)) → AreUtf8 (AreEach IsOf xs)
+each_is_utf8 IsOf [] each text is = rw is IsUtf8-nil
+each_is_utf8 IsOf (x ∷ xs) each text is = then_is_utf8 (each x) (each_is_utf8 IsOf xs each) text is
 
 -- copies of a byte below 128
 fill_is_utf8 : (fill count : ℕ) → fill < 128 → IsUtf8 (replicate count fill)

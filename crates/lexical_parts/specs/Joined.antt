@@ -1,5 +1,5 @@
--- The texts of the elements of a list, and the room of texts with a separator between them.
-use Rattle.std.specs.Prelude.{ℕ, ◌+◌, ◌-◌, ◌*◌, List, [], ◌∷◌}
+-- The texts of the elements of a list, and the room of elements with a separator between them.
+use Rattle.std.specs.Prelude.{ℕ, ◌+◌, ◌-◌, ◌*◌, List, [], ◌∷◌, length, sum_by}
 use Rattle.lexical_write_integer.specs.Sequence.{IsExactly}
 use Rattle.lexical_parts.specs.Sequence.{◌then◌}
 
@@ -8,6 +8,6 @@ abbrev pub AreEach : {A : Type 0} → (A → List ℕ → Type 0) → List A →
 AreEach IsOf [] = IsExactly []
 AreEach IsOf (x ∷ xs) = IsOf x then AreEach IsOf xs
 
--- the number of bytes that is enough for `count` texts of `size` bytes, with separators of this length between them
-abbrev pub joined_room : ℕ → ℕ → ℕ → ℕ
-joined_room size separator count = count * (size + separator) - separator
+-- the rooms of the elements, and separators of this length between adjacent elements
+abbrev pub joined_room : {A : Type 0} → (A → ℕ) → ℕ → List A → ℕ
+joined_room room separator xs = sum_by room xs + (length xs - 1) * separator

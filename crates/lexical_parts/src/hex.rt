@@ -1,8 +1,12 @@
-//! Unsigned numbers in radix 16 and in radix 2, which need as many bytes as their type has digits.
+//! Unsigned numbers in radix 16 and in radix 2, which need as many bytes as their type has digits, and
+//! bytes in radix 16.
 
-ghost use Rattle.std.specs.Prelude.{◌/◌, ⊤};
+ghost use Rattle.std.specs.Prelude.{◌*◌, ◌/◌, length, ⊤};
+ghost use Rattle.lexical_write_integer.specs.Padded.{IsPadded};
 ghost use Rattle.lexical_write_integer.specs.Text.{IsDigits};
+ghost use Rattle.lexical_parts.specs.Joined.{AreEach};
 
+use crate::padded::PaddedDigits;
 use crate::part::Part;
 use lexical_write_integer::laws::digit_count_within_bits;
 use lexical_write_integer::radix::Radix;
@@ -48,5 +52,30 @@ impl<T: Radix> Part for Binary<T> {
     fn write_to(self, buffer: &mut [u8]) -> usize {
         digit_count_within_bits(2, self.0);
         self.0.radix(2, buffer)
+    }
+}
+
+/// The bytes of a slice in radix 16, each in two digits: `HexBytes(&[1, 255])` writes `01FF`. For digits
+/// with a separator between the bytes, use `Joined` of the bytes as `PaddedDigits`.
+#[derive(Clone, Copy, Drop)]
+pub struct HexBytes<'a>(pub &'a [u8]);
+
+impl Part for HexBytes<'_> {
+    ghost is_text = { λ part. AreEach (IsPadded 16 2) part.0.now };
+
+    ghost is_valid = { λ _. ⊤ };
+
+    ghost room = { λ part. 2 * length part.0.now };
+
+    fn room(self) -> usize {
+        self.0.len().saturating_mul(2)
+    }
+
+    fn write_to(self, buffer: &mut [u8]) -> usize {
+        let mut count = 0;
+        for byte in self.0 {
+            count += PaddedDigits(16, *byte, 2).write_to(&mut buffer[count..]);
+        }
+        count
     }
 }

@@ -1,44 +1,54 @@
-//! The numbers of a slice, with a separator between adjacent numbers.
+//! The parts of a slice, with a separator between adjacent parts.
 
-ghost use Rattle.std.specs.Prelude.{length, ⊤};
-ghost use Rattle.lexical_num.specs.Format.{standard};
-ghost use Rattle.lexical_write_integer.specs.Text.{IsText};
+ghost use Rattle.std.specs.Prelude.{◌≡◌, ◌*◌, ◌<◌, ◌≤◌, [], All, length, sum_by};
 ghost use Rattle.lexical_write_integer.specs.Sequence.{AreJoined};
 ghost use Rattle.lexical_parts.specs.Joined.{joined_room};
 
-use crate::number::Decimal;
 use crate::part::Part;
-use lexical_write_integer::ToLexicalWithOptions;
 
-/// The numbers of a slice in decimal, with the separator between adjacent numbers:
-/// `Joined(&[-1, 20], ", ")` writes `-1, 20`.
+// Returns what precedes the part at the index: nothing before the first part, and otherwise the separator.
+fn lead(index: usize, separator: &str) -> &str
+    ensures at_first { index ≡ 0 → result.now ≡ [] }
+    ensures later { 0 < index → result.now ≡ separator.now }
+{
+    if index == 0 { "" } else { separator }
+}
+
+/// The parts of a slice, with the separator between adjacent parts: `Joined(&[-1, 20], ", ")` writes
+/// `-1, 20`. An array of other values becomes parts by `map`: `Joined(&[10u8, 2].map(Hex), ":")` writes
+/// `A:2`.
 #[derive(Clone, Copy, Drop)]
-pub struct Joined<'a, T>(pub &'a [T], pub &'a str);
+pub struct Joined<'a, P>(pub &'a [P], pub &'a str);
 
-impl<T: ToLexicalWithOptions> Part for Joined<'_, T> {
-    ghost is_text = { λ part. AreJoined (λ x. IsText (T.number x) standard) part.1.now part.0.now };
+impl<P: Part> Part for Joined<'_, P> {
+    ghost is_text = { λ part. AreJoined P.is_text part.1.now part.0.now };
 
-    ghost is_valid = { λ _. ⊤ };
+    ghost is_valid = { λ part. All P.is_valid part.0.now };
 
-    ghost room = { λ part. joined_room T.FORMATTED_SIZE_DECIMAL (length part.1.now) (length part.0.now) };
+    ghost room = { λ part. joined_room P.room (length part.1.now) part.0.now };
 
     fn room(self) -> usize {
-        match self.0.len() {
-            0 => 0,
-            count => {
-                let size = T::FORMATTED_SIZE_DECIMAL;
-                let each = size.saturating_add(self.1.len());
-                (count - 1).saturating_mul(each).saturating_add(size)
-            }
+        let separators = self.0.len().saturating_sub(1);
+        let mut room = separators.saturating_mul(self.1.len());
+        for part in self.0 {
+            room = room.saturating_add(part.room());
         }
+        room
     }
 
     fn write_to(self, buffer: &mut [u8]) -> usize {
         let mut count = 0;
-        for (index, number) in self.0.iter().enumerate() {
-            let separator = if index > 0 { self.1 } else { "" };
-            count += (separator, Decimal(*number)).write_to(&mut buffer[count..]);
+        for (index, part) in self.0.iter().enumerate() {
+            count += (lead(index, self.1), *part).write_to(&mut buffer[count..]);
         }
         count
     }
 }
+
+/// A law: if no part of the slice has a room above `most`, their rooms are together at most `most` for
+/// each part. With it the room of a `Joined` is known from the length of the slice: eight `i64` with
+/// `","` between them have a room of 8 * 20 + 7 bytes.
+pub fn rooms_at_most<P: Part>(parts: &[P], most: usize)
+    requires { All (λ part. P.room part ≤ most) parts.now }
+    ensures { sum_by P.room parts.now ≤ length parts.now * most }
+{}

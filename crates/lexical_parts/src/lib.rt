@@ -17,13 +17,15 @@
 //!
 //! The example is from the test `texts_for_writing` in `crates/uses_tests/src/tests/lines.rt`. The calls
 //! that write are the methods of [`Part`], and those that return a `&str` are the methods of
-//! [`Utf8Part`]. The other types of this crate are parts.
+//! [`Utf8Part`]. The other types of this crate are parts, and so are the integer types.
+//! [`rooms_at_most`] is a law, which bounds the room of a [`Joined`].
 #![tactic(auto)]
 
 mod column;
 mod fill;
 mod fixed;
 mod hex;
+mod integers;
 mod joined;
 mod lower;
 mod number;
@@ -37,8 +39,8 @@ mod zero_padded;
 
 pub use column::{Center, Left, Right};
 pub use fixed::Fixed;
-pub use hex::{Binary, Hex};
-pub use joined::Joined;
+pub use hex::{Binary, Hex, HexBytes};
+pub use joined::{Joined, rooms_at_most};
 pub use lower::Lower;
 pub use number::{Decimal, Digits, Formatted};
 pub use padded::{Padded, PaddedDigits};

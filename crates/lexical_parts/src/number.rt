@@ -14,7 +14,8 @@ use lexical_write_integer::laws::size_suffices;
 use lexical_write_integer::radix::Radix;
 use lexical_write_integer::{NumberFormat, ToLexicalWithOptions};
 
-/// A number in decimal, with a `-` if it is negative: `Decimal(-5)` writes `-5`.
+/// A number in decimal, with a `-` if it is negative: `Decimal(-5)` writes `-5`, as the part `-5` does. It
+/// is for generic code, in which the number has a type parameter.
 #[derive(Clone, Copy, Drop)]
 pub struct Decimal<T>(pub T);
 

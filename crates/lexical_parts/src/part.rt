@@ -8,7 +8,7 @@ ghost use Rattle.lexical_write_integer.specs.Lending.{LendsFront};
 use lexical_write_integer::buffer::front_mut;
 
 /// A value that has a text, such as a number or a `&str`. A tuple of parts is also a part, and its
-/// text consists of the texts of its elements, in order: `(Decimal(250), " g")` writes `250 g`.
+/// text consists of the texts of its elements, in order: `(250, " g")` writes `250 g`.
 ///
 /// A part is *valid* if it meets the condition of its type: a radix is from 2 to 36, and a padded number
 /// fits in its width. A part that contains parts is valid if they are valid. A part without a condition is

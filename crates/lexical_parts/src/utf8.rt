@@ -1,14 +1,15 @@
 //! Parts whose text is UTF-8, and their text as a `&str`.
 
-ghost use Rattle.std.specs.Prelude.{◌↔◌, ◌<◌, ◌≤◌, IfSome, IsSome, length, ⊤};
+ghost use Rattle.std.specs.Prelude.{◌↔◌, ◌<◌, ◌≤◌, All, IfSome, IsSome, length, ⊤};
 ghost use Rattle.lexical_parts.specs.Optional.{IsValidOptional};
 ghost use Rattle.lexical_parts.specs.Utf8.{AreUtf8};
 
+mod integers;
 mod tuples;
 
 use crate::column::{Center, Left, Right};
 use crate::fixed::Fixed;
-use crate::hex::{Binary, Hex};
+use crate::hex::{Binary, Hex, HexBytes};
 use crate::joined::Joined;
 use crate::number::{Decimal, Digits, Formatted};
 use crate::padded::{Padded, PaddedDigits};
@@ -127,18 +128,26 @@ impl<T: Radix> Utf8Part for Binary<T> {
     fn text_is_utf8(self) {}
 }
 
+impl Utf8Part for HexBytes<'_> {
+    ghost is_utf8 = { λ _. ⊤ };
+
+    fn text_is_utf8(self) {}
+}
+
 impl<T: ToLexicalWithOptions> Utf8Part for Fixed<T> {
     ghost is_utf8 = { λ _. ⊤ };
 
     fn text_is_utf8(self) {}
 }
 
-impl<T: ToLexicalWithOptions> Utf8Part for Joined<'_, T> {
-    ghost is_utf8 = { λ _. ⊤ };
+impl<P: Utf8Part> Utf8Part for Joined<'_, P> {
+    ghost is_utf8 = { λ part. All P.is_utf8 part.0.now };
 
     fn text_is_utf8(self) {
-        STANDARD.in_range();
         self.1.text_is_utf8();
+        for part in self.0 {
+            part.text_is_utf8();
+        }
     }
 }
 

@@ -1,11 +1,16 @@
 -- Rows of numbers.
 use Rattle.std.specs.Prelude.{ℕ, ℤ, List, codes}
 use Rattle.lexical_write_integer.specs.Sequence.{AreJoined}
+use Rattle.lexical_parts.specs.Joined.{joined_room}
 use Rattle.lexical_parts.specs.Sequence.{◌then◌, IsDecimal, IsStr}
 
--- the numbers with commas between them, and a newline
+-- numbers in decimal, with commas between them
 abbrev pub IsRow : List ℤ → List ℕ → Type 0
-IsRow numbers = AreJoined IsDecimal (codes ",") numbers then IsStr "\n"
+IsRow = AreJoined IsDecimal (codes ",")
+
+-- the room of a row: 20 bytes for each number, and the commas
+abbrev pub row_room : List ℤ → ℕ
+row_room = joined_room (λ _. 20) 1
 
 -- a number in decimal and a semicolon after it
 abbrev pub IsEntry : ℤ → List ℕ → Type 0

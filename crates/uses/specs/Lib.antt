@@ -2,7 +2,7 @@ pub mod CsvRow
 pub mod DateTime
 pub mod DumpLine
 pub mod FloatParts
-pub mod JsonArray
+pub mod Ipv6
 pub mod Reading
 pub mod TurnLists
 pub mod Uuid

@@ -1,15 +1,15 @@
 //! Writes rows of numbers, as in CSV.
 
 ghost use Rattle.std.specs.Prelude.{◌≡◌, ◌↔◌, ◌+◌, ◌*◌, ◌≤◌, [], ◌∷◌};
-ghost use Rattle.std.specs.Prelude.{IfNone, IfSome, IsSome, codes, length};
+ghost use Rattle.std.specs.Prelude.{IfNone, IfSome, IsSome, codes, length, ⊤};
 ghost use Rattle.lexical_write_integer.specs.Buffer.{Writes};
 ghost use Rattle.lexical_write_integer.specs.Sequence.{AreJoined};
 ghost use Rattle.lexical_parts.specs.Joined.{AreEach, joined_room};
 ghost use Rattle.lexical_parts.specs.Sequence.{◌then◌, IsDecimal, IsStr};
-ghost use Rattle.uses.specs.CsvRow.{IsEntry, IsRow};
+ghost use Rattle.uses.specs.CsvRow.{IsEntry, IsRow, row_room};
 
 use lexical_num::constants::FormattedSize;
-use lexical_parts::{Decimal, Joined, Part};
+use lexical_parts::{Joined, Part, rooms_at_most};
 
 /// A number of bytes that is enough for a row: eight numbers, and a comma or a newline after each.
 pub const ROW_SIZE: usize = 8 * (i64::FORMATTED_SIZE_DECIMAL + 1);
@@ -17,8 +17,9 @@ pub const ROW_SIZE: usize = 8 * (i64::FORMATTED_SIZE_DECIMAL + 1);
 /// Writes the numbers in decimal, with commas between them and a newline after them, to the start of
 /// the array, and returns the length of the row. The bytes after it are unchanged.
 pub fn write_row(numbers: &[i64; 8], buffer: &mut [u8; ROW_SIZE]) -> usize
-    ensures { Writes (IsRow numbers.now) buffer.old buffer.new result }
+    ensures { Writes (IsRow numbers.now then IsStr "\n") buffer.old buffer.new result }
 {
+    rooms_at_most(numbers, i64::FORMATTED_SIZE_DECIMAL);
     (Joined(numbers, ","), "\n").write_to(buffer)
 }
 
@@ -35,7 +36,8 @@ pub fn write_row_of(
     h: i64,
     buffer: &mut [u8; ROW_SIZE],
 ) -> usize
-    ensures { Writes (IsRow (a ∷ b ∷ c ∷ d ∷ e ∷ f ∷ g ∷ h ∷ [])) buffer.old buffer.new result }
+    ensures { Writes (IsRow (a ∷ b ∷ c ∷ d ∷ e ∷ f ∷ g ∷ h ∷ []) then IsStr "\n")
+        buffer.old buffer.new result }
 {
     write_row(&[a, b, c, d, e, f, g, h], buffer)
 }
@@ -45,13 +47,45 @@ pub fn write_row_of(
 /// does not have 20 bytes for each number, 2 for each separator and 2 for the brackets.
 pub fn try_write_list(numbers: &[i64], buffer: &mut [u8]) -> Option<usize>
     ensures fits { IsSome result
-        ↔ (1 + (joined_room 20 2 (length numbers.now) + 1) ≤ length buffer.old) }
+        ↔ (1 + (joined_room (λ _. 20) 2 numbers.now + 1) ≤ length buffer.old) }
     ensures text { IfSome result (Writes
         (IsStr "[" then AreJoined IsDecimal (codes ", ") numbers.now then IsStr "]")
         buffer.old buffer.new) }
     ensures none { IfNone result (buffer.new ≡ buffer.old) }
 {
     ("[", Joined(numbers, ", "), "]").try_write_to(buffer)
+}
+
+/// A row of numbers, with commas between them.
+#[derive(Clone, Copy, Drop)]
+pub struct Row<'a>(pub &'a [i64]);
+
+impl Part for Row<'_> {
+    ghost is_text = { λ row. IsRow row.0.now };
+
+    ghost is_valid = { λ _. ⊤ };
+
+    ghost room = { λ row. row_room row.0.now };
+
+    fn room(self) -> usize {
+        Joined(self.0, ",").room()
+    }
+
+    fn write_to(self, buffer: &mut [u8]) -> usize {
+        Joined(self.0, ",").write_to(buffer)
+    }
+}
+
+/// Writes the rows, with a newline after each, to the start of the buffer, and returns the number of bytes
+/// written. Returns `None`, and leaves the buffer unchanged, if the buffer does not have their room.
+pub fn try_write_rows(rows: &[Row<'_>], buffer: &mut [u8]) -> Option<usize>
+    ensures fits { IsSome result
+        ↔ (joined_room (λ row. row_room row.0.now) 1 rows.now + 1 ≤ length buffer.old) }
+    ensures text { IfSome result (Writes
+        (AreJoined (λ row. IsRow row.0.now) (codes "\n") rows.now then IsStr "\n") buffer.old buffer.new) }
+    ensures none { IfNone result (buffer.new ≡ buffer.old) }
+{
+    (Joined(rows, "\n"), "\n").try_write_to(buffer)
 }
 
 /// Writes each number and a semicolon after it to the start of the buffer, and returns the number of
@@ -62,7 +96,7 @@ pub fn write_entries(numbers: &[i64], buffer: &mut [u8]) -> usize
 {
     let mut count = 0;
     for number in numbers {
-        count += (Decimal(*number), ";").write_to(&mut buffer[count..]);
+        count += (*number, ";").write_to(&mut buffer[count..]);
     }
     count
 }

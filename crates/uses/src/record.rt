@@ -1,9 +1,9 @@
 //! Writes a record: numbers with commas between them.
 
-ghost use Rattle.std.specs.Prelude.{◌≤◌, length, map, pos};
-ghost use Rattle.lexical_num.specs.Format.{standard};
+ghost use Rattle.std.specs.Prelude.{◌≤◌, codes, length, pos};
 ghost use Rattle.lexical_write_integer.specs.Buffer.{Writes};
-ghost use Rattle.lexical_lines.specs.JoinedText.{IsJoined};
+ghost use Rattle.lexical_write_integer.specs.Sequence.{AreJoined};
+ghost use Rattle.lexical_parts.specs.Sequence.{IsDecimal};
 
 use lexical_lines::write_joined;
 use lexical_write_integer::Options;
@@ -14,7 +14,8 @@ use lexical_write_integer::format::STANDARD;
 /// for 33 bytes.
 pub fn write_record(numbers: &[u32; 3], buffer: &mut [u8]) -> usize
     requires { 33 ≤ length buffer.old }
-    ensures { Writes (IsJoined (map pos numbers.now) 44 standard) buffer.old buffer.new result }
+    ensures { Writes (AreJoined (λ number. IsDecimal (pos number)) (codes ",") numbers.now)
+        buffer.old buffer.new result }
 {
     write_joined(numbers, b',', buffer, &STANDARD, &Options::new())
 }

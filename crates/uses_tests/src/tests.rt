@@ -1,5 +1,6 @@
 // Tests of the callers with known numbers.
 
+mod joined;
 mod lines;
 mod parts;
 
@@ -13,10 +14,8 @@ use uses::arena::{have_same_kept_texts, keep_text};
 use uses::fixed_text::{count_and_unit, million, year_month};
 use uses::float_format::float_format;
 use uses::float_parts::write_parts;
-use uses::hex_dump::write_dump;
 use uses::hexadecimal::{hexadecimal, write_hexadecimal};
 use uses::identifier::{have_same_identifier, identifier, same_counter};
-use uses::json_array::write_array;
 use uses::percentage::write_percentage;
 use uses::printed::printed;
 use uses::record::write_record;
@@ -56,15 +55,6 @@ fn identifiers(rt: HostRuntime) {
     assert_eq!(rt; largest, b"3W5E11264SGSF".as_slice());
     assert!(rt; have_same_identifier(71, 71));
     assert!(rt; !have_same_identifier(71, 72));
-}
-
-#[test]
-fn dump_of_eight_bytes(rt: HostRuntime) {
-    let mut dump = [7; 16];
-    write_dump(&[0x01, 0x23, 0x45, 0x67, 0x89, 0xAB, 0xCD, 0xEF], &mut dump);
-    assert_eq!(rt; dump, *b"0123456789ABCDEF");
-    write_dump(&[0, 10, 160, 255, 15, 240, 9, 144], &mut dump);
-    assert_eq!(rt; dump, *b"000AA0FF0FF00990");
 }
 
 #[test]
@@ -202,17 +192,6 @@ fn percentages(rt: HostRuntime) {
     assert!(rt; buffer.starts_with(b"12.05%\x07"));
     assert_eq!(rt; write_percentage(4294967295, &mut buffer), 12);
     assert_eq!(rt; buffer, *b"42949672.95%");
-}
-
-#[test]
-fn arrays_in_json(rt: HostRuntime) {
-    let mut buffer = [7; 9];
-    assert_eq!(rt; write_array(&[1, 0, 234], &mut buffer), Some(9));
-    assert_eq!(rt; buffer, *b"[1,0,234]");
-    assert_eq!(rt; write_array(&[1, 0, 2345], &mut buffer), None);
-    assert_eq!(rt; write_array(&[18446744073709551615], &mut buffer), None);
-    assert_eq!(rt; write_array(&[], &mut buffer), Some(2));
-    assert_eq!(rt; write_array(&[], &mut buffer[..1]), None);
 }
 
 #[test]

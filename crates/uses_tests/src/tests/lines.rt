@@ -9,7 +9,6 @@ use lexical_write_integer::NumberFormatBuilder;
 use lexical_write_integer::laws::digit_count_at_most;
 use uses::csv_row::{try_write_list, write_entries, write_row, write_row_of};
 use uses::date_time::DateTime;
-use uses::dump_line::write_dump_line;
 use uses::key_value::try_write_setting;
 use uses::reading::write_reading;
 use uses::table_row::write_table_row;
@@ -141,13 +140,6 @@ fn rows_in_columns(rt: HostRuntime) {
     )
         .write_to(&mut buffer);
     check_buffer(&rt, &buffer, count, b"12  |abc");
-}
-
-#[test]
-fn lines_of_a_dump(rt: HostRuntime) {
-    let mut buffer = [7; 22];
-    let count = write_dump_line(0xC0DE, &[0x01, 0x23, 0xAB, 0xFF], &mut buffer);
-    check_buffer(&rt, &buffer, count, b"0000C0DE: 01 23 AB FF\n");
 }
 
 #[test]

@@ -1,6 +1,6 @@
 -- `join` writes the joined texts and lends them. The borrow checker shows no write-back clause for a front that is returned,
 -- so this proof walks the code by hand, once for every type.
-use Rattle.lexical_num.proofs.Steps.{◌+◌, ◌-◌, ◌*◌, map, w8, uint_vals, uint_Tells, shr_slice_of, ShrSlice, shr_slice_vals, shr_slice_Tells, refl, ap, ℕ, ◌≤◌}
+use Rattle.lexical_num.proofs.Steps.{◌+◌, ◌-◌, ◌*◌, w8, uint_vals, uint_Tells, shr_slice_of, ShrSlice, shr_slice_vals, shr_slice_Tells, refl, ap, ℕ, ◌≤◌}
 use Rattle.lexical_num.proofs.Steps.{List, [], ◌∷◌, length, Val, full_share, emp, id⊢, fact, fact_i, toks, tables, a_type, named, dcons, dnil, inst_fn, flft}
 use Rattle.lexical_num.proofs.Steps.{bounded, copied, u8, usize, no, plain, MutSlice, slice_val, mut_slice_vals, mut_slice_Tells, ‵, raw, ◌⊛◌, some, later, ◌$◌}
 use Rattle.lexical_num.proofs.Steps.{◌∵◌, !, qed, done, move, keep, drop, split, split3, join, fsplit, fjoin, feq_l, flt_l, use0, use1, await, pick, suffices}
@@ -10,11 +10,12 @@ use Rattle.lexical_num.proofs.Steps.{stay_dropped, Goes-dropped, Goes-spent_slic
 use Rattle.lexical_num.specs.Size.{size_in}
 use Rattle.lexical_num.specs.contracts.format.NumberFormat.{the_row as NumberFormat}
 use Rattle.lexical_write_integer.specs.Buffer.{Writes as Written}
+use Rattle.lexical_write_integer.specs.Sequence.{AreJoined}
+use Rattle.lexical_write_integer.specs.Text.{IsText}
 use Rattle.lexical_write_integer.proofs.Reborrows.{lends, comes_back}
 use Rattle.lexical_write_integer.proofs.HandedFronts.{calls_front}
 use Rattle.lexical_write_integer.proofs.Buffers.Prefixes.{Writes-short}
 use Rattle.lexical_write_integer.proofs.buffer.front_mut.Met.{met as front_met}
-use Rattle.lexical_lines.specs.JoinedText.{IsJoined}
 use Rattle.lexical_lines.specs.contracts.joined_text.write_joined as W
 use Rattle.lexical_lines.proofs.joined_text.write_joined.Met.{met as write_met}
 use Rattle.lexical_lines.specs.contracts.joined_text.join as F
@@ -64,7 +65,7 @@ join_spec 𝓤 𝓛 𝓜 𝓡 wired X Y L LY C g d gl dl gn dn gc dc gs ds gt dt
     (shr_slice_vals values, (uint_vals w8 mark, (mut_slice_vals self, (shr_vals format, (shr_vals options, tt))))) in
     -- the length of buffer that the call requires, and what a text of the numbers is
     let needed = length values.now * (size_in gs.FORMATTED_SIZE gs.FORMATTED_SIZE_DECIMAL format.now + 1) in
-    let Text : List ℕ → Type 0 = IsJoined (map gn.number values.now) mark format.now in
+    let Text : List ℕ → Type 0 = AreJoined (λ x. IsText (gn.number x) format.now) (mark ∷ []) values.now in
     qed 𝓛 (((‵ (flft κv qv) ⊛ ‵ (flft κ q) ⊛ raw (toks 𝓛 4 κs.1.1 qs.1.1)) ⊛ (‵ ((ShrSlice (named 0) κv R).own_val values words.0) ⊛
     ‵ (u8.own_val mark words.1.0) ⊛ ‵ ((MutSlice (named 1) κ u8).own_val self words.1.1.0) ⊛
     ‵ (owns (ShrRef (named 2) κs.1.1.0 NumberFormat ∷ ShrRef (named 3) κs.1.1.1.0 O ∷ []) a.1.1.1 words.1.1.1))) ∷ raw ((c κs a).requires tt) ∷ []) ∵

@@ -1,21 +1,21 @@
-use Rattle.std.proofs.Common.{◌≡◌, ℕ, ◌+◌, ◌*◌, ◌<◌, ◌≤◌, ◌++◌, [], ◌∷◌, length, map, take, ◌∙◌, arith}
+use Rattle.std.proofs.Common.{◌≡◌, ℕ, ◌+◌, ◌*◌, ◌<◌, ◌≤◌, ◌++◌, [], ◌∷◌, length, take, sym, ap, ◌∙◌, arith}
 use Rattle.std.proofs.Math.Nat.{mul-le-mul_right}
-use Rattle.std.proofs.lemmas.List.{length-map, length-take, length-take-le, take_all}
+use Rattle.std.proofs.lemmas.List.{length-take, length-take-le, take_all, take_more}
 use Rattle.lexical_num.specs.Size.{size_in}
+use Rattle.lexical_write_integer.specs.Sequence.{AreJoined}
 use Rattle.lexical_write_integer.specs.Text.{IsText}
 use Rattle.lexical_write_integer.proofs.Buffers.Prefixes.{Writes-after}
-use Rattle.lexical_lines.specs.JoinedText.{IsJoined}
-use Rattle.lexical_lines.proofs.Joins.{map-take_more, Ready, Ready-one, Ready-push}
+use Rattle.lexical_lines.proofs.Joins.{Ready, Ready-one, Ready-push}
 use Rattle.lexical_lines.proofs.joined_text.write_joined.Goals as goal
 use Rattle.lexical_lines.proofs.joined_text.write_joined.Goals.{then-index-gt0, else-index-gt0}
 
 pub loop-index-preserved : goal.loop-index-preserved
 loop-index-preserved g c =
-    let number = g.T.LexicalInteger.number in
     let values = c.args.values.now in
     let format = c.args.format.now in
     let index = c.loop-index.index in
-    let x = number c.index-values-index.result in
+    let x = c.index-values-index.result in
+    let IsOf = λ (y : g.row.T.Denot). IsText (g.T.LexicalInteger.number y) format in
     let inside : index < length values = omega (arith, c.loop-index-test.true) in
     let room : c.loop-index.count < length c.args.buffer.now =
     omega (
@@ -24,21 +24,21 @@ loop-index-preserved g c =
       c.loop-index.invariant.within,
       mul-le-mul_right (size_in g.T.FormattedSize.FORMATTED_SIZE g.T.FormattedSize.FORMATTED_SIZE_DECIMAL format + 1) inside,
     ) in
-    let numbers = map number (take index values) in
-    let many : length numbers ≡ index = length-map (take index values) number ∙ length-take-le index values (omega arith) in
-    let next = map-take_more number values index c.index-values-index.result inside c.index-values-index.is in
+    let before = take index values in
+    let many : length before ≡ index = length-take-le index values (omega arith) in
+    let next : take (index + 1) values ≡ before ++ x ∷ [] = take_more values index x inside ∙ ap (λ y. before ++ y ∷ []) (sym c.index-values-index.is) in
     let was = c.loop-index.invariant.written in
-    let ready : Ready (IsText x format) (IsJoined (numbers ++ x ∷ []) c.args.mark format) c.args.buffer.now c.if-index-gt0.buffer c.if-index-gt0.count =
+    let ready : Ready (IsOf x) (AreJoined IsOf (c.args.mark ∷ []) (before ++ x ∷ [])) c.args.buffer.now c.if-index-gt0.buffer c.if-index-gt0.count =
     elim c.if-index-gt0.branch [
       | then-index-gt0 w ↦
-          rw (w.buffer-is, w.count-is) (Ready-push c.args.mark format numbers x c.args.buffer.now c.loop-index.buffer
+          rw (w.buffer-is, w.count-is) (Ready-push IsOf c.args.mark before x c.args.buffer.now c.loop-index.buffer
           c.loop-index.count (omega (arith, many, w.if-index-gt0.true)) room was)
       | else-index-gt0 w ↦
-          rw (w.buffer-is, w.count-is) (Ready-one c.args.mark format numbers x c.args.buffer.now c.loop-index.buffer
+          rw (w.buffer-is, w.count-is) (Ready-one IsOf c.args.mark before x c.args.buffer.now c.loop-index.buffer
           c.loop-index.count (omega (arith, many, w.if-index-gt0.false)) was)
     ] in
     let size = size_in g.T.FormattedSize.FORMATTED_SIZE g.T.FormattedSize.FORMATTED_SIZE_DECIMAL format in
-    let before : c.if-index-gt0.count ≤ index * (size + 1) =
+    let within : c.if-index-gt0.count ≤ index * (size + 1) =
     elim c.if-index-gt0.branch [
       | then-index-gt0 w ↦
           let some : 1 ≤ index = omega (arith, w.if-index-gt0.true) in
@@ -48,7 +48,7 @@ loop-index-preserved g c =
     let text = c.write_lexical_with_options-count.ensures.text in
     record {
       written = rw next (Writes-after ready.text _ _ _ _ _ _ ready.counted ready.front ready.whole text);
-      within = omega (arith, before, text.count, text.front.fits, length-take {A = ℕ}, c.loop-index.invariant.within);
+      within = omega (arith, within, text.count, text.front.fits, length-take {A = ℕ}, c.loop-index.invariant.within);
     }
 
 pub returns-clause-text : goal.returns-clause-text

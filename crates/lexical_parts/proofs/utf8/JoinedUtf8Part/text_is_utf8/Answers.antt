@@ -1,9 +1,9 @@
 use Rattle.std.proofs.Common.{refl}
-use Rattle.lexical_num.specs.Format.{standard}
-use Rattle.lexical_write_integer.specs.Text.{IsText}
-use Rattle.lexical_parts.proofs.Utf8Texts.{text_is_utf8, joined_is_utf8}
+use Rattle.std.proofs.lemmas.List.{take_all}
+use Rattle.lexical_parts.proofs.Utf8Texts.{joined_is_utf8}
 use Rattle.lexical_parts.proofs.utf8.JoinedUtf8Part.text_is_utf8.Goals as goal
 
 pub returns : goal.returns
 returns g c =
-    joined_is_utf8 (λ x. IsText (g.T.LexicalInteger.number x) standard) _ _ (λ x. text_is_utf8 _ _ c.in_range.ensures) (c.text_is_utf8.ensures _ refl)
+    let each = rw (take_all c.loop-part.part-index c.args.self.0.now c.loop-part-test.false) at c.loop-part.invariant in
+    joined_is_utf8 g.P.Part.is_text _ _ each (c.text_is_utf8.ensures _ refl)

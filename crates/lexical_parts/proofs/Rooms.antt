@@ -1,0 +1,34 @@
+-- The room of the elements of a list with a separator between them.
+use Rattle.std.proofs.Common.{◌≡◌, ℕ, zero, suc, ◌+◌, ◌-◌, ◌*◌, ◌<◌, ◌≤◌, List, length, take, get_or, refl, ap, arith}
+use Rattle.std.proofs.Math.Nat.{mul-le-mul_right, suc-mul}
+use Rattle.std.proofs.lemmas.List.{length-take-le}
+use Rattle.std.proofs.lemmas.List.Sums.{sum_by_more, sum_by-take-le}
+use Rattle.lexical_write_integer.proofs.OfTexts.Joins.{Leads}
+use Rattle.lexical_parts.specs.Joined.{joined_room}
+
+-- the separators before one further element
+separators_more : (separator lead : List ℕ) (i : ℕ) → Leads separator i lead
+    → (i + 1 - 1) * length separator ≡ (i - 1) * length separator + length lead
+separators_more separator lead zero leads = omega (arith, ap length (leads.at_first refl))
+separators_more separator lead (suc i) leads =
+    let one_more : suc i + 1 - 1 ≡ suc i = omega arith in
+    let one_less : suc i - 1 ≡ i = omega arith in
+    rw (one_more, one_less) (omega (arith, suc-mul i (length separator), ap length (leads.later (omega arith))))
+
+-- one further element needs its own room and that of the separator before it
+pub joined_room-more : {A : Type 0} (room : A → ℕ) (separator lead : List ℕ) (xs : List A) {i : ℕ} {x : A} → i < length xs → x ≡ get_or xs i x
+    → Leads separator i lead
+    → joined_room room (length separator) (take (i + 1) xs) ≡ joined_room room (length separator) (take i xs) + (length lead + room x)
+joined_room-more room separator lead xs {i} {x} inside is leads =
+    let before : length (take i xs) ≡ i = length-take-le i xs (omega arith) in
+    let after : length (take (i + 1) xs) ≡ i + 1 = length-take-le (i + 1) xs (omega arith) in
+    let sum = sum_by_more room xs i x inside in
+    rw (before, after) (omega (arith, sum, ap room is, separators_more separator lead i leads))
+
+-- the first elements need at most the room of all
+pub joined_room-take-le : {A : Type 0} (room : A → ℕ) (separator : ℕ) (xs : List A) (i : ℕ) → i ≤ length xs
+    → joined_room room separator (take i xs) ≤ joined_room room separator xs
+joined_room-take-le room separator xs i inside =
+    let long : length (take i xs) ≡ i = length-take-le i xs inside in
+    let fewer : i - 1 ≤ length xs - 1 = omega arith in
+    rw long (omega (arith, sum_by-take-le room xs i, mul-le-mul_right separator fewer))

@@ -1,0 +1,7 @@
+use Rattle.std.proofs.Common.{arith}
+use Rattle.lexical_write_integer.specs.Padded.{IsPadded}
+use Rattle.lexical_parts.proofs.Utf8Texts.{each_is_utf8, padded_is_utf8}
+use Rattle.lexical_parts.proofs.utf8.HexBytesUtf8Part.text_is_utf8.Goals as goal
+
+pub returns : goal.returns
+returns c = each_is_utf8 (IsPadded 16 2) _ (λ byte. padded_is_utf8 16 2 byte (omega arith))

@@ -1,0 +1,167 @@
+//! The integer types, which are parts: the text of a number is the number in decimal.
+
+ghost use Rattle.std.specs.Prelude.{pos, ⊤};
+ghost use Rattle.lexical_parts.specs.Sequence.{IsDecimal};
+
+use crate::number::Decimal;
+use crate::part::Part;
+
+impl Part for u8 {
+    ghost is_text = { λ number. IsDecimal (pos number) };
+
+    ghost is_valid = { λ _. ⊤ };
+
+    ghost room = { λ _. 3 };
+
+    fn room(self) -> usize {
+        3
+    }
+
+    fn write_to(self, buffer: &mut [u8]) -> usize {
+        Decimal(self).write_to(buffer)
+    }
+}
+
+impl Part for u16 {
+    ghost is_text = { λ number. IsDecimal (pos number) };
+
+    ghost is_valid = { λ _. ⊤ };
+
+    ghost room = { λ _. 5 };
+
+    fn room(self) -> usize {
+        5
+    }
+
+    fn write_to(self, buffer: &mut [u8]) -> usize {
+        Decimal(self).write_to(buffer)
+    }
+}
+
+impl Part for u32 {
+    ghost is_text = { λ number. IsDecimal (pos number) };
+
+    ghost is_valid = { λ _. ⊤ };
+
+    ghost room = { λ _. 10 };
+
+    fn room(self) -> usize {
+        10
+    }
+
+    fn write_to(self, buffer: &mut [u8]) -> usize {
+        Decimal(self).write_to(buffer)
+    }
+}
+
+impl Part for u64 {
+    ghost is_text = { λ number. IsDecimal (pos number) };
+
+    ghost is_valid = { λ _. ⊤ };
+
+    ghost room = { λ _. 20 };
+
+    fn room(self) -> usize {
+        20
+    }
+
+    fn write_to(self, buffer: &mut [u8]) -> usize {
+        Decimal(self).write_to(buffer)
+    }
+}
+
+impl Part for usize {
+    ghost is_text = { λ number. IsDecimal (pos number) };
+
+    ghost is_valid = { λ _. ⊤ };
+
+    ghost room = { λ _. 20 };
+
+    fn room(self) -> usize {
+        20
+    }
+
+    fn write_to(self, buffer: &mut [u8]) -> usize {
+        Decimal(self).write_to(buffer)
+    }
+}
+
+impl Part for i8 {
+    ghost is_text = { IsDecimal };
+
+    ghost is_valid = { λ _. ⊤ };
+
+    ghost room = { λ _. 4 };
+
+    fn room(self) -> usize {
+        4
+    }
+
+    fn write_to(self, buffer: &mut [u8]) -> usize {
+        Decimal(self).write_to(buffer)
+    }
+}
+
+impl Part for i16 {
+    ghost is_text = { IsDecimal };
+
+    ghost is_valid = { λ _. ⊤ };
+
+    ghost room = { λ _. 6 };
+
+    fn room(self) -> usize {
+        6
+    }
+
+    fn write_to(self, buffer: &mut [u8]) -> usize {
+        Decimal(self).write_to(buffer)
+    }
+}
+
+impl Part for i32 {
+    ghost is_text = { IsDecimal };
+
+    ghost is_valid = { λ _. ⊤ };
+
+    ghost room = { λ _. 11 };
+
+    fn room(self) -> usize {
+        11
+    }
+
+    fn write_to(self, buffer: &mut [u8]) -> usize {
+        Decimal(self).write_to(buffer)
+    }
+}
+
+impl Part for i64 {
+    ghost is_text = { IsDecimal };
+
+    ghost is_valid = { λ _. ⊤ };
+
+    ghost room = { λ _. 20 };
+
+    fn room(self) -> usize {
+        20
+    }
+
+    fn write_to(self, buffer: &mut [u8]) -> usize {
+        Decimal(self).write_to(buffer)
+    }
+}
+
+impl Part for isize {
+    ghost is_text = { IsDecimal };
+
+    ghost is_valid = { λ _. ⊤ };
+
+    ghost room = { λ _. 20 };
+
+    fn room(self) -> usize {
+        20
+    }
+
+    fn write_to(self, buffer: &mut [u8]) -> usize {
+        Decimal(self).write_to(buffer)
+    }
+}

@@ -1,0 +1,132 @@
+// Tests of parts that are joined, and of callers that join parts.
+
+use super::check_buffer;
+use lexical_parts::{Fixed, HexBytes, Joined, Left, Padded, Part, Right, Utf8Part};
+use uses::csv_row::{Row, try_write_rows};
+use uses::digest::write_digest;
+use uses::digit_pair::digit_pair;
+use uses::dump_line::write_dump_line;
+use uses::ipv6::write_address;
+
+#[test]
+fn parts_of_each_kind_are_joined(rt: HostRuntime) {
+    let mut buffer = [7; 60];
+    let count = Joined(&[-1, 20], ", ").write_to(&mut buffer);
+    check_buffer(&rt, &buffer, count, b"-1, 20");
+    let time = Joined(&[Padded(7u8, 2), Padded(5, 2), Padded(9, 2)], ":");
+    assert_eq!(rt; time.to_str(&mut [7; 8]), "07:05:09");
+    let cells = Joined(
+        &[Right(Fixed(-5, 2), 7, b' '), Right(Fixed(1200, 2), 7, b' ')],
+        "|",
+    );
+    assert_eq!(rt; cells.to_str(&mut [7; 60]), "  -0.05|  12.00");
+    let rows = [
+        Joined(&[1u8, 2], ","),
+        Joined(&[], ","),
+        Joined(&[255], ","),
+    ];
+    assert_eq!(rt; Joined(&rows, ";").to_str(&mut [7; 12]), "1,2;;255");
+    assert_eq!(rt;
+        Joined(&["a", "", "°C"], "--").to_str(&mut [7; 8]),
+        "a----°C"
+    );
+}
+
+#[test]
+fn rooms_of_joined_parts(rt: HostRuntime) {
+    assert_eq!(rt; Joined::<u8>(&[], ", ").room(), 0);
+    assert_eq!(rt; Joined(&[-5i64], ", ").room(), 20);
+    assert_eq!(rt; Joined(&[1i64, 2, 3], ", ").room(), 64);
+    assert_eq!(rt; Joined(&["a", "bcd", ""], ", ").room(), 8);
+    let wide = Left("", 18446744073709551615, b' ');
+    assert_eq!(rt; Joined(&[wide, wide], ", ").room(), 18446744073709551615);
+    assert_eq!(rt; HexBytes(&[1, 2, 3]).room(), 6);
+}
+
+// The text of the largest number of each type is known from the language, and so is that of the smallest.
+#[test]
+fn integers_are_parts(rt: HostRuntime) {
+    let mut buffer = [7; 14];
+    let count = ("n=", 5, ".").write_to(&mut buffer);
+    check_buffer(&rt, &buffer, count, b"n=5.");
+    let unsigned = (255u8, " ", 65535u16, " ", 4294967295u32);
+    assert_eq!(rt; unsigned.to_str(&mut [7; 20]), "255 65535 4294967295");
+    let signed = (-128i8, " ", -32768i16, " ", -2147483648i32);
+    assert_eq!(rt; signed.to_str(&mut [7; 23]), "-128 -32768 -2147483648");
+    let wide = (18446744073709551615u64, " ", -9223372036854775808i64);
+    assert_eq!(rt;
+        wide.to_str(&mut [7; 41]),
+        "18446744073709551615 -9223372036854775808"
+    );
+    let sizes = (18446744073709551615usize, " ", -9223372036854775808isize);
+    assert_eq!(rt;
+        sizes.to_str(&mut [7; 41]),
+        "18446744073709551615 -9223372036854775808"
+    );
+    assert_eq!(rt; (1u8.room(), 1u16.room(), 1u32.room()), (3, 5, 10));
+    assert_eq!(rt; (1i8.room(), 1i16.room(), 1i32.room()), (4, 6, 11));
+    assert_eq!(rt; (1u64.room(), 1i64.room()), (20, 20));
+    assert_eq!(rt; (1usize.room(), 1isize.room()), (20, 20));
+}
+
+#[test]
+fn addresses(rt: HostRuntime) {
+    let mut buffer = [7; 39];
+    let groups = [0x2001, 0x0DB8, 0, 0, 8, 0x800, 0x200C, 0x417A];
+    let count = write_address(&groups, &mut buffer);
+    check_buffer(&rt, &buffer, count, b"2001:db8:0:0:8:800:200c:417a");
+    let mut buffer = [7; 39];
+    let count = write_address(&[0, 0, 0, 0, 0, 0, 0, 1], &mut buffer);
+    check_buffer(&rt, &buffer, count, b"0:0:0:0:0:0:0:1");
+    let count = write_address(&[0xFFFF; 8], &mut buffer);
+    check_buffer(
+        &rt,
+        &buffer,
+        count,
+        b"ffff:ffff:ffff:ffff:ffff:ffff:ffff:ffff",
+    );
+}
+
+// The SHA-256 of no bytes.
+const EMPTY_SHA_256: [u8; 32] = [
+    0xE3, 0xB0, 0xC4, 0x42, 0x98, 0xFC, 0x1C, 0x14, 0x9A, 0xFB, 0xF4, 0xC8, 0x99, 0x6F, 0xB9, 0x24,
+    0x27, 0xAE, 0x41, 0xE4, 0x64, 0x9B, 0x93, 0x4C, 0xA4, 0x95, 0x99, 0x1B, 0x78, 0x52, 0xB8, 0x55,
+];
+
+#[test]
+fn digests(rt: HostRuntime) {
+    let mut buffer = [7; 64];
+    let count = write_digest(&EMPTY_SHA_256, &mut buffer);
+    check_buffer(
+        &rt,
+        &buffer,
+        count,
+        b"e3b0c44298fc1c149afbf4c8996fb92427ae41e4649b934ca495991b7852b855",
+    );
+    assert_eq!(rt; HexBytes(&[0x0F, 0xA0]).to_str(&mut [7; 4]), "0FA0");
+    assert_eq!(rt; HexBytes(&[]).to_str(&mut [7; 4]), "");
+}
+
+#[test]
+fn digits_of_a_byte(rt: HostRuntime) {
+    assert_eq!(rt; digit_pair(0), *b"00");
+    assert_eq!(rt; digit_pair(0x9F), *b"9F");
+    assert_eq!(rt; digit_pair(255), *b"FF");
+}
+
+#[test]
+fn lines_of_a_dump(rt: HostRuntime) {
+    let mut buffer = [7; 34];
+    let bytes = [0x01, 0x23, 0xAB, 0xFF, 0, 0x10, 0x9C, 0xDE];
+    let count = write_dump_line(0xC0DE, &bytes, &mut buffer);
+    check_buffer(&rt, &buffer, count, b"0000C0DE: 01 23 AB FF 00 10 9C DE\n");
+}
+
+#[test]
+fn rows_of_rows(rt: HostRuntime) {
+    let mut buffer = [7; 64];
+    let rows = [Row(&[1, -2]), Row(&[]), Row(&[3])];
+    assert_eq!(rt; try_write_rows(&rows, &mut buffer), Some(8));
+    check_buffer(&rt, &buffer, 8, b"1,-2\n\n3\n");
+    assert_eq!(rt; try_write_rows(&rows, &mut buffer[..63]), None);
+}
