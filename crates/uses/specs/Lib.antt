@@ -1,7 +1,7 @@
+pub mod Amount
 pub mod CsvRow
 pub mod DateTime
 pub mod DumpLine
-pub mod FloatParts
 pub mod JsonArray
 pub mod Reading
 pub mod TurnLists

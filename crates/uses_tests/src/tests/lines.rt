@@ -1,6 +1,6 @@
 // Tests of the callers of `lexical_parts`.
 
-use super::check_buffer;
+use super::{check_buffer, check_part};
 use lexical_parts::{
     Byte, Bytes, Decimal, Digits, Formatted, Joined, Left, Padded, PaddedDigits, Part, Right,
     Utf8Part,
@@ -12,8 +12,6 @@ use uses::date_time::DateTime;
 use uses::dump_line::write_dump_line;
 use uses::key_value::try_write_setting;
 use uses::reading::write_reading;
-use uses::table_row::write_table_row;
-use uses::timestamp::timestamp;
 
 const MORNING: DateTime = DateTime {
     year: 2026,
@@ -29,38 +27,18 @@ fn readings(rt: HostRuntime) {
     let mut buffer = [7; 60];
     let count = write_reading(MORNING, -125, 255, &mut buffer);
     check_buffer(&rt, &buffer, count, b"2026-11-23T07:05:09 -12.5 kg 0xFF;");
-    let mut buffer = [7; 57];
-    let long_ago = DateTime {
-        year: 33,
-        month: 4,
-        day: 3,
-        hour: 0,
-        minute: 0,
-        second: 0,
-    };
-    let count = write_reading(long_ago, -5, 0, &mut buffer);
-    check_buffer(&rt, &buffer, count, b"0033-04-03T00:00:00 -0.5 kg 0x0;");
+    let mut buffer = [7; 47];
+    let count = write_reading(MORNING, -5, 0, &mut buffer);
+    check_buffer(&rt, &buffer, count, b"2026-11-23T07:05:09 -0.5 kg 0x0;");
 }
 
 #[test]
 fn timestamps(rt: HostRuntime) {
     let mut buffer = [7; 29];
-    assert_eq!(rt;
-        timestamp(MORNING, 42, 60, &mut buffer),
-        "2026-11-23T07:05:09.042+01:00"
-    );
-    assert_eq!(rt;
-        timestamp(MORNING, 999, -210, &mut buffer),
-        "2026-11-23T07:05:09.999-03:30"
-    );
-    assert_eq!(rt;
-        timestamp(MORNING, 0, 0, &mut buffer),
-        "2026-11-23T07:05:09.000+00:00"
-    );
-    assert_eq!(rt;
-        timestamp(MORNING, 0, -1439, &mut buffer),
-        "2026-11-23T07:05:09.000-23:59"
-    );
+    let east = MORNING.timestamp(42, 60, &mut buffer);
+    assert_eq!(rt; east, "2026-11-23T07:05:09.042+01:00");
+    let west = MORNING.timestamp(0, -1439, &mut buffer);
+    assert_eq!(rt; west, "2026-11-23T07:05:09.000-23:59");
 }
 
 #[test]
@@ -124,23 +102,13 @@ fn lists_of_numbers(rt: HostRuntime) {
 }
 
 #[test]
-fn rows_in_columns(rt: HostRuntime) {
-    let mut buffer = [7; 37];
-    let count = write_table_row(-2147483648, 0, 42, &mut buffer);
-    check_buffer(
+fn columns_of_bytes(rt: HostRuntime) {
+    let bytes = Left(Bytes(b"abc"), 2, b' ');
+    check_part(
         &rt,
-        &buffer,
-        count,
-        b" -2147483648           0          42\n",
+        (Left(Decimal(12u8), 4, b' '), Byte(b'|'), bytes),
+        b"12  |abc",
     );
-    let mut buffer = [7; 8];
-    let count = (
-        Left(Decimal(12u8), 4, b' '),
-        Byte(b'|'),
-        Left(Bytes(b"abc"), 2, b' '),
-    )
-        .write_to(&mut buffer);
-    check_buffer(&rt, &buffer, count, b"12  |abc");
 }
 
 #[test]
@@ -157,7 +125,10 @@ fn settings(rt: HostRuntime) {
     assert_eq!(rt; try_write_setting(b"limit", limit, &mut buffer), Some(10));
     check_buffer(&rt, &buffer, 10, b"limit=-40\n");
     let mut buffer = [7; 10];
-    assert_eq!(rt; try_write_setting(b"limit", None, &mut buffer), Some(7));
+    assert_eq!(rt;
+        try_write_setting(b"limit", None::<Decimal<u8>>, &mut buffer),
+        Some(7)
+    );
     check_buffer(&rt, &buffer, 7, b"limit=\n");
     assert_eq!(rt; try_write_setting(b"limit", limit, &mut buffer), None);
     check_buffer(&rt, &buffer, 7, b"limit=\n");
