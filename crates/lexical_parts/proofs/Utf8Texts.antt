@@ -42,7 +42,7 @@ joined_is_utf8 IsOf separator (x ∷ y ∷ xs) each between text is =
     then_is_utf8 (each x) (then_is_utf8 (λ mark same. rw same between) (joined_is_utf8 IsOf separator (y ∷ xs) each between)) text is
 
 -- copies of a byte below 128
-fill_is_utf8 : (fill count : ℕ) → fill < 128 → IsUtf8 (replicate count fill)
+pub fill_is_utf8 : (fill count : ℕ) → fill < 128 → IsUtf8 (replicate count fill)
 fill_is_utf8 fill count small =
     IsUtf8-from_ascii (replicate count fill) (IsAscii-from_all (replicate count fill) (All-replicate (λ b. b < 128) count fill small))
 

@@ -2,8 +2,8 @@
 
 use super::{check_buffer, check_part};
 use lexical_parts::{
-    Byte, Bytes, Decimal, Digits, Formatted, Joined, Left, Padded, PaddedDigits, Part, Right,
-    Utf8Part,
+    Byte, Bytes, Decimal, Digits, Formatted, Hex, Joined, Left, Lower, Padded, PaddedDigits, Part,
+    Right, Utf8Part, ZeroPadded,
 };
 use lexical_write_integer::NumberFormatBuilder;
 use lexical_write_integer::laws::digit_count_at_most;
@@ -45,26 +45,27 @@ fn timestamps(rt: HostRuntime) {
 fn texts_as_str(rt: HostRuntime) {
     let mut buffer = [7; 40];
     assert_eq!(rt; (Decimal(-5i8), " °C").to_str(&mut buffer), "-5 °C");
+    assert_eq!(rt; Lower(("É ", Hex(255u8))).to_str(&mut buffer), "É ff");
+    assert_eq!(rt;
+        ZeroPadded((Decimal(-5i8), "°"), 6).to_str(&mut buffer),
+        "-005°"
+    );
     assert!(rt; buffer[6..].iter().all(|byte| *byte == 7));
     let row = (Byte(b'<'), Joined(&[1u8, 20], ", "), Byte(b'>'));
     assert_eq!(rt; row.to_str(&mut buffer), "<1, 20>");
-    let cells = (
-        Left(Digits(16, 255u8), 4, b' '),
-        Right(Some(PaddedDigits(2, 5u8, 4)), 6, b' '),
-        None::<Decimal<u8>>,
-    );
+    let digits = Left(Digits(16, 255u8), 4, b' ');
+    let bits = Right(Some(PaddedDigits(2, 5u8, 4)), 6, b' ');
     digit_count_at_most(16, 255, 2);
+    let cells = (digits, bits, None::<Decimal<u8>>);
     assert_eq!(rt; cells.to_str(&mut buffer), "FF    0101");
     let thousands = NumberFormatBuilder::new()
         .digit_grouping(3, b',')
         .build_strict();
     let amount = Formatted(1234567u32, &thousands);
     assert_eq!(rt; amount.to_str(&mut buffer), "1,234,567");
-    assert_eq!(rt;
-        (Padded(7u8, 3), "é").try_to_str(&mut buffer[..5]),
-        Some("007é")
-    );
-    assert_eq!(rt; (Padded(7u8, 3), "é").try_to_str(&mut buffer[..4]), None);
+    let name = (Padded(7u8, 3), "é");
+    assert_eq!(rt; name.try_to_str(&mut buffer[..5]), Some("007é"));
+    assert_eq!(rt; name.try_to_str(&mut buffer[..4]), None);
 }
 
 #[test]
@@ -99,16 +100,6 @@ fn lists_of_numbers(rt: HostRuntime) {
     let mut buffer = [7; 45];
     let count = write_entries(&[5, -6], &mut buffer);
     check_buffer(&rt, &buffer, count, b"5;-6;");
-}
-
-#[test]
-fn columns_of_bytes(rt: HostRuntime) {
-    let bytes = Left(Bytes(b"abc"), 2, b' ');
-    check_part(
-        &rt,
-        (Left(Decimal(12u8), 4, b' '), Byte(b'|'), bytes),
-        b"12  |abc",
-    );
 }
 
 #[test]

@@ -29,16 +29,9 @@ fn uuids(rt: HostRuntime) {
 
 #[test]
 fn numbers_with_the_room_of_their_type(rt: HostRuntime) {
-    check_part(
-        &rt,
-        (Hex(255u8), " ", Hex(0u16), " ", Lower(Hex(0xC0DEu32))),
-        b"FF 0 c0de",
-    );
-    check_part(
-        &rt,
-        (Hex(18446744073709551615u64), Binary(5u8)),
-        b"FFFFFFFFFFFFFFFF101",
-    );
+    check_part(&rt, (Hex(255u8), " ", Hex(0u16)), b"FF 0");
+    check_part(&rt, (Lower(Hex(0xC0DEu32)), Binary(5u8)), b"c0de101");
+    check_part(&rt, Hex(u64::MAX), b"FFFFFFFFFFFFFFFF");
     assert_eq!(rt; Hex(1u8).room(), 2);
     assert_eq!(rt; Hex(1u64).room(), 16);
     assert_eq!(rt; Binary(1u8).room(), 8);
@@ -53,22 +46,13 @@ fn numbers_with_decimals(rt: HostRuntime) {
     check_part(&rt, Fixed(99u16, 2), b"0.99");
     check_part(&rt, Fixed(100isize, 2), b"1.00");
     check_part(&rt, Fixed(-5i64, 2), b"-0.05");
-    check_part(&rt, Fixed(-2147483648i32, 1), b"-214748364.8");
-    check_part(
-        &rt,
-        Fixed(18446744073709551615u64, 19),
-        b"1.8446744073709551615",
-    );
-    check_part(
-        &rt,
-        Fixed(-9223372036854775808i64, 19),
-        b"-0.9223372036854775808",
-    );
-    assert_eq!(rt; &*Fixed(255u8, 2).to_text(&mut [7; 4]), b"2.55".as_slice());
-    assert_eq!(rt;
-        &*Fixed(-128i8, 2).to_text(&mut [7; 5]),
-        b"-1.28".as_slice()
-    );
+    check_part(&rt, Fixed(i32::MIN, 1), b"-214748364.8");
+    check_part(&rt, Fixed(u64::MAX, 19), b"1.8446744073709551615");
+    check_part(&rt, Fixed(i64::MIN, 19), b"-0.9223372036854775808");
+    let mut exact = [7; 5];
+    assert_eq!(rt; Fixed(255u8, 2).write_to(&mut exact[..4]), 4);
+    assert_eq!(rt; Fixed(i8::MIN, 2).write_to(&mut exact), 5);
+    assert_eq!(rt; exact, *b"-1.28");
 }
 
 #[test]
@@ -76,10 +60,9 @@ fn amounts_in_cents(rt: HostRuntime) {
     let mut buffer = [7; 30];
     let count = write_amount(-5, &mut buffer);
     check_buffer(&rt, &buffer, count, b"-0.05");
-    let mut buffer = [7; 30];
     let count = write_amount(123450, &mut buffer);
     check_buffer(&rt, &buffer, count, b"1,234.50");
-    let count = write_amount(-9223372036854775808, &mut buffer);
+    let count = write_amount(i64::MIN, &mut buffer);
     check_buffer(&rt, &buffer, count, b"-92,233,720,368,547,758.08");
 }
 
@@ -102,12 +85,7 @@ fn widths_as_in_rust(rt: HostRuntime) {
 
 #[test]
 fn rows_in_columns(rt: HostRuntime) {
-    let mut buffer = [7; 36];
-    let count = write_table_row("total", -2147483648, -1234, &mut buffer);
-    check_buffer(
-        &rt,
-        &buffer,
-        count,
-        b"---total---- -2147483648......-1234\n",
-    );
+    let mut row = [7; 36];
+    assert_eq!(rt; write_table_row("total", -2147483648, -1234, &mut row), 36);
+    assert_eq!(rt; row, *b"---total---- -2147483648......-1234\n");
 }
