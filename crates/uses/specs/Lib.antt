@@ -1,4 +1,3 @@
-pub mod Amount
 pub mod CsvRow
 pub mod DateTime
 pub mod DumpLine

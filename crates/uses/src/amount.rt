@@ -1,11 +1,14 @@
 //! Writes amounts of money, with commas between groups of three digits and a point before the cents.
 
-ghost use Rattle.std.specs.Prelude.{◌≡◌, ◌≤◌, List, ℕ, Some, false, length, pos};
+ghost use Rattle.std.specs.Prelude.{◌≡◌, ◌≤◌, ◌/◌, ◌%◌, List, ℕ, Some, false, length, pos};
+ghost use Rattle.std.specs.Prelude.{unsigned_abs};
 ghost use Rattle.lexical_num.specs.Format.{standard};
 ghost use Rattle.lexical_num.specs.Sign.{sign_of};
 ghost use Rattle.lexical_write_integer.specs.Buffer.{Writes};
+ghost use Rattle.lexical_write_integer.specs.Padded.{IsPadded};
+ghost use Rattle.lexical_write_integer.specs.Sequence.{IsExactly};
 ghost use Rattle.lexical_write_integer.specs.Text.{IsText};
-ghost use Rattle.uses.specs.Amount.{IsAmount};
+ghost use Rattle.lexical_parts.specs.Sequence.{◌then◌, IsStr};
 
 use lexical_parts::{Formatted, Padded, Part};
 use lexical_write_integer::digit_count::DigitCount;
@@ -32,7 +35,9 @@ fn sign(cents: i64) -> &'static str
 /// Writes an amount of cents in units of 100 cents, such as `-1,234.50`, to the start of the array, and
 /// returns the number of bytes written. The bytes after them are unchanged.
 pub fn write_amount(cents: i64, buffer: &mut [u8; 30]) -> usize
-    ensures { Writes (IsAmount cents) buffer.old buffer.new result }
+    ensures { Writes (IsExactly (sign_of cents false)
+        then IsText (pos (unsigned_abs cents / 100)) (record standard { digit_grouping = Some (3, 44) })
+        then IsStr "." then IsPadded 10 2 (unsigned_abs cents % 100)) buffer.old buffer.new result }
 {
     let units = cents.unsigned_abs();
     let whole = Formatted(units / 100, &in_thousands());
