@@ -30,11 +30,8 @@
 //! Ok(sink.into_inner())
 //! ```
 //!
-//! `write_joined` writes several numbers (`crates/uses/src/record.rt`):
-//!
-//! ```
-//! write_joined(numbers, b',', buffer, &STANDARD, &Options::new())
-//! ```
+//! `write_joined` writes several numbers, and `join` returns their text (`length_of_joined_texts` in
+//! `crates/uses/src/conditions.rt`).
 #![tactic(auto)]
 
 // Several numbers with a separator between them.

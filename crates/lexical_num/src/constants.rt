@@ -6,7 +6,7 @@ ghost use Rattle.lexical_num.specs.declared.constants.TheConstants.{BUFFER_SIZE}
 ghost use Rattle.lexical_num.specs.Size.{IsWithin};
 
 /// The length of a buffer that is long enough for every number of every type in every format.
-/// `text_of_any` in `crates/uses/src/any_format.rt` is an example.
+/// `line_of_any` in `crates/uses/src/any_format.rt` is an example.
 pub const BUFFER_SIZE: usize = 128;
 
 /// An integer type with buffer lengths that are enough for each of its numbers. `buffer_size` of the

@@ -17,7 +17,7 @@
 //!     .build_strict();
 //! ```
 //!
-//! These lines are from `float_format` in `crates/uses/src/float_format.rt` and from `a_first_use` in
+//! These lines are from `float_format` in `crates/uses/src/float_parts.rt` and from `a_first_use` in
 //! `crates/uses_tests/src/tests.rt`.
 #![tactic(auto)]
 

@@ -6,6 +6,8 @@ pub mod Lists
 pub mod Rooms
 -- texts of parts that are UTF-8
 pub mod Utf8Texts
+-- changed texts of parts that are UTF-8
+pub mod Utf8Changes
 -- texts that are equal to bytes, for a caller whose contract is an equation of bytes
 pub mod Equations
 -- texts in lowercase

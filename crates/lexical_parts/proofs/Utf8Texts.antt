@@ -50,7 +50,7 @@ each_is_utf8 IsOf [] each text is = rw is IsUtf8-nil
 each_is_utf8 IsOf (x ∷ xs) each text is = then_is_utf8 (each x) (each_is_utf8 IsOf xs each) text is
 
 -- copies of a byte below 128
-fill_is_utf8 : (fill count : ℕ) → fill < 128 → IsUtf8 (replicate count fill)
+pub fill_is_utf8 : (fill count : ℕ) → fill < 128 → IsUtf8 (replicate count fill)
 fill_is_utf8 fill count small =
     IsUtf8-from_ascii (replicate count fill) (IsAscii-from_all (replicate count fill) (All-replicate (λ b. b < 128) count fill small))
 

@@ -11,10 +11,12 @@ use crate::column::{Center, Left, Right};
 use crate::fixed::Fixed;
 use crate::hex::{Binary, Hex, HexBytes};
 use crate::joined::Joined;
+use crate::lower::Lower;
 use crate::number::{Decimal, Digits, Formatted};
 use crate::padded::{Padded, PaddedDigits};
 use crate::part::Part;
 use crate::text::Byte;
+use crate::zero_padded::ZeroPadded;
 use lexical_write_integer::ToLexicalWithOptions;
 use lexical_write_integer::digit_count::DigitCount;
 use lexical_write_integer::format::STANDARD;
@@ -22,8 +24,8 @@ use lexical_write_integer::radix::Radix;
 use std::str::from_utf8;
 
 /// A part whose text is UTF-8, so that it can be returned as a `&str`: every part of this crate but
-/// `Bytes`, `Lower` and `ZeroPadded`. A `Byte`, and the byte of a column, must be ASCII, and a part that
-/// contains parts is one if they are: `(Decimal(250), " g").to_str(&mut buffer)` returns `"250 g"`.
+/// `Bytes`. A `Byte`, and the byte of a column, must be ASCII, and a part that contains parts is one if
+/// they are: `(Decimal(250), " g").to_str(&mut buffer)` returns `"250 g"`.
 pub trait Utf8Part: Part {
     // The condition under which the text is UTF-8: that each byte that the part names is below 128.
     ghost is_utf8: { Self → Type 0 };
@@ -169,6 +171,22 @@ impl<P: Utf8Part> Utf8Part for Right<P> {
 
 impl<P: Utf8Part> Utf8Part for Center<P> {
     ghost is_utf8 = { λ part. (part.2 < 128) × P.is_utf8 part.0 };
+
+    fn text_is_utf8(self) {
+        self.0.text_is_utf8();
+    }
+}
+
+impl<P: Utf8Part> Utf8Part for ZeroPadded<P> {
+    ghost is_utf8 = { λ part. P.is_utf8 part.0 };
+
+    fn text_is_utf8(self) {
+        self.0.text_is_utf8();
+    }
+}
+
+impl<P: Utf8Part> Utf8Part for Lower<P> {
+    ghost is_utf8 = { λ part. P.is_utf8 part.0 };
 
     fn text_is_utf8(self) {
         self.0.text_is_utf8();

@@ -16,9 +16,6 @@ IsDateTime at =
 -- the date and the time with milliseconds and the offset in minutes, as in `2026-11-23T07:05:09.042+01:00`
 abbrev pub IsTimestamp : DateTime → ℕ → ℤ → List ℕ → Type 0
 IsTimestamp at millisecond offset =
-    (IsPadded 10 4 at.year then IsStr "-" then IsPadded 10 2 at.month then IsStr "-" then IsPadded 10 2 at.day)
-    then IsStr "T"
-    then (IsPadded 10 2 at.hour then IsStr ":" then IsPadded 10 2 at.minute then IsStr ":" then IsPadded 10 2 at.second
-    then IsStr "." then IsPadded 10 3 millisecond)
+    IsDateTime at then IsStr "." then IsPadded 10 3 millisecond
     then IsExactly (sign_of offset true) then IsPadded 10 2 (unsigned_abs offset / 60)
     then IsStr ":" then IsPadded 10 2 (unsigned_abs offset % 60)

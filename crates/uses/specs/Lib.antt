@@ -1,7 +1,6 @@
 pub mod CsvRow
 pub mod DateTime
 pub mod DumpLine
-pub mod FloatParts
 pub mod Ipv6
 pub mod Reading
 pub mod TurnLists

@@ -3,21 +3,25 @@
 ghost use Rattle.std.specs.Prelude.{◌↔◌, ◌≤◌, IsSome, IfSome, length};
 ghost use Rattle.lexical_num.specs.Size.{size_in};
 ghost use Rattle.lexical_write_integer.specs.Text.{IsText};
+ghost use Rattle.lexical_parts.specs.Sequence.{◌then◌, IsStr};
 
+use lexical_parts::{Formatted, Part};
 use lexical_write_integer::laws::size_suffices;
 use lexical_write_integer::{BUFFER_SIZE, NumberFormat, ToLexicalWithOptions, WriteOptions};
 
-/// Returns the text of a number of any type in the format, which borrows the array.
-pub fn text_of_any<'a, T: ToLexicalWithOptions>(
+/// A number of bytes that is enough for a line with any number.
+pub const LINE_SIZE: usize = BUFFER_SIZE + 1;
+
+/// Returns a line with a number of any type in the format, which borrows the array.
+pub fn line_of_any<'a, T: ToLexicalWithOptions>(
     number: T,
     format: &NumberFormat,
-    options: &T::Options,
-    buffer: &'a mut [u8; BUFFER_SIZE],
+    buffer: &'a mut [u8; LINE_SIZE],
 ) -> &'a [u8]
-    ensures { IsText (T.number number) format.now result.now }
+    ensures { (IsText (T.number number) format.now then IsStr "\n") result.now }
 {
     size_suffices(number, format);
-    number.to_lexical_with_options(buffer, format, options)
+    (Formatted(number, format), "\n").to_text(buffer)
 }
 
 /// Returns the text of the number in the format if the buffer has at least the length that

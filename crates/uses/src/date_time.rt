@@ -1,8 +1,10 @@
-//! A date with a time of day, as an example of a part of a text that a caller defines.
+//! A date with a time of day, as an example of a part of a text that a caller defines, and a timestamp
+//! that contains it.
 
-ghost use Rattle.std.specs.Prelude.{◌<◌, ⊤};
+ghost use Rattle.std.specs.Prelude.{◌≡◌, ◌<◌, ◌≤◌, length, true, unsigned_abs, ⊤};
+ghost use Rattle.lexical_num.specs.Sign.{sign_of};
 
-use lexical_parts::{Padded, Part};
+use lexical_parts::{Padded, Part, Utf8Part};
 
 /// A date with a time of day, whose text is as in `2026-11-23T07:05:09`.
 #[derive(Clone, Copy, Drop)]
@@ -55,5 +57,44 @@ impl Part for DateTime {
             Padded(self.second, 2),
         )
             .write_to(buffer)
+    }
+}
+
+impl Utf8Part for DateTime {
+    ghost is_utf8 = { λ _. ⊤ };
+
+    fn text_is_utf8(self) {}
+}
+
+/// The length of a timestamp.
+pub const TIMESTAMP_SIZE: usize = "2026-11-23T07:05:09.042+01:00".len();
+
+// Returns the sign of an offset, which is written even if it is `+`.
+fn sign(offset: i16) -> &'static str
+    ensures sign { result.now ≡ sign_of offset true }
+    ensures short { length result.now ≤ 1 }
+{
+    if offset < 0 { "-" } else { "+" }
+}
+
+impl DateTime {
+    ghost use Rattle.uses.specs.DateTime.{IsTimestamp};
+
+    /// Returns the timestamp of RFC 3339 with these milliseconds and this offset from UTC, such as
+    /// `2026-11-23T07:05:09.042+01:00`, which borrows the array. The offset is in minutes, and less than
+    /// a day.
+    pub fn timestamp(self, millisecond: u16, offset: i16, buffer: &mut [u8; TIMESTAMP_SIZE]) -> &str
+        requires millisecond { millisecond < 1000 }
+        requires offset { unsigned_abs offset < 1440 }
+        ensures { IsTimestamp self millisecond offset result.now }
+    {
+        let minutes = offset.unsigned_abs();
+        let zone = (
+            sign(offset),
+            Padded(minutes / 60, 2),
+            ":",
+            Padded(minutes % 60, 2),
+        );
+        (self, ".", Padded(millisecond, 3), zone).to_str(buffer)
     }
 }

@@ -3,7 +3,7 @@
 ghost use Rattle.std.specs.Prelude.{◌≡◌, ◌<◌, ◌++◌, codes};
 ghost use Rattle.lexical_write_integer.specs.Computed.{padded_text};
 
-use lexical_parts::{Decimal, Padded, Part};
+use lexical_parts::{Padded, Part};
 use lexical_write_integer::laws::text_computed;
 use lexical_write_integer::{NumberFormatBuilder, Options, ToLexicalWithOptions};
 
@@ -18,13 +18,6 @@ pub fn million(buffer: &mut [u8; 14]) -> &[u8]
     let text = 1000000u32.to_lexical_with_options(buffer, &format, &Options::new());
     text_computed(1000000u32, &format, text);
     text
-}
-
-/// Returns `n=42 ms`, which borrows the array.
-pub fn count_and_unit(buffer: &mut [u8; 8]) -> &[u8]
-    ensures { result.now ≡ codes "n=42 ms" }
-{
-    ("n=", Decimal(42u8), " ms").to_text(buffer)
 }
 
 /// Returns the year and the month, such as `2026-11`, which borrows the array.

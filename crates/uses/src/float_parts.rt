@@ -1,13 +1,35 @@
-//! Writes the mantissa and the exponent of a float.
+//! Builds the format of a float whose mantissa and exponent are in two radices, and writes both.
 
-ghost use Rattle.std.specs.Prelude.{◌≤◌, length};
+ghost use Rattle.std.specs.Prelude.{◌≡◌, ◌↔◌, ◌≤◌, [], ◌∷◌, IsOk, IfOk, length};
+ghost use Rattle.lexical_num.specs.Format.{IsValid, standard};
 ghost use Rattle.lexical_write_integer.specs.Buffer.{Writes};
-ghost use Rattle.uses.specs.FloatParts.{IsParts};
+ghost use Rattle.lexical_write_integer.specs.Sequence.{IsExactly, Then};
+ghost use Rattle.lexical_write_integer.specs.Text.{IsDigits};
 
-use lexical_write_integer::NumberFormat;
+use lexical_num::error::Result;
+use lexical_num::format::NumberFormat;
+use lexical_num::format_builder::NumberFormatBuilder;
 use lexical_write_integer::buffer::copy_to_front;
 use lexical_write_integer::laws::digit_count_within_bits;
 use lexical_write_integer::write::WriteInteger;
+
+/// Returns the format with these two radices and without a required sign, or an error that names the
+/// first radix that is not from 2 to 36.
+pub fn float_format(mantissa_radix: u8, exponent_radix: u8) -> Result<NumberFormat>
+    ensures valid { IsOk result ↔ IsValid (record standard {
+      mantissa_radix = mantissa_radix;
+      exponent_radix = exponent_radix;
+    }) }
+    ensures format { IfOk result (λ format. format ≡ record standard {
+      mantissa_radix = mantissa_radix;
+      exponent_radix = exponent_radix;
+    }) }
+{
+    NumberFormatBuilder::new()
+        .mantissa_radix(mantissa_radix)
+        .exponent_radix(exponent_radix)
+        .build()
+}
 
 /// Writes the digits of the mantissa in the mantissa radix, the byte `mark`, and the digits of the
 /// exponent in the exponent radix to the start of the buffer, and returns the number of bytes
@@ -22,7 +44,8 @@ pub fn write_parts(
     buffer: &mut [u8],
 ) -> usize
     requires { 97 ≤ length buffer.old }
-    ensures { Writes (IsParts mantissa mark exponent format.now) buffer.old buffer.new result }
+    ensures { Writes (Then (Then (IsDigits format.now.mantissa_radix mantissa) (IsExactly (mark ∷ [])))
+        (IsDigits format.now.exponent_radix exponent)) buffer.old buffer.new result }
 {
     digit_count_within_bits(format.mantissa_radix(), mantissa);
     digit_count_within_bits(format.exponent_radix(), exponent);

@@ -1,4 +1,4 @@
-//! Writes a setting: a key, `=` and a number, if there is one.
+//! Writes a setting: a key, `=` and a number of any type, if there is one.
 
 ghost use Rattle.std.specs.Prelude.{◌≡◌, IfNone, IfSome};
 ghost use Rattle.lexical_write_integer.specs.Buffer.{Writes};
@@ -7,17 +7,18 @@ ghost use Rattle.lexical_parts.specs.Optional.{IsOptional};
 ghost use Rattle.lexical_parts.specs.Sequence.{◌then◌, IsDecimal, IsStr};
 
 use lexical_parts::{Bytes, Decimal, Part};
+use lexical_write_integer::ToLexicalWithOptions;
 
 /// Writes the key, `=`, the number in decimal, or nothing for `None`, and a newline to the start of the
 /// buffer, and returns the number of bytes written. If the buffer is too short, returns `None`, and the
 /// buffer is unchanged.
-pub fn try_write_setting(
+pub fn try_write_setting<T: ToLexicalWithOptions>(
     key: &[u8],
-    number: Option<Decimal<i64>>,
+    number: Option<Decimal<T>>,
     buffer: &mut [u8],
 ) -> Option<usize>
     ensures text { IfSome result (Writes
-        (IsExactly key.now then IsStr "=" then IsOptional (λ d. IsDecimal d.0) number
+        (IsExactly key.now then IsStr "=" then IsOptional (λ d. IsDecimal (T.number d.0)) number
         then IsStr "\n") buffer.old buffer.new) }
     ensures none { IfNone result (buffer.new ≡ buffer.old) }
 {

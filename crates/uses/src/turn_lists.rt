@@ -91,51 +91,21 @@ pub fn notes_of_255_in_radix_3() -> Recorded
     turns_of(255u8, 3, 6)
 }
 
-/// Returns what is recorded in decimal, for which `write_integer` makes an iteration for each pair of digits after
-/// the first.
-pub fn decimal_turns() -> (Recorded, Recorded, Recorded, Recorded, Recorded)
+/// Returns what is recorded for 0, for the largest `u64` in decimal and in radix 2, for the largest `u8` in radix
+/// 16, whose square does not fit in a byte, and for a number of 40 digits in radix 3. For no other `u64` does
+/// `write_integer` make more iterations.
+pub fn turns_by_digits() -> (Recorded, Recorded, Recorded, Recorded, Recorded)
     ensures zero { HasTurns result.0 0 0 0 0 }
-    ensures largest_u8 { HasTurns result.1 1 1 1 2 }
-    ensures largest_u32 { HasTurns result.2 4 2 3 9 }
-    ensures eleven_digits { HasTurns result.3 5 3 3 10 }
-    ensures largest_u64 { HasTurns result.4 9 5 6 19 }
+    ensures largest_in_decimal { HasTurns result.1 9 5 6 19 }
+    ensures largest_in_radix_2 { HasTurns result.2 16 16 17 63 }
+    ensures byte_in_radix_16 { HasTurns result.3 0 0 1 1 }
+    ensures most_in_radix_3 { HasTurns result.4 21 21 11 39 }
 {
     (
         turns_of(0u8, 10, 1),
-        turns_of(u8::MAX, 10, 3),
-        turns_of(u32::MAX, 10, 10),
-        turns_of(10000000000u64, 10, 11),
         turns_of(u64::MAX, 10, 20),
-    )
-}
-
-/// Returns what is recorded for numbers of 1, 2, 4, 4, 13, 40 and 64 digits. The square of radix 16 does not fit
-/// in a byte, its fourth power not in 16 bits, and that of radix 4 not in a byte. For no other `u64` does
-/// `write_integer` make more iterations than for the number of 40 digits in radix 3.
-pub fn turns_by_digits() -> (
-    Recorded,
-    Recorded,
-    Recorded,
-    Recorded,
-    Recorded,
-    Recorded,
-    Recorded,
-)
-    ensures zero { HasTurns result.0 0 0 0 0 }
-    ensures byte_in_radix_16 { HasTurns result.1 0 0 1 1 }
-    ensures byte_in_radix_4 { HasTurns result.2 1 1 2 3 }
-    ensures u16_in_radix_16 { HasTurns result.3 1 1 2 3 }
-    ensures largest_in_radix_36 { HasTurns result.4 6 6 3 12 }
-    ensures most_in_radix_3 { HasTurns result.5 21 21 11 39 }
-    ensures largest_in_radix_2 { HasTurns result.6 16 16 17 63 }
-{
-    (
-        turns_of(0u8, 2, 1),
-        turns_of(u8::MAX, 16, 2),
-        turns_of(u8::MAX, 4, 4),
-        turns_of(u16::MAX, 16, 4),
-        turns_of(u64::MAX, 36, 13),
-        turns_of(12157665459056928800u64, 3, 40),
         turns_of(u64::MAX, 2, 64),
+        turns_of(u8::MAX, 16, 2),
+        turns_of(12157665459056928800u64, 3, 40),
     )
 }

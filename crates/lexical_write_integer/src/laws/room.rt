@@ -13,7 +13,7 @@ use lexical_num::format::NumberFormat;
 use lexical_num::num::LexicalInteger;
 
 /// A law: the size of a type in a format, which `buffer_size` of the options returns, is enough for the
-/// required length of each number of the type. It is at most `BUFFER_SIZE`. `text_of_any` in
+/// required length of each number of the type. It is at most `BUFFER_SIZE`. `line_of_any` in
 /// `crates/uses/src/any_format.rt` is an example.
 pub fn size_suffices<T: ToLexicalWithOptions>(value: T, format: &NumberFormat)
     ensures size { need (T.number value) T.DECIMAL_WIDTH format.now

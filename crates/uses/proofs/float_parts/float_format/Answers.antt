@@ -1,4 +1,4 @@
-use Rattle.uses.proofs.float_format.float_format.Goals as goal
+use Rattle.uses.proofs.float_parts.float_format.Goals as goal
 
 -- the check finds this proof by itself, but with an answer the refusal of a mistake says what is wrong
 pub returns-clause-format : goal.returns-clause-format

@@ -1,0 +1,84 @@
+-- Texts in lowercase, and texts with zeros after the sign, are UTF-8.
+use Rattle.std.proofs.Common.{◌≡◌, ℕ, ◌≤◌, ◌+◌, ◌-◌, ◌/◌, ◌%◌, inl, inr, cond, List, [], ◌∷◌, ◌++◌, length, map, take, drop, replicate, refl, sym, ap, ◌∙◌, arith}
+use Rattle.std.specs.Prelude.{nat_lt, true, false, Bool, ◌||◌, ◌==◌, ◌&&◌, if◌then◌else◌}
+use Rattle.std.specs.Char.{to_ascii_lowercase}
+use Rattle.std.specs.Str.{IsUtf8, IsCharBoundary}
+use Rattle.std.proofs.Math.Utf8.{scalar, scalars, encode, encodes, low_scalar}
+use Rattle.std.proofs.lemmas.Bool.{cases_lt}
+use Rattle.std.proofs.lemmas.Bool.Decides.{nat_tests}
+use Rattle.std.proofs.lemmas.List.{map-append}
+use Rattle.std.proofs.lemmas.Str.{IsUtf8-append, IsUtf8-drop, IsUtf8-take, IsCharBoundary-after_ascii, IsCharBoundary-start}
+use Rattle.std.proofs.lemmas.Str.Ascii.{encode_ascii, lowercase_ascii, lowercase_is}
+use Rattle.lexical_parts.specs.Lowercase.{IsLowercase}
+use Rattle.lexical_parts.specs.Utf8.{AreUtf8}
+use Rattle.lexical_parts.specs.ZeroPadded.{IsZeroPadded, sign_length}
+use Rattle.lexical_parts.proofs.Utf8Texts.{fill_is_utf8}
+
+-- letters of ASCII are below 128, and no byte of another character is
+kept : (byte : ℕ) → 128 ≤ byte → to_ascii_lowercase byte ≡ byte
+kept byte high = (lowercase_is byte).2 (omega arith)
+
+abbrev Kept : List ℕ → Type 0
+Kept bytes = map to_ascii_lowercase bytes ≡ bytes
+
+kept_cons : (byte : ℕ) (bytes : List ℕ) → 128 ≤ byte → Kept bytes → Kept (byte ∷ bytes)
+kept_cons byte bytes high rest = rw (kept byte high, rest) refl
+
+kept_either : (test : Bool) {a b : List ℕ} → Kept a → Kept b → Kept (cond test a b)
+kept_either true a b = a
+kept_either false a b = b
+
+-- the bytes of a character of 128 or more are unchanged: whatever its length is, each of its bytes is 128 or more
+kept_encode : (c : ℕ) → 128 ≤ c → Kept (encode c)
+unfolding encode
+kept_encode c high =
+    let last : (a : ℕ) → 128 ≤ a → Kept (a ∷ (128 + c % 64) ∷ []) =
+    λ a high. kept_cons a _ high (kept_cons (128 + c % 64) [] (omega arith) refl) in
+    kept_either (nat_lt c 128) (kept_cons c [] high refl) (kept_either (nat_lt c 2048) (last (192 + c / 64) (omega arith))
+    (kept_either (nat_lt c 65536) (kept_cons (224 + c / 4096) _ (omega arith) (last (128 + c / 64 % 64) (omega arith)))
+    (kept_cons (240 + c / 262144) _ (omega arith) (kept_cons (128 + c / 4096 % 64) _ (omega arith) (last (128 + c / 64 % 64) (omega arith))))))
+
+lower_encode : (c : ℕ) → encode (to_ascii_lowercase c) ≡ map to_ascii_lowercase (encode c)
+lower_encode c = elim (cases_lt c 128) [
+  | inl small ↦ encode_ascii (to_ascii_lowercase c) (lowercase_ascii c small) ∙ sym (ap (map to_ascii_lowercase) (encode_ascii c small))
+  | inr high ↦ ap encode (kept c high) ∙ sym (kept_encode c high)
+]
+
+lower_encodes : (cs : List ℕ) → encodes (map to_ascii_lowercase cs) ≡ map to_ascii_lowercase (encodes cs)
+lower_encodes [] = refl
+lower_encodes (c ∷ cs) =
+    ap (λ bytes. bytes ++ encodes (map to_ascii_lowercase cs)) (lower_encode c)
+    ∙ ap (λ rest. map to_ascii_lowercase (encode c) ++ rest) (lower_encodes cs) ∙ sym (map-append to_ascii_lowercase (encode c) (encodes cs))
+
+lower_scalar : (c : ℕ) → scalar (to_ascii_lowercase c) ≡ scalar c
+lower_scalar c = elim (cases_lt c 128) [
+  | inl small ↦ low_scalar (to_ascii_lowercase c) (omega (arith, lowercase_ascii c small)) ∙ sym (low_scalar c (omega arith))
+  | inr high ↦ ap scalar (kept c high)
+]
+
+lower_scalars : (cs : List ℕ) → scalars (map to_ascii_lowercase cs) ≡ scalars cs
+lower_scalars [] = refl
+lower_scalars (c ∷ cs) = rw (lower_scalar c, lower_scalars cs) refl
+
+pub lower_is_utf8 : {Is : List ℕ → Type 0} → AreUtf8 Is → AreUtf8 (IsLowercase Is)
+lower_is_utf8 each text is =
+    let u = each is.original is.is in
+    rw is.whole (map to_ascii_lowercase u.0, (lower_scalars u.0 ∙ u.1.0, lower_encodes u.0 ∙ ap (map to_ascii_lowercase) u.1.1))
+
+-- a character ends after a sign
+sign_ends : (text : List ℕ) → IsUtf8 text → IsCharBoundary text (sign_length text)
+sign_ends [] u = IsCharBoundary-start [] u
+sign_ends (byte ∷ text) u = by_test (byte == 45 || byte == 43) refl
+  where
+    by_test : (b : Bool) → (byte == 45 || byte == 43) ≡ b → IsCharBoundary (byte ∷ text) (if b then 1 else 0)
+    by_test true sign = IsCharBoundary-after_ascii (byte ∷ text) 0 u (omega arith) (grind (arith, nat_tests, sign))
+    by_test false sign = IsCharBoundary-start (byte ∷ text) u
+
+pub zero_padded_is_utf8 : {Is : List ℕ → Type 0} (width : ℕ) → AreUtf8 Is → AreUtf8 (IsZeroPadded width Is)
+zero_padded_is_utf8 width each text is =
+    let u = each is.number is.is in
+    let cut = sign_ends is.number u in
+    let zeros : List ℕ = replicate (width - length is.number) 48 in
+    rw is.whole (IsUtf8-append (take (sign_length is.number) is.number) (zeros ++ drop (sign_length is.number) is.number)
+    (IsUtf8-take is.number (sign_length is.number) u cut) (IsUtf8-append zeros (drop (sign_length is.number) is.number)
+    (fill_is_utf8 48 (width - length is.number) (omega arith)) (IsUtf8-drop is.number (sign_length is.number) u cut)))
