@@ -169,12 +169,11 @@ fn write_up_to_four<const R: u32>(
         turns.tick(u64::from(left));
     }
     let first = 2 * left as usize;
-    let second = 2 * (number % square) as usize;
-    let last = digits - 1;
+    let last = 2 * (number % square) as usize;
     buffer[0] = table.pairs[first];
     buffer[digits / 4] = table.pairs[first + 1];
-    buffer[3 * last / 4] = table.pairs[second];
-    buffer[last] = table.pairs[second + 1];
+    buffer[digits.saturating_sub(2)] = table.pairs[last];
+    buffer[digits - 1] = table.pairs[last + 1];
 }
 
 // Writes a number whose digits are counted by division. The loop that counts them saves its quotients, at most

@@ -31,13 +31,13 @@ pub bounds-table-first-2 : goal.bounds-table-first-2
 bounds-table-first-2 g c =
     omega (arith, first g (goal.at.bounds-table-first-2 g c).Start, length-table g.row.R c.args.table.pairs.now c.args.table.begins)
 
-pub bounds-table-second : goal.bounds-table-second
-bounds-table-second g c =
-    omega (arith, last g (goal.at.bounds-table-second g c).Start, length-table g.row.R c.args.table.pairs.now c.args.table.begins)
+pub bounds-table-last : goal.bounds-table-last
+bounds-table-last g c =
+    omega (arith, last g (goal.at.bounds-table-last g c).Start, length-table g.row.R c.args.table.pairs.now c.args.table.begins)
 
-pub bounds-table-second-2 : goal.bounds-table-second-2
-bounds-table-second-2 g c =
-    omega (arith, last g (goal.at.bounds-table-second-2 g c).Start, length-table g.row.R c.args.table.pairs.now c.args.table.begins)
+pub bounds-table-last-2 : goal.bounds-table-last-2
+bounds-table-last-2 g c =
+    omega (arith, last g (goal.at.bounds-table-last-2 g c).Start, length-table g.row.R c.args.table.pairs.now c.args.table.begins)
 
 some_digit : (g : _) (c : Start g) → 1 ≤ c.args.digits
 some_digit g c = omega (arith, c.requires.digits, digit_count-pos g.row.R c.args.number)
@@ -51,25 +51,23 @@ bounds-buffer-0 g c = omega (arith, some_digit g (goal.at.bounds-buffer-0 g c).S
 pub bounds-buffer-digits : goal.bounds-buffer-digits
 bounds-buffer-digits g c = omega (arith, some_digit g (goal.at.bounds-buffer-digits g c).Start, c.requires.room, length-set c.args.buffer.now 0)
 
-pub overflow_sub-last : goal.overflow_sub-last
-overflow_sub-last g c = some_digit g (goal.at.overflow_sub-last g c).Start
+pub bounds-buffer-saturating_sub : goal.bounds-buffer-saturating_sub
+bounds-buffer-saturating_sub g c =
+    rw (length-set, length-set) (omega (arith, some_digit g (goal.at.bounds-buffer-saturating_sub g c).Start, c.requires.room, c.saturating_sub.ensures))
 
-pub overflow_mul-buffer : goal.overflow_mul-buffer
-overflow_mul-buffer g c = omega (arith, few_digits g (goal.at.overflow_mul-buffer g c).Start)
+pub overflow_sub-buffer : goal.overflow_sub-buffer
+overflow_sub-buffer g c = some_digit g (goal.at.overflow_sub-buffer g c).Start
 
-pub bounds-buffer-last : goal.bounds-buffer-last
-bounds-buffer-last g c = rw (length-set, length-set) (omega (arith, some_digit g (goal.at.bounds-buffer-last g c).Start, c.requires.room))
-
-pub bounds-buffer-last-2 : goal.bounds-buffer-last-2
-bounds-buffer-last-2 g c =
-    rw (length-set, length-set, length-set) (omega (arith, some_digit g (goal.at.bounds-buffer-last-2 g c).Start, c.requires.room))
+pub bounds-buffer-digits-2 : goal.bounds-buffer-digits-2
+bounds-buffer-digits-2 g c =
+    rw (length-set, length-set, length-set) (omega (arith, some_digit g (goal.at.bounds-buffer-digits-2 g c).Start, c.requires.room))
 
 pub returns-clause-written : goal.returns-clause-written
 returns-clause-written g c =
     let c' = (goal.at.returns-clause-written g c).Start in
     let pairs = c.args.table.pairs.now in
     let begins = c.args.table.begins in
-    let place : 3 * (c.args.digits - 1) / 4 ≡ c.args.digits - 2 = omega (arith, few_digits g c') in
+    let place : c.saturating_sub.result ≡ c.args.digits - 2 = omega (arith, c.saturating_sub.ensures) in
     let hi = c.args.number / (g.row.R * g.row.R) in
     let lo = c.args.number % (g.row.R * g.row.R) in
     let a = first_digit g.row.R hi pairs begins (first g c') in
