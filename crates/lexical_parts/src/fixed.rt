@@ -2,7 +2,7 @@
 
 ghost use Rattle.std.specs.Prelude.{◌≡◌, ◌≤◌, false, length, unsigned_abs};
 ghost use Rattle.lexical_num.specs.Sign.{sign_of};
-ghost use Rattle.lexical_write_integer.specs.Buffer.{Writes};
+ghost use Rattle.lexical_write_integer.specs.Buffer.{Front, Writes};
 ghost use Rattle.lexical_parts.specs.Fixed.{IsFixed, IsUnits, fixed_room, units_room};
 
 use crate::fill::insert_fill;
@@ -13,11 +13,18 @@ use lexical_write_integer::buffer::copy_to_front;
 use lexical_write_integer::format::STANDARD;
 use lexical_write_integer::laws::size_suffices;
 
-// Returns the sign of a number: `-` if it is negative, and otherwise nothing.
-fn sign<T: LexicalInteger>(number: T) -> &'static [u8]
-    ensures { result.now ≡ sign_of (T.number number) false }
+// Writes the sign of a number to the start of the buffer, a `-` if it is negative and otherwise nothing, and
+// returns its length.
+fn write_sign<T: LexicalInteger>(number: T, buffer: &mut [u8]) -> usize
+    requires { length (sign_of (T.number number) false) ≤ length buffer.old }
+    ensures front { Front buffer.old buffer.new (sign_of (T.number number) false) }
+    ensures count { result ≡ length (sign_of (T.number number) false) }
 {
-    if number.is_negative() { b"-" } else { b"" }
+    if number.is_negative() {
+        copy_to_front(b"-", buffer)
+    } else {
+        0
+    }
 }
 
 // Writes the absolute value of a number of units of 10^-`decimals` to the start of the buffer, and returns the
@@ -61,7 +68,7 @@ impl<T: ToLexicalWithOptions> Part for Fixed<T> {
 
     fn write_to(self, buffer: &mut [u8]) -> usize {
         size_suffices(self.0, &STANDARD);
-        let start = copy_to_front(sign(self.0), buffer);
+        let start = write_sign(self.0, buffer);
         start + write_units(self.0, self.1, &mut buffer[start..])
     }
 }
