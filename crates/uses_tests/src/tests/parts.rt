@@ -6,7 +6,7 @@ use lexical_parts::{
 };
 use uses::amount::write_amount;
 use uses::table_row::write_table_row;
-use uses::uuid::write_uuid;
+use uses::uuid::uuid;
 
 #[test]
 fn parts_in_lowercase(rt: HostRuntime) {
@@ -20,11 +20,14 @@ fn parts_in_lowercase(rt: HostRuntime) {
 
 #[test]
 fn uuids(rt: HostRuntime) {
-    let mut buffer = [7; 36];
-    let count = write_uuid(0xF81D_4FAE_7DEC_11D0, 0xA765_00A0_C91E_6BF6, &mut buffer);
-    check_buffer(&rt, &buffer, count, b"f81d4fae-7dec-11d0-a765-00a0c91e6bf6");
-    let count = write_uuid(0, 0, &mut buffer);
-    check_buffer(&rt, &buffer, count, b"00000000-0000-0000-0000-000000000000");
+    assert_eq!(rt;
+        uuid(0xF81D_4FAE_7DEC_11D0, 0xA765_00A0_C91E_6BF6, &mut [7; 36]),
+        "f81d4fae-7dec-11d0-a765-00a0c91e6bf6"
+    );
+    assert_eq!(rt;
+        uuid(0, 0, &mut [7; 36]),
+        "00000000-0000-0000-0000-000000000000"
+    );
 }
 
 #[test]
