@@ -9,7 +9,7 @@ ghost use Rattle.lexical_parts.specs.Sequence.{◌then◌, IsDecimal, IsStr};
 use lexical_parts::{Center, Decimal, Part, Right};
 
 /// Writes a name in the centre of a column of twelve characters, with `-` on both sides, two numbers at
-/// the right of columns of twelve and of eight, the second with `.` before it, and a newline to the array,
+/// the right of columns of twelve and of eleven, the second with `.` before it, and a newline to the array,
 /// and returns the number of bytes written. The name has at most twelve bytes.
 pub fn write_table_row(name: &str, a: i32, b: i32, buffer: &mut [u8; 36]) -> usize
     requires { length name.now ≤ 12 }
