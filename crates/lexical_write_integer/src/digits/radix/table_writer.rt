@@ -300,8 +300,7 @@ fn write_by_three_quotients<const R: u32>(
     ensures digits { WritesDigits R value buffer.old buffer.new result }
     ensures notes { turns.new ≡ turns.old ++ table_notes R value }
 {
-    let square = R * R;
-    let power = u64::from(square * square);
+    let power = u64::from(R * R * (R * R));
     let first = value / power;
     turns.tick(first);
     let second = first / power;
