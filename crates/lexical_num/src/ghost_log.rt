@@ -41,6 +41,11 @@ impl GhostLog {
         ensures { self.new ≡ self.old ++ note ∷ [] }
     {}
 
+    /// Appends the numbers of another log. It does nothing at run time.
+    pub fn append(&mut self, other: &GhostLog)
+        ensures { self.new ≡ self.old ++ other.now }
+    {}
+
     /// Appends bytes. It does nothing at run time.
     pub fn extend(&mut self, bytes: &[u8])
         ensures { self.new ≡ self.old ++ bytes.now }

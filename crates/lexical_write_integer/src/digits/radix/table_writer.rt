@@ -2,7 +2,7 @@
 // and so on. The functions record their quotients in the counter `turns`, which only contracts read.
 
 ghost use Rattle.std.specs.Prelude.{◌≡◌, ℕ, ◌+◌, ◌-◌, ◌*◌, ◌/◌, ◌%◌, ◌^◌, ◌<◌, ◌≤◌};
-ghost use Rattle.std.specs.Prelude.{◌++◌, [], ◌∷◌, false, length, slice_index};
+ghost use Rattle.std.specs.Prelude.{◌++◌, [], ◌∷◌, false, length};
 ghost use Rattle.lexical_num.specs.Format.{IsRadix};
 ghost use Rattle.lexical_write_integer.specs.Buffer.{WritesBlock, WritesDigits};
 ghost use Rattle.lexical_write_integer.specs.Digits.DigitCount.{digit_count};
@@ -21,9 +21,6 @@ struct RadixTable<'a, const R: u32> {
     ghost is_radix: { IsRadix R },
     ghost begins: { BeginsWithPairs R pairs.now },
 }
-
-// The quotients of a number of 64 bits in radix 3, the smallest radix whose digits are counted by division.
-const MAX_QUOTIENTS: usize = 10;
 
 // Returns whether digits are counted without division in the radix, from the highest set bit or a table.
 fn counts_at_once(radix: u32) -> bool
@@ -81,54 +78,6 @@ fn take_last_digit(number: u32, radix: u32, turns: &mut Turns) -> usize
     }
 }
 
-// Removes the last four digits of a number per iteration, while it has more than four. Saves each quotient
-// in `kept`, and records it. Returns the remaining number and the number of quotients.
-fn save_quotients<const R: u32>(value: u64, kept: &mut [u64], turns: &mut Turns) -> (u32, usize)
-    requires radix { IsRadix R }
-    requires room { value < R ^ (4 * (length kept.old + 1)) }
-    ensures taken { TakesDigits R value 4 (4 * result.1) result.0 turns.old turns.new }
-    ensures within { result.1 ≤ length kept.old }
-    ensures kept { (k : ℕ) → k < result.1 → slice_index kept.new k ≡ value / R ^ (4 * (k + 1)) }
-{
-    let square = R * R;
-    let power = u64::from(square * square);
-    let mut rest = value;
-    let mut count = 0;
-    while rest >= power {
-        rest = rest / power;
-        kept[count] = rest;
-        count += 1;
-        turns.tick(rest);
-    }
-    (rest as u32, count)
-}
-
-// Writes the last digits of a number to the end of the buffer, four for each saved quotient.
-fn write_from_quotients<const R: u32>(
-    value: u64,
-    kept: &[u64],
-    table: RadixTable<'_, R>,
-    buffer: &mut [u8],
-    turns: &mut Turns,
-)
-    requires all { length kept.now ≡ digits_after_first R value / 4 }
-    requires kept { (k : ℕ) → k < length kept.now → slice_index kept.now k ≡ value / R ^ (4 * (k + 1)) }
-    requires room { length buffer.old ≡ digit_count R value }
-    ensures written { WritesBlock R (4 * length kept.now) (value % R ^ (4 * length kept.now))
-        (length buffer.old - 4 * length kept.now) buffer.old buffer.new }
-    ensures taken { TakesDigits R value 4 (4 * length kept.now) (value / R ^ (4 * length kept.now))
-        turns.old turns.new }
-{
-    let mut left = value;
-    let mut at = buffer.len();
-    for next in kept {
-        turns.tick(*next);
-        at -= 4;
-        write_last_four(left, *next, table, buffer, at);
-        left = *next;
-    }
-}
-
 // Writes the one or two digits of a number to the start of the buffer, without a branch: a single digit is
 // written twice, to the same byte.
 fn write_one_or_two(number: u32, digits: usize, radix: u32, table: &[u8], buffer: &mut [u8])
@@ -176,59 +125,6 @@ fn write_up_to_four<const R: u32>(
     buffer[digits - 1] = table.pairs[last + 1];
 }
 
-// Writes a number whose digits are counted by division. The loop that counts them saves its quotients, at most
-// ten, so that the digits are written without the same divisions.
-#[tactic(auto, using(crate::proofs::OfDigits::Count::RadixPowers::steps))]
-fn write_by_divisions<const R: u32>(
-    value: u64,
-    table: RadixTable<'_, R>,
-    buffer: &mut [u8],
-    turns: &mut Turns,
-) -> usize
-    requires three { 3 ≤ R }
-    requires by_turns { is_counted_at_once R ≡ false }
-    requires room { digit_count R value ≤ length buffer.old }
-    ensures digits { WritesDigits R value buffer.old buffer.new result }
-    ensures notes { turns.new ≡ turns.old ++ table_notes R value }
-{
-    let mut kept = [0; MAX_QUOTIENTS];
-    let (left, fours) = save_quotients::<R>(value, &mut kept, turns);
-    let head = count_up_to_four::<R>(left, turns);
-    let count = 4 * fours + head;
-    let digits = &mut buffer[..count];
-    write_from_quotients(value, &kept[..fours], table, digits, turns);
-    write_up_to_four(left, head, table, digits, turns);
-    count
-}
-
-// Counts the digits of a number, and then writes them: four per iteration while more than four are left, and
-// then the others.
-fn write_after_count<const R: u32>(
-    value: u64,
-    table: RadixTable<'_, R>,
-    buffer: &mut [u8],
-    turns: &mut Turns,
-) -> usize
-    requires room { digit_count R value ≤ length buffer.old }
-    ensures digits { WritesDigits R value buffer.old buffer.new result }
-    ensures notes { turns.new ≡ turns.old ++ table_notes R value }
-{
-    let count = digit_count_counted(value, R, turns);
-    let square = R * R;
-    let power = u64::from(square * square);
-    let mut left = value;
-    let mut at = count;
-    while at > 4 {
-        let next = left / power;
-        turns.tick(next);
-        at -= 4;
-        write_last_four(left, next, table, buffer, at);
-        left = next;
-    }
-    write_up_to_four(left as u32, at, table, buffer, turns);
-    count
-}
-
 // Returns how many digits a number of up to four digits has.
 fn count_up_to_four<const R: u32>(number: u32, turns: &mut Turns) -> usize
     requires radix { IsRadix R }
@@ -253,12 +149,14 @@ fn write_up_to_eight<const R: u32, const BYTE: bool>(
     value: u64,
     table: RadixTable<'_, R>,
     buffer: &mut [u8],
-    turns: &mut Turns,
+    counted: &mut Turns,
+    written: &mut Turns,
 ) -> usize
     requires short { value < R ^ 8 }
     requires room { digit_count R value ≤ length buffer.old }
     ensures digits { WritesDigits R value buffer.old buffer.new result }
-    ensures notes { turns.new ≡ turns.old ++ table_notes R value }
+    ensures counted { counted.new ≡ counted.old ++ count_notes R value }
+    ensures written { written.new ≡ written.old ++ loop_notes R value }
 {
     let square = R * R;
     let power = square * square;
@@ -269,86 +167,115 @@ fn write_up_to_eight<const R: u32, const BYTE: bool>(
             (value / u64::from(power)) as u32
         };
         if !counts_at_once(R) {
-            turns.tick(u64::from(left));
+            counted.tick(u64::from(left));
         }
-        let head = count_up_to_four::<R>(left, turns);
-        turns.tick(u64::from(left));
-        write_up_to_four(left, head, table, buffer, turns);
+        let head = count_up_to_four::<R>(left, counted);
+        written.tick(u64::from(left));
+        write_up_to_four(left, head, table, buffer, written);
         write_last_four(value, u64::from(left), table, buffer, head);
         return head + 4;
     }
     let number = value as u32;
     if BYTE && number < square {
-        return write_short(number, R, table.pairs, buffer, turns);
+        return write_short(number, R, table.pairs, buffer, counted);
     }
-    let count = count_up_to_four::<R>(number, turns);
-    write_up_to_four(number, count, table, buffer, turns);
+    let count = count_up_to_four::<R>(number, counted);
+    write_up_to_four(number, count, table, buffer, written);
     count
 }
 
-// Writes a number of more than eight digits whose radix is above 16, so that it has at most three quotients.
-fn write_by_three_quotients<const R: u32>(
+// Writes a number whose digits are counted without division: the count first, then four digits per iteration
+// while more than four are left, and then the others.
+fn write_after_count<const R: u32>(
     value: u64,
     table: RadixTable<'_, R>,
     buffer: &mut [u8],
-    turns: &mut Turns,
+    counted: &mut Turns,
+    written: &mut Turns,
 ) -> usize
-    requires large { 16 < R }
-    requires by_turns { is_counted_at_once R ≡ false }
-    requires long { R ^ 8 ≤ value }
     requires room { digit_count R value ≤ length buffer.old }
     ensures digits { WritesDigits R value buffer.old buffer.new result }
-    ensures notes { turns.new ≡ turns.old ++ table_notes R value }
+    ensures counted { counted.new ≡ counted.old ++ count_notes R value }
+    ensures written { written.new ≡ written.old ++ loop_notes R value }
 {
-    let power = u64::from(R * R * (R * R));
+    let count = digit_count_counted(value, R, counted);
+    let square = R * R;
+    let power = u64::from(square * square);
+    let mut left = value;
+    let mut at = count;
+    while at > 4 {
+        let next = left / power;
+        written.tick(next);
+        at -= 4;
+        write_last_four(left, next, table, buffer, at);
+        left = next;
+    }
+    write_up_to_four(left as u32, at, table, buffer, written);
+    count
+}
+
+// Removes the last four digits of a number twice. Records both quotients: for writing the digits and, if the
+// digits are counted by division, for their count.
+fn remove_eight<const R: u32>(value: u64, counted: &mut Turns, written: &mut Turns) -> (u64, u64)
+    requires radix { IsRadix R }
+    requires long { R ^ 8 ≤ value }
+    ensures first { result.0 ≡ value / R ^ 4 }
+    ensures second { result.1 ≡ result.0 / R ^ 4 }
+    ensures smaller { result.1 < value }
+    ensures few { 16 ≤ R → result.1 < R ^ 8 }
+    ensures digits { digit_count R result.1 + 8 ≡ digit_count R value }
+    ensures counted { counted.new ++ count_notes R result.1 ≡ counted.old ++ count_notes R value }
+    ensures written { written.new ++ loop_notes R result.1 ≡ written.old ++ loop_notes R value }
+{
+    let square = R * R;
+    let power = u64::from(square * square);
     let first = value / power;
-    turns.tick(first);
     let second = first / power;
-    turns.tick(second);
-    if second < power {
-        let head = count_up_to_four::<R>(second as u32, turns);
-        turns.tick(first);
-        turns.tick(second);
-        write_up_to_four(second as u32, head, table, buffer, turns);
-        write_last_four(first, second, table, buffer, head);
-        write_last_four(value, first, table, buffer, head + 4);
-        return head + 8;
+    if !counts_at_once(R) {
+        counted.tick(first);
+        counted.tick(second);
     }
-    let third = second / power;
-    turns.tick(third);
-    let head = count_up_to_four::<R>(third as u32, turns);
-    turns.tick(first);
-    turns.tick(second);
-    turns.tick(third);
-    write_up_to_four(third as u32, head, table, buffer, turns);
-    write_last_four(second, third, table, buffer, head);
-    write_last_four(first, second, table, buffer, head + 4);
-    write_last_four(value, first, table, buffer, head + 8);
-    head + 12
+    written.tick(first);
+    written.tick(second);
+    (first, second)
 }
 
-// Writes a number of more than eight digits.
-fn write_long<const R: u32>(
+// Writes a number. A call writes the digits before the last eight first, and then knows the index of the last
+// eight. So if the digits are counted by division, each quotient serves both the count and the digits. In radix
+// 16 and above there are at most eight digits before the last eight.
+fn write_number<const R: u32>(
     value: u64,
     table: RadixTable<'_, R>,
     buffer: &mut [u8],
-    turns: &mut Turns,
+    counted: &mut Turns,
+    written: &mut Turns,
 ) -> usize
-    requires long { R ^ 8 ≤ value }
     requires room { digit_count R value ≤ length buffer.old }
     ensures digits { WritesDigits R value buffer.old buffer.new result }
-    ensures notes { turns.new ≡ turns.old ++ table_notes R value }
+    ensures counted { counted.new ≡ counted.old ++ count_notes R value }
+    ensures written { written.new ≡ written.old ++ loop_notes R value }
 {
-    if counts_at_once(R) {
-        write_after_count(value, table, buffer, turns)
-    } else if R > 16 {
-        write_by_three_quotients(value, table, buffer, turns)
-    } else {
-        write_by_divisions(value, table, buffer, turns)
+    let square = u64::from(R * R);
+    let power = square * square;
+    if value < power * power {
+        return write_up_to_eight::<R, false>(value, table, buffer, counted, written);
     }
+    if R < 16 && counts_at_once(R) {
+        return write_after_count(value, table, buffer, counted, written);
+    }
+    let (first, second) = remove_eight::<R>(value, counted, written);
+    let head = if R < 16 {
+        write_number(second, table, buffer, counted, written)
+    } else {
+        write_up_to_eight::<R, false>(second, table, buffer, counted, written)
+    };
+    write_last_four(first, second, table, buffer, head);
+    write_last_four(value, first, table, buffer, head + 4);
+    head + 8
 }
 
-// Writes a number in the radix `R`, with a table that begins with the digit pairs of that radix.
+// Writes a number in the radix `R`, with a table that begins with the digit pairs of that radix. What the count
+// records precedes what the writer records.
 pub(crate) fn write_digits<const R: u32>(
     value: u64,
     table: &[u8],
@@ -364,11 +291,14 @@ pub(crate) fn write_digits<const R: u32>(
     let table = RadixTable::<R> { pairs: table };
     let square = u64::from(R * R);
     let power = square * square;
-    if value < power * power {
-        write_up_to_eight::<R, false>(value, table, buffer, turns)
+    let mut written = Turns::new();
+    let count = if value < power * power {
+        write_up_to_eight::<R, false>(value, table, buffer, turns, &mut written)
     } else {
-        write_long(value, table, buffer, turns)
-    }
+        write_number(value, table, buffer, turns, &mut written)
+    };
+    turns.append(&written);
+    count
 }
 
 // Does what `write_digits` does, for a number below 256, which has at most eight digits.
@@ -386,7 +316,10 @@ pub(crate) fn write_byte<const R: u32>(
     ensures notes { turns.new ≡ turns.old ++ table_notes R value }
 {
     let table = RadixTable::<R> { pairs: table };
-    write_up_to_eight::<R, true>(value, table, buffer, turns)
+    let mut written = Turns::new();
+    let count = write_up_to_eight::<R, true>(value, table, buffer, turns, &mut written);
+    turns.append(&written);
+    count
 }
 
 // Calls `write_digits` for a radix that is known only at run time.
@@ -432,7 +365,7 @@ pub(crate) fn write_short(
     requires table { BeginsWithPairs radix table.now }
     requires room { digit_count radix value ≤ length buffer.old }
     ensures digits { WritesDigits radix value buffer.old buffer.new result }
-    ensures notes { turns.new ≡ turns.old ++ table_notes radix value }
+    ensures notes { turns.new ≡ turns.old ++ count_notes radix value }
 {
     let count = count_short(value, radix, turns);
     write_one_or_two(value, count, radix, table, buffer);

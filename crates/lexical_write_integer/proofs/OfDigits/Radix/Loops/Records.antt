@@ -6,7 +6,7 @@ use Rattle.std.proofs.lemmas.List.{append-nil}
 use Rattle.std.proofs.lemmas.Bool.{cond_both, ltb-true, ltb-false, eqb-true, eqb-false, or_from, ne_eqb, cases_eq}
 use Rattle.lexical_num.specs.BitWidth.{IsBitWidth}
 use Rattle.lexical_write_integer.specs.Digits.DigitCount.{digit_count}
-use Rattle.lexical_write_integer.specs.Digits.LoopTurns.{takes_four}
+use Rattle.lexical_write_integer.specs.Digits.LoopTurns.{takes_two, takes_four}
 use Rattle.lexical_write_integer.specs.Digits.LoopTurns.{TakesDigits, digits_after_first, quotients, loop_notes, slow_notes, count_notes}
 use Rattle.lexical_write_integer.specs.Digits.LoopTurns.{table_notes, compact_notes, is_counted_at_once, loop_turns, slow_turns}
 use Rattle.lexical_write_integer.specs.Digits.LoopTurns.{count_turns, table_turns, compact_turns}
@@ -50,6 +50,12 @@ unfolding loop_notes
 loop_notes-are {r} {n} {a = a} two t u =
     rw (u.notes, t.notes, two_notes two t) (append_assoc a (quotients r n 4 (digits_after_first r n / 4)) _)
 
+-- for a number of one or two digits they record nothing
+pub loop_notes-none : (r n : ℕ) (notes : List ℕ) → 2 ≤ r → n < r ^ 2 → notes ≡ notes ++ loop_notes r n
+loop_notes-none r n notes two short =
+    let fits : n < r ^ 4 = omega (arith, pow-le-pow_right {n = r} (omega arith) {i = 2} {j = 4} (omega arith)) in
+    loop_notes-are two (TakesDigits-none two takes_four fits) (TakesDigits-none two takes_two short)
+
 -- after the loop that divides by the fourth power, what is recorded for a number of at most four digits
 pub loop_notes-end : {r n four left : ℕ} {a b c : List ℕ}
     → 2 ≤ r → TakesDigits r n 4 four left a b → left < r ^ 4 → c ≡ b ++ loop_notes r left → c ≡ a ++ loop_notes r n
@@ -90,14 +96,6 @@ pub slow_notes-are : {r n four left_four by_two left_two by_one left_one : ℕ} 
 unfolding slow_notes
 slow_notes-are {r} {n} {a = a} two t u v =
     rw (v.notes, loop_notes-are two t u, last_notes two t u) (append_assoc a (loop_notes r n) _)
-
--- after the loop that divides by the fourth power, what is recorded for a number of at most four digits
-slow_notes-end : {r n four left : ℕ} {a b c : List ℕ}
-    → 2 ≤ r → TakesDigits r n 4 four left a b → left < r ^ 4 → c ≡ b ++ slow_notes r left → c ≡ a ++ slow_notes r n
-slow_notes-end {r} {left = left} {b = b} two t short noted =
-    let pair : TakesDigits r left 2 _ _ b _ = record { count = refl; rest = refl; notes = refl } in
-    let single : TakesDigits r _ 1 _ _ _ _ = record { count = refl; rest = refl; notes = refl } in
-    noted ∙ sym (slow_notes-are two (TakesDigits-none two takes_four short) pair single) ∙ slow_notes-are two t pair single
 
 -- ---- a number of more than four digits: its first quotient, and then what is recorded for that quotient
 
@@ -164,14 +162,6 @@ unfolding count_notes
 count_notes-after r n a b c two long by_turns noted following =
     let slow : c ≡ b ++ slow_notes r (n / r ^ 4) = rw by_turns at following in
     rw (by_turns, slow_notes-first r n two long) (after_first a b c (n / r ^ 4) (slow_notes r (n / r ^ 4)) noted slow)
-
-pub count_notes-end : {r n four left : ℕ} {a b c : List ℕ}
-    → 2 ≤ r → is_counted_at_once r ≡ false → TakesDigits r n 4 four left a b → left < r ^ 4 → c ≡ b ++ count_notes r left
-    → c ≡ a ++ count_notes r n
-unfolding count_notes
-count_notes-end {r} {n} {left = left} {a} {b} {c} two by_turns t short noted =
-    let slow : c ≡ b ++ slow_notes r left = rw by_turns at noted in
-    rw by_turns (slow_notes-end two t short slow)
 
 pub count_notes-same : (r m n : ℕ) (a c : List ℕ) → is_counted_at_once r ≡ true → c ≡ a ++ count_notes r m → c ≡ a ++ count_notes r n
 unfolding count_notes

@@ -1,15 +1,12 @@
 -- Numbers of one to four digits, which are written without a loop.
-use Rattle.std.proofs.Common.{◌≡◌, ℕ, ◌+◌, ◌/◌, ◌%◌, ◌^◌, ◌<◌, ◌≤◌, List, [], ◌∷◌, ◌++◌, length, drop, refl, sym, ◌∙◌, inl, inr, arith}
+use Rattle.std.proofs.Common.{◌≡◌, ℕ, ◌+◌, ◌*◌, ◌/◌, ◌^◌, ◌<◌, ◌≤◌, List, [], ◌∷◌, ◌++◌, drop, inl, inr, arith}
 use Rattle.std.proofs.Math.Nat.{div-eq_of_lt, pow-le-pow_right}
 use Rattle.std.proofs.lemmas.Bool.{cases_lt}
 use Rattle.std.proofs.lemmas.Nat.{pow-add, div_below, le-div}
-use Rattle.lexical_write_integer.specs.Buffer.{WritesBlock, WritesDigits}
+use Rattle.lexical_write_integer.specs.Buffer.{WritesBlock}
 use Rattle.lexical_write_integer.specs.Digits.DigitCount.{digit_count}
-use Rattle.lexical_write_integer.specs.Texts.Text.{IsDigits}
-use Rattle.lexical_write_integer.specs.Digits.LoopTurns.{IsStep, TakesDigits}
-use Rattle.lexical_write_integer.proofs.Buffers.Blocks.{WritesBlock-whole, IsDigits-block}
-use Rattle.lexical_write_integer.proofs.OfDigits.Radix.Loops.Divisions.{IsDivided-start, IsDivided-more, TakesDigits-end, TakesDigits-counts}
-use Rattle.lexical_write_integer.proofs.OfDigits.Numerals.{length-IsDigits}
+use Rattle.lexical_write_integer.specs.Digits.LoopTurns.{IsStep, TakesDigits, takes_four}
+use Rattle.lexical_write_integer.proofs.OfDigits.Radix.Loops.Divisions.{IsDivided-start, IsDivided-more, TakesDigits-end}
 use Rattle.lexical_write_integer.proofs.OfDigits.Count.RadixPowers.{power-gt_one}
 use Rattle.lexical_write_integer.proofs.OfDigits.Count.DigitCounts.{digit_count-fits, digit_count-le}
 
@@ -48,15 +45,6 @@ WritesBlock-over {count = count} following b =
       kept = b.kept;
     }
 
--- the first digits, before those that the loop removed
-pub IsDigits-head : {r n four left digits : ℕ} {a b before between after : List ℕ}
-    → 2 ≤ r → length before ≡ digit_count r n → TakesDigits r n 4 four left a b → digits ≡ digit_count r left
-    → WritesBlock r four (n % r ^ four) digits before between → WritesBlock r digits left 0 between after → IsDigits r n after
-IsDigits-head {r} {n} {four} {left} {digits} {before = before} {between} {after} two just t is p s =
-    let counts = TakesDigits-counts two t in
-    let place : digits ≡ 0 + digits = omega arith in
-    IsDigits-block r n (digits + four) 0 before after two (omega arith) (omega arith) (WritesBlock-whole t.rest (rw place at p) s)
-
 pub few-fits : (r n : ℕ) → 2 ≤ r → digit_count r n ≤ 4 → n < r ^ 4
 few-fits r n two few =
     omega (arith, digit_count-fits r n two, pow-le-pow_right {n = r} (omega arith) {i = digit_count r n} {j = 4} few)
@@ -67,12 +55,13 @@ more-long r n more = elim (cases_lt n (r ^ 4)) [
   | inr long ↦ long
 ]
 
--- digits over a prefix of exactly that length
-pub WritesDigits-cut : {r n count : ℕ} {before text : List ℕ}
-    → 2 ≤ r → count ≡ digit_count r n → count ≤ length before → IsDigits r n text → WritesDigits r n before (text ++ drop count before) count
-WritesDigits-cut {r} {n} {count} {before} {text} two is room digits =
-    let long : length text ≡ count = length-IsDigits r n text two digits ∙ sym is in
-    record {
-      writes = record { text = text; is = digits; front = record { fits = rw long room; written = rw long refl }; count = sym long };
-      count = is;
-    }
+-- a number of more than eight digits, and its first quotient, have more than four digits
+pub record HasEight (r n : ℕ) : Type 0 where
+  pub value : r ^ 4 ≤ n
+  pub first : r ^ 4 ≤ n / r ^ 4
+
+pub HasEight-of : {r n : ℕ} → 2 ≤ r → r ^ 8 ≤ n → HasEight r n
+HasEight-of {r} {n} two long =
+    let some : 0 < r ^ 4 = omega (arith, power-gt_one r 4 two takes_four) in
+    let both : r ^ 4 * r ^ 4 ≤ n = rw (pow-add r 4 4) at long in
+    record { value = grind (arith, both, some); first = le-div (r ^ 4) n (r ^ 4) some both }

@@ -1,12 +1,12 @@
-use Rattle.std.proofs.Common.{◌≡◌, ◌+◌, ◌-◌, ◌/◌, ◌<◌, ◌^◌, ◌++◌, refl, sym, ap, ◌∙◌, lit<, arith}
+use Rattle.std.proofs.Common.{◌≡◌, ◌+◌, ◌-◌, ◌/◌, ◌<◌, ◌^◌, refl, sym, ap, ◌∙◌, lit<, arith}
 use Rattle.lexical_write_integer.specs.Digits.DigitCount.{digit_count}
-use Rattle.lexical_write_integer.specs.Digits.LoopTurns.{count_notes, takes_four}
+use Rattle.lexical_write_integer.specs.Digits.LoopTurns.{takes_four}
 use Rattle.lexical_write_integer.proofs.Buffers.Blocks.{IsWrittenBack-start, IsWrittenBack-at, IsWrittenBack-more, IsWrittenBack-last}
 use Rattle.lexical_write_integer.proofs.Buffers.BlocksAfter.{WritesDigits-block}
 use Rattle.lexical_write_integer.proofs.OfDigits.Count.DigitCounts.{digit_count-left}
 use Rattle.lexical_write_integer.proofs.OfDigits.Radix.Loops.ShortNumbers.{few-fits, more-long}
 use Rattle.lexical_write_integer.proofs.OfDigits.Radix.Loops.Divisions.{IsDivided-start, IsDivided-more, TakesDigits-end}
-use Rattle.lexical_write_integer.proofs.OfDigits.Radix.Loops.Records.{loop_notes-end, table_notes-are}
+use Rattle.lexical_write_integer.proofs.OfDigits.Radix.Loops.Records.{loop_notes-end}
 use Rattle.lexical_write_integer.proofs.OfDigits.Count.RadixPowers.{power-small}
 use Rattle.lexical_write_integer.proofs.OfDigits.Powers.{pow-four}
 use Rattle.lexical_write_integer.proofs.digits.radix.table_writer.write_after_count.Goals as goal
@@ -17,7 +17,7 @@ loop-at-init g c =
     let count = c.digit_count_counted-count.result in
     let none : count - count ≡ 0 = omega arith in
     record {
-      divided = rw (none, c.digit_count_counted-count.ensures.notes) IsDivided-start;
+      divided = rw none IsDivided-start;
       written = rw none IsWrittenBack-start;
       within = omega arith;
       room = refl;
@@ -90,10 +90,8 @@ returns-clause-digits g c =
     let block = IsWrittenBack-last (IsWrittenBack-at place c.loop-at.invariant.written) c.write_up_to_four.ensures.written in
     WritesDigits-block c.args.table.is_radix.at_least_two (sym is) (omega (arith, is, c.requires.room)) (rw whole at block)
 
-pub returns-clause-notes : goal.returns-clause-notes
-returns-clause-notes g c =
-    let two = c.args.table.is_radix.at_least_two in
-    let few = short g (goal.at.returns-clause-notes g c).After-loop-at in
-    let taken = TakesDigits-end two takes_four c.loop-at.invariant.divided few in
-    table_notes-are g.row.R c.args.value c.args.turns.now (c.args.turns.now ++ count_notes g.row.R c.args.value) _ refl
-    (loop_notes-end two taken few c.write_up_to_four.ensures.notes)
+pub returns-clause-written : goal.returns-clause-written
+returns-clause-written g c =
+    let few = short g (goal.at.returns-clause-written g c).After-loop-at in
+    let taken = TakesDigits-end c.args.table.is_radix.at_least_two takes_four c.loop-at.invariant.divided few in
+    loop_notes-end c.args.table.is_radix.at_least_two taken few c.write_up_to_four.ensures.notes

@@ -6,8 +6,8 @@ use Rattle.lexical_write_integer.specs.Digits.LoopTurns.{count_notes, takes_four
 use Rattle.lexical_write_integer.proofs.Buffers.BlocksAfter.{WritesDigits-block, WritesDigits-after}
 use Rattle.lexical_write_integer.proofs.OfDigits.Count.DigitCounts.{digit_count-split}
 use Rattle.lexical_write_integer.proofs.OfDigits.Count.RadixPowers.{power-small, power-gt_one}
-use Rattle.lexical_write_integer.proofs.OfDigits.Powers.{pow-four}
-use Rattle.lexical_write_integer.proofs.OfDigits.Radix.Loops.Records.{count_notes-after, count_notes-same, loop_notes-after, table_notes-are}
+use Rattle.lexical_write_integer.proofs.OfDigits.Powers.{pow-two, pow-four}
+use Rattle.lexical_write_integer.proofs.OfDigits.Radix.Loops.Records.{count_notes-after, count_notes-same, loop_notes-after, loop_notes-none}
 use Rattle.lexical_write_integer.proofs.digits.radix.table_writer.write_up_to_eight.Goals as goal
 use Rattle.lexical_write_integer.proofs.digits.radix.table_writer.write_up_to_eight.Goals.{After-from, After-counts_at_once}
 use Rattle.lexical_write_integer.proofs.digits.radix.table_writer.write_up_to_eight.Goals.{then-this-lt16, else-this-lt16, then-not-counts_at_once, else-not-counts_at_once}
@@ -76,27 +76,37 @@ returns-then-value-from-clause-digits g c =
     let first = WritesDigits-block two (sym head) (omega (arith, head, split g c', c.requires.room)) c.write_up_to_four.ensures.written in
     WritesDigits-after c.args.value two (long g c') c.requires.room (rw (left_is g c') at first) c.write_last_four.ensures
 
-pub returns-then-value-from-clause-notes : goal.returns-then-value-from-clause-notes
-returns-then-value-from-clause-notes g c =
-    let c' = (goal.at.returns-then-value-from-clause-notes g c).After-counts_at_once in
+pub returns-then-value-from-clause-counted : goal.returns-then-value-from-clause-counted
+returns-then-value-from-clause-counted g c =
+    let c' = (goal.at.returns-then-value-from-clause-counted g c).After-counts_at_once in
     let r = g.row.R in
     let n = c.args.value in
-    let two = c.args.table.is_radix.at_least_two in
     let is = left_is g c' in
-    let counts : c.count_up_to_four-head.new.turns ≡ c.if-not-counts_at_once.turns ++ count_notes r (n / r ^ 4) =
+    let counts : c.count_up_to_four-head.new.turns ≡ c.if-not-counts_at_once.counted ++ count_notes r (n / r ^ 4) =
     rw is at c.count_up_to_four-head.ensures.notes in
-    let counted : c.count_up_to_four-head.new.turns ≡ c.args.turns.now ++ count_notes r n =
     elim c.if-not-counts_at_once.branch [
       | then-not-counts_at_once w ↦
-          count_notes-after r n c.args.turns.now c.if-not-counts_at_once.turns c.count_up_to_four-head.new.turns two (long g c')
-          (sym w.if-not-counts_at_once.ensures) (w.turns-is ∙ rw (w.from-then-not-counts_at_once.ensures, is) at w.tick.ensures) counts
+          count_notes-after r n c.args.counted.now c.if-not-counts_at_once.counted c.count_up_to_four-head.new.turns
+          c.args.table.is_radix.at_least_two (long g c')
+          (sym w.if-not-counts_at_once.ensures) (w.counted-is ∙ rw (w.from-then-not-counts_at_once.ensures, is) at w.tick.ensures) counts
       | else-not-counts_at_once w ↦
-          count_notes-same r (n / r ^ 4) n c.args.turns.now c.count_up_to_four-head.new.turns (sym w.if-not-counts_at_once.ensures) (rw w.turns-is at counts)
-    ] in
+          count_notes-same r (n / r ^ 4) n c.args.counted.now c.count_up_to_four-head.new.turns (sym w.if-not-counts_at_once.ensures)
+          (rw w.counted-is at counts)
+    ]
+
+pub returns-then-value-from-clause-written : goal.returns-then-value-from-clause-written
+returns-then-value-from-clause-written g c =
+    let c' = (goal.at.returns-then-value-from-clause-written g c).After-counts_at_once in
+    let is = left_is g c' in
     let first = rw (c.from-then-value-from.ensures, is) at c.tick-then-value-from.ensures in
-    let following = rw is at c.write_up_to_four.ensures.notes in
-    table_notes-are r n c.args.turns.now c.count_up_to_four-head.new.turns c.write_up_to_four.new.turns counted
-    (loop_notes-after r n c.count_up_to_four-head.new.turns c.tick-then-value-from.new.self c.write_up_to_four.new.turns two (long g c') first following)
+    loop_notes-after g.row.R c.args.value c.args.written.now c.tick-then-value-from.new.self c.write_up_to_four.new.turns
+    c.args.table.is_radix.at_least_two (long g c') first (rw is at c.write_up_to_four.ensures.notes)
+
+-- ---- one or two digits of a byte
+
+pub returns-then-number-square-clause-written : goal.returns-then-number-square-clause-written
+returns-then-number-square-clause-written g c =
+    loop_notes-none g.row.R c.args.value c.args.written.now c.args.table.is_radix.at_least_two (rw (← pow-two) at c.if-number-square.true)
 
 -- ---- up to four digits
 
@@ -117,8 +127,3 @@ pub returns-clause-digits : goal.returns-clause-digits
 returns-clause-digits g c =
     let is = c.count_up_to_four-count.ensures.count in
     WritesDigits-block c.args.table.is_radix.at_least_two (sym is) (omega (arith, is, c.requires.room)) c.write_up_to_four-2.ensures.written
-
-pub returns-clause-notes : goal.returns-clause-notes
-returns-clause-notes g c =
-    table_notes-are g.row.R c.args.value c.args.turns.now c.count_up_to_four-count.new.turns _ c.count_up_to_four-count.ensures.notes
-    c.write_up_to_four-2.ensures.notes
