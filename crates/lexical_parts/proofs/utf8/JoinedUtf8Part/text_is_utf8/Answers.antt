@@ -1,7 +1,11 @@
-use Rattle.std.proofs.Common.{refl}
+use Rattle.std.proofs.Common.{refl, arith}
 use Rattle.std.proofs.lemmas.List.{take_all}
 use Rattle.lexical_parts.proofs.Utf8Texts.{joined_is_utf8}
 use Rattle.lexical_parts.proofs.utf8.JoinedUtf8Part.text_is_utf8.Goals as goal
+
+-- the check finds this proof by itself, but takes long over it
+pub offset_bounds-part-items-part-index : goal.offset_bounds-part-items-part-index
+offset_bounds-part-items-part-index g c = omega arith
 
 pub returns : goal.returns
 returns g c =
