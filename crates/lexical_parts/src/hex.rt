@@ -1,13 +1,15 @@
 //! Unsigned numbers in radix 16 and in radix 2, which need as many bytes as their type has digits, and
 //! bytes in radix 16.
 
-ghost use Rattle.std.specs.Prelude.{◌*◌, ◌/◌, length, ⊤};
+ghost use Rattle.std.specs.Prelude.{◌≡◌, ◌*◌, ◌/◌, ◌≤◌, length, ⊤};
+ghost use Rattle.lexical_write_integer.specs.Buffer.{Writes};
 ghost use Rattle.lexical_write_integer.specs.Padded.{IsPadded};
 ghost use Rattle.lexical_write_integer.specs.Text.{IsDigits};
 ghost use Rattle.lexical_parts.specs.Joined.{AreEach};
 
-use crate::padded::PaddedDigits;
 use crate::part::Part;
+use lexical_tables::get_table;
+use lexical_write_integer::buffer::copy_to_front;
 use lexical_write_integer::laws::digit_count_within_bits;
 use lexical_write_integer::radix::Radix;
 
@@ -55,6 +57,17 @@ impl<T: Radix> Part for Binary<T> {
     }
 }
 
+// Writes the two digits of a byte in radix 16 to the start of the buffer, and returns 2.
+fn write_byte(byte: u8, buffer: &mut [u8]) -> usize
+    requires { 2 ≤ length buffer.old }
+    ensures text { Writes (IsPadded 16 2 byte) buffer.old buffer.new result }
+    ensures count { result ≡ 2 }
+{
+    let table = get_table(16);
+    let first = 2 * usize::from(byte);
+    copy_to_front(&[table[first], table[first + 1]], buffer)
+}
+
 /// The bytes of a slice in radix 16, each in two digits: `HexBytes(&[1, 255])` writes `01FF`. For digits
 /// with a separator between the bytes, use `Joined` of the bytes as `PaddedDigits`.
 #[derive(Clone, Copy, Drop)]
@@ -74,7 +87,7 @@ impl Part for HexBytes<'_> {
     fn write_to(self, buffer: &mut [u8]) -> usize {
         let mut count = 0;
         for byte in self.0 {
-            count += PaddedDigits(16, *byte, 2).write_to(&mut buffer[count..]);
+            count += write_byte(*byte, &mut buffer[count..]);
         }
         count
     }

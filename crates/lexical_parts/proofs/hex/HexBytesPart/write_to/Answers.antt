@@ -5,6 +5,6 @@ use Rattle.lexical_parts.proofs.hex.HexBytesPart.write_to.Goals as goal
 
 pub loop-byte-preserved : goal.loop-byte-preserved
 loop-byte-preserved c = record {
-  written = written_each (IsPadded 16 2) _ 0 _ (omega arith) c.loop-byte.invariant.written c.write_to-count.ensures.text;
+  written = written_each (IsPadded 16 2) _ 0 _ (omega arith) c.loop-byte.invariant.written c.write_byte-count.ensures.text;
   within = omega arith;
 }
