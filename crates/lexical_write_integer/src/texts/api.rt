@@ -153,8 +153,7 @@ pub trait ToLexicalWithOptions: ToLexical {
 }
 
 /// Writes the sign of the number, if it has one in the format, to the first byte of the buffer, which is
-/// not empty, and returns the length of the sign, 0 or 1. The byte is written even if there is no sign,
-/// to avoid a branch: the first digit then overwrites it.
+/// not empty, and returns the length of the sign, 0 or 1.
 pub fn write_sign<T: LexicalInteger>(number: T, buffer: &mut [u8], format: &NumberFormat) -> usize
     requires { 1 ≤ length buffer.old }
     ensures sign { take result buffer.new ≡ sign_of (T.number number) format.now.required_mantissa_sign }
@@ -162,6 +161,15 @@ pub fn write_sign<T: LexicalInteger>(number: T, buffer: &mut [u8], format: &Numb
     ensures rest { drop 1 buffer.new ≡ drop 1 buffer.old }
 {
     let is_negative = number.is_negative();
-    buffer[0] = if is_negative { b'-' } else { b'+' };
-    (is_negative | format.required_mantissa_sign()) as usize
+    let is_required = format.required_mantissa_sign();
+    // If there is no sign, the byte is written back, so the choice needs no branch.
+    let first = buffer[0];
+    buffer[0] = if is_negative {
+        b'-'
+    } else if is_required {
+        b'+'
+    } else {
+        first
+    };
+    (is_negative | is_required) as usize
 }
