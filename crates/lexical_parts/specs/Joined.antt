@@ -1,5 +1,5 @@
 -- The texts of the elements of a list, and the room of elements with a separator between them.
-use Rattle.std.specs.Prelude.{ℕ, ◌+◌, ◌-◌, ◌*◌, List, [], ◌∷◌, length, sum_by}
+use Rattle.std.specs.Prelude.{ℕ, zero, suc, ◌+◌, ◌-◌, ◌*◌, List, [], ◌∷◌, length, sum_by}
 use Rattle.lexical_write_integer.specs.Sequence.{IsExactly}
 use Rattle.lexical_parts.specs.Sequence.{◌then◌}
 
@@ -7,6 +7,11 @@ use Rattle.lexical_parts.specs.Sequence.{◌then◌}
 abbrev pub AreEach : {A : Type 0} → (A → List ℕ → Type 0) → List A → List ℕ → Type 0
 AreEach IsOf [] = IsExactly []
 AreEach IsOf (x ∷ xs) = IsOf x then AreEach IsOf xs
+
+-- what precedes the element at the index: nothing before the first one, and otherwise the separator
+abbrev pub lead : ℕ → List ℕ → List ℕ
+lead zero separator = []
+lead (suc index) separator = separator
 
 -- the rooms of the elements, and separators of this length between adjacent elements
 abbrev pub joined_room : {A : Type 0} → (A → ℕ) → ℕ → List A → ℕ

@@ -1,17 +1,27 @@
 //! The parts of a slice, with a separator between adjacent parts.
 
-ghost use Rattle.std.specs.Prelude.{◌≡◌, ◌*◌, ◌<◌, ◌≤◌, [], All, length, sum_by};
-ghost use Rattle.lexical_write_integer.specs.Sequence.{AreJoined};
-ghost use Rattle.lexical_parts.specs.Joined.{joined_room};
+ghost use Rattle.std.specs.Prelude.{◌+◌, ◌*◌, ◌≤◌, All, length, sum_by};
+ghost use Rattle.lexical_write_integer.specs.Buffer.{Writes};
+ghost use Rattle.lexical_write_integer.specs.Sequence.{AreJoined, IsExactly};
+ghost use Rattle.lexical_parts.specs.Joined.{joined_room, lead};
+ghost use Rattle.lexical_parts.specs.Sequence.{◌then◌};
 
 use crate::part::Part;
 
-// Returns what precedes the part at the index: nothing before the first part, and otherwise the separator.
-fn lead(index: usize, separator: &str) -> &str
-    ensures at_first { index ≡ 0 → result.now ≡ [] }
-    ensures later { 0 < index → result.now ≡ separator.now }
+// Writes what precedes the part at the index, which is nothing for the first part and otherwise the separator, and
+// then the part.
+fn write_next<P: Part>(index: usize, separator: &str, part: P, buffer: &mut [u8]) -> usize
+    requires valid { P.is_valid part }
+    requires room { length (lead index separator.now) + P.room part ≤ length buffer.old }
+    ensures text { Writes (IsExactly (lead index separator.now) then P.is_text part)
+        buffer.old buffer.new result }
+    ensures short { result ≤ length (lead index separator.now) + P.room part }
 {
-    if index == 0 { "" } else { separator }
+    if index == 0 {
+        ("", part).write_to(buffer)
+    } else {
+        (separator, part).write_to(buffer)
+    }
 }
 
 /// The parts of a slice, with the separator between adjacent parts: `Joined(&[-1, 20], ", ")` writes
@@ -39,7 +49,7 @@ impl<P: Part> Part for Joined<'_, P> {
     fn write_to(self, buffer: &mut [u8]) -> usize {
         let mut count = 0;
         for (index, part) in self.0.iter().enumerate() {
-            count += (lead(index, self.1), *part).write_to(&mut buffer[count..]);
+            count += write_next(index, self.1, *part, &mut buffer[count..]);
         }
         count
     }

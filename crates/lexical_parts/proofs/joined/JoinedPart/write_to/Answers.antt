@@ -1,14 +1,19 @@
-use Rattle.std.proofs.Common.{◌+◌, length, arith}
+use Rattle.std.proofs.Common.{ℕ, zero, suc, ◌+◌, List, length, refl, arith}
 use Rattle.lexical_write_integer.proofs.OfTexts.Joins.{Leads}
+use Rattle.lexical_parts.specs.Joined.{lead}
 use Rattle.lexical_parts.proofs.Lists.{written_joined}
 use Rattle.lexical_parts.proofs.Rooms.{joined_room-more, joined_room-take-le}
 use Rattle.lexical_parts.proofs.joined.JoinedPart.write_to.Goals as goal
 
-pub write_to-count-requires-clause-room : goal.write_to-count-requires-clause-room
-write_to-count-requires-clause-room g c =
+leads_at : (separator : List ℕ) (index : ℕ) → Leads separator index (lead index separator)
+leads_at separator zero = record { at_first = λ _. refl; later = λ some. absurd (omega arith) }
+leads_at separator (suc index) = record { at_first = λ none. absurd (omega arith); later = λ _. refl }
+
+pub write_next-count-requires-clause-room : goal.write_next-count-requires-clause-room
+write_next-count-requires-clause-room g c =
     let parts = c.args.self.0.now in
     let separator = c.args.self.1.now in
-    let leads : Leads separator c.loop-index.index c.lead.result.now = record { at_first = c.lead.ensures.at_first; later = c.lead.ensures.later } in
+    let leads = leads_at separator c.loop-index.index in
     let more = joined_room-more g.P.Part.room separator _ parts c.loop-index-test.true c.part-item.is leads in
     let fits = joined_room-take-le g.P.Part.room (length separator) parts (c.loop-index.index + 1) (omega arith) in
     omega (arith, more, fits, c.requires.room, c.loop-index.invariant.within, c.loop-index.auto.buffer)
@@ -17,9 +22,9 @@ pub loop-index-preserved : goal.loop-index-preserved
 loop-index-preserved g c =
     let parts = c.args.self.0.now in
     let separator = c.args.self.1.now in
-    let leads : Leads separator c.loop-index.index c.lead.result.now = record { at_first = c.lead.ensures.at_first; later = c.lead.ensures.later } in
+    let leads = leads_at separator c.loop-index.index in
     let more = joined_room-more g.P.Part.room separator _ parts c.loop-index-test.true c.part-item.is leads in
     record {
-      written = written_joined g.P.Part.is_text separator _ _ _ c.loop-index-test.true c.part-item.is leads c.loop-index.invariant.written c.write_to-count.ensures.text;
-      within = omega (arith, more, c.loop-index.invariant.within, c.write_to-count.ensures.short);
+      written = written_joined g.P.Part.is_text separator _ _ _ c.loop-index-test.true c.part-item.is leads c.loop-index.invariant.written c.write_next-count.ensures.text;
+      within = omega (arith, more, c.loop-index.invariant.within, c.write_next-count.ensures.short);
     }
