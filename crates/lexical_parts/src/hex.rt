@@ -9,7 +9,6 @@ ghost use Rattle.lexical_parts.specs.Joined.{AreEach};
 
 use crate::part::Part;
 use lexical_tables::get_table;
-use lexical_write_integer::buffer::copy_to_front;
 use lexical_write_integer::laws::digit_count_within_bits;
 use lexical_write_integer::radix::Radix;
 
@@ -64,8 +63,10 @@ fn write_byte(byte: u8, buffer: &mut [u8]) -> usize
     ensures count { result ≡ 2 }
 {
     let table = get_table(16);
-    let first = 2 * usize::from(byte);
-    copy_to_front(&[table[first], table[first + 1]], buffer)
+    let index = 2 * usize::from(byte);
+    buffer[0] = table[index];
+    buffer[1] = table[index + 1];
+    2
 }
 
 /// The bytes of a slice in radix 16, each in two digits: `HexBytes(&[1, 255])` writes `01FF`. For digits

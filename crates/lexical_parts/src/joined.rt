@@ -1,15 +1,29 @@
 //! The parts of a slice, with a separator between adjacent parts.
 
-ghost use Rattle.std.specs.Prelude.{◌+◌, ◌*◌, ◌≤◌, All, length, sum_by};
+ghost use Rattle.std.specs.Prelude.{◌≡◌, ◌+◌, ◌*◌, ◌≤◌, All, length, sum_by};
 ghost use Rattle.lexical_write_integer.specs.Buffer.{Writes};
 ghost use Rattle.lexical_write_integer.specs.Sequence.{AreJoined, IsExactly};
 ghost use Rattle.lexical_parts.specs.Joined.{joined_room, lead};
 ghost use Rattle.lexical_parts.specs.Sequence.{◌then◌};
 
 use crate::part::Part;
+use lexical_write_integer::buffer::copy_to_front;
 
-// Writes what precedes the part at the index, which is nothing for the first part and otherwise the separator, and
-// then the part.
+// Writes what precedes the part at the index: nothing before the first part, and otherwise the separator. Returns
+// its length.
+fn write_lead(index: usize, separator: &str, buffer: &mut [u8]) -> usize
+    requires { length (lead index separator.now) ≤ length buffer.old }
+    ensures text { Writes (IsExactly (lead index separator.now)) buffer.old buffer.new result }
+    ensures count { result ≡ length (lead index separator.now) }
+{
+    if index == 0 {
+        copy_to_front(b"", buffer)
+    } else {
+        copy_to_front(separator.as_bytes(), buffer)
+    }
+}
+
+// Writes what precedes the part at the index, and then the part. Returns their length.
 fn write_next<P: Part>(index: usize, separator: &str, part: P, buffer: &mut [u8]) -> usize
     requires valid { P.is_valid part }
     requires room { length (lead index separator.now) + P.room part ≤ length buffer.old }
@@ -17,11 +31,8 @@ fn write_next<P: Part>(index: usize, separator: &str, part: P, buffer: &mut [u8]
         buffer.old buffer.new result }
     ensures short { result ≤ length (lead index separator.now) + P.room part }
 {
-    if index == 0 {
-        ("", part).write_to(buffer)
-    } else {
-        (separator, part).write_to(buffer)
-    }
+    let start = write_lead(index, separator, buffer);
+    start + part.write_to(&mut buffer[start..])
 }
 
 /// The parts of a slice, with the separator between adjacent parts: `Joined(&[-1, 20], ", ")` writes
