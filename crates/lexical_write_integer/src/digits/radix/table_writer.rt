@@ -1,5 +1,6 @@
-// Writing the digits of a number, four per iteration, from a table of the digit pairs of the radix: `00`, `01`
-// and so on. The functions record their quotients in the counter `turns`, which only contracts read.
+// Writing the digits of a number, four at a time, from a table of the digit pairs of the radix: `00`, `01` and so
+// on. The functions record their quotients in two counters, which only contracts read: `counted` for the count of
+// the digits, and `written` for writing them.
 
 ghost use Rattle.std.specs.Prelude.{◌≡◌, ℕ, ◌+◌, ◌-◌, ◌*◌, ◌/◌, ◌%◌, ◌^◌, ◌<◌, ◌≤◌};
 ghost use Rattle.std.specs.Prelude.{◌++◌, [], ◌∷◌, false, length};
