@@ -153,11 +153,12 @@ pub trait ToLexicalWithOptions: ToLexical {
 }
 
 /// Writes the sign of the number, if it has one in the format, to the first byte of the buffer, which is
-/// not empty, and returns the length of the sign, 0 or 1.
+/// not empty, and returns the length of the sign, 0 or 1. If there is no sign, the buffer is unchanged.
 pub fn write_sign<T: LexicalInteger>(number: T, buffer: &mut [u8], format: &NumberFormat) -> usize
     requires { 1 ≤ length buffer.old }
     ensures sign { take result buffer.new ≡ sign_of (T.number number) format.now.required_mantissa_sign }
     ensures count { result ≡ length (sign_of (T.number number) format.now.required_mantissa_sign) }
+    ensures none { result ≡ 0 → buffer.new ≡ buffer.old }
     ensures rest { drop 1 buffer.new ≡ drop 1 buffer.old }
 {
     let is_negative = number.is_negative();

@@ -1,4 +1,5 @@
-use Rattle.std.proofs.Common.{true, false, refl}
+use Rattle.std.proofs.Common.{arith, true, false, refl}
+use Rattle.std.proofs.lemmas.List.{set-get_or}
 use Rattle.lexical_write_integer.proofs.OfTexts.Signs.{sign_of-below, sign_of-other, take-minus, take-plus}
 use Rattle.lexical_write_integer.proofs.texts.api.write_sign.Goals as goal
 use Rattle.lexical_write_integer.proofs.texts.api.write_sign.Goals.{then-is_negative, else-is_negative+then-is_required, else-is_negative+else-is_required}
@@ -19,4 +20,13 @@ returns-clause-sign g c =
           (take-plus bytes true c.requires)
       | else-is_negative+else-is_required w ↦
           rw (w.if-is_negative.false, w.buffer-is, ← required, w.if-is_required.false, sign_of-other number false test w.if-is_negative.false) refl
+    ]
+
+-- as above
+pub returns-clause-none : goal.returns-clause-none
+returns-clause-none g c zero =
+    elim c.if-is_negative.branch [
+      | then-is_negative w ↦ absurd (omega (arith, rw w.if-is_negative.true at zero))
+      | else-is_negative+then-is_required w ↦ absurd (omega (arith, rw (w.if-is_negative.false, w.if-is_required.true) at zero))
+      | else-is_negative+else-is_required w ↦ rw w.buffer-is (set-get_or c.args.buffer.now 0 0)
     ]
