@@ -1,18 +1,20 @@
 //! Collects the answers to lines in a vector.
 
-ghost use Rattle.std.specs.Prelude.{◌++◌, IfOk, OnOk};
+ghost use Rattle.std.specs.Prelude.{◌≡◌, ◌+◌, ◌++◌, IfOk, IsTrue, OnOk};
 ghost use Rattle.lexical_lines.specs.Answer.{AnswersAll};
-ghost use Rattle.lexical_lines.specs.RunOutcome.{added};
+ghost use Rattle.lexical_lines.specs.RunOutcome.{added, TellsAllGood};
+ghost use Rattle.lexical_lines.specs.Source.{faults_of};
 
 use lexical_lines::{Answerer, ByteSink, ByteSource, Writing, run};
 use std::alloc::Global;
 use std::io;
 
-/// Returns the answers to the lines of a source. The error is that of the source, or an allocation
-/// failure.
+/// Reads a source to its end, and returns the answers to its lines. The error is that of the source, or
+/// an allocation failure.
 #[tactic(auto, using(lexical_lines::proofs::Writers::answers_held))]
 pub fn answers_to<S: ByteSource>(alloc: Global, source: &mut S) -> io::Result<Vec<u8>>
-    ensures { IfOk result (λ answers.
+    ensures ended { OnOk result (IsTrue (S.is_ended source.new)) }
+    ensures answers { IfOk result (λ answers.
         AnswersAll (added (S.given source.old) (S.given source.new)) answers.items) }
 {
     let mut sink = Writing::new(Vec::new(alloc));
@@ -21,10 +23,13 @@ pub fn answers_to<S: ByteSource>(alloc: Global, source: &mut S) -> io::Result<Ve
 }
 
 /// Writes the answers to the lines of a text, which is passed in two chunks, to a sink, and returns
-/// whether all lines are valid. A line may begin in the first chunk and end in the second.
+/// whether all lines are valid. A line may begin in the first chunk and end in the second. The error is
+/// that of the sink.
 pub fn answer_pieces<K: ByteSink>(first: &[u8], second: &[u8], sink: &mut K) -> io::Result<bool>
-    ensures { OnOk result (AnswersAll (first.now ++ second.now)
+    ensures answers { OnOk result (AnswersAll (first.now ++ second.now)
         (added (K.taken sink.old) (K.taken sink.new))) }
+    ensures good { IfOk result (λ all_good. TellsAllGood (first.now ++ second.now) all_good) }
+    ensures faults { K.faults sink.new ≡ K.faults sink.old + faults_of result }
 {
     let mut answerer = Answerer::new();
     answerer.push_all(first, sink)?;
