@@ -110,9 +110,10 @@ pub fn digit_count_counted<T: DecimalCount>(x: T, radix: u32, turns: &mut Turns)
     x.fits_bits();
     match radix {
         2 => fast_log2(x) + 1,
-        4 => fast_log2(x) / 2 + 1,
+        // By 2 and by 4, which are shifts, the sum first takes fewer instructions.
+        4 => (fast_log2(x) + 2) / 2,
         8 => fast_log2(x) / 3 + 1,
-        16 => fast_log2(x) / 4 + 1,
+        16 => (fast_log2(x) + 4) / 4,
         32 => fast_log2(x) / 5 + 1,
         10 => x.decimal_count(),
         _ => slow_digit_count_counted(x, radix, turns),
