@@ -16,10 +16,10 @@ use crate::turns::Turns;
 use by_radix::by_radix;
 use lexical_num::num::UnsignedInteger;
 use lexical_tables::get_table;
-use table_writer::{write_byte, write_digits, write_short};
+use table_writer::{write_digits, write_digits_up_to_eight, write_short};
 
-// Writes a number in the radix `R`, with the table of that radix. A number below 1024 has at most two digits
-// above radix 32.
+// Writes a number in the radix `R`, with the table of that radix. A number of 8 bits has at most eight digits, and
+// so has a number of 32 bits in radix 16. Above radix 32 a number below 1024 has at most two.
 fn write_by_table<T: UnsignedInteger, const R: u32>(
     value: T,
     buffer: &mut [u8],
@@ -34,10 +34,13 @@ fn write_by_table<T: UnsignedInteger, const R: u32>(
     let number = value.as_usize() as u64;
     let table = get_table(R);
     if T::BITS == 8 {
-        return write_byte::<R>(number, table, buffer, turns);
+        return write_digits_up_to_eight::<R, true>(number, table, buffer, turns);
     }
     if R > 32 && number < 1024 {
         return write_short(number as u32, R, table, buffer, turns);
+    }
+    if R == 16 && T::BITS <= 32 {
+        return write_digits_up_to_eight::<R, false>(number, table, buffer, turns);
     }
     write_digits::<R>(number, table, buffer, turns)
 }

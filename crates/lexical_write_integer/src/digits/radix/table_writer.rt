@@ -302,15 +302,15 @@ pub(crate) fn write_digits<const R: u32>(
     count
 }
 
-// Does what `write_digits` does, for a number below 256, which has at most eight digits.
-pub(crate) fn write_byte<const R: u32>(
+// Does what `write_digits` does, for a number of up to eight digits. `BYTE` is that of `write_up_to_eight`.
+pub(crate) fn write_digits_up_to_eight<const R: u32, const BYTE: bool>(
     value: u64,
     table: &[u8],
     buffer: &mut [u8],
     turns: &mut Turns,
 ) -> usize
     requires radix { IsRadix R }
-    requires byte { value < 2 ^ 8 }
+    requires short { value < R ^ 8 }
     requires table { BeginsWithPairs R table.now }
     requires room { digit_count R value ≤ length buffer.old }
     ensures digits { WritesDigits R value buffer.old buffer.new result }
@@ -318,7 +318,7 @@ pub(crate) fn write_byte<const R: u32>(
 {
     let table = RadixTable::<R> { pairs: table };
     let mut written = Turns::new();
-    let count = write_up_to_eight::<R, true>(value, table, buffer, turns, &mut written);
+    let count = write_up_to_eight::<R, BYTE>(value, table, buffer, turns, &mut written);
     turns.append(&written);
     count
 }
