@@ -17,3 +17,7 @@ returns-else-radix-eq10-clause-short g c =
       c.radix_counted.ensures.digits.count,
       digit_count-le_width _ _ _ c.requires.radix.at_least_two g.met.Self.UnsignedInteger.range.width c.fits_bits.ensures,
     )
+
+-- the check finds this proof by itself, but with an answer the refusal of a mistake says what is wrong
+pub returns-else-radix-eq10-clause-digits : goal.returns-else-radix-eq10-clause-digits
+returns-else-radix-eq10-clause-digits g c = c.radix_counted.ensures.digits
