@@ -72,10 +72,7 @@ pub trait Utf8Part: Part {
 impl Utf8Part for &str {
     ghost is_utf8 = { λ _. ⊤ };
 
-    fn text_is_utf8(self) {
-        // The call makes it known to the prover that the bytes of a `&str` are UTF-8.
-        let _ = self.as_bytes();
-    }
+    fn text_is_utf8(self) {}
 }
 
 impl Utf8Part for Byte {
