@@ -16,10 +16,9 @@ use crate::turns::Turns;
 use by_radix::by_radix;
 use lexical_num::num::UnsignedInteger;
 use lexical_tables::get_table;
-use table_writer::{write_digits, write_digits_up_to_eight, write_short};
+use table_writer::{write_digits, write_short};
 
-// Writes a number in the radix `R`, with the table of that radix. A number of 8 bits has at most eight digits, and
-// so has a number of 32 bits in radix 16. Above radix 32 a number below 1024 has at most two.
+// Writes a number with the table of the radix. Above radix 32 a number below 1024 has at most two digits.
 fn write_by_table<T: UnsignedInteger, const R: u32>(
     value: T,
     buffer: &mut [u8],
@@ -33,16 +32,14 @@ fn write_by_table<T: UnsignedInteger, const R: u32>(
     value.fits_bits();
     let number = value.as_usize() as u64;
     let table = get_table(R);
-    if T::BITS == 8 {
-        return write_digits_up_to_eight::<R, true>(number, table, buffer, turns);
-    }
     if R > 32 && number < 1024 {
         return write_short(number as u32, R, table, buffer, turns);
     }
-    if R == 16 && T::BITS <= 32 {
-        return write_digits_up_to_eight::<R, false>(number, table, buffer, turns);
+    match T::BITS {
+        8 => write_digits::<8, R>(number, table, buffer, turns),
+        16 | 32 if R == 16 => write_digits::<32, R>(number, table, buffer, turns),
+        _ => write_digits::<64, R>(number, table, buffer, turns),
     }
-    write_digits::<R>(number, table, buffer, turns)
 }
 
 // Does what `algorithm_counted` does, with the table of the radix. The radix is looked at only once, since

@@ -1,7 +1,7 @@
 // Choosing the code of a radix.
 
-// Calls the instance for this radix, which is from 2 to 36, of a function that is generic over the radix, or
-// over a type and the radix. Each instance divides by a constant.
+// Calls the instance for this radix, which is from 2 to 36, of a function whose last or only generic parameter is
+// the radix. Each instance divides by a constant.
 macro_rules! by_radix {
     ($($value:literal)*; $radix:expr, $run:ident$arguments:tt) => {
         match $radix {
@@ -9,9 +9,9 @@ macro_rules! by_radix {
             _ => unreachable!(),
         }
     };
-    ($($value:literal)*; $radix:expr, $run:ident::<$type:ident>$arguments:tt) => {
+    ($($value:literal)*; $radix:expr, $run:ident::<$argument:tt>$arguments:tt) => {
         match $radix {
-            $($value => $run::<$type, $value>$arguments,)*
+            $($value => $run::<$argument, $value>$arguments,)*
             _ => unreachable!(),
         }
     };

@@ -79,25 +79,6 @@ fn take_last_digit(number: u32, radix: u32, turns: &mut Turns) -> usize
     }
 }
 
-// Writes the one or two digits of a number to the start of the buffer, without a branch: a single digit is
-// written twice, to the same byte.
-fn write_one_or_two(number: u32, digits: usize, radix: u32, table: &[u8], buffer: &mut [u8])
-    requires radix { IsRadix radix }
-    requires table { BeginsWithPairs radix table.now }
-    requires short { number < radix * radix }
-    requires digits { digits ≡ digit_count radix number }
-    requires room { digits ≤ length buffer.old }
-    ensures { WritesBlock radix digits number 0 buffer.old buffer.new }
-{
-    let index = 2 * number as usize;
-    let first = table[index];
-    let second = table[index + 1];
-    // Both bytes are read before either is written, so the choice needs no branch.
-    buffer[digits - 1] = second;
-    let front = if number < radix { second } else { first };
-    buffer[0] = front;
-}
-
 // Writes the one to four digits of a number to the start of the buffer: four characters, each at its index or,
 // if it is a leading zero, at an index that a later one takes. This avoids branches.
 fn write_up_to_four<const R: u32>(
@@ -145,8 +126,8 @@ fn count_up_to_four<const R: u32>(number: u32, turns: &mut Turns) -> usize
     }
 }
 
-// Writes a number of up to eight digits. `BYTE` chooses the writer of one or two digits, for numbers below 256.
-fn write_up_to_eight<const R: u32, const BYTE: bool>(
+// Writes a number of up to eight digits. Of the numbers of 8 bits, many have one or two.
+fn write_up_to_eight<const BITS: u32, const R: u32>(
     value: u64,
     table: RadixTable<'_, R>,
     buffer: &mut [u8],
@@ -177,7 +158,7 @@ fn write_up_to_eight<const R: u32, const BYTE: bool>(
         return head + 4;
     }
     let number = value as u32;
-    if BYTE && number < square {
+    if BITS == 8 && number < square {
         return write_short(number, R, table.pairs, buffer, counted);
     }
     let count = count_up_to_four::<R>(number, counted);
@@ -259,7 +240,7 @@ fn write_number<const R: u32>(
     let square = u64::from(R * R);
     let power = square * square;
     if value < power * power {
-        return write_up_to_eight::<R, false>(value, table, buffer, counted, written);
+        return write_up_to_eight::<64, R>(value, table, buffer, counted, written);
     }
     if R < 16 && counts_at_once(R) {
         return write_after_count(value, table, buffer, counted, written);
@@ -268,21 +249,22 @@ fn write_number<const R: u32>(
     let head = if R < 16 {
         write_number(second, table, buffer, counted, written)
     } else {
-        write_up_to_eight::<R, false>(second, table, buffer, counted, written)
+        write_up_to_eight::<64, R>(second, table, buffer, counted, written)
     };
     write_last_four(first, second, table, buffer, head);
     write_last_four(value, first, table, buffer, head + 4);
     head + 8
 }
 
-// Writes a number in the radix `R`, with a table that begins with the digit pairs of that radix. What the count
-// records precedes what the writer records.
-pub(crate) fn write_digits<const R: u32>(
+// Writes a number of at most `BITS` bits in the radix `R`, with a table that begins with the digit pairs of that
+// radix. What the count records precedes what the writer records.
+pub(crate) fn write_digits<const BITS: u32, const R: u32>(
     value: u64,
     table: &[u8],
     buffer: &mut [u8],
     turns: &mut Turns,
 ) -> usize
+    requires bits { value < 2 ^ BITS }
     requires radix { IsRadix R }
     requires table { BeginsWithPairs R table.now }
     requires room { digit_count R value ≤ length buffer.old }
@@ -293,32 +275,12 @@ pub(crate) fn write_digits<const R: u32>(
     let square = u64::from(R * R);
     let power = square * square;
     let mut written = Turns::new();
-    let count = if value < power * power {
-        write_up_to_eight::<R, false>(value, table, buffer, turns, &mut written)
+    // A number of 8 bits has at most eight digits, and so has a number of 32 bits in radix 16.
+    let count = if BITS == 8 || R == 16 && BITS == 32 || value < power * power {
+        write_up_to_eight::<BITS, R>(value, table, buffer, turns, &mut written)
     } else {
         write_number(value, table, buffer, turns, &mut written)
     };
-    turns.append(&written);
-    count
-}
-
-// Does what `write_digits` does, for a number of up to eight digits. `BYTE` is that of `write_up_to_eight`.
-pub(crate) fn write_digits_up_to_eight<const R: u32, const BYTE: bool>(
-    value: u64,
-    table: &[u8],
-    buffer: &mut [u8],
-    turns: &mut Turns,
-) -> usize
-    requires radix { IsRadix R }
-    requires short { value < R ^ 8 }
-    requires table { BeginsWithPairs R table.now }
-    requires room { digit_count R value ≤ length buffer.old }
-    ensures digits { WritesDigits R value buffer.old buffer.new result }
-    ensures notes { turns.new ≡ turns.old ++ table_notes R value }
-{
-    let table = RadixTable::<R> { pairs: table };
-    let mut written = Turns::new();
-    let count = write_up_to_eight::<R, BYTE>(value, table, buffer, turns, &mut written);
     turns.append(&written);
     count
 }
@@ -337,7 +299,7 @@ pub(crate) fn write_digits_in(
     ensures digits { WritesDigits radix number buffer.old buffer.new result }
     ensures notes { turns.new ≡ turns.old ++ table_notes radix number }
 {
-    by_radix!(radix, write_digits(number, table, buffer, turns))
+    by_radix!(radix, write_digits::<64>(number, table, buffer, turns))
 }
 
 // Returns how many digits a number of one or two digits has.
@@ -353,7 +315,7 @@ fn count_short(value: u32, radix: u32, turns: &mut Turns) -> usize
     1 + take_last_digit(value, radix, turns)
 }
 
-// Writes a number of one or two digits.
+// Writes a number of one or two digits without a branch: a single digit is written twice, to the same byte.
 pub(crate) fn write_short(
     value: u32,
     radix: u32,
@@ -369,6 +331,12 @@ pub(crate) fn write_short(
     ensures notes { turns.new ≡ turns.old ++ count_notes radix value }
 {
     let count = count_short(value, radix, turns);
-    write_one_or_two(value, count, radix, table, buffer);
+    let index = 2 * value as usize;
+    let first = table[index];
+    let second = table[index + 1];
+    // Both bytes are read before either is written, so the choice needs no branch.
+    buffer[count - 1] = second;
+    let front = if value < radix { second } else { first };
+    buffer[0] = front;
     count
 }

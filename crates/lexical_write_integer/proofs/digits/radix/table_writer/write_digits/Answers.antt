@@ -1,13 +1,26 @@
-use Rattle.std.proofs.Common.{◌≡◌, ◌^◌, ◌<◌, ◌++◌, ap, lit<, arith}
+use Rattle.std.proofs.Common.{◌≡◌, ◌^◌, ◌<◌, ◌++◌, inl, inr, ap, sym, ◌∙◌, lit<, arith}
+use Rattle.std.proofs.Math.Nat.{pow-le-pow_left}
+use Rattle.std.proofs.lemmas.Bool.{ltb-true}
 use Rattle.lexical_write_integer.specs.Digits.LoopTurns.{count_notes, loop_notes}
 use Rattle.lexical_write_integer.proofs.OfDigits.Powers.{pow-eight}
 use Rattle.lexical_write_integer.proofs.OfDigits.Radix.Loops.Records.{table_notes-are}
 use Rattle.lexical_write_integer.proofs.digits.radix.table_writer.write_digits.Goals as goal
+use Rattle.lexical_write_integer.proofs.digits.radix.table_writer.write_digits.Goals.{then-this-eq32, else-this-eq32}
 use Rattle.lexical_write_integer.proofs.digits.radix.table_writer.write_digits.Goals.{then-value-power, else-value-power}
 
 pub write_up_to_eight-count-requires : goal.write_up_to_eight-count-requires
 write_up_to_eight-count-requires g c =
-    let short : c.args.value < g.row.R ^ 8 = rw (pow-eight, ← c.from-square.ensures) (omega (arith, c.if-value-power.true)) in
+    let r = g.row.R in
+    let n = c.args.value in
+    let bits = g.row.BITS in
+    let hex : r ≡ 16 → bits ≡ 32 → n < r ^ 8 = λ is long. rw is (rw long at c.requires.bits) in
+    let short : n < r ^ 8 = elim c.if-this-eq32.branch [
+      | then-this-eq32 w ↦ elim w.if-this-eq32.either as (λ _. n < r ^ 8) [
+        | inl byte ↦ omega (arith, rw byte at c.requires.bits, pow-le-pow_left {n = 2} {m = r} c.requires.radix.at_least_two 8)
+        | inr both ↦ hex both.1 both.2
+      ]
+      | else-this-eq32 w ↦ rw (pow-eight, ← c.from-square.ensures) (ltb-true _ _ (sym w.value-is ∙ c.if-value-power.true))
+    ] in
     (lit< tt, (short, c.requires.room))
 
 pub returns-clause-notes : goal.returns-clause-notes
