@@ -35,9 +35,6 @@ pub mod limits;
 pub mod constants;
 pub mod options;
 
-// Laws for callers.
-pub mod laws;
-
 // A list of numbers that only contracts read.
 pub mod ghost_log;
 

@@ -13,6 +13,7 @@ pub mod date_time;
 pub mod digest;
 pub mod digit_pair;
 pub mod dump_line;
+pub mod equality;
 pub mod fixed_text;
 pub mod float_parts;
 pub mod hexadecimal;

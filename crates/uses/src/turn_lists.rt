@@ -91,6 +91,13 @@ pub fn notes_of_255_in_radix_3() -> Recorded
     turns_of(255u8, 3, 6)
 }
 
+/// Returns what is recorded for 255 in radix 16, which is `FF`.
+pub fn notes_of_255_in_radix_16() -> Recorded
+    ensures compact { result.compact ≡ 15 ∷ [] }
+{
+    turns_of(255u8, 16, 2)
+}
+
 /// Returns what is recorded for 0, for the largest `u64` in decimal and in radix 2, for the largest `u8` in radix
 /// 16, whose square does not fit in a byte, and for a number of 40 digits in radix 3. For no other `u64` does
 /// `write_integer` make more iterations.
@@ -107,5 +114,47 @@ pub fn turns_by_digits() -> (Recorded, Recorded, Recorded, Recorded, Recorded)
         turns_of(u64::MAX, 2, 64),
         turns_of(u8::MAX, 16, 2),
         turns_of(12157665459056928800u64, 3, 40),
+    )
+}
+
+/// Returns what is recorded for 0 in radix 2, and for the largest numbers of three types.
+pub fn turns_of_the_largest() -> (Recorded, Recorded, Recorded, Recorded)
+    ensures zero_in_radix_2 { HasTurns result.0 0 0 0 0 }
+    ensures byte_in_radix_2 { HasTurns result.1 2 2 3 7 }
+    ensures u16_in_radix_16 { HasTurns result.2 1 1 2 3 }
+    ensures u64_in_radix_36 { HasTurns result.3 6 6 3 12 }
+{
+    (
+        turns_of(0u8, 2, 1),
+        turns_of(255u8, 2, 8),
+        turns_of(65535u16, 16, 4),
+        turns_of(u64::MAX, 36, 13),
+    )
+}
+
+/// Returns what is recorded for the largest numbers of two types, in radices in which the loop that divides by the
+/// fourth power of the radix does not run for a `u8`.
+pub fn turns_without_the_fourth_power() -> (Recorded, Recorded, Recorded)
+    ensures byte_in_radix_4 { HasTurns result.0 1 1 2 3 }
+    ensures byte_in_radix_15 { HasTurns result.1 2 2 1 2 }
+    ensures u16_in_radix_15 { HasTurns result.2 2 2 1 4 }
+{
+    (
+        turns_of(255u8, 4, 4),
+        turns_of(255u8, 15, 3),
+        turns_of(65535u16, 15, 5),
+    )
+}
+
+/// Returns what is recorded in decimal for numbers of 3, 10 and 11 digits.
+pub fn turns_in_decimal() -> (Recorded, Recorded, Recorded)
+    ensures three_digits { HasTurns result.0 1 1 1 2 }
+    ensures ten_digits { HasTurns result.1 4 2 3 9 }
+    ensures eleven_digits { HasTurns result.2 5 3 3 10 }
+{
+    (
+        turns_of(255u8, 10, 3),
+        turns_of(u32::MAX, 10, 10),
+        turns_of(10000000000u64, 10, 11),
     )
 }

@@ -5,11 +5,12 @@ mod every_byte;
 mod options;
 mod types;
 
+ghost use Rattle.std.specs.Prelude.{◌≡◌};
+
 use crate::checks::{check_equal, valid};
 use errors::check_error;
 use lexical_num::format::{NumberFormat, STANDARD};
 use lexical_num::format_builder::NumberFormatBuilder;
-use lexical_num::laws::{equal_builders, equal_formats};
 use lexical_num::options::Options;
 use std::process::Abort;
 
@@ -29,18 +30,29 @@ fn format(rt: &impl Abort, mantissa: u8, exponent: u8) -> NumberFormat {
     valid(rt, builder.exponent_radix(exponent))
 }
 
+// Returns a clone of a format, which is equal to it.
+fn clone_of_format(rt: &impl Abort, format: &NumberFormat) -> NumberFormat
+    ensures { result ≡ format.now }
+{
+    format.clone().expect(rt, "clone")
+}
+
+// Returns a clone of a builder, which is equal to it.
+fn clone_of_builder(rt: &impl Abort, builder: &NumberFormatBuilder) -> NumberFormatBuilder
+    ensures { result ≡ builder.now }
+{
+    builder.clone().expect(rt, "clone")
+}
+
 // Returns the format with this mantissa radix that a builder makes after an error.
 fn built_after_an_error(rt: &impl Abort, radix: u8) -> NumberFormat {
     let builder = NumberFormatBuilder::default().mantissa_radix(1);
     check_error(rt, "radix 1", builder.build(), "invalid mantissa radix 1");
     check_error(rt, "radix 1", builder.build(), "invalid mantissa radix 1");
     let new = NumberFormatBuilder::new();
-    let are_new = (
-        equal_builders(&builder, &new),
-        equal_builders(&NumberFormatBuilder::default(), &new),
-    );
+    let are_new = (builder == new, NumberFormatBuilder::default() == new);
     check_equal(rt, "radix 1, default", are_new, (false, true));
-    valid(rt, builder.radix(radix))
+    valid(rt, clone_of_builder(rt, &builder).mantissa_radix(radix))
 }
 
 // Checks a format without groups.
@@ -63,12 +75,14 @@ fn formats_have_the_fields_of_their_builder(rt: HostRuntime) {
     check(&rt, signed(&rt), 10, 10, true);
     check(&rt, NumberFormatBuilder::binary(), 2, 2, false);
     check(&rt, NumberFormatBuilder::from_radix(16), 16, 16, false);
-    check(&rt, built_after_an_error(&rt, 16), 16, 10, false);
+    check(&rt, built_after_an_error(&rt, 2), 2, 10, false);
+    let sixteen = valid(&rt, NumberFormatBuilder::new().radix(16));
+    check(&rt, clone_of_format(&rt, &sixteen), 16, 10, false);
     check(&rt, format(&rt, 2, 36), 2, 36, false);
 }
 
 fn check_equality(rt: &impl Abort, row: &str, a: NumberFormat, b: NumberFormat, expected: bool) {
-    check_equal(rt, row, equal_formats(&a, &b), expected);
+    check_equal(rt, row, a == b, expected);
 }
 
 #[test]

@@ -24,17 +24,18 @@ fn mantissas(rt: HostRuntime) {
     let mut ten = [7; 10];
     let length = 1234567u32.write_mantissa(&format, &mut ten);
     check_written(&rt, "the mantissa 1234567", length, &ten, b"1234567");
-    let format = valid(&rt, NumberFormatBuilder::new().radix(16));
+}
+
+// Each call uses its own radix of the format, and writes no sign.
+#[test]
+fn mantissas_and_exponents_in_two_radices(rt: HostRuntime) {
+    let builder = NumberFormatBuilder::new().radix(16).exponent_radix(2);
+    let format = valid(&rt, builder.required_mantissa_sign(true));
     digit_count_at_most(16, 10, 1);
+    digit_count_at_most(2, 10, 4);
     let mut one = [7; 1];
     let length = 10u8.write_mantissa(&format, &mut one);
     check_written(&rt, "the mantissa 10", length, &one, b"A");
-}
-
-#[test]
-fn exponents(rt: HostRuntime) {
-    let format = valid(&rt, NumberFormatBuilder::new().exponent_radix(2));
-    digit_count_at_most(2, 10, 4);
     let mut four = [7; 4];
     let length = 10u8.write_exponent(&format, &mut four);
     check_written(&rt, "the exponent 10", length, &four, b"1010");

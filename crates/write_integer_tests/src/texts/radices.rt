@@ -1,7 +1,7 @@
 // Tests of texts in several radices, without groups and required signs.
 // In the lines, the columns are the radix, the number, its required length, the size of its type and its text.
 
-use super::check_lines;
+use super::{check, check_lines};
 use lexical_write_integer::laws::equal_texts;
 use lexical_write_integer::{NumberFormatBuilder, Options};
 
@@ -29,6 +29,8 @@ const TEXTS_OF_U64: &str = "\
 10 9999999999 20 20 9999999999
 10 10000000000 20 20 10000000000
 10 18446744073709551615 20 20 18446744073709551615
+16 18446744073709551615 16 128 FFFFFFFFFFFFFFFF
+36 18446744073709551615 13 128 3W5E11264SGSF
 ";
 
 const TEXTS_OF_I8: &str = "\
@@ -59,6 +61,8 @@ fn several_radices(rt: HostRuntime) {
     check_lines::<u16>(&rt, builder, &options, TEXTS_OF_U16);
     check_lines::<u32>(&rt, builder, &options, "10 4294967295 10 10 4294967295");
     check_lines::<u64>(&rt, builder, &options, TEXTS_OF_U64);
+    let binary = NumberFormatBuilder::binary();
+    check(&rt, 1234u64, &binary, &options, b"10011010010");
     check_lines::<i8>(&rt, builder, &options, TEXTS_OF_I8);
     check_lines::<i16>(&rt, builder, &options, "10 0 5 6 0");
     check_lines::<i32>(&rt, builder, &options, TEXTS_OF_I32);
