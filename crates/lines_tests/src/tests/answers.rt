@@ -80,17 +80,10 @@ fn answers_to_known_lines(rt: HostRuntime) {
 
 #[test]
 fn a_line_of_ten_thousand_bytes(rt: HostRuntime) {
-    let mut lines = [*b"00000000"; 1251];
-    lines[1250] = *b"\nu8 2 05";
+    let mut lines = [b'0'; 10007];
+    lines[10000..].copy_from_slice(b"\nu8 2 5");
     let output = b"bad line 1\n101\n";
-    check_slice(
-        &rt,
-        "10000 zeros",
-        lines.as_flattened(),
-        256,
-        output,
-        Ok(false),
-    );
+    check_slice(&rt, "10000 zeros", &lines, 256, output, Ok(false));
 }
 
 #[test]

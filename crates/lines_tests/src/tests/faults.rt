@@ -1,9 +1,12 @@
 // Runs over devices that fail after each number of bytes: a run ends at the first failure, and no byte
 // is lost or written twice.
 
-use crate::tests::checks::{Outcome, check_equal, check_outcome, check_run};
+use crate::tests::checks::{
+    Outcome, UNCHANGED, check_buffer, check_equal, check_outcome, check_run,
+};
 use crate::tests::devices::{Giver, NEVER, Taker};
-use lexical_lines::{Reading, Writing, run};
+use crate::tests::failing::{FailingSink, FailingSource};
+use lexical_lines::{Reading, SliceSource, Writing, run};
 use std::cell::Cell;
 use std::io::ErrorKind;
 use std::process::Abort;
@@ -76,28 +79,28 @@ fn sources_with_a_limit(rt: HostRuntime) {
     check_source(&rt, "u8 10 5\nu8 2 5", 100, NEVER, "5\n101\n", Ok(true));
 }
 
+// A reader, and a source without a reader, each of which yields `position` bytes and then fails.
+fn check_failing_source(
+    rt: &impl Abort,
+    input: &str,
+    position: usize,
+    output: &str,
+    kind: ErrorKind,
+) {
+    check_source(rt, input, 1000, position, output, Err(kind));
+    let mut source = FailingSource::new(input.as_bytes(), position, kind);
+    let row = (input, position, kind);
+    check_run(rt, row, &mut source, 256, output.as_bytes(), Err(kind));
+}
+
 // The source fails after each number of bytes up to the whole input: all lines that have ended are
 // answered, and the error is the source's.
 fn check_sources(rt: &impl Abort, case: Case) {
     let (input, _, _, newlines) = case;
     for position in 0..=input.len() {
         let output = answered(newlines, position);
-        check_source(
-            rt,
-            input,
-            1000,
-            position,
-            output,
-            Err(ErrorKind::Interrupted),
-        );
-        check_source(
-            rt,
-            input,
-            1000,
-            position,
-            output,
-            Err(ErrorKind::BrokenPipe),
-        );
+        check_failing_source(rt, input, position, output, ErrorKind::Interrupted);
+        check_failing_source(rt, input, position, output, ErrorKind::BrokenPipe);
     }
 }
 
@@ -123,6 +126,25 @@ fn check_sink(rt: &impl Abort, input: &str, piece: usize, output: &[u8], expecte
     let row = (input, piece, output.len(), expected);
     check_outcome(rt, row, ran, expected);
     check_equal(rt, row, sink.into_inner().taken(), Some(output));
+    check_failing_sink(rt, input, piece, output, expected);
+}
+
+// The same with a sink without a writer.
+fn check_failing_sink(
+    rt: &impl Abort,
+    input: &str,
+    piece: usize,
+    output: &[u8],
+    expected: Outcome,
+) {
+    let kind = expected.err().unwrap_or(ErrorKind::Other);
+    let mut buffer = UNCHANGED;
+    let mut sink = FailingSink::new(&mut buffer, piece, output.len(), kind);
+    let ran = run(&mut SliceSource::new(input.as_bytes()), &mut sink);
+    let row = (input, piece, output.len(), expected);
+    check_outcome(rt, row, ran, expected);
+    check_equal(rt, row, sink.len(), output.len());
+    check_buffer(rt, row, &buffer, output);
 }
 
 // The sink takes all bytes at once, or one byte in each call. It fails after each number of bytes below the

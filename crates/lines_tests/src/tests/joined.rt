@@ -38,7 +38,7 @@ fn check_joined<T: ToLexicalWithOptions>(
 #[test]
 fn no_values_and_three(rt: HostRuntime) {
     let options = Options::new();
-    let none = [0u32; 0];
+    let none = [0i8; 0];
     let count = write_joined(&none, b',', &mut [], &STANDARD, &options);
     check_equal(&rt, "no values", count, 0);
     check_joined(&rt, &none, b',', 0, &STANDARD, &options, "");
