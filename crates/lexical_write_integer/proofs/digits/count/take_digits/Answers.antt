@@ -1,7 +1,7 @@
 use Rattle.std.proofs.Common.{◌^◌, ◌≤◌, arith}
 use Rattle.lexical_write_integer.proofs.OfDigits.Count.DigitCounts.{digit_count-le_64}
 use Rattle.lexical_write_integer.proofs.OfDigits.Radix.Loops.Divisions.{IsDivided-start, IsDivided-more, TakesDigits-end, TakesDigits-none, left-smaller}
-use Rattle.lexical_write_integer.proofs.OfDigits.Count.RadixPowers.{power-gt_one, step-le_4}
+use Rattle.lexical_write_integer.proofs.OfDigits.Count.RadixPowers.{power-gt_one}
 use Rattle.lexical_write_integer.proofs.digits.count.take_digits.Goals as goal
 use Rattle.lexical_write_integer.proofs.digits.count.take_digits.Goals.{In-loop-power}
 
@@ -18,11 +18,6 @@ loop-power-init g c = IsDivided-start
 pub divide_and_record-left-requires : goal.divide_and_record-left-requires
 divide_and_record-left-requires g c = omega (arith, c.in-Some.ensures.power, power-gt_one _ _ c.requires.radix.at_least_two c.requires.step)
 
-pub overflow_add-taken : goal.overflow_add-taken
-overflow_add-taken g c =
-    let narrow = digit_count-le_64 _ _ _ c.requires.radix.at_least_two g.met.T.UnsignedInteger.range.width c.fits_bits.ensures in
-    omega (arith, c.loop-power.invariant.fewer, step-le_4 _ c.requires.step)
-
 pub loop-power-smaller : goal.loop-power-smaller
 loop-power-smaller g c =
     left-smaller c.requires.radix.at_least_two c.requires.step (long g (goal.at.loop-power-smaller g c).In-loop-power)
@@ -35,4 +30,6 @@ loop-power-preserved g c =
 
 pub returns : goal.returns
 returns g c =
-    TakesDigits-end c.requires.radix.at_least_two c.requires.step c.loop-power.invariant (grind (arith, c.is_at_least.ensures, c.in-Some.ensures.power))
+    let narrow = digit_count-le_64 _ _ _ c.requires.radix.at_least_two g.met.T.UnsignedInteger.range.width c.fits_bits.ensures in
+    TakesDigits-end c.requires.radix.at_least_two c.requires.step c.loop-power.invariant
+        (grind (arith, c.is_at_least.ensures, c.in-Some.ensures.power, c.loop-power.invariant.fewer, narrow))
