@@ -21,13 +21,18 @@
 //! bad line 4
 //! ```
 //!
-//! `run` reads lines from a source and writes their answers to a sink, here a vector (`answers_to` in
-//! `crates/uses/src/answers.rt`):
+//! `run` reads lines from a source and writes their answers to a sink, and returns whether all lines are
+//! valid. Both devices are here over slices:
 //!
 //! ```
-//! let mut sink = Writing::new(Vec::new(alloc));
-//! run(source, &mut sink)?;
-//! Ok(sink.into_inner())
+//! use lexical_lines::{SliceSink, SliceSource, run};
+//!
+//! let mut buffer = [0; 40];
+//! let mut sink = SliceSink::new(&mut buffer);
+//! let valid = run(&mut SliceSource::new(b"i8 10 -128\nu8 37 5\n"), &mut sink).unwrap_or(false);
+//! let length = sink.len();
+//! assert!(rt; !valid);
+//! assert_eq!(rt; &buffer[..length], b"-128\nbad line 2\n".as_slice());
 //! ```
 //!
 //! `write_joined` writes several numbers, and `join` returns their text (`length_of_joined_texts` in

@@ -3,21 +3,27 @@
 //! A builder makes a format. `build` returns an error if a part of the format is invalid:
 //!
 //! ```
-//! NumberFormatBuilder::new()
-//!     .mantissa_radix(mantissa_radix)
-//!     .exponent_radix(exponent_radix)
-//!     .build()
+//! use lexical_num::{NumberFormat, NumberFormatBuilder, Result};
+//!
+//! fn float_format(mantissa_radix: u8, exponent_radix: u8) -> Result<NumberFormat> {
+//!     NumberFormatBuilder::new()
+//!         .mantissa_radix(mantissa_radix)
+//!         .exponent_radix(exponent_radix)
+//!         .build()
+//! }
 //! ```
 //!
 //! `build_strict` requires valid parts, and returns the format itself:
 //!
 //! ```
+//! use lexical_num::NumberFormatBuilder;
+//!
 //! let thousands = NumberFormatBuilder::new()
 //!     .digit_grouping(3, b',')
 //!     .build_strict();
 //! ```
 //!
-//! These lines are from `float_format` in `crates/uses/src/float_parts.rt` and from `a_first_use` in
+//! These lines are from `crates/uses/src/float_parts.rt`, and from `a_first_use` in
 //! `crates/uses_tests/src/tests.rt`.
 #![tactic(auto)]
 

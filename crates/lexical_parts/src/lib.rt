@@ -2,6 +2,8 @@
 //! says what the text is, and one call writes it to a buffer:
 //!
 //! ```
+//! use lexical_parts::{Decimal, Padded, PaddedDigits, Part};
+//!
 //! let mut buffer = [7; 40];
 //! let date = (
 //!     Padded(2026u16, 4),

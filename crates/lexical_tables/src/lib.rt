@@ -1,19 +1,15 @@
 //! Tables of digit pairs, one for each radix from 2 to 36.
 //!
 //! The table of a radix holds the characters of the two digits of each number below the square of the
-//! radix, so a writer gets two digits from one look-up. Here each byte of an array is written in
-//! hexadecimal:
+//! radix, so a writer gets two digits from one look-up. Here a byte is written in hexadecimal:
 //!
 //! ```
+//! use lexical_tables::get_table;
+//!
 //! let table = get_table(16);
-//! for (i, byte) in bytes.iter().enumerate() {
-//!     let pair = 2 * *byte as usize;
-//!     dump[2 * i] = table[pair];
-//!     dump[2 * i + 1] = table[pair + 1];
-//! }
+//! let pair = 2 * 0xA7;
+//! assert_eq!(rt; [table[pair], table[pair + 1]], *b"A7");
 //! ```
-//!
-//! These lines are the body of `write_dump` in `crates/uses/src/hex_dump.rt`.
 #![tactic(auto)]
 
 ghost use Rattle.std.specs.Prelude.{◌≡◌, ℕ, ◌+◌, ◌*◌, ◌/◌, ◌%◌, ◌<◌, ◌≤◌, length, slice_index};

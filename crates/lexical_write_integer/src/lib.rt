@@ -4,6 +4,8 @@
 //! of the buffer changes:
 //!
 //! ```
+//! use lexical_write_integer::ToLexical;
+//!
 //! let mut buffer = [7u8; 20];
 //! let text = 1234u64.to_lexical(&mut buffer);
 //! assert_eq!(rt; &*text, b"1234".as_slice());
@@ -13,6 +15,9 @@
 //! `to_lexical_with_options` writes it in a format, with a required sign, in another radix or in groups:
 //!
 //! ```
+//! use lexical_write_integer::{NumberFormatBuilder, Options, ToLexicalWithOptions};
+//!
+//! let mut buffer = [7u8; 20];
 //! let signed = NumberFormatBuilder::new()
 //!     .required_mantissa_sign(true)
 //!     .build_strict();

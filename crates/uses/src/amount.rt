@@ -40,7 +40,8 @@ pub fn write_amount(cents: i64, buffer: &mut [u8; 30]) -> usize
         then IsStr "." then IsPadded 10 2 (unsigned_abs cents % 100)) buffer.old buffer.new result }
 {
     let units = cents.unsigned_abs();
-    let whole = Formatted(units / 100, &in_thousands());
+    let format = in_thousands();
+    let whole = Formatted(units / 100, &format);
     (sign(cents), whole, ".", Padded(units % 100, 2)).write_to(buffer)
 }
 

@@ -13,9 +13,11 @@ use lexical_num::format::NumberFormat;
 ///
 /// The bytes are moved from the last to the first, so no digit is overwritten before it has moved:
 ///
-///     1234567      the digits
-///     12345,567    after four bytes
-///     1,234,567    after all
+/// ```text
+/// 1234567      the digits
+/// 12345,567    after four bytes
+/// 1,234,567    after all
+/// ```
 pub fn group_digits(count: usize, format: &NumberFormat, buffer: &mut [u8]) -> usize
     requires some { 1 ≤ count }
     requires room { grouped_length format.now.digit_grouping count ≤ length buffer.old }

@@ -1,0 +1,3 @@
+fn main() {
+    strip::build("lexical_num", &[]);
+}

@@ -1,0 +1,6 @@
+#![doc = include_str!(concat!(env!("OUT_DIR"), "/lexical_parts/lib.md"))]
+#![doc = include_str!("../../conditions.md")]
+#![forbid(unsafe_code)]
+#![allow(unused_imports, unused_variables, reason = "contracts use them")]
+#![allow(clippy::single_match, reason = "a proof follows the arms of a `match`")]
+include!(concat!(env!("OUT_DIR"), "/lexical_parts/lib.rs"));

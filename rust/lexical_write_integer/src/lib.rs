@@ -1,0 +1,5 @@
+#![doc = include_str!(concat!(env!("OUT_DIR"), "/lexical_write_integer/lib.md"))]
+#![doc = include_str!("../../conditions.md")]
+#![forbid(unsafe_code)]
+#![allow(unused_imports, unused_variables, reason = "contracts use them")]
+include!(concat!(env!("OUT_DIR"), "/lexical_write_integer/lib.rs"));

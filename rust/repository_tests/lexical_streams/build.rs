@@ -1,0 +1,3 @@
+fn main() {
+    strip::build_changed("../../../crates/lexical_streams", &[], runtime::without_runtime);
+}

@@ -1,0 +1,3 @@
+fn main() {
+    strip::build_changed("../../../crates/uses", &[], runtime::without_runtime);
+}
