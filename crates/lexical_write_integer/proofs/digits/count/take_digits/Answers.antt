@@ -32,4 +32,4 @@ pub returns : goal.returns
 returns g c =
     let narrow = digit_count-le_64 _ _ _ c.requires.radix.at_least_two g.met.T.UnsignedInteger.range.width c.fits_bits.ensures in
     TakesDigits-end c.requires.radix.at_least_two c.requires.step c.loop-power.invariant
-        (grind (arith, c.is_at_least.ensures, c.in-Some.ensures.power, c.loop-power.invariant.fewer, narrow))
+    (grind (arith, c.is_at_least.ensures, c.in-Some.ensures.power, c.loop-power.invariant.fewer, narrow))
