@@ -5,3 +5,4 @@ mod devices;
 mod faults;
 mod joined;
 mod lines;
+mod stream;
