@@ -58,7 +58,7 @@ KeepsReader-reflexive remaining a = record {
 }
 
 -- if the remaining bytes of a reader are known, they are still known after it has yielded some
-still-told : (before after : Option (List ℕ)) (bytes : List ℕ) → Consumes before after bytes → IsSome before
+pub still-told : (before after : Option (List ℕ)) (bytes : List ℕ) → Consumes before after bytes → IsSome before
     → IsSome after
 still-told None after bytes gave told = absurd (cc told)
 still-told (Some xs) None bytes gave told = absurd gave

@@ -1,5 +1,5 @@
 -- The states of `BlockReader` and `BlockWriter` in contracts.
-use Rattle.std.specs.Prelude.{◌≡◌, ◌⊎◌, ℕ, ◌+◌, Bool, List, [], ◌++◌, length, Option}
+use Rattle.std.specs.Prelude.{◌≡◌, ◌⊎◌, ℕ, ◌+◌, Bool, true, List, [], ◌++◌, length, Option, IsSome}
 use Rattle.std.specs.Io.KnownBytes.{Appends, Consumes, IsAtEnd}
 use Rattle.lexical_lines.specs.RunOutcome.{added}
 
@@ -30,15 +30,17 @@ taken w = w.written ++ w.held
 
 -- ---- from one state to a later one
 
--- the source yielded these bytes, and they count towards the limit
+-- the reader is at its limit, or its source is at the end
+abbrev pub IsUsedUp : BlockReading → Type 0
+IsUsedUp r = (r.left ≡ 0) ⊎ IsAtEnd r.remaining
+
+-- the source yielded these bytes, and they count towards the limit. If the remaining bytes of the source are known, the
+-- reader reports its end only once it is used up
 pub record Yields (a b : BlockReading) (more : List ℕ) : Type 0 where
   pub given : b.given ≡ a.given ++ more
   pub left : b.left + length more ≡ a.left
   pub bytes : Consumes a.remaining b.remaining more
-
--- the reader is at its limit, or its source is at the end
-abbrev pub IsUsedUp : BlockReading → Type 0
-IsUsedUp r = (r.left ≡ 0) ⊎ IsAtEnd r.remaining
+  pub at_end : IsSome a.remaining → (a.is_ended ≡ true → IsUsedUp a) → b.is_ended ≡ true → IsUsedUp b
 
 -- the sink took these bytes, and contains them
 pub record Writes (a b : BlockWriting) (more : List ℕ) : Type 0 where

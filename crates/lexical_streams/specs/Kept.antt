@@ -4,11 +4,17 @@ use Rattle.std.proofs.Common.{sym, ap, ◌∙◌, subst, append_assoc, arith, le
 use Rattle.std.proofs.KnownBytes.{Appends-nil, Appends-trans, Consumes-nil, Consumes-trans}
 use Rattle.std.proofs.lemmas.List.{append-nil}
 use Rattle.lexical_lines.specs.RunOutcome.{added}
+use Rattle.lexical_lines.specs.Stream.{still-told}
 use Rattle.lexical_lines.proofs.Added.{added-is, grown-once}
 use Rattle.lexical_streams.specs.Blocks.{BlockReading, BlockWriting, taken, Yields, Writes, KeepsBytes}
 
 pub Yields-none : (a : BlockReading) → Yields a a []
-Yields-none a = record { given = sym (append-nil a.given); left = omega arith; bytes = Consumes-nil a.remaining }
+Yields-none a = record {
+  given = sym (append-nil a.given);
+  left = omega arith;
+  bytes = Consumes-nil a.remaining;
+  at_end = λ _ used. used;
+}
 
 pub Yields-both : (a b c : BlockReading) (more others : List ℕ) → Yields a b more → Yields b c others
     → Yields a c (more ++ others)
@@ -16,6 +22,7 @@ Yields-both a b c more others p q = record {
   given = q.given ∙ ap (λ front. front ++ others) p.given ∙ append_assoc a.given more others;
   left = omega (arith, length-append more others, p.left, q.left);
   bytes = Consumes-trans a.remaining b.remaining c.remaining more others p.bytes q.bytes;
+  at_end = λ told used. q.at_end (still-told a.remaining b.remaining more p.bytes told) (p.at_end told used);
 }
 
 -- appending twice is appending

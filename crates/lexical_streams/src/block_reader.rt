@@ -75,6 +75,7 @@ impl<S: BlockSource> BlockReader<S> {
         ensures within { IfOk result (λ count. count ≤ length block.new) }
         ensures yields { Yields self.old self.new (take (taken_by result) block.new) }
         ensures ended { result ≡ Ok 0 → self.new.is_ended ≡ true }
+        ensures ended_only { self.new.is_ended ≡ true → self.old.is_ended ≡ false → result ≡ Ok 0 }
         ensures used_up { result ≡ Ok 0 → IsUsedUp self.new }
         ensures calls { self.new.calls ≡ self.old.calls + 1 }
         ensures faults { self.new.faults ≡ self.old.faults + faults_of result }

@@ -136,12 +136,13 @@ impl<K: BlockSink, const SIZE: usize> ByteSink for BlockWriter<K, SIZE> {
     ghost keeps_transitive = { KeepsBytes-transitive };
 
     /// Takes the prefix of `bytes` that fits into the block, and returns its length. The sink is called
-    /// only if the block is full.
+    /// only if the block is full, and is not flushed.
     fn put(&mut self, bytes: &[u8]) -> io::Result<usize>
         ensures within { IfOk result (λ count. count ≤ length bytes.now) }
         ensures taken { taken self.new ≡ taken self.old ++ take (taken_by result) bytes.now }
         ensures faults { self.new.faults ≡ self.old.faults + put_faults result bytes.now }
         ensures kept { KeepsBytes self.old self.new }
+        ensures flushes { self.new.flushes ≡ self.old.flushes }
         ensures count { length self.old.held < SIZE
             → result ≡ Ok (min (length bytes.now) (SIZE - length self.old.held)) }
         ensures held { length self.old.held < SIZE

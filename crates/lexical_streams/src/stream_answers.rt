@@ -39,7 +39,7 @@ pub fn answer_lines(rt: HostRuntime) -> u8
 /// So an answer never waits for the next line. After a failure neither device is called.
 ///
 /// The block of 128 KiB that is read into is on the stack. With a `BlockWriter` of 16 KiB, a call uses
-/// about 160 KB of stack, or 500 KB if Rattle's own compiler builds it, and no other memory.
+/// about 160 KB of stack, or 180 KB if Rattle's own compiler builds it, and no other memory.
 pub fn answer_stream<S: BlockSource, K: BlockSink, const SIZE: usize>(
     reader: &mut BlockReader<S>,
     writer: &mut BlockWriter<K, SIZE>,

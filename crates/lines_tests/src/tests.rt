@@ -6,3 +6,4 @@ mod failing;
 mod faults;
 mod joined;
 mod lines;
+mod stream;

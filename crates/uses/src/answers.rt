@@ -1,8 +1,8 @@
 //! Collects the answers to lines in a vector.
 
-ghost use Rattle.std.specs.Prelude.{◌≡◌, ◌+◌, ◌++◌, IfOk, IsTrue, OnOk};
+ghost use Rattle.std.specs.Prelude.{◌≡◌, ◌⊎◌, List, ℕ, ◌+◌, ◌++◌, IfOk, IsTrue, OnErr, OnOk};
 ghost use Rattle.lexical_lines.specs.Answer.{AnswersAll};
-ghost use Rattle.lexical_lines.specs.RunOutcome.{added, TellsAllGood};
+ghost use Rattle.lexical_lines.specs.RunOutcome.{added, TellsAllGood, BreaksOff};
 ghost use Rattle.lexical_lines.specs.Source.{faults_of};
 
 use lexical_lines::{Answerer, ByteSink, ByteSource, Writing, run};
@@ -10,12 +10,15 @@ use std::alloc::Global;
 use std::io;
 
 /// Reads a source to its end, and returns the answers to its lines. The error is that of the source, or
-/// an allocation failure.
+/// an allocation failure during the answer to a line.
 #[tactic(auto, using(lexical_lines::proofs::Writers::answers_held))]
 pub fn answers_to<S: ByteSource>(alloc: Global, source: &mut S) -> io::Result<Vec<u8>>
     ensures ended { OnOk result (IsTrue (S.is_ended source.new)) }
     ensures answers { IfOk result (λ answers.
         AnswersAll (added (S.given source.old) (S.given source.new)) answers.items) }
+    ensures err { OnErr result ((S.faults source.new ≡ S.faults source.old + 1)
+        ⊎ ((put : List ℕ) × BreaksOff (S.is_ended source.new)
+        (added (S.given source.old) (S.given source.new)) put)) }
 {
     let mut sink = Writing::new(Vec::new(alloc));
     run(source, &mut sink)?;

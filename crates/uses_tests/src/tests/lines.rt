@@ -65,6 +65,30 @@ fn texts_as_str(rt: HostRuntime) {
     assert_eq!(rt; name.try_to_str(&mut buffer[..4]), None);
 }
 
+// Every byte after a text is unchanged, and the whole buffer if it is shorter than the room of the part, which is
+// 8 here.
+#[test]
+fn bytes_after_a_text(rt: HostRuntime) {
+    let part = (Decimal(-5i8), " °C");
+    let text = "-5 °C";
+    let mut buffer = [7; 12];
+    assert_eq!(rt; &*part.to_text(&mut buffer), text.as_bytes());
+    check_buffer(&rt, &buffer, 6, text.as_bytes());
+    let mut buffer = [7; 12];
+    assert_eq!(rt; part.try_write_to(&mut buffer), Some(6));
+    check_buffer(&rt, &buffer, 6, text.as_bytes());
+    let mut buffer = [7; 12];
+    assert_eq!(rt; part.to_str(&mut buffer), text);
+    check_buffer(&rt, &buffer, 6, text.as_bytes());
+    let mut buffer = [7; 12];
+    assert_eq!(rt; part.try_to_str(&mut buffer), Some(text));
+    check_buffer(&rt, &buffer, 6, text.as_bytes());
+    let mut short = [7; 7];
+    assert_eq!(rt; part.try_write_to(&mut short), None);
+    assert_eq!(rt; part.try_to_str(&mut short), None);
+    check_buffer(&rt, &short, 0, b"");
+}
+
 #[test]
 fn rows_of_numbers(rt: HostRuntime) {
     let mut buffer = [7; 168];

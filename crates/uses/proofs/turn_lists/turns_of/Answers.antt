@@ -14,10 +14,3 @@ returns-clause-turns g c =
       slow.turns ∙ rw (c.new-slow.ensures, slow.count, digits) (omega arith),
       compact.turns ∙ rw (c.new-compact.ensures, compact.digits.count, digits) (omega arith),
     )
-
--- the check finds these proofs by itself, but with an answer the refusal of a mistake says what is wrong
-pub returns-clause-slow : goal.returns-clause-slow
-returns-clause-slow g c = rw c.new-slow.ensures at c.slow_digit_count_counted.ensures.notes
-
-pub returns-clause-compact : goal.returns-clause-compact
-returns-clause-compact g c = rw c.new-compact.ensures at c.compact_counted.ensures.notes
