@@ -11,10 +11,3 @@ pub fn format_of_the_smallest_radix() -> NumberFormat {
 pub fn format_of_the_largest_exponent_radix() -> NumberFormat {
     NumberFormatBuilder::new().exponent_radix(36).build_strict()
 }
-
-/// Returns the decimal format with the largest group size and the last byte that can separate groups.
-pub fn format_with_the_longest_groups() -> NumberFormat {
-    NumberFormatBuilder::new()
-        .digit_grouping(64, 126)
-        .build_strict()
-}
