@@ -36,7 +36,7 @@
 //! ```
 //!
 //! `write_joined` writes several numbers, and `join` returns their text (`length_of_joined_texts` in
-//! `crates/uses/src/conditions.rt`).
+//! `crates/refused_calls/src/texts.rt`).
 #![tactic(auto)]
 
 // Several numbers with a separator between them.

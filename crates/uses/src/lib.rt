@@ -1,5 +1,5 @@
 //! Examples of callers. Each module writes something that a program may need, and is proved from
-//! nothing but the contracts of the functions that it calls. The module `conditions` has calls whose
+//! nothing but the contracts of the functions that it calls. The crate `refused_calls` has calls whose
 //! conditions only just hold.
 #![tactic(auto)]
 
@@ -7,7 +7,6 @@ pub mod amount;
 pub mod answers;
 pub mod any_format;
 pub mod arena;
-pub mod conditions;
 pub mod csv_row;
 pub mod date_time;
 pub mod digest;
