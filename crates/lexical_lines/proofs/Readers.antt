@@ -1,5 +1,5 @@
 -- The bytes that a source has read from a reader.
-use Rattle.std.proofs.Common.{◌≡◌, ◌⊎◌, ℕ, ◌+◌, true, false, List, [], ◌++◌, length, take, Option, Some, None, IsSome, IfSome, refl, sym, ap, subst, ◌∙◌, inl}
+use Rattle.std.proofs.Common.{◌≡◌, ◌⊎◌, ℕ, ◌+◌, true, List, [], ◌++◌, length, take, Option, Some, None, IsSome, IfSome, refl, sym, ap, subst, ◌∙◌, inl}
 use Rattle.std.proofs.Common.{inr, arith}
 use Rattle.std.proofs.lemmas.List.{append-nil, take_at, take_all}
 use Rattle.std.specs.Io.KnownBytes.{Consumes, IsAtEnd}
@@ -7,7 +7,6 @@ use Rattle.std.proofs.Common.{◌∷◌, length-append}
 use Rattle.std.proofs.Math.Seq.{take-append_seam}
 use lib.ListN.{get_or}
 use Rattle.lexical_lines.proofs.Added.{added-is}
-use Rattle.lexical_lines.specs.RunOutcome.{added}
 use Rattle.lexical_lines.specs.Stream.{StreamReading, KeepsReader, IsUsedUp}
 
 pub given-of : (before after : Option (List ℕ)) (given : List ℕ) (limit left : ℕ) → Consumes before after given → left + length given ≡ limit

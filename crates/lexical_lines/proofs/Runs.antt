@@ -1,5 +1,5 @@
 -- What an answerer has done so far, and how a run ends.
-use Rattle.std.proofs.Common.{rules, ◌≡◌, ◌↔◌, ℕ, ◌+◌, ◌-◌, ◌^◌, min, Bool, true, false, List, [], ◌∷◌, ◌++◌, length, ◌≤◌, Some, refl, sym, ap, ◌∙◌, arith}
+use Rattle.std.proofs.Common.{◌≡◌, ◌↔◌, ℕ, ◌+◌, ◌-◌, ◌^◌, min, Bool, true, false, List, [], ◌∷◌, ◌++◌, length, refl, sym, ap, ◌∙◌, arith}
 use Rattle.std.proofs.Common.{append_assoc, IsTrue, length-append, inl, inr, ◌&&◌, ◌⊎◌}
 use Rattle.std.specs.List.{All}
 use Rattle.std.proofs.Common.{Result, Ok, Err}
@@ -15,7 +15,7 @@ use Rattle.lexical_lines.specs.Request.{IsGood}
 use Rattle.lexical_lines.specs.RunOutcome.{added, BreaksOff}
 use Rattle.lexical_lines.specs.Sink.{IsBeginning}
 use Rattle.lexical_lines.proofs.Added.{added-is, grown-once}
-use Rattle.lexical_lines.proofs.Lines.{IsInside, IsCut-none, IsCut-byte, IsCut-more, IsCut-newline, AreLines-ended, AreLines-rest}
+use Rattle.lexical_lines.proofs.Lines.{IsInside, IsCut-byte, IsCut-more, IsCut-newline, AreLines-ended, AreLines-rest}
 use Rattle.std.proofs.lemmas.List.{append-nil}
 
 -- ---- the answer to the next line

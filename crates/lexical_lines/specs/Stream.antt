@@ -1,11 +1,12 @@
 -- The states of `Reading` and `Writing` in contracts.
-use Rattle.std.specs.Prelude.{◌≡◌, ◌⊎◌, ℕ, ◌+◌, Bool, true, List, ◌++◌, length, Option, Some, None, IsSome, refl}
+use Rattle.std.specs.Prelude.{◌≡◌, ◌⊎◌, ℕ, ◌+◌, Bool, true, List, length, Option, Some, None, IsSome, refl}
 use Rattle.std.specs.Io.{StartsWith}
 use Rattle.std.specs.Io.KnownBytes.{Consumes, IsAtEnd}
 use Rattle.std.proofs.Common.{◌∙◌, sym, subst}
 use Rattle.std.proofs.KnownBytes.{Consumes-nil, Consumes-more}
 use Rattle.std.proofs.Math.Seq.{take-length, drop-length}
 use Rattle.std.proofs.Transfers.{starts_with_trans}
+use Rattle.lexical_lines.specs.Puts.{PutsOnly, PutsOnly-reflexive, PutsOnly-transitive}
 use Rattle.lexical_lines.specs.RunOutcome.{added}
 
 -- a source that reads from a reader: the reader, the number of bytes that it may still yield, whether it has reported
@@ -17,10 +18,13 @@ pub record StreamReading (R : Type 0) : Type 0 where
   pub given : List ℕ
   pub faults : ℕ
 
--- a sink that writes to a writer: the writer, the bytes that were taken, and the number of failures
+-- a sink that writes to a writer: the writer, the bytes that were taken, those of them that are not flushed, and the
+-- numbers of flushes that succeeded and of failures
 pub record StreamWriting (W : Type 0) : Type 0 where
   pub writer : W
   pub taken : List ℕ
+  pub unflushed : List ℕ
+  pub flushes : ℕ
   pub faults : ℕ
 
 -- ---- what calls of a source leave unchanged
@@ -40,11 +44,9 @@ pub record KeepsReader {R : Type 0} (remaining : R → Option (List ℕ)) (a b :
 
 -- ---- what calls of a sink leave unchanged
 
--- if the contents of the writer were some bytes followed by those that the sink had taken, they are now the same bytes
--- followed by those that the sink has taken now
+-- the writer contains the bytes that the sink took, they are not flushed, and there was no flush
 abbrev pub KeepsWriter : {W : Type 0} → (W → Option (List ℕ)) → StreamWriting W → StreamWriting W → Type 0
-KeepsWriter contents a b = (before : List ℕ) → contents a.writer ≡ Some (before ++ a.taken)
-    → contents b.writer ≡ Some (before ++ b.taken)
+KeepsWriter contents = PutsOnly (λ s. s.taken) (λ s. s.unflushed) (λ s. contents s.writer) (λ s. s.flushes)
 
 -- ---- proofs that ghost members cite
 
@@ -75,8 +77,8 @@ KeepsReader-transitive remaining a b c p q = record {
 
 pub KeepsWriter-reflexive : {W : Type 0} (contents : W → Option (List ℕ)) (a : StreamWriting W)
     → KeepsWriter contents a a
-KeepsWriter-reflexive contents a before holds = holds
+KeepsWriter-reflexive contents = PutsOnly-reflexive (λ s. s.taken) (λ s. s.unflushed) (λ s. contents s.writer) (λ s. s.flushes)
 
 pub KeepsWriter-transitive : {W : Type 0} (contents : W → Option (List ℕ)) (a b c : StreamWriting W)
     → KeepsWriter contents a b → KeepsWriter contents b c → KeepsWriter contents a c
-KeepsWriter-transitive contents a b c p q before holds = q before (p before holds)
+KeepsWriter-transitive contents = PutsOnly-transitive (λ s. s.taken) (λ s. s.unflushed) (λ s. contents s.writer) (λ s. s.flushes)

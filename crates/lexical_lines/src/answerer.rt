@@ -170,6 +170,7 @@ fn put_answer<K: ByteSink>(
     ensures puts { PutsMore K.taken K.faults K.keeps sink.old sink.new result }
 {
     let (count, is_good) = write_answer(line, line_number, buffer);
-    put_all(sink, &buffer[..count])?;
+    let (_, put) = put_all(sink, &buffer[..count]);
+    put?;
     Ok(is_good)
 }

@@ -64,7 +64,7 @@ pub use answerer::Answerer;
 pub use exit_status::status;
 pub use joined_text::{join, write_joined};
 pub use line_loop::run;
-pub use sink::ByteSink;
+pub use sink::{BlockSink, ByteSink, put_all};
 pub use slice::{SliceSink, SliceSource, answer_slice};
 pub use source::ByteSource;
 pub use stream::{Reading, Writing};

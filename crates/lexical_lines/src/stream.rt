@@ -6,7 +6,7 @@ ghost use Rattle.std.specs.Io.KnownBytes.{Consumes, IsAtEnd, WriteAppends};
 ghost use Rattle.lexical_lines.specs.Sink.{taken_by, put_faults};
 ghost use Rattle.lexical_lines.specs.Source.{given_by, tells_end, faults_of};
 
-use crate::sink::{ByteSink, note_put};
+use crate::sink::{BlockSink, ByteSink, note_flush, note_put};
 use crate::source::ByteSource;
 use crate::trace::Trace;
 use std::io;
@@ -109,7 +109,8 @@ impl<R: Read> ByteSource for Reading<R> {
     }
 }
 
-/// A sink that writes to a writer. It calls `write` once for each call of `put`.
+/// A sink that writes to a writer. It calls `write` once for each call of `put`, and `flush` once for each
+/// flush.
 #[derive(Drop)]
 pub struct Writing<W> {
     writer: W,
@@ -124,6 +125,8 @@ impl<W> Model for Writing<W> {
     ghost view = { λ s. record {
       writer = s.writer;
       taken = s.trace.bytes;
+      unflushed = s.trace.unflushed;
+      flushes = s.trace.flushes;
       faults = s.trace.faults;
     } };
 }
@@ -133,6 +136,8 @@ impl<W: Write> Writing<W> {
     pub fn new(writer: W) -> Writing<W>
         ensures writer { result.writer ≡ writer }
         ensures taken { result.taken ≡ [] }
+        ensures unflushed { result.unflushed ≡ [] }
+        ensures flushes { result.flushes ≡ 0 }
         ensures faults { result.faults ≡ 0 }
     {
         Writing {
@@ -175,6 +180,23 @@ impl<W: Write> ByteSink for Writing<W> {
     {
         let outcome = self.writer.write(bytes);
         note_put(&mut self.trace, bytes, &outcome);
+        outcome
+    }
+}
+
+impl<W: Write> BlockSink for Writing<W> {
+    ghost contents = { λ s. W.contents s.writer };
+
+    ghost unflushed = { λ s. s.unflushed };
+
+    ghost flushes = { λ s. s.flushes };
+
+    ghost keeps_puts = { λ a b kept. kept };
+
+    /// Calls `flush` of the writer.
+    fn flush(&mut self) -> io::Result<()> {
+        let outcome = self.writer.flush();
+        note_flush(&mut self.trace, &outcome);
         outcome
     }
 }

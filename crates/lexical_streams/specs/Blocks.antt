@@ -20,7 +20,6 @@ pub record BlockWriting : Type 0 where
   pub written : List ℕ
   pub unflushed : List ℕ
   pub held : List ℕ
-  pub writes : ℕ
   pub flushes : ℕ
   pub faults : ℕ
 

@@ -7,7 +7,8 @@ ghost use Rattle.lexical_streams.specs.Blocks.{Yields, IsUsedUp, IsFlushed};
 ghost use Rattle.lexical_streams.specs.StreamAnswers.{AnswersGiven, NoFaultSoFar};
 
 use crate::block_writer::BlockWriter;
-use crate::device::{BlockSink, BlockSource};
+use crate::device::BlockSource;
+use lexical_lines::BlockSink;
 use std::io;
 use std::marker::Model;
 

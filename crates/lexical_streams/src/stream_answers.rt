@@ -10,9 +10,9 @@ ghost use Rattle.std.specs.Prelude.{◌⊎◌};
 
 use crate::block_reader::BlockReader;
 use crate::block_writer::BlockWriter;
-use crate::device::{BlockSink, BlockSource};
-use crate::std_device::{ReadSource, WriteSink};
-use lexical_lines::{Answerer, status};
+use crate::device::BlockSource;
+use crate::std_device::ReadSource;
+use lexical_lines::{Answerer, BlockSink, Writing, status};
 use std::io;
 
 // The writer is flushed before each read, so a larger block leads to fewer, longer writes.
@@ -26,7 +26,7 @@ pub fn answer_lines(rt: HostRuntime) -> u8
     ensures { result ≤ 2 }
 {
     let mut reader = BlockReader::new(ReadSource::new(rt.reader()));
-    let mut writer = BlockWriter::<_, WRITE_BLOCK>::new(WriteSink::new(io::writer(&rt)));
+    let mut writer = BlockWriter::<_, WRITE_BLOCK>::new(Writing::new(io::writer(&rt)));
     answer_stream(&mut reader, &mut writer)
 }
 

@@ -13,7 +13,7 @@ pub returns-then-self-eq0-clause-end : goal.returns-then-self-eq0-clause-end
 returns-then-self-eq0-clause-end g c = rw (sym c.self.view_is) (λ _. inl c.if-self-eq0.true)
 
 pub returns-in-Ok-clause-given : goal.returns-in-Ok-clause-given
-returns-in-Ok-clause-given g c = rw (sym c.self.view_is) (c.note.ensures.bytes ∙ ap (λ bytes. c.self.inside.trace.bytes ++ bytes)
+returns-in-Ok-clause-given g c = rw (sym c.self.view_is) (ap (λ t. t.bytes) c.note.ensures ∙ ap (λ bytes. c.self.inside.trace.bytes ++ bytes)
     (one_byte c.read.new.buf (omega (arith, c.read.auto.buf))))
 
 pub returns-in-Ok-eq0-clause-kept : goal.returns-in-Ok-eq0-clause-kept
@@ -26,7 +26,7 @@ returns-in-Ok-eq0-clause-kept g c =
 pub returns-in-Ok-clause-kept : goal.returns-in-Ok-clause-kept
 returns-in-Ok-clause-kept g c =
     let all = take_all c.in-Ok.field-0 c.read.new.buf (omega (arith, c.read.auto.buf, c.in-Ok.field-0-test.1)) in
-    rw (sym c.self.view_is) (KeepsReader-unended g.R.Read.remaining _ _ c.read.new.buf c.if-self-eq0.false c.note.ensures.bytes
+    rw (sym c.self.view_is) (KeepsReader-unended g.R.Read.remaining _ _ c.read.new.buf c.if-self-eq0.false (ap (λ t. t.bytes) c.note.ensures)
     (omega (arith, c.read.auto.buf, c.if-self-eq0.false)) (subst (Consumes _ _) all c.in-Ok.ensures.bytes.0) refl)
 
 pub returns-in-Ok-clause-bytes : goal.returns-in-Ok-clause-bytes
@@ -36,5 +36,5 @@ returns-in-Ok-clause-bytes g c =
 
 pub returns-in-Err-clause-kept : goal.returns-in-Err-clause-kept
 returns-in-Err-clause-kept g c =
-    rw (sym c.self.view_is) (KeepsReader-unended g.R.Read.remaining _ _ [] c.if-self-eq0.false (c.fault.ensures.bytes ∙ sym (append-nil _))
+    rw (sym c.self.view_is) (KeepsReader-unended g.R.Read.remaining _ _ [] c.if-self-eq0.false (ap (λ t. t.bytes) c.fault.ensures ∙ sym (append-nil _))
     (omega arith) (Consumes-kept _ _ _ [] (Consumes-nil _) c.in-Err.ensures.bytes) refl)
