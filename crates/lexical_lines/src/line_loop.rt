@@ -1,8 +1,8 @@
 // The loop that reads bytes and answers lines.
 
-ghost use Rattle.std.specs.Prelude.{◌≡◌, ◌⊎◌, ◌+◌, ◌++◌, IsTrue, IfOk, OnOk, OnErr};
-ghost use Rattle.lexical_lines.specs.Answer.{AnswersAll, AnswersEnded};
-ghost use Rattle.lexical_lines.specs.RunOutcome.{added, TellsAllGood, BreaksOff};
+ghost use Rattle.std.specs.Prelude.{◌≡◌, ◌⊎◌, ◌+◌, ◌++◌, IfOk, OnErr};
+ghost use Rattle.lexical_lines.specs.Answer.{AnswersEnded};
+ghost use Rattle.lexical_lines.specs.RunOutcome.{added, AnsweredWhole, BreaksOff};
 
 use crate::answerer::Answerer;
 use crate::sink::ByteSink;
@@ -34,16 +34,11 @@ pub fn run<S: ByteSource, K: ByteSink>(source: &mut S, sink: &mut K) -> io::Resu
     ensures kept_sink { K.keeps sink.old sink.new }
 
     // If the run succeeds, no device failed, the source reported its end, and all lines are answered.
-    ensures ok_faults { OnOk result ((S.faults source.new ≡ S.faults source.old)
-        × (K.faults sink.new ≡ K.faults sink.old)) }
-    ensures ok_end { OnOk result (IsTrue (S.is_ended source.new)) }
-    ensures ok_answers { OnOk result
-        (let bytes = added (S.given source.old) (S.given source.new) in
-        let put = added (K.taken sink.old) (K.taken sink.new) in
-        AnswersAll bytes put) }
-    ensures ok_good { IfOk result (λ all_good.
+    ensures ok { IfOk result (λ all_good.
         let bytes = added (S.given source.old) (S.given source.new) in
-        TellsAllGood bytes all_good) }
+        let put = added (K.taken sink.old) (K.taken sink.new) in
+        (S.faults source.new ≡ S.faults source.old) × (K.faults sink.new ≡ K.faults sink.old)
+        × AnsweredWhole (S.is_ended source.new) bytes put all_good) }
 
     // If the run fails, either the source failed, and all lines that ended are answered, or the sink
     // failed during the answer to the last line.

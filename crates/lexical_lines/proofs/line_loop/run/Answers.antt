@@ -1,9 +1,9 @@
 use Rattle.std.proofs.Common.{[], ◌++◌, ◌∙◌, refl, sym, ap, inl, inr, true, ◌≡◌, ◌+◌, arith}
 use Rattle.std.proofs.Math.Bool.{or-true}
 use Rattle.std.proofs.lemmas.List.{append-nil}
-use Rattle.std.proofs.lemmas.Result.{err_from_is_err_and, IfOk-from_err, IfOk-weaker, on_ok_weaker}
+use Rattle.std.proofs.lemmas.Result.{err_from_is_err_and, IfOk-from_err}
 use Rattle.lexical_lines.proofs.Added.{added-is, added-more, grown, grown-once}
-use Rattle.lexical_lines.proofs.Results.{OnOk-from_err, OnOk-no_fault, OnErr-one_fault}
+use Rattle.lexical_lines.proofs.Results.{IfOk-no_fault, OnErr-one_fault}
 use Rattle.lexical_lines.proofs.Runs.{answers_ended, BreaksOff-open}
 use Rattle.lexical_lines.proofs.line_loop.run.Goals as goal
 
@@ -46,17 +46,8 @@ returns-in_err-byte-clause-kept_source g c = g.met.S.ByteSource.keeps_transitive
 pub returns-in_err-byte-clause-kept_sink : goal.returns-in_err-byte-clause-kept_sink
 returns-in_err-byte-clause-kept_sink g c = c.loop-byte.invariant.sink_kept
 
-pub returns-in_err-byte-clause-ok_faults : goal.returns-in_err-byte-clause-ok_faults
-returns-in_err-byte-clause-ok_faults g c = OnOk-from_err c.from_residual.result _ c.from_residual.ensures.0
-
-pub returns-in_err-byte-clause-ok_end : goal.returns-in_err-byte-clause-ok_end
-returns-in_err-byte-clause-ok_end g c = OnOk-from_err c.from_residual.result _ c.from_residual.ensures.0
-
-pub returns-in_err-byte-clause-ok_answers : goal.returns-in_err-byte-clause-ok_answers
-returns-in_err-byte-clause-ok_answers g c = OnOk-from_err c.from_residual.result _ c.from_residual.ensures.0
-
-pub returns-in_err-byte-clause-ok_good : goal.returns-in_err-byte-clause-ok_good
-returns-in_err-byte-clause-ok_good g c = IfOk-from_err c.from_residual.result _ c.from_residual.ensures.0
+pub returns-in_err-byte-clause-ok : goal.returns-in_err-byte-clause-ok
+returns-in_err-byte-clause-ok g c = IfOk-from_err c.from_residual.result _ c.from_residual.ensures.0
 
 pub returns-in_err-byte-clause-err : goal.returns-in_err-byte-clause-err
 returns-in_err-byte-clause-err g c =
@@ -78,17 +69,8 @@ returns-in_err-push-clause-taken g c = grown _ _ _ _ _ c.loop-byte.invariant.rea
 pub returns-in_err-push-clause-kept_sink : goal.returns-in_err-push-clause-kept_sink
 returns-in_err-push-clause-kept_sink g c = g.met.K.ByteSink.keeps_transitive _ _ _ c.loop-byte.invariant.sink_kept c.push.ensures.puts.kept
 
-pub returns-in_err-push-clause-ok_faults : goal.returns-in_err-push-clause-ok_faults
-returns-in_err-push-clause-ok_faults g c = OnOk-from_err c.from_residual-in_err-push.result _ c.from_residual-in_err-push.ensures.0
-
-pub returns-in_err-push-clause-ok_end : goal.returns-in_err-push-clause-ok_end
-returns-in_err-push-clause-ok_end g c = OnOk-from_err c.from_residual-in_err-push.result _ c.from_residual-in_err-push.ensures.0
-
-pub returns-in_err-push-clause-ok_answers : goal.returns-in_err-push-clause-ok_answers
-returns-in_err-push-clause-ok_answers g c = OnOk-from_err c.from_residual-in_err-push.result _ c.from_residual-in_err-push.ensures.0
-
-pub returns-in_err-push-clause-ok_good : goal.returns-in_err-push-clause-ok_good
-returns-in_err-push-clause-ok_good g c = IfOk-from_err c.from_residual-in_err-push.result _ c.from_residual-in_err-push.ensures.0
+pub returns-in_err-push-clause-ok : goal.returns-in_err-push-clause-ok
+returns-in_err-push-clause-ok g c = IfOk-from_err c.from_residual-in_err-push.result _ c.from_residual-in_err-push.ensures.0
 
 pub returns-in_err-push-clause-kept_source : goal.returns-in_err-push-clause-kept_source
 returns-in_err-push-clause-kept_source g c = g.met.S.ByteSource.keeps_transitive _ _ _ c.loop-byte.invariant.source_kept c.in_ok-byte.ensures.kept
@@ -111,24 +93,6 @@ returns-clause-given g c = grown _ _ _ _ _ c.loop-byte.invariant.given c.in_ok-b
 pub returns-clause-taken : goal.returns-clause-taken
 returns-clause-taken g c = grown _ _ _ _ _ c.loop-byte.invariant.read.whole c.finish.ensures.puts.longer
 
-pub returns-clause-ok_faults : goal.returns-clause-ok_faults
-returns-clause-ok_faults g c =
-    let loop = c.loop-byte.invariant in
-    let source : g.S.ByteSource.faults c.next.new.self ≡ g.S.ByteSource.faults c.args.source.now = omega (arith, c.in_ok-byte.ensures.faults, loop.source_faults) in
-    OnOk-no_fault _ _ c.finish.result c.finish.ensures.puts.faults (λ same _. (source, same ∙ loop.sink_faults)) c.finish.ensures.ok
-
-pub returns-clause-ok_answers : goal.returns-clause-ok_answers
-returns-clause-ok_answers g c =
-    let loop = c.loop-byte.invariant in
-    let next = c.in_ok-byte.ensures in
-    let same = added-more _ _ _ _ loop.given (rw c.in_default.is at next.given) ∙ append-nil _ in
-    rw same (on_ok_weaker c.finish.result (λ answers. answers _ _ loop.read) c.finish.ensures.ok)
-
-pub returns-clause-ok_end : goal.returns-clause-ok_end
-returns-clause-ok_end g c =
-    let ended = (rw c.in_default.is at c.in_ok-byte.ensures.ended) ∙ or-true _ in
-    on_ok_weaker c.finish.result (λ _. ended) c.finish.ensures.ok
-
 pub returns-clause-err : goal.returns-clause-err
 returns-clause-err g c =
     let loop = c.loop-byte.invariant in
@@ -145,9 +109,13 @@ returns-clause-kept_source g c = g.met.S.ByteSource.keeps_transitive _ _ _ c.loo
 pub returns-clause-kept_sink : goal.returns-clause-kept_sink
 returns-clause-kept_sink g c = g.met.K.ByteSink.keeps_transitive _ _ _ c.loop-byte.invariant.sink_kept c.finish.ensures.puts.kept
 
-pub returns-clause-ok_good : goal.returns-clause-ok_good
-returns-clause-ok_good g c =
+pub returns-clause-ok : goal.returns-clause-ok
+returns-clause-ok g c =
     let loop = c.loop-byte.invariant in
     let next = c.in_ok-byte.ensures in
+    let finish = c.finish.ensures in
     let same = added-more _ _ _ _ loop.given (rw c.in_default.is at next.given) ∙ append-nil _ in
-    rw same (IfOk-weaker c.finish.result _ _ (λ all_good told. told _ _ loop.read) c.finish.ensures.good)
+    let source : g.S.ByteSource.faults c.next.new.self ≡ g.S.ByteSource.faults c.args.source.now = omega (arith, next.faults, loop.source_faults) in
+    let ended : g.S.ByteSource.is_ended c.next.new.self ≡ true = (rw c.in_default.is at next.ended) ∙ or-true _ in
+    rw same (IfOk-no_fault _ _ c.finish.result finish.puts.faults finish.ok finish.good (λ all_good sink answers told.
+    (source, sink ∙ loop.sink_faults, record { ended = ended; answers = answers _ _ loop.read; good = told _ _ loop.read })))

@@ -7,9 +7,10 @@ pub returns-in-Ok-clause-answered : goal.returns-in-Ok-clause-answered
 returns-in-Ok-clause-answered c =
     let source = c.new-source.ensures in
     let sink = c.new-sink.ensures in
-    let ran = c.in-Ok.ensures in
-    let given = given-ended c.args.input.now source.given source.left source.ended ran.kept_source ran.ok_end in
-    let answers = rw (source.given, given, sink.taken) at ran.ok_answers in
+    let ran = c.run.ensures in
+    let whole = c.in-Ok.ensures.ok.2 in
+    let given = given-ended c.args.input.now source.given source.left source.ended ran.kept_source whole.ended in
+    let answers = rw (source.given, given, sink.taken) at whole.answers in
     Writes-sink sink.taken sink.rest ran.kept_sink answers c.len.ensures (search rules)
 
 pub returns-in-Err-clause-full : goal.returns-in-Err-clause-full
