@@ -1,5 +1,5 @@
 use Rattle.std.proofs.Common.{◌≡◌, ◌-◌, ◌++◌, length, take, drop, sym, ap, ◌∙◌, arith, append_assoc, append-nil}
-use Rattle.std.proofs.Common.{ℕ, zero, suc, List, Ok, refl}
+use Rattle.std.proofs.Common.{ℕ, zero, suc, List, [], ◌∷◌, Ok, refl, length-take, length-drop}
 use lib.Seq.{take-add, take-take}
 use Rattle.lexical_lines.specs.Sink.{put_faults}
 use Rattle.lexical_lines.proofs.sink.put_all.Goals as goal
@@ -8,6 +8,11 @@ use Rattle.lexical_lines.proofs.sink.put_all.Goals as goal
 some-taken : (count : ℕ) (bytes : List ℕ) → (count ≡ 0 → ⊥) → put_faults {E = ℕ} (Ok count) bytes ≡ 0
 some-taken zero bytes some = absurd (some refl)
 some-taken (suc count) bytes some = refl
+
+-- a call that takes none of some bytes is a failure
+none-taken : (bytes : List ℕ) → (length bytes ≡ 0 → ⊥) → put_faults {E = ℕ} (Ok 0) bytes ≡ 1
+none-taken [] some = absurd (some refl)
+none-taken (byte ∷ bytes) some = refl
 
 pub loop-taken-preserved : goal.loop-taken-preserved
 loop-taken-preserved g c =
@@ -34,6 +39,14 @@ returns-in-Err-clause-taken g c = c.in-Err.ensures.taken ∙ append-nil _ ∙ c.
 
 pub returns-in-Ok-eq0-clause-taken : goal.returns-in-Ok-eq0-clause-taken
 returns-in-Ok-eq0-clause-taken g c = (rw c.in-Ok-eq0.field-0-test at c.in-Ok-eq0.ensures.taken) ∙ append-nil _ ∙ c.loop-taken.invariant.taken
+
+pub returns-in-Ok-eq0-clause-faults : goal.returns-in-Ok-eq0-clause-faults
+returns-in-Ok-eq0-clause-faults g c =
+    let done = c.loop-taken.taken in
+    let all = c.args.bytes.now in
+    let rest = take (length all - done) (drop done all) in
+    let some : length rest ≡ 0 → ⊥ = λ none. absurd (omega (arith, none, length-take (length all - done) (drop done all), length-drop done all)) in
+    omega (arith, rw c.in-Ok-eq0.field-0-test at c.in-Ok-eq0.ensures.faults, c.loop-taken.invariant.faults, none-taken rest some)
 
 pub returns-clause-ok : goal.returns-clause-ok
 returns-clause-ok g c = omega arith
