@@ -1,5 +1,6 @@
 -- The states of `Reading` and `Writing` in contracts.
-use Rattle.std.specs.Prelude.{◌≡◌, ◌⊎◌, ℕ, ◌+◌, Bool, true, List, length, Option, Some, None, IsSome, refl}
+use Rattle.std.specs.Prelude.{◌≡◌, ◌⊎◌, ℕ, ◌+◌, Bool, true, List, length, take, Option, Some, None, IsSome, refl}
+use Rattle.std.specs.Option.{option_map}
 use Rattle.std.specs.Io.{StartsWith}
 use Rattle.std.specs.Io.KnownBytes.{Consumes, IsAtEnd}
 use Rattle.std.proofs.Common.{◌∙◌, sym, subst}
@@ -10,12 +11,13 @@ use Rattle.lexical_lines.specs.Puts.{PutsOnly, PutsOnly-reflexive, PutsOnly-tran
 use Rattle.lexical_lines.specs.RunOutcome.{added}
 
 -- a source that reads from a reader: the reader, the number of bytes that it may still yield, whether it has reported
--- its end, the bytes that it has yielded, and the number of failures
+-- its end, the bytes that it has yielded, and the numbers of calls and of failures
 pub record StreamReading (R : Type 0) : Type 0 where
   pub reader : R
   pub left : ℕ
   pub is_ended : Bool
   pub given : List ℕ
+  pub calls : ℕ
   pub faults : ℕ
 
 -- a sink that writes to a writer: the writer, the bytes that were taken, those of them that are not flushed, and the
@@ -28,6 +30,10 @@ pub record StreamWriting (W : Type 0) : Type 0 where
   pub faults : ℕ
 
 -- ---- what calls of a source leave unchanged
+
+-- the bytes that the source will yield, if those of its reader are known
+abbrev pub unread_of : {R : Type 0} → (R → Option (List ℕ)) → StreamReading R → Option (List ℕ)
+unread_of remaining s = option_map (take s.left) (remaining s.reader)
 
 -- the source is at its limit, or its reader is at the end
 abbrev pub IsUsedUp : {R : Type 0} → (R → Option (List ℕ)) → StreamReading R → Type 0

@@ -66,6 +66,6 @@ pub use joined_text::{join, write_joined};
 pub use line_loop::run;
 pub use sink::{BlockSink, ByteSink, put_all};
 pub use slice::{SliceSink, SliceSource, answer_slice};
-pub use source::ByteSource;
+pub use source::{BlockSource, ByteSource};
 pub use stream::{Reading, Writing};
 pub use trace::Trace;

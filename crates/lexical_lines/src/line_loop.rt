@@ -1,8 +1,7 @@
 // The loop that reads bytes and answers lines.
 
-ghost use Rattle.std.specs.Prelude.{◌≡◌, ◌⊎◌, ◌+◌, ◌++◌, IfOk, OnErr};
-ghost use Rattle.lexical_lines.specs.Answer.{AnswersEnded};
-ghost use Rattle.lexical_lines.specs.RunOutcome.{added, AnsweredWhole, BreaksOff};
+ghost use Rattle.std.specs.Prelude.{◌≡◌, ◌⊎◌, ℕ, ◌++◌, IfOk, OnErr};
+ghost use Rattle.lexical_lines.specs.RunOutcome.{added, RunAnswered, SourceFailed, SinkFailed};
 
 use crate::answerer::Answerer;
 use crate::sink::ByteSink;
@@ -37,18 +36,18 @@ pub fn run<S: ByteSource, K: ByteSink>(source: &mut S, sink: &mut K) -> io::Resu
     ensures ok { IfOk result (λ all_good.
         let bytes = added (S.given source.old) (S.given source.new) in
         let put = added (K.taken sink.old) (K.taken sink.new) in
-        (S.faults source.new ≡ S.faults source.old) × (K.faults sink.new ≡ K.faults sink.old)
-        × AnsweredWhole (S.is_ended source.new) bytes put all_good) }
+        let before : ℕ × ℕ = (S.faults source.old, K.faults sink.old) in
+        let after : ℕ × ℕ = (S.faults source.new, K.faults sink.new) in
+        RunAnswered before after (S.is_ended source.new) bytes put all_good) }
 
     // If the run fails, either the source failed, and all lines that ended are answered, or the sink
     // failed during the answer to the last line.
     ensures err { OnErr result
         (let bytes = added (S.given source.old) (S.given source.new) in
         let put = added (K.taken sink.old) (K.taken sink.new) in
-        ((S.faults source.new ≡ S.faults source.old + 1) × (K.faults sink.new ≡ K.faults sink.old)
-        × AnswersEnded bytes put)
-        ⊎ ((S.faults source.new ≡ S.faults source.old) × (K.faults sink.new ≡ K.faults sink.old + 1)
-        × BreaksOff (S.is_ended source.new) bytes put)) }
+        let before : ℕ × ℕ = (S.faults source.old, K.faults sink.old) in
+        let after : ℕ × ℕ = (S.faults source.new, K.faults sink.new) in
+        SourceFailed before after bytes put ⊎ SinkFailed before after (S.is_ended source.new) bytes put) }
 {
     let mut answerer = Answerer::new();
     while let Some(byte) = source.next()? {

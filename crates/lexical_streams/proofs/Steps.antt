@@ -1,16 +1,16 @@
 -- What each step of a run over blocks does: a flush, a read, the answers to a block, and the end.
 use Rattle.std.proofs.Common.{◌≡◌, ℕ, ◌+◌, true, false, List, [], ◌++◌, refl, sym, ap, subst, ◌∙◌, inl, inr, arith, append-nil, append_assoc}
 use Rattle.std.specs.Io.{StartsWith}
-use Rattle.std.specs.Io.KnownBytes.{Appends}
+use Rattle.std.specs.Io.KnownBytes.{Appends, IsAtEnd}
+use Rattle.std.proofs.KnownBytes.{Consumes-all}
 use Rattle.std.proofs.lemmas.List.{append_cancel_left}
 use Rattle.lexical_lines.specs.declared.answerer.Answerer.{Answerer}
 use Rattle.lexical_lines.specs.Answer.{AnswersAll, AnswersEnded}
 use Rattle.lexical_lines.specs.Answerer.{HasAnswered}
 use Rattle.lexical_lines.specs.RunOutcome.{added, BreaksOff}
 use Rattle.lexical_lines.proofs.Added.{added-is}
-use Rattle.lexical_lines.proofs.Readers.{given-of}
 use Rattle.lexical_lines.proofs.Runs.{answers_ended}
-use Rattle.lexical_streams.specs.Blocks.{BlockReading, BlockWriting, taken, Yields, IsUsedUp, KeepsBytes, IsFlushed}
+use Rattle.lexical_streams.specs.Blocks.{BlockReading, BlockWriting, taken, Yields, KeepsBytes, IsFlushed}
 use Rattle.lexical_streams.specs.Kept.{Yields-none, Yields-more, KeepsBytes-reflexive, KeepsBytes-transitive}
 use Rattle.lexical_streams.specs.StreamAnswers.{bytes_read, bytes_put, AnswersGiven, BeginsAnswers, HandedAll, AllAnswered, OneFailed, IsUnderWay}
 use Rattle.lexical_streams.proofs.Begun.{begins-ended, begins-broken, begins-last, begins-all}
@@ -123,12 +123,12 @@ module _ (a b : BlockReading) (c d : BlockWriting) (answerer : Answerer) (h : Is
   })
 
   -- all lines are answered, and the answers are written and flushed
-  pub all-answered : (e f : BlockWriting) → b.is_ended ≡ true → IsUsedUp b → AnswersAll (bytes_read a b) (bytes_put c e)
+  pub all-answered : (e f : BlockWriting) → b.is_ended ≡ true → IsAtEnd b.unread → AnswersAll (bytes_read a b) (bytes_put c e)
       → e.faults ≡ d.faults → KeepsBytes d e → taken f ≡ taken e → f.faults ≡ e.faults → KeepsBytes e f → IsFlushed f → AllAnswered a b c f
   all-answered e f ended used_up all good kept same flushed_good flushed_kept flushed = record {
     no_fault = (h.no_fault.0, flushed_good ∙ good ∙ h.no_fault.1);
     ended = ended;
-    all = given-of a.remaining b.remaining (bytes_read a b) a.left b.left h.read.bytes h.read.left (λ _. used_up);
+    all = Consumes-all a.unread b.unread (bytes_read a b) [] (bytes_read a b) h.read.bytes used_up refl;
     answers = subst (λ xs. AnswersAll (bytes_read a b) xs) (sym (same-put c e f same)) all;
     handed = handed-all c f (KeepsBytes-transitive c e f (KeepsBytes-transitive c d e h.written kept) flushed_kept) flushed;
   }

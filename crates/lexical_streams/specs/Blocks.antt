@@ -1,12 +1,12 @@
 -- The states of `BlockReader` and `BlockWriter` in contracts.
-use Rattle.std.specs.Prelude.{◌≡◌, ◌⊎◌, ℕ, ◌+◌, Bool, List, [], ◌++◌, length, Option}
-use Rattle.std.specs.Io.KnownBytes.{Appends, Consumes, IsAtEnd}
+use Rattle.std.specs.Prelude.{◌≡◌, ℕ, ◌+◌, Bool, List, [], ◌++◌, length, Option}
+use Rattle.std.specs.Io.KnownBytes.{Appends, Consumes}
 use Rattle.lexical_lines.specs.RunOutcome.{added}
 
 -- a reader: the bytes that its source will yield if they are known, the number of bytes that it may still yield, whether
 -- it has reported its end, the bytes that its source has yielded, and the numbers of calls and of failures of the source
 pub record BlockReading : Type 0 where
-  pub remaining : Option (List ℕ)
+  pub unread : Option (List ℕ)
   pub left : ℕ
   pub is_ended : Bool
   pub given : List ℕ
@@ -33,11 +33,7 @@ taken w = w.written ++ w.held
 pub record Yields (a b : BlockReading) (more : List ℕ) : Type 0 where
   pub given : b.given ≡ a.given ++ more
   pub left : b.left + length more ≡ a.left
-  pub bytes : Consumes a.remaining b.remaining more
-
--- the reader is at its limit, or its source is at the end
-abbrev pub IsUsedUp : BlockReading → Type 0
-IsUsedUp r = (r.left ≡ 0) ⊎ IsAtEnd r.remaining
+  pub bytes : Consumes a.unread b.unread more
 
 -- the sink took these bytes, and contains them
 pub record Writes (a b : BlockWriting) (more : List ℕ) : Type 0 where

@@ -8,14 +8,14 @@ use Rattle.lexical_lines.proofs.Added.{added-is, grown-once}
 use Rattle.lexical_streams.specs.Blocks.{BlockReading, BlockWriting, taken, Yields, Writes, KeepsBytes}
 
 pub Yields-none : (a : BlockReading) → Yields a a []
-Yields-none a = record { given = sym (append-nil a.given); left = omega arith; bytes = Consumes-nil a.remaining }
+Yields-none a = record { given = sym (append-nil a.given); left = omega arith; bytes = Consumes-nil a.unread }
 
 pub Yields-both : (a b c : BlockReading) (more others : List ℕ) → Yields a b more → Yields b c others
     → Yields a c (more ++ others)
 Yields-both a b c more others p q = record {
   given = q.given ∙ ap (λ front. front ++ others) p.given ∙ append_assoc a.given more others;
   left = omega (arith, length-append more others, p.left, q.left);
-  bytes = Consumes-trans a.remaining b.remaining c.remaining more others p.bytes q.bytes;
+  bytes = Consumes-trans a.unread b.unread c.unread more others p.bytes q.bytes;
 }
 
 -- appending twice is appending

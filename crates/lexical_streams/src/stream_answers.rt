@@ -2,7 +2,8 @@
 
 ghost use Rattle.std.specs.Prelude.{◌≡◌, ◌<◌, ◌≤◌, true, false, length, [], IfOk, OnOk, OnErr};
 ghost use Rattle.lexical_lines.specs.RunOutcome.{TellsAllGood};
-ghost use Rattle.lexical_streams.specs.Blocks.{BlockReading, BlockWriting, Yields, IsUsedUp, KeepsBytes};
+ghost use Rattle.std.specs.Io.KnownBytes.{IsAtEnd};
+ghost use Rattle.lexical_streams.specs.Blocks.{BlockReading, BlockWriting, Yields, KeepsBytes};
 ghost use Rattle.lexical_streams.specs.StreamAnswers.{bytes_read, AnswersGiven, NoFaultSoFar};
 ghost use Rattle.lexical_streams.specs.StreamAnswers.{AllAnswered, ReaderFailed, WriterFailed, OneFailed};
 ghost use Rattle.lexical_streams.specs.StreamAnswers.{IsUnderWay};
@@ -10,9 +11,7 @@ ghost use Rattle.std.specs.Prelude.{◌⊎◌};
 
 use crate::block_reader::BlockReader;
 use crate::block_writer::BlockWriter;
-use crate::device::BlockSource;
-use crate::std_device::ReadSource;
-use lexical_lines::{Answerer, BlockSink, Writing, status};
+use lexical_lines::{Answerer, BlockSink, BlockSource, Reading, Writing, status};
 use std::io;
 
 // The writer is flushed before each read, so a larger block leads to fewer, longer writes.
@@ -25,7 +24,7 @@ const WRITE_BLOCK: usize = 16 * 1024;
 pub fn answer_lines(rt: HostRuntime) -> u8
     ensures { result ≤ 2 }
 {
-    let mut reader = BlockReader::new(ReadSource::new(rt.reader()));
+    let mut reader = BlockReader::new(Reading::whole(rt.reader()));
     let mut writer = BlockWriter::<_, WRITE_BLOCK>::new(Writing::new(io::writer(&rt)));
     answer_stream(&mut reader, &mut writer)
 }
@@ -105,7 +104,7 @@ fn answer_block<S: BlockSource, K: BlockSink, const SIZE: usize>(
         → IsUnderWay a reader.new c writer.new answerer.new) }
     ensures more { IfOk result (λ more. more ≡ true → reader.new.left < reader.old.left) }
     ensures end { IfOk result (λ more. more ≡ false
-        → (reader.new.is_ended ≡ true) × IsUsedUp reader.new × (reader.new.left ≡ reader.old.left)) }
+        → (reader.new.is_ended ≡ true) × IsAtEnd reader.new.unread × (reader.new.left ≡ reader.old.left)) }
     ensures err { OnErr result ((a : BlockReading) (c : BlockWriting)
         → IsUnderWay a reader.old c writer.old answerer.old
         → OneFailed a reader.new c writer.new) }

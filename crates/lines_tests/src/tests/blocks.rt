@@ -6,8 +6,8 @@ ghost use Rattle.lexical_lines.specs.Answer.{AnswersAll};
 
 use crate::tests::checks::check_equal;
 use crate::tests::devices::Taker;
-use lexical_lines::{ByteSink, Writing};
-use lexical_streams::{BlockReader, BlockWriter, ReadSource, answer_stream};
+use lexical_lines::{ByteSink, Reading, Writing};
+use lexical_streams::{BlockReader, BlockWriter, answer_stream};
 use std::alloc::Global;
 use std::cell::Cell;
 use std::io::ErrorKind;
@@ -19,7 +19,7 @@ const TEXT: &[u8] = b"0123456789abcdef";
 fn answered(alloc: Global, bytes: &[u8]) -> (u8, Vec<u8>)
     ensures { result.0 ≤ 1 → AnswersAll (take (2 ^ 63 - 1) bytes.now) result.1.items }
 {
-    let mut reader = BlockReader::new(ReadSource::new(bytes));
+    let mut reader = BlockReader::new(Reading::whole(bytes));
     let mut writer = BlockWriter::<_, 7>::new(Writing::new(Vec::new(alloc)));
     let status = answer_stream(&mut reader, &mut writer);
     (status, writer.into_inner().into_inner())

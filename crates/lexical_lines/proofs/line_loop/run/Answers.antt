@@ -54,11 +54,11 @@ returns-in_err-byte-clause-err g c =
     let loop = c.loop-byte.invariant in
     let next = c.in_err-byte.ensures in
     let same = added-more _ _ _ _ loop.given next.given ∙ append-nil _ in
-    rw (err_from_is_err_and c.from_residual.result c.from_residual.ensures.1).1 (inl (
-      omega (arith, next.faults, loop.source_faults),
-      loop.sink_faults,
-      rw same (answers_ended loop.read),
-    ))
+    rw (err_from_is_err_and c.from_residual.result c.from_residual.ensures.1).1 (inl (record {
+      source = omega (arith, next.faults, loop.source_faults);
+      sink = loop.sink_faults;
+      answers = rw same (answers_ended loop.read);
+    }))
 
 pub returns-in_err-push-clause-given : goal.returns-in_err-push-clause-given
 returns-in_err-push-clause-given g c = grown _ _ _ _ _ c.loop-byte.invariant.given c.in_ok-byte.ensures.given
@@ -81,11 +81,11 @@ returns-in_err-push-clause-err g c =
     let next = c.in_ok-byte.ensures in
     let more = rw c.in-Some.is at next.given in
     let broke = c.in_err-push.ensures.err _ _ loop.read in
-    rw (err_from_is_err_and c.from_residual-in_err-push.result c.from_residual-in_err-push.ensures.1).1 (inr (
-      omega (arith, next.faults, loop.source_faults),
-      omega (arith, c.in_err-push.ensures.puts.faults, loop.sink_faults),
-      rw (added-more _ _ _ _ loop.given more) (BreaksOff-open (g.S.ByteSource.is_ended c.next.new.self) broke),
-    ))
+    rw (err_from_is_err_and c.from_residual-in_err-push.result c.from_residual-in_err-push.ensures.1).1 (inr (record {
+      source = omega (arith, next.faults, loop.source_faults);
+      sink = omega (arith, c.in_err-push.ensures.puts.faults, loop.sink_faults);
+      answers = rw (added-more _ _ _ _ loop.given more) (BreaksOff-open (g.S.ByteSource.is_ended c.next.new.self) broke);
+    }))
 
 pub returns-clause-given : goal.returns-clause-given
 returns-clause-given g c = grown _ _ _ _ _ c.loop-byte.invariant.given c.in_ok-byte.ensures.given
@@ -101,7 +101,7 @@ returns-clause-err g c =
     let source : g.S.ByteSource.faults c.next.new.self ≡ g.S.ByteSource.faults c.args.source.now = omega (arith, next.faults, loop.source_faults) in
     let ended : g.S.ByteSource.is_ended c.next.new.self ≡ true = (rw c.in_default.is at next.ended) ∙ or-true _ in
     rw (same, ended) (OnErr-one_fault _ _ c.finish.result c.finish.ensures.puts.faults
-    (λ failed broke. inr (source, failed ∙ ap (λ n. n + 1) loop.sink_faults, broke _ _ loop.read)) c.finish.ensures.err)
+    (λ failed broke. inr (record { source = source; sink = failed ∙ ap (λ n. n + 1) loop.sink_faults; answers = broke _ _ loop.read })) c.finish.ensures.err)
 
 pub returns-clause-kept_source : goal.returns-clause-kept_source
 returns-clause-kept_source g c = g.met.S.ByteSource.keeps_transitive _ _ _ c.loop-byte.invariant.source_kept c.in_ok-byte.ensures.kept
@@ -118,4 +118,4 @@ returns-clause-ok g c =
     let source : g.S.ByteSource.faults c.next.new.self ≡ g.S.ByteSource.faults c.args.source.now = omega (arith, next.faults, loop.source_faults) in
     let ended : g.S.ByteSource.is_ended c.next.new.self ≡ true = (rw c.in_default.is at next.ended) ∙ or-true _ in
     rw same (IfOk-no_fault _ _ c.finish.result finish.puts.faults finish.ok finish.good (λ all_good sink answers told.
-    (source, sink ∙ loop.sink_faults, record { ended = ended; answers = answers _ _ loop.read; good = told _ _ loop.read })))
+    record { source = source; sink = sink ∙ loop.sink_faults; ended = ended; answers = answers _ _ loop.read; good = told _ _ loop.read }))

@@ -1,9 +1,8 @@
-// A `ReadSource` and a `Writing` call their reader and their writer once for each call, also after an error.
+// A `Reading` and a `Writing` call their reader and their writer once for each call, also after an error.
 
 use crate::tests::checks::check_equal;
 use crate::tests::devices::{Giver, Taker};
-use lexical_lines::{BlockSink, ByteSink, Writing};
-use lexical_streams::{BlockSource, ReadSource};
+use lexical_lines::{BlockSink, BlockSource, ByteSink, Reading, Writing};
 use std::cell::Cell;
 use std::io;
 use std::io::ErrorKind;
@@ -21,7 +20,7 @@ fn a_source_reads_once_for_each_block(rt: HostRuntime) {
     let flushed = Cell::new(0);
     let mut reader = Giver::new(TEXT, &flushed);
     reader.bad_read = 1;
-    let mut source = ReadSource::new(&mut reader);
+    let mut source = Reading::whole(&mut reader);
     let mut block = [0; 12];
     let outcomes = [
         kind_of(source.read_block(&mut block)),

@@ -7,9 +7,10 @@ pub returns : goal.returns
 returns c = λ low.
     let start = c.new-reader.ensures in
     let output = c.new-writer.ensures in
-    let known = ap (λ r. r.remaining) start ∙ ap (λ s. Some s.now) c.new.ensures.reader in
+    let source = c.whole.ensures in
+    let limited = λ (v : StreamReading _). option_map (take v.left) (Some v.reader.now) in
+    let known = ap (λ r. r.unread) start ∙ ap (λ v. option_map (take v.left) (Some v.reader.now)) c.whole.ensures in
     let none = ap (λ w. w.contents) output ∙ ap (λ v. Some v.items) c.new-3.ensures.writer ∙ ap Some c.new-2.ensures.items in
     let some = sym c.into_inner.ensures.contents ∙ ap (λ v. Some v.items) (sym c.into_inner-2.ensures) in
-    subst (λ left. AnswersAll (take left c.args.bytes.now) c.into_inner-2.result.items) (ap (λ r. r.left) start)
-    (answers-known c.new-reader.result c.answer_stream-status.new.reader c.new-writer.result c.answer_stream-status.new.writer
-    c.args.bytes.now c.into_inner-2.result.items (c.answer_stream-status.ensures.answered low) known (ap (λ w. w.held) output) none some)
+    answers-known c.new-reader.result c.answer_stream-status.new.reader c.new-writer.result c.answer_stream-status.new.writer
+    _ c.into_inner-2.result.items (c.answer_stream-status.ensures.answered low) known (ap (λ w. w.held) output) none some
