@@ -6,7 +6,7 @@ ghost use Rattle.lexical_num.specs.DecimalWidth.{IsDecimalWidth, is_decimal_widt
 ghost use Rattle.lexical_write_integer.specs.Buffer.{WritesDigits};
 ghost use Rattle.lexical_write_integer.specs.Digits.DecimalTurns.{WritesDecimal, decimal_notes};
 
-mod decimal_pairs;
+pub(crate) mod decimal_pairs;
 pub mod jeaiii;
 mod kernels;
 
