@@ -1,5 +1,5 @@
 -- The states of `Reading` and `Writing` in contracts.
-use Rattle.std.specs.Prelude.{◌≡◌, ◌⊎◌, ℕ, ◌+◌, Bool, true, List, length, take, Option, Some, None, IsSome, refl}
+use Rattle.std.specs.Prelude.{◌≡◌, ◌⊎◌, ℕ, ◌+◌, Bool, true, false, List, [], length, take, Option, Some, None, IsSome, refl}
 use Rattle.std.specs.Option.{option_map}
 use Rattle.std.specs.Io.{StartsWith}
 use Rattle.std.specs.Io.KnownBytes.{Consumes, IsAtEnd}
@@ -19,6 +19,10 @@ pub record StreamReading (R : Type 0) : Type 0 where
   pub given : List ℕ
   pub calls : ℕ
   pub faults : ℕ
+
+-- a source that has yielded nothing
+abbrev pub new_reading : {R : Type 0} → R → ℕ → StreamReading R
+new_reading reader limit = record { reader = reader; left = limit; is_ended = false; given = []; calls = 0; faults = 0 }
 
 -- a sink that writes to a writer: the writer, the bytes that were taken, those of them that are not flushed, and the
 -- numbers of flushes that succeeded and of failures
@@ -83,8 +87,10 @@ KeepsReader-transitive remaining a b c p q = record {
 
 pub KeepsWriter-reflexive : {W : Type 0} (contents : W → Option (List ℕ)) (a : StreamWriting W)
     → KeepsWriter contents a a
-KeepsWriter-reflexive contents = PutsOnly-reflexive (λ s. s.taken) (λ s. s.unflushed) (λ s. contents s.writer) (λ s. s.flushes)
+KeepsWriter-reflexive contents =
+    PutsOnly-reflexive (λ s. s.taken) (λ s. s.unflushed) (λ s. contents s.writer) (λ s. s.flushes)
 
 pub KeepsWriter-transitive : {W : Type 0} (contents : W → Option (List ℕ)) (a b c : StreamWriting W)
     → KeepsWriter contents a b → KeepsWriter contents b c → KeepsWriter contents a c
-KeepsWriter-transitive contents = PutsOnly-transitive (λ s. s.taken) (λ s. s.unflushed) (λ s. contents s.writer) (λ s. s.flushes)
+KeepsWriter-transitive contents =
+    PutsOnly-transitive (λ s. s.taken) (λ s. s.unflushed) (λ s. contents s.writer) (λ s. s.flushes)

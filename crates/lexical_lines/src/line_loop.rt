@@ -9,8 +9,7 @@ use crate::source::ByteSource;
 use std::io;
 
 /// Reads lines from `source`, and writes the answer to each line to `sink` before it reads the next
-/// byte. Returns whether all lines are valid. `answers_to` in `crates/uses/src/answers.rt` is an
-/// example.
+/// byte. Returns whether all lines are valid.
 ///
 /// Each newline ends a line. If there are bytes after the last newline, they are a line too. A valid
 /// line has at most 64 bytes: the name of one of the ten integer types, a space, an optional `+`, a
@@ -23,6 +22,7 @@ use std::io;
 ///
 /// The first error of a device ends the run, and is returned. If the sink takes no bytes, the error is
 /// of kind `WriteZero`.
+#[tactic(auto, using(crate::proofs::Added::grown))]
 pub fn run<S: ByteSource, K: ByteSink>(source: &mut S, sink: &mut K) -> io::Result<bool>
     // The run only appends to what the source has yielded and to what the sink has taken.
     ensures given { S.given source.new

@@ -41,12 +41,12 @@ impl<R> Model for Reading<R> {
 }
 
 impl<R: Read> Reading<R> {
+    ghost use Rattle.lexical_lines.specs.Stream.{new_reading};
+
     /// Returns a source that reports the end after `limit` bytes, or earlier if the reader yields no
     /// byte.
     pub fn new(reader: R, limit: u64) -> Reading<R>
-        ensures { result ≡ record {
-          reader = reader; left = limit; is_ended = false; given = []; calls = 0; faults = 0;
-        } }
+        ensures { result ≡ new_reading reader limit }
     {
         Reading {
             reader,
@@ -58,9 +58,7 @@ impl<R: Read> Reading<R> {
 
     /// Returns a source that yields all bytes of the reader: its limit is 2^63 - 1 bytes.
     pub fn whole(reader: R) -> Reading<R>
-        ensures { result ≡ record {
-          reader = reader; left = 2 ^ 63 - 1; is_ended = false; given = []; calls = 0; faults = 0;
-        } }
+        ensures { result ≡ new_reading reader (2 ^ 63 - 1) }
     {
         Reading::new(reader, LONGEST)
     }

@@ -4,4 +4,5 @@ mod checks;
 mod devices;
 mod faults;
 mod joined;
+mod laws;
 mod lines;

@@ -3,7 +3,6 @@ use Rattle.std.proofs.lemmas.List.{take_all}
 use Rattle.std.proofs.lemmas.Result.{err_from_is_err_and}
 use Rattle.lexical_lines.specs.Sink.{IsBeginning}
 use Rattle.lexical_lines.proofs.Buffers.{Writes-take}
-use Rattle.lexical_lines.proofs.Added.{grown-once}
 use Rattle.lexical_lines.proofs.answerer.put_answer.Goals as goal
 
 -- fewer bytes than all are a proper prefix
@@ -18,11 +17,6 @@ returns-in_err-put-clause-answer g c = rw (err_from_is_err_and c.from_residual.r
     let less = rw c.in_err-put.was at put.err in
     record { whole = tt; good = tt; broken = (written.text, _, written.is, beginning _ _ _ (Writes-take written) less, put.taken) })
 
-pub returns-in_err-put-clause-puts : goal.returns-in_err-put-clause-puts
-returns-in_err-put-clause-puts g c = rw (err_from_is_err_and c.from_residual.result c.from_residual.ensures.1).1 (
-    let put = c.put_all-put.ensures in
-    record { longer = grown-once _ _ _ put.taken; faults = rw c.in_err-put.was at put.faults; kept = put.kept })
-
 pub returns-clause-answer : goal.returns-clause-answer
 returns-clause-answer g c = λ bytes is.
     let written = c.write_answer-count.ensures.answer bytes is in
@@ -33,8 +27,3 @@ returns-clause-answer g c = λ bytes is.
       good = c.write_answer-count.ensures.good bytes is;
       broken = tt;
     }
-
-pub returns-clause-puts : goal.returns-clause-puts
-returns-clause-puts g c =
-    let put = c.put_all-put.ensures in
-    record { longer = grown-once _ _ _ put.taken; faults = rw c.in_ok-put.was at put.faults; kept = put.kept }

@@ -1,8 +1,8 @@
 use Rattle.std.proofs.Common.{[], ◌++◌, ◌∙◌, refl, sym, ap, inl, inr, true, ◌≡◌, ◌+◌, arith}
 use Rattle.std.proofs.Math.Bool.{or-true}
 use Rattle.std.proofs.lemmas.List.{append-nil}
-use Rattle.std.proofs.lemmas.Result.{err_from_is_err_and, IfOk-from_err}
-use Rattle.lexical_lines.proofs.Added.{added-is, added-more, grown, grown-once}
+use Rattle.std.proofs.lemmas.Result.{err_from_is_err_and}
+use Rattle.lexical_lines.proofs.Added.{added-is, added-more, grown}
 use Rattle.lexical_lines.proofs.Results.{IfOk-no_fault, OnErr-one_fault}
 use Rattle.lexical_lines.proofs.Runs.{answers_ended, BreaksOff-open}
 use Rattle.lexical_lines.proofs.line_loop.run.Goals as goal
@@ -34,21 +34,6 @@ loop-byte-preserved g c =
       sink_kept = g.met.K.ByteSink.keeps_transitive _ _ _ loop.sink_kept c.push.ensures.puts.kept;
     }
 
-pub returns-in_err-byte-clause-given : goal.returns-in_err-byte-clause-given
-returns-in_err-byte-clause-given g c = grown _ _ _ _ _ c.loop-byte.invariant.given c.in_err-byte.ensures.given
-
-pub returns-in_err-byte-clause-taken : goal.returns-in_err-byte-clause-taken
-returns-in_err-byte-clause-taken g c = grown-once _ _ _ c.loop-byte.invariant.read.whole
-
-pub returns-in_err-byte-clause-kept_source : goal.returns-in_err-byte-clause-kept_source
-returns-in_err-byte-clause-kept_source g c = g.met.S.ByteSource.keeps_transitive _ _ _ c.loop-byte.invariant.source_kept c.in_err-byte.ensures.kept
-
-pub returns-in_err-byte-clause-kept_sink : goal.returns-in_err-byte-clause-kept_sink
-returns-in_err-byte-clause-kept_sink g c = c.loop-byte.invariant.sink_kept
-
-pub returns-in_err-byte-clause-ok : goal.returns-in_err-byte-clause-ok
-returns-in_err-byte-clause-ok g c = IfOk-from_err c.from_residual.result _ c.from_residual.ensures.0
-
 pub returns-in_err-byte-clause-err : goal.returns-in_err-byte-clause-err
 returns-in_err-byte-clause-err g c =
     let loop = c.loop-byte.invariant in
@@ -59,21 +44,6 @@ returns-in_err-byte-clause-err g c =
       sink = loop.sink_faults;
       answers = rw same (answers_ended loop.read);
     }))
-
-pub returns-in_err-push-clause-given : goal.returns-in_err-push-clause-given
-returns-in_err-push-clause-given g c = grown _ _ _ _ _ c.loop-byte.invariant.given c.in_ok-byte.ensures.given
-
-pub returns-in_err-push-clause-taken : goal.returns-in_err-push-clause-taken
-returns-in_err-push-clause-taken g c = grown _ _ _ _ _ c.loop-byte.invariant.read.whole c.push.ensures.puts.longer
-
-pub returns-in_err-push-clause-kept_sink : goal.returns-in_err-push-clause-kept_sink
-returns-in_err-push-clause-kept_sink g c = g.met.K.ByteSink.keeps_transitive _ _ _ c.loop-byte.invariant.sink_kept c.push.ensures.puts.kept
-
-pub returns-in_err-push-clause-ok : goal.returns-in_err-push-clause-ok
-returns-in_err-push-clause-ok g c = IfOk-from_err c.from_residual-in_err-push.result _ c.from_residual-in_err-push.ensures.0
-
-pub returns-in_err-push-clause-kept_source : goal.returns-in_err-push-clause-kept_source
-returns-in_err-push-clause-kept_source g c = g.met.S.ByteSource.keeps_transitive _ _ _ c.loop-byte.invariant.source_kept c.in_ok-byte.ensures.kept
 
 pub returns-in_err-push-clause-err : goal.returns-in_err-push-clause-err
 returns-in_err-push-clause-err g c =
@@ -87,12 +57,6 @@ returns-in_err-push-clause-err g c =
       answers = rw (added-more _ _ _ _ loop.given more) (BreaksOff-open (g.S.ByteSource.is_ended c.next.new.self) broke);
     }))
 
-pub returns-clause-given : goal.returns-clause-given
-returns-clause-given g c = grown _ _ _ _ _ c.loop-byte.invariant.given c.in_ok-byte.ensures.given
-
-pub returns-clause-taken : goal.returns-clause-taken
-returns-clause-taken g c = grown _ _ _ _ _ c.loop-byte.invariant.read.whole c.finish.ensures.puts.longer
-
 pub returns-clause-err : goal.returns-clause-err
 returns-clause-err g c =
     let loop = c.loop-byte.invariant in
@@ -102,12 +66,6 @@ returns-clause-err g c =
     let ended : g.S.ByteSource.is_ended c.next.new.self ≡ true = (rw c.in_default.is at next.ended) ∙ or-true _ in
     rw (same, ended) (OnErr-one_fault _ _ c.finish.result c.finish.ensures.puts.faults
     (λ failed broke. inr (record { source = source; sink = failed ∙ ap (λ n. n + 1) loop.sink_faults; answers = broke _ _ loop.read })) c.finish.ensures.err)
-
-pub returns-clause-kept_source : goal.returns-clause-kept_source
-returns-clause-kept_source g c = g.met.S.ByteSource.keeps_transitive _ _ _ c.loop-byte.invariant.source_kept c.in_ok-byte.ensures.kept
-
-pub returns-clause-kept_sink : goal.returns-clause-kept_sink
-returns-clause-kept_sink g c = g.met.K.ByteSink.keeps_transitive _ _ _ c.loop-byte.invariant.sink_kept c.finish.ensures.puts.kept
 
 pub returns-clause-ok : goal.returns-clause-ok
 returns-clause-ok g c =

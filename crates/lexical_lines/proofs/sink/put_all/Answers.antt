@@ -1,4 +1,4 @@
-use Rattle.std.proofs.Common.{◌≡◌, ◌-◌, ◌++◌, length, take, drop, sym, ap, ◌∙◌, arith, append_assoc, append-nil}
+use Rattle.std.proofs.Common.{◌≡◌, ◌-◌, ◌++◌, length, take, drop, sym, ap, ◌∙◌, arith, append_assoc}
 use Rattle.std.proofs.Common.{ℕ, zero, suc, List, [], ◌∷◌, Ok, refl, length-take, length-drop}
 use lib.Seq.{take-add, take-take}
 use Rattle.lexical_lines.specs.Sink.{put_faults}
@@ -34,12 +34,6 @@ loop-taken-preserved g c =
 pub returns-in-Err-clause-faults : goal.returns-in-Err-clause-faults
 returns-in-Err-clause-faults g c = omega (arith, c.in-Err.ensures.faults, c.loop-taken.invariant.faults)
 
-pub returns-in-Err-clause-taken : goal.returns-in-Err-clause-taken
-returns-in-Err-clause-taken g c = c.in-Err.ensures.taken ∙ append-nil _ ∙ c.loop-taken.invariant.taken
-
-pub returns-in-Ok-eq0-clause-taken : goal.returns-in-Ok-eq0-clause-taken
-returns-in-Ok-eq0-clause-taken g c = (rw c.in-Ok-eq0.field-0-test at c.in-Ok-eq0.ensures.taken) ∙ append-nil _ ∙ c.loop-taken.invariant.taken
-
 pub returns-in-Ok-eq0-clause-faults : goal.returns-in-Ok-eq0-clause-faults
 returns-in-Ok-eq0-clause-faults g c =
     let done = c.loop-taken.taken in
@@ -50,9 +44,3 @@ returns-in-Ok-eq0-clause-faults g c =
 
 pub returns-clause-ok : goal.returns-clause-ok
 returns-clause-ok g c = omega arith
-
-pub returns-clause-taken : goal.returns-clause-taken
-returns-clause-taken g c = c.loop-taken.invariant.taken
-
-pub returns-clause-faults : goal.returns-clause-faults
-returns-clause-faults g c = omega (arith, c.loop-taken.invariant.faults)
