@@ -3,8 +3,8 @@ use Rattle.std.specs.Prelude.{◌≡◌, ℕ, ◌+◌, Bool, List, [], ◌++◌,
 use Rattle.std.specs.Io.KnownBytes.{Appends, Consumes}
 use Rattle.lexical_lines.specs.RunOutcome.{added}
 
--- a reader: the bytes that its source will yield if they are known, the number of bytes that it may still yield, whether
--- it has reported its end, the bytes that its source has yielded, and the numbers of calls and of failures of the source
+-- a reader, as its source: the bytes that it will yield, if they are known, and the number that it may still yield;
+-- whether it has reported its end; the bytes that it has yielded; and the numbers of its calls and failures
 pub record BlockReading : Type 0 where
   pub unread : Option (List ℕ)
   pub left : ℕ
@@ -13,8 +13,8 @@ pub record BlockReading : Type 0 where
   pub calls : ℕ
   pub faults : ℕ
 
--- a writer: the bytes that its sink contains if they are known, the bytes that the sink has taken, those of them that are
--- not flushed, the bytes in the block, and the numbers of writes, of flushes that succeeded and of failures of the sink
+-- a writer: the bytes that its sink contains, if they are known; the bytes that the sink has taken, and those of them
+-- that are not flushed; the bytes in the block; and the numbers of flushes that succeeded and of failures of the sink
 pub record BlockWriting : Type 0 where
   pub contents : Option (List ℕ)
   pub written : List ℕ
@@ -36,14 +36,14 @@ pub record Yields (a b : BlockReading) (more : List ℕ) : Type 0 where
   pub bytes : Consumes a.unread b.unread more
 
 -- the sink took these bytes, and contains them
-pub record Writes (a b : BlockWriting) (more : List ℕ) : Type 0 where
+pub record PassesOn (a b : BlockWriting) (more : List ℕ) : Type 0 where
   pub written : b.written ≡ a.written ++ more
   pub contents : Appends a.contents b.contents more
 
 -- the writer took some bytes, and the sink took some
 pub record KeepsBytes (a b : BlockWriting) : Type 0 where
   pub longer : taken b ≡ taken a ++ added (taken a) (taken b)
-  pub passed : Writes a b (added a.written b.written)
+  pub passed : PassesOn a b (added a.written b.written)
 
 -- each byte that the writer has taken was written and flushed
 pub record IsFlushed (w : BlockWriting) : Type 0 where

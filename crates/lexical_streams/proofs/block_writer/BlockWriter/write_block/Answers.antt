@@ -3,7 +3,7 @@ use Rattle.std.specs.List.{copy_within}
 use Rattle.std.proofs.lemmas.List.{append-nil, drop-take}
 use Rattle.std.proofs.lemmas.List.Edits.{take-paste}
 use Rattle.lexical_lines.specs.Source.{faults_of}
-use Rattle.lexical_streams.specs.Blocks.{BlockWriting, taken, Writes, KeepsBytes}
+use Rattle.lexical_streams.specs.Blocks.{BlockWriting, taken, PassesOn, KeepsBytes}
 use Rattle.lexical_streams.specs.Kept.{KeepsBytes-of}
 use Rattle.lexical_streams.proofs.block_writer.BlockWriter.write_block.Goals as goal
 use Rattle.std.proofs.Common.{length-drop, append_assoc, subst, [], Result, Ok, Err, OnOk, OnErr}
@@ -46,8 +46,8 @@ returns-clause-taken g c =
     let parts = parted w.block c.copy_within.new.self count w.end bound (omega (arith, c.self.invariant.1, c.self.told)) c.copy_within.ensures.after in
     same (g.K.ByteSink.taken w.sink) _ w.block c.copy_within.new.self count w.end c.put_all-count.ensures.taken parts ∙ ap taken c.self.view_is
 
-passed-on : (v a b : BlockWriting) (passed : List ℕ) → v ≡ a → taken b ≡ taken a → Writes v b passed → KeepsBytes a b
-passed-on v a b passed is e writes = KeepsBytes-of a b [] passed (e ∙ sym (append-nil (taken a))) (subst (λ w. Writes w b passed) is writes)
+passed-on : (v a b : BlockWriting) (passed : List ℕ) → v ≡ a → taken b ≡ taken a → PassesOn v b passed → KeepsBytes a b
+passed-on v a b passed is e writes = KeepsBytes-of a b [] passed (e ∙ sym (append-nil (taken a))) (subst (λ w. PassesOn w b passed) is writes)
 
 pub returns-clause-kept : goal.returns-clause-kept
 returns-clause-kept g c =
