@@ -195,7 +195,6 @@ impl LexicalInteger for i8 {
     fn in_range(self) {}
 
     fn is_negative(self) -> bool {
-        // Neither 0 nor a larger number is negative.
         self < 0
     }
 }
@@ -320,7 +319,6 @@ pub trait UnsignedInteger: LexicalInteger {
         requires { magnitude self < 2 ^ 32 }
         ensures { result ≡ magnitude self }
     {
-        // The caller has shown that the number fits.
         self.as_usize() as u32
     }
 

@@ -18,7 +18,6 @@ fn write_zeros(buffer: &mut [u8])
 
 /// Writes the number with leading zeros over the whole buffer, and returns the length of the buffer.
 /// The radix is from 2 to 36, and the number is below the radix to the power of that length.
-/// `write_time` in `crates/uses/src/time_of_day.rt` is an example.
 pub fn write_padded<T: DigitCount + Radix>(value: T, radix: u32, buffer: &mut [u8]) -> usize
     requires radix { IsRadix radix }
     requires fits { T.magnitude value < radix ^ length buffer.old }
