@@ -1,13 +1,12 @@
 -- The bytes that a source has read from a reader.
 use Rattle.std.proofs.Common.{◌≡◌, ◌⊎◌, ℕ, ◌+◌, true, List, [], ◌++◌, length, take, zero, suc, Option, Some, None, IsSome, refl, sym, ap, subst, ◌∙◌, inl}
-use Rattle.std.proofs.Common.{inr, arith}
+use Rattle.std.proofs.Common.{inr, arith, ◌∷◌, length-append}
 use Rattle.std.specs.Prelude.{option_map, nat_eq, ◌||◌, false, ◌<◌, ◌≤◌}
 use Rattle.std.proofs.Math.Bool.{or-false}
 use Rattle.std.proofs.lemmas.Bool.Decides.{nat_tests}
 use Rattle.std.proofs.lemmas.List.{length-take-le, take-append-le}
 use lib.Seq.{take-append-add, take-nil}
 use Rattle.std.specs.Io.KnownBytes.{Consumes, IsAtEnd}
-use Rattle.std.proofs.Common.{◌∷◌, length-append}
 use Rattle.std.proofs.Math.Seq.{take-append_seam}
 use Rattle.lexical_lines.proofs.Added.{added-is}
 use Rattle.lexical_lines.specs.Stream.{StreamReading, KeepsReader, IsUsedUp}

@@ -1,11 +1,6 @@
 -- What follows if a result is an `Ok`, or an `Err`.
 use Rattle.std.proofs.Common.{◌≡◌, ◌+◌, ℕ, Result, Ok, Err, OnOk, OnErr, IfOk, arith}
-use Rattle.std.specs.Prelude.{IsErr}
 use Rattle.lexical_lines.specs.Source.{faults_of}
-
-pub OnOk-from_err : {A E : Type 0} (result : Result A E) (P : Type 0) → IsErr result → OnOk result P
-OnOk-from_err (Ok a) P failed = absurd (cc failed)
-OnOk-from_err (Err e) P failed = tt
 
 -- a call that succeeded had no failure
 pub IfOk-no_fault : {A E P : Type 0} {Q R : A → Type 0} (before after : ℕ) (result : Result A E) → after ≡ before + faults_of result

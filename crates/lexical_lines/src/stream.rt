@@ -171,11 +171,7 @@ impl<W> Model for Writing<W> {
 impl<W: Write> Writing<W> {
     /// Returns a sink that has taken no bytes and writes to `writer`.
     pub fn new(writer: W) -> Writing<W>
-        ensures writer { result.writer ≡ writer }
-        ensures taken { result.taken ≡ [] }
-        ensures unflushed { result.unflushed ≡ [] }
-        ensures flushes { result.flushes ≡ 0 }
-        ensures faults { result.faults ≡ 0 }
+        ensures { result ≡ record { writer = writer; taken = []; unflushed = []; flushes = 0; faults = 0 } }
     {
         Writing {
             writer,
