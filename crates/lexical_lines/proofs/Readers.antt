@@ -73,8 +73,8 @@ module _ (before after : Option (List ℕ)) (count : ℕ) (block rest : List ℕ
         | inr ended ↦ inr (rw new (still-at_end before after (take count block) read.0 (rw old at told) (rw old at ended)))
       ]
 
-  pub ReadConsumes-limited : (limit left : ℕ) → left + count ≡ limit → Consumes (option_map (take limit) before) (option_map (take left) after) (take count (block ++ rest))
-      × (count ≡ 0 → 0 < length (block ++ rest) → IsAtEnd (option_map (take left) after))
+  pub ReadConsumes-limited : (limit left : ℕ) → left + count ≡ limit → Consumes (option_map (take limit) before) (option_map (take left) after)
+      (take count (block ++ rest)) × (count ≡ 0 → 0 < length (block ++ rest) → IsAtEnd (option_map (take left) after))
   ReadConsumes-limited limit left e = (
     rw more (Consumes-limited before after limit left (take count block) (omega (arith, e, length-take-le count block within)) read.0),
     λ none _. IsAtEnd-limited after left (inr (read.1 none room)),

@@ -13,7 +13,7 @@ use std::io;
 use std::io::{Read, Write};
 use std::marker::Model;
 
-// No file is longer, since its offsets are signed numbers of 64 bits.
+// An offset in a file is a signed number of 64 bits, so every file is shorter than this.
 const LONGEST: u64 = 9_223_372_036_854_775_807;
 
 /// A source that yields the bytes of a reader, up to a limit. It calls `read` once for each byte or block.
