@@ -5,7 +5,7 @@ use Rattle.std.proofs.Common.{sym, ap, ◌∙◌, append_assoc}
 use Rattle.std.proofs.KnownBytes.{Appends-nil, Appends-trans}
 use Rattle.std.proofs.lemmas.List.{append-nil}
 
--- the sink took some bytes and contains them, they are not flushed, and there was no flush
+-- the sink took some bytes and contains them, they are not flushed, and no flush was called
 pub record PutsOnly {K : Type 0} (taken_bytes unflushed_bytes : K → List ℕ) (known : K → Option (List ℕ))
     (counted : K → ℕ) (a b : K) : Type 0 where
   pub more : List ℕ

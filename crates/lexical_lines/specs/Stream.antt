@@ -54,7 +54,7 @@ pub record KeepsReader {R : Type 0} (remaining : R → Option (List ℕ)) (a b :
 
 -- ---- what calls of a sink leave unchanged
 
--- the writer contains the bytes that the sink took, they are not flushed, and there was no flush
+-- the writer contains the bytes that the sink took, they are not flushed, and no flush was called
 abbrev pub KeepsWriter : {W : Type 0} → (W → Option (List ℕ)) → StreamWriting W → StreamWriting W → Type 0
 KeepsWriter contents = PutsOnly (λ s. s.taken) (λ s. s.unflushed) (λ s. contents s.writer) (λ s. s.flushes)
 
