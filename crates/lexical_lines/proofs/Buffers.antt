@@ -1,5 +1,5 @@
 -- Texts at the start of a buffer.
-use Rattle.std.proofs.Common.{◌≡◌, ℕ, suc, ◌+◌, ◌<◌, ◌≤◌, List, [], ◌∷◌, ◌++◌, length, get_or, take, drop, set, refl, sym, ap, ◌∙◌, arith, length-append}
+use Rattle.std.proofs.Common.{◌≡◌, ℕ, suc, ◌+◌, ◌<◌, List, [], ◌∷◌, ◌++◌, length, get_or, take, drop, set, refl, sym, ap, ◌∙◌, arith, length-append}
 use Rattle.std.proofs.Common.{append_assoc}
 use Rattle.std.proofs.Math.Seq.{drop-cons}
 use Rattle.std.proofs.lemmas.List.{set_at, take_at}
@@ -25,10 +25,6 @@ Front-push before between text count mark e front less =
 
 pub Writes-take : {Is : List ℕ → Type 0} {before after : List ℕ} {count : ℕ} (w : Writes Is before after count) → take count after ≡ w.text
 Writes-take {before = before} {count = count} w = ap (take count) w.front.written ∙ take_at w.text (drop (length w.text) before) count (sym w.count)
-
-pub Writes-within : {Is : List ℕ → Type 0} {before after : List ℕ} {count : ℕ} → Writes Is before after count → count ≤ length after
-Writes-within {before = before} w =
-    omega (arith, w.count, ap length w.front.written, length-append w.text (drop (length w.text) before))
 
 -- what is written to the start of a prefix of the buffer is at the start of the buffer
 pub Writes-front : {Is : List ℕ → Type 0} (room : ℕ) (before part : List ℕ) (count : ℕ) → Writes Is (take room before) part count

@@ -13,7 +13,6 @@ pub mod Added
 pub mod Results
 pub mod Runs
 -- devices: sources and sinks over slices, readers and writers
-pub mod Sinks
 pub mod Slices
 pub mod Readers
 pub mod Writers

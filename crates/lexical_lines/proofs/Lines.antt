@@ -20,14 +20,6 @@ with_newlines-cons line ended rest = simp append_assoc
 pub IsCut-none : IsCut [] [] []
 IsCut-none = record { whole = refl; each = All-nil NoNewline; rest_inside = All-nil IsInside }
 
-pub IsCut-byte : {bytes : List ℕ} {ended : List (List ℕ)} {rest : List ℕ} (byte : ℕ) → IsInside byte → IsCut bytes ended rest
-    → IsCut (bytes ++ byte ∷ []) ended (rest ++ byte ∷ [])
-IsCut-byte {ended = ended} {rest = rest} byte inside h = record {
-  whole = ap (λ xs. xs ++ byte ∷ []) h.whole ∙ append_assoc (with_newlines ended) rest (byte ∷ []);
-  each = h.each;
-  rest_inside = All-push IsInside rest byte h.rest_inside inside;
-}
-
 pub IsCut-more : {bytes : List ℕ} {ended : List (List ℕ)} {rest : List ℕ} (more : List ℕ) → NoNewline more → IsCut bytes ended rest
     → IsCut (bytes ++ more) ended (rest ++ more)
 IsCut-more {ended = ended} {rest = rest} more inside h = record {

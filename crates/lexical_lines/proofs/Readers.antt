@@ -1,25 +1,31 @@
 -- The bytes that a source has read from a reader.
-use Rattle.std.proofs.Common.{◌≡◌, ◌⊎◌, ℕ, ◌+◌, true, false, List, [], ◌++◌, length, take, Option, Some, None, IsSome, IfSome, refl, sym, ap, subst, ◌∙◌, inl}
-use Rattle.std.proofs.Common.{inr, arith}
-use Rattle.std.proofs.lemmas.List.{append-nil, take_at, take_all}
+use Rattle.std.proofs.Common.{◌≡◌, ◌⊎◌, ℕ, ◌+◌, true, List, [], ◌++◌, length, take, zero, suc, Option, Some, None, IsSome, refl, sym, ap, subst, ◌∙◌, inl}
+use Rattle.std.proofs.Common.{inr, arith, ◌∷◌, length-append}
+use Rattle.std.specs.Prelude.{option_map, nat_eq, ◌||◌, false, ◌<◌, ◌≤◌}
+use Rattle.std.proofs.Math.Bool.{or-false}
+use Rattle.std.proofs.lemmas.Bool.Decides.{nat_tests}
+use Rattle.std.proofs.lemmas.List.{length-take-le, take-append-le}
+use lib.Seq.{take-append-add, take-nil}
 use Rattle.std.specs.Io.KnownBytes.{Consumes, IsAtEnd}
-use Rattle.std.proofs.Common.{◌∷◌, length-append}
 use Rattle.std.proofs.Math.Seq.{take-append_seam}
-use lib.ListN.{get_or}
 use Rattle.lexical_lines.proofs.Added.{added-is}
-use Rattle.lexical_lines.specs.RunOutcome.{added}
 use Rattle.lexical_lines.specs.Stream.{StreamReading, KeepsReader, IsUsedUp}
 
-pub given-of : (before after : Option (List ℕ)) (given : List ℕ) (limit left : ℕ) → Consumes before after given → left + length given ≡ limit
-    → (IsSome before → (left ≡ 0) ⊎ IsAtEnd after) → IfSome before (λ bytes. given ≡ take limit bytes)
-given-of None after given limit left gave count used_up = tt
-given-of (Some xs) None given limit left gave count used_up = absurd gave
-given-of (Some xs) (Some ys) given limit left gave count used_up = elim (used_up refl) [
-  | inl none ↦ sym (ap (take limit) gave ∙ take_at given ys limit (omega (arith, none, count)))
-  | inr ended ↦
-      let whole : xs ≡ given = gave ∙ ap (λ rest. given ++ rest) ended ∙ append-nil given in
-      sym (ap (take limit) whole ∙ take_all limit given (omega (arith, count)))
-]
+-- ---- the bytes that a source will yield
+
+-- a source yields what its reader loses
+Consumes-limited : (before after : Option (List ℕ)) (limit left : ℕ) (more : List ℕ) → limit ≡ length more + left → Consumes before after more
+    → Consumes (option_map (take limit) before) (option_map (take left) after) more
+Consumes-limited None after limit left more count gave = tt
+Consumes-limited (Some xs) None limit left more count gave = absurd gave
+Consumes-limited (Some xs) (Some ys) limit left more count gave = (λ i. take (count i) (gave i)) ∙ take-append-add more ys left
+
+IsAtEnd-limited : (known : Option (List ℕ)) (limit : ℕ) → (limit ≡ 0) ⊎ IsAtEnd known → IsAtEnd (option_map (take limit) known)
+IsAtEnd-limited None limit used = tt
+IsAtEnd-limited (Some xs) limit (inl none) = ap (λ n. take n xs) none
+IsAtEnd-limited (Some xs) limit (inr none) = ap (take limit) none ∙ take-nil limit
+
+-- ---- a read
 
 -- a call that yields these bytes
 pub KeepsReader-more : {R : Type 0} (remaining : R → Option (List ℕ)) (a b : StreamReading R) (more : List ℕ) → b.given ≡ a.given ++ more
@@ -43,18 +49,33 @@ still-at_end None after more gave told ended = absurd (cc told)
 still-at_end (Some xs) None more gave told ended = absurd gave
 still-at_end (Some xs) (Some ys) more gave told ended = empty-right more ys (sym gave ∙ ended)
 
--- a call that yields these bytes and does not report the end
-pub KeepsReader-unended : {R : Type 0} (remaining : R → Option (List ℕ)) (a b : StreamReading R) (more : List ℕ) → (a.left ≡ 0 → ⊥)
-    → b.given ≡ a.given ++ more → b.left + length more ≡ a.left → Consumes (remaining a.reader) (remaining b.reader) more
-    → b.is_ended ≡ a.is_ended → KeepsReader remaining a b
-KeepsReader-unended remaining a b more some given left gave same =
-    KeepsReader-more remaining a b more given left gave (λ told used ended. elim (used (sym same ∙ ended)) [
-      | inl none ↦ absurd (some none)
-      | inr at_end ↦ inr (still-at_end _ _ more gave told at_end)
-    ])
+eqb-suc : (n : ℕ) → nat_eq (suc n) 0 ≡ false
+eqb-suc n = grind (arith, nat_tests)
 
--- a block of one byte
-pub one_byte : (block : List ℕ) → length block ≡ 1 → block ≡ get_or block 0 0 ∷ []
-one_byte [] one = absurd (cc one)
-one_byte (byte ∷ []) one = refl
-one_byte (byte ∷ more ∷ block) one = absurd (omega (arith, one))
+-- a read into a block, which may be the start of a longer one
+module _ (before after : Option (List ℕ)) (count : ℕ) (block rest : List ℕ) (room : 0 < length block) (within : count ≤ length block)
+    (read : Consumes before after (take count block) × (count ≡ 0 → 0 < length block → IsAtEnd after)) where
+  more : take count (block ++ rest) ≡ take count block
+  more = take-append-le count block rest within
+
+  pub KeepsReader-read : {R : Type 0} (remaining : R → Option (List ℕ)) (a b : StreamReading R) → remaining a.reader ≡ before → remaining b.reader ≡ after
+      → (a.left ≡ 0 → ⊥) → b.left + count ≡ a.left → b.given ≡ a.given ++ take count (block ++ rest) → b.is_ended ≡ (a.is_ended || nat_eq count 0)
+      → KeepsReader remaining a b
+  KeepsReader-read remaining a b old new some left given ended =
+      KeepsReader-more remaining a b (take count block) (rw more at given) (omega (arith, left, length-take-le count block within)) (rw (old, new) read.0)
+      (λ told used is. at_end count refl told used (sym ended ∙ is))
+    where
+      at_end : (n : ℕ) → count ≡ n → IsSome (remaining a.reader) → (a.is_ended ≡ true → IsUsedUp remaining a) → (a.is_ended || nat_eq n 0) ≡ true
+          → IsUsedUp remaining b
+      at_end zero none told used is = inr (rw new (read.1 none room))
+      at_end (suc n) e told used is = elim (used (sym (or-false a.is_ended) ∙ ap (λ ended. a.is_ended || ended) (sym (eqb-suc n)) ∙ is)) [
+        | inl none ↦ absurd (some none)
+        | inr ended ↦ inr (rw new (still-at_end before after (take count block) read.0 (rw old at told) (rw old at ended)))
+      ]
+
+  pub ReadConsumes-limited : (limit left : ℕ) → left + count ≡ limit → Consumes (option_map (take limit) before) (option_map (take left) after)
+      (take count (block ++ rest)) × (count ≡ 0 → 0 < length (block ++ rest) → IsAtEnd (option_map (take left) after))
+  ReadConsumes-limited limit left e = (
+    rw more (Consumes-limited before after limit left (take count block) (omega (arith, e, length-take-le count block within)) read.0),
+    λ none _. IsAtEnd-limited after left (inr (read.1 none room)),
+  )

@@ -1,16 +1,24 @@
 -- The parts of a line.
 use Rattle.std.proofs.Common.{◌≡◌, ◌≢◌, ℕ, List, [], ◌∷◌, ◌++◌, Bool, true, false, not, ◌&&◌, refl, sym, ◌∙◌, ℤ, arith, ◌==◌, eq-eqb, append_assoc}
+use Rattle.std.proofs.Common.{Some, length}
+use Rattle.std.proofs.lemmas.Option.{cond_some}
+use Rattle.std.specs.Prelude.{nat_le}
 use Rattle.std.specs.Io.{StartsWith}
 use Rattle.std.specs.List.{All}
 use Rattle.std.proofs.lemmas.List.Elements.{All-nil, All-cons, All-append, All-weaker}
 use Rattle.lexical_lines.specs.declared.integer_type.IntegerType.{IntegerType}
 use Rattle.lexical_lines.specs.declared.integer_type.IntegerType.TheVariants.{U8, U16, U32, U64, Usize, I8, I16, I32, I64, Isize}
 use Rattle.lexical_lines.specs.IntegerType.{name_of}
+use Rattle.lexical_lines.specs.Line.{short_line}
 use Rattle.lexical_lines.specs.Request.{IsRequest, IsValue}
 use Rattle.lexical_lines.specs.Split.{Lacks, optional_sign}
 use Rattle.lexical_lines.proofs.Splits.{cut_unique}
 use Rattle.lexical_lines.proofs.Decimals.{IsDigitByte, IsDecimalNumeral-bytes, IsDecimalNumeral-from_digits}
 use Rattle.lexical_lines.proofs.Signs.{stripped_unique}
+
+-- a line that was kept is the whole line
+pub short_line-is : {line bytes : List ℕ} → Some line ≡ short_line bytes → bytes ≡ line
+short_line-is {line} {bytes} is = (cond_some (nat_le (length bytes) 64) bytes line (sym is)).1
 
 -- no byte of the text is a space
 abbrev pub NoSpace : List ℕ → Type 0

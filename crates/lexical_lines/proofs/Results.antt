@@ -1,17 +1,12 @@
 -- What follows if a result is an `Ok`, or an `Err`.
-use Rattle.std.proofs.Common.{◌≡◌, ◌+◌, ℕ, Result, Ok, Err, OnOk, OnErr, arith}
-use Rattle.std.specs.Prelude.{IsErr}
+use Rattle.std.proofs.Common.{◌≡◌, ◌+◌, ℕ, Result, Ok, Err, OnOk, OnErr, IfOk, arith}
 use Rattle.lexical_lines.specs.Source.{faults_of}
 
-pub OnOk-from_err : {A E : Type 0} (result : Result A E) (P : Type 0) → IsErr result → OnOk result P
-OnOk-from_err (Ok a) P failed = absurd (cc failed)
-OnOk-from_err (Err e) P failed = tt
-
 -- a call that succeeded had no failure
-pub OnOk-no_fault : {A E P Q : Type 0} (before after : ℕ) (result : Result A E) → after ≡ before + faults_of result
-    → (after ≡ before → P → Q) → OnOk result P → OnOk result Q
-OnOk-no_fault before after (Ok a) faults then p = then (omega (arith, faults)) p
-OnOk-no_fault before after (Err e) faults then p = tt
+pub IfOk-no_fault : {A E P : Type 0} {Q R : A → Type 0} (before after : ℕ) (result : Result A E) → after ≡ before + faults_of result
+    → OnOk result P → IfOk result Q → ((a : A) → after ≡ before → P → Q a → R a) → IfOk result R
+IfOk-no_fault before after (Ok a) faults p q then = then a (omega (arith, faults)) p q
+IfOk-no_fault before after (Err e) faults p q then = tt
 
 -- a call that failed had one failure
 pub OnErr-one_fault : {A E P Q : Type 0} (before after : ℕ) (result : Result A E) → after ≡ before + faults_of result

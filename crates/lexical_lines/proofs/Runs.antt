@@ -1,21 +1,18 @@
 -- What an answerer has done so far, and how a run ends.
-use Rattle.std.proofs.Common.{rules, ◌≡◌, ◌↔◌, ℕ, ◌+◌, ◌-◌, ◌^◌, min, Bool, true, false, List, [], ◌∷◌, ◌++◌, length, ◌≤◌, Some, refl, sym, ap, ◌∙◌, arith}
+use Rattle.std.proofs.Common.{◌≡◌, ◌↔◌, ℕ, ◌+◌, ◌-◌, ◌^◌, min, Bool, true, false, List, [], ◌∷◌, ◌++◌, length, refl, sym, ap, ◌∙◌, arith}
 use Rattle.std.proofs.Common.{append_assoc, IsTrue, length-append, inl, inr, ◌&&◌, ◌⊎◌}
 use Rattle.std.specs.List.{All}
-use Rattle.std.proofs.Common.{Result, Ok, Err}
-use Rattle.std.specs.Prelude.{nat_le, IsErr}
-use Rattle.std.proofs.lemmas.Option.{cond_some}
 use Rattle.std.proofs.lemmas.List.Elements.{All-nil, All-cons, All-head, All-tail, All-push}
 use Rattle.lexical_lines.specs.declared.answerer.Answerer.{Answerer}
 use Rattle.lexical_lines.specs.Answer.{IsAnswer, AreAnswers, AreAnswersFrom, AnswersAll, AnswersEnded}
-use Rattle.lexical_lines.specs.Answerer.{HasAnswered, PutsMore}
+use Rattle.lexical_lines.specs.Answerer.{HasAnswered}
 use Rattle.lexical_lines.specs.Line.{short_line}
 use Rattle.lexical_lines.specs.Lines.{AreLines, EndsLine, NoNewline}
 use Rattle.lexical_lines.specs.Request.{IsGood}
 use Rattle.lexical_lines.specs.RunOutcome.{added, BreaksOff}
 use Rattle.lexical_lines.specs.Sink.{IsBeginning}
-use Rattle.lexical_lines.proofs.Added.{added-is, grown-once}
-use Rattle.lexical_lines.proofs.Lines.{IsInside, IsCut-none, IsCut-byte, IsCut-more, IsCut-newline, AreLines-ended, AreLines-rest}
+use Rattle.lexical_lines.proofs.Added.{added-is}
+use Rattle.lexical_lines.proofs.Lines.{IsCut-more, IsCut-newline, AreLines-ended, AreLines-rest}
 use Rattle.std.proofs.lemmas.List.{append-nil}
 
 -- ---- the answer to the next line
@@ -55,9 +52,6 @@ and_iff : (a b : Bool) (P Q : Type 0) → (IsTrue a ↔ P) → (IsTrue b ↔ Q) 
 and_iff true b P Q p q = (λ e. (p.0 refl, q.0 e), λ both. q.1 both.1)
 and_iff false b P Q p q = (λ e. cc, λ both. p.1 both.0)
 
-pub short_line-empty : (rest : List ℕ) → short_line rest ≡ short_line [] → rest ≡ []
-short_line-empty rest e = (cond_some (nat_le (length rest) 64) rest [] e).1
-
 module _ {before bytes taken : List ℕ} {answerer : Answerer} (h : HasAnswered before bytes taken answerer) where
   pub answers_after : (answer : List ℕ) → IsAnswer answerer.line_number h.rest answer → AreAnswers (h.ended ++ h.rest ∷ []) (h.answers ++ answer)
   answers_after answer is =
@@ -72,23 +66,6 @@ module _ {before bytes taken : List ℕ} {answerer : Answerer} (h : HasAnswered 
 
   pub taken_after : (after answer : List ℕ) → after ≡ taken ++ answer → after ≡ before ++ (h.answers ++ answer)
   taken_after after answer e = e ∙ ap (λ xs. xs ++ answer) h.whole ∙ append_assoc before h.answers answer
-
-  -- the next byte of a line
-  pub HasAnswered-byte : (byte : ℕ) (next : Answerer) → IsInside byte
-      → ((line : List ℕ) → answerer.line ≡ short_line line → next.line ≡ short_line (line ++ byte ∷ []))
-      → next.line_number ≡ answerer.line_number → next.all_good ≡ answerer.all_good
-      → HasAnswered before (bytes ++ byte ∷ []) taken next
-  HasAnswered-byte byte next inside push number good = record {
-    ended = h.ended;
-    rest = h.rest ++ byte ∷ [];
-    answers = h.answers;
-    cut = IsCut-byte byte inside h.cut;
-    answered = h.answered;
-    whole = h.whole;
-    number = number ∙ h.number;
-    good = rw (sym good) at h.good;
-    last = push h.rest h.last;
-  }
 
   -- more bytes of a line
   abbrev pub HasAnswered-more : (more : List ℕ) (next : Answerer) → NoNewline more → next.line ≡ short_line (h.rest ++ more)
@@ -131,11 +108,7 @@ module _ {before bytes taken : List ℕ} {answerer : Answerer} (h : HasAnswered 
   pub answers_ended : AnswersEnded bytes (added before taken)
   answers_ended = (h.ended, h.rest, h.cut, rw (sym answers_are) at h.answered)
 
-  -- if the answerer keeps no bytes, the lines that ended are all lines
-  pub lines_at_empty : answerer.line ≡ short_line [] → AreLines bytes h.ended
-  lines_at_empty none = AreLines-ended h.cut (short_line-empty h.rest (sym h.last ∙ none))
-
-  -- otherwise the bytes that it keeps are the last line
+  -- if the answerer keeps bytes, they are the last line
   pub lines_at_rest : (answerer.line ≡ short_line [] → ⊥) → AreLines bytes (h.ended ++ h.rest ∷ [])
   lines_at_rest some = AreLines-rest h.cut (λ empty. some (h.last ∙ ap short_line empty))
 
@@ -143,9 +116,6 @@ module _ {before bytes taken : List ℕ} {answerer : Answerer} (h : HasAnswered 
   lines_at_newline = AreLines-ended (IsCut-newline h.cut) refl
 
   -- all lines are answered
-  pub answers_at_empty : answerer.line ≡ short_line [] → AnswersAll bytes (added before taken)
-  answers_at_empty none = (h.ended, lines_at_empty none, rw (sym answers_are) at h.answered)
-
   pub answers_at_rest : (put answer : List ℕ) → (answerer.line ≡ short_line [] → ⊥) → IsAnswer answerer.line_number h.rest answer
       → put ≡ taken ++ answer → AnswersAll bytes (added before put)
   answers_at_rest put answer some is e =
@@ -190,25 +160,3 @@ BreaksOff-open is_ended h = record {
   beginning = h.beginning;
   whole = h.whole;
 }
-
--- ---- what calls do to a sink
-
-module _ {K A E : Type 0} {taken : K → List ℕ} {fault_count : K → ℕ} {keeps : K → K → Type 0} where
-  -- a call that does nothing
-  pub PutsMore-none : (sink : K) (a : A) → keeps sink sink → PutsMore {E = E} taken fault_count keeps sink sink (Ok a)
-  PutsMore-none sink a kept = record {
-    longer = grown-once (taken sink) (taken sink) [] (sym (append-nil (taken sink)));
-    faults = omega arith;
-    kept = kept;
-  }
-
-  -- a call that puts what another has put, and returns another value
-  pub PutsMore-ok : {B : Type 0} (old new : K) (a : A) (b : B) → PutsMore {E = E} taken fault_count keeps old new (Ok a)
-      → PutsMore {E = E} taken fault_count keeps old new (Ok b)
-  PutsMore-ok old new a b puts = record { longer = puts.longer; faults = puts.faults; kept = puts.kept }
-
-  -- a call that returns the error of another
-  pub PutsMore-err : {B : Type 0} (old new : K) (e : E) (result : Result B E) → IsErr result
-      → PutsMore {A = A} taken fault_count keeps old new (Err e) → PutsMore taken fault_count keeps old new result
-  PutsMore-err old new e (Ok b) failed puts = absurd (cc failed)
-  PutsMore-err old new e (Err f) failed puts = record { longer = puts.longer; faults = puts.faults; kept = puts.kept }

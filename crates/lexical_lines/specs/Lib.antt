@@ -5,6 +5,7 @@ pub mod ExitStatus
 pub mod IntegerType
 pub mod Line
 pub mod Lines
+pub mod Puts
 pub mod Request
 pub mod RunOutcome
 pub mod Sink

@@ -1,6 +1,6 @@
 -- The outcome of a run over the lines of an input.
 use Rattle.std.specs.Prelude.{◌≡◌, ◌⊎◌, ℕ, ◌+◌, List, [], ◌∷◌, ◌++◌, length, drop, Bool, ◌↔◌, IsTrue, All}
-use Rattle.lexical_lines.specs.Answer.{IsAnswer, AreAnswers}
+use Rattle.lexical_lines.specs.Answer.{IsAnswer, AreAnswers, AnswersAll, AnswersEnded}
 use Rattle.lexical_lines.specs.Lines.{AreLines, EndsLine}
 use Rattle.lexical_lines.specs.Request.{IsGood}
 use Rattle.lexical_lines.specs.Sink.{IsBeginning}
@@ -27,3 +27,25 @@ pub record BreaksOff (is_ended : Bool) (bytes put : List ℕ) : Type 0 where
   pub last_answer : IsAnswer (length front + 1) last answer
   pub beginning : IsBeginning part answer
   pub whole : put ≡ answers ++ part
+
+-- ---- how a run ends. `before` and `after` are the numbers of failures of the source and of the sink
+
+-- no device failed, the source reported its end, and all lines are answered
+pub record RunAnswered (before after : ℕ × ℕ) (is_ended : Bool) (bytes put : List ℕ) (all_good : Bool) : Type 0 where
+  pub source : after.0 ≡ before.0
+  pub sink : after.1 ≡ before.1
+  pub ended : IsTrue is_ended
+  pub answers : AnswersAll bytes put
+  pub good : TellsAllGood bytes all_good
+
+-- the source failed, and all lines that ended are answered
+pub record SourceFailed (before after : ℕ × ℕ) (bytes put : List ℕ) : Type 0 where
+  pub source : after.0 ≡ before.0 + 1
+  pub sink : after.1 ≡ before.1
+  pub answers : AnswersEnded bytes put
+
+-- the sink failed during the answer to the last line
+pub record SinkFailed (before after : ℕ × ℕ) (is_ended : Bool) (bytes put : List ℕ) : Type 0 where
+  pub source : after.0 ≡ before.0
+  pub sink : after.1 ≡ before.1 + 1
+  pub answers : BreaksOff is_ended bytes put

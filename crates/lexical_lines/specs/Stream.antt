@@ -1,29 +1,43 @@
 -- The states of `Reading` and `Writing` in contracts.
-use Rattle.std.specs.Prelude.{◌≡◌, ◌⊎◌, ℕ, ◌+◌, Bool, true, List, ◌++◌, length, Option, Some, None, IsSome, refl}
+use Rattle.std.specs.Prelude.{◌≡◌, ◌⊎◌, ℕ, ◌+◌, Bool, true, false, List, [], length, take, Option, Some, None, IsSome}
+use Rattle.std.specs.Option.{option_map}
 use Rattle.std.specs.Io.{StartsWith}
 use Rattle.std.specs.Io.KnownBytes.{Consumes, IsAtEnd}
-use Rattle.std.proofs.Common.{◌∙◌, sym, subst}
+use Rattle.std.proofs.Common.{◌∙◌, refl, sym, subst}
 use Rattle.std.proofs.KnownBytes.{Consumes-nil, Consumes-more}
 use Rattle.std.proofs.Math.Seq.{take-length, drop-length}
 use Rattle.std.proofs.Transfers.{starts_with_trans}
+use Rattle.lexical_lines.specs.Puts.{PutsOnly, PutsOnly-reflexive, PutsOnly-transitive}
 use Rattle.lexical_lines.specs.RunOutcome.{added}
 
 -- a source that reads from a reader: the reader, the number of bytes that it may still yield, whether it has reported
--- its end, the bytes that it has yielded, and the number of failures
+-- its end, the bytes that it has yielded, and the numbers of calls and of failures
 pub record StreamReading (R : Type 0) : Type 0 where
   pub reader : R
   pub left : ℕ
   pub is_ended : Bool
   pub given : List ℕ
+  pub calls : ℕ
   pub faults : ℕ
 
--- a sink that writes to a writer: the writer, the bytes that were taken, and the number of failures
+-- a source that has yielded nothing
+abbrev pub new_reading : {R : Type 0} → R → ℕ → StreamReading R
+new_reading reader limit = record { reader = reader; left = limit; is_ended = false; given = []; calls = 0; faults = 0 }
+
+-- a sink that writes to a writer: the writer, the bytes that were taken, those of them that are not flushed, and the
+-- numbers of flushes that succeeded and of failures
 pub record StreamWriting (W : Type 0) : Type 0 where
   pub writer : W
   pub taken : List ℕ
+  pub unflushed : List ℕ
+  pub flushes : ℕ
   pub faults : ℕ
 
 -- ---- what calls of a source leave unchanged
+
+-- the bytes that the source will yield, if those of its reader are known
+abbrev pub unread_of : {R : Type 0} → (R → Option (List ℕ)) → StreamReading R → Option (List ℕ)
+unread_of remaining s = option_map (take s.left) (remaining s.reader)
 
 -- the source is at its limit, or its reader is at the end
 abbrev pub IsUsedUp : {R : Type 0} → (R → Option (List ℕ)) → StreamReading R → Type 0
@@ -40,11 +54,9 @@ pub record KeepsReader {R : Type 0} (remaining : R → Option (List ℕ)) (a b :
 
 -- ---- what calls of a sink leave unchanged
 
--- if the contents of the writer were some bytes followed by those that the sink had taken, they are now the same bytes
--- followed by those that the sink has taken now
+-- the writer contains the bytes that the sink took, they are not flushed, and no flush was called
 abbrev pub KeepsWriter : {W : Type 0} → (W → Option (List ℕ)) → StreamWriting W → StreamWriting W → Type 0
-KeepsWriter contents a b = (before : List ℕ) → contents a.writer ≡ Some (before ++ a.taken)
-    → contents b.writer ≡ Some (before ++ b.taken)
+KeepsWriter contents = PutsOnly (λ s. s.taken) (λ s. s.unflushed) (λ s. contents s.writer) (λ s. s.flushes)
 
 -- ---- proofs that ghost members cite
 
@@ -75,8 +87,10 @@ KeepsReader-transitive remaining a b c p q = record {
 
 pub KeepsWriter-reflexive : {W : Type 0} (contents : W → Option (List ℕ)) (a : StreamWriting W)
     → KeepsWriter contents a a
-KeepsWriter-reflexive contents a before holds = holds
+KeepsWriter-reflexive contents =
+    PutsOnly-reflexive (λ s. s.taken) (λ s. s.unflushed) (λ s. contents s.writer) (λ s. s.flushes)
 
 pub KeepsWriter-transitive : {W : Type 0} (contents : W → Option (List ℕ)) (a b c : StreamWriting W)
     → KeepsWriter contents a b → KeepsWriter contents b c → KeepsWriter contents a c
-KeepsWriter-transitive contents a b c p q before holds = q before (p before holds)
+KeepsWriter-transitive contents =
+    PutsOnly-transitive (λ s. s.taken) (λ s. s.unflushed) (λ s. contents s.writer) (λ s. s.flushes)

@@ -33,22 +33,10 @@ pub fn write_answer(line: Option<&[u8]>, line_number: u64, buffer: &mut [u8]) ->
     ensures good { (bytes : List ℕ) → bytes_of line.entry ≡ short_line bytes
         → IsTrue result.1 ↔ IsGood bytes }
 {
-    match requested(line) {
+    match parse(line) {
         Some(request) => (write_requested(&request, buffer), true),
         None => (write_bad_line(line_number, buffer), false),
     }
-}
-
-// Parses the line. Returns `None` if it is too long or otherwise invalid.
-fn requested(line: Option<&[u8]>) -> Option<Request>
-    requires { IfSome line (λ bytes. length bytes.now ≤ 64) }
-    ensures radix { IfSome result (λ request. IsRadix request.radix) }
-    ensures found { IfSome result (λ request. (bytes : List ℕ) → bytes_of line.entry ≡ short_line bytes
-        → Asks bytes request) }
-    ensures none { IfNone result ((bytes : List ℕ) → bytes_of line.entry ≡ short_line bytes
-        → IsGood bytes → ⊥) }
-{
-    parse(line?)
 }
 
 // Writes the requested text and a newline, and returns their length.

@@ -11,7 +11,7 @@ ghost use Rattle.lexical_lines.specs.Lines.{NoNewline};
 ghost use Rattle.lexical_lines.specs.RunOutcome.{added, TellsAllGood, BreaksOff};
 
 use crate::answer::{MAX_ANSWER, write_answer};
-use crate::line::{Line, MAX_LENGTH};
+use crate::line::Line;
 use crate::sink::{ByteSink, put_all};
 use crate::split::split_at;
 use std::io;
@@ -22,7 +22,6 @@ const NEWLINE: u8 = b'\n';
 /// Answers lines whose bytes arrive in chunks. The answer to a line is the text of the number that the
 /// line requests, or `bad line` and the number of the line; the documentation of `run` has the details.
 /// An answerer writes the answer to a sink as soon as it gets the newline that ends the line.
-/// `answer_pieces` in `crates/uses/src/answers.rt` is an example.
 ///
 /// An answerer keeps the line that has not ended yet, the number of that line, and whether all lines
 /// before it are valid. It must not be used again after an error: the contracts then promise nothing
@@ -99,13 +98,8 @@ impl Answerer {
             → BreaksOff false (read ++ (end.now ++ 10 ∷ [])) (added before (K.taken sink.new))) }
         ensures puts { PutsMore K.taken K.faults K.keeps sink.old sink.new result }
     {
-        let is_good = put_line(
-            &mut self.line,
-            end,
-            self.line_number,
-            &mut self.answer,
-            sink,
-        )?;
+        let line = self.line.ended(end);
+        let is_good = put_answer(line, self.line_number, &mut self.answer, sink)?;
         self.line.clear();
         self.line_number = self.line_number.saturating_add(1);
         self.all_good &= is_good;
@@ -134,27 +128,6 @@ impl Answerer {
     }
 }
 
-// Writes the answer to the line that consists of `line` and then `end`, and returns whether that line
-// is valid. If `line` is empty and `end` is not too long, `end` is parsed without a copy.
-fn put_line<K: ByteSink>(
-    line: &mut Line,
-    end: &[u8],
-    line_number: u64,
-    buffer: &mut [u8],
-    sink: &mut K,
-) -> io::Result<bool>
-    requires { BUFFER_SIZE + 11 ≤ length buffer.old }
-    ensures answer { (rest : List ℕ) → line.old ≡ short_line rest
-        → PutsAnswer line_number (rest ++ end.now) (K.taken sink.old) (K.taken sink.new) result }
-    ensures puts { PutsMore K.taken K.faults K.keeps sink.old sink.new result }
-{
-    if line.is_empty() && end.len() <= MAX_LENGTH {
-        return put_answer(Some(end), line_number, buffer, sink);
-    }
-    line.push_all(end);
-    put_answer(line.as_slice(), line_number, buffer, sink)
-}
-
 // Writes the answer to a line into `buffer`, and from there to the sink. Returns whether the line is
 // valid. `line` is `None` if the line is too long.
 fn put_answer<K: ByteSink>(
@@ -170,6 +143,7 @@ fn put_answer<K: ByteSink>(
     ensures puts { PutsMore K.taken K.faults K.keeps sink.old sink.new result }
 {
     let (count, is_good) = write_answer(line, line_number, buffer);
-    put_all(sink, &buffer[..count])?;
+    let (_, put) = put_all(sink, &buffer[..count]);
+    put?;
     Ok(is_good)
 }

@@ -71,6 +71,20 @@ impl Line {
         self.count == 0
     }
 
+    /// Returns the line that ends with these bytes, or `None` if it is longer than 64 bytes. A line that
+    /// arrives whole is not copied.
+    pub fn ended<'a>(&'a mut self, end: &'a [u8]) -> Option<&'a [u8]>
+        ensures value { (line : List ℕ) → self.old ≡ short_line line
+            → bytes_of result ≡ short_line (line ++ end.now) }
+        ensures short { IfSome result (λ bytes. length bytes.now ≤ 64) }
+    {
+        if self.is_empty() && end.len() <= MAX_LENGTH {
+            return Some(end);
+        }
+        self.push_all(end);
+        self.as_slice()
+    }
+
     /// Returns the bytes of the line, or `None` if the line is longer than 64 bytes.
     pub fn as_slice(&self) -> Option<&[u8]>
         ensures value { bytes_of result ≡ self.now }

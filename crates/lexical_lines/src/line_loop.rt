@@ -1,8 +1,7 @@
 // The loop that reads bytes and answers lines.
 
-ghost use Rattle.std.specs.Prelude.{◌≡◌, ◌⊎◌, ◌+◌, ◌++◌, IsTrue, IfOk, OnOk, OnErr};
-ghost use Rattle.lexical_lines.specs.Answer.{AnswersAll, AnswersEnded};
-ghost use Rattle.lexical_lines.specs.RunOutcome.{added, TellsAllGood, BreaksOff};
+ghost use Rattle.std.specs.Prelude.{◌≡◌, ◌⊎◌, ℕ, ◌++◌, IfOk, OnErr};
+ghost use Rattle.lexical_lines.specs.RunOutcome.{added, RunAnswered, SourceFailed, SinkFailed};
 
 use crate::answerer::Answerer;
 use crate::sink::ByteSink;
@@ -10,8 +9,7 @@ use crate::source::ByteSource;
 use std::io;
 
 /// Reads lines from `source`, and writes the answer to each line to `sink` before it reads the next
-/// byte. Returns whether all lines are valid. `answers_to` in `crates/uses/src/answers.rt` is an
-/// example.
+/// byte. Returns whether all lines are valid.
 ///
 /// Each newline ends a line. If there are bytes after the last newline, they are a line too. A valid
 /// line has at most 64 bytes: the name of one of the ten integer types, a space, an optional `+`, a
@@ -24,6 +22,7 @@ use std::io;
 ///
 /// The first error of a device ends the run, and is returned. If the sink takes no bytes, the error is
 /// of kind `WriteZero`.
+#[tactic(auto, using(crate::proofs::Added::grown))]
 pub fn run<S: ByteSource, K: ByteSink>(source: &mut S, sink: &mut K) -> io::Result<bool>
     // The run only appends to what the source has yielded and to what the sink has taken.
     ensures given { S.given source.new
@@ -34,26 +33,21 @@ pub fn run<S: ByteSource, K: ByteSink>(source: &mut S, sink: &mut K) -> io::Resu
     ensures kept_sink { K.keeps sink.old sink.new }
 
     // If the run succeeds, no device failed, the source reported its end, and all lines are answered.
-    ensures ok_faults { OnOk result ((S.faults source.new ≡ S.faults source.old)
-        × (K.faults sink.new ≡ K.faults sink.old)) }
-    ensures ok_end { OnOk result (IsTrue (S.is_ended source.new)) }
-    ensures ok_answers { OnOk result
-        (let bytes = added (S.given source.old) (S.given source.new) in
-        let put = added (K.taken sink.old) (K.taken sink.new) in
-        AnswersAll bytes put) }
-    ensures ok_good { IfOk result (λ all_good.
+    ensures ok { IfOk result (λ all_good.
         let bytes = added (S.given source.old) (S.given source.new) in
-        TellsAllGood bytes all_good) }
+        let put = added (K.taken sink.old) (K.taken sink.new) in
+        let before : ℕ × ℕ = (S.faults source.old, K.faults sink.old) in
+        let after : ℕ × ℕ = (S.faults source.new, K.faults sink.new) in
+        RunAnswered before after (S.is_ended source.new) bytes put all_good) }
 
     // If the run fails, either the source failed, and all lines that ended are answered, or the sink
     // failed during the answer to the last line.
     ensures err { OnErr result
         (let bytes = added (S.given source.old) (S.given source.new) in
         let put = added (K.taken sink.old) (K.taken sink.new) in
-        ((S.faults source.new ≡ S.faults source.old + 1) × (K.faults sink.new ≡ K.faults sink.old)
-        × AnswersEnded bytes put)
-        ⊎ ((S.faults source.new ≡ S.faults source.old) × (K.faults sink.new ≡ K.faults sink.old + 1)
-        × BreaksOff (S.is_ended source.new) bytes put)) }
+        let before : ℕ × ℕ = (S.faults source.old, K.faults sink.old) in
+        let after : ℕ × ℕ = (S.faults source.new, K.faults sink.new) in
+        SourceFailed before after bytes put ⊎ SinkFailed before after (S.is_ended source.new) bytes put) }
 {
     let mut answerer = Answerer::new();
     while let Some(byte) = source.next()? {

@@ -1,7 +1,8 @@
 // Parses a line into a request.
 
-ghost use Rattle.std.specs.Prelude.{◌≡◌, ◌^◌, ℤ, pos, neg_ℤ, ◌≤◌, length, IfSome, IfNone};
+ghost use Rattle.std.specs.Prelude.{◌≡◌, ◌^◌, ℕ, List, ℤ, pos, neg_ℤ, ◌≤◌, length, IfSome, IfNone};
 ghost use Rattle.lexical_num.specs.Format.{IsRadix};
+ghost use Rattle.lexical_lines.specs.Line.{short_line, bytes_of};
 ghost use Rattle.lexical_lines.specs.Request.{IsValue, IsGood, Asks, number_of};
 
 use crate::decimal_parser::{parse_decimal, parse_radix};
@@ -26,13 +27,16 @@ pub struct Request {
     pub number: Number,
 }
 
-/// Parses a line of at most 64 bytes. Returns `None` if the line is not valid.
-pub fn parse(line: &[u8]) -> Option<Request>
-    requires { length line.now ≤ 64 }
+/// Parses a line, which is `None` if it is longer than 64 bytes. Returns `None` if the line is not valid.
+pub fn parse(line: Option<&[u8]>) -> Option<Request>
+    requires { IfSome line (λ bytes. length bytes.now ≤ 64) }
     ensures radix { IfSome result (λ request. IsRadix request.radix) }
-    ensures found { IfSome result (λ request. Asks line.now request) }
-    ensures none { IfNone result (IsGood line.now → ⊥) }
+    ensures found { IfSome result (λ request. (bytes : List ℕ) → bytes_of line.entry ≡ short_line bytes
+        → Asks bytes request) }
+    ensures none { IfNone result ((bytes : List ℕ) → bytes_of line.entry ≡ short_line bytes
+        → IsGood bytes → ⊥) }
 {
+    let line = line?;
     let (name, rest) = split_at(b' ', line)?;
     let (signed_radix, value) = split_at(b' ', rest)?;
     let kind = IntegerType::from_name(name)?;

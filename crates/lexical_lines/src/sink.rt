@@ -1,7 +1,10 @@
-//! A trait for devices that bytes are written to.
+//! Traits for devices that bytes are written to.
 
-ghost use Rattle.std.specs.Prelude.{◌≡◌, ℕ, ◌+◌, ◌≤◌, List, ◌++◌, length, take, IfOk, OnOk, OnErr};
-ghost use Rattle.lexical_lines.specs.Sink.{taken_by, put_faults, IsBeginning};
+ghost use Rattle.std.specs.Prelude.{◌≡◌, ℕ, ◌+◌, ◌<◌, ◌≤◌, List, [], ◌++◌, length, take, Option, IfOk, OnOk, OnErr};
+ghost use Rattle.std.specs.Io.KnownBytes.{Keeps};
+ghost use Rattle.lexical_lines.specs.Puts.{PutsOnly};
+ghost use Rattle.lexical_lines.specs.Sink.{taken_by, put_faults};
+ghost use Rattle.lexical_lines.specs.Source.{faults_of};
 
 use crate::trace::Trace;
 use std::io;
@@ -30,36 +33,75 @@ pub trait ByteSink {
     ghost keeps_transitive: { (a b c : Self) → keeps a b → keeps b c → keeps a c };
 }
 
-/// Writes all bytes to the sink, and stops at its first failure. Returns the error of the sink, or an
-/// error of kind `WriteZero` if the sink takes no bytes.
-pub fn put_all<K: ByteSink>(sink: &mut K, bytes: &[u8]) -> io::Result<()>
-    ensures ok { OnOk result (K.taken sink.new ≡ K.taken sink.old ++ bytes.now) }
-    ensures ok_faults { OnOk result (K.faults sink.new ≡ K.faults sink.old) }
-    ensures err { OnErr result ((part : List ℕ) × IsBeginning part bytes.now
-        × (K.taken sink.new ≡ K.taken sink.old ++ part)) }
-    ensures err_faults { OnErr result (K.faults sink.new ≡ K.faults sink.old + 1) }
+/// A sink that can be flushed. Its contract counts its flushes.
+pub trait BlockSink: ByteSink {
+    // The bytes that the sink contains, if they are known.
+    ghost contents: { Self → Option (List ℕ) };
+
+    // The bytes taken since the last flush that succeeded.
+    ghost unflushed: { Self → List ℕ };
+
+    // The number of flushes that succeeded.
+    ghost flushes: { Self → ℕ };
+
+    /// Passes the bytes taken on to where they are read, if the sink has a buffer of its own. An `Err` is
+    /// a failure.
+    fn flush(&mut self) -> io::Result<()>
+        ensures ok { OnOk result (unflushed self.new ≡ []) }
+        ensures taken { Self.taken self.new ≡ Self.taken self.old }
+        ensures flushes { flushes self.new + faults_of result ≡ flushes self.old + 1 }
+        ensures faults { Self.faults self.new ≡ Self.faults self.old + faults_of result }
+        ensures bytes { Keeps (contents self.old) (contents self.new) };
+
+    // What calls of `put` do.
+    ghost keeps_puts: { (a b : Self) → Self.keeps a b → PutsOnly Self.taken unflushed contents flushes a b };
+}
+
+/// Writes all bytes to the sink, and stops at its first failure. Returns how many bytes the sink has
+/// taken, and the error of the sink, or an error of kind `WriteZero` if the sink takes no bytes.
+pub fn put_all<K: ByteSink>(sink: &mut K, bytes: &[u8]) -> (usize, io::Result<()>)
+    ensures ok { OnOk result.1 (result.0 ≡ length bytes.now) }
+    ensures err { OnErr result.1 (result.0 < length bytes.now) }
+    ensures taken { K.taken sink.new ≡ K.taken sink.old ++ take result.0 bytes.now }
+    ensures faults { K.faults sink.new ≡ K.faults sink.old + faults_of result.1 }
     ensures kept { K.keeps sink.old sink.new }
 {
-    let mut rest = bytes;
-    while !rest.is_empty() {
-        let count = sink.put(rest)?;
-        if count == 0 {
-            return Err(io::Error::from(io::ErrorKind::WriteZero));
+    let mut taken = 0;
+    while taken < bytes.len() {
+        match sink.put(&bytes[taken..]) {
+            Ok(0) => return (taken, Err(io::Error::from(io::ErrorKind::WriteZero))),
+            Ok(count) => taken += count,
+            Err(error) => return (taken, Err(error)),
         }
-        rest = &rest[count..];
     }
-    Ok(())
+    (taken, Ok(()))
 }
 
 /// Records the outcome of a call of `put` in the trace: the bytes that the sink took, or its failure.
 pub fn note_put(trace: &mut Trace, bytes: &[u8], outcome: &io::Result<usize>)
     requires { IfOk outcome.now (λ count. count ≤ length bytes.now) }
-    ensures bytes { trace.new.bytes ≡ trace.old.bytes ++ take (taken_by outcome.now) bytes.now }
-    ensures faults { trace.new.faults ≡ trace.old.faults + put_faults outcome.now bytes.now }
+    ensures { trace.new ≡ record trace.old {
+      bytes = trace.old.bytes ++ take (taken_by outcome.now) bytes.now;
+      unflushed = trace.old.unflushed ++ take (taken_by outcome.now) bytes.now;
+      faults = trace.old.faults + put_faults outcome.now bytes.now;
+    } }
 {
     match outcome {
         Ok(0) if bytes.is_empty() => {}
         Ok(0) | Err(_) => trace.fault(),
         Ok(count) => trace.note(&bytes[..*count]),
+    }
+}
+
+/// Records the outcome of a flush in the trace.
+pub fn note_flush(trace: &mut Trace, outcome: &io::Result<()>)
+    ensures ok { OnOk outcome.now (trace.new.unflushed ≡ []) }
+    ensures bytes { trace.new.bytes ≡ trace.old.bytes }
+    ensures flushes { trace.new.flushes + faults_of outcome.now ≡ trace.old.flushes + 1 }
+    ensures faults { trace.new.faults ≡ trace.old.faults + faults_of outcome.now }
+{
+    match outcome {
+        Ok(()) => trace.flush(),
+        Err(_) => trace.fault(),
     }
 }

@@ -1,7 +1,9 @@
-//! A trait for devices that bytes are read from.
+//! Traits for devices that bytes are read from.
 
-ghost use Rattle.std.specs.Prelude.{◌≡◌, ℕ, ◌+◌, ◌≤◌, Bool, ◌||◌, List, ◌++◌, length};
-ghost use Rattle.lexical_lines.specs.Source.{given_by, tells_end, faults_of};
+ghost use Rattle.std.specs.Prelude.{◌≡◌, ℕ, ◌+◌, ◌≤◌, Bool, ◌||◌, List, ◌++◌, length, take, Option, IfOk};
+ghost use Rattle.std.specs.Io.KnownBytes.{ReadConsumes};
+ghost use Rattle.lexical_lines.specs.Sink.{taken_by};
+ghost use Rattle.lexical_lines.specs.Source.{given_by, tells_end, reads_end, faults_of};
 
 use std::io;
 
@@ -34,4 +36,26 @@ pub trait ByteSource {
     ghost keeps_reflexive: { (a : Self) → keeps a a };
 
     ghost keeps_transitive: { (a b c : Self) → keeps a b → keeps b c → keeps a c };
+}
+
+/// A source that also yields bytes in blocks. Its contract counts its reads.
+pub trait BlockSource: ByteSource {
+    // The bytes that the source will yield, if they are known.
+    ghost unread: { Self → Option (List ℕ) };
+
+    // The number of reads so far.
+    ghost calls: { Self → ℕ };
+
+    /// Reads bytes to the start of `block`, which must not be empty, and returns their number; only
+    /// `Ok(0)` reports the end. An `Err` yields no bytes and is a failure; nothing else is a failure.
+    fn read_block(&mut self, block: &mut [u8]) -> io::Result<usize>
+        requires { 1 ≤ length block.old }
+        ensures within { IfOk result (λ count. count ≤ length block.new) }
+        ensures given { Self.given self.new ≡ Self.given self.old ++ take (taken_by result) block.new }
+        ensures ended { Self.is_ended self.new ≡ (Self.is_ended self.old || reads_end result) }
+        ensures remaining { Self.remaining self.new + taken_by result ≡ Self.remaining self.old }
+        ensures calls { calls self.new ≡ calls self.old + 1 }
+        ensures faults { Self.faults self.new ≡ Self.faults self.old + faults_of result }
+        ensures kept { Self.keeps self.old self.new }
+        ensures bytes { ReadConsumes (unread self.old) (unread self.new) result block.new };
 }

@@ -1,19 +1,22 @@
 //! A source that reads from a reader, and a sink that writes to a writer.
 
-ghost use Rattle.std.specs.Prelude.{◌≡◌, ◌⊎◌, ◌+◌, ◌-◌, ◌≤◌, true, false, ◌||◌, [], ◌++◌, Ok, None, length};
+ghost use Rattle.std.specs.Prelude.{◌≡◌, ◌⊎◌, ◌+◌, ◌-◌, ◌^◌, ◌≤◌, true, false, ◌||◌, [], ◌++◌, Ok, None, length};
 ghost use Rattle.std.specs.Prelude.{take, drop, IfOk};
-ghost use Rattle.std.specs.Io.KnownBytes.{Consumes, IsAtEnd, WriteAppends};
+ghost use Rattle.std.specs.Io.KnownBytes.{Consumes, IsAtEnd, ReadConsumes, WriteAppends};
 ghost use Rattle.lexical_lines.specs.Sink.{taken_by, put_faults};
-ghost use Rattle.lexical_lines.specs.Source.{given_by, tells_end, faults_of};
+ghost use Rattle.lexical_lines.specs.Source.{given_by, tells_end, reads_end, faults_of};
 
-use crate::sink::{ByteSink, note_put};
-use crate::source::ByteSource;
+use crate::sink::{BlockSink, ByteSink, note_flush, note_put};
+use crate::source::{BlockSource, ByteSource};
 use crate::trace::Trace;
 use std::io;
 use std::io::{Read, Write};
 use std::marker::Model;
 
-/// A source that yields the bytes of a reader, up to a limit. It calls `read` once for each byte.
+// An offset in a file is a signed number of 64 bits, so every file is shorter than this.
+const LONGEST: u64 = 9_223_372_036_854_775_807;
+
+/// A source that yields the bytes of a reader, up to a limit. It calls `read` once for each byte or block.
 #[derive(Drop)]
 pub struct Reading<R> {
     reader: R,
@@ -32,19 +35,18 @@ impl<R> Model for Reading<R> {
       left = s.left;
       is_ended = s.is_ended;
       given = s.trace.bytes;
+      calls = s.trace.calls;
       faults = s.trace.faults;
     } };
 }
 
 impl<R: Read> Reading<R> {
+    ghost use Rattle.lexical_lines.specs.Stream.{new_reading};
+
     /// Returns a source that reports the end after `limit` bytes, or earlier if the reader yields no
     /// byte.
     pub fn new(reader: R, limit: u64) -> Reading<R>
-        ensures reader { result.reader ≡ reader }
-        ensures left { result.left ≡ limit }
-        ensures ended { result.is_ended ≡ false }
-        ensures given { result.given ≡ [] }
-        ensures faults { result.faults ≡ 0 }
+        ensures { result ≡ new_reading reader limit }
     {
         Reading {
             reader,
@@ -52,6 +54,13 @@ impl<R: Read> Reading<R> {
             is_ended: false,
             trace: Trace::new(),
         }
+    }
+
+    /// Returns a source that yields all bytes of the reader: its limit is 2^63 - 1 bytes.
+    pub fn whole(reader: R) -> Reading<R>
+        ensures { result ≡ new_reading reader (2 ^ 63 - 1) }
+    {
+        Reading::new(reader, LONGEST)
     }
 }
 
@@ -86,20 +95,48 @@ impl<R: Read> ByteSource for Reading<R> {
         ensures left { self.new.left ≡ self.old.left - length (given_by result) }
         ensures limit { self.old.left ≡ 0 → result ≡ Ok None }
     {
+        let mut byte = [0u8];
+        match self.read_block(&mut byte) {
+            Ok(0) => Ok(None),
+            Ok(_) => Ok(Some(byte[0])),
+            Err(error) => Err(error),
+        }
+    }
+}
+
+impl<R: Read> BlockSource for Reading<R> {
+    ghost use Rattle.lexical_lines.specs.Stream.{KeepsReader, unread_of};
+
+    ghost unread = { unread_of R.remaining };
+
+    ghost calls = { λ s. s.calls };
+
+    /// Reads at most as many bytes as the limit leaves. At the limit, the reader is not called.
+    fn read_block(&mut self, block: &mut [u8]) -> io::Result<usize>
+        requires { 1 ≤ length block.old }
+        ensures within { IfOk result (λ count. count ≤ length block.new) }
+        ensures given { self.new.given ≡ self.old.given ++ take (taken_by result) block.new }
+        ensures ended { self.new.is_ended ≡ (self.old.is_ended || reads_end result) }
+        ensures remaining { self.new.left + taken_by result ≡ self.old.left }
+        ensures calls { self.new.calls ≡ self.old.calls + 1 }
+        ensures faults { self.new.faults ≡ self.old.faults + faults_of result }
+        ensures kept { KeepsReader R.remaining self.old self.new }
+        ensures bytes { ReadConsumes (unread_of R.remaining self.old) (unread_of R.remaining self.new)
+            result block.new }
+        ensures limit { self.old.left ≡ 0 → result ≡ Ok 0 }
+    {
+        self.trace.call();
         if self.left == 0 {
             self.is_ended = true;
-            return Ok(None);
+            return Ok(0);
         }
-        let mut byte = [0u8];
-        match self.reader.read(&mut byte) {
-            Ok(0) => {
-                self.is_ended = true;
-                Ok(None)
-            }
-            Ok(_) => {
-                self.left -= 1;
-                self.trace.note(&byte);
-                Ok(Some(byte[0]))
+        let size = self.left.min(block.len() as u64) as usize;
+        match self.reader.read(&mut block[..size]) {
+            Ok(count) => {
+                self.is_ended |= count == 0;
+                self.left -= count as u64;
+                self.trace.note(&block[..count]);
+                Ok(count)
             }
             Err(error) => {
                 self.trace.fault();
@@ -109,7 +146,8 @@ impl<R: Read> ByteSource for Reading<R> {
     }
 }
 
-/// A sink that writes to a writer. It calls `write` once for each call of `put`.
+/// A sink that writes to a writer. It calls `write` once for each call of `put`, and `flush` once for each
+/// flush.
 #[derive(Drop)]
 pub struct Writing<W> {
     writer: W,
@@ -124,6 +162,8 @@ impl<W> Model for Writing<W> {
     ghost view = { λ s. record {
       writer = s.writer;
       taken = s.trace.bytes;
+      unflushed = s.trace.unflushed;
+      flushes = s.trace.flushes;
       faults = s.trace.faults;
     } };
 }
@@ -131,9 +171,7 @@ impl<W> Model for Writing<W> {
 impl<W: Write> Writing<W> {
     /// Returns a sink that has taken no bytes and writes to `writer`.
     pub fn new(writer: W) -> Writing<W>
-        ensures writer { result.writer ≡ writer }
-        ensures taken { result.taken ≡ [] }
-        ensures faults { result.faults ≡ 0 }
+        ensures { result ≡ record { writer = writer; taken = []; unflushed = []; flushes = 0; faults = 0 } }
     {
         Writing {
             writer,
@@ -175,6 +213,23 @@ impl<W: Write> ByteSink for Writing<W> {
     {
         let outcome = self.writer.write(bytes);
         note_put(&mut self.trace, bytes, &outcome);
+        outcome
+    }
+}
+
+impl<W: Write> BlockSink for Writing<W> {
+    ghost contents = { λ s. W.contents s.writer };
+
+    ghost unflushed = { λ s. s.unflushed };
+
+    ghost flushes = { λ s. s.flushes };
+
+    ghost keeps_puts = { λ a b kept. kept };
+
+    /// Calls `flush` of the writer.
+    fn flush(&mut self) -> io::Result<()> {
+        let outcome = self.writer.flush();
+        note_flush(&mut self.trace, &outcome);
         outcome
     }
 }

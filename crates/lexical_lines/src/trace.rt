@@ -6,12 +6,16 @@ use lexical_num::ghost_log::GhostLog;
 use std::marker::Model;
 use std::mem::size_of;
 
-/// A ghost record of the bytes that a device has yielded or taken so far and of the number of its
-/// failures. Only contracts see it: at run time a trace has no data, and its methods do nothing.
+/// A ghost record of the bytes that a device has yielded or taken so far, of those taken since its last
+/// flush, and of the numbers of its calls, its flushes and its failures. Only contracts see it: at run
+/// time a trace has no data, and its methods do nothing.
 #[derive(Drop)]
 pub struct Trace {
     bytes: GhostLog,
-    // One number for each failure. Only their count is read.
+    unflushed: GhostLog,
+    // One number for each call, flush or failure. Only their counts are read.
+    calls: GhostLog,
+    flushes: GhostLog,
     faults: GhostLog,
 }
 
@@ -21,35 +25,60 @@ impl Model for Trace {
 
     ghost Value = { Traced };
 
-    ghost view = { λ t. record { bytes = t.bytes; faults = length t.faults } };
+    ghost view = { λ t. record {
+      bytes = t.bytes;
+      unflushed = t.unflushed;
+      calls = length t.calls;
+      flushes = length t.flushes;
+      faults = length t.faults;
+    } };
 }
 
 const _: () = prove!(size_of::<Trace>() == 0);
 
 impl Trace {
-    /// Returns a trace with no bytes and no failures.
+    /// Returns a trace with no bytes, no calls and no failures.
     pub fn new() -> Trace
-        ensures bytes { result.bytes ≡ [] }
-        ensures faults { result.faults ≡ 0 }
+        ensures { result ≡ record { bytes = []; unflushed = []; calls = 0; flushes = 0; faults = 0 } }
     {
         Trace {
             bytes: GhostLog::new(),
+            unflushed: GhostLog::new(),
+            calls: GhostLog::new(),
+            flushes: GhostLog::new(),
             faults: GhostLog::new(),
         }
     }
 
-    /// Appends bytes to the record.
+    /// Appends bytes to the record. They are not flushed.
     pub fn note(&mut self, bytes: &[u8])
-        ensures bytes { self.new.bytes ≡ self.old.bytes ++ bytes.now }
-        ensures faults { self.new.faults ≡ self.old.faults }
+        ensures { self.new ≡ record self.old {
+          bytes = self.old.bytes ++ bytes.now;
+          unflushed = self.old.unflushed ++ bytes.now;
+        } }
     {
         self.bytes.extend(bytes);
+        self.unflushed.extend(bytes);
+    }
+
+    /// Adds 1 to the number of calls.
+    pub fn call(&mut self)
+        ensures { self.new ≡ record self.old { calls = self.old.calls + 1 } }
+    {
+        self.calls.tick(0);
+    }
+
+    /// Adds 1 to the number of flushes: all bytes are flushed.
+    pub fn flush(&mut self)
+        ensures { self.new ≡ record self.old { unflushed = []; flushes = self.old.flushes + 1 } }
+    {
+        self.unflushed = GhostLog::new();
+        self.flushes.tick(0);
     }
 
     /// Adds 1 to the number of failures.
     pub fn fault(&mut self)
-        ensures bytes { self.new.bytes ≡ self.old.bytes }
-        ensures faults { self.new.faults ≡ self.old.faults + 1 }
+        ensures { self.new ≡ record self.old { faults = self.old.faults + 1 } }
     {
         self.faults.tick(0);
     }

@@ -6,11 +6,10 @@ ghost use Rattle.lexical_num.specs.declared.constants.TheConstants.{BUFFER_SIZE}
 ghost use Rattle.lexical_num.specs.Size.{IsWithin};
 
 /// The length of a buffer that is long enough for every number of every type in every format.
-/// `line_of_any` in `crates/uses/src/any_format.rt` is an example.
 pub const BUFFER_SIZE: usize = 128;
 
 /// An integer type with buffer lengths that are enough for each of its numbers. `buffer_size` of the
-/// options chooses between them. `write_row` in `crates/uses/src/csv_row.rt` is an example.
+/// options chooses between them.
 pub trait FormattedSize {
     /// The number of bytes that is enough in every radix from 2 to 36, with a sign and with groups.
     const FORMATTED_SIZE: usize;

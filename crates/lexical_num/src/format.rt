@@ -90,8 +90,7 @@ impl NumberFormat {
     }
 
     /// Returns the number of bytes that `count` digits take in the format. If the digits are grouped,
-    /// a separator precedes each group but the first. The count is below 2^63. `width_of_amount` in
-    /// `crates/uses/src/amount.rt` is an example.
+    /// a separator precedes each group but the first. The count is below 2^63.
     pub fn grouped_len(&self, count: usize) -> usize
         requires { count < 2 ^ 63 }
         ensures { result ≡ grouped_length self.now.digit_grouping count }

@@ -320,7 +320,6 @@ pub trait UnsignedInteger: LexicalInteger {
         requires { magnitude self < 2 ^ 32 }
         ensures { result ≡ magnitude self }
     {
-        // The caller has shown that the number fits.
         self.as_usize() as u32
     }
 

@@ -16,7 +16,7 @@ pub trait WriteOptions {
         ensures { result ≡ is_valid self.now };
 
     /// Returns the length of a buffer that is long enough for every number of the type in the format,
-    /// with its sign and its groups. `text_if_room` in `crates/uses/src/any_format.rt` is an example.
+    /// with its sign and its groups.
     fn buffer_size<T: FormattedSize>(&self, format: &NumberFormat) -> usize
         ensures { result ≡ size_in T.FORMATTED_SIZE T.FORMATTED_SIZE_DECIMAL format.now };
 }

@@ -1,5 +1,6 @@
 -- Texts with zeros after the sign, up to a width.
-use Rattle.std.specs.Prelude.{◌≡◌, ℕ, ◌-◌, List, [], ◌∷◌, ◌++◌, length, take, drop, replicate, ◌||◌, ◌==◌, if◌then◌else◌}
+use Rattle.std.specs.Prelude.{◌≡◌, ℕ, ◌-◌, List, [], ◌∷◌, ◌++◌, length, take, drop, replicate}
+use Rattle.std.specs.Prelude.{◌||◌, ◌==◌, if◌then◌else◌}
 
 -- the length of the sign with which a text begins: 1 if its first byte is `-` or `+`, and otherwise 0
 abbrev pub sign_length : List ℕ → ℕ

@@ -1,14 +1,12 @@
 -- A prefix of the answers, if a device fails.
-use Rattle.std.proofs.Common.{◌≡◌, ℕ, Bool, true, false, List, ◌++◌, length, drop, ap, ◌∙◌, append_assoc}
-use Rattle.std.proofs.Transfers.{starts_with_of_append}
+use Rattle.std.proofs.Common.{◌≡◌, ℕ, Bool, true, false, List, ◌++◌, length, drop, ap, ◌∙◌, append_assoc, append-nil}
+use Rattle.std.proofs.Transfers.{starts_with_of_append, starts_with_of_eq}
 use Rattle.std.proofs.KnownBytes.{starts_with_rest}
 use Rattle.std.specs.Io.{StartsWith}
 use Rattle.lexical_lines.specs.Answer.{AnswersAll, AnswersEnded}
 use Rattle.lexical_lines.specs.RunOutcome.{BreaksOff}
 use Rattle.lexical_lines.proofs.UniqueAnswers.{AnswersAll-unique, AnswersEnded-begins, BreaksOff-begins}
 use Rattle.lexical_streams.specs.StreamAnswers.{BeginsAnswers}
-use Rattle.std.proofs.Common.{append-nil}
-use Rattle.std.proofs.Transfers.{starts_with_of_eq}
 
 pub begins-ended : (is_whole : Bool) (read put : List ℕ) → AnswersEnded read put → BeginsAnswers is_whole read put
 begins-ended is_whole read put answered = λ more text whole all.

@@ -1,16 +1,16 @@
 -- What each step of a run over blocks does: a flush, a read, the answers to a block, and the end.
-use Rattle.std.proofs.Common.{◌≡◌, ℕ, ◌+◌, true, false, List, [], ◌++◌, refl, sym, ap, subst, ◌∙◌, inl, inr, arith, append-nil, append_assoc}
+use Rattle.std.proofs.Common.{◌≡◌, ℕ, ◌+◌, true, false, List, [], ◌++◌, take, refl, sym, ap, subst, ◌∙◌, inl, inr, arith, append-nil, append_assoc}
 use Rattle.std.specs.Io.{StartsWith}
-use Rattle.std.specs.Io.KnownBytes.{Appends}
+use Rattle.std.specs.Io.KnownBytes.{Appends, IsAtEnd}
+use Rattle.std.proofs.KnownBytes.{Consumes-all}
 use Rattle.std.proofs.lemmas.List.{append_cancel_left}
 use Rattle.lexical_lines.specs.declared.answerer.Answerer.{Answerer}
 use Rattle.lexical_lines.specs.Answer.{AnswersAll, AnswersEnded}
 use Rattle.lexical_lines.specs.Answerer.{HasAnswered}
 use Rattle.lexical_lines.specs.RunOutcome.{added, BreaksOff}
 use Rattle.lexical_lines.proofs.Added.{added-is}
-use Rattle.lexical_lines.proofs.Readers.{given-of}
 use Rattle.lexical_lines.proofs.Runs.{answers_ended}
-use Rattle.lexical_streams.specs.Blocks.{BlockReading, BlockWriting, taken, Yields, IsUsedUp, KeepsBytes, IsFlushed}
+use Rattle.lexical_streams.specs.Blocks.{BlockReading, BlockWriting, taken, Yields, KeepsBytes, IsFlushed}
 use Rattle.lexical_streams.specs.Kept.{Yields-none, Yields-more, KeepsBytes-reflexive, KeepsBytes-transitive}
 use Rattle.lexical_streams.specs.StreamAnswers.{bytes_read, bytes_put, AnswersGiven, BeginsAnswers, HandedAll, AllAnswered, OneFailed, IsUnderWay}
 use Rattle.lexical_streams.proofs.Begun.{begins-ended, begins-broken, begins-last, begins-all}
@@ -54,29 +54,30 @@ IsUnderWay-start a c answerer none =
     }
 
 module _ (a b : BlockReading) (c d : BlockWriting) (answerer : Answerer) (h : IsUnderWay a b c d answerer) where
-  -- the answers so far, after a flush
-  ended-after : (e : BlockWriting) → taken e ≡ taken d → AnswersEnded (bytes_read a b) (bytes_put c e)
-  ended-after e same = subst (λ xs. AnswersEnded (bytes_read a b) xs) (sym (same-put c d e same)) (answers_ended h.answered)
-
-  -- ---- a flush, a read, and the answers to the block that was read
-
-  -- the flush before a read failed
+  -- a flush failed
   pub flush-failed : (e : BlockWriting) → taken e ≡ taken d → e.faults ≡ d.faults + 1 → OneFailed a b c e
   flush-failed e same fault = inr (record {
     fault = (h.no_fault.0, omega (arith, fault, h.no_fault.1));
-    begins = begins-ended b.is_ended (bytes_read a b) (bytes_put c e) (ended-after e same);
+    begins = begins-ended b.is_ended (bytes_read a b) (bytes_put c e)
+        (subst (λ xs. AnswersEnded (bytes_read a b) xs) (sym (same-put c d e same)) (answers_ended h.answered));
   })
 
-  -- the flush succeeded, and the read failed
-  pub read-failed : (s : BlockReading) (e : BlockWriting) → taken e ≡ taken d → KeepsBytes d e → IsFlushed e → e.faults ≡ d.faults
-      → s.given ≡ b.given → s.faults ≡ b.faults + 1 → OneFailed a s c e
-  read-failed s e same kept flushed good none fault =
-      let read : bytes_read a s ≡ bytes_read a b = ap (λ bytes. added a.given bytes) none in
-      inl (record {
-        fault = (omega (arith, fault, h.no_fault.0), good ∙ h.no_fault.1);
-        answers = subst (λ xs. AnswersEnded xs (bytes_put c e)) (sym read) (ended-after e same);
-        handed = handed-all c e (KeepsBytes-transitive c d e h.written kept) flushed;
-      })
+  -- a flush succeeded
+  pub IsUnderWay-flushed : (e : BlockWriting) → taken e ≡ taken d → KeepsBytes d e → e.faults ≡ d.faults → IsUnderWay a b c e answerer
+  IsUnderWay-flushed e same kept good = record {
+    no_fault = (h.no_fault.0, good ∙ h.no_fault.1);
+    read = h.read;
+    written = KeepsBytes-transitive c d e h.written kept;
+    answered = subst (λ xs. HasAnswered (taken c) (bytes_read a b) xs answerer) (sym same) h.answered;
+  }
+
+  -- a read failed
+  pub read-failed : (s : BlockReading) → IsFlushed d → s.given ≡ b.given → s.faults ≡ b.faults + 1 → OneFailed a s c d
+  read-failed s flushed none fault = inl (record {
+    fault = (omega (arith, fault, h.no_fault.0), h.no_fault.1);
+    answers = subst (λ xs. AnswersEnded xs (bytes_put c d)) (ap (λ bytes. added a.given bytes) (sym none)) (answers_ended h.answered);
+    handed = handed-all c d h.written flushed;
+  })
 
   -- the bytes that were read up to and including a block
   module _ (s : BlockReading) (block : List ℕ) (yields : Yields b s block) where
@@ -103,6 +104,14 @@ module _ (a b : BlockReading) (c d : BlockWriting) (answerer : Answerer) (h : Is
           (begins-broken s.is_ended (bytes_read a b) block front (bytes_put c f) starts broke);
     })
 
+  -- a read yielded no bytes
+  pub IsUnderWay-ended : (s : BlockReading) (count : ℕ) (block : List ℕ) → Yields b s (take count block) → count ≡ 0 → s.faults ≡ b.faults
+      → IsUnderWay a s c d answerer
+  IsUnderWay-ended s count block yields none good =
+      let nothing : Yields b s [] = rw none at yields in
+      let answered = subst (λ xs. HasAnswered (taken c) xs (taken d) answerer) (sym (append-nil _)) h.answered in
+      IsUnderWay-next s [] nothing d answerer answered (KeepsBytes-reflexive d) good refl
+
   -- ---- the end of the input
 
   -- a write failed during the answer to the last line
@@ -123,12 +132,12 @@ module _ (a b : BlockReading) (c d : BlockWriting) (answerer : Answerer) (h : Is
   })
 
   -- all lines are answered, and the answers are written and flushed
-  pub all-answered : (e f : BlockWriting) → b.is_ended ≡ true → IsUsedUp b → AnswersAll (bytes_read a b) (bytes_put c e)
+  pub all-answered : (e f : BlockWriting) → b.is_ended ≡ true → IsAtEnd b.unread → AnswersAll (bytes_read a b) (bytes_put c e)
       → e.faults ≡ d.faults → KeepsBytes d e → taken f ≡ taken e → f.faults ≡ e.faults → KeepsBytes e f → IsFlushed f → AllAnswered a b c f
   all-answered e f ended used_up all good kept same flushed_good flushed_kept flushed = record {
     no_fault = (h.no_fault.0, flushed_good ∙ good ∙ h.no_fault.1);
     ended = ended;
-    all = given-of a.remaining b.remaining (bytes_read a b) a.left b.left h.read.bytes h.read.left (λ _. used_up);
+    all = Consumes-all a.unread b.unread (bytes_read a b) [] (bytes_read a b) h.read.bytes used_up refl;
     answers = subst (λ xs. AnswersAll (bytes_read a b) xs) (sym (same-put c e f same)) all;
     handed = handed-all c f (KeepsBytes-transitive c e f (KeepsBytes-transitive c d e h.written kept) flushed_kept) flushed;
   }

@@ -1,5 +1,5 @@
 -- What was read and written while the lines of a stream were answered.
-use Rattle.std.specs.Prelude.{◌≡◌, ◌⊎◌, ℕ, ◌+◌, Bool, true, List, [], ◌++◌, take, IfSome}
+use Rattle.std.specs.Prelude.{◌≡◌, ◌⊎◌, ℕ, ◌+◌, Bool, true, List, [], ◌++◌, IfSome}
 use Rattle.std.specs.Io.{StartsWith}
 use Rattle.std.specs.Io.KnownBytes.{Appends}
 use Rattle.lexical_lines.specs.declared.answerer.Answerer.{Answerer}
@@ -50,11 +50,11 @@ pub record HandedAll (c d : BlockWriting) : Type 0 where
   pub flushed : IsFlushed d
   pub contents : Appends c.contents d.contents (c.held ++ bytes_put c d)
 
--- no device failed. The reader yielded all its bytes, up to its limit, and the answers to all their lines are written
+-- no device failed. The reader yielded all its bytes, and the answers to all their lines are written
 pub record AllAnswered (a b : BlockReading) (c d : BlockWriting) : Type 0 where
   pub no_fault : NoFault a b c d
   pub ended : b.is_ended ≡ true
-  pub all : IfSome a.remaining (λ bytes. bytes_read a b ≡ take a.left bytes)
+  pub all : IfSome a.unread (λ bytes. bytes_read a b ≡ bytes)
   pub answers : AnswersAll (bytes_read a b) (bytes_put c d)
   pub handed : HandedAll c d
 

@@ -1,13 +1,11 @@
 // A writer that collects bytes in a block.
 
 ghost use Rattle.std.specs.Prelude.{◌≡◌, ◌+◌, ◌-◌, ◌<◌, ◌≤◌, min, [], ◌++◌, length, take, Ok, IfOk, OnOk};
-ghost use Rattle.std.specs.Io.KnownBytes.{Appends};
 ghost use Rattle.lexical_lines.specs.Sink.{taken_by, put_faults};
 ghost use Rattle.lexical_lines.specs.Source.{faults_of};
 ghost use Rattle.lexical_streams.specs.Blocks.{taken, KeepsBytes, IsFlushed};
 
-use crate::device::BlockSink;
-use lexical_lines::ByteSink;
+use lexical_lines::{BlockSink, ByteSink, put_all};
 use std::io;
 use std::marker::Model;
 
@@ -36,7 +34,6 @@ impl<K: BlockSink, const SIZE: usize> Model for BlockWriter<K, SIZE> {
       written = K.taken w.sink;
       unflushed = K.unflushed w.sink;
       held = take w.end w.block;
-      writes = K.writes w.sink;
       flushes = K.flushes w.sink;
       faults = K.faults w.sink;
     } };
@@ -53,7 +50,6 @@ impl<K: BlockSink, const SIZE: usize> BlockWriter<K, SIZE> {
           written = K.taken sink;
           unflushed = K.unflushed sink;
           held = [];
-          writes = K.writes sink;
           flushes = K.flushes sink;
           faults = K.faults sink;
         } }
@@ -101,7 +97,7 @@ impl<K: BlockSink, const SIZE: usize> BlockWriter<K, SIZE> {
         ensures kept { KeepsBytes self.old self.new }
         ensures faults { self.new.faults ≡ self.old.faults + faults_of result }
     {
-        let (count, result) = write_until_error(&self.block[..self.end], &mut self.sink);
+        let (count, result) = put_all(&mut self.sink, &self.block[..self.end]);
         self.block.copy_within(count..self.end, 0);
         self.end -= count;
         result
@@ -153,24 +149,4 @@ impl<K: BlockSink, const SIZE: usize> ByteSink for BlockWriter<K, SIZE> {
         }
         Ok(self.fill_block(bytes))
     }
-}
-
-// Writes the bytes until all are written or a write fails, and returns how many were written.
-fn write_until_error<K: BlockSink>(bytes: &[u8], sink: &mut K) -> (usize, io::Result<()>)
-    ensures bound { result.0 ≤ length bytes.now }
-    ensures all { OnOk result.1 (result.0 ≡ length bytes.now) }
-    ensures taken { K.taken sink.new ≡ K.taken sink.old ++ take result.0 bytes.now }
-    ensures bytes { Appends (K.contents sink.old) (K.contents sink.new) (take result.0 bytes.now) }
-    ensures flushes { K.flushes sink.new ≡ K.flushes sink.old }
-    ensures faults { K.faults sink.new ≡ K.faults sink.old + faults_of result.1 }
-{
-    let mut taken = 0;
-    while taken < bytes.len() {
-        match sink.write_block(&bytes[taken..]) {
-            Ok(0) => return (taken, Err(io::Error::from(io::ErrorKind::WriteZero))),
-            Ok(count) => taken += count,
-            Err(error) => return (taken, Err(error)),
-        }
-    }
-    (taken, Ok(()))
 }

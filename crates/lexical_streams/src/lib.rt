@@ -2,7 +2,7 @@
 //! bytes. No call allocates memory: the blocks are on the stack.
 //!
 //! The contracts say which bytes the source yielded, which bytes were written and flushed, and which
-//! device failed. A `ReadSource` and a `WriteSink` are devices over a reader and a writer of the standard
+//! device failed. A `Reading` and a `Writing` are devices over a reader and a writer of the standard
 //! library. They count their own calls and failures, since its traits do not say that a call failed.
 //!
 //! # Examples
@@ -11,23 +11,17 @@
 //! `crates/lines_tests/src/tests/blocks.rt`):
 //!
 //! ```
-//! let mut reader = BlockReader::new(ReadSource::new(bytes));
-//! let mut writer = BlockWriter::<_, 7>::new(WriteSink::new(Vec::new(alloc)));
+//! let mut reader = BlockReader::new(Reading::whole(bytes));
+//! let mut writer = BlockWriter::<_, 7>::new(Writing::new(Vec::new(alloc)));
 //! let status = answer_stream(&mut reader, &mut writer);
 //! (status, writer.into_inner().into_inner())
 //! ```
 #![tactic(auto)]
 
-// Devices, and those over readers and writers of the standard library.
 mod block_reader;
 mod block_writer;
-mod call_record;
-mod device;
-mod std_device;
 mod stream_answers;
 
 pub use block_reader::BlockReader;
 pub use block_writer::BlockWriter;
-pub use device::{BlockSink, BlockSource};
-pub use std_device::{ReadSource, WriteSink};
 pub use stream_answers::{answer_lines, answer_stream};

@@ -1,21 +1,18 @@
 //! Answers the lines of a source, and writes the answers to a sink.
 
-ghost use Rattle.std.specs.Prelude.{◌≡◌, ◌<◌, ◌≤◌, true, false, length, [], IfOk, OnOk, OnErr};
+ghost use Rattle.std.specs.Prelude.{◌≡◌, ◌⊎◌, ◌≤◌, true, false, [], IfOk, OnOk, OnErr};
 ghost use Rattle.lexical_lines.specs.RunOutcome.{TellsAllGood};
-ghost use Rattle.lexical_streams.specs.Blocks.{BlockReading, BlockWriting, Yields, IsUsedUp, KeepsBytes};
-ghost use Rattle.lexical_streams.specs.StreamAnswers.{bytes_read, AnswersGiven, NoFaultSoFar};
+ghost use Rattle.lexical_streams.specs.Blocks.{Yields, KeepsBytes};
+ghost use Rattle.lexical_streams.specs.StreamAnswers.{bytes_read, NoFaultSoFar};
 ghost use Rattle.lexical_streams.specs.StreamAnswers.{AllAnswered, ReaderFailed, WriterFailed, OneFailed};
-ghost use Rattle.lexical_streams.specs.StreamAnswers.{IsUnderWay};
-ghost use Rattle.std.specs.Prelude.{◌⊎◌};
 
 use crate::block_reader::BlockReader;
 use crate::block_writer::BlockWriter;
-use crate::device::{BlockSink, BlockSource};
-use crate::std_device::{ReadSource, WriteSink};
-use lexical_lines::{Answerer, status};
+use lexical_lines::{Answerer, BlockSink, BlockSource, Reading, Writing};
 use std::io;
 
-// The writer is flushed before each read, so a larger block leads to fewer, longer writes.
+// The writer is flushed before each read, so a larger block leads to fewer, longer writes. It is on the stack, where
+// 128 KiB leave room even in a thread of 1 MiB.
 const READ_BLOCK: usize = 128 * 1024;
 
 const WRITE_BLOCK: usize = 16 * 1024;
@@ -25,15 +22,15 @@ const WRITE_BLOCK: usize = 16 * 1024;
 pub fn answer_lines(rt: HostRuntime) -> u8
     ensures { result ≤ 2 }
 {
-    let mut reader = BlockReader::new(ReadSource::new(rt.reader()));
-    let mut writer = BlockWriter::<_, WRITE_BLOCK>::new(WriteSink::new(io::writer(&rt)));
+    let mut reader = BlockReader::new(Reading::whole(rt.reader()));
+    let mut writer = BlockWriter::<_, WRITE_BLOCK>::new(Writing::new(io::writer(&rt)));
     answer_stream(&mut reader, &mut writer)
 }
 
 /// Reads lines and writes their answers, as `lexical_lines::run` does, and then flushes the writer.
 /// Returns the exit status: 0 if all lines are valid, 1 if a line is invalid, and 2 if a read, a write
 /// or a flush failed. The source must be new, that is, it must not have yielded any bytes, and neither
-/// device may have failed before. `answered` in `crates/lines_tests/src/tests/blocks.rt` is an example.
+/// device may have failed before.
 ///
 /// When a read begins, every line that has ended is answered, and the answers are written and flushed.
 /// So an answer never waits for the next line. After a failure neither device is called.
@@ -60,12 +57,15 @@ pub fn answer_stream<S: BlockSource, K: BlockSink, const SIZE: usize>(
     ensures failed { result ≡ 2 → ReaderFailed reader.old reader.new writer.old writer.new
         ⊎ WriterFailed reader.old reader.new writer.old writer.new }
 {
-    let ran = answer_blocks(reader, writer);
-    status(&ran, true)
+    match answer_blocks(reader, writer) {
+        Ok(true) => 0,
+        Ok(false) => 1,
+        Err(_) => 2,
+    }
 }
 
-// Answers all lines of the reader, up to its limit or the first failure of a device, and flushes the
-// writer. Returns whether all lines are valid.
+// Answers all lines of the reader, up to the first failure of a device, and flushes the writer before each
+// read and at the end. Returns whether all lines are valid.
 fn answer_blocks<S: BlockSource, K: BlockSink, const SIZE: usize>(
     reader: &mut BlockReader<S>,
     writer: &mut BlockWriter<K, SIZE>,
@@ -80,40 +80,15 @@ fn answer_blocks<S: BlockSource, K: BlockSink, const SIZE: usize>(
 {
     let mut block = [0u8; READ_BLOCK];
     let mut answerer = Answerer::new();
-    let mut has_more = true;
-    while has_more {
-        has_more = answer_block(reader, writer, &mut block, &mut answerer)?;
+    loop {
+        writer.flush()?;
+        let count = reader.read(&mut block, writer)?;
+        if count == 0 {
+            break;
+        }
+        answerer.push_all(&block[..count], writer)?;
     }
     let all_good = answerer.finish(writer)?;
     writer.flush()?;
     Ok(all_good)
-}
-
-// Flushes the writer, reads a block, and answers the lines that end in it. Returns whether there may be
-// more bytes to read.
-fn answer_block<S: BlockSource, K: BlockSink, const SIZE: usize>(
-    reader: &mut BlockReader<S>,
-    writer: &mut BlockWriter<K, SIZE>,
-    block: &mut [u8],
-    answerer: &mut Answerer,
-) -> io::Result<bool>
-    requires room { 1 ≤ length block.old }
-    requires answered { AnswersGiven reader.old writer.old }
-    requires no_fault { NoFaultSoFar reader.old writer.old }
-    ensures ok { OnOk result ((a : BlockReading) (c : BlockWriting)
-        → IsUnderWay a reader.old c writer.old answerer.old
-        → IsUnderWay a reader.new c writer.new answerer.new) }
-    ensures more { IfOk result (λ more. more ≡ true → reader.new.left < reader.old.left) }
-    ensures end { IfOk result (λ more. more ≡ false
-        → (reader.new.is_ended ≡ true) × IsUsedUp reader.new × (reader.new.left ≡ reader.old.left)) }
-    ensures err { OnErr result ((a : BlockReading) (c : BlockWriting)
-        → IsUnderWay a reader.old c writer.old answerer.old
-        → OneFailed a reader.new c writer.new) }
-    ensures read { Yields reader.old reader.new (bytes_read reader.old reader.new) }
-    ensures written { KeepsBytes writer.old writer.new }
-{
-    writer.flush()?;
-    let count = reader.read(block, writer)?;
-    answerer.push_all(&block[..count], writer)?;
-    Ok(count > 0)
 }

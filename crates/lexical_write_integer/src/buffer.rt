@@ -6,8 +6,7 @@ ghost use Rattle.lexical_write_integer.specs.Buffer.{Front};
 ghost use Rattle.lexical_write_integer.specs.Lending.{LendsFront};
 
 /// Copies a text to the start of the buffer, and returns its length. The buffer is at least as long as
-/// the text, and every byte after the text is unchanged. `write_time` in
-/// `crates/uses/src/time_of_day.rt` is an example.
+/// the text, and every byte after the text is unchanged.
 pub fn copy_to_front(text: &[u8], buffer: &mut [u8]) -> usize
     requires { length text.now ≤ length buffer.old }
     ensures front { Front buffer.old buffer.new text.now }

@@ -1,6 +1,5 @@
 //! Laws on numerals and texts. The contract of each function is a law over the definitions. A caller
-//! obtains the law by calling the function, which does nothing at run time. An empty body cannot be
-//! changed to a wrong one, so the mistakes of the crate `uses` are in callers that depend on a law.
+//! obtains the law by calling the function, which does nothing at run time.
 
 ghost use Rattle.std.specs.Prelude.{◌≡◌, ℕ, ◌^◌, ◌<◌, ◌≤◌, ◌↔◌, pos, ◌<ℤ◌, ◌≤ℤ◌, List, length};
 ghost use Rattle.lexical_num.specs.Format.{IsRadix};
@@ -33,7 +32,6 @@ pub fn digit_count_is_least(radix: u32, value: u64)
 {}
 
 /// A law: a number below the radix to the power of `count`, which is not 0, has at most `count` digits.
-/// `identifier` in `crates/uses/src/identifier.rt` is an example.
 pub fn digit_count_at_most(radix: u32, value: u64, count: u32)
     requires radix { IsRadix radix }
     requires some { 1 ≤ count }
@@ -41,8 +39,7 @@ pub fn digit_count_at_most(radix: u32, value: u64, count: u32)
     ensures { digit_count radix value ≤ count }
 {}
 
-/// A law: the digit count of a number is at most the number of bits of its type. `write_parts` in
-/// `crates/uses/src/float_parts.rt` is an example.
+/// A law: the digit count of a number is at most the number of bits of its type.
 pub fn digit_count_within_bits<T: UnsignedInteger>(radix: u32, value: T)
     requires { IsRadix radix }
     ensures { digit_count radix (T.magnitude value) ≤ T.BITS }
@@ -65,8 +62,7 @@ pub fn numeral_unique(radix: u32, a: &[u8], b: &[u8])
     ensures { a.now ≡ b.now }
 {}
 
-/// A law: two numbers with the same digits in a radix are equal. `same_counter` in
-/// `crates/uses/src/identifier.rt` is an example.
+/// A law: two numbers with the same digits in a radix are equal.
 pub fn equal_digits(radix: u32, a: u64, b: u64)
     ensures { (digits : List ℕ) → IsDigits radix a digits → IsDigits radix b digits → a ≡ b }
 {}
@@ -79,7 +75,7 @@ pub fn equal_texts<T: LexicalInteger>(a: T, b: T, format: &NumberFormat)
 
 /// A law: of two numbers that are not negative, one is smaller if and only if its text comes before
 /// the other's. A shorter text comes before a longer one, and texts of the same length are compared
-/// byte by byte. `comes_before` in `crates/uses/src/sorted_keys.rt` is an example.
+/// byte by byte.
 pub fn order<T: LexicalInteger>(a: T, b: T, format: &NumberFormat)
     requires a { pos 0 ≤ℤ T.number a }
     requires b { pos 0 ≤ℤ T.number b }

@@ -5,5 +5,6 @@ mod devices;
 mod failing;
 mod faults;
 mod joined;
+mod laws;
 mod lines;
 mod stream;

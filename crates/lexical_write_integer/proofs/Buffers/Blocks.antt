@@ -14,7 +14,7 @@ use Rattle.lexical_write_integer.proofs.OfDigits.Powers.{div-pow_more}
 use Rattle.lexical_write_integer.proofs.OfDigits.Numerals.{IsBlockOf-one, IsBlockOf-append, IsNumeralOf-block}
 
 -- no digit
-WritesBlock-none : (n : ℕ) {r at : ℕ} {list : List ℕ} → WritesBlock r 0 (n % r ^ 0) at list list
+pub WritesBlock-none : (n : ℕ) {r at : ℕ} {list : List ℕ} → WritesBlock r 0 (n % r ^ 0) at list list
 WritesBlock-none n {r} = record {
   digits = [];
   block = record { counted = refl; below_radix = All-nil (λ d. d < r); value = sym (ap (λ p. n % p) (pow-zero r) ∙ mod-one n) };

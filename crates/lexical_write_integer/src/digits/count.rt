@@ -15,7 +15,7 @@ use decimal_count::DecimalCount;
 use lexical_num::num::UnsignedInteger;
 pub use logarithm::fast_log2;
 
-// Returns whether `radix.pow(exponent)` fits in `bits` bits. If not, a loop that divides by it never runs.
+// Returns whether `radix.pow(exponent)` fits in `bits` bits.
 fn power_fits(bits: usize, radix: u32, exponent: u32) -> bool
     requires bits { IsBitWidth bits }
     requires radix { IsRadix radix }
@@ -30,8 +30,8 @@ fn power_fits(bits: usize, radix: u32, exponent: u32) -> bool
     }
 }
 
-// Returns `radix.pow(exponent)`, or `None` if it does not fit in the type. In that case every number of the
-// type is smaller, and a loop that divides by it would never run.
+// Returns `radix.pow(exponent)`, or `None` if it does not fit in the type. Then every number of the type is
+// smaller, so nothing is left to divide by it.
 fn power_of<T: UnsignedInteger>(radix: u32, exponent: u32) -> Option<T>
     requires radix { IsRadix radix }
     requires exponent { IsStep exponent }
@@ -123,8 +123,7 @@ pub fn digit_count_counted<T: DecimalCount>(x: T, radix: u32, turns: &mut Turns)
 
 /// An unsigned integer type whose digits are counted in every radix.
 pub trait DigitCount: DecimalCount {
-    /// Returns how many digits the number has. The radix is from 2 to 36. `width_of_amount` in
-    /// `crates/uses/src/amount.rt` is an example.
+    /// Returns how many digits the number has. The radix is from 2 to 36.
     fn digit_count(self, radix: u32) -> usize
         requires { IsRadix radix }
         ensures count { result ≡ digit_count radix (Self.magnitude self) }

@@ -6,14 +6,16 @@ ghost use Rattle.lexical_num.specs.DecimalWidth.{IsDecimalWidth, is_decimal_widt
 ghost use Rattle.lexical_write_integer.specs.Buffer.{WritesDigits};
 ghost use Rattle.lexical_write_integer.specs.Digits.DecimalTurns.{WritesDecimal, decimal_notes};
 
-mod decimal_pairs;
+pub(crate) mod decimal_pairs;
 pub mod jeaiii;
 mod kernels;
 
 pub use super::count::decimal_count::{DecimalCount, fallback_digit_count, fast_digit_count};
 pub use super::count::logarithm::fast_log10;
 use crate::turns::Turns;
-use jeaiii::{from_i64, from_u8_counted, from_u16_counted, from_u32_counted, from_u64_counted};
+use jeaiii::{
+    from_i64_counted, from_u8_counted, from_u16_counted, from_u32_counted, from_u64_counted,
+};
 use lexical_num::num::{LexicalInteger, UnsignedInteger};
 
 /// An unsigned integer type whose numbers are written in decimal, two digits at a time.
@@ -112,7 +114,7 @@ impl Decimal for u64 {
     ghost signed_width = { is_decimal_width (lit≤ tt) (lit≤ tt) (lit≤ tt) (lit≤ tt) };
 
     fn decimal_signed(self, buffer: &mut [u8]) -> usize {
-        from_i64(self, buffer)
+        from_i64_counted(self, buffer, &mut Turns::new())
     }
 
     fn decimal_counted(self, buffer: &mut [u8], turns: &mut Turns) -> usize {
@@ -129,7 +131,7 @@ impl Decimal for usize {
     ghost signed_width = { is_decimal_width (lit≤ tt) (lit≤ tt) (lit≤ tt) (lit≤ tt) };
 
     fn decimal_signed(self, buffer: &mut [u8]) -> usize {
-        from_i64(self as u64, buffer)
+        from_i64_counted(self as u64, buffer, &mut Turns::new())
     }
 
     fn decimal_counted(self, buffer: &mut [u8], turns: &mut Turns) -> usize {

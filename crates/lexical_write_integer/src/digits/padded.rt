@@ -6,6 +6,7 @@ ghost use Rattle.lexical_write_integer.specs.Buffer.{Writes};
 ghost use Rattle.lexical_write_integer.specs.Digits.Padded.{IsPadded};
 
 use super::count::DigitCount;
+use super::decimal::decimal_pairs::write_decimal_block;
 use super::radix::Radix;
 
 // Writes the character `0` to each byte of the buffer.
@@ -17,7 +18,6 @@ fn write_zeros(buffer: &mut [u8])
 
 /// Writes the number with leading zeros over the whole buffer, and returns the length of the buffer.
 /// The radix is from 2 to 36, and the number is below the radix to the power of that length.
-/// `write_time` in `crates/uses/src/time_of_day.rt` is an example.
 pub fn write_padded<T: DigitCount + Radix>(value: T, radix: u32, buffer: &mut [u8]) -> usize
     requires radix { IsRadix radix }
     requires fits { T.magnitude value < radix ^ length buffer.old }
@@ -25,6 +25,11 @@ pub fn write_padded<T: DigitCount + Radix>(value: T, radix: u32, buffer: &mut [u
         buffer.old buffer.new result }
     ensures width { result ≡ length buffer.old }
 {
+    value.fits_bits();
+    if radix == 10 {
+        write_decimal_block(value.as_usize() as u64, buffer);
+        return buffer.len();
+    }
     // The number is 0 here, and its digit does not fit in an empty buffer.
     if buffer.is_empty() {
         return 0;

@@ -42,8 +42,8 @@ fn write_by_table<T: UnsignedInteger, const R: u32>(
     }
 }
 
-// Does what `algorithm_counted` does, with the table of the radix. The radix is looked at only once, since
-// the code of each radix names its table.
+// Writes the digits with the table of the radix, and records its iterations. The radix is looked at only
+// once, since the code of each radix names its table.
 pub(crate) fn radix_counted<T: UnsignedInteger>(
     value: T,
     radix: u32,
@@ -61,9 +61,8 @@ pub(crate) fn radix_counted<T: UnsignedInteger>(
 /// An unsigned integer type whose digits are written in every radix: by the decimal writer in radix 10, and
 /// otherwise by the table writer.
 pub trait Radix: UnsignedInteger {
-    /// Writes the digits of the number to the start of the buffer, and returns how many there are. The radix
-    /// is from 2 to 36, and the buffer has room for the digits. `identifier` in
-    /// `crates/uses/src/identifier.rt` is an example.
+    /// Writes the digits of the number to the start of the buffer, and returns how many there are. The
+    /// radix is from 2 to 36, and the buffer has room for the digits.
     fn radix(self, radix: u32, buffer: &mut [u8]) -> usize
         requires radix { IsRadix radix }
         requires room { digit_count radix (Self.magnitude self) ≤ length buffer.old }

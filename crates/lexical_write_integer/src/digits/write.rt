@@ -47,8 +47,7 @@ pub fn write_integer_counted<T: Decimal + DigitCount>(
 /// Each method writes the digits of the number to the start of the buffer, without a sign, and returns
 /// how many there are. The buffer has room for `DECIMAL_WIDTH` bytes in radix 10, and for the digits in
 /// another radix. In radix 10 the `_signed` methods write numbers below 10^`SIGNED_WIDTH`, and their
-/// buffer has room for `SIGNED_WIDTH` bytes. `write_parts` in `crates/uses/src/float_parts.rt` is an
-/// example.
+/// buffer has room for `SIGNED_WIDTH` bytes.
 pub trait WriteInteger: Decimal + Radix {
     /// Writes the digits in a radix from 2 to 36.
     fn write_integer(self, radix: u32, buffer: &mut [u8]) -> usize

@@ -11,8 +11,7 @@ ghost use Rattle.lexical_write_integer.specs.Texts.Text.{IsDigits, IsText};
 use lexical_num::format::NumberFormat;
 use lexical_num::num::LexicalInteger;
 
-/// A law: the text of a number is ASCII, and therefore UTF-8. `printed` in
-/// `crates/uses/src/printed.rt` is an example.
+/// A law: the text of a number is ASCII, and therefore UTF-8.
 pub fn text_is_ascii<T: LexicalInteger>(number: T, format: &NumberFormat, text: &[u8])
     requires { IsText (T.number number) format.now text.now }
     ensures ascii { IsAscii text.now }
@@ -22,7 +21,7 @@ pub fn text_is_ascii<T: LexicalInteger>(number: T, format: &NumberFormat, text: 
 }
 
 /// A law: the text of a number in decimal, without a required sign and without groups, is what `{}`
-/// prints. `printed` in `crates/uses/src/printed.rt` is an example.
+/// prints.
 pub fn text_is_decimal<T: LexicalInteger>(number: T, text: &[u8])
     requires { IsText (T.number number) standard text.now }
     ensures { text.now ≡ signed_decimal (T.number number) }
@@ -31,14 +30,14 @@ pub fn text_is_decimal<T: LexicalInteger>(number: T, text: &[u8])
 }
 
 /// A law: the bytes of `text` are the digits of a number if and only if they are the list that
-/// `digits_text` computes. `hexadecimal` in `crates/uses/src/hexadecimal.rt` is an example.
+/// `digits_text` computes.
 pub fn digits_computed(radix: u32, value: u64, text: &[u8])
     requires { IsRadix radix }
     ensures { IsDigits radix value text.now ↔ (text.now ≡ digits_text radix value) }
 {}
 
 /// A law: the bytes of `text` are the text of a number if and only if they are the list that `text_of`
-/// computes. `million` in `crates/uses/src/fixed_text.rt` is an example.
+/// computes.
 pub fn text_computed<T: LexicalInteger>(number: T, format: &NumberFormat, text: &[u8])
     ensures { IsText (T.number number) format.now text.now
         ↔ (text.now ≡ text_of (T.number number) format.now) }

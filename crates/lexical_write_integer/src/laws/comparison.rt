@@ -8,7 +8,6 @@ use lexical_num::format::NumberFormat;
 use lexical_num::num::LexicalInteger;
 
 /// A law: the digits of two numbers in a radix are equal if and only if the numbers are.
-/// `have_same_identifier` in `crates/uses/src/identifier.rt` is an example.
 pub fn digits_equal_iff(radix: u32, a: u64, b: u64, s: &[u8], t: &[u8])
     requires radix { IsRadix radix }
     requires s { IsDigits radix a s.now }
@@ -17,7 +16,6 @@ pub fn digits_equal_iff(radix: u32, a: u64, b: u64, s: &[u8], t: &[u8])
 {}
 
 /// A law: the texts of two numbers in a format are equal if and only if the numbers are.
-/// `have_same_kept_texts` in `crates/uses/src/arena.rt` is an example.
 pub fn texts_equal_iff<T: LexicalInteger>(a: T, b: T, format: &NumberFormat, s: &[u8], t: &[u8])
     requires s { IsText (T.number a) format.now s.now }
     requires t { IsText (T.number b) format.now t.now }

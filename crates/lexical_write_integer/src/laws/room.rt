@@ -13,8 +13,7 @@ use lexical_num::format::NumberFormat;
 use lexical_num::num::LexicalInteger;
 
 /// A law: the size of a type in a format, which `buffer_size` of the options returns, is enough for the
-/// required length of each number of the type. It is at most `BUFFER_SIZE`. `line_of_any` in
-/// `crates/uses/src/any_format.rt` is an example.
+/// required length of each number of the type. It is at most `BUFFER_SIZE`.
 pub fn size_suffices<T: ToLexicalWithOptions>(value: T, format: &NumberFormat)
     ensures size { need (T.number value) T.DECIMAL_WIDTH format.now
         ≤ size_in T.FORMATTED_SIZE T.FORMATTED_SIZE_DECIMAL format.now }
@@ -25,7 +24,7 @@ pub fn size_suffices<T: ToLexicalWithOptions>(value: T, format: &NumberFormat)
 }
 
 /// A law: the length of a text is the length of its sign plus what its digits take with the separators
-/// between their groups. `width_of_amount` in `crates/uses/src/amount.rt` is an example.
+/// between their groups.
 pub fn text_length<T: LexicalInteger>(number: T, format: &NumberFormat)
     ensures { (text : List ℕ) → IsText (T.number number) format.now text
         → length text ≡ length (sign_of (T.number number) format.now.required_mantissa_sign)

@@ -24,7 +24,6 @@ pub trait ToLexical: LexicalInteger + FormattedSize {
     /// Writes the number in decimal to the start of the buffer, and returns the length of its text: a
     /// `-` if it is below 0, and then the digits. Every byte after the text is unchanged. The buffer
     /// must have room for `DECIMAL_WIDTH` bytes, and for one further byte if there is a `-`.
-    /// `keep_text` in `crates/uses/src/arena.rt` is an example.
     final fn write_lexical(self, buffer: &mut [u8]) -> usize
         requires { need (Self.number self) Self.DECIMAL_WIDTH standard ≤ length buffer.old }
         ensures text { WritesText (Self.number self) standard buffer.old buffer.new result }

@@ -7,14 +7,15 @@ ghost use Rattle.lexical_write_integer.specs.Texts.SizeBound.{unsigned_need-le, 
 use super::api::{ToLexical, ToLexicalWithOptions};
 use crate::digits::count::DigitCount;
 use crate::digits::decimal::Decimal;
-use crate::digits::write::WriteInteger;
+use crate::digits::write::{WriteInteger, write_integer_counted};
+use crate::turns::Turns;
 use lexical_num::constants::FormattedSize;
 use lexical_num::format::NumberFormat;
 use lexical_num::options::Options;
 
 impl<T: Decimal + FormattedSize> ToLexical for T {
     fn write_magnitude(self, format: &NumberFormat, buffer: &mut [u8]) -> usize {
-        self.write_mantissa(format, buffer)
+        write_integer_counted(self, format.mantissa_radix(), buffer, &mut Turns::new())
     }
 
     fn magnitude_digits(self, radix: u32) -> usize {
@@ -55,7 +56,8 @@ impl ToLexicalWithOptions for usize {
 impl ToLexical for i8 {
     fn write_magnitude(self, format: &NumberFormat, buffer: &mut [u8]) -> usize {
         // Only the unsigned type holds the magnitude of the smallest value.
-        self.unsigned_abs().write_mantissa_signed(format, buffer)
+        self.unsigned_abs()
+            .write_integer_signed(format.mantissa_radix(), buffer)
     }
 
     fn magnitude_digits(self, radix: u32) -> usize {
@@ -71,7 +73,8 @@ impl ToLexicalWithOptions for i8 {
 
 impl ToLexical for i16 {
     fn write_magnitude(self, format: &NumberFormat, buffer: &mut [u8]) -> usize {
-        self.unsigned_abs().write_mantissa_signed(format, buffer)
+        self.unsigned_abs()
+            .write_integer_signed(format.mantissa_radix(), buffer)
     }
 
     fn magnitude_digits(self, radix: u32) -> usize {
@@ -87,7 +90,8 @@ impl ToLexicalWithOptions for i16 {
 
 impl ToLexical for i32 {
     fn write_magnitude(self, format: &NumberFormat, buffer: &mut [u8]) -> usize {
-        self.unsigned_abs().write_mantissa_signed(format, buffer)
+        self.unsigned_abs()
+            .write_integer_signed(format.mantissa_radix(), buffer)
     }
 
     fn magnitude_digits(self, radix: u32) -> usize {
@@ -103,7 +107,8 @@ impl ToLexicalWithOptions for i32 {
 
 impl ToLexical for i64 {
     fn write_magnitude(self, format: &NumberFormat, buffer: &mut [u8]) -> usize {
-        self.unsigned_abs().write_mantissa_signed(format, buffer)
+        self.unsigned_abs()
+            .write_integer_signed(format.mantissa_radix(), buffer)
     }
 
     fn magnitude_digits(self, radix: u32) -> usize {
@@ -119,7 +124,8 @@ impl ToLexicalWithOptions for i64 {
 
 impl ToLexical for isize {
     fn write_magnitude(self, format: &NumberFormat, buffer: &mut [u8]) -> usize {
-        self.unsigned_abs().write_mantissa_signed(format, buffer)
+        self.unsigned_abs()
+            .write_integer_signed(format.mantissa_radix(), buffer)
     }
 
     fn magnitude_digits(self, radix: u32) -> usize {

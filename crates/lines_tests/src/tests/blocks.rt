@@ -6,8 +6,8 @@ ghost use Rattle.lexical_lines.specs.Answer.{AnswersAll};
 
 use crate::tests::checks::check_equal;
 use crate::tests::devices::Taker;
-use lexical_lines::ByteSink;
-use lexical_streams::{BlockReader, BlockWriter, ReadSource, WriteSink, answer_stream};
+use lexical_lines::{ByteSink, Reading, Writing};
+use lexical_streams::{BlockReader, BlockWriter, answer_stream};
 use std::alloc::Global;
 use std::cell::Cell;
 use std::io::ErrorKind;
@@ -19,8 +19,8 @@ const TEXT: &[u8] = b"0123456789abcdef";
 fn answered(alloc: Global, bytes: &[u8]) -> (u8, Vec<u8>)
     ensures { result.0 ≤ 1 → AnswersAll (take (2 ^ 63 - 1) bytes.now) result.1.items }
 {
-    let mut reader = BlockReader::new(ReadSource::new(bytes));
-    let mut writer = BlockWriter::<_, 7>::new(WriteSink::new(Vec::new(alloc)));
+    let mut reader = BlockReader::new(Reading::whole(bytes));
+    let mut writer = BlockWriter::<_, 7>::new(Writing::new(Vec::new(alloc)));
     let status = answer_stream(&mut reader, &mut writer);
     (status, writer.into_inner().into_inner())
 }
@@ -35,7 +35,7 @@ fn answers_go_into_a_vector(rt: HostRuntime) {
 
 // Puts the bytes, and returns how many were taken. If there are none, flushes and returns 0.
 fn put_or_flush(
-    writer: &mut BlockWriter<WriteSink<&mut Taker<'_>>, 7>,
+    writer: &mut BlockWriter<Writing<&mut Taker<'_>>, 7>,
     bytes: &[u8],
 ) -> Result<usize, ErrorKind>
     ensures { IfOk result (λ count. count ≤ length bytes.now) }
@@ -52,7 +52,7 @@ fn put_or_flush(
 // and returns the number of failures, each of which must be of the kind of the writer.
 fn write_through(rt: &impl Abort, taker: &mut Taker<'_>, size: usize) -> u32 {
     let kind = taker.kind;
-    let mut writer = BlockWriter::<_, 7>::new(WriteSink::new(taker));
+    let mut writer = BlockWriter::<_, 7>::new(Writing::new(taker));
     let mut errors = 0u32;
     let mut rest = TEXT;
     for _ in 0..40 {

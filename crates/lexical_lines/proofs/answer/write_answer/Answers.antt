@@ -1,5 +1,4 @@
 use Rattle.std.proofs.Common.{◌≡◌, ◌-◌, ◌^◌, min, false, IsTrue, arith, inr}
-use Rattle.lexical_lines.proofs.Buffers.{Writes-within}
 use Rattle.lexical_lines.proofs.answer.write_answer.Goals as goal
 
 pub returns-in-None-clause-answer : goal.returns-in-None-clause-answer
@@ -12,12 +11,6 @@ returns-in-None-clause-answer c = λ bytes is.
       front = written.front;
       count = written.count;
     }
-
-pub returns-in-None-clause-within : goal.returns-in-None-clause-within
-returns-in-None-clause-within c = Writes-within c.write_bad_line.ensures
-
-pub returns-in-Some-clause-within : goal.returns-in-Some-clause-within
-returns-in-Some-clause-within c = Writes-within c.write_requested.ensures
 
 -- the check finds this proof by itself, but with an answer the refusal of a mistake says what is wrong
 pub returns-in-None-clause-good : goal.returns-in-None-clause-good

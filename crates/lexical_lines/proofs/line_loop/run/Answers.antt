@@ -1,9 +1,9 @@
 use Rattle.std.proofs.Common.{[], ◌++◌, ◌∙◌, refl, sym, ap, inl, inr, true, ◌≡◌, ◌+◌, arith}
 use Rattle.std.proofs.Math.Bool.{or-true}
 use Rattle.std.proofs.lemmas.List.{append-nil}
-use Rattle.std.proofs.lemmas.Result.{err_from_is_err_and, IfOk-from_err, IfOk-weaker, on_ok_weaker}
-use Rattle.lexical_lines.proofs.Added.{added-is, added-more, grown, grown-once}
-use Rattle.lexical_lines.proofs.Results.{OnOk-from_err, OnOk-no_fault, OnErr-one_fault}
+use Rattle.std.proofs.lemmas.Result.{err_from_is_err_and}
+use Rattle.lexical_lines.proofs.Added.{added-is, added-more, grown}
+use Rattle.lexical_lines.proofs.Results.{IfOk-no_fault, OnErr-one_fault}
 use Rattle.lexical_lines.proofs.Runs.{answers_ended, BreaksOff-open}
 use Rattle.lexical_lines.proofs.line_loop.run.Goals as goal
 
@@ -34,64 +34,16 @@ loop-byte-preserved g c =
       sink_kept = g.met.K.ByteSink.keeps_transitive _ _ _ loop.sink_kept c.push.ensures.puts.kept;
     }
 
-pub returns-in_err-byte-clause-given : goal.returns-in_err-byte-clause-given
-returns-in_err-byte-clause-given g c = grown _ _ _ _ _ c.loop-byte.invariant.given c.in_err-byte.ensures.given
-
-pub returns-in_err-byte-clause-taken : goal.returns-in_err-byte-clause-taken
-returns-in_err-byte-clause-taken g c = grown-once _ _ _ c.loop-byte.invariant.read.whole
-
-pub returns-in_err-byte-clause-kept_source : goal.returns-in_err-byte-clause-kept_source
-returns-in_err-byte-clause-kept_source g c = g.met.S.ByteSource.keeps_transitive _ _ _ c.loop-byte.invariant.source_kept c.in_err-byte.ensures.kept
-
-pub returns-in_err-byte-clause-kept_sink : goal.returns-in_err-byte-clause-kept_sink
-returns-in_err-byte-clause-kept_sink g c = c.loop-byte.invariant.sink_kept
-
-pub returns-in_err-byte-clause-ok_faults : goal.returns-in_err-byte-clause-ok_faults
-returns-in_err-byte-clause-ok_faults g c = OnOk-from_err c.from_residual.result _ c.from_residual.ensures.0
-
-pub returns-in_err-byte-clause-ok_end : goal.returns-in_err-byte-clause-ok_end
-returns-in_err-byte-clause-ok_end g c = OnOk-from_err c.from_residual.result _ c.from_residual.ensures.0
-
-pub returns-in_err-byte-clause-ok_answers : goal.returns-in_err-byte-clause-ok_answers
-returns-in_err-byte-clause-ok_answers g c = OnOk-from_err c.from_residual.result _ c.from_residual.ensures.0
-
-pub returns-in_err-byte-clause-ok_good : goal.returns-in_err-byte-clause-ok_good
-returns-in_err-byte-clause-ok_good g c = IfOk-from_err c.from_residual.result _ c.from_residual.ensures.0
-
 pub returns-in_err-byte-clause-err : goal.returns-in_err-byte-clause-err
 returns-in_err-byte-clause-err g c =
     let loop = c.loop-byte.invariant in
     let next = c.in_err-byte.ensures in
     let same = added-more _ _ _ _ loop.given next.given ∙ append-nil _ in
-    rw (err_from_is_err_and c.from_residual.result c.from_residual.ensures.1).1 (inl (
-      omega (arith, next.faults, loop.source_faults),
-      loop.sink_faults,
-      rw same (answers_ended loop.read),
-    ))
-
-pub returns-in_err-push-clause-given : goal.returns-in_err-push-clause-given
-returns-in_err-push-clause-given g c = grown _ _ _ _ _ c.loop-byte.invariant.given c.in_ok-byte.ensures.given
-
-pub returns-in_err-push-clause-taken : goal.returns-in_err-push-clause-taken
-returns-in_err-push-clause-taken g c = grown _ _ _ _ _ c.loop-byte.invariant.read.whole c.push.ensures.puts.longer
-
-pub returns-in_err-push-clause-kept_sink : goal.returns-in_err-push-clause-kept_sink
-returns-in_err-push-clause-kept_sink g c = g.met.K.ByteSink.keeps_transitive _ _ _ c.loop-byte.invariant.sink_kept c.push.ensures.puts.kept
-
-pub returns-in_err-push-clause-ok_faults : goal.returns-in_err-push-clause-ok_faults
-returns-in_err-push-clause-ok_faults g c = OnOk-from_err c.from_residual-in_err-push.result _ c.from_residual-in_err-push.ensures.0
-
-pub returns-in_err-push-clause-ok_end : goal.returns-in_err-push-clause-ok_end
-returns-in_err-push-clause-ok_end g c = OnOk-from_err c.from_residual-in_err-push.result _ c.from_residual-in_err-push.ensures.0
-
-pub returns-in_err-push-clause-ok_answers : goal.returns-in_err-push-clause-ok_answers
-returns-in_err-push-clause-ok_answers g c = OnOk-from_err c.from_residual-in_err-push.result _ c.from_residual-in_err-push.ensures.0
-
-pub returns-in_err-push-clause-ok_good : goal.returns-in_err-push-clause-ok_good
-returns-in_err-push-clause-ok_good g c = IfOk-from_err c.from_residual-in_err-push.result _ c.from_residual-in_err-push.ensures.0
-
-pub returns-in_err-push-clause-kept_source : goal.returns-in_err-push-clause-kept_source
-returns-in_err-push-clause-kept_source g c = g.met.S.ByteSource.keeps_transitive _ _ _ c.loop-byte.invariant.source_kept c.in_ok-byte.ensures.kept
+    rw (err_from_is_err_and c.from_residual.result c.from_residual.ensures.1).1 (inl (record {
+      source = omega (arith, next.faults, loop.source_faults);
+      sink = loop.sink_faults;
+      answers = rw same (answers_ended loop.read);
+    }))
 
 pub returns-in_err-push-clause-err : goal.returns-in_err-push-clause-err
 returns-in_err-push-clause-err g c =
@@ -99,35 +51,11 @@ returns-in_err-push-clause-err g c =
     let next = c.in_ok-byte.ensures in
     let more = rw c.in-Some.is at next.given in
     let broke = c.in_err-push.ensures.err _ _ loop.read in
-    rw (err_from_is_err_and c.from_residual-in_err-push.result c.from_residual-in_err-push.ensures.1).1 (inr (
-      omega (arith, next.faults, loop.source_faults),
-      omega (arith, c.in_err-push.ensures.puts.faults, loop.sink_faults),
-      rw (added-more _ _ _ _ loop.given more) (BreaksOff-open (g.S.ByteSource.is_ended c.next.new.self) broke),
-    ))
-
-pub returns-clause-given : goal.returns-clause-given
-returns-clause-given g c = grown _ _ _ _ _ c.loop-byte.invariant.given c.in_ok-byte.ensures.given
-
-pub returns-clause-taken : goal.returns-clause-taken
-returns-clause-taken g c = grown _ _ _ _ _ c.loop-byte.invariant.read.whole c.finish.ensures.puts.longer
-
-pub returns-clause-ok_faults : goal.returns-clause-ok_faults
-returns-clause-ok_faults g c =
-    let loop = c.loop-byte.invariant in
-    let source : g.S.ByteSource.faults c.next.new.self ≡ g.S.ByteSource.faults c.args.source.now = omega (arith, c.in_ok-byte.ensures.faults, loop.source_faults) in
-    OnOk-no_fault _ _ c.finish.result c.finish.ensures.puts.faults (λ same _. (source, same ∙ loop.sink_faults)) c.finish.ensures.ok
-
-pub returns-clause-ok_answers : goal.returns-clause-ok_answers
-returns-clause-ok_answers g c =
-    let loop = c.loop-byte.invariant in
-    let next = c.in_ok-byte.ensures in
-    let same = added-more _ _ _ _ loop.given (rw c.in_default.is at next.given) ∙ append-nil _ in
-    rw same (on_ok_weaker c.finish.result (λ answers. answers _ _ loop.read) c.finish.ensures.ok)
-
-pub returns-clause-ok_end : goal.returns-clause-ok_end
-returns-clause-ok_end g c =
-    let ended = (rw c.in_default.is at c.in_ok-byte.ensures.ended) ∙ or-true _ in
-    on_ok_weaker c.finish.result (λ _. ended) c.finish.ensures.ok
+    rw (err_from_is_err_and c.from_residual-in_err-push.result c.from_residual-in_err-push.ensures.1).1 (inr (record {
+      source = omega (arith, next.faults, loop.source_faults);
+      sink = omega (arith, c.in_err-push.ensures.puts.faults, loop.sink_faults);
+      answers = rw (added-more _ _ _ _ loop.given more) (BreaksOff-open (g.S.ByteSource.is_ended c.next.new.self) broke);
+    }))
 
 pub returns-clause-err : goal.returns-clause-err
 returns-clause-err g c =
@@ -137,17 +65,15 @@ returns-clause-err g c =
     let source : g.S.ByteSource.faults c.next.new.self ≡ g.S.ByteSource.faults c.args.source.now = omega (arith, next.faults, loop.source_faults) in
     let ended : g.S.ByteSource.is_ended c.next.new.self ≡ true = (rw c.in_default.is at next.ended) ∙ or-true _ in
     rw (same, ended) (OnErr-one_fault _ _ c.finish.result c.finish.ensures.puts.faults
-    (λ failed broke. inr (source, failed ∙ ap (λ n. n + 1) loop.sink_faults, broke _ _ loop.read)) c.finish.ensures.err)
+    (λ failed broke. inr (record { source = source; sink = failed ∙ ap (λ n. n + 1) loop.sink_faults; answers = broke _ _ loop.read })) c.finish.ensures.err)
 
-pub returns-clause-kept_source : goal.returns-clause-kept_source
-returns-clause-kept_source g c = g.met.S.ByteSource.keeps_transitive _ _ _ c.loop-byte.invariant.source_kept c.in_ok-byte.ensures.kept
-
-pub returns-clause-kept_sink : goal.returns-clause-kept_sink
-returns-clause-kept_sink g c = g.met.K.ByteSink.keeps_transitive _ _ _ c.loop-byte.invariant.sink_kept c.finish.ensures.puts.kept
-
-pub returns-clause-ok_good : goal.returns-clause-ok_good
-returns-clause-ok_good g c =
+pub returns-clause-ok : goal.returns-clause-ok
+returns-clause-ok g c =
     let loop = c.loop-byte.invariant in
     let next = c.in_ok-byte.ensures in
+    let finish = c.finish.ensures in
     let same = added-more _ _ _ _ loop.given (rw c.in_default.is at next.given) ∙ append-nil _ in
-    rw same (IfOk-weaker c.finish.result _ _ (λ all_good told. told _ _ loop.read) c.finish.ensures.good)
+    let source : g.S.ByteSource.faults c.next.new.self ≡ g.S.ByteSource.faults c.args.source.now = omega (arith, next.faults, loop.source_faults) in
+    let ended : g.S.ByteSource.is_ended c.next.new.self ≡ true = (rw c.in_default.is at next.ended) ∙ or-true _ in
+    rw same (IfOk-no_fault _ _ c.finish.result finish.puts.faults finish.ok finish.good (λ all_good sink answers told.
+    record { source = source; sink = sink ∙ loop.sink_faults; ended = ended; answers = answers _ _ loop.read; good = told _ _ loop.read }))

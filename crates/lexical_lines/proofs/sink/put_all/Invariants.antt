@@ -1,15 +1,16 @@
-use Rattle.std.proofs.Common.{◌≡◌, length}
-use Rattle.lexical_lines.proofs.Sinks.{HasPut}
+-- The sink has taken the bytes so far, and no call has failed.
+use Rattle.std.proofs.Common.{◌≡◌, ◌-◌, ◌≤◌, ◌++◌, length, take}
 use Rattle.lexical_lines.proofs.sink.put_all.Given as goal
 
-abbrev pub invariant-loop-rest : goal.invariant-loop-rest
-invariant-loop-rest g l =
+abbrev pub invariant-loop-taken : goal.invariant-loop-taken
+invariant-loop-taken g l =
     let sink = g.K.ByteSink in
     record {
-      put : HasPut (sink.taken l.fn.sink) (sink.taken l.sink) l.bytes l.rest;
-      faults : sink.faults l.sink ≡ sink.faults l.fn.sink;
-      kept : sink.keeps l.fn.sink l.sink;
+      within : l.taken ≤ length l.bytes;
+      taken : sink.taken l.sink ≡ sink.taken l.initial.sink ++ take l.taken l.bytes;
+      faults : sink.faults l.sink ≡ sink.faults l.initial.sink;
+      kept : sink.keeps l.initial.sink l.sink;
     }
 
-abbrev pub decreases-loop-rest : goal.decreases-loop-rest
-decreases-loop-rest g l = length l.rest
+abbrev pub decreases-loop-taken : goal.decreases-loop-taken
+decreases-loop-taken g l = length l.bytes - l.taken

@@ -7,9 +7,10 @@ pub returns-in-Ok-clause-answered : goal.returns-in-Ok-clause-answered
 returns-in-Ok-clause-answered c =
     let source = c.new-source.ensures in
     let sink = c.new-sink.ensures in
-    let ran = c.in-Ok.ensures in
-    let given = given-ended c.args.input.now source.given source.left source.ended ran.kept_source ran.ok_end in
-    let answers = rw (source.given, given, sink.taken) at ran.ok_answers in
+    let ran = c.run.ensures in
+    let whole = c.in-Ok.ensures.ok in
+    let given = given-ended c.args.input.now source.given source.left source.ended ran.kept_source whole.ended in
+    let answers = rw (source.given, given, sink.taken) at whole.answers in
     Writes-sink sink.taken sink.rest ran.kept_sink answers c.len.ensures (search rules)
 
 pub returns-in-Err-clause-full : goal.returns-in-Err-clause-full
@@ -18,11 +19,11 @@ returns-in-Err-clause-full c =
     let sink = c.new-sink.ensures in
     let ran = c.in-Err.ensures in
     elim ran.err [
-      | inl (risen, same, answered) ↦ absurd (omega arith)
-      | inr (same, risen, broke) ↦ elim ran.kept_sink.full [
-        | inl none ↦ absurd (omega (arith, risen, none))
+      | inl failed ↦ absurd (omega (arith, failed.source))
+      | inr failed ↦ elim ran.kept_sink.full [
+        | inl none ↦ absurd (omega (arith, failed.sink, none))
         | inr full ↦
-            let put = rw (source.given, sink.taken) at broke in
+            let put = rw (source.given, sink.taken) at failed.answers in
             λ text answered.
             BreaksOff-begins c.run.new.source.is_ended c.run.new.source.given c.run.new.source.left _ text
             (λ ended. ran.kept_source.at_end (λ e. cc (e, source.ended)) ended)

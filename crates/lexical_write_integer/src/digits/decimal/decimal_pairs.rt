@@ -106,3 +106,21 @@ pub(crate) fn write_last_ten(number: u64, at: usize, buffer: &mut [u8], turns: &
     write_four(front % 10_000, at + 2, buffer, turns);
     write_and_record_pair(front / 10_000, at, buffer, turns);
 }
+
+/// Writes the digits of a number with leading zeros over the whole buffer, two at a time and the last ones first. The
+/// number is below 10 to the power of the length of the buffer.
+pub(crate) fn write_decimal_block(number: u64, buffer: &mut [u8])
+    requires { number < 10 ^ length buffer.old }
+    ensures { WritesBlock 10 (length buffer.old) number 0 buffer.old buffer.new }
+{
+    let mut left = number;
+    let mut at = buffer.len();
+    while at > 1 {
+        at -= 2;
+        write_pair((left % 100) as u32, at, buffer);
+        left /= 100;
+    }
+    if at == 1 {
+        buffer[0] = b'0' + left as u8;
+    }
+}

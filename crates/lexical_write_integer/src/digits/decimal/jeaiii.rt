@@ -4,8 +4,8 @@
 //! (<https://github.com/jeaiii/itoa>); Lemire, Kaser and Kurz, "Faster Remainder by Direct Computation"
 //! (2019), describe how digits are obtained from the fraction of a product with a reciprocal.
 //!
-//! Each `_counted` function writes what the function without that suffix writes, and records its
-//! iterations in a counter: one for each pair of digits after the first, and at most 9.
+//! Each `_counted` function writes what the function without that suffix writes, and notes in `turns` what
+//! each iteration computes: one number for each pair of digits after the first, and at most 9.
 //!
 //! Examples of the writers are in `crates/write_integer_tests/src/decimal_values.rt`, and of the kernels
 //! in `crates/write_integer_tests/src/kernel_values.rt`.
@@ -130,8 +130,7 @@ pub fn from_i64(n: u64, buffer: &mut [u8]) -> usize
     from_i64_counted(n, buffer, &mut Turns::new())
 }
 
-/// Writes the digits as `from_u8` does, under the same condition, and records its iterations in the
-/// counter.
+/// Writes the digits as `from_u8` does, under the same condition, and notes its iterations.
 pub fn from_u8_counted(n: u8, buffer: &mut [u8], turns: &mut Turns) -> usize
     requires { 3 ≤ length buffer.old }
     ensures writes { WritesDecimal n (decimal_notes_32 n) buffer.old buffer.new turns.old turns.new result }
@@ -141,8 +140,7 @@ pub fn from_u8_counted(n: u8, buffer: &mut [u8], turns: &mut Turns) -> usize
     write_32(u32::from(n), buffer, turns)
 }
 
-/// Writes the digits as `from_u16` does, under the same condition, and records its iterations in the
-/// counter.
+/// Writes the digits as `from_u16` does, under the same condition, and notes its iterations.
 pub fn from_u16_counted(n: u16, buffer: &mut [u8], turns: &mut Turns) -> usize
     requires { 5 ≤ length buffer.old }
     ensures writes { WritesDecimal n (decimal_notes_32 n) buffer.old buffer.new turns.old turns.new result }
@@ -152,8 +150,7 @@ pub fn from_u16_counted(n: u16, buffer: &mut [u8], turns: &mut Turns) -> usize
     write_32(u32::from(n), buffer, turns)
 }
 
-/// Writes the digits as `from_u32` does, under the same condition, and records its iterations in the
-/// counter.
+/// Writes the digits as `from_u32` does, under the same condition, and notes its iterations.
 pub fn from_u32_counted(n: u32, buffer: &mut [u8], turns: &mut Turns) -> usize
     requires { 10 ≤ length buffer.old }
     ensures writes { WritesDecimal n (decimal_notes_32 n) buffer.old buffer.new turns.old turns.new result }
@@ -163,8 +160,7 @@ pub fn from_u32_counted(n: u32, buffer: &mut [u8], turns: &mut Turns) -> usize
     write_32(n, buffer, turns)
 }
 
-/// Writes the digits as `from_u64` does, under the same condition, and records its iterations in the
-/// counter.
+/// Writes the digits as `from_u64` does, under the same condition, and notes its iterations.
 pub fn from_u64_counted(n: u64, buffer: &mut [u8], turns: &mut Turns) -> usize
     requires { 20 ≤ length buffer.old }
     ensures writes { WritesDecimal n (decimal_notes_64 n) buffer.old buffer.new turns.old turns.new result }
@@ -174,8 +170,7 @@ pub fn from_u64_counted(n: u64, buffer: &mut [u8], turns: &mut Turns) -> usize
     write_64(n, buffer, turns)
 }
 
-/// Writes the digits as `from_i64` does, under the same conditions, and records its iterations in the
-/// counter.
+/// Writes the digits as `from_i64` does, under the same conditions, and notes its iterations.
 pub fn from_i64_counted(n: u64, buffer: &mut [u8], turns: &mut Turns) -> usize
     requires number { n < 10 ^ 19 }
     requires room { 19 ≤ length buffer.old }

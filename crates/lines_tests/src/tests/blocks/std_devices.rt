@@ -1,8 +1,8 @@
-// A `ReadSource` and a `WriteSink` call their reader and their writer once for each call, also after an error.
+// A `Reading` and a `Writing` call their reader and their writer once for each call, also after an error.
 
 use crate::tests::checks::check_equal;
 use crate::tests::devices::{Giver, Taker};
-use lexical_streams::{BlockSink, BlockSource, ReadSource, WriteSink};
+use lexical_lines::{BlockSink, BlockSource, ByteSink, Reading, Writing};
 use std::cell::Cell;
 use std::io;
 use std::io::ErrorKind;
@@ -20,7 +20,7 @@ fn a_source_reads_once_for_each_block(rt: HostRuntime) {
     let flushed = Cell::new(0);
     let mut reader = Giver::new(TEXT, &flushed);
     reader.bad_read = 1;
-    let mut source = ReadSource::new(&mut reader);
+    let mut source = Reading::whole(&mut reader);
     let mut block = [0; 12];
     let outcomes = [
         kind_of(source.read_block(&mut block)),
@@ -39,12 +39,12 @@ fn a_sink_writes_once_for_each_block(rt: HostRuntime) {
     let mut writer = Taker::new(&flushed);
     writer.piece = 7;
     writer.bad_byte = 7;
-    let mut sink = WriteSink::new(&mut writer);
+    let mut sink = Writing::new(&mut writer);
     let outcomes = [
-        kind_of(sink.write_block(TEXT)),
-        kind_of(sink.write_block(&TEXT[7..])),
-        kind_of(sink.write_block(&TEXT[7..])),
-        kind_of(sink.write_block(&TEXT[14..])),
+        kind_of(sink.put(TEXT)),
+        kind_of(sink.put(&TEXT[7..])),
+        kind_of(sink.put(&TEXT[7..])),
+        kind_of(sink.put(&TEXT[14..])),
     ];
     check_equal(&rt, "outcomes", outcomes, [Ok(7), FAILED, Ok(7), Ok(2)]);
     check_equal(&rt, "writes", (writer.writes, writer.flushes), (4, 0));
@@ -56,7 +56,7 @@ fn a_sink_flushes_once_for_each_flush(rt: HostRuntime) {
     let flushed = Cell::new(0);
     let mut writer = Taker::new(&flushed);
     writer.bad_flush = 1;
-    let mut sink = WriteSink::new(&mut writer);
+    let mut sink = Writing::new(&mut writer);
     let outcomes = [
         kind_of(sink.flush().map(|()| 0)),
         kind_of(sink.flush().map(|()| 0)),

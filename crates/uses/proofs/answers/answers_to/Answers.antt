@@ -6,8 +6,8 @@ use Rattle.uses.proofs.answers.answers_to.Goals as goal
 
 pub returns-clause-answers : goal.returns-clause-answers
 returns-clause-answers g c =
-    answers_held c.in_ok-run.ensures.ok_answers c.run.ensures.kept_sink c.new-sink.ensures.taken
-    (ap (λ writer. Some writer.items) c.new-sink.ensures.writer ∙ ap Some c.new.ensures.items)
+    answers_held _ c.in_ok-run.ensures.ok.answers c.run.ensures.kept_sink
+    (ap (λ sink. Some sink.writer.items) c.new-sink.ensures ∙ ap Some c.new.ensures.items)
     (ap (λ writer. Some writer.items) (sym c.into_inner.ensures))
 
 pub returns-clause-err : goal.returns-clause-err

@@ -1,26 +1,7 @@
 use Rattle.std.proofs.Common.{[], ◌∷◌, ◌++◌, true, refl, inl, ◌∙◌}
-use Rattle.std.proofs.lemmas.Result.{err_from_is_err_and, IfOk-from_err}
-use Rattle.lexical_lines.proofs.Results.{OnOk-from_err}
-use Rattle.lexical_lines.proofs.Runs.{answers_at_empty, lines_at_empty, answers_at_rest, lines_at_rest, good_after, BreaksOff-from, PutsMore-none, PutsMore-ok, PutsMore-err}
+use Rattle.std.proofs.lemmas.Result.{err_from_is_err_and}
+use Rattle.lexical_lines.proofs.Runs.{answers_at_rest, lines_at_rest, good_after, BreaksOff-from}
 use Rattle.lexical_lines.proofs.answerer.Answerer.finish.Goals as goal
-
-pub returns-then-is_empty-clause-ok : goal.returns-then-is_empty-clause-ok
-returns-then-is_empty-clause-ok g c = λ before read h. answers_at_empty h (c.if-is_empty.ensures.0 refl)
-
-pub returns-then-is_empty-clause-good : goal.returns-then-is_empty-clause-good
-returns-then-is_empty-clause-good g c = λ before read h. (h.ended, lines_at_empty h (c.if-is_empty.ensures.0 refl), h.good)
-
-pub returns-then-is_empty-clause-puts : goal.returns-then-is_empty-clause-puts
-returns-then-is_empty-clause-puts g c = PutsMore-none c.args.sink.now c.args.self.all_good (g.met.K.ByteSink.keeps_reflexive c.args.sink.now)
-
-pub returns-in_err-is_good-clause-ok : goal.returns-in_err-is_good-clause-ok
-returns-in_err-is_good-clause-ok g c = OnOk-from_err c.from_residual.result _ c.from_residual.ensures.0
-
-pub returns-in_err-is_good-clause-good : goal.returns-in_err-is_good-clause-good
-returns-in_err-is_good-clause-good g c = IfOk-from_err c.from_residual.result _ c.from_residual.ensures.0
-
-pub returns-in_err-is_good-clause-puts : goal.returns-in_err-is_good-clause-puts
-returns-in_err-is_good-clause-puts g c = PutsMore-err _ _ _ c.from_residual.result c.from_residual.ensures.0 c.in_err-is_good.ensures.puts
 
 pub returns-in_err-is_good-clause-err : goal.returns-in_err-is_good-clause-err
 returns-in_err-is_good-clause-err g c = rw (err_from_is_err_and c.from_residual.result c.from_residual.ensures.1).1 (λ before read h.
@@ -37,6 +18,3 @@ pub returns-clause-good : goal.returns-clause-good
 returns-clause-good g c = λ before read h.
     let put = c.in_ok-is_good.ensures.answer h.rest (c.as_slice-line.ensures.value ∙ h.last) in
     (h.ended ++ h.rest ∷ [], lines_at_rest h (λ e. let wrong = c.if-is_empty.ensures.1 e in cc), good_after h c.in_ok-is_good.is_good put.good)
-
-pub returns-clause-puts : goal.returns-clause-puts
-returns-clause-puts g c = PutsMore-ok _ _ _ _ c.in_ok-is_good.ensures.puts

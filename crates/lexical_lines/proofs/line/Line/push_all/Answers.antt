@@ -1,11 +1,8 @@
-use Rattle.std.proofs.Common.{◌≡◌, ◌++◌, [], ◌∷◌, take, sym, ap, subst, ◌∙◌, append_assoc, append-nil}
-use Rattle.std.proofs.lemmas.List.{take_all, take_more}
+use Rattle.std.proofs.Common.{◌≡◌, ◌++◌, [], ◌∷◌, take, sym, ap, subst, ◌∙◌, append_assoc}
+use Rattle.std.proofs.lemmas.List.{take_more}
 use Rattle.std.specs.Prelude.{slice_index}
 use Rattle.lexical_lines.specs.Line.{short_line}
 use Rattle.lexical_lines.proofs.line.Line.push_all.Goals as goal
-
-pub loop-byte-init : goal.loop-byte-init
-loop-byte-init c = λ line start. subst (λ bytes. c.args.self.now ≡ short_line bytes) (sym (append-nil line)) start
 
 pub loop-byte-preserved : goal.loop-byte-preserved
 loop-byte-preserved c = λ line start.
@@ -15,7 +12,3 @@ loop-byte-preserved c = λ line start.
     subst (λ xs. c.push.new.self ≡ short_line xs)
     (append_assoc line (take index bytes) (slice_index bytes index ∷ []) ∙ ap (λ xs. line ++ xs) (sym next))
     (c.push.ensures (line ++ take index bytes) (c.loop-byte.invariant line start))
-
-pub returns : goal.returns
-returns c = λ line start.
-    rw (take_all c.loop-byte.byte-index c.args.bytes.now c.loop-byte-test.false) at (c.loop-byte.invariant line start)

@@ -1,12 +1,13 @@
-use Rattle.std.proofs.Common.{◌≡◌, ℕ, ◌+◌, ◌-◌, ◌≤◌, List, ◌++◌, length, take, drop, sym, ap, ◌∙◌, arith, length-take, take-append-drop}
+use Rattle.std.proofs.Common.{◌≡◌, ℕ, ◌+◌, ◌-◌, ◌<◌, ◌≤◌, List, ◌++◌, length, take, drop, sym, ap, ◌∙◌, arith, length-take, take-append-drop}
 use Rattle.std.specs.List.{copy_within}
 use Rattle.std.proofs.lemmas.List.{append-nil, drop-take}
 use Rattle.std.proofs.lemmas.List.Edits.{take-paste}
 use Rattle.lexical_lines.specs.Source.{faults_of}
-use Rattle.lexical_streams.specs.Blocks.{BlockWriting, taken, Writes, KeepsBytes}
+use Rattle.lexical_streams.specs.Blocks.{BlockWriting, taken, PassesOn, KeepsBytes}
 use Rattle.lexical_streams.specs.Kept.{KeepsBytes-of}
 use Rattle.lexical_streams.proofs.block_writer.BlockWriter.write_block.Goals as goal
-use Rattle.std.proofs.Common.{length-drop, append_assoc, subst, []}
+use Rattle.std.proofs.Common.{length-drop, append_assoc, subst, [], Result, Ok, Err, OnOk, OnErr}
+use Rattle.std.specs.Prelude.{⊤}
 
 -- the bytes after the first ones are moved to the start
 take-copy_within : (xs : List ℕ) (count end : ℕ) → count ≤ end → end ≤ length xs
@@ -33,24 +34,32 @@ same written after xs ys count end passed parts =
     ap (λ front. front ++ take (end - count) ys) passed ∙ append_assoc written (take count (take end xs)) (take (end - count) ys)
     ∙ ap (λ held. written ++ held) (sym parts)
 
+within : {E : Type 0} (result : Result ⊤ E) (count whole : ℕ) → OnOk result (count ≡ whole) → OnErr result (count < whole) → count ≤ whole
+within (Ok done) count whole all less = omega (arith, all)
+within (Err e) count whole all less = omega (arith, less)
+
 pub returns-clause-taken : goal.returns-clause-taken
 returns-clause-taken g c =
     let w = c.self.inside in
-    let count = c.write_until_error-count.result.0 in
-    let bound : count ≤ w.end = omega (arith, c.write_until_error-count.ensures.bound, length-take w.end w.block) in
+    let count = c.put_all-count.result.0 in
+    let bound : count ≤ w.end = omega (arith, within _ _ _ c.put_all-count.ensures.ok c.put_all-count.ensures.err, length-take w.end w.block) in
     let parts = parted w.block c.copy_within.new.self count w.end bound (omega (arith, c.self.invariant.1, c.self.told)) c.copy_within.ensures.after in
-    same (g.K.BlockSink.taken w.sink) _ w.block c.copy_within.new.self count w.end c.write_until_error-count.ensures.taken parts ∙ ap taken c.self.view_is
+    same (g.K.ByteSink.taken w.sink) _ w.block c.copy_within.new.self count w.end c.put_all-count.ensures.taken parts ∙ ap taken c.self.view_is
 
-passed-on : (v a b : BlockWriting) (passed : List ℕ) → v ≡ a → taken b ≡ taken a → Writes v b passed → KeepsBytes a b
-passed-on v a b passed is e writes = KeepsBytes-of a b [] passed (e ∙ sym (append-nil (taken a))) (subst (λ w. Writes w b passed) is writes)
+passed-on : (v a b : BlockWriting) (passed : List ℕ) → v ≡ a → taken b ≡ taken a → PassesOn v b passed → KeepsBytes a b
+passed-on v a b passed is e writes = KeepsBytes-of a b [] passed (e ∙ sym (append-nil (taken a))) (subst (λ w. PassesOn w b passed) is writes)
 
 pub returns-clause-kept : goal.returns-clause-kept
 returns-clause-kept g c =
-    let wrote = c.write_until_error-count.ensures in
-    passed-on _ _ _ _ c.self.view_is (returns-clause-taken g c) (record { written = wrote.taken; contents = wrote.bytes })
+    let wrote = c.put_all-count.ensures in
+    let puts = g.met.K.BlockSink.keeps_puts _ _ wrote.kept in
+    passed-on _ _ _ _ c.self.view_is (returns-clause-taken g c) (record { written = puts.taken; contents = puts.contents })
 
 -- the check finds this proof by itself, but with an answer the refusal of a mistake says what is wrong
 pub returns-clause-faults : goal.returns-clause-faults
 returns-clause-faults g c =
-    let wrote = c.write_until_error-count in
+    let wrote = c.put_all-count in
     wrote.ensures.faults ∙ ap (λ w. w.faults + faults_of wrote.result.1) c.self.view_is
+
+pub returns-clause-flushes : goal.returns-clause-flushes
+returns-clause-flushes g c = (g.met.K.BlockSink.keeps_puts _ _ c.put_all-count.ensures.kept).flushes ∙ ap (λ w. w.flushes) c.self.view_is

@@ -1,5 +1,5 @@
-use Rattle.std.proofs.Common.{ap, subst, sym, ◌∙◌, Some, take}
-use Rattle.lexical_lines.specs.Answer.{AnswersAll}
+use Rattle.std.proofs.Common.{ap, sym, ◌∙◌, Some, take}
+use Rattle.std.specs.Prelude.{option_map}
 use Rattle.lexical_streams.proofs.Known.{answers-known}
 use Rattle.lines_tests.proofs.tests.blocks.answered.Goals as goal
 
@@ -7,9 +7,8 @@ pub returns : goal.returns
 returns c = λ low.
     let start = c.new-reader.ensures in
     let output = c.new-writer.ensures in
-    let known = ap (λ r. r.remaining) start ∙ ap (λ s. Some s.now) c.new.ensures.reader in
-    let none = ap (λ w. w.contents) output ∙ ap (λ v. Some v.items) c.new-3.ensures.writer ∙ ap Some c.new-2.ensures.items in
+    let known = ap (λ r. r.unread) start ∙ ap (λ s. option_map (take s.left) (Some s.reader.now)) c.whole.ensures in
+    let none = ap (λ w. w.contents) output ∙ ap (λ s. Some s.writer.items) c.new-2.ensures ∙ ap Some c.new.ensures.items in
     let some = sym c.into_inner.ensures.contents ∙ ap (λ v. Some v.items) (sym c.into_inner-2.ensures) in
-    subst (λ left. AnswersAll (take left c.args.bytes.now) c.into_inner-2.result.items) (ap (λ r. r.left) start)
-    (answers-known c.new-reader.result c.answer_stream-status.new.reader c.new-writer.result c.answer_stream-status.new.writer
-    c.args.bytes.now c.into_inner-2.result.items (c.answer_stream-status.ensures.answered low) known (ap (λ w. w.held) output) none some)
+    answers-known c.new-reader.result c.answer_stream-status.new.reader c.new-writer.result c.answer_stream-status.new.writer
+    _ c.into_inner-2.result.items (c.answer_stream-status.ensures.answered low) known (ap (λ w. w.held) output) none some

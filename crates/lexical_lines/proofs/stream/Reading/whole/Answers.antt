@@ -1,6 +1,5 @@
-use Rattle.std.proofs.Common.{refl}
-use Rattle.lexical_streams.proofs.block_reader.BlockReader.new.Goals as goal
+use Rattle.lexical_lines.proofs.stream.Reading.whole.Goals as goal
 
 -- the check finds this proof by itself, but with an answer the refusal of a mistake says what is wrong
 pub returns : goal.returns
-returns g c = refl
+returns g c = c.new.ensures

@@ -1,0 +1,18 @@
+use Rattle.std.proofs.Common.{◌≡◌, refl, ap, sym, arith, length, length-take}
+use Rattle.lexical_lines.proofs.Readers.{KeepsReader-read, ReadConsumes-limited}
+use Rattle.lexical_lines.proofs.stream.ReadingBlockSource.read_block.Goals as goal
+
+pub returns-in-Ok-clause-kept : goal.returns-in-Ok-clause-kept
+returns-in-Ok-clause-kept g c =
+    let read = c.in-Ok.ensures in
+    let size : length c.read.new.buf ≡ c.min-size.result = omega (arith, c.read.auto.buf, c.min-size.ensures, length-take c.min-size.result c.args.block.now) in
+    let given = rw (ap (λ t. t.bytes) c.call.ensures) at (ap (λ t. t.bytes) c.note.ensures) in
+    rw (sym c.self.view_is) (KeepsReader-read _ _ _ c.read.new.buf _ (omega (arith, size, c.min-size.ensures, c.requires, c.if-self-eq0.false))
+    (omega (arith, read.bound)) read.bytes g.R.Read.remaining _ _ refl refl c.if-self-eq0.false (omega (arith, size, c.min-size.ensures, read.bound)) given refl)
+
+pub returns-in-Ok-clause-bytes : goal.returns-in-Ok-clause-bytes
+returns-in-Ok-clause-bytes g c =
+    let read = c.in-Ok.ensures in
+    let size : length c.read.new.buf ≡ c.min-size.result = omega (arith, c.read.auto.buf, c.min-size.ensures, length-take c.min-size.result c.args.block.now) in
+    rw (sym c.self.view_is) (ReadConsumes-limited _ _ _ c.read.new.buf _ (omega (arith, size, c.min-size.ensures, c.requires, c.if-self-eq0.false))
+    (omega (arith, read.bound)) read.bytes _ _ (omega (arith, size, c.min-size.ensures, read.bound)))
