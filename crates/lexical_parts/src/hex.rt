@@ -1,7 +1,7 @@
 //! Unsigned numbers in radix 16 and in radix 2, which need as many bytes as their type has digits, and
 //! bytes in radix 16.
 
-ghost use Rattle.std.specs.Prelude.{◌≡◌, ◌*◌, ◌/◌, ◌≤◌, length, ⊤};
+ghost use Rattle.std.specs.Prelude.{◌≡◌, ◌*◌, ◌/◌, ◌≤◌, length};
 ghost use Rattle.lexical_write_integer.specs.Buffer.{Writes};
 ghost use Rattle.lexical_write_integer.specs.Padded.{IsPadded};
 ghost use Rattle.lexical_write_integer.specs.Text.{IsDigits};
@@ -19,8 +19,6 @@ pub struct Hex<T>(pub T);
 
 impl<T: Radix> Part for Hex<T> {
     ghost is_text = { λ part. IsDigits 16 (T.magnitude part.0) };
-
-    ghost is_valid = { λ _. ⊤ };
 
     ghost room = { λ _. T.BITS / 4 };
 
@@ -41,8 +39,6 @@ pub struct Binary<T>(pub T);
 
 impl<T: Radix> Part for Binary<T> {
     ghost is_text = { λ part. IsDigits 2 (T.magnitude part.0) };
-
-    ghost is_valid = { λ _. ⊤ };
 
     ghost room = { λ _. T.BITS };
 
@@ -76,8 +72,6 @@ pub struct HexBytes<'a>(pub &'a [u8]);
 
 impl Part for HexBytes<'_> {
     ghost is_text = { λ part. AreEach (IsPadded 16 2) part.0.now };
-
-    ghost is_valid = { λ _. ⊤ };
 
     ghost room = { λ part. 2 * length part.0.now };
 

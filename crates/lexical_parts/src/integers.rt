@@ -1,6 +1,6 @@
 //! The integer types, which are parts: the text of a number is the number in decimal.
 
-ghost use Rattle.std.specs.Prelude.{pos, ⊤};
+ghost use Rattle.std.specs.Prelude.{pos};
 ghost use Rattle.lexical_parts.specs.Sequence.{IsDecimal};
 
 use crate::number::Decimal;
@@ -8,8 +8,6 @@ use crate::part::Part;
 
 impl Part for u8 {
     ghost is_text = { λ number. IsDecimal (pos number) };
-
-    ghost is_valid = { λ _. ⊤ };
 
     ghost room = { λ _. 3 };
 
@@ -25,8 +23,6 @@ impl Part for u8 {
 impl Part for u16 {
     ghost is_text = { λ number. IsDecimal (pos number) };
 
-    ghost is_valid = { λ _. ⊤ };
-
     ghost room = { λ _. 5 };
 
     fn room(self) -> usize {
@@ -40,8 +36,6 @@ impl Part for u16 {
 
 impl Part for u32 {
     ghost is_text = { λ number. IsDecimal (pos number) };
-
-    ghost is_valid = { λ _. ⊤ };
 
     ghost room = { λ _. 10 };
 
@@ -57,8 +51,6 @@ impl Part for u32 {
 impl Part for u64 {
     ghost is_text = { λ number. IsDecimal (pos number) };
 
-    ghost is_valid = { λ _. ⊤ };
-
     ghost room = { λ _. 20 };
 
     fn room(self) -> usize {
@@ -72,8 +64,6 @@ impl Part for u64 {
 
 impl Part for usize {
     ghost is_text = { λ number. IsDecimal (pos number) };
-
-    ghost is_valid = { λ _. ⊤ };
 
     ghost room = { λ _. 20 };
 
@@ -89,8 +79,6 @@ impl Part for usize {
 impl Part for i8 {
     ghost is_text = { IsDecimal };
 
-    ghost is_valid = { λ _. ⊤ };
-
     ghost room = { λ _. 4 };
 
     fn room(self) -> usize {
@@ -104,8 +92,6 @@ impl Part for i8 {
 
 impl Part for i16 {
     ghost is_text = { IsDecimal };
-
-    ghost is_valid = { λ _. ⊤ };
 
     ghost room = { λ _. 6 };
 
@@ -121,8 +107,6 @@ impl Part for i16 {
 impl Part for i32 {
     ghost is_text = { IsDecimal };
 
-    ghost is_valid = { λ _. ⊤ };
-
     ghost room = { λ _. 11 };
 
     fn room(self) -> usize {
@@ -137,8 +121,6 @@ impl Part for i32 {
 impl Part for i64 {
     ghost is_text = { IsDecimal };
 
-    ghost is_valid = { λ _. ⊤ };
-
     ghost room = { λ _. 20 };
 
     fn room(self) -> usize {
@@ -152,8 +134,6 @@ impl Part for i64 {
 
 impl Part for isize {
     ghost is_text = { IsDecimal };
-
-    ghost is_valid = { λ _. ⊤ };
 
     ghost room = { λ _. 20 };
 

@@ -1,6 +1,5 @@
 //! Parts that are one number.
 
-ghost use Rattle.std.specs.Prelude.{⊤};
 ghost use Rattle.lexical_num.specs.Format.{IsRadix, standard};
 ghost use Rattle.lexical_num.specs.Size.{size_in};
 ghost use Rattle.lexical_write_integer.specs.DigitCount.{digit_count};
@@ -21,8 +20,6 @@ pub struct Decimal<T>(pub T);
 
 impl<T: ToLexicalWithOptions> Part for Decimal<T> {
     ghost is_text = { λ part. IsText (T.number part.0) standard };
-
-    ghost is_valid = { λ _. ⊤ };
 
     ghost room = { λ _. T.FORMATTED_SIZE_DECIMAL };
 
@@ -63,8 +60,6 @@ pub struct Formatted<'a, T>(pub T, pub &'a NumberFormat);
 
 impl<T: ToLexicalWithOptions> Part for Formatted<'_, T> {
     ghost is_text = { λ part. IsText (T.number part.0) part.1.now };
-
-    ghost is_valid = { λ _. ⊤ };
 
     ghost room = { λ part. size_in T.FORMATTED_SIZE T.FORMATTED_SIZE_DECIMAL part.1.now };
 

@@ -1,6 +1,6 @@
 //! The trait that each part of a text implements.
 
-ghost use Rattle.std.specs.Prelude.{◌≡◌, ◌↔◌, ◌≤◌, List, ℕ, IfNone, IfSome, IsSome, length, min};
+ghost use Rattle.std.specs.Prelude.{◌≡◌, ◌↔◌, ◌≤◌, List, ℕ, IfNone, IfSome, IsSome, length, min, ⊤};
 ghost use Rattle.std.specs.Borrow.{sem};
 ghost use Rattle.lexical_write_integer.specs.Buffer.{Writes};
 ghost use Rattle.lexical_write_integer.specs.Lending.{LendsFront};
@@ -18,7 +18,7 @@ pub trait Part: Copy {
     ghost is_text: { Self → List ℕ → Type 0 };
 
     // Whether the part is valid. A valid part has a text.
-    ghost is_valid: { Self → Type 0 };
+    ghost is_valid: { Self → Type 0 } = { λ _. ⊤ };
 
     // A number of bytes that is enough for the text.
     ghost room: { Self → ℕ };

@@ -1,6 +1,6 @@
 //! Parts that are strings or bytes, whose text is the same bytes.
 
-ghost use Rattle.std.specs.Prelude.{ℕ, [], ◌∷◌, length, ⊤};
+ghost use Rattle.std.specs.Prelude.{ℕ, [], ◌∷◌, length};
 ghost use Rattle.lexical_write_integer.specs.Sequence.{IsExactly};
 
 use crate::part::Part;
@@ -8,8 +8,6 @@ use lexical_write_integer::buffer::copy_to_front;
 
 impl Part for &str {
     ghost is_text = { λ part. IsExactly part.now };
-
-    ghost is_valid = { λ _. ⊤ };
 
     ghost room = { λ part. length part.now };
 
@@ -29,8 +27,6 @@ pub struct Bytes<'a>(pub &'a [u8]);
 impl Part for Bytes<'_> {
     ghost is_text = { λ part. IsExactly part.0.now };
 
-    ghost is_valid = { λ _. ⊤ };
-
     ghost room = { λ part. length part.0.now };
 
     fn room(self) -> usize {
@@ -48,8 +44,6 @@ pub struct Byte(pub u8);
 
 impl Part for Byte {
     ghost is_text = { λ part. IsExactly (part.0 ∷ []) };
-
-    ghost is_valid = { λ _. ⊤ };
 
     ghost room = { λ _. 1 };
 

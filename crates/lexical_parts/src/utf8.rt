@@ -28,7 +28,7 @@ use std::str::from_utf8;
 /// they are: `(Decimal(250), " g").to_str(&mut buffer)` returns `"250 g"`.
 pub trait Utf8Part: Part {
     // The condition under which the text is UTF-8: that each byte that the part names is below 128.
-    ghost is_utf8: { Self → Type 0 };
+    ghost is_utf8: { Self → Type 0 } = { λ _. ⊤ };
 
     /// A law: the text of the part is UTF-8.
     fn text_is_utf8(self)
@@ -70,8 +70,6 @@ pub trait Utf8Part: Part {
 }
 
 impl Utf8Part for &str {
-    ghost is_utf8 = { λ _. ⊤ };
-
     fn text_is_utf8(self) {}
 }
 
@@ -82,60 +80,42 @@ impl Utf8Part for Byte {
 }
 
 impl<T: ToLexicalWithOptions> Utf8Part for Decimal<T> {
-    ghost is_utf8 = { λ _. ⊤ };
-
     fn text_is_utf8(self) {
         STANDARD.in_range();
     }
 }
 
 impl<T: Radix + DigitCount> Utf8Part for Digits<T> {
-    ghost is_utf8 = { λ _. ⊤ };
-
     fn text_is_utf8(self) {}
 }
 
 impl<T: ToLexicalWithOptions> Utf8Part for Formatted<'_, T> {
-    ghost is_utf8 = { λ _. ⊤ };
-
     fn text_is_utf8(self) {
         self.1.in_range();
     }
 }
 
 impl<T: DigitCount + Radix> Utf8Part for PaddedDigits<T> {
-    ghost is_utf8 = { λ _. ⊤ };
-
     fn text_is_utf8(self) {}
 }
 
 impl<T: DigitCount + Radix> Utf8Part for Padded<T> {
-    ghost is_utf8 = { λ _. ⊤ };
-
     fn text_is_utf8(self) {}
 }
 
 impl<T: Radix> Utf8Part for Hex<T> {
-    ghost is_utf8 = { λ _. ⊤ };
-
     fn text_is_utf8(self) {}
 }
 
 impl<T: Radix> Utf8Part for Binary<T> {
-    ghost is_utf8 = { λ _. ⊤ };
-
     fn text_is_utf8(self) {}
 }
 
 impl Utf8Part for HexBytes<'_> {
-    ghost is_utf8 = { λ _. ⊤ };
-
     fn text_is_utf8(self) {}
 }
 
 impl<T: ToLexicalWithOptions> Utf8Part for Fixed<T> {
-    ghost is_utf8 = { λ _. ⊤ };
-
     fn text_is_utf8(self) {}
 }
 
