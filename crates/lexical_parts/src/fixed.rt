@@ -15,7 +15,7 @@ use lexical_write_integer::laws::size_suffices;
 
 // Writes the sign of a number to the start of the buffer, a `-` if it is negative and otherwise nothing, and
 // returns its length.
-fn write_sign<T: LexicalInteger>(number: T, buffer: &mut [u8]) -> usize
+pub(crate) fn write_sign<T: LexicalInteger>(number: T, buffer: &mut [u8]) -> usize
     requires { length (sign_of (T.number number) false) ≤ length buffer.old }
     ensures front { Front buffer.old buffer.new (sign_of (T.number number) false) }
     ensures count { result ≡ length (sign_of (T.number number) false) }

@@ -22,6 +22,7 @@
 #![tactic(auto)]
 
 mod column;
+mod display;
 mod fill;
 mod fixed;
 mod hex;
@@ -32,6 +33,8 @@ mod number;
 mod option;
 mod padded;
 mod part;
+mod plus;
+mod scientific;
 mod text;
 mod tuples;
 mod utf8;
@@ -45,6 +48,8 @@ pub use lower::Lower;
 pub use number::{Decimal, Digits, Formatted};
 pub use padded::{Padded, PaddedDigits};
 pub use part::Part;
+pub use plus::Plus;
+pub use scientific::Scientific;
 pub use text::{Byte, Bytes};
 pub use utf8::Utf8Part;
 pub use zero_padded::ZeroPadded;
