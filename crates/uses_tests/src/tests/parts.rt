@@ -2,7 +2,7 @@
 
 use super::{check_buffer, check_part};
 use lexical_parts::{
-    Binary, Center, Decimal, Fixed, Hex, Left, Lower, PaddedDigits, Part, Right, ZeroPadded,
+    Binary, Center, Decimal, Fixed, Hex, Left, Lower, PaddedDigits, Part, Plus, Right, ZeroPadded,
 };
 use uses::amount::write_amount;
 use uses::table_row::write_table_row;
@@ -78,6 +78,13 @@ fn widths_as_in_rust(rt: HostRuntime) {
     check_part(&rt, ZeroPadded(Decimal(0u8), 0), b"0");
     check_part(&rt, ZeroPadded(Hex(255u16), 6), b"0000FF");
     check_part(&rt, ZeroPadded(Fixed(-5i32, 2), 9), b"-00000.05");
+    check_part(&rt, Plus(0u8), b"+0");
+    check_part(&rt, Plus(u64::MAX), b"+18446744073709551615");
+    check_part(&rt, Plus(i8::MIN), b"-128");
+    check_part(&rt, ZeroPadded(Plus(42), 8), b"+0000042");
+    check_part(&rt, ZeroPadded(Plus(-42), 8), b"-0000042");
+    assert_eq!(rt; (Plus(1u8).room(), Plus(1i8).room()), (4, 4));
+    assert_eq!(rt; (Plus(1u64).room(), Plus(1i32).room()), (21, 11));
     check_part(&rt, Right(Decimal(-42), 8, b' '), b"     -42");
     check_part(&rt, Right(Decimal(-42), 6, b'*'), b"***-42");
     check_part(&rt, Left(Decimal(-42), 6, b'*'), b"-42***");
