@@ -24,3 +24,5 @@ pub mod ZeroPaddings
 pub mod Pluses
 -- digits without the zeros at their end, and an exponent
 pub mod Scientifics
+-- whole parts in groups
+pub mod GroupedUnits

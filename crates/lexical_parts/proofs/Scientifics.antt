@@ -10,7 +10,6 @@ use Rattle.lexical_write_integer.specs.DigitCount.{digit_count}
 use Rattle.lexical_write_integer.specs.Padded.{IsPadded}
 use Rattle.lexical_write_integer.specs.Sequence.{IsExactly}
 use Rattle.lexical_write_integer.specs.Text.{IsDigits}
-use Rattle.lexical_write_integer.proofs.Buffers.Prefixes.{take-Writes}
 use Rattle.lexical_write_integer.proofs.OfDigits.Count.DigitCounts.{digit_count-fits, digit_count-one}
 use Rattle.lexical_write_integer.proofs.OfDigits.Numerals.{digits_unique, length-IsDigits}
 use Rattle.lexical_write_integer.proofs.OfDigits.PaddedDigits.{IsPadded-zeros, padded_unique}
@@ -20,10 +19,6 @@ use Rattle.lexical_parts.specs.Fixed.{IsUnits}
 use Rattle.lexical_parts.specs.Scientific.{IsScientificUnsigned, exponent_of_first}
 use Rattle.lexical_parts.specs.Sequence.{◌then◌, IsStr, IsDecimal}
 use Rattle.lexical_parts.proofs.Points.{IsUnits-point, digits_around_point}
-
-pub written_digits : {number count : ℕ} {before after : List ℕ} → Writes (IsDigits 10 number) before after count
-    → IsDigits 10 number (take count after)
-written_digits {number} {count} {before} {after} w = rw (take-Writes before after count w) w.is
 
 -- ---- zeros at the end
 

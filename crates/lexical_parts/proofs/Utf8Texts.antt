@@ -12,7 +12,7 @@ use Rattle.lexical_write_integer.specs.Sequence.{IsExactly, Then, AreJoined}
 use Rattle.lexical_write_integer.specs.Text.{IsDigits, IsText}
 use Rattle.lexical_write_integer.proofs.OfTexts.Ascii.{IsAscii-IsText, IsAscii-digit_chars}
 use Rattle.lexical_parts.specs.Column.{IsAtLeft, IsAtRight, IsCentered}
-use Rattle.lexical_parts.specs.Fixed.{IsFixed, IsFraction, IsUnits}
+use Rattle.lexical_parts.specs.Fixed.{IsFixed, IsFraction, IsGroupedFixed, IsUnits}
 use Rattle.lexical_parts.specs.Joined.{AreEach}
 use Rattle.lexical_parts.specs.Scientific.{IsScientific, IsScientificUnsigned}
 use Rattle.lexical_parts.specs.Utf8.{AreUtf8}
@@ -84,6 +84,14 @@ units_are_utf8 decimals units text is =
 
 pub fixed_is_utf8 : (decimals : ℕ) (number : ℤ) → AreUtf8 (IsFixed decimals number)
 fixed_is_utf8 decimals number text is = then_is_utf8 (sign_is_utf8 number) (units_are_utf8 decimals (unsigned_abs number)) text is
+
+pub grouped_fixed_is_utf8 : (format : Format) (decimals : ℕ) (number : ℤ) → IsValid standard → IsValid format
+    → AreUtf8 (IsGroupedFixed format.digit_grouping decimals number)
+grouped_fixed_is_utf8 format decimals number plain valid text is =
+    let groups : IsValid (record standard { digit_grouping = format.digit_grouping }) =
+    record { mantissa = plain.mantissa; exponent = plain.exponent; groups = valid.groups } in
+    then_is_utf8 (sign_is_utf8 number)
+    (then_is_utf8 (text_is_utf8 _ (record standard { digit_grouping = format.digit_grouping }) groups) (fraction_is_utf8 decimals _)) text is
 
 unsigned_is_utf8 : (number : ℕ) (exponent : ℤ) → IsValid standard → AreUtf8 (IsScientificUnsigned number exponent)
 unsigned_is_utf8 number exponent valid text is =

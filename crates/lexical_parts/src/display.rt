@@ -34,11 +34,7 @@ impl<T: ToLexicalWithOptions> fmt::Display for Decimal<T> {
     ghost styled_output = { λ part spec. Some (padded spec (text_of (T.number part.0) standard)) };
 
     fn fmt<W: fmt::Write>(&self, f: &mut fmt::Formatter<W>) -> fmt::Result {
-        size_suffices(self.0, &STANDARD);
-        let mut buffer = [0; BUFFER_SIZE];
-        let text = Decimal(self.0).to_str(&mut buffer);
-        text_computed(self.0, &STANDARD, text.as_bytes());
-        f.pad(text)
+        fmt::Display::fmt(&Formatted(self.0, &STANDARD), f)
     }
 }
 

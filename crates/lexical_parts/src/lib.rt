@@ -41,7 +41,7 @@ mod utf8;
 mod zero_padded;
 
 pub use column::{Center, Left, Right};
-pub use fixed::Fixed;
+pub use fixed::{Fixed, GroupedFixed};
 pub use hex::{Binary, Hex, HexBytes};
 pub use joined::{Joined, rooms_at_most};
 pub use lower::Lower;

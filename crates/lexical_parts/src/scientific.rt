@@ -30,8 +30,7 @@ fn count_without_zeros(digits: &[u8]) -> usize
     count
 }
 
-// Writes the digits of a number to the start of the buffer, with a point after the first if there are more, and
-// returns the number of bytes written.
+// Writes the digits of a number with a point after the first, if there are more, and returns their length.
 fn write_with_point(digits: &[u8], buffer: &mut [u8]) -> usize
     requires some { 1 ≤ length digits.now }
     requires room { length digits.now + 1 ≤ length buffer.old }
@@ -92,10 +91,9 @@ fn write_magnitude<T: ToLexicalWithOptions>(number: T, exponent: i32, buffer: &m
     end + write_exponent(first_exponent(digits, exponent), &mut buffer[end..])
 }
 
-/// A number times a power of ten in scientific notation, as `{:e}` writes it in Rust:
-/// `Scientific(1234, -59)` writes `1.234e-56`, and `Scientific(-1000, 0)` writes `-1e3`. The digits have no
-/// zeros at the end, with a point after the first if there are more. 0 is `0e0`. Its room is 13 bytes more
-/// than that of `Decimal`.
+/// A number times a power of ten, as `{:e}` writes it in Rust: `Scientific(1234, -59)` writes `1.234e-56`,
+/// and `Scientific(-1000, 0)` writes `-1e3`. The digits have no zeros at the end, and a point after the
+/// first if there are more. Its room is 13 bytes more than that of `Decimal`.
 #[derive(Clone, Copy, Drop)]
 pub struct Scientific<T>(pub T, pub i32);
 

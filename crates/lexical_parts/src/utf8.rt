@@ -8,7 +8,7 @@ mod integers;
 mod tuples;
 
 use crate::column::{Center, Left, Right};
-use crate::fixed::Fixed;
+use crate::fixed::{Fixed, GroupedFixed};
 use crate::hex::{Binary, Hex, HexBytes};
 use crate::joined::Joined;
 use crate::lower::Lower;
@@ -125,6 +125,13 @@ impl Utf8Part for HexBytes<'_> {
 
 impl<T: ToLexicalWithOptions> Utf8Part for Fixed<T> {
     fn text_is_utf8(self) {}
+}
+
+impl<T: ToLexicalWithOptions> Utf8Part for GroupedFixed<'_, T> {
+    fn text_is_utf8(self) {
+        STANDARD.in_range();
+        self.2.in_range();
+    }
 }
 
 impl<T: ToLexicalWithOptions> Utf8Part for Scientific<T> {

@@ -2,8 +2,9 @@ use Rattle.std.proofs.Common.{ℕ, arith, rules, w32, w64}
 use Rattle.std.proofs.lemmas.Int.{to_z-of_z}
 use Rattle.std.proofs.lemmas.List.{length-drop, length-take}
 use Rattle.lexical_write_integer.specs.DigitCount.{digit_count-le}
+use Rattle.lexical_write_integer.proofs.Buffers.Prefixes.{Writes-is}
 use Rattle.lexical_write_integer.proofs.OfTexts.Sequences.{written_then}
-use Rattle.lexical_parts.proofs.Scientifics.{written_digits, written_scientific}
+use Rattle.lexical_parts.proofs.Scientifics.{written_scientific}
 use Rattle.lexical_parts.proofs.Widths.{decimal_width-le_20}
 use Rattle.lexical_parts.proofs.scientific.write_magnitude.Goals as goal
 
@@ -48,7 +49,7 @@ returns-clause-short g c =
 
 pub returns-clause-text : goal.returns-clause-text
 returns-clause-text g c =
-    let is = written_digits c.write_magnitude-count.ensures.digits.writes in
+    let is = Writes-is _ _ _ c.write_magnitude-count.ensures.digits.writes in
     let kept = c.count_without_zeros-kept.ensures in
     let exponent = to_z-of_z w32 c.args.exponent (search rules) in
     let first = to_z-of_z w64 c.first_exponent.result (search rules) in
