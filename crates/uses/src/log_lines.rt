@@ -11,7 +11,7 @@ use std::alloc::AllocError;
 use std::io::{self, Write};
 
 /// Adds a line with a count and flags, such as `12 0xFF`, to the end of the log, or returns an error if
-/// there is no memory for it. Then the log is unchanged.
+/// memory runs out. Then the log is unchanged.
 pub fn push_line(log: &mut Vec<u8>, count: u32, flags: u16) -> Result<(), AllocError>
     ensures line { OnOk result ((IsExactly log.old.items then IsLogLine count flags) log.new.items) }
     ensures unchanged { OnErr result (log.new.items ≡ log.old.items) }

@@ -2,8 +2,8 @@
 
 use super::{check_buffer, check_part};
 use lexical_parts::{
-    Binary, Center, Decimal, Fixed, GroupedFixed, Hex, Left, Lower, PaddedDigits, Part, Plus, Right, Utf8Part,
-    ZeroPadded,
+    Binary, Center, Decimal, Fixed, GroupedFixed, Hex, Left, Lower, PaddedDigits, Part, Plus,
+    Right, Utf8Part, ZeroPadded,
 };
 use lexical_write_integer::NumberFormatBuilder;
 use lexical_write_integer::format::STANDARD;
@@ -76,7 +76,11 @@ fn amounts_in_cents(rt: HostRuntime) {
         .build_strict();
     check_part(&rt, GroupedFixed(1234u16, 1, &by_one), b"1_2_3.4");
     check_part(&rt, GroupedFixed(-128i8, 0, &by_one), b"-1_2_8");
-    check_part(&rt, GroupedFixed(5u8, 19, &by_one), b"0.0000000000000000005");
+    check_part(
+        &rt,
+        GroupedFixed(5u8, 19, &by_one),
+        b"0.0000000000000000005",
+    );
     check_part(&rt, GroupedFixed(-1234567, 2, &STANDARD), b"-12345.67");
     assert_eq!(rt; GroupedFixed(1i64, 2, &by_one).room(), 37);
     assert_eq!(rt; GroupedFixed(1u8, 0, &by_one).room(), 5);

@@ -62,7 +62,7 @@ fn add<P: Part>(sum: u64, part: P) -> u64
     sum
 }
 
-// Rust's own answers: `format!("{:e}", 1.234e-56)`, and so on. At the ends of the exponents there is no such float.
+// Rust's own answers: `format!("{:e}", 1.234e-56)`, and so on. No float has the largest exponents.
 #[test]
 fn scientific_notation(rt: HostRuntime) {
     check_part(&rt, Scientific(1234, -59), b"1.234e-56");
@@ -82,7 +82,7 @@ fn scientific_notation(rt: HostRuntime) {
     assert_eq!(rt; write_float(false, 5, 0, &mut [7; 34]), "5e0");
 }
 
-// The Rust program `tests/scientific.rs` makes the same 30,000 numbers and printed these sums of what `{:e}` writes. The
+// The Rust program `tests/scientific.rs` makes the same 30,000 numbers and printed these sums of the texts that `{:e}` writes. The
 // digits of the floats, of which there are at most 15, are their shortest.
 #[test]
 fn numbers_as_rust_writes_them(rt: HostRuntime) {
