@@ -1,5 +1,5 @@
 -- The whole part of a number of units, in groups.
-use Rattle.std.proofs.Common.{◌≡◌, Option, ℕ, zero, suc, ◌+◌, ◌-◌, ◌/◌, ◌%◌, ◌^◌, ◌≤◌, List, [], ◌++◌, length, length-append, map, take, drop, refl, sym, ap, ◌∙◌, arith, pos}
+use Rattle.std.proofs.Common.{◌≡◌, Option, ℕ, zero, suc, ◌+◌, ◌-◌, ◌/◌, ◌%◌, ◌^◌, ◌≤◌, List, ◌++◌, length, length-append, map, take, drop, ap, ◌∙◌, arith, pos}
 use Rattle.std.specs.Prelude.{min}
 use Rattle.std.proofs.lemmas.List.{drop_at, length-drop, length-map, length-take-le, take_all, take_at}
 use Rattle.lexical_num.specs.Digit.{digit_char}

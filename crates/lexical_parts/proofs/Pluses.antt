@@ -1,5 +1,5 @@
 -- A sign and digits, which are a text with a required sign.
-use Rattle.std.proofs.Common.{ℕ, List, true, ℤ, unsigned_abs, refl}
+use Rattle.std.proofs.Common.{ℕ, List, true, ℤ, unsigned_abs}
 use Rattle.lexical_num.specs.Format.{IsValid, standard}
 use Rattle.lexical_num.specs.Sign.{sign_of}
 use Rattle.lexical_write_integer.specs.Buffer.{Writes}
