@@ -12,7 +12,7 @@ pub mod Utf8Changes
 pub mod Equations
 -- texts in lowercase
 pub mod Lowercases
--- digits of a number of a type
+-- how many digits a number of a type has
 pub mod Widths
 -- bytes inserted into a text
 pub mod Inserts
@@ -20,3 +20,9 @@ pub mod Inserts
 pub mod Points
 -- zeros after a sign
 pub mod ZeroPaddings
+-- numbers with a sign in each case
+pub mod Pluses
+-- digits without the zeros at their end, and an exponent
+pub mod Scientifics
+-- whole parts in groups
+pub mod GroupedUnits

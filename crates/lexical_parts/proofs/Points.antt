@@ -83,7 +83,7 @@ digits_around_point n decimals added count whole text is counted is_zeros is_who
 -- ---- the point in the buffer
 
 -- the point and the digits after it are a fraction, if there are such digits
-IsUnits-point : (decimals units : ℕ) (front back : List ℕ) → 1 ≤ decimals → IsDigits 10 (units / 10 ^ decimals) front
+pub IsUnits-point : (decimals units : ℕ) (front back : List ℕ) → 1 ≤ decimals → IsDigits 10 (units / 10 ^ decimals) front
     → IsPadded 10 decimals (units % 10 ^ decimals) back → IsUnits decimals units (front ++ 46 ∷ back)
 IsUnits-point zero units front back some whole rest = absurd (omega arith)
 IsUnits-point (suc decimals) units front back some whole rest = record {

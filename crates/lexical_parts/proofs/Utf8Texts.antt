@@ -5,15 +5,16 @@ use Rattle.std.specs.Str.{IsUtf8}
 use Rattle.std.proofs.lemmas.List.Elements.{All-nil, All-cons, All-head, All-tail, All-replicate}
 use Rattle.std.proofs.lemmas.Str.{IsUtf8-nil, IsUtf8-from_ascii, IsUtf8-append}
 use Rattle.std.proofs.lemmas.Str.Ascii.{IsAscii-from_all}
-use Rattle.lexical_num.specs.Format.{Format, IsValid}
+use Rattle.lexical_num.specs.Format.{Format, IsValid, standard}
 use Rattle.lexical_num.specs.Sign.{sign_of}
 use Rattle.lexical_write_integer.specs.Padded.{IsPadded}
 use Rattle.lexical_write_integer.specs.Sequence.{IsExactly, Then, AreJoined}
 use Rattle.lexical_write_integer.specs.Text.{IsDigits, IsText}
 use Rattle.lexical_write_integer.proofs.OfTexts.Ascii.{IsAscii-IsText, IsAscii-digit_chars}
 use Rattle.lexical_parts.specs.Column.{IsAtLeft, IsAtRight, IsCentered}
-use Rattle.lexical_parts.specs.Fixed.{IsFixed, IsFraction}
+use Rattle.lexical_parts.specs.Fixed.{IsFixed, IsFraction, IsGroupedFixed, IsUnits}
 use Rattle.lexical_parts.specs.Joined.{AreEach}
+use Rattle.lexical_parts.specs.Scientific.{IsScientific, IsScientificUnsigned}
 use Rattle.lexical_parts.specs.Utf8.{AreUtf8}
 
 -- a byte below 128
@@ -77,8 +78,25 @@ fraction_is_utf8 zero units text is = rw is IsUtf8-nil
 fraction_is_utf8 (suc decimals) units text is =
     then_is_utf8 (one_is_utf8 46 (omega arith)) (padded_is_utf8 10 (suc decimals) units (omega arith)) text is
 
+units_are_utf8 : (decimals units : ℕ) → AreUtf8 (IsUnits decimals units)
+units_are_utf8 decimals units text is =
+    then_is_utf8 (digits_are_utf8 10 (units / 10 ^ decimals) (omega arith)) (fraction_is_utf8 decimals (units % 10 ^ decimals)) text is
+
 pub fixed_is_utf8 : (decimals : ℕ) (number : ℤ) → AreUtf8 (IsFixed decimals number)
-fixed_is_utf8 decimals number text is =
-    let units = unsigned_abs number in
+fixed_is_utf8 decimals number text is = then_is_utf8 (sign_is_utf8 number) (units_are_utf8 decimals (unsigned_abs number)) text is
+
+pub grouped_fixed_is_utf8 : (format : Format) (decimals : ℕ) (number : ℤ) → IsValid standard → IsValid format
+    → AreUtf8 (IsGroupedFixed format.digit_grouping decimals number)
+grouped_fixed_is_utf8 format decimals number plain valid text is =
+    let groups : IsValid (record standard { digit_grouping = format.digit_grouping }) =
+    record { mantissa = plain.mantissa; exponent = plain.exponent; groups = valid.groups } in
     then_is_utf8 (sign_is_utf8 number)
-    (then_is_utf8 (digits_are_utf8 10 (units / 10 ^ decimals) (omega arith)) (fraction_is_utf8 decimals (units % 10 ^ decimals))) text is
+    (then_is_utf8 (text_is_utf8 _ (record standard { digit_grouping = format.digit_grouping }) groups) (fraction_is_utf8 decimals _)) text is
+
+unsigned_is_utf8 : (number : ℕ) (exponent : ℤ) → IsValid standard → AreUtf8 (IsScientificUnsigned number exponent)
+unsigned_is_utf8 number exponent valid text is =
+    then_is_utf8 (units_are_utf8 _ is.units) (then_is_utf8 (one_is_utf8 101 (omega arith)) (text_is_utf8 _ standard valid)) text is.is
+
+pub scientific_is_utf8 : (number exponent : ℤ) → IsValid standard → AreUtf8 (IsScientific number exponent)
+scientific_is_utf8 number exponent valid text is =
+    then_is_utf8 (sign_is_utf8 number) (unsigned_is_utf8 (unsigned_abs number) exponent valid) text is

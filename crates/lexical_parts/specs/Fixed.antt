@@ -1,9 +1,10 @@
 -- Numbers of units of a power of ten, with a decimal point.
-use Rattle.std.specs.Prelude.{ℕ, zero, suc, ◌+◌, ◌-◌, ◌/◌, ◌%◌, ◌^◌, max, min, ℤ, unsigned_abs, false, List, []}
+use Rattle.std.specs.Prelude.{ℕ, zero, suc, ◌+◌, ◌-◌, ◌/◌, ◌%◌, ◌^◌, max, min, ℤ, pos, unsigned_abs, false, List, [], Option}
+use Rattle.lexical_num.specs.Format.{grouped_length, standard}
 use Rattle.lexical_num.specs.Sign.{sign_of}
 use Rattle.lexical_write_integer.specs.Padded.{IsPadded}
 use Rattle.lexical_write_integer.specs.Sequence.{IsExactly}
-use Rattle.lexical_write_integer.specs.Text.{IsDigits}
+use Rattle.lexical_write_integer.specs.Text.{IsDigits, IsText}
 use Rattle.lexical_parts.specs.Sequence.{◌then◌, IsStr}
 
 -- the point and this many digits of the fraction, or no bytes if there are no digits
@@ -28,3 +29,19 @@ units_room width decimals = max width (decimals + 1) + min decimals 1
 -- the bytes for the sign too, for a type whose numbers need at most `size` bytes in decimal
 abbrev pub fixed_room : ℕ → ℕ → ℕ → ℕ
 fixed_room width size decimals = (size - width) + units_room width decimals
+
+-- the same without its sign, with the whole part in groups
+abbrev pub IsGroupedUnits : Option (ℕ × ℕ) → ℕ → ℕ → List ℕ → Type 0
+IsGroupedUnits grouping decimals units =
+    IsText (pos (units / 10 ^ decimals)) (record standard { digit_grouping = grouping })
+    then IsFraction decimals (units % 10 ^ decimals)
+
+-- a number of units of 10^-decimals with the whole part in groups: for 123456 and 2 it can be `1,234.56`
+abbrev pub IsGroupedFixed : Option (ℕ × ℕ) → ℕ → ℤ → List ℕ → Type 0
+IsGroupedFixed grouping decimals number =
+    IsExactly (sign_of number false) then IsGroupedUnits grouping decimals (unsigned_abs number)
+
+-- the bytes for the digits, the separators and the point
+abbrev pub grouped_units_room : Option (ℕ × ℕ) → ℕ → ℕ → ℕ
+grouped_units_room grouping width decimals =
+    grouped_length grouping (max width (decimals + 1) - decimals) + (decimals + min decimals 1)

@@ -3,6 +3,8 @@ pub mod Fixed
 pub mod Joined
 pub mod Lowercase
 pub mod Optional
+pub mod Plus
+pub mod Scientific
 pub mod Sequence
 pub mod Utf8
 pub mod ZeroPadded

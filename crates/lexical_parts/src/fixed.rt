@@ -1,21 +1,22 @@
 //! Numbers with a fixed number of decimals.
 
-ghost use Rattle.std.specs.Prelude.{◌≡◌, ◌≤◌, false, length, unsigned_abs};
+ghost use Rattle.std.specs.Prelude.{◌≡◌, ◌+◌, ◌-◌, ◌<◌, ◌≤◌, false, length, min, unsigned_abs};
 ghost use Rattle.lexical_num.specs.Sign.{sign_of};
 ghost use Rattle.lexical_write_integer.specs.Buffer.{Front, Writes};
 ghost use Rattle.lexical_parts.specs.Fixed.{IsFixed, IsUnits, fixed_room, units_room};
+ghost use Rattle.lexical_parts.specs.Fixed.{IsGroupedFixed, IsGroupedUnits, grouped_units_room};
 
 use crate::fill::insert_fill;
 use crate::part::Part;
 use lexical_num::num::LexicalInteger;
-use lexical_write_integer::ToLexicalWithOptions;
 use lexical_write_integer::buffer::copy_to_front;
 use lexical_write_integer::format::STANDARD;
 use lexical_write_integer::laws::size_suffices;
+use lexical_write_integer::{NumberFormat, ToLexicalWithOptions, group_digits};
 
 // Writes the sign of a number to the start of the buffer, a `-` if it is negative and otherwise nothing, and
 // returns its length.
-fn write_sign<T: LexicalInteger>(number: T, buffer: &mut [u8]) -> usize
+pub(crate) fn write_sign<T: LexicalInteger>(number: T, buffer: &mut [u8]) -> usize
     requires { length (sign_of (T.number number) false) ≤ length buffer.old }
     ensures front { Front buffer.old buffer.new (sign_of (T.number number) false) }
     ensures count { result ≡ length (sign_of (T.number number) false) }
@@ -34,6 +35,7 @@ fn write_units<T: ToLexicalWithOptions>(number: T, decimals: usize, buffer: &mut
     requires room { units_room T.DECIMAL_WIDTH decimals ≤ length buffer.old }
     ensures text { Writes (IsUnits decimals (unsigned_abs (T.number number))) buffer.old buffer.new result }
     ensures short { result ≤ units_room T.DECIMAL_WIDTH decimals }
+    ensures whole { decimals + min decimals 1 < result }
 {
     number.in_range();
     let count = number.write_magnitude(&STANDARD, buffer);
@@ -45,6 +47,28 @@ fn write_units<T: ToLexicalWithOptions>(number: T, decimals: usize, buffer: &mut
     let whole = zeros + count - decimals;
     insert_fill(b'.', 1, decimals, &mut buffer[whole..]);
     whole + 1 + decimals
+}
+
+// Writes what `write_units` writes, with the whole part in the groups of the format.
+fn write_grouped_units<T: ToLexicalWithOptions>(
+    number: T,
+    decimals: usize,
+    format: &NumberFormat,
+    buffer: &mut [u8],
+) -> usize
+    requires decimals { decimals ≤ 19 }
+    requires room { grouped_units_room format.now.digit_grouping T.DECIMAL_WIDTH decimals ≤ length buffer.old }
+    ensures text { Writes (IsGroupedUnits format.now.digit_grouping decimals (unsigned_abs (T.number number)))
+        buffer.old buffer.new result }
+    ensures short { result ≤ grouped_units_room format.now.digit_grouping T.DECIMAL_WIDTH decimals }
+{
+    let mut units = [0; 21];
+    let count = write_units(number, decimals, &mut units);
+    let units = &units[..count];
+    let whole = count - decimals - decimals.min(1);
+    copy_to_front(&units[..whole], buffer);
+    let end = group_digits(whole, format, buffer);
+    end + copy_to_front(&units[whole..], &mut buffer[end..])
 }
 
 /// A number of units of 10^-`decimals`, such as an amount in cents: `Fixed(-5i64, 2)` writes `-0.05`,
@@ -70,5 +94,34 @@ impl<T: ToLexicalWithOptions> Part for Fixed<T> {
         size_suffices(self.0, &STANDARD);
         let start = write_sign(self.0, buffer);
         start + write_units(self.0, self.1, &mut buffer[start..])
+    }
+}
+
+/// A number as `Fixed` writes it, with its whole part in the groups of the format, and nothing else of it:
+/// in groups of three with `,`, `GroupedFixed(-123456, 2, &format)` writes `-1,234.56`.
+#[derive(Clone, Copy, Drop)]
+pub struct GroupedFixed<'a, T>(pub T, pub usize, pub &'a NumberFormat);
+
+impl<T: ToLexicalWithOptions> Part for GroupedFixed<'_, T> {
+    ghost is_text = { λ part. IsGroupedFixed part.2.now.digit_grouping part.1 (T.number part.0) };
+
+    ghost is_valid = { λ part. part.1 ≤ 19 };
+
+    ghost room = { λ part. (T.FORMATTED_SIZE_DECIMAL - T.DECIMAL_WIDTH)
+        + grouped_units_room part.2.now.digit_grouping T.DECIMAL_WIDTH part.1 };
+
+    fn room(self) -> usize {
+        size_suffices(self.0, &STANDARD);
+        let whole = T::DECIMAL_WIDTH.max(self.1 + 1) - self.1;
+        (T::FORMATTED_SIZE_DECIMAL - T::DECIMAL_WIDTH)
+            + self.2.grouped_len(whole)
+            + self.1
+            + self.1.min(1)
+    }
+
+    fn write_to(self, buffer: &mut [u8]) -> usize {
+        size_suffices(self.0, &STANDARD);
+        let start = write_sign(self.0, buffer);
+        start + write_grouped_units(self.0, self.1, self.2, &mut buffer[start..])
     }
 }

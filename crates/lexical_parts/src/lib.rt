@@ -24,6 +24,7 @@
 #![tactic(auto)]
 
 mod column;
+mod display;
 mod fill;
 mod fixed;
 mod hex;
@@ -34,19 +35,23 @@ mod number;
 mod option;
 mod padded;
 mod part;
+mod plus;
+mod scientific;
 mod text;
 mod tuples;
 mod utf8;
 mod zero_padded;
 
 pub use column::{Center, Left, Right};
-pub use fixed::Fixed;
+pub use fixed::{Fixed, GroupedFixed};
 pub use hex::{Binary, Hex, HexBytes};
 pub use joined::{Joined, rooms_at_most};
 pub use lower::Lower;
 pub use number::{Decimal, Digits, Formatted};
 pub use padded::{Padded, PaddedDigits};
 pub use part::Part;
+pub use plus::Plus;
+pub use scientific::Scientific;
 pub use text::{Byte, Bytes};
 pub use utf8::Utf8Part;
 pub use zero_padded::ZeroPadded;

@@ -8,13 +8,15 @@ mod integers;
 mod tuples;
 
 use crate::column::{Center, Left, Right};
-use crate::fixed::Fixed;
+use crate::fixed::{Fixed, GroupedFixed};
 use crate::hex::{Binary, Hex, HexBytes};
 use crate::joined::Joined;
 use crate::lower::Lower;
 use crate::number::{Decimal, Digits, Formatted};
 use crate::padded::{Padded, PaddedDigits};
 use crate::part::Part;
+use crate::plus::Plus;
+use crate::scientific::Scientific;
 use crate::text::Byte;
 use crate::zero_padded::ZeroPadded;
 use lexical_write_integer::ToLexicalWithOptions;
@@ -85,6 +87,12 @@ impl<T: ToLexicalWithOptions> Utf8Part for Decimal<T> {
     }
 }
 
+impl<T: ToLexicalWithOptions> Utf8Part for Plus<T> {
+    fn text_is_utf8(self) {
+        STANDARD.in_range();
+    }
+}
+
 impl<T: Radix + DigitCount> Utf8Part for Digits<T> {
     fn text_is_utf8(self) {}
 }
@@ -117,6 +125,19 @@ impl Utf8Part for HexBytes<'_> {
 
 impl<T: ToLexicalWithOptions> Utf8Part for Fixed<T> {
     fn text_is_utf8(self) {}
+}
+
+impl<T: ToLexicalWithOptions> Utf8Part for GroupedFixed<'_, T> {
+    fn text_is_utf8(self) {
+        STANDARD.in_range();
+        self.2.in_range();
+    }
+}
+
+impl<T: ToLexicalWithOptions> Utf8Part for Scientific<T> {
+    fn text_is_utf8(self) {
+        STANDARD.in_range();
+    }
 }
 
 impl<P: Utf8Part> Utf8Part for Joined<'_, P> {

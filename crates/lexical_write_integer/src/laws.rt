@@ -14,7 +14,7 @@ mod groups;
 mod room;
 
 pub use bytes::{digits_computed, padded_computed, text_computed, text_is_ascii, text_is_decimal};
-pub use comparison::{digits_equal_iff, texts_equal_iff};
+pub use comparison::{digits_equal_iff, padded_equal_iff, padded_order, texts_equal_iff};
 pub use groups::text_in_groups;
 use lexical_num::format::NumberFormat;
 use lexical_num::num::{LexicalInteger, UnsignedInteger};

@@ -1,5 +1,5 @@
 //! The texts of numbers: a sign, and then the digits in the groups of the format.
 
 pub mod api;
-mod groups;
+pub mod groups;
 mod integers;

@@ -1,16 +1,12 @@
 //! Writes amounts of money, with commas between groups of three digits and a point before the cents.
 
-ghost use Rattle.std.specs.Prelude.{◌≡◌, ◌≤◌, ◌/◌, ◌%◌, List, ℕ, Some, false, length, pos};
-ghost use Rattle.std.specs.Prelude.{unsigned_abs};
+ghost use Rattle.std.specs.Prelude.{◌≡◌, List, ℕ, Some, length, pos};
 ghost use Rattle.lexical_num.specs.Format.{standard};
-ghost use Rattle.lexical_num.specs.Sign.{sign_of};
 ghost use Rattle.lexical_write_integer.specs.Buffer.{Writes};
-ghost use Rattle.lexical_write_integer.specs.Padded.{IsPadded};
-ghost use Rattle.lexical_write_integer.specs.Sequence.{IsExactly};
 ghost use Rattle.lexical_write_integer.specs.Text.{IsText};
-ghost use Rattle.lexical_parts.specs.Sequence.{◌then◌, IsStr};
+ghost use Rattle.lexical_parts.specs.Fixed.{IsGroupedFixed};
 
-use lexical_parts::{Formatted, Padded, Part};
+use lexical_parts::{GroupedFixed, Part};
 use lexical_write_integer::digit_count::DigitCount;
 use lexical_write_integer::laws::text_length;
 use lexical_write_integer::{NumberFormat, NumberFormatBuilder};
@@ -24,25 +20,12 @@ fn in_thousands() -> NumberFormat
         .build_strict()
 }
 
-// Returns the sign of an amount: `-` if it is negative, and otherwise nothing.
-fn sign(cents: i64) -> &'static str
-    ensures sign { result.now ≡ sign_of cents false }
-    ensures short { length result.now ≤ 1 }
-{
-    if cents < 0 { "-" } else { "" }
-}
-
 /// Writes an amount of cents in units of 100 cents, such as `-1,234.50`, to the start of the array, and
 /// returns the number of bytes written. The bytes after them are unchanged.
-pub fn write_amount(cents: i64, buffer: &mut [u8; 30]) -> usize
-    ensures { Writes (IsExactly (sign_of cents false)
-        then IsText (pos (unsigned_abs cents / 100)) (record standard { digit_grouping = Some (3, 44) })
-        then IsStr "." then IsPadded 10 2 (unsigned_abs cents % 100)) buffer.old buffer.new result }
+pub fn write_amount(cents: i64, buffer: &mut [u8; 26]) -> usize
+    ensures { Writes (IsGroupedFixed (Some (3, 44)) 2 cents) buffer.old buffer.new result }
 {
-    let units = cents.unsigned_abs();
-    let format = in_thousands();
-    let whole = Formatted(units / 100, &format);
-    (sign(cents), whole, ".", Padded(units % 100, 2)).write_to(buffer)
+    GroupedFixed(cents, 2, &in_thousands()).write_to(buffer)
 }
 
 /// Returns the length of the digits and commas of a number of units, by which a caller can align amounts in

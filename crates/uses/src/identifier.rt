@@ -1,10 +1,15 @@
-//! Returns a counter as a short identifier, its digits in radix 36.
+//! Returns a counter as a short identifier, its digits in radix 36, or as one that sorts as its counter does.
 
-ghost use Rattle.std.specs.Prelude.{◌≡◌, ◌↔◌, IsTrue, List, ℕ};
+ghost use Rattle.std.specs.Prelude.{◌≡◌, ◌^◌, ◌<◌, ◌↔◌, IsTrue, List, ℕ};
+ghost use Rattle.lexical_write_integer.specs.Padded.{IsPadded};
 ghost use Rattle.lexical_write_integer.specs.Text.{IsDigits};
 
-use lexical_write_integer::laws::{digit_count_at_most, digits_equal_iff, equal_digits};
+use lexical_parts::{PaddedDigits, Part};
+use lexical_write_integer::laws::{
+    digit_count_at_most, digits_equal_iff, equal_digits, padded_order,
+};
 use lexical_write_integer::radix::Radix;
+use std::cmp::Ordering;
 
 /// Returns the identifier of the counter, which borrows the array. It has at most 13 digits.
 pub fn identifier(counter: u64, buffer: &mut [u8; 13]) -> &[u8]
@@ -33,4 +38,28 @@ pub fn have_same_identifier(a: u64, b: u64) -> bool
     let second = identifier(b, &mut second);
     digits_equal_iff(36, a, b, first, second);
     first == second
+}
+
+/// Returns the identifier of the counter in eight digits, with leading zeros, which borrows the array.
+/// Identifiers that are sorted by their bytes are in the order of their counters.
+pub fn sorted_identifier(counter: u64, buffer: &mut [u8; 8]) -> &[u8]
+    requires { counter < 36 ^ 8 }
+    ensures { IsPadded 36 8 counter result.now }
+{
+    PaddedDigits(36, counter, 8).to_text(buffer)
+}
+
+/// Returns whether the identifier of the first counter is earlier than that of the second in the order of
+/// bytes, which is the case if and only if the first counter is smaller.
+pub fn is_sorted_before(a: u64, b: u64) -> bool
+    requires a { a < 36 ^ 8 }
+    requires b { b < 36 ^ 8 }
+    ensures { IsTrue result ↔ a < b }
+{
+    let mut first = [0; 8];
+    let mut second = [0; 8];
+    let first = sorted_identifier(a, &mut first);
+    let second = sorted_identifier(b, &mut second);
+    padded_order(36, 8, a, b, first, second);
+    first.cmp(&second) == Ordering::Less
 }

@@ -19,6 +19,7 @@ pub mod hexadecimal;
 pub mod identifier;
 pub mod ipv6;
 pub mod key_value;
+pub mod log_lines;
 pub mod printed;
 pub mod reading;
 pub mod sorted_keys;

@@ -5,6 +5,8 @@ ghost use Rattle.std.specs.Prelude.{◌≤◌};
 mod joined;
 mod lines;
 mod parts;
+mod scientific;
+mod shown;
 
 use lexical_parts::Part;
 use lexical_write_integer::{
@@ -17,7 +19,9 @@ use uses::arena::{have_same_kept_texts, keep_text};
 use uses::fixed_text::{million, year_month};
 use uses::float_parts::{float_format, write_parts};
 use uses::hexadecimal::hexadecimal;
-use uses::identifier::{have_same_identifier, identifier, same_counter};
+use uses::identifier::{
+    have_same_identifier, identifier, is_sorted_before, same_counter, sorted_identifier,
+};
 use uses::printed::printed;
 use uses::sorted_keys::{comes_before, is_earlier_key};
 use uses::time_of_day::write_time;
@@ -51,6 +55,12 @@ fn identifiers(rt: HostRuntime) {
     assert_eq!(rt; largest, b"3W5E11264SGSF".as_slice());
     assert!(rt; have_same_identifier(71, 71));
     assert!(rt; !have_same_identifier(71, 72));
+    let mut buffer = [7; 8];
+    assert_eq!(rt; sorted_identifier(35, &mut buffer), b"0000000Z".as_slice());
+    assert_eq!(rt; sorted_identifier(36, &mut buffer), b"00000010".as_slice());
+    assert!(rt; is_sorted_before(35, 36));
+    assert!(rt; !is_sorted_before(36, 36));
+    assert!(rt; !is_sorted_before(2821109907455, 35));
 }
 
 #[test]

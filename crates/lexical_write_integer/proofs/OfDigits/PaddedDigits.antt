@@ -28,6 +28,14 @@ map-zeros : (k : ℕ) → map digit_char (replicate k 0) ≡ replicate k 48
 map-zeros zero = refl
 map-zeros (suc k) = ap (λ text. 48 ∷ text) (map-zeros k)
 
+-- as many zeros as the width
+pub IsPadded-zeros : (r width : ℕ) → 0 < r → IsPadded r width 0 (replicate width 48)
+IsPadded-zeros r width some = record {
+  digits = replicate width 0;
+  block = IsBlockOf-zeros r width some;
+  characters = sym (map-zeros width);
+}
+
 -- zeros before the digits of the number
 pub IsPadded-digits : (r n zeros width : ℕ) (text : List ℕ)
     → 2 ≤ r → zeros + digit_count r n ≡ width → IsDigits r n text → IsPadded r width n (replicate zeros 48 ++ text)
@@ -69,7 +77,7 @@ IsPadded-padded_text r (suc width) n two fits =
     let less : n / r < r ^ width = (div-lt_iff_lt-mul {k = r} {x = n} {y = r ^ width} (omega arith)).1 (rw pow-suc at fits) in
     IsPadded-more r width n (padded_text r width (n / r)) two (IsPadded-padded_text r width (n / r) two less)
 
-padded_unique : (r width n : ℕ) (a b : List ℕ) → IsPadded r width n a → IsPadded r width n b → a ≡ b
+pub padded_unique : (r width n : ℕ) (a b : List ℕ) → IsPadded r width n a → IsPadded r width n b → a ≡ b
 padded_unique r width n a b p q =
     let same =
     same_digits r p.digits q.digits (p.block.counted ∙ sym q.block.counted) p.block.below_radix q.block.below_radix (p.block.value ∙ sym q.block.value) in

@@ -3,10 +3,12 @@ use Rattle.std.proofs.Common.{◌≡◌, ℕ, ◌≤◌, List, ◌++◌, sym, ap
 use Rattle.std.specs.Prelude.{◌↔◌}
 use Rattle.lexical_num.specs.Format.{Format}
 use Rattle.lexical_num.specs.Sign.{sign_of}
+use Rattle.lexical_write_integer.specs.Digits.Padded.{IsPadded}
 use Rattle.lexical_write_integer.specs.Texts.Groups.{grouped}
 use Rattle.lexical_write_integer.specs.Texts.Text.{IsDigits, IsText}
 use Rattle.lexical_write_integer.proofs.OfDigits.Numerals.{digits_unique}
-use Rattle.lexical_write_integer.proofs.OfTexts.Orders.{equal_from_IsDigits, equal_from_IsText}
+use Rattle.lexical_write_integer.proofs.OfDigits.PaddedDigits.{padded_unique}
+use Rattle.lexical_write_integer.proofs.OfTexts.Orders.{equal_from_IsDigits, equal_from_IsPadded, equal_from_IsText}
 
 -- a number has one text in a format
 pub texts_unique : (x : ℤ) (format : Format) (s t : List ℕ) → 2 ≤ format.mantissa_radix → IsText x format s → IsText x format t → s ≡ t
@@ -18,6 +20,12 @@ pub digits_equal_iff : (r m n : ℕ) (s t : List ℕ) → 2 ≤ r → IsDigits r
 digits_equal_iff r m n s t two p q = (
   λ same. equal_from_IsDigits r m n _ (rw same at p) q,
   λ same. digits_unique r n s t two (rw same at p) q,
+)
+
+pub padded_equal_iff : (r width m n : ℕ) (s t : List ℕ) → IsPadded r width m s → IsPadded r width n t → (s ≡ t) ↔ (m ≡ n)
+padded_equal_iff r width m n s t p q = (
+  λ same. equal_from_IsPadded r width m n _ (rw same at p) q,
+  λ same. padded_unique r width n s t (rw same at p) q,
 )
 
 pub texts_equal_iff : (m n : ℤ) (format : Format) (s t : List ℕ) → 2 ≤ format.mantissa_radix → IsText m format s → IsText n format t → (s ≡ t) ↔ (m ≡ n)

@@ -19,7 +19,8 @@ use Rattle.lexical_num.specs.Format.{Format}
 use Rattle.lexical_num.specs.Sign.{sign_of}
 use Rattle.lexical_write_integer.specs.Texts.Groups.{mark_before, in_groups, grouped}
 use Rattle.lexical_write_integer.specs.Digits.Numeral.{value_of}
-use Rattle.lexical_write_integer.specs.Texts.Order.{ComesBefore}
+use Rattle.lexical_write_integer.specs.Digits.Padded.{IsPadded}
+use Rattle.lexical_write_integer.specs.Texts.Order.{ComesBefore, IsEarlier}
 use Rattle.lexical_write_integer.specs.Texts.Text.{IsDigits, IsText}
 use Rattle.lexical_write_integer.proofs.OfDigits.Count.DigitCounts.{digit_count-monotone}
 use Rattle.lexical_write_integer.proofs.OfTexts.Grouping.Digits.{grouped-injective, length-grouped_lt, length-grouped_same}
@@ -148,6 +149,22 @@ slice_cmp-IsDigits r m n s t long p q =
     sym (ap length p.characters ∙ length-map p.digits digit_char) ∙ long ∙ ap length q.characters ∙ length-map q.digits digit_char in
     let values = slice_cmp-value_of r p.digits q.digits long' p.numeral.numeral.below_radix q.numeral.numeral.below_radix in
     rw (p.characters, q.characters, slice_cmp-digit_char, values, p.numeral.value, q.numeral.value)
+
+-- ---- numbers with leading zeros, in one width
+
+pub equal_from_IsPadded : (r width m n : ℕ) (text : List ℕ) → IsPadded r width m text → IsPadded r width n text → m ≡ n
+equal_from_IsPadded r width m n text p q =
+    sym p.block.value ∙ ap (value_of r) (map-digit_char_injective p.digits q.digits (sym p.characters ∙ q.characters)) ∙ q.block.value
+
+pub slice_cmp-IsPadded : (r width m n : ℕ) (s t : List ℕ) → IsPadded r width m s → IsPadded r width n t → slice_cmp nat_cmp s t ≡ nat_cmp m n
+slice_cmp-IsPadded r width m n s t p q =
+    let values = slice_cmp-value_of r p.digits q.digits (p.block.counted ∙ sym q.block.counted) p.block.below_radix q.block.below_radix in
+    rw (p.characters, q.characters, slice_cmp-digit_char, values, p.block.value, q.block.value)
+
+pub IsEarlier-IsPadded : (r width m n : ℕ) (s t : List ℕ) → IsPadded r width m s → IsPadded r width n t → (m < n) ↔ IsEarlier s t
+IsEarlier-IsPadded r width m n s t p q =
+    let compared = slice_cmp-IsPadded r width m n s t p q in
+    (λ less. compared ∙ lt-nat_cmp m n less, λ earlier. nat_cmp-Less m n (sym compared ∙ earlier))
 
 -- ---- the order of texts
 

@@ -1,7 +1,9 @@
-//! Laws on equal texts.
+//! Laws that compare texts.
 
-ghost use Rattle.std.specs.Prelude.{◌≡◌, ◌↔◌};
+ghost use Rattle.std.specs.Prelude.{◌≡◌, ◌<◌, ◌↔◌};
 ghost use Rattle.lexical_num.specs.Format.{IsRadix};
+ghost use Rattle.lexical_write_integer.specs.Digits.Padded.{IsPadded};
+ghost use Rattle.lexical_write_integer.specs.Texts.Order.{IsEarlier};
 ghost use Rattle.lexical_write_integer.specs.Texts.Text.{IsDigits, IsText};
 
 use lexical_num::format::NumberFormat;
@@ -23,3 +25,19 @@ pub fn texts_equal_iff<T: LexicalInteger>(a: T, b: T, format: &NumberFormat, s: 
 {
     format.in_range();
 }
+
+/// A law: the texts of two numbers with leading zeros, in one radix and one width, are equal if and only
+/// if the numbers are.
+pub fn padded_equal_iff(radix: u32, width: usize, a: u64, b: u64, s: &[u8], t: &[u8])
+    requires s { IsPadded radix width a s.now }
+    requires t { IsPadded radix width b t.now }
+    ensures { (s.now ≡ t.now) ↔ (a ≡ b) }
+{}
+
+/// A law: of two numbers with leading zeros, in one radix and one width, one is smaller if and only if its
+/// text is earlier in the order of bytes.
+pub fn padded_order(radix: u32, width: usize, a: u64, b: u64, s: &[u8], t: &[u8])
+    requires s { IsPadded radix width a s.now }
+    requires t { IsPadded radix width b t.now }
+    ensures { (a < b) ↔ IsEarlier s.now t.now }
+{}

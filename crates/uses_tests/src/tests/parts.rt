@@ -2,8 +2,11 @@
 
 use super::{check_buffer, check_part};
 use lexical_parts::{
-    Binary, Center, Decimal, Fixed, Hex, Left, Lower, PaddedDigits, Part, Right, ZeroPadded,
+    Binary, Center, Decimal, Fixed, GroupedFixed, Hex, Left, Lower, PaddedDigits, Part, Plus,
+    Right, Utf8Part, ZeroPadded,
 };
+use lexical_write_integer::NumberFormatBuilder;
+use lexical_write_integer::format::STANDARD;
 use uses::amount::write_amount;
 use uses::table_row::write_table_row;
 use uses::uuid::uuid;
@@ -60,13 +63,28 @@ fn numbers_with_decimals(rt: HostRuntime) {
 
 #[test]
 fn amounts_in_cents(rt: HostRuntime) {
-    let mut buffer = [7; 30];
+    let mut buffer = [7; 26];
     let count = write_amount(-5, &mut buffer);
     check_buffer(&rt, &buffer, count, b"-0.05");
     let count = write_amount(123450, &mut buffer);
     check_buffer(&rt, &buffer, count, b"1,234.50");
     let count = write_amount(i64::MIN, &mut buffer);
     check_buffer(&rt, &buffer, count, b"-92,233,720,368,547,758.08");
+    let by_one = NumberFormatBuilder::new()
+        .required_mantissa_sign(true)
+        .digit_grouping(1, b'_')
+        .build_strict();
+    check_part(&rt, GroupedFixed(1234u16, 1, &by_one), b"1_2_3.4");
+    check_part(&rt, GroupedFixed(-128i8, 0, &by_one), b"-1_2_8");
+    check_part(
+        &rt,
+        GroupedFixed(5u8, 19, &by_one),
+        b"0.0000000000000000005",
+    );
+    check_part(&rt, GroupedFixed(-1234567, 2, &STANDARD), b"-12345.67");
+    assert_eq!(rt; GroupedFixed(1i64, 2, &by_one).room(), 37);
+    assert_eq!(rt; GroupedFixed(1u8, 0, &by_one).room(), 5);
+    assert_eq!(rt; GroupedFixed(7u8, 2, &by_one).to_str(&mut [7; 5]), "0.07");
 }
 
 // Rust's own answers: `format!("{:06}", -42)`, and so on.
@@ -78,6 +96,13 @@ fn widths_as_in_rust(rt: HostRuntime) {
     check_part(&rt, ZeroPadded(Decimal(0u8), 0), b"0");
     check_part(&rt, ZeroPadded(Hex(255u16), 6), b"0000FF");
     check_part(&rt, ZeroPadded(Fixed(-5i32, 2), 9), b"-00000.05");
+    check_part(&rt, Plus(0u8), b"+0");
+    check_part(&rt, Plus(u64::MAX), b"+18446744073709551615");
+    check_part(&rt, Plus(i8::MIN), b"-128");
+    check_part(&rt, ZeroPadded(Plus(42), 8), b"+0000042");
+    check_part(&rt, ZeroPadded(Plus(-42), 8), b"-0000042");
+    assert_eq!(rt; (Plus(1u8).room(), Plus(1i8).room()), (4, 4));
+    assert_eq!(rt; (Plus(1u64).room(), Plus(1i32).room()), (21, 11));
     check_part(&rt, Right(Decimal(-42), 8, b' '), b"     -42");
     check_part(&rt, Right(Decimal(-42), 6, b'*'), b"***-42");
     check_part(&rt, Left(Decimal(-42), 6, b'*'), b"-42***");

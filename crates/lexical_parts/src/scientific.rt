@@ -1,0 +1,115 @@
+//! Numbers in scientific notation.
+
+ghost use Rattle.std.specs.Prelude.{◌≡◌, ◌≢◌, ℕ, ◌+◌, ◌-◌, ◌^◌, ◌<◌, ◌≤◌, length, drop, replicate};
+ghost use Rattle.std.specs.Prelude.{slice_index, unsigned_abs};
+ghost use Rattle.lexical_write_integer.specs.Buffer.{Writes};
+ghost use Rattle.lexical_write_integer.specs.Text.{IsDigits};
+ghost use Rattle.lexical_parts.specs.Fixed.{IsUnits};
+ghost use Rattle.lexical_parts.specs.Scientific.{IsScientific, IsScientificUnsigned, exponent_of_first};
+ghost use Rattle.lexical_parts.specs.Sequence.{◌then◌, IsDecimal, IsStr};
+
+use crate::fixed::write_sign;
+use crate::part::Part;
+use crate::text::Bytes;
+use lexical_write_integer::ToLexicalWithOptions;
+use lexical_write_integer::format::STANDARD;
+use lexical_write_integer::laws::size_suffices;
+
+// Returns how many digits are left without the zeros at the end. The first digit is always left.
+fn count_without_zeros(digits: &[u8]) -> usize
+    requires { 1 ≤ length digits.now }
+    ensures some { 1 ≤ result }
+    ensures within { result ≤ length digits.now }
+    ensures zeros { drop result digits.now ≡ replicate (length digits.now - result) 48 }
+    ensures last { 1 < result → slice_index digits.now (result - 1) ≢ 48 }
+{
+    let mut count = digits.len();
+    while 1 < count && digits[count - 1] == b'0' {
+        count -= 1;
+    }
+    count
+}
+
+// Writes the digits of a number with a point after the first, if there are more, and returns their length.
+fn write_with_point(digits: &[u8], buffer: &mut [u8]) -> usize
+    requires some { 1 ≤ length digits.now }
+    requires room { length digits.now + 1 ≤ length buffer.old }
+    ensures text { (units : ℕ) → IsDigits 10 units digits.now
+        → Writes (IsUnits (length digits.now - 1) units) buffer.old buffer.new result }
+    ensures short { result ≤ length digits.now + 1 }
+    ensures within { result ≤ length buffer.old }
+{
+    if digits.len() == 1 {
+        return Bytes(digits).write_to(buffer);
+    }
+    (Bytes(&digits[..1]), ".", Bytes(&digits[1..])).write_to(buffer)
+}
+
+// Returns the exponent of the first of the digits, if that of the last is `exponent`. The exponent of 0 is 0.
+fn first_exponent(digits: &[u8], exponent: i32) -> i64
+    requires some { 1 ≤ length digits.now }
+    requires few { length digits.now ≤ 20 }
+    ensures exponent { (number : ℕ) → IsDigits 10 number digits.now
+        → result ≡ exponent_of_first number exponent }
+    ensures small { unsigned_abs result < 2 ^ 32 }
+{
+    if digits == b"0".as_slice() {
+        return 0;
+    }
+    i64::from(exponent) + (digits.len() - 1) as i64
+}
+
+// Writes `e` and the exponent to the start of the buffer, and returns the number of bytes written.
+fn write_exponent(exponent: i64, buffer: &mut [u8]) -> usize
+    requires small { unsigned_abs exponent < 2 ^ 32 }
+    requires room { 12 ≤ length buffer.old }
+    ensures text { Writes (IsStr "e" then IsDecimal exponent) buffer.old buffer.new result }
+    ensures short { result ≤ 12 }
+{
+    let magnitude = exponent.unsigned_abs() as u32;
+    if exponent < 0 {
+        ("e-", magnitude).write_to(buffer)
+    } else {
+        ("e", magnitude).write_to(buffer)
+    }
+}
+
+// Writes the absolute value of a number times 10^`exponent` to the start of the buffer, and returns the number of
+// bytes written.
+fn write_magnitude<T: ToLexicalWithOptions>(number: T, exponent: i32, buffer: &mut [u8]) -> usize
+    requires { T.DECIMAL_WIDTH + 13 ≤ length buffer.old }
+    ensures text { Writes (IsScientificUnsigned (unsigned_abs (T.number number)) exponent)
+        buffer.old buffer.new result }
+    ensures short { result ≤ T.DECIMAL_WIDTH + 13 }
+{
+    number.in_range();
+    let mut digits = [0; 20];
+    let count = number.write_magnitude(&STANDARD, &mut digits);
+    let digits = &digits[..count];
+    let kept = count_without_zeros(digits);
+    let end = write_with_point(&digits[..kept], buffer);
+    end + write_exponent(first_exponent(digits, exponent), &mut buffer[end..])
+}
+
+/// A number times a power of ten, as `{:e}` writes it in Rust: `Scientific(1234, -59)` writes `1.234e-56`,
+/// and `Scientific(-1000, 0)` writes `-1e3`. The digits have no zeros at the end, and a point after the
+/// first if there are more. Its room is 13 bytes more than that of `Decimal`.
+#[derive(Clone, Copy, Drop)]
+pub struct Scientific<T>(pub T, pub i32);
+
+impl<T: ToLexicalWithOptions> Part for Scientific<T> {
+    ghost is_text = { λ part. IsScientific (T.number part.0) part.1 };
+
+    ghost room = { λ _. T.FORMATTED_SIZE_DECIMAL + 13 };
+
+    fn room(self) -> usize {
+        size_suffices(self.0, &STANDARD);
+        T::FORMATTED_SIZE_DECIMAL + 13
+    }
+
+    fn write_to(self, buffer: &mut [u8]) -> usize {
+        size_suffices(self.0, &STANDARD);
+        let start = write_sign(self.0, buffer);
+        start + write_magnitude(self.0, self.1, &mut buffer[start..])
+    }
+}

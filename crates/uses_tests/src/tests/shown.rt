@@ -1,0 +1,58 @@
+// Parts in format strings, and texts in a `Vec` and a `String`.
+
+use lexical_parts::{Binary, Decimal, Formatted, Hex};
+use lexical_write_integer::NumberFormatBuilder;
+use std::alloc::Alloc;
+use std::io::{self, Write};
+use std::test::Fail;
+use uses::log_lines::{push_line, push_str_line, write_line};
+use uses::printed::{amount_string, flags_in_column};
+
+// What Rust writes of the same texts: `format!("{:>8}", "FF")`, and so on.
+#[test]
+fn parts_in_format_strings(rt: HostRuntime) -> Result<(), Fail> {
+    let alloc = rt.alloc();
+    let text = format!(in alloc;
+        "{}|{:>8}|{:*^7}|{:<4}|",
+        Hex(255u32),
+        Hex(255u32),
+        Decimal(-12),
+        Binary(5u8)
+    )?;
+    assert_eq!(rt; text.as_str(), "FF|      FF|**-12**|101 |");
+    let thousands = NumberFormatBuilder::new()
+        .digit_grouping(3, b',')
+        .build_strict();
+    let text = format!(in alloc;
+        "{:12}|{:.3}",
+        Formatted(-1234567, &thousands),
+        Decimal(98765u64)
+    )?;
+    assert_eq!(rt; text.as_str(), "-1,234,567  |987");
+    let text = format!(in alloc; "{:08}|{:+}|{:#}", Decimal(5u8), Decimal(5u8), Hex(5u8))?;
+    assert_eq!(rt; text.as_str(), "5       |5|5");
+    assert_eq!(rt; flags_in_column(alloc, 0xBEEF)?.as_str(), "0x****BEEF");
+    assert_eq!(rt;
+        amount_string(alloc, -1234567, &thousands)?.as_str(),
+        "-1,234,567"
+    );
+    println!(rt; "{}", Hex(0xC0DEu32))?;
+    Ok(())
+}
+
+#[test]
+fn lines_of_a_log(rt: HostRuntime) -> Result<(), Fail> {
+    let mut log = Vec::new(rt.alloc());
+    push_line(&mut log, 4294967295, 65535)?;
+    push_line(&mut log, 0, 0)?;
+    write_line(&mut log, 12, 255)?;
+    assert_eq!(rt;
+        log.as_slice(),
+        b"4294967295 0xFFFF\n0 0x0\n12 0xFF\n".as_slice()
+    );
+    let mut log = String::new(rt.alloc());
+    push_str_line(&mut log, 12, 255)?;
+    push_str_line(&mut log, 7, 16)?;
+    assert_eq!(rt; log.as_str(), "12 0xFF\n7 0x10\n");
+    Ok(())
+}
