@@ -2,7 +2,7 @@
 /*
  * lexical.h: converts integers to text, in every radix from 2 to 36.
  *
- *     const struct lexical_format format = { 16, 0, 0, 0 };
+ *     const struct lexical_format format = { .radix = 16 };
  *     char buffer[LEXICAL_BUFFER_SIZE];
  *     size_t count = lexical_write_u32(48879, &format, buffer, sizeof buffer);
  *
@@ -16,9 +16,9 @@
  *
  * Text. The text begins with a sign: '-' for a negative number, and '+' for any
  * other number if the format requires a sign. Then come the digits, '0' to '9'
- * and 'A' to 'Z', the most significant digit first, with no leading zeros. If
- * the format has groups, a separator (its mark) is written between groups of
- * digits.
+ * and 'A' to 'Z', or 'a' to 'z' if the format requests lowercase, the most
+ * significant digit first, with no leading zeros. If the format has groups, a
+ * separator (its mark) is written between groups of digits.
  *
  * Format. `format` points to a struct lexical_format, which the call only
  * reads. The pointer must not be NULL. The fields may hold any numbers: if one
@@ -32,8 +32,8 @@
  *
  * Length of the buffer. A call writes if the text fits the buffer, and
  * otherwise returns 0. LEXICAL_BUFFER_SIZE bytes are enough for every number of
- * every type in every format. A call is fastest if the format has no groups and
- * no required sign, and the buffer is long enough for every number of the type
+ * every type in every format. A call is fastest if the format has no groups, no
+ * required sign and no lowercase, and the buffer is long enough for every number of the type
  * (LEXICAL_BUFFER_SIZE_.. below). In other cases the text may be written to an
  * array on the stack first; LEXICAL_BUFFER_SIZE bytes always avoid that.
  *
@@ -94,7 +94,7 @@ extern "C" {
  * The version of this header: 1000000 times the major number, plus 1000 times
  * the minor number, plus the patch number.
  */
-#define LEXICAL_VERSION 2000000
+#define LEXICAL_VERSION 3000000
 
 /* Returns the version of the library, as a number of the form of LEXICAL_VERSION. */
 LEXICAL_HAS((nothrow, const)) uint32_t lexical_version(void) LEXICAL_NOEXCEPT;
@@ -104,35 +104,57 @@ LEXICAL_HAS((nothrow, const)) uint32_t lexical_version(void) LEXICAL_NOEXCEPT;
 /*
  * A format: how a number is written.
  *
- * Groups are counted from the right: the format { 10, 0, 3, ',' } writes
- * 1,234,567. The fields have 32 bits, so a radix, a group size or a mark above
- * 255 is not truncated to a byte but is invalid.
+ * A format is best initialized by the names of its fields (C99, C++20), so that
+ * all others are 0:
+ *
+ *     const struct lexical_format format = { .radix = 10, .group_size = 3, .mark = ',' };
+ *
+ * Groups are counted from the right: this format writes 1,234,567. The fields
+ * have 32 bits, so a radix, a group size or a mark above 255 is not truncated to
+ * a byte but is invalid.
  */
+#if defined(__cplusplus) && __cplusplus >= 201402L
+#define LEXICAL_DEFAULT(value) = value /* so that g++ does not warn of fields that are not named */
+#else
+#define LEXICAL_DEFAULT(value)
+#endif
 struct lexical_format {
     uint32_t radix;         /* from 2 to 36 */
-    uint32_t required_sign; /* 0 for no '+', and any other number for a '+' */
-    uint32_t group_size;    /* digits in a group, from 1 to 64, or 0 for no groups */
-    uint32_t mark;          /* the separator between groups: a byte from 32 to 126
+    uint32_t required_sign LEXICAL_DEFAULT(0); /* 0 for no '+', and any other number for a '+' */
+    uint32_t group_size LEXICAL_DEFAULT(0);    /* digits in a group, from 1 to 64, or 0 for no groups */
+    uint32_t mark LEXICAL_DEFAULT(0);          /* the separator between groups: a byte from 32 to 126
                                that is not a letter, a digit, '+' or '-'. Unused
                                if group_size is 0 */
+    uint32_t lowercase LEXICAL_DEFAULT(0);     /* 0 for digits 'A' to 'Z', and any other number for
+                               'a' to 'z' */
+    uint32_t reserved[2] LEXICAL_DEFAULT({}); /* 0, for fields of a later version */
 };
 
 /*
  * The standard format, as an initializer and as an object: decimal, with no '+'
- * and no groups.
+ * and no groups. A program has one such object: `inline constexpr` from C++17 on, and
+ * otherwise a weak symbol, which compilers other than gcc and clang lack.
  */
-#define LEXICAL_STANDARD_FORMAT { 10, 0, 0, 0 }
+#define LEXICAL_STANDARD_FORMAT { 10, 0, 0, 0, 0, { 0, 0 } }
+#if defined(__cplusplus) && __cplusplus >= 201703L
+inline constexpr lexical_format lexical_standard_format = LEXICAL_STANDARD_FORMAT;
+#elif defined(__GNUC__)
+extern __attribute__((weak)) const struct lexical_format lexical_standard_format;
+const struct lexical_format lexical_standard_format = LEXICAL_STANDARD_FORMAT;
+#else
 static const struct lexical_format lexical_standard_format = LEXICAL_STANDARD_FORMAT;
+#endif
 
 /* The results of lexical_check_format for a format that is not valid. */
 #define LEXICAL_INVALID_RADIX 1
 #define LEXICAL_INVALID_GROUP_SIZE 2
 #define LEXICAL_INVALID_GROUP_MARK 3
+#define LEXICAL_INVALID_RESERVED 4
 
 /*
  * Returns 0 if the format is valid, and otherwise the constant above that names
  * its first invalid field. The radix is checked first, then the group size,
- * then the mark.
+ * then the mark, then the reserved fields.
  */
 LEXICAL_READS(1)
 uint32_t lexical_check_format(const struct lexical_format *format) LEXICAL_NOEXCEPT;
@@ -233,7 +255,7 @@ size_t lexical_length_i64(int64_t value,
  * returns its length, which is never 0. Every byte after the text is unchanged.
  *
  * Returns 0 if and only if the format is not valid or the text does not fit the
- * buffer. The buffer is then unchanged.
+ * buffer. The buffer is then unchanged. A ptrdiff_t is written by lexical_write_i64.
  */
 LEXICAL_WRITES
 size_t lexical_write_u8(uint8_t value, const struct lexical_format *format,
@@ -267,7 +289,65 @@ size_t lexical_write_i64(int64_t value, const struct lexical_format *format,
 }
 #endif
 
+/* ---- the function for a type ------------------------------------------------- */
+
+/*
+ * lexical_write and lexical_length, in C from C11 on and in C++: call the function
+ * above that the type of the value chooses, as lexical_write_i32 for an int. A
+ * char and a bool are refused: a cast says whether the number or a letter is meant.
+ */
+#if defined(__cplusplus)
+#if __cplusplus >= 201103L
+#define LEXICAL_REFUSED(type)                                                  \
+    size_t lexical_write(type, const struct lexical_format *, char *, size_t) = delete; \
+    size_t lexical_length(type, const struct lexical_format *) = delete;
+#else
+#define LEXICAL_REFUSED(type)
+#endif
+#define LEXICAL_OVERLOAD(name, type)                                           \
+    LEXICAL_WRITES                                                             \
+    inline size_t lexical_write(type value, const struct lexical_format *format, \
+                                char *buffer, size_t length) LEXICAL_NOEXCEPT  \
+    {                                                                          \
+        return lexical_write_##name(value, format, buffer, length);            \
+    }                                                                          \
+    LEXICAL_READS(2)                                                           \
+    inline size_t lexical_length(type value,                                   \
+                                 const struct lexical_format *format) LEXICAL_NOEXCEPT \
+    {                                                                          \
+        return lexical_length_##name(value, format);                           \
+    }
+LEXICAL_OVERLOAD(u8, unsigned char)
+LEXICAL_OVERLOAD(u16, unsigned short)
+LEXICAL_OVERLOAD(u32, unsigned int)
+LEXICAL_OVERLOAD(u64, unsigned long)
+LEXICAL_OVERLOAD(i8, signed char)
+LEXICAL_OVERLOAD(i16, short)
+LEXICAL_OVERLOAD(i32, int)
+LEXICAL_OVERLOAD(i64, long)
+#if __cplusplus >= 201103L
+LEXICAL_OVERLOAD(u64, unsigned long long)
+LEXICAL_OVERLOAD(i64, long long)
+#endif
+LEXICAL_REFUSED(char)
+LEXICAL_REFUSED(bool)
+#undef LEXICAL_OVERLOAD
+#undef LEXICAL_REFUSED
+#elif defined(__STDC_VERSION__) && __STDC_VERSION__ >= 201112L
+#define LEXICAL_FOR_TYPE(function, value)                                      \
+    _Generic((value), unsigned char: function##_u8, unsigned short: function##_u16, \
+             unsigned int: function##_u32, unsigned long: function##_u64,      \
+             unsigned long long: function##_u64, signed char: function##_i8,   \
+             short: function##_i16, int: function##_i32, long: function##_i64, \
+             long long: function##_i64)
+#define lexical_write(value, format, buffer, length)                           \
+    LEXICAL_FOR_TYPE(lexical_write, value)(value, format, buffer, length)
+#define lexical_length(value, format)                                          \
+    LEXICAL_FOR_TYPE(lexical_length, value)(value, format)
+#endif
+
 #undef LEXICAL_HAS
+#undef LEXICAL_DEFAULT
 #undef LEXICAL_ACCESS
 #undef LEXICAL_NOEXCEPT
 #undef LEXICAL_WRITES

@@ -1,13 +1,19 @@
 -- What a function that writes promises, from what it knows of the text.
-use Rattle.std.proofs.Common.{◌≡◌, Option, None, Some, ℕ, ◌^◌, ◌<◌, ◌≤◌, ℤ, unsigned_abs, List, length, take, drop, length-append, refl, sym, ap, ◌∙◌, arith}
-use Rattle.lexical_num.specs.Format.{Format, IsValid, grouped_length}
+use Rattle.std.proofs.Common.{◌≡◌, Option, None, Some, ℕ, ◌^◌, ◌<◌, ◌≤◌, ℤ, unsigned_abs, List, ◌++◌, length, map, take, drop, length-append, refl, sym, ap, ◌∙◌, arith}
+use Rattle.std.specs.Prelude.{◌≢◌}
+use Rattle.std.specs.Char.{to_ascii_lowercase}
+use Rattle.lexical_num.specs.Format.{Format, grouped_length}
 use Rattle.lexical_write_integer.specs.Buffer.{Front, Writes, WritesText}
 use Rattle.lexical_write_integer.specs.Computed.{text_of}
+use Rattle.lexical_write_integer.specs.Text.{IsText}
+use Rattle.lexical_write_integer.proofs.Buffers.Lowercases.{written_lower}
 use Rattle.lexical_write_integer.proofs.Buffers.Prefixes.{take-Writes, Writes-is}
 use Rattle.lexical_write_integer.proofs.OfTexts.ComputedTexts.{text_computed}
 use Rattle.lexical_write_integer.proofs.OfDigits.Count.DigitCounts.{digit_count-pos}
 use Rattle.lexical_write_integer.proofs.OfTexts.Required.{length-IsText}
-use Rattle.lexical_c.specs.Buffer.{IsWritable, WritesOrRefuses}
+use Rattle.lexical_c.specs.Buffer.{IsWritable, WritesIf, WritesOrRefuses}
+use Rattle.lexical_c.specs.Format.{IsAccepted, format_of}
+use Rattle.lexical_c.specs.declared.format.CFormat.{CFormat}
 
 -- the length of the written text is that of the computed text
 pub length-written : (x : ℤ) (format : Format) (before after : List ℕ) (count : ℕ) → 2 ≤ format.mantissa_radix →
@@ -27,32 +33,63 @@ pub grouped_length-pos : (grouping : Option (ℕ × ℕ)) (count : ℕ) → 1 �
 grouped_length-pos None count some = some
 grouped_length-pos (Some grouping) count some = omega arith
 
--- the text of a number in a valid format is the result
-pub written : (x : ℤ) (format : Format) (before after : List ℕ) (count : ℕ) → IsValid format → unsigned_abs x < 2 ^ 64 →
-    WritesText x format before after count → WritesOrRefuses x format before after count
-written x format before after count valid small w =
-    let computed = length-written x format before after count valid.mantissa.at_least_two small w in
-    let digits = digit_count-pos format.mantissa_radix (unsigned_abs x) in
-    let long = length-IsText x format w.text valid.mantissa.at_least_two valid.groups w.is in
-    let some : 1 ≤ count = omega (arith, w.count, long, grouped_length-pos format.digit_grouping _ digits) in
+-- the text of a number in a format that is accepted is the result
+pub written : (x : ℤ) (format : CFormat) (before after : List ℕ) (count : ℕ) → IsAccepted format → unsigned_abs x < 2 ^ 64 →
+    WritesText x (format_of format) before after count → WritesIf x format (IsText x (format_of format)) before after count
+written x format before after count accepted small w =
+    let valid = accepted.valid in
+    let computed = length-written x (format_of format) before after count valid.mantissa.at_least_two small w in
+    let digits = digit_count-pos (format_of format).mantissa_radix (unsigned_abs x) in
+    let long = length-IsText x (format_of format) w.text valid.mantissa.at_least_two valid.groups w.is in
+    let some : 1 ≤ count = omega (arith, w.count, long, grouped_length-pos (format_of format).digit_grouping _ digits) in
     record {
-      accepts = (λ _. record { valid = valid; fits = omega (arith, computed, w.count, w.front.fits) }, λ _. some);
+      accepts = (λ _. record { accepted = accepted; fits = omega (arith, computed, w.count, w.front.fits) }, λ _. some);
       text = λ _. w;
       refused = λ none. absurd (omega (arith, some, none));
     }
 
 -- the text is written to an array, and copied from there to the start of the buffer
-pub written_by_copy : (x : ℤ) (format : Format) (array with_text before after : List ℕ) (count copy : ℕ) → IsValid format →
-    unsigned_abs x < 2 ^ 64 → WritesText x format array with_text count →
-    Front before after (take count with_text) → copy ≡ length (take count with_text) → WritesOrRefuses x format before after copy
-written_by_copy x format array with_text before after count copy valid small w front long =
-    written x format before after copy valid small
+pub written_by_copy : (x : ℤ) (format : CFormat) (array with_text before after : List ℕ) (count copy : ℕ) → IsAccepted format →
+    unsigned_abs x < 2 ^ 64 → WritesText x (format_of format) array with_text count → Front before after (take count with_text) →
+    copy ≡ length (take count with_text) → WritesIf x format (IsText x (format_of format)) before after copy
+written_by_copy x format array with_text before after count copy accepted small w front long =
+    written x format before after copy accepted small
     record { text = take count with_text; is = Writes-is array with_text count w; front = front; count = long }
 
 -- the number cannot be written, so the result is 0 and the buffer is unchanged
-pub refused : (x : ℤ) (format : Format) (buffer : List ℕ) → ¬ IsWritable x format (length buffer) → WritesOrRefuses x format buffer buffer 0
-refused x format buffer cannot = record {
+pub refused : (x : ℤ) (format : CFormat) (Is : List ℕ → Type 0) (buffer : List ℕ) → ¬ IsWritable x format (length buffer) →
+    WritesIf x format Is buffer buffer 0
+refused x format Is buffer cannot = record {
   accepts = (λ none. absurd (omega (arith, none)), λ writable. absurd (cannot writable));
   text = λ none. absurd (omega (arith, none));
   refused = λ _. refl;
+}
+
+-- without lowercase, the text is in the requested case
+pub in_uppercase : (x : ℤ) (format : CFormat) (before after : List ℕ) (count : ℕ) → format.lowercase ≡ 0 →
+    WritesIf x format (IsText x (format_of format)) before after count → WritesOrRefuses x format before after count
+in_uppercase x format before after count none w = record {
+  accepts = w.accepts;
+  text = λ some. let t = w.text some in record {
+    text = t.text;
+    is = record { upper = λ _. t.is; lower = λ other. absurd (other none) };
+    front = t.front;
+    count = t.count;
+  };
+  refused = w.refused;
+}
+
+-- with lowercase, the letters of the written text are changed where they are
+pub in_lowercase : (x : ℤ) (format : CFormat) (before between lower : List ℕ) (count : ℕ) → format.lowercase ≢ 0 →
+    WritesIf x format (IsText x (format_of format)) before between count → lower ≡ map to_ascii_lowercase (take count between) →
+    WritesOrRefuses x format before (lower ++ drop count between) count
+in_lowercase x format before between lower count other w is = record {
+  accepts = w.accepts;
+  text = λ some. let t = written_lower (w.text some) is in record {
+    text = t.text;
+    is = record { upper = λ none. absurd (other none); lower = λ _. t.is };
+    front = t.front;
+    count = t.count;
+  };
+  refused = λ none. rw (is, none) (w.refused none);
 }

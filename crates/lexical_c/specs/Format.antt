@@ -1,6 +1,7 @@
 -- The format that a C caller passes.
-use Rattle.std.specs.Prelude.{ℕ, Option, None, Some, not, if◌then◌else◌, ◌==◌}
-use Rattle.lexical_num.specs.Format.{Format, standard}
+use Rattle.std.specs.Prelude.{◌≡◌, ◌≢◌, ℕ, Option, None, Some, List, not, if◌then◌else◌, ◌==◌}
+use Rattle.lexical_num.specs.Format.{Format, IsValid, standard}
+use Rattle.lexical_write_integer.specs.Lowercase.{IsLowercase}
 use Rattle.lexical_c.specs.declared.format.CFormat.{CFormat}
 
 -- groups of this size with this separator between them, or no groups if the size is 0
@@ -14,3 +15,25 @@ format_of format = record standard {
   required_mantissa_sign = not (format.required_sign == 0);
   digit_grouping = grouping_of format.group_size format.mark;
 }
+
+-- the reserved fields are 0
+pub record IsUnreserved (format : CFormat) : Type 0 where
+  pub first : format.reserved_1 ≡ 0
+  pub second : format.reserved_2 ≡ 0
+
+-- every field except the radix and the mark is 0
+pub record HasOnlyRadix (format : CFormat) : Type 0 where
+  pub sign : format.required_sign ≡ 0
+  pub groups : format.group_size ≡ 0
+  pub uppercase : format.lowercase ≡ 0
+  pub unreserved : IsUnreserved format
+
+-- every field has a meaning
+pub record IsAccepted (format : CFormat) : Type 0 where
+  pub valid : IsValid (format_of format)
+  pub unreserved : IsUnreserved format
+
+-- a text of this kind if `lowercase` is 0, and otherwise such a text in lowercase
+pub record InCase (lowercase : ℕ) (Is : List ℕ → Type 0) (text : List ℕ) : Type 0 where
+  pub upper : lowercase ≡ 0 → Is text
+  pub lower : lowercase ≢ 0 → IsLowercase Is text

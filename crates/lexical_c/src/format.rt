@@ -2,20 +2,24 @@
 
 ghost use Rattle.std.specs.Prelude.{◌≡◌, ◌≢◌, ◌↔◌, IsTrue, IsSome, IfSome};
 ghost use Rattle.lexical_num.specs.Format.{IsRadix, IsGroupSize, IsMark, IsValid};
-ghost use Rattle.lexical_c.specs.Format.{format_of};
+ghost use Rattle.lexical_c.specs.Format.{IsAccepted, IsUnreserved, format_of};
 
 use lexical_num::limits::{is_group_size, is_mark, is_radix};
 use lexical_write_integer::{NumberFormat, NumberFormatBuilder};
 
 /// A format as C passes it, `struct lexical_format` of the header. Each field may hold any value. If
 /// `required_sign` is not 0, a `+` is written before numbers that are not negative. If `group_size` is
-/// not 0, the digits are in groups of that size, and the mark is the separator between them.
+/// not 0, the digits are in groups of that size, and the mark is the separator between them. If
+/// `lowercase` is not 0, digits above 9 are lowercase letters. The reserved fields must be 0.
 #[repr(C)]
 pub struct CFormat {
     pub radix: u32,
     pub required_sign: u32,
     pub group_size: u32,
     pub mark: u32,
+    pub lowercase: u32,
+    pub reserved_1: u32,
+    pub reserved_2: u32,
 }
 
 /// The error that the radix is not from 2 to 36.
@@ -25,26 +29,30 @@ pub const INVALID_GROUP_SIZE: u32 = 2;
 /// The error that the separator between groups is not printable ASCII, or is a letter, a digit, `+` or
 /// `-`.
 pub const INVALID_GROUP_MARK: u32 = 3;
+/// The error that a reserved field is not 0.
+pub const INVALID_RESERVED: u32 = 4;
 
 /// Returns 0 if the format is valid, and otherwise the error of its first invalid field. The radix is
-/// checked first, then the group size, then the mark.
+/// checked first, then the group size, then the mark, then the reserved fields.
 #[unsafe(no_mangle)]
 pub extern "C" fn lexical_check_format(format: &CFormat) -> u32
-    ensures valid { result ≡ 0 ↔ IsValid (format_of format.now) }
+    ensures valid { result ≡ 0 ↔ IsAccepted format.now }
     ensures radix { result ≡ INVALID_RADIX ↔ ¬ IsRadix format.now.radix }
     ensures group_size { result ≡ INVALID_GROUP_SIZE
         ↔ (IsRadix format.now.radix × (format.now.group_size ≢ 0) × ¬ IsGroupSize format.now.group_size) }
     ensures group_mark { result ≡ INVALID_GROUP_MARK
         ↔ (IsRadix format.now.radix × IsGroupSize format.now.group_size × ¬ IsMark format.now.mark) }
+    ensures reserved { result ≡ INVALID_RESERVED
+        ↔ (IsValid (format_of format.now) × ¬ IsUnreserved format.now) }
 {
     if !is_radix(u64::from(format.radix)) {
         INVALID_RADIX
-    } else if format.group_size == 0 {
-        0
-    } else if !is_group_size(u64::from(format.group_size)) {
+    } else if format.group_size != 0 && !is_group_size(u64::from(format.group_size)) {
         INVALID_GROUP_SIZE
-    } else if !is_mark(u64::from(format.mark)) {
+    } else if format.group_size != 0 && !is_mark(u64::from(format.mark)) {
         INVALID_GROUP_MARK
+    } else if format.reserved_1 != 0 || format.reserved_2 != 0 {
+        INVALID_RESERVED
     } else {
         0
     }
@@ -69,7 +77,7 @@ pub fn valid_format(format: &CFormat) -> NumberFormat
 
 /// Returns the format with these fields, or `None` if they are not valid.
 pub fn number_format(format: &CFormat) -> Option<NumberFormat>
-    ensures valid { IsSome result ↔ IsValid (format_of format.now) }
+    ensures valid { IsSome result ↔ IsAccepted format.now }
     ensures format { IfSome result (λ made. made ≡ format_of format.now) }
 {
     if lexical_check_format(format) == 0 {

@@ -1,6 +1,7 @@
-//! Writes a number whose text may not fit, or whose format may have groups or a required sign.
+//! Writes a number whose text may not fit, or whose format may have groups, a required sign or lowercase.
 
-ghost use Rattle.lexical_c.specs.Buffer.{WritesOrRefuses};
+ghost use Rattle.lexical_write_integer.specs.Text.{IsText};
+ghost use Rattle.lexical_c.specs.Buffer.{WritesIf, WritesOrRefuses};
 ghost use Rattle.lexical_c.specs.Format.{format_of};
 
 use crate::format::{CFormat, number_format};
@@ -15,7 +16,19 @@ pub fn write_if_it_fits<T: ToLexicalWithOptions>(
     format: &CFormat,
     buffer: &mut [u8],
 ) -> usize
-    ensures { WritesOrRefuses (T.number value) (format_of format.now) buffer.old buffer.new result }
+    ensures { WritesOrRefuses (T.number value) format.now buffer.old buffer.new result }
+{
+    let count = write_uppercase(value, format, buffer);
+    if format.lowercase != 0 {
+        buffer[..count].make_ascii_lowercase();
+    }
+    count
+}
+
+// Writes the number in uppercase, whatever the format requests, or refuses it as `write_if_it_fits` does.
+fn write_uppercase<T: ToLexicalWithOptions>(value: T, format: &CFormat, buffer: &mut [u8]) -> usize
+    ensures { WritesIf (T.number value) format.now (IsText (T.number value) (format_of format.now))
+        buffer.old buffer.new result }
 {
     let Some(format) = number_format(format) else {
         return 0;

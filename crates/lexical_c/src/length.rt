@@ -1,7 +1,6 @@
 //! The lengths of the texts of numbers.
 
 ghost use Rattle.std.specs.Prelude.{pos};
-ghost use Rattle.lexical_c.specs.Format.{format_of};
 ghost use Rattle.lexical_c.specs.Length.{IsLength};
 
 use crate::format::{CFormat, number_format};
@@ -9,7 +8,7 @@ use lexical_write_integer::ToLexical;
 
 // Returns the length of the text of the number, or 0 if the format is invalid.
 fn counted_length<T: ToLexical>(value: T, format: &CFormat) -> usize
-    ensures { IsLength (T.number value) (format_of format.now) result }
+    ensures { IsLength (T.number value) format.now result }
 {
     let Some(format) = number_format(format) else {
         return 0;
@@ -23,7 +22,7 @@ fn counted_length<T: ToLexical>(value: T, format: &CFormat) -> usize
 /// Returns the length of the text of a `uint8_t` in the format, or 0 if the format is invalid.
 #[unsafe(no_mangle)]
 pub extern "C" fn lexical_length_u8(value: u8, format: &CFormat) -> usize
-    ensures { IsLength (pos value) (format_of format.now) result }
+    ensures { IsLength (pos value) format.now result }
 {
     counted_length::<u8>(value, format)
 }
@@ -31,7 +30,7 @@ pub extern "C" fn lexical_length_u8(value: u8, format: &CFormat) -> usize
 /// Returns the length of the text of a `uint16_t` in the format, or 0 if the format is invalid.
 #[unsafe(no_mangle)]
 pub extern "C" fn lexical_length_u16(value: u16, format: &CFormat) -> usize
-    ensures { IsLength (pos value) (format_of format.now) result }
+    ensures { IsLength (pos value) format.now result }
 {
     counted_length::<u16>(value, format)
 }
@@ -39,7 +38,7 @@ pub extern "C" fn lexical_length_u16(value: u16, format: &CFormat) -> usize
 /// Returns the length of the text of a `uint32_t` in the format, or 0 if the format is invalid.
 #[unsafe(no_mangle)]
 pub extern "C" fn lexical_length_u32(value: u32, format: &CFormat) -> usize
-    ensures { IsLength (pos value) (format_of format.now) result }
+    ensures { IsLength (pos value) format.now result }
 {
     counted_length::<u32>(value, format)
 }
@@ -47,7 +46,7 @@ pub extern "C" fn lexical_length_u32(value: u32, format: &CFormat) -> usize
 /// Returns the length of the text of a `uint64_t` in the format, or 0 if the format is invalid.
 #[unsafe(no_mangle)]
 pub extern "C" fn lexical_length_u64(value: u64, format: &CFormat) -> usize
-    ensures { IsLength (pos value) (format_of format.now) result }
+    ensures { IsLength (pos value) format.now result }
 {
     counted_length::<u64>(value, format)
 }
@@ -55,7 +54,7 @@ pub extern "C" fn lexical_length_u64(value: u64, format: &CFormat) -> usize
 /// Returns the length of the text of a `size_t` in the format, or 0 if the format is invalid.
 #[unsafe(no_mangle)]
 pub extern "C" fn lexical_length_size(value: usize, format: &CFormat) -> usize
-    ensures { IsLength (pos value) (format_of format.now) result }
+    ensures { IsLength (pos value) format.now result }
 {
     counted_length::<usize>(value, format)
 }
@@ -63,7 +62,7 @@ pub extern "C" fn lexical_length_size(value: usize, format: &CFormat) -> usize
 /// Returns the length of the text of an `int8_t` in the format, or 0 if the format is invalid.
 #[unsafe(no_mangle)]
 pub extern "C" fn lexical_length_i8(value: i8, format: &CFormat) -> usize
-    ensures { IsLength value (format_of format.now) result }
+    ensures { IsLength value format.now result }
 {
     counted_length::<i8>(value, format)
 }
@@ -71,7 +70,7 @@ pub extern "C" fn lexical_length_i8(value: i8, format: &CFormat) -> usize
 /// Returns the length of the text of an `int16_t` in the format, or 0 if the format is invalid.
 #[unsafe(no_mangle)]
 pub extern "C" fn lexical_length_i16(value: i16, format: &CFormat) -> usize
-    ensures { IsLength value (format_of format.now) result }
+    ensures { IsLength value format.now result }
 {
     counted_length::<i16>(value, format)
 }
@@ -79,7 +78,7 @@ pub extern "C" fn lexical_length_i16(value: i16, format: &CFormat) -> usize
 /// Returns the length of the text of an `int32_t` in the format, or 0 if the format is invalid.
 #[unsafe(no_mangle)]
 pub extern "C" fn lexical_length_i32(value: i32, format: &CFormat) -> usize
-    ensures { IsLength value (format_of format.now) result }
+    ensures { IsLength value format.now result }
 {
     counted_length::<i32>(value, format)
 }
@@ -87,7 +86,7 @@ pub extern "C" fn lexical_length_i32(value: i32, format: &CFormat) -> usize
 /// Returns the length of the text of an `int64_t` in the format, or 0 if the format is invalid.
 #[unsafe(no_mangle)]
 pub extern "C" fn lexical_length_i64(value: i64, format: &CFormat) -> usize
-    ensures { IsLength value (format_of format.now) result }
+    ensures { IsLength value format.now result }
 {
     counted_length::<i64>(value, format)
 }

@@ -1,7 +1,7 @@
 //! The writers of integers as C functions, which `include/lexical.h` declares and explains:
 //!
 //! ```c
-//! const struct lexical_format format = { 16, 0, 0, 0 };
+//! const struct lexical_format format = { .radix = 16 };
 //! char buffer[LEXICAL_BUFFER_SIZE];
 //! size_t count = lexical_write_u32(48879, &format, buffer, sizeof buffer);
 //! ```

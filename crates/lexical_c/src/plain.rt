@@ -1,21 +1,35 @@
 //! Writes a number in a format without groups and required signs, to a buffer that is long enough for
 //! every number of the type.
 
-ghost use Rattle.std.specs.Prelude.{◌≡◌, ◌≤◌, pos, length, false, None, IfSome};
+ghost use Rattle.std.specs.Prelude.{◌≡◌, ◌≤◌, ◌↔◌, IsTrue, pos, length, false, None, IfSome};
 ghost use Rattle.lexical_num.specs.Size.{size_in};
 ghost use Rattle.lexical_write_integer.specs.Buffer.{WritesText};
 ghost use Rattle.lexical_write_integer.specs.Text.{need};
-ghost use Rattle.lexical_c.specs.Format.{format_of};
+ghost use Rattle.lexical_c.specs.Format.{HasOnlyRadix, IsAccepted, format_of};
 
 use crate::format::{CFormat, valid_format};
 use lexical_num::limits::is_radix;
 use lexical_write_integer::write::WriteInteger;
 use lexical_write_integer::{FormattedSize, NumberFormat, ToLexical, write_sign};
 
-/// Returns the format if it is valid and has no required sign and no groups, and a buffer of `room`
-/// bytes is enough for every number of the type. Otherwise returns `None`.
+/// Returns whether every field but the radix and the mark is 0. No field is tested by itself, so that
+/// one branch is enough.
+fn has_only_radix(format: &CFormat) -> bool
+    ensures { IsTrue result ↔ HasOnlyRadix format.now }
+{
+    (format.required_sign == 0)
+        & (format.group_size == 0)
+        & (format.lowercase == 0)
+        & (format.reserved_1 == 0)
+        & (format.reserved_2 == 0)
+}
+
+/// Returns the format if it is valid and has no required sign, no groups and no lowercase, and a
+/// buffer of `room` bytes is enough for every number of the type. Otherwise returns `None`.
 pub fn plain_format<T: FormattedSize>(format: &CFormat, room: usize) -> Option<NumberFormat>
     ensures format { IfSome result (λ plain. plain ≡ format_of format.now) }
+    ensures accepted { IfSome result (λ plain. IsAccepted format.now) }
+    ensures uppercase { IfSome result (λ plain. format.now.lowercase ≡ 0) }
     ensures sign { IfSome result (λ plain. plain.required_mantissa_sign ≡ false) }
     ensures groups { IfSome result (λ plain. plain.digit_grouping ≡ None) }
     ensures room { IfSome result (λ plain.
@@ -26,11 +40,7 @@ pub fn plain_format<T: FormattedSize>(format: &CFormat, room: usize) -> Option<N
     } else {
         T::FORMATTED_SIZE
     };
-    if is_radix(u64::from(format.radix))
-        && format.required_sign == 0
-        && format.group_size == 0
-        && size <= room
-    {
+    if is_radix(u64::from(format.radix)) && has_only_radix(format) && size <= room {
         Some(valid_format(format))
     } else {
         None

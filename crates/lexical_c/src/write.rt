@@ -3,7 +3,6 @@
 
 ghost use Rattle.std.specs.Prelude.{◌≡◌, pos};
 ghost use Rattle.lexical_c.specs.Buffer.{WritesOrRefuses};
-ghost use Rattle.lexical_c.specs.Format.{format_of};
 
 use crate::format::CFormat;
 use crate::general::write_if_it_fits;
@@ -19,7 +18,7 @@ fn write_unsigned<T: WriteInteger + ToLexicalWithOptions>(
     format: &CFormat,
     buffer: &mut [u8],
 ) -> usize
-    ensures { WritesOrRefuses (T.number value) (format_of format.now) buffer.old buffer.new result }
+    ensures { WritesOrRefuses (T.number value) format.now buffer.old buffer.new result }
 {
     value.in_range();
     match plain_format::<T>(format, buffer.len()) {
@@ -40,7 +39,7 @@ fn write_signed<T: ToLexicalWithOptions>(
     buffer: &mut [u8],
 ) -> usize
     requires { wide ≡ T.number value }
-    ensures { WritesOrRefuses (T.number value) (format_of format.now) buffer.old buffer.new result }
+    ensures { WritesOrRefuses (T.number value) format.now buffer.old buffer.new result }
 {
     value.in_range();
     match plain_format::<T>(format, buffer.len()) {
@@ -55,7 +54,7 @@ fn write_signed<T: ToLexicalWithOptions>(
 /// Writes a `uint8_t` to the buffer, and returns the length of its text, or 0 if it is refused.
 #[unsafe(no_mangle)]
 pub extern "C" fn lexical_write_u8(value: u8, format: &CFormat, buffer: &mut [u8]) -> usize
-    ensures { WritesOrRefuses (pos value) (format_of format.now) buffer.old buffer.new result }
+    ensures { WritesOrRefuses (pos value) format.now buffer.old buffer.new result }
 {
     write_unsigned::<u8>(value, format, buffer)
 }
@@ -63,7 +62,7 @@ pub extern "C" fn lexical_write_u8(value: u8, format: &CFormat, buffer: &mut [u8
 /// Writes a `uint16_t` to the buffer, and returns the length of its text, or 0 if it is refused.
 #[unsafe(no_mangle)]
 pub extern "C" fn lexical_write_u16(value: u16, format: &CFormat, buffer: &mut [u8]) -> usize
-    ensures { WritesOrRefuses (pos value) (format_of format.now) buffer.old buffer.new result }
+    ensures { WritesOrRefuses (pos value) format.now buffer.old buffer.new result }
 {
     write_unsigned::<u16>(value, format, buffer)
 }
@@ -71,7 +70,7 @@ pub extern "C" fn lexical_write_u16(value: u16, format: &CFormat, buffer: &mut [
 /// Writes a `uint32_t` to the buffer, and returns the length of its text, or 0 if it is refused.
 #[unsafe(no_mangle)]
 pub extern "C" fn lexical_write_u32(value: u32, format: &CFormat, buffer: &mut [u8]) -> usize
-    ensures { WritesOrRefuses (pos value) (format_of format.now) buffer.old buffer.new result }
+    ensures { WritesOrRefuses (pos value) format.now buffer.old buffer.new result }
 {
     write_unsigned::<u32>(value, format, buffer)
 }
@@ -79,7 +78,7 @@ pub extern "C" fn lexical_write_u32(value: u32, format: &CFormat, buffer: &mut [
 /// Writes a `uint64_t` to the buffer, and returns the length of its text, or 0 if it is refused.
 #[unsafe(no_mangle)]
 pub extern "C" fn lexical_write_u64(value: u64, format: &CFormat, buffer: &mut [u8]) -> usize
-    ensures { WritesOrRefuses (pos value) (format_of format.now) buffer.old buffer.new result }
+    ensures { WritesOrRefuses (pos value) format.now buffer.old buffer.new result }
 {
     write_unsigned::<u64>(value, format, buffer)
 }
@@ -87,7 +86,7 @@ pub extern "C" fn lexical_write_u64(value: u64, format: &CFormat, buffer: &mut [
 /// Writes a `size_t` to the buffer, and returns the length of its text, or 0 if it is refused.
 #[unsafe(no_mangle)]
 pub extern "C" fn lexical_write_size(value: usize, format: &CFormat, buffer: &mut [u8]) -> usize
-    ensures { WritesOrRefuses (pos value) (format_of format.now) buffer.old buffer.new result }
+    ensures { WritesOrRefuses (pos value) format.now buffer.old buffer.new result }
 {
     write_unsigned::<usize>(value, format, buffer)
 }
@@ -95,7 +94,7 @@ pub extern "C" fn lexical_write_size(value: usize, format: &CFormat, buffer: &mu
 /// Writes an `int8_t` to the buffer, and returns the length of its text, or 0 if it is refused.
 #[unsafe(no_mangle)]
 pub extern "C" fn lexical_write_i8(value: i8, format: &CFormat, buffer: &mut [u8]) -> usize
-    ensures { WritesOrRefuses value (format_of format.now) buffer.old buffer.new result }
+    ensures { WritesOrRefuses value format.now buffer.old buffer.new result }
 {
     write_signed::<i8>(value, value as isize, format, buffer)
 }
@@ -103,7 +102,7 @@ pub extern "C" fn lexical_write_i8(value: i8, format: &CFormat, buffer: &mut [u8
 /// Writes an `int16_t` to the buffer, and returns the length of its text, or 0 if it is refused.
 #[unsafe(no_mangle)]
 pub extern "C" fn lexical_write_i16(value: i16, format: &CFormat, buffer: &mut [u8]) -> usize
-    ensures { WritesOrRefuses value (format_of format.now) buffer.old buffer.new result }
+    ensures { WritesOrRefuses value format.now buffer.old buffer.new result }
 {
     write_signed::<i16>(value, value as isize, format, buffer)
 }
@@ -111,7 +110,7 @@ pub extern "C" fn lexical_write_i16(value: i16, format: &CFormat, buffer: &mut [
 /// Writes an `int32_t` to the buffer, and returns the length of its text, or 0 if it is refused.
 #[unsafe(no_mangle)]
 pub extern "C" fn lexical_write_i32(value: i32, format: &CFormat, buffer: &mut [u8]) -> usize
-    ensures { WritesOrRefuses value (format_of format.now) buffer.old buffer.new result }
+    ensures { WritesOrRefuses value format.now buffer.old buffer.new result }
 {
     write_signed::<i32>(value, value as isize, format, buffer)
 }
@@ -119,7 +118,7 @@ pub extern "C" fn lexical_write_i32(value: i32, format: &CFormat, buffer: &mut [
 /// Writes an `int64_t` to the buffer, and returns the length of its text, or 0 if it is refused.
 #[unsafe(no_mangle)]
 pub extern "C" fn lexical_write_i64(value: i64, format: &CFormat, buffer: &mut [u8]) -> usize
-    ensures { WritesOrRefuses value (format_of format.now) buffer.old buffer.new result }
+    ensures { WritesOrRefuses value format.now buffer.old buffer.new result }
 {
     write_signed::<i64>(value, value as isize, format, buffer)
 }

@@ -47,8 +47,7 @@ FOR_EACH_TYPE(FUNCTIONS)
 static size_t largest_size(size_t (*buffer_size)(format_pointer))
 {
     size_t largest = 0;
-    struct lexical_format format;
-    format.mark = ',';
+    struct lexical_format format = FORMAT(0, 0, 0, ',');
     for (format.radix = 0; format.radix < 40; format.radix++)
         for (format.group_size = 0; format.group_size < 70; format.group_size++)
             for (format.required_sign = 0; format.required_sign < 2; format.required_sign++) {
@@ -79,36 +78,43 @@ static int check_sizes(void)
 static int check_formats(void)
 {
     static const struct lexical_format STANDARD = LEXICAL_STANDARD_FORMAT;
-    static const struct lexical_format RADIX = { 37, 0, 3, ',' };
-    static const struct lexical_format GROUP_SIZE = { 36, 0, 65, ',' };
-    static const struct lexical_format GROUP_MARK = { 36, 0, 64, 'z' };
+    static const struct lexical_format RADIX = FORMAT(37, 0, 3, ',');
+    static const struct lexical_format GROUP_SIZE = FORMAT(36, 0, 65, ',');
+    static const struct lexical_format GROUP_MARK = FORMAT(36, 0, 64, 'z');
+    struct lexical_format reserved = LEXICAL_STANDARD_FORMAT;
+    reserved.reserved[1] = 1;
     int wrong = 0;
-    wrong += is_wrong(sizeof STANDARD == 16, "the size of a format");
+    wrong += is_wrong(sizeof STANDARD == 28, "the size of a format");
     wrong += is_wrong(check_format(&STANDARD) == 0, "LEXICAL_STANDARD_FORMAT");
     wrong += is_wrong(check_format(&RADIX) == LEXICAL_INVALID_RADIX, "LEXICAL_INVALID_RADIX");
     wrong += is_wrong(check_format(&GROUP_SIZE) == LEXICAL_INVALID_GROUP_SIZE, "LEXICAL_INVALID_GROUP_SIZE");
     wrong += is_wrong(check_format(&GROUP_MARK) == LEXICAL_INVALID_GROUP_MARK, "LEXICAL_INVALID_GROUP_MARK");
+    wrong += is_wrong(check_format(&reserved) == LEXICAL_INVALID_RESERVED, "LEXICAL_INVALID_RESERVED");
     return wrong;
 }
 
-/* The library reads each field from its own position: in radix 4, 8 is "+2,0". */
+/* The library reads each field from its own position: in radix 16, 0xa0 is "+a,0". */
 static int check_fields(void)
 {
-    struct lexical_format format;
+    struct lexical_format format = LEXICAL_STANDARD_FORMAT;
     char buffer[4];
-    format.radix = 4;
+    format.radix = 16;
     format.required_sign = 1;
     format.group_size = 1;
     format.mark = ',';
-    size_t count = write_u8(8, &format, buffer, sizeof buffer);
-    return is_wrong(count == 4 && buffer[0] == '+' && buffer[1] == '2' && buffer[2] == ','
-                    && buffer[3] == '0', "the fields of a format");
+    format.lowercase = 1;
+    size_t count = write_u8(0xa0, &format, buffer, sizeof buffer);
+    return is_wrong(count == 4 && memcmp(buffer, "+a,0", 4) == 0, "the fields of a format");
 }
 
 /* The first example of the header. */
 static int check_example(void)
 {
-    const struct lexical_format format = { 16, 0, 0, 0 };
+#if !defined(__cplusplus) || __cplusplus >= 202002L
+    const struct lexical_format format = { .radix = 16 };
+#else
+    const struct lexical_format format = FORMAT(16, 0, 0, 0);
+#endif
     char buffer[LEXICAL_BUFFER_SIZE];
     size_t count = lexical_write_u32(48879, &format, buffer, sizeof buffer);
     return is_wrong(count == 4 && memcmp(buffer, "BEEF", 4) == 0, "the first example");

@@ -93,7 +93,9 @@ struct expected {
 static struct expected plain_text(const struct type *type, uint64_t bits,
                                   const struct lexical_format *format)
 {
-    static const char DIGITS[] = "0123456789ABCDEFGHIJKLMNOPQRSTUVWXYZ";
+    static const char UPPERCASE[] = "0123456789ABCDEFGHIJKLMNOPQRSTUVWXYZ";
+    static const char LOWERCASE[] = "0123456789abcdefghijklmnopqrstuvwxyz";
+    const char *digit_chars = format->lowercase == 0 ? UPPERCASE : LOWERCASE;
     struct expected expected;
     char reversed[160];
     size_t count = 0, digits = 0;
@@ -101,7 +103,7 @@ static struct expected plain_text(const struct type *type, uint64_t bits,
     do {
         if (format->group_size != 0 && digits != 0 && digits % format->group_size == 0)
             reversed[count++] = (char)format->mark;
-        reversed[count++] = DIGITS[rest % format->radix];
+        reversed[count++] = digit_chars[rest % format->radix];
         digits++;
         rest /= format->radix;
     } while (rest != 0);
@@ -175,8 +177,8 @@ static void check_call(const struct type *type, uint64_t bits,
         && all_are(guard, GUARD_SIZE, GUARD) && memcmp(copy, format, sizeof *format) == 0;
     if (!check(is_good, "a writer") && failures < 5)
         printf("    %s %016" PRIx64 ", radix %u, sign %u, groups of %u by %u, "
-               "%zu bytes: %zu, %.*s\n", type->name, bits, format->radix,
-               format->required_sign, format->group_size, format->mark, length,
+               "lowercase %u, %zu bytes: %zu, %.*s\n", type->name, bits, format->radix,
+               format->required_sign, format->group_size, format->mark, format->lowercase, length,
                count, (int)(count < length ? count : length), buffer);
 }
 
@@ -235,10 +237,12 @@ static void check_all_edges(void)
 {
     for (size_t t = 0; t < TYPE_COUNT; t++)
         for (uint32_t radix = 2; radix <= 36; radix++)
-            for (uint32_t sign = 0; sign < 2; sign++) {
-                struct lexical_format format = { radix, sign, 0, 0 };
-                check_edges(&TYPES[t], &format);
-            }
+            for (uint32_t sign = 0; sign < 2; sign++)
+                for (uint32_t lowercase = 0; lowercase < 2; lowercase++) {
+                    struct lexical_format format = FORMAT(radix, sign, 0, 0);
+                    format.lowercase = lowercase;
+                    check_edges(&TYPES[t], &format);
+                }
 }
 
 /* Checks every number of 8 and 16 bits. */
@@ -248,7 +252,7 @@ static void check_short_types(void)
         if (TYPES[t].bits > 16)
             continue;
         for (uint32_t radix = 2; radix <= 36; radix++) {
-            struct lexical_format format = { radix, 0, 0, 0 };
+            struct lexical_format format = FORMAT(radix, 0, 0, 0);
             for (uint64_t bits = 0; bits <= largest_bits(&TYPES[t]); bits++) {
                 struct expected expected = plain_text(&TYPES[t], bits, &format);
                 check_call(&TYPES[t], bits, &format, expected.count, &expected);
@@ -262,7 +266,7 @@ static void check_short_types(void)
 
 static void check_printed(const struct type *type, uint64_t bits, uint32_t radix)
 {
-    struct lexical_format format = { radix, 0, 0, 0 };
+    struct lexical_format format = FORMAT(radix, 0, 0, 0);
     struct expected expected = plain_text(type, bits, &format);
     const char *sign = is_negative(type, bits) ? "-" : "";
     uint64_t digits = magnitude(type, bits);
@@ -274,6 +278,11 @@ static void check_printed(const struct type *type, uint64_t bits, uint32_t radix
     expected.count = (size_t)count;
     check_call(type, bits, &format, LEXICAL_BUFFER_SIZE, &expected);
     check_call(type, bits, &format, expected.count, &expected);
+    if (radix == 16) {
+        format.lowercase = 1;
+        snprintf(text, size, "%s%" PRIx64, sign, digits);
+        check_call(type, bits, &format, expected.count, &expected);
+    }
 }
 
 /* Checks the powers of 2, the numbers next to them, and random numbers. */
@@ -318,39 +327,45 @@ struct row {
 };
 
 static const struct row ROWS[] = {
-    { U8, 0, { 10, 0, 0, 0 }, 3, "0" },
-    { U64, 1234, { 10, 0, 0, 0 }, 20, "1234" },
-    { U64, 1234, { 2, 0, 0, 0 }, 11, "10011010010" },
-    { U64, 1234, { 12, 0, 0, 0 }, 3, "86A" },
-    { I64, (uint64_t)INT64_MIN, { 10, 0, 0, 0 }, 20, "-9223372036854775808" },
-    { U64, UINT64_MAX, { 10, 1, 0, 0 }, 21, "+18446744073709551615" },
-    { SIZE, SIZE_MAX, { 16, 0, 0, 0 }, 16, "FFFFFFFFFFFFFFFF" },
-    { I8, 0, { 10, 1, 0, 0 }, 4, "+0" },
-    { I8, 255, { 10, 1, 0, 0 }, 4, "-1" },
-    { I8, 1, { 10, 1, 0, 0 }, 4, "+1" },
-    { U32, 4294967295, { 10, 0, 0, 0 }, 10, "4294967295" },
-    { U64, 9999999999, { 10, 0, 0, 0 }, 128, "9999999999" },
-    { U64, 10000000000, { 10, 0, 0, 0 }, 128, "10000000000" },
-    { U8, 128, { 12, 0, 0, 0 }, 2, "A8" },
-    { U8, 255, { 3, 0, 0, 0 }, 128, "100110" },
-    { U8, 255, { 4, 0, 0, 0 }, 128, "3333" },
-    { U8, 255, { 15, 0, 0, 0 }, 128, "120" },
-    { U8, 255, { 16, 0, 0, 0 }, 128, "FF" },
-    { U16, 65535, { 15, 0, 0, 0 }, 128, "14640" },
-    { U16, 65535, { 16, 0, 0, 0 }, 128, "FFFF" },
-    { U64, UINT64_MAX, { 36, 0, 0, 0 }, 13, "3W5E11264SGSF" },
-    { I8, 128, { 2, 0, 0, 0 }, 9, "-10000000" },
-    { I8, 128, { 36, 0, 0, 0 }, 3, "-3K" },
-    { I16, 32768, { 10, 0, 0, 0 }, 6, "-32768" },
-    { I32, 2147483648, { 10, 0, 0, 0 }, 11, "-2147483648" },
-    { U32, 1234567, { 10, 0, 3, ',' }, 13, "1,234,567" },
-    { I32, (uint32_t)-1234567, { 10, 0, 3, ' ' }, 14, "-1 234 567" },
-    { U16, 0xbeef, { 2, 0, 4, '_' }, 19, "1011_1110_1110_1111" },
-    { U64, 999, { 10, 1, 3, '.' }, 27, "+999" },
-    { U64, 7, { 10, 0, 0, 0 }, 1, "7" },
-    { I32, (uint32_t)-42, { 10, 0, 0, 0 }, 3, "-42" },
-    { U16, 1000, { 10, UINT32_MAX, 3, ',' }, 6, "+1,000" },
-    { U8, 5, { 2, 0, 0, UINT32_MAX }, 3, "101" },
+    { U8, 0, FORMAT(10, 0, 0, 0), 3, "0" },
+    { U64, 1234, FORMAT(10, 0, 0, 0), 20, "1234" },
+    { U64, 1234, FORMAT(2, 0, 0, 0), 11, "10011010010" },
+    { U64, 1234, FORMAT(12, 0, 0, 0), 3, "86A" },
+    { I64, (uint64_t)INT64_MIN, FORMAT(10, 0, 0, 0), 20, "-9223372036854775808" },
+    { U64, UINT64_MAX, FORMAT(10, 1, 0, 0), 21, "+18446744073709551615" },
+    { SIZE, SIZE_MAX, FORMAT(16, 0, 0, 0), 16, "FFFFFFFFFFFFFFFF" },
+    { I8, 0, FORMAT(10, 1, 0, 0), 4, "+0" },
+    { I8, 255, FORMAT(10, 1, 0, 0), 4, "-1" },
+    { I8, 1, FORMAT(10, 1, 0, 0), 4, "+1" },
+    { U32, 4294967295, FORMAT(10, 0, 0, 0), 10, "4294967295" },
+    { U64, 9999999999, FORMAT(10, 0, 0, 0), 128, "9999999999" },
+    { U64, 10000000000, FORMAT(10, 0, 0, 0), 128, "10000000000" },
+    { U8, 128, FORMAT(12, 0, 0, 0), 2, "A8" },
+    { U8, 255, FORMAT(3, 0, 0, 0), 128, "100110" },
+    { U8, 255, FORMAT(4, 0, 0, 0), 128, "3333" },
+    { U8, 255, FORMAT(15, 0, 0, 0), 128, "120" },
+    { U8, 255, FORMAT(16, 0, 0, 0), 128, "FF" },
+    { U16, 65535, FORMAT(15, 0, 0, 0), 128, "14640" },
+    { U16, 65535, FORMAT(16, 0, 0, 0), 128, "FFFF" },
+    { U64, UINT64_MAX, FORMAT(36, 0, 0, 0), 13, "3W5E11264SGSF" },
+    { I8, 128, FORMAT(2, 0, 0, 0), 9, "-10000000" },
+    { I8, 128, FORMAT(36, 0, 0, 0), 3, "-3K" },
+    { I16, 32768, FORMAT(10, 0, 0, 0), 6, "-32768" },
+    { I32, 2147483648, FORMAT(10, 0, 0, 0), 11, "-2147483648" },
+    { U32, 1234567, FORMAT(10, 0, 3, ','), 13, "1,234,567" },
+    { I32, (uint32_t)-1234567, FORMAT(10, 0, 3, ' '), 14, "-1 234 567" },
+    { U16, 0xbeef, FORMAT(2, 0, 4, '_'), 19, "1011_1110_1110_1111" },
+    { U64, 999, FORMAT(10, 1, 3, '.'), 27, "+999" },
+    { U64, 7, FORMAT(10, 0, 0, 0), 1, "7" },
+    { I32, (uint32_t)-42, FORMAT(10, 0, 0, 0), 3, "-42" },
+    { U16, 1000, FORMAT(10, UINT32_MAX, 3, ','), 6, "+1,000" },
+    { U8, 5, FORMAT(2, 0, 0, UINT32_MAX), 3, "101" },
+    { U32, 48879, LOWERCASE(16, 0, 0, 0), 128, "beef" },
+    { U64, UINT64_MAX, LOWERCASE(36, 0, 0, 0), 13, "3w5e11264sgsf" },
+    { I8, 128, LOWERCASE(36, 0, 0, 0), 3, "-3k" },
+    { I32, (uint32_t)-0xabcdef, LOWERCASE(16, 0, 2, '_'), 9, "-ab_cd_ef" },
+    { U16, 0xbeef, LOWERCASE(16, 1, 0, 0), 5, "+beef" },
+    { U16, 0xbeef, LOWERCASE(16, 1, 0, 0), 128, "+beef" },
 };
 
 static void check_rows(void)
@@ -367,7 +382,7 @@ static void check_rows(void)
 /* Checks the longest text, of 128 bytes: a sign, 64 digits, and a separator between adjacent digits. */
 static void check_longest_text(void)
 {
-    struct lexical_format format = { 2, 1, 1, '_' };
+    struct lexical_format format = FORMAT(2, 1, 1, '_');
     struct expected expected;
     expected.count = 128;
     for (size_t i = 0; i < 128; i++)
@@ -382,8 +397,9 @@ static void check_longest_text(void)
 static void check_every_length(void)
 {
     static const struct lexical_format FORMATS[] = {
-        { 10, 0, 0, 0 }, { 10, 1, 0, 0 }, { 10, 0, 3, ',' }, { 2, 0, 0, 0 },
-        { 16, 2, 4, '_' }, { 36, 0, 0, 0 }, { 3, 0, 1, ' ' }, { 7, 256, 64, '~' },
+        FORMAT(10, 0, 0, 0), FORMAT(10, 1, 0, 0), FORMAT(10, 0, 3, ','), FORMAT(2, 0, 0, 0),
+        FORMAT(16, 2, 4, '_'), FORMAT(36, 0, 0, 0), FORMAT(3, 0, 1, ' '), FORMAT(7, 256, 64, '~'),
+        LOWERCASE(16, 0, 0, 0), LOWERCASE(36, 1, 2, '.'),
     };
     for (size_t t = 0; t < TYPE_COUNT; t++)
         for (size_t f = 0; f < sizeof FORMATS / sizeof FORMATS[0]; f++)
@@ -401,7 +417,7 @@ static void check_null(void)
 {
     for (size_t t = 0; t < TYPE_COUNT; t++)
         for (uint32_t radix = 0; radix < 40; radix++) {
-            struct lexical_format format = { radix, 1, radix % 3, ',' };
+            struct lexical_format format = FORMAT(radix, 1, radix % 3, ',');
             check(TYPES[t].write(1, &format, NULL, 0) == 0, "a NULL buffer");
         }
 }
@@ -419,7 +435,7 @@ static void check_radices(void)
         uint32_t radix = i < 256 ? i : GREAT[i - 256];
         for (size_t t = 0; t < TYPE_COUNT; t++)
             for (uint32_t group_size = 0; group_size < 4; group_size++) {
-                struct lexical_format format = { radix, 0, group_size, '_' };
+                struct lexical_format format = FORMAT(radix, 0, group_size, '_');
                 if (is_radix(radix))
                     check_number(&TYPES[t], 77, &format);
                 else
@@ -442,7 +458,7 @@ static void check_group_bytes(void)
     for (uint32_t i = 0; i < 256 + sizeof GREAT / sizeof GREAT[0]; i++) {
         uint32_t byte = i < 256 ? i : GREAT[i - 256];
         for (size_t t = 0; t < TYPE_COUNT; t++) {
-            struct lexical_format by_size = { 10, 0, byte, ',' }, by_mark = { 10, 0, 3, byte };
+            struct lexical_format by_size = FORMAT(10, 0, byte, ','), by_mark = FORMAT(10, 0, 3, byte);
             if (byte <= 64)
                 check_number(&TYPES[t], 100, &by_size);
             else
@@ -463,7 +479,7 @@ static void check_group_bytes(void)
 static void check_signs(void)
 {
     static const struct lexical_format FORMATS[] = {
-        { 10, 0, 0, 0 }, { 10, 0, 3, ',' }, { 16, 0, 0, 0 }, { 7, 0, 2, '_' },
+        FORMAT(10, 0, 0, 0), FORMAT(10, 0, 3, ','), FORMAT(16, 0, 0, 0), FORMAT(7, 0, 2, '_'),
     };
     static const uint32_t SEVERAL[] = { 0xffffffff, 0xffff0000, 0x7fffffff, 0xfffffffe };
     for (uint32_t i = 0; i < 32 + sizeof SEVERAL / sizeof SEVERAL[0]; i++)
@@ -481,14 +497,54 @@ static void check_signs(void)
             }
 }
 
+/*
+ * Checks that every number except 0 requests lowercase: each bit by itself, and all
+ * bits. The sizes and the lengths are those of the uppercase texts.
+ */
+static void check_lowercase(void)
+{
+    for (uint32_t i = 0; i < 33; i++)
+        for (size_t t = 0; t < TYPE_COUNT; t++)
+            for (uint32_t radix = 2; radix <= 36; radix++) {
+                struct lexical_format format = FORMAT(radix, 0, 3 * (i % 2), '_');
+                size_t size = TYPES[t].buffer_size(&format), length = TYPES[t].length(100, &format);
+                format.lowercase = i < 32 ? (uint32_t)1 << i : UINT32_MAX;
+                check(lexical_check_format(&format) == 0, "lowercase is valid");
+                check(TYPES[t].buffer_size(&format) == size, "the size in lowercase");
+                check(TYPES[t].length(100, &format) == length, "the length in lowercase");
+                check_number(&TYPES[t], largest_bits(&TYPES[t]) / 2, &format);
+                check_number(&TYPES[t], largest_bits(&TYPES[t]) / 3 * 2, &format);
+            }
+}
+
+/* Checks that a reserved number other than 0 is refused: each bit of each by itself. */
+static void check_reserved(void)
+{
+    static const struct lexical_format FORMATS[] = {
+        FORMAT(10, 0, 0, 0), FORMAT(16, 1, 3, ','), LOWERCASE(36, 0, 0, 0),
+    };
+    for (uint32_t i = 0; i < 64; i++)
+        for (size_t t = 0; t < TYPE_COUNT; t++)
+            for (size_t f = 0; f < sizeof FORMATS / sizeof FORMATS[0]; f++) {
+                struct lexical_format format = FORMATS[f];
+                format.reserved[i / 32] = (uint32_t)1 << i % 32;
+                check_refused(&TYPES[t], &format, LEXICAL_INVALID_RESERVED);
+            }
+}
+
 /* Checks which of several invalid fields is reported, and that a valid format has none. */
 static void check_order(void)
 {
-    static const struct lexical_format RADIX = { 1, 0, 65, '+' }, SIZE_FIRST = { 2, 9, 65, '+' },
-                                       MARK = { 36, 0, 64, '+' }, NONE = { 36, 0, 0, '+' };
+    static const struct lexical_format RADIX = FORMAT(1, 0, 65, '+'), SIZE_FIRST = FORMAT(2, 9, 65, '+'),
+                                       MARK = FORMAT(36, 0, 64, '+'), NONE = FORMAT(36, 0, 0, '+');
     check(lexical_check_format(&RADIX) == LEXICAL_INVALID_RADIX, "the radix first");
     check(lexical_check_format(&SIZE_FIRST) == LEXICAL_INVALID_GROUP_SIZE, "the group size next");
-    check(lexical_check_format(&MARK) == LEXICAL_INVALID_GROUP_MARK, "the mark last");
+    check(lexical_check_format(&MARK) == LEXICAL_INVALID_GROUP_MARK, "the mark next");
+    struct lexical_format all[4] = { RADIX, SIZE_FIRST, MARK, NONE };
+    for (uint32_t i = 0; i < 4; i++) {
+        all[i].reserved[0] = 1;
+        check(lexical_check_format(&all[i]) == i + 1, "the reserved numbers last");
+    }
     check(lexical_check_format(&NONE) == 0, "a mark without groups");
     check(lexical_check_format(&lexical_standard_format) == 0, "the standard format");
 }
@@ -498,14 +554,15 @@ static void check_random_formats(void)
 {
     uint64_t random = 88172645463325252u;
     for (int i = 0; i < 200000; i++) {
-        uint32_t fields[4];
-        for (int f = 0; f < 4; f++) {
+        uint32_t fields[5];
+        for (int f = 0; f < 5; f++) {
             random ^= random << 13;
             random ^= random >> 7;
             random ^= random << 17;
             fields[f] = (uint32_t)(random >> 16) & (i % 3 == 0 ? UINT32_MAX : f == 0 ? 63 : 127);
         }
-        struct lexical_format format = { fields[0], fields[1], fields[2], fields[3] };
+        struct lexical_format format = FORMAT(fields[0], fields[1], fields[2], fields[3]);
+        format.lowercase = fields[4] % 3;
         const struct type *type = &TYPES[i % TYPE_COUNT];
         if (!is_radix(format.radix))
             check_refused(type, &format, LEXICAL_INVALID_RADIX);
@@ -527,7 +584,7 @@ static void check_grouped_edges(void)
         for (size_t r = 0; r < sizeof RADICES / sizeof RADICES[0]; r++)
             for (size_t s = 0; s < sizeof SIZES / sizeof SIZES[0]; s++)
                 for (uint32_t sign = 0; sign < 2; sign++) {
-                    struct lexical_format format = { RADICES[r], sign, SIZES[s], s % 2 == 0 ? '_' : ' ' };
+                    struct lexical_format format = FORMAT(RADICES[r], sign, SIZES[s], s % 2 == 0 ? '_' : ' ');
                     check_edges(&TYPES[t], &format);
                 }
 }
@@ -542,7 +599,7 @@ static void check_sizes(void)
         for (uint32_t radix = 2; radix <= 36; radix++)
             for (uint32_t group_size = 0; group_size <= 64; group_size++)
                 for (uint32_t sign = 0; sign < 2; sign++) {
-                    struct lexical_format format = { radix, sign, group_size, '_' };
+                    struct lexical_format format = FORMAT(radix, sign, group_size, '_');
                     size_t digits = TYPES[t].decimal_size;
                     size_t marks = group_size == 0 ? 0 : (digits - 1) / group_size;
                     size_t size = radix != 10 ? TYPES[t].size : digits + marks + sign;
@@ -582,6 +639,8 @@ int main(void)
     run("every byte as the radix", check_radices);
     run("every byte as the group size and the separator", check_group_bytes);
     run("every bit of the required sign", check_signs);
+    run("every bit of lowercase", check_lowercase);
+    run("every bit of the reserved numbers", check_reserved);
     run("the order of invalid fields", check_order);
     run("random formats", check_random_formats);
     run("groups", check_grouped_edges);

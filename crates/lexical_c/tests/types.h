@@ -1,5 +1,5 @@
 /*
- * The integer types that the library writes, for the tests: the end of the names
+ * The integer types that the library writes, and formats, for the tests. A type is: the end of the names
  * of their functions, the end of the names of their constants, and the C type.
  */
 #define FOR_EACH_TYPE(X)                                                       \
@@ -12,3 +12,9 @@
     X(i16, I16, int16_t)                                                       \
     X(i32, I32, int32_t)                                                       \
     X(i64, I64, int64_t)
+
+/* The initializer of a format, in uppercase or in lowercase, for C++17 too, which has no names in initializers. */
+#define FORMAT(radix, required_sign, group_size, mark)                         \
+    { radix, required_sign, group_size, mark, 0, { 0, 0 } }
+#define LOWERCASE(radix, required_sign, group_size, mark)                      \
+    { radix, required_sign, group_size, mark, 1, { 0, 0 } }

@@ -57,8 +57,9 @@ FOR_EACH_TYPE(PASS)
 int main(void)
 {
     for (uint32_t radix = 2; radix <= 36; radix++)
-        for (uint32_t kind = 0; kind < 3; kind++) {
-            struct lexical_format format = { radix, kind == 1, kind == 2 ? 3u : 0u, '_' };
+        for (uint32_t kind = 0; kind < 4; kind++) {
+            struct lexical_format format = FORMAT(radix, kind == 1, kind == 2 ? 3u : 0u, '_');
+            format.lowercase = kind == 3;
             for (unsigned shift = 0; shift < 64; shift += 9) {
                 uint64_t bits = UINT64_MAX / 3 * 2 >> shift;
                 FOR_EACH_TYPE(CALL)

@@ -10,8 +10,6 @@ pub mod Utf8Texts
 pub mod Utf8Changes
 -- texts that are equal to bytes, for a caller whose contract is an equation of bytes
 pub mod Equations
--- texts in lowercase
-pub mod Lowercases
 -- how many digits a number of a type has
 pub mod Widths
 -- bytes inserted into a text

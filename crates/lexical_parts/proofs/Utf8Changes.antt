@@ -9,7 +9,7 @@ use Rattle.std.proofs.lemmas.Bool.Decides.{nat_tests}
 use Rattle.std.proofs.lemmas.List.{map-append}
 use Rattle.std.proofs.lemmas.Str.{IsUtf8-append, IsUtf8-drop, IsUtf8-take, IsCharBoundary-after_ascii, IsCharBoundary-start}
 use Rattle.std.proofs.lemmas.Str.Ascii.{encode_ascii, lowercase_ascii, lowercase_is}
-use Rattle.lexical_parts.specs.Lowercase.{IsLowercase}
+use Rattle.lexical_write_integer.specs.Lowercase.{IsLowercase}
 use Rattle.lexical_parts.specs.Utf8.{AreUtf8}
 use Rattle.lexical_parts.specs.ZeroPadded.{IsZeroPadded, sign_length}
 use Rattle.lexical_parts.proofs.Utf8Texts.{fill_is_utf8}

@@ -1,7 +1,6 @@
 pub mod Column
 pub mod Fixed
 pub mod Joined
-pub mod Lowercase
 pub mod Optional
 pub mod Plus
 pub mod Scientific

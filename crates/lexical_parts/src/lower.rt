@@ -1,6 +1,6 @@
 //! Parts in lowercase.
 
-ghost use Rattle.lexical_parts.specs.Lowercase.{IsLowercase};
+ghost use Rattle.lexical_write_integer.specs.Lowercase.{IsLowercase};
 
 use crate::part::Part;
 

@@ -2,3 +2,4 @@
 pub mod Prefixes
 pub mod Blocks
 pub mod BlocksAfter
+pub mod Lowercases

@@ -3,5 +3,6 @@ pub mod Groups
 pub mod Text
 pub mod SizeBound
 pub mod Computed
+pub mod Lowercase
 pub mod Order
 pub mod Sequence

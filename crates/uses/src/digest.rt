@@ -3,7 +3,7 @@
 ghost use Rattle.lexical_write_integer.specs.Buffer.{Writes};
 ghost use Rattle.lexical_write_integer.specs.Padded.{IsPadded};
 ghost use Rattle.lexical_parts.specs.Joined.{AreEach};
-ghost use Rattle.lexical_parts.specs.Lowercase.{IsLowercase};
+ghost use Rattle.lexical_write_integer.specs.Lowercase.{IsLowercase};
 
 use lexical_parts::{HexBytes, Lower, Part};
 

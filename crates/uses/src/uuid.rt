@@ -1,7 +1,7 @@
 //! Returns a UUID in lowercase as a `&str`.
 
 ghost use Rattle.std.specs.Int.{w64, to_be_bytes};
-ghost use Rattle.lexical_parts.specs.Lowercase.{IsLowercase};
+ghost use Rattle.lexical_write_integer.specs.Lowercase.{IsLowercase};
 ghost use Rattle.uses.specs.Uuid.{IsUuid};
 
 use lexical_parts::{HexBytes, Lower, Utf8Part};

@@ -6,10 +6,11 @@ use Rattle.lexical_c.proofs.buffer_size.buffer_size.Goals as goal
 
 pub returns-in-Some : goal.returns-in-Some
 returns-in-Some g c =
-    let valid = c.in-Some.ensures.valid.0 refl in
+    let accepted = c.in-Some.ensures.valid.0 refl in
+    let valid = accepted.valid in
     let size = rw c.in-Some.ensures.format at c.buffer_size.ensures in
     record {
-      accepts = (λ _. valid, λ _. search rules);
+      accepts = (λ _. accepted, λ _. search rules);
       size = λ _. size;
       enough = λ _ x at_least at_most.
           let fits = text_of-le_need x _ _ _ _ (format_of c.args.format.now) valid

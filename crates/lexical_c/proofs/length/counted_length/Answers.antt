@@ -1,12 +1,12 @@
-use Rattle.std.proofs.Common.{◌≡◌, Bool, true, false, ◌+◌, ◌^◌, ◌<◌, ◌≤◌, length, unsigned_abs, ap, ◌∙◌, arith, rules}
-use Rattle.lexical_num.specs.Format.{IsValid, grouped_length}
+use Rattle.std.proofs.Common.{◌≡◌, Bool, true, false, ◌+◌, ◌^◌, ◌<◌, ◌≤◌, length, unsigned_abs, refl, ap, ◌∙◌, arith}
+use Rattle.lexical_num.specs.Format.{grouped_length}
 use Rattle.lexical_num.specs.Sign.{sign_of}
 use Rattle.lexical_write_integer.specs.DigitCount.{digit_count}
 use Rattle.lexical_write_integer.proofs.OfDigits.Count.DigitCounts.{digit_count-pos, digit_count-le_bits}
 use Rattle.lexical_write_integer.proofs.OfTexts.PrintedTexts.{IsRange-small}
 use Rattle.lexical_write_integer.proofs.OfTexts.Signs.{sign_of-below, sign_of-other, length-plus}
 use Rattle.lexical_write_integer.specs.SizeBound.{grouped_length-le}
-use Rattle.lexical_c.specs.Length.{IsLength}
+use Rattle.lexical_c.specs.Format.{format_of}
 use Rattle.lexical_c.proofs.TextLengths.{length-text_of}
 use Rattle.lexical_c.proofs.WrittenTexts.{grouped_length-pos}
 use Rattle.lexical_c.proofs.length.counted_length.Goals as goal
@@ -53,13 +53,13 @@ overflow_add-result g c =
 pub returns : goal.returns
 returns g c =
     let before = (goal.at.returns g c).After-from-sign in
-    let valid : IsValid c.in-Some.format = search rules in
-    let text = length-text_of (g.T.LexicalInteger.number c.args.value) c.in-Some.format valid (small g before) in
-    let digits = digit_count-pos c.in-Some.format.mantissa_radix (unsigned_abs (g.T.LexicalInteger.number c.args.value)) in
+    let accepted = c.in-Some.ensures.valid.0 refl in
+    let number = g.T.LexicalInteger.number c.args.value in
+    let text = length-text_of number (format_of c.args.format.now) accepted.valid (small g before) in
+    let digits = digit_count-pos c.in-Some.format.mantissa_radix (unsigned_abs number) in
     let groups = c.grouped_len.ensures ∙ ap (grouped_length c.in-Some.format.digit_grouping) (count_is g before) in
     let some = grouped_length-pos c.in-Some.format.digit_grouping _ digits in
-    let is : IsLength (g.T.LexicalInteger.number c.args.value) c.in-Some.format (c.from-sign.result + c.grouped_len.result) = record {
-      accepts = (λ _. valid, λ _. omega (arith, groups, some));
-      count = λ _. omega (arith, text, groups, sign_is g before);
-    } in
-    rw c.in-Some.ensures.format at is
+    record {
+      accepts = (λ _. accepted, λ _. omega (arith, groups, some));
+      count = λ _. omega (arith, text, rw c.in-Some.ensures.format at groups, rw c.in-Some.ensures.format at (sign_is g before));
+    }

@@ -1,8 +1,7 @@
 use Rattle.std.proofs.Common.{arith, rules}
 use Rattle.std.proofs.Math.Facts.{to_z-of_z}
-use Rattle.lexical_num.specs.Format.{IsValid}
 use Rattle.lexical_write_integer.proofs.OfTexts.PrintedTexts.{IsRange-small}
-use Rattle.lexical_c.proofs.WrittenTexts.{written}
+use Rattle.lexical_c.proofs.WrittenTexts.{written, in_uppercase}
 use Rattle.lexical_c.proofs.write.write_signed.Goals as goal
 
 pub write_sign_and_digits-requires-clause-groups : goal.write_sign_and_digits-requires-clause-groups
@@ -13,10 +12,10 @@ write_sign_and_digits-requires-clause-room g c = omega (arith, c.size_suffices.e
 
 pub returns-in-Some : goal.returns-in-Some
 returns-in-Some g c =
-    let valid : IsValid c.in-Some.format = search rules in
     let range = c.in_range.ensures in
     let small = IsRange-small _ _ _ _ g.met.T.LexicalInteger.range_of_bits range.at_least range.at_most in
-    rw c.in-Some.ensures.format at (written _ _ _ _ _ valid small c.write_sign_and_digits.ensures)
+    in_uppercase _ c.args.format.now _ _ _ c.in-Some.ensures.uppercase
+    (written _ _ _ _ _ c.in-Some.ensures.accepted small (rw c.in-Some.ensures.format at c.write_sign_and_digits.ensures))
 
 pub returns-in-None : goal.returns-in-None
 returns-in-None g c = rw (to_z-of_z c.ranges.wide, c.requires) at c.write_if_it_fits.ensures

@@ -1,7 +1,6 @@
 use Rattle.std.proofs.Common.{pos, sym, ap, ◌∙◌, arith, rules}
-use Rattle.lexical_num.specs.Format.{IsValid}
 use Rattle.lexical_write_integer.proofs.OfTexts.PrintedTexts.{IsRange-small}
-use Rattle.lexical_c.proofs.WrittenTexts.{written}
+use Rattle.lexical_c.proofs.WrittenTexts.{written, in_uppercase}
 use Rattle.lexical_c.proofs.write.write_unsigned.Goals as goal
 
 pub write_plain_digits-requires-clause-sign : goal.write_plain_digits-requires-clause-sign
@@ -15,10 +14,10 @@ write_plain_digits-requires-clause-room g c = omega (arith, c.size_suffices.ensu
 
 pub returns-in-Some : goal.returns-in-Some
 returns-in-Some g c =
-    let valid : IsValid c.in-Some.format = search rules in
     let range = c.in_range.ensures in
     let small = IsRange-small _ _ _ _ g.met.T.LexicalInteger.range_of_bits range.at_least range.at_most in
-    rw c.in-Some.ensures.format at (written _ _ _ _ _ valid small c.write_plain_digits.ensures)
+    in_uppercase _ c.args.format.now _ _ _ c.in-Some.ensures.uppercase
+    (written _ _ _ _ _ c.in-Some.ensures.accepted small (rw c.in-Some.ensures.format at c.write_plain_digits.ensures))
 
 pub returns-in-None : goal.returns-in-None
 returns-in-None g c =

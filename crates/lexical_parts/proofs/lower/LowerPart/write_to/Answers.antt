@@ -1,4 +1,4 @@
-use Rattle.lexical_parts.proofs.Lowercases.{written_lower}
+use Rattle.lexical_write_integer.proofs.Buffers.Lowercases.{written_lower}
 use Rattle.lexical_parts.proofs.lower.LowerPart.write_to.Goals as goal
 
 -- the check finds this proof by itself, but with an answer the refusal of a mistake says what is wrong

@@ -1,10 +1,10 @@
--- The text of a part whose letters are changed to lowercase where they are.
+-- A text in a buffer whose letters are changed to lowercase where they are.
 use Rattle.std.proofs.Common.{◌≡◌, ℕ, List, ◌++◌, length, map, take, drop, ap, ◌∙◌, sym, arith}
 use Rattle.std.specs.Char.{to_ascii_lowercase}
 use Rattle.std.proofs.lemmas.List.{drop_at, length-map}
 use Rattle.lexical_write_integer.specs.Buffer.{Writes}
 use Rattle.lexical_write_integer.proofs.Buffers.Prefixes.{take-Writes}
-use Rattle.lexical_parts.specs.Lowercase.{IsLowercase}
+use Rattle.lexical_write_integer.specs.Texts.Lowercase.{IsLowercase}
 
 pub written_lower : {Is : List ℕ → Type 0} {before between lower : List ℕ} {count : ℕ} →
     Writes Is before between count → lower ≡ map to_ascii_lowercase (take count between) →

@@ -1,23 +1,23 @@
-use Rattle.std.proofs.Common.{length, ap, arith, rules}
+use Rattle.std.proofs.Common.{length, refl, ap, arith, rules}
 use Rattle.std.proofs.lemmas.Bool.{false≢true}
 use Rattle.lexical_num.specs.Format.{IsValid}
 use Rattle.lexical_write_integer.specs.Computed.{text_of}
 use Rattle.lexical_write_integer.proofs.OfTexts.PrintedTexts.{IsRange-small}
 use Rattle.lexical_c.proofs.WrittenTexts.{count-le, count-length, length-written, written, written_by_copy, refused}
-use Rattle.lexical_c.proofs.general.write_if_it_fits.Goals as goal
+use Rattle.lexical_c.proofs.general.write_uppercase.Goals as goal
 
 pub returns-in_default : goal.returns-in_default
-returns-in_default g c = refused _ _ _ (λ writable. false≢true (c.in_default.ensures.valid.1 writable.valid))
+returns-in_default g c = refused _ _ _ _ (λ writable. false≢true (c.in_default.ensures.valid.1 writable.accepted))
 
 pub write_text-requires : goal.write_text-requires
 write_text-requires g c = omega (arith, c.size_suffices.ensures.size, c.buffer_size.ensures)
 
 pub returns-then-buffer-buffer_size : goal.returns-then-buffer-buffer_size
 returns-then-buffer-buffer_size g c =
-    let valid : IsValid c.in-Some.format = search rules in
+    let accepted = c.in-Some.ensures.valid.0 refl in
     let range = c.in_range.ensures in
     let small = IsRange-small _ _ _ _ g.met.T.LexicalInteger.range_of_bits range.at_least range.at_most in
-    rw c.in-Some.ensures.format at (written _ _ _ _ _ valid small c.write_text.ensures.text)
+    written _ c.args.format.now _ _ _ accepted small (rw c.in-Some.ensures.format at c.write_text.ensures.text)
 
 pub write_text-count-requires : goal.write_text-count-requires
 write_text-count-requires g c = omega (arith, c.size_suffices.ensures.size, c.size_suffices.ensures.buffer)
@@ -33,12 +33,11 @@ copy_to_front-requires g c = omega (arith, count-length _ _ _ c.write_text-count
 
 pub returns-then-count-buffer : goal.returns-then-count-buffer
 returns-then-count-buffer g c =
-    let valid : IsValid c.in-Some.format = search rules in
+    let accepted = c.in-Some.ensures.valid.0 refl in
     let range = c.in_range.ensures in
     let small = IsRange-small _ _ _ _ g.met.T.LexicalInteger.range_of_bits range.at_least range.at_most in
-    rw c.in-Some.ensures.format at
-    (written_by_copy _ _ _ _ _ _ _ _ valid small c.write_text-count.ensures.text
-    c.copy_to_front.ensures.front c.copy_to_front.ensures.count)
+    written_by_copy _ c.args.format.now _ _ _ _ _ _ accepted small (rw c.in-Some.ensures.format at c.write_text-count.ensures.text)
+    c.copy_to_front.ensures.front c.copy_to_front.ensures.count
 
 pub returns-else-count-buffer : goal.returns-else-count-buffer
 returns-else-count-buffer g c =
@@ -47,4 +46,4 @@ returns-else-count-buffer g c =
     let small = IsRange-small _ _ _ _ g.met.T.LexicalInteger.range_of_bits range.at_least range.at_most in
     let computed = length-written _ _ _ _ _ valid.mantissa.at_least_two small c.write_text-count.ensures.text in
     let same = ap (λ format. length (text_of (g.T.LexicalInteger.number c.args.value) format)) c.in-Some.ensures.format in
-    refused _ _ _ (λ writable. omega (arith, same, computed, writable.fits))
+    refused _ _ _ _ (λ writable. omega (arith, same, computed, writable.fits))
