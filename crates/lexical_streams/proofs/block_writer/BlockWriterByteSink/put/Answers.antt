@@ -1,4 +1,4 @@
-use Rattle.std.proofs.Common.{◌≡◌, arith, length, length-take, ap, ◌∙◌}
+use Rattle.std.proofs.Common.{arith, length, length-take, ap, ◌∙◌}
 use Rattle.lexical_streams.proofs.block_writer.BlockWriterByteSink.put.Goals.{then-self+in_ok-write_block, else-self}
 use Rattle.lexical_streams.proofs.block_writer.BlockWriterByteSink.put.Goals as goal
 
