@@ -292,7 +292,7 @@ size_t lexical_write_i64(int64_t value, const struct lexical_format *format,
 /* ---- the function for a type ------------------------------------------------- */
 
 /*
- * lexical_write and lexical_length, in C from C11 on and in C++: call the function
+ * lexical_write and lexical_length, in C11 and later, and in C++: call the function
  * above that the type of the value chooses, as lexical_write_i32 for an int. A
  * char and a bool are refused: a cast says whether the number or a letter is meant.
  */

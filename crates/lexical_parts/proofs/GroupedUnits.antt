@@ -20,7 +20,7 @@ length-IsFraction (suc decimals) units text is =
     let long : length is.second ≡ suc decimals = characters ∙ length-map rest.digits digit_char ∙ rest.block.counted in
     omega (arith, ap length is.whole, length-append is.first is.second, ap length is.is_first, long)
 
--- the bytes before the point, and those from it on
+-- the bytes before the point, and the point with those after it
 pub units_split : (decimals units whole : ℕ) (text : List ℕ) → IsUnits decimals units text → whole + (decimals + min decimals 1) ≡ length text
     → IsDigits 10 (units / 10 ^ decimals) (take whole text) × IsFraction decimals (units % 10 ^ decimals) (drop whole text)
 units_split decimals units whole text is long =

@@ -22,7 +22,7 @@ use Rattle.lexical_parts.proofs.Points.{IsUnits-point, digits_around_point}
 
 -- ---- zeros at the end
 
--- one more zero
+-- a further zero
 pub zeros_more : (digits : List ℕ) (count : ℕ) → 1 ≤ count → count ≤ length digits → get_or digits (count - 1) 0 ≡ 48
     → drop count digits ≡ replicate (length digits - count) 48 → drop (count - 1) digits ≡ replicate (length digits - (count - 1)) 48
 zeros_more digits count some within byte ends =
