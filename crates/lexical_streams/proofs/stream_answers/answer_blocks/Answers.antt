@@ -1,4 +1,4 @@
-use Rattle.std.proofs.Common.{rules, Ok, ap, ◌∙◌, arith, append-nil}
+use Rattle.std.proofs.Common.{take, rules, Ok, ap, ◌∙◌, arith, append-nil}
 use Rattle.std.proofs.lemmas.Result.{err_from_is_err_and}
 use Rattle.lexical_streams.specs.Blocks.{taken}
 use Rattle.lexical_streams.specs.Kept.{Yields-more, KeepsBytes-transitive}
@@ -71,8 +71,8 @@ loop-reader-preserved g c =
     let read = c.in_ok-count.ensures in
     let push = c.in_ok-push_all.ensures in
     let h = IsUnderWay-flushed _ _ _ _ _ c.loop-reader.invariant c.flush.new.self flush.taken flush.kept (omega (arith, flush.faults)) in
-    IsUnderWay-next _ _ _ _ _ h c.read.new.self _ read.yields c.push_all.new.sink c.push_all.new.self (push.ok _ _ h.answered) push.puts.kept
-    (omega (arith, read.faults)) (omega (arith, push.puts.faults))
+    IsUnderWay-next _ _ _ _ _ h c.read.new.self (take c.in_ok-count.count c.read.new.block) read.yields c.push_all.new.sink c.push_all.new.self
+    (push.ok _ _ h.answered) push.puts.kept (omega (arith, read.faults)) (omega (arith, push.puts.faults))
 
 -- ---- the end of the input
 
