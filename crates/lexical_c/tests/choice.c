@@ -1,7 +1,7 @@
 /*
  * Calls lexical_write and lexical_length, which choose the function by the type of
- * the value, for each type of C, and compares texts and lengths. It is compiled from
- * C11 and C++98. With REFUSED it must not compile: a char or a bool.
+ * the value, for each type of C, and compares texts and lengths. It is compiled as
+ * C11 and C++98, and as each later standard. With REFUSED it must not compile: a char or a bool.
  */
 #include "lexical.h"
 #include "types.h"
