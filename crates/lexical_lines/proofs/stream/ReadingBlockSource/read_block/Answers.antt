@@ -2,6 +2,10 @@ use Rattle.std.proofs.Common.{◌≡◌, refl, ap, sym, arith, length, length-ta
 use Rattle.lexical_lines.proofs.Readers.{KeepsReader-read, ReadConsumes-limited}
 use Rattle.lexical_lines.proofs.stream.ReadingBlockSource.read_block.Goals as goal
 
+-- the check finds this proof by itself, but with an answer the refusal of a mistake says what is wrong
+pub returns-then-self-eq0-clause-remaining : goal.returns-then-self-eq0-clause-remaining
+returns-then-self-eq0-clause-remaining g c = omega (arith, ap (λ r. r.left) c.self.view_is)
+
 pub returns-in-Ok-clause-kept : goal.returns-in-Ok-clause-kept
 returns-in-Ok-clause-kept g c =
     let read = c.in-Ok.ensures in
