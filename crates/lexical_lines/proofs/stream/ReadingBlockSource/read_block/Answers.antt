@@ -1,8 +1,18 @@
-use Rattle.std.proofs.Common.{◌≡◌, refl, ap, sym, arith, length, length-take}
+use Rattle.std.proofs.Common.{◌≡◌, ℕ, zero, suc, ◌==◌, ◌||◌, Ok, refl, ap, sym, arith, length, length-take}
+use Rattle.std.specs.contracts.io.Error.{the_row}
+use Rattle.lexical_lines.specs.Source.{reads_end}
 use Rattle.lexical_lines.proofs.Readers.{KeepsReader-read, ReadConsumes-limited}
 use Rattle.lexical_lines.proofs.stream.ReadingBlockSource.read_block.Goals as goal
 
--- the check finds this proof by itself, but with an answer the refusal of a mistake says what is wrong
+is_end : (E : Type 0) (count : ℕ) → (count == 0) ≡ reads_end {E = E} (Ok count)
+is_end E zero = refl
+is_end E (suc count) = grind arith
+
+-- the check finds these two proofs by itself, but with answers the refusals of mistakes say what is wrong
+
+pub returns-in-Ok-clause-ended : goal.returns-in-Ok-clause-ended
+returns-in-Ok-clause-ended g c = rw (sym c.self.view_is) (ap (λ end. c.self.inside.is_ended || end) (is_end the_row.Denot c.in-Ok.count))
+
 pub returns-then-self-eq0-clause-remaining : goal.returns-then-self-eq0-clause-remaining
 returns-then-self-eq0-clause-remaining g c = omega (arith, ap (λ r. r.left) c.self.view_is)
 
