@@ -45,7 +45,7 @@ WritesBlock-front {i = i} {at = at} {before} {between} last first = record {
 }
 
 -- the last digits of a number, in two parts
-mod-pow_split : (r n i j : ℕ) → 2 ≤ r → n % r ^ (i + j) ≡ n / r ^ j % r ^ i * r ^ j + n % r ^ j
+pub mod-pow_split : (r n i j : ℕ) → 2 ≤ r → n % r ^ (i + j) ≡ n / r ^ j % r ^ i * r ^ j + n % r ^ j
 mod-pow_split r n i j two =
     let p = r ^ j in
     let s = r ^ i in

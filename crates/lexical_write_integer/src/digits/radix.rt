@@ -7,6 +7,7 @@ ghost use Rattle.lexical_write_integer.specs.Digits.DigitCount.{digit_count};
 ghost use Rattle.lexical_write_integer.specs.Digits.LoopTurns.{table_notes};
 
 pub mod algorithm;
+mod binary_words;
 mod by_radix;
 pub mod compact;
 mod table_writer;
@@ -16,7 +17,7 @@ use crate::turns::Turns;
 use by_radix::by_radix;
 use lexical_num::num::UnsignedInteger;
 use lexical_tables::get_table;
-use table_writer::{write_digits, write_short};
+use table_writer::{write_digits, write_one_or_two};
 
 // Writes a number with the table of the radix. Above radix 32 a number below 1024 has at most two digits.
 fn write_by_table<T: UnsignedInteger, const R: u32>(
@@ -33,7 +34,7 @@ fn write_by_table<T: UnsignedInteger, const R: u32>(
     let number = value.as_usize() as u64;
     let table = get_table(R);
     if R > 32 && number < 1024 {
-        return write_short(number as u32, R, table, buffer, turns);
+        return write_one_or_two(number as u32, R, table, buffer, turns);
     }
     match T::BITS {
         8 => write_digits::<8, R>(number, table, buffer, turns),

@@ -1,6 +1,6 @@
 //! The traits that write a number of any integer type.
 
-ghost use Rattle.std.specs.Prelude.{◌≡◌, ◌≤◌, ℤ, ◌≤ℤ◌, length, take, drop, unsigned_abs};
+ghost use Rattle.std.specs.Prelude.{◌≡◌, ◌+◌, ◌≤◌, ℤ, ◌≤ℤ◌, false, length, take, drop, unsigned_abs};
 ghost use Rattle.std.specs.Borrow.{sem};
 ghost use Rattle.lexical_num.specs.Format.{Format, IsRadix, standard, without_groups};
 ghost use Rattle.lexical_num.specs.Sign.{sign_of};
@@ -129,6 +129,10 @@ pub trait ToLexicalWithOptions: ToLexical {
     ghost size_suffices: { (x : ℤ) (format : Format) → IsRadix format.mantissa_radix
         → Self.least ≤ℤ x → x ≤ℤ Self.greatest
         → need x Self.DECIMAL_WIDTH format ≤ size_in Self.FORMATTED_SIZE Self.FORMATTED_SIZE_DECIMAL format };
+
+    // The decimal size of the type is its decimal width, and a byte for the `-` of a type with negative numbers.
+    ghost decimal_size: { Self.FORMATTED_SIZE_DECIMAL
+        ≡ Self.DECIMAL_WIDTH + length (sign_of Self.least false) };
 
     /// Writes the number as `write_lexical_with_options` does, under the same condition, and returns
     /// its text: a mutable slice of the first bytes of the buffer. What the caller then writes to the

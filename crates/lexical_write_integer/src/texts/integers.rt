@@ -1,6 +1,6 @@
 //! The implementations of the writing traits for the ten integer types.
 
-ghost use Rattle.std.specs.Prelude.{◌-◌, ◌^◌};
+ghost use Rattle.std.specs.Prelude.{◌-◌, ◌^◌, refl};
 ghost use Rattle.std.proofs.Common.{lit≤};
 ghost use Rattle.lexical_write_integer.specs.Texts.SizeBound.{unsigned_need-le, signed_need-le};
 
@@ -27,30 +27,40 @@ impl ToLexicalWithOptions for u8 {
     type Options = Options;
 
     ghost size_suffices = { unsigned_need-le (2 ^ 8 - 1) 8 3 16 3 (lit≤ tt) (lit≤ tt) (lit≤ tt) (lit≤ tt) };
+
+    ghost decimal_size = { refl };
 }
 
 impl ToLexicalWithOptions for u16 {
     type Options = Options;
 
     ghost size_suffices = { unsigned_need-le (2 ^ 16 - 1) 16 5 32 5 (lit≤ tt) (lit≤ tt) (lit≤ tt) (lit≤ tt) };
+
+    ghost decimal_size = { refl };
 }
 
 impl ToLexicalWithOptions for u32 {
     type Options = Options;
 
     ghost size_suffices = { unsigned_need-le (2 ^ 32 - 1) 32 10 64 10 (lit≤ tt) (lit≤ tt) (lit≤ tt) (lit≤ tt) };
+
+    ghost decimal_size = { refl };
 }
 
 impl ToLexicalWithOptions for u64 {
     type Options = Options;
 
     ghost size_suffices = { unsigned_need-le (2 ^ 64 - 1) 64 20 128 20 (lit≤ tt) (lit≤ tt) (lit≤ tt) (lit≤ tt) };
+
+    ghost decimal_size = { refl };
 }
 
 impl ToLexicalWithOptions for usize {
     type Options = Options;
 
     ghost size_suffices = { unsigned_need-le (2 ^ 64 - 1) 64 20 128 20 (lit≤ tt) (lit≤ tt) (lit≤ tt) (lit≤ tt) };
+
+    ghost decimal_size = { refl };
 }
 
 impl ToLexical for i8 {
@@ -69,6 +79,8 @@ impl ToLexicalWithOptions for i8 {
     type Options = Options;
 
     ghost size_suffices = { signed_need-le (2 ^ 7 - 1) 8 3 16 4 (lit≤ tt) (lit≤ tt) (lit≤ tt) (lit≤ tt) };
+
+    ghost decimal_size = { refl };
 }
 
 impl ToLexical for i16 {
@@ -86,6 +98,8 @@ impl ToLexicalWithOptions for i16 {
     type Options = Options;
 
     ghost size_suffices = { signed_need-le (2 ^ 15 - 1) 16 5 32 6 (lit≤ tt) (lit≤ tt) (lit≤ tt) (lit≤ tt) };
+
+    ghost decimal_size = { refl };
 }
 
 impl ToLexical for i32 {
@@ -103,6 +117,8 @@ impl ToLexicalWithOptions for i32 {
     type Options = Options;
 
     ghost size_suffices = { signed_need-le (2 ^ 31 - 1) 32 10 64 11 (lit≤ tt) (lit≤ tt) (lit≤ tt) (lit≤ tt) };
+
+    ghost decimal_size = { refl };
 }
 
 impl ToLexical for i64 {
@@ -120,6 +136,8 @@ impl ToLexicalWithOptions for i64 {
     type Options = Options;
 
     ghost size_suffices = { signed_need-le (2 ^ 63 - 1) 64 19 128 20 (lit≤ tt) (lit≤ tt) (lit≤ tt) (lit≤ tt) };
+
+    ghost decimal_size = { refl };
 }
 
 impl ToLexical for isize {
@@ -137,4 +155,6 @@ impl ToLexicalWithOptions for isize {
     type Options = Options;
 
     ghost size_suffices = { signed_need-le (2 ^ 63 - 1) 64 19 128 20 (lit≤ tt) (lit≤ tt) (lit≤ tt) (lit≤ tt) };
+
+    ghost decimal_size = { refl };
 }

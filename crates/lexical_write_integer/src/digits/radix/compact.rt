@@ -57,33 +57,34 @@ fn write_to_end<const RADIX: u32>(value: u64, buffer: &mut [u8], turns: &mut Tur
     index
 }
 
-// Writes the digits of a number to the start of the buffer, and returns how many there are.
-fn write_in_radix<const RADIX: u32>(value: u64, buffer: &mut [u8], turns: &mut Turns) -> usize
+// Writes the digits of a number to the start of the buffer. Returns how many there are, and what is recorded.
+fn write_in_radix<const RADIX: u32>(value: u64, buffer: &mut [u8]) -> (usize, Turns)
     requires radix { IsRadix RADIX }
     requires room { digit_count RADIX value ≤ length buffer.old }
-    ensures digits { WritesDigits RADIX value buffer.old buffer.new result }
-    ensures notes { turns.new ≡ turns.old ++ compact_notes RADIX value }
+    ensures digits { WritesDigits RADIX value buffer.old buffer.new result.0 }
+    ensures notes { result.1 ≡ compact_notes RADIX value }
 {
+    let mut turns = Turns::new();
     // In these radices the digits are counted without a loop or a table, so they go to the buffer itself.
     if RADIX == 2 || RADIX == 4 || RADIX == 8 || RADIX == 16 || RADIX == 32 {
-        let count = digit_count_counted(value, RADIX, turns);
-        write_to_end::<RADIX>(value, &mut buffer[..count], turns);
-        return count;
+        let count = digit_count_counted(value, RADIX, &mut turns);
+        write_to_end::<RADIX>(value, &mut buffer[..count], &mut turns);
+        return (count, turns);
     }
     // The last digit is computed first, so the digits go to a temporary array.
     let mut digits = [0u8; MAX_DIGITS];
-    let index = write_to_end::<RADIX>(value, &mut digits, turns);
-    copy_to_front(&digits[index..], buffer)
+    let index = write_to_end::<RADIX>(value, &mut digits, &mut turns);
+    (copy_to_front(&digits[index..], buffer), turns)
 }
 
 // Calls `write_in_radix` for a radix that is known only at run time.
-fn write_in(value: u64, radix: u32, buffer: &mut [u8], turns: &mut Turns) -> usize
+fn write_in(value: u64, radix: u32, buffer: &mut [u8]) -> (usize, Turns)
     requires radix { IsRadix radix }
     requires room { digit_count radix value ≤ length buffer.old }
-    ensures digits { WritesDigits radix value buffer.old buffer.new result }
-    ensures notes { turns.new ≡ turns.old ++ compact_notes radix value }
+    ensures digits { WritesDigits radix value buffer.old buffer.new result.0 }
+    ensures notes { result.1 ≡ compact_notes radix value }
 {
-    by_radix!(radix, write_in_radix(value, buffer, turns))
+    by_radix!(radix, write_in_radix(value, buffer))
 }
 
 /// Writes the digits of the number to the start of the buffer, and returns how many there are. The radix is
@@ -103,7 +104,9 @@ pub fn compact_counted<T: UnsignedInteger>(
     ensures short { result ≤ T.BITS }
 {
     value.fits_bits();
-    write_in(value.as_usize() as u64, radix, buffer, turns)
+    let (count, noted) = write_in(value.as_usize() as u64, radix, buffer);
+    turns.append(&noted);
+    count
 }
 
 /// An unsigned integer type whose digits are written by the compact writer.

@@ -11,14 +11,15 @@ ghost use Rattle.lexical_write_integer.specs.Digits.Table.{BeginsWithPairs};
 ghost use Rattle.lexical_write_integer.specs.Digits.LoopTurns.{TakesDigits, count_notes, loop_notes, table_notes};
 ghost use Rattle.lexical_write_integer.specs.Digits.LoopTurns.{digits_after_first, is_counted_at_once};
 
+use super::binary_words::{write_binary, write_binary_byte};
 use super::by_radix::by_radix;
 use crate::digits::count::digit_count_counted;
 use crate::turns::Turns;
 
 // A table that begins with the digit pairs of the radix `R`.
 #[derive(Clone, Copy, Drop)]
-struct RadixTable<'a, const R: u32> {
-    pairs: &'a [u8],
+pub(super) struct RadixTable<'a, const R: u32> {
+    pub(super) pairs: &'a [u8],
     ghost is_radix: { IsRadix R },
     ghost begins: { BeginsWithPairs R pairs.now },
 }
@@ -81,7 +82,7 @@ fn take_last_digit(number: u32, radix: u32, turns: &mut Turns) -> usize
 
 // Writes the one to four digits of a number to the start of the buffer: four characters, each at its index or,
 // if it is a leading zero, at an index that a later one takes. This avoids branches.
-fn write_up_to_four<const R: u32>(
+pub(super) fn write_up_to_four<const R: u32>(
     number: u32,
     digits: usize,
     table: RadixTable<'_, R>,
@@ -135,6 +136,7 @@ fn write_up_to_eight<const BITS: u32, const R: u32>(
     written: &mut Turns,
 ) -> usize
     requires short { value < R ^ 8 }
+    requires bits { BITS ≡ 32 → value < 2 ^ 32 }
     requires room { digit_count R value ≤ length buffer.old }
     ensures digits { WritesDigits R value buffer.old buffer.new result }
     ensures counted { counted.new ≡ counted.old ++ count_notes R value }
@@ -143,7 +145,7 @@ fn write_up_to_eight<const BITS: u32, const R: u32>(
     let square = R * R;
     let power = square * square;
     if value >= u64::from(power) {
-        let left = if R < 16 {
+        let left = if R < 16 || BITS == 32 {
             value as u32 / power
         } else {
             (value / u64::from(power)) as u32
@@ -159,7 +161,7 @@ fn write_up_to_eight<const BITS: u32, const R: u32>(
     }
     let number = value as u32;
     if BITS == 8 && number < square {
-        return write_short(number, R, table.pairs, buffer, counted);
+        return write_one_or_two(number, R, table.pairs, buffer, counted);
     }
     let count = count_up_to_four::<R>(number, counted);
     write_up_to_four(number, count, table, buffer, written);
@@ -198,7 +200,11 @@ fn write_after_count<const R: u32>(
 
 // Removes the last four digits of a number twice. Records both quotients: for writing the digits and, if the
 // digits are counted by division, for their count.
-fn remove_eight<const R: u32>(value: u64, counted: &mut Turns, written: &mut Turns) -> (u64, u64)
+pub(super) fn remove_eight<const R: u32>(
+    value: u64,
+    counted: &mut Turns,
+    written: &mut Turns,
+) -> (u64, u64)
     requires radix { IsRadix R }
     requires long { R ^ 8 ≤ value }
     ensures first { result.0 ≡ value / R ^ 4 }
@@ -271,12 +277,25 @@ pub(crate) fn write_digits<const BITS: u32, const R: u32>(
     ensures digits { WritesDigits R value buffer.old buffer.new result }
     ensures notes { turns.new ≡ turns.old ++ table_notes R value }
 {
+    if R == 2 {
+        return if BITS == 8 || value < 256 {
+            write_binary_byte(value as u32, table, buffer, turns)
+        } else {
+            write_binary(value, buffer, turns)
+        };
+    }
     let table = RadixTable::<R> { pairs: table };
     let square = u64::from(R * R);
     let power = square * square;
     let mut written = Turns::new();
-    // A number of 8 bits has at most eight digits, and so has a number of 32 bits in radix 16.
-    let count = if BITS == 8 || R == 16 && BITS == 32 || value < power * power {
+    // In radix 16 and above a number of 32 bits has at most eight digits.
+    if R >= 16 && BITS != 8 && value < 1 << 32 {
+        let count = write_up_to_eight::<32, R>(value, table, buffer, turns, &mut written);
+        turns.append(&written);
+        return count;
+    }
+    // A number of 8 bits has at most eight digits.
+    let count = if BITS == 8 || value < power * power {
         write_up_to_eight::<BITS, R>(value, table, buffer, turns, &mut written)
     } else {
         write_number(value, table, buffer, turns, &mut written)
@@ -303,7 +322,7 @@ pub(crate) fn write_digits_in(
 }
 
 // Returns how many digits a number of one or two digits has.
-fn count_short(value: u32, radix: u32, turns: &mut Turns) -> usize
+fn count_one_or_two(value: u32, radix: u32, turns: &mut Turns) -> usize
     requires radix { IsRadix radix }
     requires short { value < radix ^ 2 }
     ensures count { result ≡ digit_count radix value }
@@ -316,7 +335,7 @@ fn count_short(value: u32, radix: u32, turns: &mut Turns) -> usize
 }
 
 // Writes a number of one or two digits without a branch: a single digit is written twice, to the same byte.
-pub(crate) fn write_short(
+pub(crate) fn write_one_or_two(
     value: u32,
     radix: u32,
     table: &[u8],
@@ -330,7 +349,7 @@ pub(crate) fn write_short(
     ensures digits { WritesDigits radix value buffer.old buffer.new result }
     ensures notes { turns.new ≡ turns.old ++ count_notes radix value }
 {
-    let count = count_short(value, radix, turns);
+    let count = count_one_or_two(value, radix, turns);
     let index = 2 * value as usize;
     let first = table[index];
     let second = table[index + 1];

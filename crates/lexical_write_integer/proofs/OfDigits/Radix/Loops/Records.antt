@@ -12,7 +12,8 @@ use Rattle.lexical_write_integer.specs.Digits.LoopTurns.{table_notes, compact_no
 use Rattle.lexical_write_integer.specs.Digits.LoopTurns.{count_turns, table_turns, compact_turns}
 use Rattle.lexical_write_integer.proofs.OfDigits.Count.DigitCounts.{digit_count-pos, digit_count-le, digit_count-split, width-le_64}
 use Rattle.lexical_write_integer.proofs.OfDigits.Powers.{div-pow_more}
-use Rattle.lexical_write_integer.proofs.OfDigits.Radix.Loops.Divisions.{TakesDigits-none, quotients-none, quotients-more, quotients-first, length-quotients, TakesDigits-counts}
+use Rattle.lexical_write_integer.proofs.OfDigits.Radix.Loops.Divisions.{TakesDigits-none, TakesDigits-counts}
+use Rattle.lexical_write_integer.proofs.OfDigits.Radix.Loops.Divisions.{quotients-none, quotients-more, quotients-first, length-quotients}
 
 length-cond : (test : Bool) (xs ys : List ℕ) → length (cond test xs ys) ≡ cond test (length xs) (length ys)
 length-cond true xs ys = refl

@@ -45,13 +45,13 @@ WritesBlock-over {count = count} following b =
       kept = b.kept;
     }
 
-pub few-fits : (r n : ℕ) → 2 ≤ r → digit_count r n ≤ 4 → n < r ^ 4
-few-fits r n two few =
-    omega (arith, digit_count-fits r n two, pow-le-pow_right {n = r} (omega arith) {i = digit_count r n} {j = 4} few)
+pub fits-within : (r n k : ℕ) → 2 ≤ r → digit_count r n ≤ k → n < r ^ k
+fits-within r n k two few =
+    omega (arith, digit_count-fits r n two, pow-le-pow_right {n = r} (omega arith) {i = digit_count r n} {j = k} few)
 
-pub more-long : (r n : ℕ) → 4 < digit_count r n → r ^ 4 ≤ n
-more-long r n more = elim (cases_lt n (r ^ 4)) [
-  | inl less ↦ absurd (omega (arith, digit_count-le r n 4 (omega arith) less))
+pub longer-than : (r n k : ℕ) → 1 ≤ k → k < digit_count r n → r ^ k ≤ n
+longer-than r n k some more = elim (cases_lt n (r ^ k)) [
+  | inl less ↦ absurd (omega (arith, digit_count-le r n k some less))
   | inr long ↦ long
 ]
 

@@ -12,7 +12,8 @@ returns-in-2-clause-count g c =
 
 pub returns-in-4-clause-count : goal.returns-in-4-clause-count
 returns-in-4-clause-count g c =
-    rw c.in-4.is (omega (arith, digit_count-log2 (g.T.UnsignedInteger.magnitude c.args.x) c.fast_log2-in-4.result 2 (omega arith) c.fast_log2-in-4.ensures.log2))
+    let log2 = c.fast_log2-in-4.ensures.log2 in
+    rw c.in-4.is (omega (arith, digit_count-log2 (g.T.UnsignedInteger.magnitude c.args.x) c.fast_log2-in-4.result 2 (omega arith) log2))
 
 pub returns-in-8-clause-count : goal.returns-in-8-clause-count
 returns-in-8-clause-count g c =
@@ -20,7 +21,8 @@ returns-in-8-clause-count g c =
 
 pub returns-in-16-clause-count : goal.returns-in-16-clause-count
 returns-in-16-clause-count g c =
-    rw c.in-16.is (omega (arith, digit_count-log2 (g.T.UnsignedInteger.magnitude c.args.x) c.fast_log2-in-16.result 4 (omega arith) c.fast_log2-in-16.ensures.log2))
+    let log2 = c.fast_log2-in-16.ensures.log2 in
+    rw c.in-16.is (omega (arith, digit_count-log2 (g.T.UnsignedInteger.magnitude c.args.x) c.fast_log2-in-16.result 4 (omega arith) log2))
 
 pub returns-in-32-clause-count : goal.returns-in-32-clause-count
 returns-in-32-clause-count g c =

@@ -9,9 +9,9 @@ returns-then-number-lt1024-clause-notes g c =
     let r = g.row.R in
     let n = g.T.UnsignedInteger.magnitude c.args.value in
     let is = c.as_usize-number.ensures in
-    let turns = c.write_short.new.turns in
+    let turns = c.write_one_or_two.new.turns in
     let short : n < r ^ 2 = omega (arith, is, c.if-number-lt1024.true, pow-le-pow_left {n = 33} {m = r} (omega (arith, c.if-this-gt32.true)) 2) in
-    table_notes-are r n c.args.turns.now turns turns (rw is at c.write_short.ensures.notes) (loop_notes-none r n turns c.requires.radix.at_least_two short)
+    table_notes-are r n c.args.turns.now turns turns (rw is at c.write_one_or_two.ensures.notes) (loop_notes-none r n turns c.requires.radix.at_least_two short)
 
 -- the check finds this proof by itself, but with an answer the refusal of a mistake says what is wrong
 pub returns-in_default-clause-notes : goal.returns-in_default-clause-notes

@@ -5,17 +5,17 @@ use Rattle.lexical_write_integer.proofs.digits.radix.compact.compact_counted.Goa
 
 -- the check finds this proof by itself, but with an answer the refusal of a mistake says what is wrong
 pub returns-clause-digits : goal.returns-clause-digits
-returns-clause-digits g c = rw c.as_usize.ensures at c.write_in.ensures.digits
+returns-clause-digits g c = rw c.as_usize.ensures at c.write_in-count.ensures.digits
 
 pub returns-clause-turns : goal.returns-clause-turns
 returns-clause-turns g c =
     let magnitude = g.T.UnsignedInteger.magnitude c.args.value in
-    let written = rw c.as_usize.ensures at c.write_in.ensures in
-    rw written.digits.count (length-more _ _ _ _ written.notes (length-compact_notes c.args.radix magnitude))
+    let written = rw c.as_usize.ensures at c.write_in-count.ensures in
+    rw written.digits.count (length-more _ _ _ _ (rw written.notes at c.append.ensures) (length-compact_notes c.args.radix magnitude))
 
 pub returns-clause-short : goal.returns-clause-short
 returns-clause-short g c =
-    let written = rw c.as_usize.ensures at c.write_in.ensures in
+    let written = rw c.as_usize.ensures at c.write_in-count.ensures in
     omega (
       arith,
       written.digits.count,

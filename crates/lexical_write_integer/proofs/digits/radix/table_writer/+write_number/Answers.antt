@@ -10,7 +10,7 @@ use Rattle.lexical_write_integer.proofs.digits.radix.table_writer.+write_number.
 pub write_up_to_eight-requires : goal.write_up_to_eight-requires
 write_up_to_eight-requires g t c =
     let short : c.args.value < g.row.R ^ 8 = rw (pow-eight, ← c.from-square.ensures) (omega (arith, c.if-value-power.true)) in
-    (lit< tt, (short, c.requires.room))
+    (lit< tt, (short, (λ wide. absurd (omega (arith, wide)), c.requires.room)))
 
 pub remove_eight-first-requires-clause-long : goal.remove_eight-first-requires-clause-long
 remove_eight-first-requires-clause-long g t c =

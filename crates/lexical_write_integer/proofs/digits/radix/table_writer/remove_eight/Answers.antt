@@ -59,7 +59,8 @@ returns-clause-counted g c =
           let by_turns = sym w.if-not-counts_at_once.ensures in
           let all = c.if-not-counts_at_once.counted ++ count_notes r second in
           count_notes-after r n old w.tick.new.self all two long.value by_turns (rw power at w.tick.ensures)
-          (count_notes-after r (n / r ^ 4) w.tick.new.self w.tick-then-not-counts_at_once.new.self all two long.first by_turns (rw power at w.tick-then-not-counts_at_once.ensures) (rw w.counted-is refl))
+          (count_notes-after r (n / r ^ 4) w.tick.new.self w.tick-then-not-counts_at_once.new.self all two long.first by_turns
+          (rw power at w.tick-then-not-counts_at_once.ensures) (rw w.counted-is refl))
       | else-not-counts_at_once w ↦
           count_notes-same r second n old (c.if-not-counts_at_once.counted ++ count_notes r second) (sym w.if-not-counts_at_once.ensures) (rw w.counted-is refl)
     ])

@@ -4,7 +4,7 @@ use Rattle.lexical_write_integer.specs.Digits.LoopTurns.{takes_four}
 use Rattle.lexical_write_integer.proofs.Buffers.Blocks.{IsWrittenBack-start, IsWrittenBack-at, IsWrittenBack-more, IsWrittenBack-last}
 use Rattle.lexical_write_integer.proofs.Buffers.BlocksAfter.{WritesDigits-block}
 use Rattle.lexical_write_integer.proofs.OfDigits.Count.DigitCounts.{digit_count-left}
-use Rattle.lexical_write_integer.proofs.OfDigits.Radix.Loops.ShortNumbers.{few-fits, more-long}
+use Rattle.lexical_write_integer.proofs.OfDigits.Radix.Loops.ShortNumbers.{fits-within, longer-than}
 use Rattle.lexical_write_integer.proofs.OfDigits.Radix.Loops.Divisions.{IsDivided-start, IsDivided-more, TakesDigits-end}
 use Rattle.lexical_write_integer.proofs.OfDigits.Radix.Loops.Records.{loop_notes-end}
 use Rattle.lexical_write_integer.proofs.OfDigits.Count.RadixPowers.{power-small}
@@ -40,7 +40,8 @@ loop-at-preserved g c =
     let divided = c.loop-at.invariant.divided in
     let counts = digit_count-left g.row.R c.args.value taken c.loop-at.left two divided.fewer divided.rest in
     let long =
-    more-long g.row.R c.loop-at.left (omega (arith, counts, c.digit_count_counted-count.ensures.count, c.loop-at-test.true, c.loop-at.invariant.within)) in
+    longer-than g.row.R c.loop-at.left 4 (omega arith)
+    (omega (arith, counts, c.digit_count_counted-count.ensures.count, c.loop-at-test.true, c.loop-at.invariant.within)) in
     let next = ap (λ k. c.loop-at.left / k) (c.from-power.ensures ∙ sym (pow-four g.row.R)) in
     let turn : taken + 4 ≡ count - (c.loop-at.at - 4) = omega (arith, c.loop-at-test.true, c.loop-at.invariant.within) in
     let order : 4 + taken ≡ count - (c.loop-at.at - 4) = omega (arith, c.loop-at-test.true, c.loop-at.invariant.within) in
@@ -62,7 +63,7 @@ count_left g c =
     omega (arith, c.digit_count_counted-count.ensures.count, c.loop-at.invariant.within, counts)
 
 short : (g : _) (c : After-loop-at g) → c.loop-at.left < g.row.R ^ 4
-short g c = few-fits g.row.R c.loop-at.left c.args.table.is_radix.at_least_two (omega (arith, count_left g c))
+short g c = fits-within g.row.R c.loop-at.left 4 c.args.table.is_radix.at_least_two (omega (arith, count_left g c))
 
 pub overflow_cast-left : goal.overflow_cast-left
 overflow_cast-left g c =

@@ -1,4 +1,4 @@
-use Rattle.std.proofs.Common.{◌≡◌, ℕ, ◌+◌, ◌++◌, ◌/◌, ◌^◌, ◌<◌, ◌≤◌, ap, sym, ◌∙◌, lit<, arith}
+use Rattle.std.proofs.Common.{◌≡◌, ℕ, ◌+◌, ◌++◌, ◌/◌, ◌^◌, ◌<◌, ◌≤◌, inl, inr, ap, sym, ◌∙◌, lit<, arith}
 use Rattle.std.proofs.Math.Nat.{pow-le-pow_left}
 use Rattle.std.proofs.lemmas.Nat.{div_below, pow-add}
 use Rattle.lexical_write_integer.specs.Digits.DigitCount.{digit_count}
@@ -10,7 +10,8 @@ use Rattle.lexical_write_integer.proofs.OfDigits.Powers.{pow-two, pow-four}
 use Rattle.lexical_write_integer.proofs.OfDigits.Radix.Loops.Records.{count_notes-after, count_notes-same, loop_notes-after, loop_notes-none}
 use Rattle.lexical_write_integer.proofs.digits.radix.table_writer.write_up_to_eight.Goals as goal
 use Rattle.lexical_write_integer.proofs.digits.radix.table_writer.write_up_to_eight.Goals.{After-from, After-counts_at_once}
-use Rattle.lexical_write_integer.proofs.digits.radix.table_writer.write_up_to_eight.Goals.{then-this-lt16, else-this-lt16, then-not-counts_at_once, else-not-counts_at_once}
+use Rattle.lexical_write_integer.proofs.digits.radix.table_writer.write_up_to_eight.Goals.{then-this-eq32, else-this-eq32}
+use Rattle.lexical_write_integer.proofs.digits.radix.table_writer.write_up_to_eight.Goals.{then-not-counts_at_once, else-not-counts_at_once}
 
 -- the number without its last four digits has at most four
 left_below : (r n : ℕ) → 2 ≤ r → n < r ^ 8 → n / r ^ 4 < r ^ 4
@@ -22,11 +23,14 @@ power_is : (g : _) (c : After-from g) → c.from.result ≡ g.row.R ^ 4
 power_is g c = c.from.ensures ∙ sym (pow-four g.row.R)
 
 pub overflow_cast-left : goal.overflow_cast-left
-overflow_cast-left g c = omega (arith, c.requires.short, pow-le-pow_left {n = g.row.R} {m = 15} (omega (arith, c.if-this-lt16.true)) 8)
+overflow_cast-left g c = elim c.if-this-eq32.either [
+  | inl small ↦ omega (arith, c.requires.short, pow-le-pow_left {n = g.row.R} {m = 15} (omega (arith, small)) 8)
+  | inr wide ↦ omega (arith, c.requires.bits wide.1)
+]
 
-pub overflow_cast-left-else-this-lt16 : goal.overflow_cast-left-else-this-lt16
-overflow_cast-left-else-this-lt16 g c =
-    let power = c.from-else-this-lt16.ensures ∙ sym (pow-four g.row.R) in
+pub overflow_cast-left-else-this-eq32 : goal.overflow_cast-left-else-this-eq32
+overflow_cast-left-else-this-eq32 g c =
+    let power = c.from-else-this-eq32.ensures ∙ sym (pow-four g.row.R) in
     let below = left_below g.row.R c.args.value c.args.table.is_radix.at_least_two c.requires.short in
     rw power (omega (arith, below, power-small g.row.R 4 c.args.table.is_radix.at_most_36 takes_four))
 
@@ -35,20 +39,20 @@ overflow_cast-left-else-this-lt16 g c =
 long : (g : _) (c : After-counts_at_once g) → g.row.R ^ 4 ≤ c.args.value
 long g c = omega (arith, c.from.ensures, pow-four g.row.R, c.if-value-from.true)
 
-left_is : (g : _) (c : After-counts_at_once g) → c.if-this-lt16.left ≡ c.args.value / g.row.R ^ 4
-left_is g c = elim c.if-this-lt16.branch [
-  | then-this-lt16 w ↦ w.left-is ∙ ap (λ k. c.args.value / k) (sym (pow-four g.row.R))
-  | else-this-lt16 w ↦ w.left-is ∙ ap (λ k. c.args.value / k) (w.from-else-this-lt16.ensures ∙ sym (pow-four g.row.R))
+left_is : (g : _) (c : After-counts_at_once g) → c.if-this-eq32.left ≡ c.args.value / g.row.R ^ 4
+left_is g c = elim c.if-this-eq32.branch [
+  | then-this-eq32 w ↦ w.left-is ∙ ap (λ k. c.args.value / k) (sym (pow-four g.row.R))
+  | else-this-eq32 w ↦ w.left-is ∙ ap (λ k. c.args.value / k) (w.from-else-this-eq32.ensures ∙ sym (pow-four g.row.R))
 ]
 
-left_short : (g : _) (c : After-counts_at_once g) → c.if-this-lt16.left < g.row.R ^ 4
+left_short : (g : _) (c : After-counts_at_once g) → c.if-this-eq32.left < g.row.R ^ 4
 left_short g c = rw (left_is g c) (left_below g.row.R c.args.value c.args.table.is_radix.at_least_two c.requires.short)
 
 pub count_up_to_four-head-requires-clause-short : goal.count_up_to_four-head-requires-clause-short
 count_up_to_four-head-requires-clause-short g c = left_short g (goal.at.count_up_to_four-head-requires-clause-short g c).After-counts_at_once
 
 -- the digits before the last four
-split : (g : _) (c : After-counts_at_once g) → digit_count g.row.R c.if-this-lt16.left + 4 ≡ digit_count g.row.R c.args.value
+split : (g : _) (c : After-counts_at_once g) → digit_count g.row.R c.if-this-eq32.left + 4 ≡ digit_count g.row.R c.args.value
 split g c = rw (left_is g c) (sym (digit_count-split g.row.R 4 c.args.value c.args.table.is_radix.at_least_two (long g c)))
 
 pub write_up_to_four-requires : goal.write_up_to_four-requires

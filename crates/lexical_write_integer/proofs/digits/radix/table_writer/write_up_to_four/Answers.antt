@@ -75,7 +75,8 @@ returns-clause-written g c =
     let d = first_digit g.row.R lo pairs begins (last g c') in
     let e = second_digit g.row.R lo pairs begins (last g c') in
     rw (a, b, d, e, place)
-    (WritesBlock-four g.row.R c.args.number c.args.digits c.args.buffer.now c.args.table.is_radix.at_least_two c.requires.short c.requires.digits c.requires.room)
+    (WritesBlock-four g.row.R c.args.number c.args.digits c.args.buffer.now c.args.table.is_radix.at_least_two
+    c.requires.short c.requires.digits c.requires.room)
 
 -- the quotient is recorded if it is not 0
 pub returns-clause-notes : goal.returns-clause-notes

@@ -27,7 +27,8 @@ to_lexical_spec 𝓤 𝓛 𝓜 𝓡 wired X L C g d gn dn gc dc gs ds m mn mc ms
     let c = F.clauses X g d gn dn gc dc gs ds 𝓛 𝓜.mem 𝓡.returns in
     -- the contract of `write_lexical`, and the proofs of it and of `front_mut`
     let Writes = triple_of 𝓛 (W.signature X) (W.spec X g d gn dn gc dc gs ds 𝓛 𝓜.mem 𝓡.returns) in
-    let writes = write_met 𝓤 𝓛 𝓜 𝓡 (code.calls-lexical_write_integer::texts::api::ToLexical::write_lexical 𝓡.env wired) X L C g d gn dn gc dc gs ds m mn mc ms in
+    let writes = write_met 𝓤 𝓛 𝓜 𝓡 (code.calls-lexical_write_integer::texts::api::ToLexical::write_lexical 𝓡.env wired)
+    X L C g d gn dn gc dc gs ds m mn mc ms in
     let fronts = front_met 𝓤 𝓛 𝓜 𝓡 (code.calls-lexical_write_integer::buffer::front_mut 𝓡.env wired) in
     let stayed : Stays T.signature.params T.kept = (stay_dropped _ no, (stay_dropped _ no, tt)) in
     let fm = framed 𝓤 𝓛.H 𝓜 (tables 𝓤 𝓛.H 𝓜 𝓡 𝓡.env) in

@@ -6,7 +6,8 @@ use Rattle.lexical_write_integer.specs.Texts.Text.{digits_need, need}
 use Rattle.lexical_write_integer.proofs.OfTexts.Required.{size_in-within}
 use Rattle.lexical_write_integer.proofs.OfTexts.Signs.{sign_of-below, sign_of-other, length-plus}
 use Rattle.lexical_write_integer.proofs.texts.api.ToLexicalWithOptions.required_len.Goals as goal
-use Rattle.lexical_write_integer.proofs.texts.api.ToLexicalWithOptions.required_len.Goals.{After-grouped_len, then-is_negative, else-is_negative, then-radix-eq10, else-radix-eq10}
+use Rattle.lexical_write_integer.proofs.texts.api.ToLexicalWithOptions.required_len.Goals.{After-grouped_len, then-is_negative, else-is_negative}
+use Rattle.lexical_write_integer.proofs.texts.api.ToLexicalWithOptions.required_len.Goals.{then-radix-eq10, else-radix-eq10}
 
 -- the sum is the required length, in each case of the radix and the sign
 need_is : (g : _) (c : After-grouped_len g)

@@ -4,8 +4,8 @@ use Rattle.lexical_write_integer.specs.Digits.LoopTurns.{takes_two, takes_four}
 use Rattle.lexical_write_integer.proofs.OfDigits.Count.DigitCounts.{digit_count-one, digit_count-two, digit_count-le_bits}
 use Rattle.lexical_write_integer.proofs.OfDigits.Radix.Loops.Divisions.{TakesDigits-none}
 use Rattle.lexical_write_integer.proofs.OfDigits.Radix.Loops.Records.{none_noted, slow_count-is, slow_noted, slow_notes-are}
-use Rattle.lexical_write_integer.proofs.digits.radix.table_writer.count_short.Goals as goal
-use Rattle.lexical_write_integer.proofs.digits.radix.table_writer.count_short.Goals.{After-take_last_digit}
+use Rattle.lexical_write_integer.proofs.digits.radix.table_writer.count_one_or_two.Goals as goal
+use Rattle.lexical_write_integer.proofs.digits.radix.table_writer.count_one_or_two.Goals.{After-take_last_digit}
 
 short : (c : After-take_last_digit) → c.args.value < c.args.radix ^ 4
 short c =

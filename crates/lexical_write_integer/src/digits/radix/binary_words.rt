@@ -1,0 +1,112 @@
+// Writing binary digits, eight at a time, as the bytes of a word.
+
+ghost use Rattle.std.specs.Prelude.{◌≡◌, ◌+◌, ◌/◌, ◌<◌, ◌≤◌, ◌++◌, length};
+ghost use Rattle.lexical_write_integer.specs.Buffer.{WritesBlock, WritesDigits};
+ghost use Rattle.lexical_write_integer.specs.Digits.DigitCount.{digit_count};
+ghost use Rattle.lexical_write_integer.specs.Digits.Table.{BeginsWithPairs};
+ghost use Rattle.lexical_write_integer.specs.Digits.LoopTurns.{loop_notes, table_notes};
+
+use super::table_writer::{RadixTable, remove_eight, write_up_to_four};
+use crate::digits::count::digit_count_counted;
+use crate::turns::Turns;
+
+// Writes the eight binary digits of a number below 256 at index `at`. The product has the number eight times, nine
+// bits apart, so that bit 7 of each of its bytes is another bit of the number.
+fn write_eight_bits(bits: u64, buffer: &mut [u8], at: usize)
+    requires short { bits < 256 }
+    requires room { at + 8 ≤ length buffer.old }
+    ensures { WritesBlock 2 8 bits at buffer.old buffer.new }
+{
+    let copies = bits.wrapping_mul(0x8040_2010_0804_0201);
+    let characters = (copies >> 7 & 0x0101_0101_0101_0101 | 0x3030_3030_3030_3030).to_le_bytes();
+    buffer[at..at + 8].copy_from_slice(&characters);
+}
+
+// Writes the four binary digits of a number below 16 at index `at`, likewise.
+fn write_four_bits(bits: u32, buffer: &mut [u8], at: usize)
+    requires short { bits < 16 }
+    requires room { at + 4 ≤ length buffer.old }
+    ensures { WritesBlock 2 4 bits at buffer.old buffer.new }
+{
+    let copies = bits.wrapping_mul(0x0804_0201);
+    let characters = (copies >> 3 & 0x0101_0101 | 0x3030_3030).to_le_bytes();
+    buffer[at..at + 4].copy_from_slice(&characters);
+}
+
+// Returns the digits before the last two of a number of up to four digits, and records them if there are any.
+fn first_pair(number: u32, turns: &mut Turns) -> u32
+    requires { number < 16 }
+    ensures pair { result ≡ number / 4 }
+    ensures notes { turns.new ≡ turns.old ++ loop_notes 2 number }
+{
+    let pair = number / 4;
+    if pair > 0 {
+        turns.tick(u64::from(pair));
+    }
+    pair
+}
+
+// Divides a number of up to eight digits by 16 if it has more than four, and then by 4 if more than two are left.
+// Records the quotients, and returns the number, put together from them: the digits come from what is recorded.
+fn record_up_to_eight(number: u32, turns: &mut Turns) -> u32
+    requires { number < 256 }
+    ensures number { result ≡ number }
+    ensures notes { turns.new ≡ turns.old ++ loop_notes 2 number }
+{
+    if number < 16 {
+        return 4 * first_pair(number, turns) + number % 4;
+    }
+    let left = number / 16;
+    turns.tick(u64::from(left));
+    64 * first_pair(left, turns) + 16 * (left % 4) + number % 16
+}
+
+// Writes a number of up to eight binary digits, with a table that begins with their pairs. If there are more than four,
+// the first are written with zeros after them, four characters in total, and then the last four.
+pub(super) fn write_binary_byte(
+    number: u32,
+    table: &[u8],
+    buffer: &mut [u8],
+    turns: &mut Turns,
+) -> usize
+    requires short { number < 256 }
+    requires table { BeginsWithPairs 2 table.now }
+    requires room { digit_count 2 number ≤ length buffer.old }
+    ensures digits { WritesDigits 2 number buffer.old buffer.new result }
+    ensures notes { turns.new ≡ turns.old ++ table_notes 2 number }
+{
+    let count = digit_count_counted(number, 2, turns);
+    if count <= 4 {
+        let table = RadixTable::<2> { pairs: table };
+        write_up_to_four(number, count, table, buffer, turns);
+        return count;
+    }
+    let bits = record_up_to_eight(number, turns);
+    write_four_bits(bits / 16 << (8 - count), buffer, 0);
+    write_four_bits(bits % 16, buffer, count - 4);
+    count
+}
+
+// Writes a number of more than eight binary digits, from the last: eight per iteration while more than 16 are left. Of
+// those, the first are written with zeros after them, eight characters in total, and then the last eight.
+pub(super) fn write_binary(value: u64, buffer: &mut [u8], turns: &mut Turns) -> usize
+    requires long { 256 ≤ value }
+    requires room { digit_count 2 value ≤ length buffer.old }
+    ensures digits { WritesDigits 2 value buffer.old buffer.new result }
+    ensures notes { turns.new ≡ turns.old ++ table_notes 2 value }
+{
+    let count = digit_count_counted(value, 2, turns);
+    let mut left = value;
+    let mut at = count;
+    while at > 16 {
+        let (_, next) = remove_eight::<2>(left, &mut Turns::new(), turns);
+        at -= 8;
+        write_eight_bits(left % 256, buffer, at);
+        left = next;
+    }
+    let (_, rest) = remove_eight::<2>(left, &mut Turns::new(), turns);
+    let first = record_up_to_eight(rest as u32, turns);
+    write_eight_bits(u64::from(first) << (16 - at), buffer, 0);
+    write_eight_bits(left % 256, buffer, at - 8);
+    count
+}
