@@ -3,8 +3,8 @@ use Rattle.std.proofs.Common.{◌≡◌, ℕ, ◌-◌, ◌^◌, ◌<◌, ◌≤�
 use Rattle.std.specs.Str.{bytes_eq}
 use mir.Val.{bool_byte}
 use Rattle.std.proofs.lemmas.Int.{ints}
-use Rattle.lexical_lines.specs.declared.integer_type.IntegerType.{IntegerType}
-use Rattle.lexical_lines.specs.declared.integer_type.IntegerType.TheVariants.{U8, U16, U32, U64, Usize, I8, I16, I32, I64, Isize}
+use Rattle.lexical_lines.specs.declared.request.integer_type.IntegerType.{IntegerType}
+use Rattle.lexical_lines.specs.declared.request.integer_type.IntegerType.TheVariants.{U8, U16, U32, U64, Usize, I8, I16, I32, I64, Isize}
 use Rattle.lexical_lines.specs.IntegerType.{name_of, smallest, largest, is_signed, Holds}
 
 -- ---- ranges, as bounds on magnitudes

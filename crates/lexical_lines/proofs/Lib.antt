@@ -5,7 +5,11 @@ pub mod AnswerTexts
 pub mod UniqueAnswers
 -- requests: names and ranges of types, decimal numbers, signs, and the parts of a line
 pub mod IntegerTypes
+pub mod Words
+pub mod Names
 pub mod Decimals
+pub mod Eights
+pub mod ShortRadixes
 pub mod Signs
 pub mod Requests
 -- runs: what was appended to a list, and what an answerer has done

@@ -1,20 +1,21 @@
 -- The parts of a line.
-use Rattle.std.proofs.Common.{◌≡◌, ◌≢◌, ℕ, List, [], ◌∷◌, ◌++◌, Bool, true, false, not, ◌&&◌, refl, sym, ◌∙◌, ℤ, arith, ◌==◌, eq-eqb, append_assoc}
-use Rattle.std.proofs.Common.{Some, length}
+use Rattle.std.proofs.Common.{◌≡◌, ◌≢◌, ℕ, List, [], ◌∷◌, ◌++◌, Bool, true, false, not, ◌&&◌, refl, sym, ap, ◌∙◌, ℤ, arith, ◌==◌, eq-eqb, append_assoc}
+use Rattle.std.proofs.Common.{Some, get_or, ◌<◌, ◌+◌, ◌-◌, ◌≤◌, length, drop, length-append}
+use Rattle.std.proofs.lemmas.List.{drop_all, drop-append-le}
 use Rattle.std.proofs.lemmas.Option.{cond_some}
 use Rattle.std.specs.Prelude.{nat_le}
 use Rattle.std.specs.Io.{StartsWith}
 use Rattle.std.specs.List.{All}
-use Rattle.std.proofs.lemmas.List.Elements.{All-nil, All-cons, All-append, All-weaker}
-use Rattle.lexical_lines.specs.declared.integer_type.IntegerType.{IntegerType}
-use Rattle.lexical_lines.specs.declared.integer_type.IntegerType.TheVariants.{U8, U16, U32, U64, Usize, I8, I16, I32, I64, Isize}
+use Rattle.std.proofs.lemmas.List.Elements.{All-head, All-nil, All-cons, All-append, All-weaker}
+use Rattle.lexical_lines.specs.declared.request.integer_type.IntegerType.{IntegerType}
+use Rattle.lexical_lines.specs.declared.request.integer_type.IntegerType.TheVariants.{U8, U16, U32, U64, Usize, I8, I16, I32, I64, Isize}
 use Rattle.lexical_lines.specs.IntegerType.{name_of}
 use Rattle.lexical_lines.specs.Line.{short_line}
 use Rattle.lexical_lines.specs.Request.{IsRequest, IsValue}
 use Rattle.lexical_lines.specs.Split.{Lacks, optional_sign}
 use Rattle.lexical_lines.proofs.Splits.{cut_unique}
-use Rattle.lexical_lines.proofs.Decimals.{IsDigitByte, IsDecimalNumeral-bytes, IsDecimalNumeral-from_digits}
-use Rattle.lexical_lines.proofs.Signs.{stripped_unique}
+use Rattle.lexical_lines.proofs.Decimals.{IsDigitByte, IsDecimalNumeral-bytes, IsDecimalNumeral-from_digits, IsDecimalNumeral-some}
+use Rattle.lexical_lines.proofs.Signs.{stripped_unique, stripped_before}
 
 -- a line that was kept is the whole line
 pub short_line-is : {line bytes : List ℕ} → Some line ≡ short_line bytes → bytes ≡ line
@@ -60,6 +61,24 @@ no_space-optional_sign true = lacks_space-is (43 ∷ []) refl
 pub no_space-signed : (is_there : Bool) (text : List ℕ) → All IsDigitByte text → NoSpace (optional_sign is_there 43 ++ text)
 no_space-signed is_there text h = All-append (λ byte. byte ≢ 32) (optional_sign is_there 43) text (no_space-optional_sign is_there) (no_space-digits text h)
 
+first_digit : (text rest : List ℕ) → All IsDigitByte text → 0 < length text → 48 ≤ get_or (text ++ 32 ∷ rest) 0 0
+first_digit [] rest h some = absurd (omega arith)
+first_digit (byte ∷ text) rest h some = let digit = All-head IsDigitByte byte text h in omega arith
+
+-- ---- the last part of a line
+
+pub last_part : (line front text sign digits : List ℕ) → line ≡ front ++ text → text ≡ sign ++ digits → drop (length line - length digits) line ≡ digits
+last_part line front text sign digits e f =
+    let before = front ++ sign in
+    let whole : line ≡ before ++ digits = e ∙ ap (λ bytes. front ++ bytes) f ∙ sym (append_assoc front sign digits) in
+    let count : length line - length digits ≡ length before = omega (arith, ap length whole, length-append before digits) in
+    (λ i. drop (count i) (whole i)) ∙ drop-append-le (length before) before digits (omega arith)
+    ∙ ap (λ bytes. bytes ++ digits) (drop_all (length before) before (omega arith))
+
+pub line_front : (line name rest sign radix digits value : List ℕ) → line ≡ name ++ 32 ∷ rest → rest ≡ sign ++ radix → radix ≡ digits ++ 32 ∷ value
+    → (front : List ℕ) × (line ≡ front ++ value)
+line_front line name rest sign radix digits value e f g = (name ++ 32 ∷ (sign ++ (digits ++ 32 ∷ [])), rw (e, f, g) (simp append_assoc))
+
 -- ---- the parts of a valid line are unique
 
 regroup : (n o r v : List ℕ) → n ++ 32 ∷ o ++ r ++ 32 ∷ v ≡ n ++ 32 ∷ ((o ++ r) ++ 32 ∷ v)
@@ -76,20 +95,50 @@ module _ {kind : IntegerType} {plus : Bool} {radix : ℕ} {number : ℤ} {line :
   pub whole_as : line ≡ name_of kind ++ 32 ∷ (signed_radix ++ 32 ∷ h.value_text)
   whole_as = h.whole ∙ regroup (name_of kind) (optional_sign plus 43) h.radix_text h.value_text
 
+  -- at least three bytes follow the name and the space
+  pub IsRequest-long : 3 ≤ length (signed_radix ++ 32 ∷ h.value_text)
+  IsRequest-long =
+      let numeral = IsDecimalNumeral-from_digits radix h.radix_text h.radix_digits in
+      let first = IsDecimalNumeral-some radix h.radix_text numeral in
+      let second = IsDecimalNumeral-some h.value.magnitude h.value.digits h.value.decimal in
+      let whole : length h.value_text ≡ length (optional_sign h.value.minus 45) + length h.value.digits =
+      ap length h.value.whole ∙ length-append (optional_sign h.value.minus 45) h.value.digits in
+      let parts = length-append signed_radix (32 ∷ h.value_text) in
+      let sign = length-append (optional_sign plus 43) h.radix_text in
+      omega arith
+
   pub IsRequest-name : (name rest : List ℕ) → line ≡ name ++ 32 ∷ rest → NoSpace name
       → (name ≡ name_of kind) × (rest ≡ signed_radix ++ 32 ∷ h.value_text)
   IsRequest-name name rest e lacks =
       cut_unique 32 name rest (name_of kind) (signed_radix ++ 32 ∷ h.value_text) lacks (no_space-name kind) (sym e ∙ whole_as)
 
+  -- what follows the optional sign of the radix
+  abbrev pub radix_value : List ℕ
+  radix_value = h.radix_text ++ 32 ∷ h.value_text
+
+  pub IsRequest-signed : (rest text : List ℕ) (found : Bool) → rest ≡ signed_radix ++ 32 ∷ h.value_text → rest ≡ optional_sign found 43 ++ text
+      → (StartsWith rest (43 ∷ []) → found ≡ true) → text ≡ radix_value
+  IsRequest-signed rest text found is e stripped =
+      (stripped_before 43 rest text radix_value found plus (omega arith) e stripped
+      (is ∙ append_assoc (optional_sign plus 43) h.radix_text (32 ∷ h.value_text)) (first_digit h.radix_text h.value_text radix_bytes
+      (IsDecimalNumeral-some radix h.radix_text (IsDecimalNumeral-from_digits radix h.radix_text h.radix_digits)))).1
+
+  pub IsRequest-value : (digits value : List ℕ) → radix_value ≡ digits ++ 32 ∷ value → All IsDigitByte digits
+      → (digits ≡ h.radix_text) × (value ≡ h.value_text)
+  IsRequest-value digits value e bytes =
+      cut_unique 32 digits value h.radix_text h.value_text (no_space-digits digits bytes) (no_space-digits h.radix_text radix_bytes) (sym e)
+
+  pub IsRequest-value_some : 1 ≤ length h.value_text
+  IsRequest-value_some =
+      let second = IsDecimalNumeral-some h.value.magnitude h.value.digits h.value.decimal in
+      let whole : length h.value_text ≡ length (optional_sign h.value.minus 45) + length h.value.digits =
+      ap length h.value.whole ∙ length-append (optional_sign h.value.minus 45) h.value.digits in
+      omega arith
+
   pub IsRequest-parts : (rest first value : List ℕ) → rest ≡ signed_radix ++ 32 ∷ h.value_text → rest ≡ first ++ 32 ∷ value → NoSpace first
       → (first ≡ signed_radix) × (value ≡ h.value_text)
   IsRequest-parts rest first value is e lacks =
       cut_unique 32 first value signed_radix h.value_text lacks (no_space-signed plus h.radix_text radix_bytes) (sym e ∙ is)
-
-  pub IsRequest-radix : (first text : List ℕ) (found : Bool) → first ≡ signed_radix → first ≡ optional_sign found 43 ++ text
-      → (StartsWith first (43 ∷ []) → found ≡ true) → text ≡ h.radix_text
-  IsRequest-radix first text found is e stripped =
-      (stripped_unique 43 first text h.radix_text found plus (omega arith) e stripped is radix_bytes).1
 
 -- the sign of a value and its digits
 pub IsValue-parts : {kind : IntegerType} {number : ℤ} {text : List ℕ} (h : IsValue kind number text) (digits : List ℕ) (minus : Bool)

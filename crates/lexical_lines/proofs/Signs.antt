@@ -1,5 +1,5 @@
 -- Optional signs before digits.
-use Rattle.std.proofs.Common.{◌≡◌, ℕ, ◌<◌, List, [], ◌∷◌, ◌++◌, Bool, true, false, take, refl, ap, arith}
+use Rattle.std.proofs.Common.{◌≡◌, ℕ, ◌<◌, List, [], ◌∷◌, ◌++◌, Bool, true, false, get_or, ◌≤◌, take, refl, ap, arith}
 use Rattle.std.specs.Io.{StartsWith}
 use Rattle.std.specs.List.{All}
 use Rattle.std.proofs.lemmas.List.Elements.{All-head}
@@ -15,6 +15,17 @@ stripped_unique sign text s t false true m e stripped f digits = absurd (let wro
 stripped_unique sign text s [] true false m e stripped f digits = absurd (cc)
 stripped_unique sign text s (byte ∷ t) true false m e stripped f digits =
     let digit = All-head IsDigitByte byte t digits in
+    let same : byte ≡ sign = cc in
+    absurd (omega arith)
+
+-- a text has one reading as an optional sign and a text that begins with a digit
+pub stripped_before : (sign : ℕ) (text s t : List ℕ) (p q : Bool) → sign < 48 → text ≡ optional_sign p sign ++ s
+    → (StartsWith text (sign ∷ []) → p ≡ true) → text ≡ optional_sign q sign ++ t → 48 ≤ get_or t 0 0 → (p ≡ q) × (s ≡ t)
+stripped_before sign text s t true true m e stripped f digit = (refl, cc)
+stripped_before sign text s t false false m e stripped f digit = (refl, cc)
+stripped_before sign text s t false true m e stripped f digit = absurd (let wrong : false ≡ true = stripped (ap (take 1) f) in cc)
+stripped_before sign text s [] true false m e stripped f digit = absurd (cc)
+stripped_before sign text s (byte ∷ t) true false m e stripped f digit =
     let same : byte ≡ sign = cc in
     absurd (omega arith)
 

@@ -5,7 +5,7 @@ use Rattle.std.proofs.lemmas.Slice.{take-put_mid, drop-put_mid}
 use borrow.Rule.Slice.PartMut.{put_mid}
 use Rattle.lexical_write_integer.specs.Buffer.{Writes}
 use Rattle.lexical_lines.specs.RunOutcome.{BreaksOff}
-use Rattle.lexical_lines.specs.declared.slice.SliceSink.{SliceSink}
+use Rattle.lexical_lines.specs.declared.devices.slice.SliceSink.{SliceSink}
 use Rattle.lexical_lines.specs.Slice.{KeepsSlice, SliceReading, KeepsBuffer, rest_in, taken_in}
 
 -- a source that has reported its end has yielded all its bytes

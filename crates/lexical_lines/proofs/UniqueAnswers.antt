@@ -5,7 +5,7 @@ use Rattle.std.specs.Prelude.{codes}
 use Rattle.lexical_write_integer.specs.Text.{IsText}
 use Rattle.lexical_num.specs.Sign.{sign_of}
 use Rattle.lexical_write_integer.proofs.OfDigits.Numerals.{digits_unique}
-use Rattle.lexical_lines.specs.declared.integer_type.IntegerType.{IntegerType}
+use Rattle.lexical_lines.specs.declared.request.integer_type.IntegerType.{IntegerType}
 use Rattle.lexical_lines.specs.Answer.{IsAnswer, WithNewline, IsBadLine, AreAnswersFrom, AnswersAll, AnswersEnded, format_of}
 use Rattle.lexical_lines.specs.IntegerType.{with_sign}
 use Rattle.lexical_lines.specs.Lines.{AreLines, EndsLine}
@@ -24,7 +24,8 @@ IsValue-number : {kind other : IntegerType} {number second : ℤ} {text : List �
 IsValue-number h k =
     let parts = signs_unique 45 h.minus k.minus h.digits k.digits (omega arith) (sym h.whole ∙ k.whole)
     (IsDecimalNumeral-bytes h.magnitude h.digits h.decimal) (IsDecimalNumeral-bytes k.magnitude k.digits k.decimal) in
-    let same : h.magnitude ≡ k.magnitude = sym (IsDecimalNumeral-value h.magnitude h.digits h.decimal) ∙ IsDecimalNumeral-value k.magnitude h.digits (rw parts.1 k.decimal) in
+    let same : h.magnitude ≡ k.magnitude =
+    sym (IsDecimalNumeral-value h.magnitude h.digits h.decimal) ∙ IsDecimalNumeral-value k.magnitude h.digits (rw parts.1 k.decimal) in
     h.value ∙ ap (λ minus. with_sign minus h.magnitude) parts.0 ∙ ap (with_sign k.minus) same ∙ sym k.value
 
 -- a line makes one request only

@@ -2,7 +2,7 @@
 use Rattle.std.specs.Prelude.{◌≡◌, ◌⊎◌, ℕ, ◌+◌, ◌-◌, ◌^◌, min, Bool, List, [], ◌∷◌, ◌++◌, ℤ, codes}
 use Rattle.lexical_num.specs.Format.{Format, standard}
 use Rattle.lexical_write_integer.specs.Text.{IsDigits, IsText}
-use Rattle.lexical_lines.specs.declared.integer_type.IntegerType.{IntegerType}
+use Rattle.lexical_lines.specs.declared.request.integer_type.IntegerType.{IntegerType}
 use Rattle.lexical_lines.specs.Lines.{IsCut, AreLines}
 use Rattle.lexical_lines.specs.Request.{IsGood, IsRequest}
 

@@ -1,7 +1,7 @@
 -- The state of an answerer, and what its calls do to a sink.
 use Rattle.std.specs.Prelude.{◌≡◌, ℕ, ◌+◌, ◌-◌, ◌^◌, min, Bool, List, ◌++◌, length, Result, OnOk, OnErr, IfOk, ◌↔◌}
 use Rattle.std.specs.Prelude.{IsTrue, All}
-use Rattle.lexical_lines.specs.declared.answerer.Answerer.{Answerer}
+use Rattle.lexical_lines.specs.declared.answer.answerer.Answerer.{Answerer}
 use Rattle.lexical_lines.specs.Answer.{IsAnswer, AreAnswers}
 use Rattle.lexical_lines.specs.Line.{short_line}
 use Rattle.lexical_lines.specs.Lines.{IsCut}

@@ -2,7 +2,7 @@
 use Rattle.std.specs.Prelude.{◌≡◌, ℕ, ◌≤◌, Bool, List, ◌∷◌, ◌++◌, length, ℤ, pos}
 use Rattle.lexical_num.specs.Format.{IsRadix}
 use Rattle.lexical_write_integer.specs.Text.{IsDigits}
-use Rattle.lexical_lines.specs.declared.integer_type.IntegerType.{IntegerType}
+use Rattle.lexical_lines.specs.declared.request.integer_type.IntegerType.{IntegerType}
 use Rattle.lexical_lines.specs.declared.request.Number.{Number}
 use Rattle.lexical_lines.specs.declared.request.Number.TheVariants.{Unsigned, Signed}
 use Rattle.lexical_lines.specs.declared.request.Request.{Request}

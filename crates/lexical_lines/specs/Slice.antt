@@ -4,7 +4,7 @@ use Rattle.std.proofs.Common.{arith, sym, ap, ◌∙◌, inl, inr}
 use Rattle.std.proofs.lemmas.List.{drop-drop}
 use Rattle.std.proofs.Math.Seq.{drop-nil}
 use base.Fml.{GName}
-use Rattle.lexical_lines.specs.declared.slice.SliceSink.{SliceSink}
+use Rattle.lexical_lines.specs.declared.devices.slice.SliceSink.{SliceSink}
 
 -- ---- the source
 

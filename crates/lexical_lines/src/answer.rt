@@ -9,6 +9,13 @@ ghost use Rattle.lexical_lines.specs.Answer.{IsAnswer, WithNewline, IsBadLine, f
 ghost use Rattle.lexical_lines.specs.Line.{short_line, bytes_of};
 ghost use Rattle.lexical_lines.specs.Request.{IsGood, Asks, number_of};
 
+// Answers to the lines of bytes that arrive in chunks, and of a whole source.
+pub mod answerer;
+pub mod line_loop;
+
+// The exit status that tells how a run ended.
+pub mod exit_status;
+
 use crate::request::{Number, Request, parse};
 use lexical_num::constants::BUFFER_SIZE;
 use lexical_num::format::{NumberFormat, STANDARD};
@@ -39,6 +46,18 @@ pub fn write_answer(line: Option<&[u8]>, line_number: u64, buffer: &mut [u8]) ->
     }
 }
 
+// Returns the format of a radix, with a `+` before each number that is not negative if `plus` is true.
+fn format_for(radix: u8, plus: bool) -> NumberFormat
+    requires { IsRadix radix }
+    ensures { result ≡ format_of radix plus }
+{
+    NumberFormatBuilder::new()
+        .mantissa_radix(radix)
+        .exponent_radix(radix)
+        .required_mantissa_sign(plus)
+        .build_strict()
+}
+
 // Writes the requested text and a newline, and returns their length.
 fn write_requested(request: &Request, buffer: &mut [u8]) -> usize
     requires radix { IsRadix request.now.radix }
@@ -48,11 +67,7 @@ fn write_requested(request: &Request, buffer: &mut [u8]) -> usize
         (format_of request.now.radix request.now.plus)))
         buffer.old buffer.new result }
 {
-    let format = NumberFormatBuilder::new()
-        .mantissa_radix(request.radix)
-        .exponent_radix(request.radix)
-        .required_mantissa_sign(request.plus)
-        .build_strict();
+    let format = format_for(request.radix, request.plus);
     // The text does not depend on the type, so the two widest types are enough.
     match request.number {
         Number::Unsigned(number) => write_line(number, buffer, &format, &Options::new()),

@@ -42,35 +42,24 @@
 // Several numbers with a separator between them.
 mod joined_text;
 
-// The loop over the lines of an input, and the exit status of the program.
-mod answerer;
-mod exit_status;
-mod line_loop;
-
-// The devices that the loop reads from and writes to.
-mod sink;
-mod slice;
-mod source;
-mod stream;
-mod trace;
-
-// A line, its request, and its answer.
+// Answers: of a line, of bytes as they arrive, and of a whole input, and the exit status of the program.
 mod answer;
-mod decimal_parser;
-mod integer_type;
-mod line;
+
+// The devices that answers are written to and lines are read from.
+mod devices;
+
+// A line, its parts, and what it requests.
 mod request;
-mod split;
 
 // Laws about lines and answers, for callers.
 pub mod laws;
 
-pub use answerer::Answerer;
-pub use exit_status::status;
+pub use answer::answerer::Answerer;
+pub use answer::exit_status::status;
+pub use answer::line_loop::run;
+pub use devices::sink::{BlockSink, ByteSink, put_all};
+pub use devices::slice::{SliceSink, SliceSource, answer_slice};
+pub use devices::source::{BlockSource, ByteSource};
+pub use devices::stream::{Reading, Writing};
+pub use devices::trace::Trace;
 pub use joined_text::{join, write_joined};
-pub use line_loop::run;
-pub use sink::{BlockSink, ByteSink, put_all};
-pub use slice::{SliceSink, SliceSource, answer_slice};
-pub use source::{BlockSource, ByteSource};
-pub use stream::{Reading, Writing};
-pub use trace::Trace;

@@ -1,13 +1,25 @@
 // Parses a line into a request.
 
-ghost use Rattle.std.specs.Prelude.{◌≡◌, ◌^◌, ℕ, List, ℤ, pos, neg_ℤ, ◌≤◌, length, IfSome, IfNone};
+ghost use Rattle.std.specs.Prelude.{◌≡◌, ◌^◌, ℕ, List, ◌++◌, ℤ, pos, neg_ℤ, ◌≤◌, length, IfSome, IfNone};
 ghost use Rattle.lexical_num.specs.Format.{IsRadix};
 ghost use Rattle.lexical_lines.specs.Line.{short_line, bytes_of};
 ghost use Rattle.lexical_lines.specs.Request.{IsValue, IsGood, Asks, number_of};
 
-use crate::decimal_parser::{parse_decimal, parse_radix};
-use crate::integer_type::IntegerType;
-use crate::split::{split_at, strip_sign};
+// The line that is being read.
+pub mod line;
+
+// Parts of a line: names of types, decimal numbers, signs and separators.
+pub mod decimal_parser;
+pub mod integer_type;
+pub mod split;
+
+// Bytes, eight at a time.
+pub mod search;
+pub mod word;
+
+use crate::request::decimal_parser::{parse_decimal_at, split_radix};
+use crate::request::integer_type::IntegerType;
+use crate::request::split::strip_sign;
 
 /// A number of any of the ten types, as a number of one of the two widest types.
 #[derive(Clone, Copy)]
@@ -37,12 +49,10 @@ pub fn parse(line: Option<&[u8]>) -> Option<Request>
         → IsGood bytes → ⊥) }
 {
     let line = line?;
-    let (name, rest) = split_at(b' ', line)?;
-    let (signed_radix, value) = split_at(b' ', rest)?;
-    let kind = IntegerType::from_name(name)?;
-    let (plus, radix_text) = strip_sign(b'+', signed_radix);
-    let radix = parse_radix(radix_text)?;
-    let number = parse_value(kind, value)?;
+    let (kind, rest) = IntegerType::split_name(line)?;
+    let (plus, radix_value) = strip_sign(b'+', rest);
+    let (radix, value) = split_radix(radix_value)?;
+    let number = parse_value(kind, line, value)?;
     Some(Request {
         plus,
         radix,
@@ -50,13 +60,15 @@ pub fn parse(line: Option<&[u8]>) -> Option<Request>
     })
 }
 
-// Parses a number of this type: an optional `-`, and decimal digits.
-fn parse_value(kind: IntegerType, text: &[u8]) -> Option<Number>
+// Parses a number of this type: an optional `-`, and decimal digits. The line ends with the text.
+fn parse_value(kind: IntegerType, line: &[u8], text: &[u8]) -> Option<Number>
+    requires { (front : List ℕ) × (line.now ≡ front ++ text.now) }
     ensures found { IfSome result (λ number. IsValue kind (number_of number) text.now) }
     ensures none { IfNone result ((number : ℤ) → IsValue kind number text.now → ⊥) }
 {
     let (minus, digits) = strip_sign(b'-', text);
-    let magnitude = parse_decimal(digits)?;
+    // Bytes of the line before the digits are read too, a word at a time.
+    let magnitude = parse_decimal_at(line, line.len() - digits.len())?;
     if !kind.holds(minus, magnitude) {
         None
     } else if minus {

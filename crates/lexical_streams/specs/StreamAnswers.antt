@@ -2,7 +2,7 @@
 use Rattle.std.specs.Prelude.{◌≡◌, ◌⊎◌, ℕ, ◌+◌, Bool, true, List, [], ◌++◌, IfSome}
 use Rattle.std.specs.Io.{StartsWith}
 use Rattle.std.specs.Io.KnownBytes.{Appends}
-use Rattle.lexical_lines.specs.declared.answerer.Answerer.{Answerer}
+use Rattle.lexical_lines.specs.declared.answer.answerer.Answerer.{Answerer}
 use Rattle.lexical_lines.specs.Answer.{AnswersAll, AnswersEnded}
 use Rattle.lexical_lines.specs.Answerer.{HasAnswered}
 use Rattle.lexical_lines.specs.RunOutcome.{added}

@@ -1,41 +1,40 @@
-use Rattle.std.proofs.Common.{◌≡◌, ◌++◌, sym, ◌∙◌}
+use Rattle.std.proofs.Common.{◌≡◌, ◌∷◌, ◌++◌, sym, ◌∙◌}
 use Rattle.lexical_lines.specs.IntegerType.{name_of}
 use Rattle.lexical_lines.specs.Split.{optional_sign}
-use Rattle.lexical_lines.proofs.Splits.{Lacks-not}
+use Rattle.lexical_lines.proofs.Decimals.{IsDecimalNumeral-bytes, IsDecimalNumeral-from_digits}
 use Rattle.lexical_lines.proofs.IntegerTypes.{name_unique}
-use Rattle.lexical_lines.proofs.Requests.{NoSpace, short_line-is, whole_as, IsRequest-name, IsRequest-parts, IsRequest-radix}
+use Rattle.lexical_lines.proofs.Requests.{short_line-is, line_front, no_space-name, whole_as}
+use Rattle.lexical_lines.proofs.Requests.{IsRequest-long, IsRequest-name, IsRequest-signed, IsRequest-value, IsRequest-value_some}
 use Rattle.lexical_lines.proofs.request.parse.Goals as goal
-use Rattle.lexical_lines.proofs.request.parse.Goals.{In_ok-line, In_ok-name, In_ok-signed_radix, In_ok-kind, In_ok-radix}
-
-pub returns-in_err-name-clause-none : goal.returns-in_err-name-clause-none
-returns-in_err-name-clause-none c = rw c.from_residual-in_err-name.ensures (λ bytes is (kind, plus, radix, number, h).
-    let lacks : NoSpace c.in_ok-line.line.now = c.in_err-name.ensures.none in
-    Lacks-not 32 (name_of kind) _ (rw (sym (short_line-is (rw c.in_ok-line.was at is)) ∙ whole_as h) at lacks))
-
-pub returns-in_err-signed_radix-clause-none : goal.returns-in_err-signed_radix-clause-none
-returns-in_err-signed_radix-clause-none c = rw c.from_residual-in_err-signed_radix.ensures (λ bytes is (kind, plus, radix, number, h).
-    let first = IsRequest-name h _ _ (short_line-is (rw c.in_ok-line.was at is) ∙ c.in_ok-name.ensures.found) c.in_ok-name.ensures.first in
-    let lacks : NoSpace c.in_ok-name.rest.now = c.in_err-signed_radix.ensures.none in
-    Lacks-not 32 (optional_sign plus 43 ++ h.radix_text) h.value_text (rw first.1 at lacks))
+use Rattle.lexical_lines.proofs.request.parse.Goals.{In_ok-line, In_ok-kind, In_ok-radix}
 
 pub returns-in_err-kind-clause-none : goal.returns-in_err-kind-clause-none
 returns-in_err-kind-clause-none c = rw c.from_residual-in_err-kind.ensures (λ bytes is (kind, plus, radix, number, h).
-    let first = IsRequest-name h _ _ (short_line-is (rw c.in_ok-line.was at is) ∙ c.in_ok-name.ensures.found) c.in_ok-name.ensures.first in
-    c.in_err-kind.ensures.none kind first.0)
+    c.in_err-kind.ensures.none kind ((optional_sign plus 43 ++ h.radix_text) ++ 32 ∷ h.value_text) (IsRequest-long h)
+    (sym (short_line-is (rw c.in_ok-line.was at is)) ∙ whole_as h))
 
 pub returns-in_err-radix-clause-none : goal.returns-in_err-radix-clause-none
 returns-in_err-radix-clause-none c = rw c.from_residual-in_err-radix.ensures (λ bytes is (kind, plus, radix, number, h).
-    let first = IsRequest-name h _ _ (short_line-is (rw c.in_ok-line.was at is) ∙ c.in_ok-name.ensures.found) c.in_ok-name.ensures.first in
-    let second = IsRequest-parts h c.in_ok-name.rest.now c.in_ok-signed_radix.signed_radix.now c.in_ok-signed_radix.value.now
-    first.1 c.in_ok-signed_radix.ensures.found c.in_ok-signed_radix.ensures.first in
-    let text = IsRequest-radix h c.in_ok-signed_radix.signed_radix.now c.strip_sign-plus.result.1.now c.strip_sign-plus.result.0
-    second.0 c.strip_sign-plus.ensures.whole c.strip_sign-plus.ensures.stripped in
-    c.in_err-radix.ensures.none radix h.radix_valid (rw text h.radix_digits))
+    let first = IsRequest-name h (name_of c.in_ok-kind.kind) c.in_ok-kind.rest.now
+    (short_line-is (rw c.in_ok-line.was at is) ∙ c.in_ok-kind.ensures.found) (no_space-name c.in_ok-kind.kind) in
+    let text = IsRequest-signed h c.in_ok-kind.rest.now c.strip_sign-plus.result.1.now c.strip_sign-plus.result.0
+    first.1 c.strip_sign-plus.ensures.whole c.strip_sign-plus.ensures.stripped in
+    c.in_err-radix.ensures.none radix h.radix_text h.value_text h.radix_valid h.radix_digits (IsRequest-value_some h) text)
 
 pub returns-in_err-number-clause-none : goal.returns-in_err-number-clause-none
 returns-in_err-number-clause-none c = rw c.from_residual-in_err-number.ensures (λ bytes is (kind, plus, radix, number, h).
-    let first = IsRequest-name h _ _ (short_line-is (rw c.in_ok-line.was at is) ∙ c.in_ok-name.ensures.found) c.in_ok-name.ensures.first in
-    let second = IsRequest-parts h c.in_ok-name.rest.now c.in_ok-signed_radix.signed_radix.now c.in_ok-signed_radix.value.now
-    first.1 c.in_ok-signed_radix.ensures.found c.in_ok-signed_radix.ensures.first in
-    let same : c.in_ok-kind.kind ≡ kind = name_unique c.in_ok-kind.kind kind (sym c.in_ok-kind.ensures.found ∙ first.0) in
-    c.in_err-number.ensures.none number (rw (same, second.1) h.value))
+    let first = IsRequest-name h (name_of c.in_ok-kind.kind) c.in_ok-kind.rest.now
+    (short_line-is (rw c.in_ok-line.was at is) ∙ c.in_ok-kind.ensures.found) (no_space-name c.in_ok-kind.kind) in
+    let text = IsRequest-signed h c.in_ok-kind.rest.now c.strip_sign-plus.result.1.now c.strip_sign-plus.result.0
+    first.1 c.strip_sign-plus.ensures.whole c.strip_sign-plus.ensures.stripped in
+    let same : c.in_ok-kind.kind ≡ kind = name_unique c.in_ok-kind.kind kind first.0 in
+    let found = c.in_ok-radix.ensures.found in
+    let bytes = IsDecimalNumeral-bytes c.in_ok-radix.radix found.1.0 (IsDecimalNumeral-from_digits c.in_ok-radix.radix found.1.0 found.1.1) in
+    let value = IsRequest-value h found.1.0 c.in_ok-radix.value.now (sym text ∙ found.1.2) bytes in
+    c.in_err-number.ensures.none number (rw (same, value.1) h.value))
+
+pub parse_value-requires : goal.parse_value-requires
+parse_value-requires c =
+    let found = c.in_ok-radix.ensures.found in
+    line_front c.in_ok-line.line.now (name_of c.in_ok-kind.kind) c.in_ok-kind.rest.now (optional_sign c.strip_sign-plus.result.0 43)
+    c.strip_sign-plus.result.1.now found.1.0 c.in_ok-radix.value.now c.in_ok-kind.ensures.found c.strip_sign-plus.ensures.whole found.1.2

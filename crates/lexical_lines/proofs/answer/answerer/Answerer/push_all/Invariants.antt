@@ -1,0 +1,19 @@
+use Rattle.std.proofs.Common.{◌≡◌, ℕ, List, ◌++◌, length}
+use Rattle.lexical_lines.specs.Answerer.{HasAnswered}
+use Rattle.lexical_lines.specs.RunOutcome.{added}
+use Rattle.lexical_lines.proofs.answer.answerer.Answerer.push_all.Given as goal
+
+abbrev pub invariant-loop-end : goal.invariant-loop-end
+invariant-loop-end g l =
+    let sink = g.K.ByteSink in
+    record {
+      read : (front : List ℕ) × (l.bytes ≡ front ++ l.rest) × ((before read : List ℕ)
+          → HasAnswered before read (sink.taken l.fn.sink) l.fn.self → HasAnswered before (read ++ front)
+          (sink.taken l.sink) l.self);
+      taken : sink.taken l.sink ≡ sink.taken l.fn.sink ++ added (sink.taken l.fn.sink) (sink.taken l.sink);
+      faults : sink.faults l.sink ≡ sink.faults l.fn.sink;
+      kept : sink.keeps l.fn.sink l.sink;
+    }
+
+abbrev pub decreases-loop-end : goal.decreases-loop-end
+decreases-loop-end g l = length l.rest

@@ -1,0 +1,46 @@
+use Rattle.std.proofs.Common.{get_or, arith}
+use Rattle.std.proofs.lemmas.List.{take_all}
+use Rattle.std.proofs.lemmas.List.Elements.{All-more}
+use Rattle.lexical_lines.proofs.Decimals.{IsDigitByte, IsDecimalNumeral-byte, IsDecimalNumeral-at_least, IsDecimalNumeral-from, value_of-more}
+use Rattle.lexical_lines.proofs.request.decimal_parser.parse_decimal.Goals as goal
+
+pub returns-then-not-is_ascii_digit-clause-none : goal.returns-then-not-is_ascii_digit-clause-none
+returns-then-not-is_ascii_digit-clause-none c = λ number small spelled.
+    let digit = IsDecimalNumeral-byte number c.args.text.now c.loop-byte.byte-index c.loop-byte-test.true spelled in
+    let other = c.if-not-is_ascii_digit.ensures.cases in
+    grind (arith, digit.at_least, digit.at_most, other)
+
+pub returns-in_err-checked_mul-clause-none : goal.returns-in_err-checked_mul-clause-none
+returns-in_err-checked_mul-clause-none c = rw c.from_residual.ensures (λ number small spelled.
+    let least = IsDecimalNumeral-at_least number c.args.text.now c.loop-byte.byte-index c.loop-byte-test.true spelled in
+    c.in_err-checked_mul.ensures (omega (arith, c.loop-byte.invariant.value)))
+
+pub returns-in_err-number-clause-none : goal.returns-in_err-number-clause-none
+returns-in_err-number-clause-none c = rw c.from_residual-in_err-number.ensures (λ number small spelled.
+    let least = IsDecimalNumeral-at_least number c.args.text.now c.loop-byte.byte-index c.loop-byte-test.true spelled in
+    c.in_err-number.ensures (omega (arith, c.loop-byte.invariant.value, c.in_ok-checked_mul.ensures, c.from-digit.ensures)))
+
+pub loop-byte-preserved : goal.loop-byte-preserved
+loop-byte-preserved c =
+    let text = c.args.text.now in
+    let i = c.loop-byte.byte-index in
+    let digit : IsDigitByte (get_or text i 0) = let is = c.if-not-is_ascii_digit.ensures.cases in
+    record { at_least = omega (arith, is); at_most = omega (arith, is) } in
+    record {
+      digits = All-more IsDigitByte text i 0 c.loop-byte-test.true c.loop-byte.invariant.digits digit;
+      value = omega (
+        arith,
+        value_of-more text i c.loop-byte-test.true,
+        c.loop-byte.invariant.value,
+        c.in_ok-number.ensures,
+        c.in_ok-checked_mul.ensures,
+        c.from-digit.ensures,
+      );
+    }
+
+pub returns-clause-found : goal.returns-clause-found
+returns-clause-found c =
+    let text = c.args.text.now in
+    let whole = take_all c.loop-byte.byte-index text c.loop-byte-test.false in
+    IsDecimalNumeral-from c.loop-byte.number text (grind (arith, c.if-is_empty.ensures)) (rw whole at c.loop-byte.invariant.digits)
+    (rw whole at c.loop-byte.invariant.value)

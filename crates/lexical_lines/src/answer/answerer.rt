@@ -1,0 +1,149 @@
+//! Answers lines whose bytes arrive in chunks.
+
+ghost use Rattle.std.specs.Prelude.{◌≡◌, ◌≤◌, length, IfSome, ℕ, ◌+◌, List, [], ◌∷◌, ◌++◌, false, true, IfOk};
+ghost use Rattle.std.specs.Prelude.{OnOk, OnErr};
+ghost use Rattle.std.specs.Io.{StartsWith};
+ghost use Rattle.lexical_num.specs.declared.constants.TheConstants.{BUFFER_SIZE};
+ghost use Rattle.lexical_lines.specs.Answer.{AnswersAll};
+ghost use Rattle.lexical_lines.specs.Answerer.{HasAnswered, PutsMore, PutsAnswer};
+ghost use Rattle.lexical_lines.specs.Line.{short_line, bytes_of};
+ghost use Rattle.lexical_lines.specs.Lines.{NoNewline};
+ghost use Rattle.lexical_lines.specs.RunOutcome.{added, TellsAllGood, BreaksOff};
+
+use crate::answer::{MAX_ANSWER, write_answer};
+use crate::devices::sink::{ByteSink, put_all};
+use crate::request::line::Line;
+use crate::request::split::split_at;
+use std::io;
+
+// The byte that ends a line.
+const NEWLINE: u8 = b'\n';
+
+/// Answers lines whose bytes arrive in chunks. The answer to a line is the text of the number that the
+/// line requests, or `bad line` and the number of the line; the documentation of `run` has the details.
+/// An answerer writes the answer to a sink as soon as it gets the newline that ends the line.
+///
+/// An answerer keeps the line that has not ended yet, the number of that line, and whether all lines
+/// before it are valid. It must not be used again after an error: the contracts then promise nothing
+/// about the answers.
+#[derive(Drop)]
+pub struct Answerer {
+    line: Line,
+    line_number: u64,
+    all_good: bool,
+    // The buffer for an answer. It is a field so that it is zeroed once and not for each line.
+    answer: [u8; MAX_ANSWER],
+}
+
+impl Answerer {
+    /// Returns an answerer that has received no bytes.
+    pub fn new() -> Answerer
+        ensures { (taken : List ℕ) → HasAnswered taken [] taken result }
+    {
+        Answerer {
+            line: Line::new(),
+            line_number: 1,
+            all_good: true,
+            answer: [0; MAX_ANSWER],
+        }
+    }
+
+    /// Takes the next byte. If it is a newline, the answer to the line that it ends is written to `sink`.
+    pub fn push<K: ByteSink>(&mut self, byte: u8, sink: &mut K) -> io::Result<()>
+        ensures ok { OnOk result ((before read : List ℕ)
+            → HasAnswered before read (K.taken sink.old) self.old
+            → HasAnswered before (read ++ byte ∷ []) (K.taken sink.new) self.new) }
+        ensures err { OnErr result ((before read : List ℕ)
+            → HasAnswered before read (K.taken sink.old) self.old
+            → BreaksOff false (read ++ byte ∷ []) (added before (K.taken sink.new))) }
+        ensures puts { PutsMore K.taken K.faults K.keeps sink.old sink.new result }
+    {
+        if byte == NEWLINE {
+            self.end_line(&[], sink)
+        } else {
+            self.line.push(byte);
+            Ok(())
+        }
+    }
+
+    /// Takes the next bytes, as a call of `push` for each of them would, and stops at the first error,
+    /// which is an error of the sink at the answer to a line that ends in `bytes`.
+    pub fn push_all<K: ByteSink>(&mut self, bytes: &[u8], sink: &mut K) -> io::Result<()>
+        ensures ok { OnOk result ((before read : List ℕ)
+            → HasAnswered before read (K.taken sink.old) self.old
+            → HasAnswered before (read ++ bytes.now) (K.taken sink.new) self.new) }
+        ensures err { OnErr result ((before read : List ℕ)
+            → HasAnswered before read (K.taken sink.old) self.old
+            → (front : List ℕ) × StartsWith bytes.now front
+            × BreaksOff false (read ++ front) (added before (K.taken sink.new))) }
+        ensures puts { PutsMore K.taken K.faults K.keeps sink.old sink.new result }
+    {
+        let mut rest = bytes;
+        while let Some((end, more)) = split_at(NEWLINE, rest) {
+            self.end_line(end, sink)?;
+            rest = more;
+        }
+        self.line.push_all(rest);
+        Ok(())
+    }
+
+    // Takes `end`, the last bytes of a line, and the newline after them, and writes the answer to the line.
+    fn end_line<K: ByteSink>(&mut self, end: &[u8], sink: &mut K) -> io::Result<()>
+        requires { NoNewline end.now }
+        ensures ok { OnOk result ((before read : List ℕ)
+            → HasAnswered before read (K.taken sink.old) self.old
+            → HasAnswered before (read ++ (end.now ++ 10 ∷ [])) (K.taken sink.new) self.new) }
+        ensures err { OnErr result ((before read : List ℕ)
+            → HasAnswered before read (K.taken sink.old) self.old
+            → BreaksOff false (read ++ (end.now ++ 10 ∷ [])) (added before (K.taken sink.new))) }
+        ensures puts { PutsMore K.taken K.faults K.keeps sink.old sink.new result }
+    {
+        let line = self.line.ended(end);
+        let is_good = put_answer(line, self.line_number, &mut self.answer, sink)?;
+        self.line.clear();
+        self.line_number = self.line_number.saturating_add(1);
+        self.all_good &= is_good;
+        Ok(())
+    }
+
+    /// Ends the input, and returns whether all lines are valid. If there are bytes after the last
+    /// newline, they are a line too, and the answer to it is written first.
+    pub fn finish<K: ByteSink>(mut self, sink: &mut K) -> io::Result<bool>
+        ensures ok { OnOk result ((before read : List ℕ)
+            → HasAnswered before read (K.taken sink.old) self
+            → AnswersAll read (added before (K.taken sink.new))) }
+        ensures good { IfOk result (λ all_good. (before read : List ℕ)
+            → HasAnswered before read (K.taken sink.old) self → TellsAllGood read all_good) }
+        ensures err { OnErr result ((before read : List ℕ)
+            → HasAnswered before read (K.taken sink.old) self
+            → BreaksOff true read (added before (K.taken sink.new))) }
+        ensures puts { PutsMore K.taken K.faults K.keeps sink.old sink.new result }
+    {
+        if self.line.is_empty() {
+            return Ok(self.all_good);
+        }
+        let line = self.line.as_slice();
+        let is_good = put_answer(line, self.line_number, &mut self.answer, sink)?;
+        Ok(self.all_good & is_good)
+    }
+}
+
+// Writes the answer to a line into `buffer`, and from there to the sink. Returns whether the line is
+// valid. `line` is `None` if the line is too long.
+fn put_answer<K: ByteSink>(
+    line: Option<&[u8]>,
+    line_number: u64,
+    buffer: &mut [u8],
+    sink: &mut K,
+) -> io::Result<bool>
+    requires short { IfSome line (λ bytes. length bytes.now ≤ 64) }
+    requires room { BUFFER_SIZE + 11 ≤ length buffer.old }
+    ensures answer { (bytes : List ℕ) → bytes_of line.entry ≡ short_line bytes
+        → PutsAnswer line_number bytes (K.taken sink.old) (K.taken sink.new) result }
+    ensures puts { PutsMore K.taken K.faults K.keeps sink.old sink.new result }
+{
+    let (count, is_good) = write_answer(line, line_number, buffer);
+    let (_, put) = put_all(sink, &buffer[..count]);
+    put?;
+    Ok(is_good)
+}

@@ -1,0 +1,235 @@
+//! A source that reads from a reader, and a sink that writes to a writer.
+
+ghost use Rattle.std.specs.Prelude.{◌≡◌, ◌⊎◌, ◌+◌, ◌-◌, ◌^◌, ◌≤◌, true, false, ◌||◌, [], ◌++◌, Ok, None, length};
+ghost use Rattle.std.specs.Prelude.{take, drop, IfOk};
+ghost use Rattle.std.specs.Io.KnownBytes.{Consumes, IsAtEnd, ReadConsumes, WriteAppends};
+ghost use Rattle.lexical_lines.specs.Sink.{taken_by, put_faults};
+ghost use Rattle.lexical_lines.specs.Source.{given_by, tells_end, reads_end, faults_of};
+
+use crate::devices::sink::{BlockSink, ByteSink, note_flush, note_put};
+use crate::devices::source::{BlockSource, ByteSource};
+use crate::devices::trace::Trace;
+use std::io;
+use std::io::{Read, Write};
+use std::marker::Model;
+
+// An offset in a file is a signed number of 64 bits, so every file is shorter than this.
+const LONGEST: u64 = 9_223_372_036_854_775_807;
+
+/// A source that yields the bytes of a reader, up to a limit. It calls `read` once for each byte or block.
+#[derive(Drop)]
+pub struct Reading<R> {
+    reader: R,
+    left: u64,
+    is_ended: bool,
+    trace: Trace,
+}
+
+impl<R> Model for Reading<R> {
+    ghost use Rattle.lexical_lines.specs.Stream.{StreamReading};
+
+    ghost Value = { StreamReading R };
+
+    ghost view = { λ s. record {
+      reader = s.reader;
+      left = s.left;
+      is_ended = s.is_ended;
+      given = s.trace.bytes;
+      calls = s.trace.calls;
+      faults = s.trace.faults;
+    } };
+}
+
+impl<R: Read> Reading<R> {
+    ghost use Rattle.lexical_lines.specs.Stream.{new_reading};
+
+    /// Returns a source that reports the end after `limit` bytes, or earlier if the reader yields no
+    /// byte.
+    pub fn new(reader: R, limit: u64) -> Reading<R>
+        ensures { result ≡ new_reading reader limit }
+    {
+        Reading {
+            reader,
+            left: limit,
+            is_ended: false,
+            trace: Trace::new(),
+        }
+    }
+
+    /// Returns a source that yields all bytes of the reader: its limit is 2^63 - 1 bytes.
+    pub fn whole(reader: R) -> Reading<R>
+        ensures { result ≡ new_reading reader (2 ^ 63 - 1) }
+    {
+        Reading::new(reader, LONGEST)
+    }
+}
+
+impl<R: Read> ByteSource for Reading<R> {
+    ghost use Rattle.lexical_lines.specs.Stream.{KeepsReader, KeepsReader-reflexive, KeepsReader-transitive};
+
+    ghost given = { λ s. s.given };
+
+    ghost is_ended = { λ s. s.is_ended };
+
+    ghost faults = { λ s. s.faults };
+
+    ghost remaining = { λ s. s.left };
+
+    ghost keeps = { KeepsReader R.remaining };
+
+    ghost keeps_reflexive = { KeepsReader-reflexive R.remaining };
+
+    ghost keeps_transitive = { KeepsReader-transitive R.remaining };
+
+    /// Returns the next byte of the reader, or `None` at the limit or if the reader yields no byte.
+    fn next(&mut self) -> io::Result<Option<u8>>
+        ensures given { self.new.given ≡ self.old.given ++ given_by result }
+        ensures ended { self.new.is_ended ≡ (self.old.is_ended || tells_end result) }
+        ensures faults { self.new.faults ≡ self.old.faults + faults_of result }
+        ensures remaining { self.new.left + length (given_by result) ≤ self.old.left }
+        ensures kept { KeepsReader R.remaining self.old self.new }
+        ensures bytes { Consumes (R.remaining self.old.reader) (R.remaining self.new.reader)
+            (given_by result) }
+        ensures end { result ≡ Ok None
+            → (self.old.left ≡ 0) ⊎ IsAtEnd (R.remaining self.new.reader) }
+        ensures left { self.new.left ≡ self.old.left - length (given_by result) }
+        ensures limit { self.old.left ≡ 0 → result ≡ Ok None }
+    {
+        let mut byte = [0u8];
+        match self.read_block(&mut byte) {
+            Ok(0) => Ok(None),
+            Ok(_) => Ok(Some(byte[0])),
+            Err(error) => Err(error),
+        }
+    }
+}
+
+impl<R: Read> BlockSource for Reading<R> {
+    ghost use Rattle.lexical_lines.specs.Stream.{KeepsReader, unread_of};
+
+    ghost unread = { unread_of R.remaining };
+
+    ghost calls = { λ s. s.calls };
+
+    /// Reads at most as many bytes as the limit leaves. At the limit, the reader is not called.
+    fn read_block(&mut self, block: &mut [u8]) -> io::Result<usize>
+        requires { 1 ≤ length block.old }
+        ensures within { IfOk result (λ count. count ≤ length block.new) }
+        ensures given { self.new.given ≡ self.old.given ++ take (taken_by result) block.new }
+        ensures ended { self.new.is_ended ≡ (self.old.is_ended || reads_end result) }
+        ensures remaining { self.new.left + taken_by result ≡ self.old.left }
+        ensures calls { self.new.calls ≡ self.old.calls + 1 }
+        ensures faults { self.new.faults ≡ self.old.faults + faults_of result }
+        ensures kept { KeepsReader R.remaining self.old self.new }
+        ensures bytes { ReadConsumes (unread_of R.remaining self.old) (unread_of R.remaining self.new)
+            result block.new }
+        ensures limit { self.old.left ≡ 0 → result ≡ Ok 0 }
+    {
+        self.trace.call();
+        if self.left == 0 {
+            self.is_ended = true;
+            return Ok(0);
+        }
+        let size = self.left.min(block.len() as u64) as usize;
+        match self.reader.read(&mut block[..size]) {
+            Ok(count) => {
+                self.is_ended |= count == 0;
+                self.left -= count as u64;
+                self.trace.note(&block[..count]);
+                Ok(count)
+            }
+            Err(error) => {
+                self.trace.fault();
+                Err(error)
+            }
+        }
+    }
+}
+
+/// A sink that writes to a writer. It calls `write` once for each call of `put`, and `flush` once for each
+/// flush.
+#[derive(Drop)]
+pub struct Writing<W> {
+    writer: W,
+    trace: Trace,
+}
+
+impl<W> Model for Writing<W> {
+    ghost use Rattle.lexical_lines.specs.Stream.{StreamWriting};
+
+    ghost Value = { StreamWriting W };
+
+    ghost view = { λ s. record {
+      writer = s.writer;
+      taken = s.trace.bytes;
+      unflushed = s.trace.unflushed;
+      flushes = s.trace.flushes;
+      faults = s.trace.faults;
+    } };
+}
+
+impl<W: Write> Writing<W> {
+    /// Returns a sink that has taken no bytes and writes to `writer`.
+    pub fn new(writer: W) -> Writing<W>
+        ensures { result ≡ record { writer = writer; taken = []; unflushed = []; flushes = 0; faults = 0 } }
+    {
+        Writing {
+            writer,
+            trace: Trace::new(),
+        }
+    }
+
+    /// Returns the writer.
+    pub fn into_inner(self) -> W
+        ensures { result ≡ self.writer }
+    {
+        let Writing { writer, trace } = self;
+        drop(trace);
+        writer
+    }
+}
+
+impl<W: Write> ByteSink for Writing<W> {
+    ghost use Rattle.lexical_lines.specs.Stream.{KeepsWriter, KeepsWriter-reflexive, KeepsWriter-transitive};
+
+    ghost taken = { λ s. s.taken };
+
+    ghost faults = { λ s. s.faults };
+
+    ghost keeps = { KeepsWriter W.contents };
+
+    ghost keeps_reflexive = { KeepsWriter-reflexive W.contents };
+
+    ghost keeps_transitive = { KeepsWriter-transitive W.contents };
+
+    /// Passes `bytes` to the writer, and returns how many of them the writer has written.
+    fn put(&mut self, bytes: &[u8]) -> io::Result<usize>
+        ensures within { IfOk result (λ count. count ≤ length bytes.now) }
+        ensures taken { self.new.taken ≡ self.old.taken ++ take (taken_by result) bytes.now }
+        ensures faults { self.new.faults ≡ self.old.faults + put_faults result bytes.now }
+        ensures kept { KeepsWriter W.contents self.old self.new }
+        ensures bytes { WriteAppends (W.contents self.old.writer) (W.contents self.new.writer)
+            result bytes.now }
+    {
+        let outcome = self.writer.write(bytes);
+        note_put(&mut self.trace, bytes, &outcome);
+        outcome
+    }
+}
+
+impl<W: Write> BlockSink for Writing<W> {
+    ghost contents = { λ s. W.contents s.writer };
+
+    ghost unflushed = { λ s. s.unflushed };
+
+    ghost flushes = { λ s. s.flushes };
+
+    ghost keeps_puts = { λ a b kept. kept };
+
+    /// Calls `flush` of the writer.
+    fn flush(&mut self) -> io::Result<()> {
+        let outcome = self.writer.flush();
+        note_flush(&mut self.trace, &outcome);
+        outcome
+    }
+}
