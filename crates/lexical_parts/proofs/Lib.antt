@@ -12,6 +12,8 @@ pub mod Utf8Changes
 pub mod Equations
 -- how many digits a number of a type has
 pub mod Widths
+-- the room of a number in a format
+pub mod FormattedRooms
 -- bytes inserted into a text
 pub mod Inserts
 -- digits with a point

@@ -1,5 +1,6 @@
 pub mod Column
 pub mod Fixed
+pub mod Formatted
 pub mod Joined
 pub mod Optional
 pub mod Plus

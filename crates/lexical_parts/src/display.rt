@@ -6,10 +6,10 @@ ghost use Rattle.lexical_num.specs.Format.{standard};
 ghost use Rattle.lexical_write_integer.specs.Computed.{digits_text, text_of};
 
 use crate::hex::{Binary, Hex};
-use crate::number::{Decimal, Formatted};
+use crate::number::{Decimal, Formatted, formatted_room_suffices};
 use crate::utf8::Utf8Part;
 use lexical_write_integer::format::STANDARD;
-use lexical_write_integer::laws::{digits_computed, size_suffices, text_computed};
+use lexical_write_integer::laws::{digits_computed, text_computed};
 use lexical_write_integer::radix::Radix;
 use lexical_write_integer::{BUFFER_SIZE, ToLexicalWithOptions};
 use std::fmt;
@@ -20,7 +20,7 @@ impl<T: ToLexicalWithOptions> fmt::Display for Formatted<'_, T> {
     ghost styled_output = { λ part spec. Some (padded spec (text_of (T.number part.0) part.1.now)) };
 
     fn fmt<W: fmt::Write>(&self, f: &mut fmt::Formatter<W>) -> fmt::Result {
-        size_suffices(self.0, self.1);
+        formatted_room_suffices(self.0, self.1);
         let mut buffer = [0; BUFFER_SIZE];
         let text = Formatted(self.0, self.1).to_str(&mut buffer);
         text_computed(self.0, self.1, text.as_bytes());

@@ -20,7 +20,8 @@
 //! The example is from the test `texts_for_writing` in `crates/uses_tests/src/tests/lines.rt`. The calls
 //! that write are the methods of [`Part`], and those that return a `&str` are the methods of
 //! [`Utf8Part`]. The other types of this crate are parts, and so are the integer types.
-//! [`rooms_at_most`] is a law, which bounds the room of a [`Joined`].
+//! [`rooms_at_most`] and [`formatted_room_suffices`] are laws, which bound the room of a [`Joined`] and of a
+//! [`Formatted`].
 #![tactic(auto)]
 
 mod column;
@@ -47,7 +48,7 @@ pub use fixed::{Fixed, GroupedFixed};
 pub use hex::{Binary, Hex, HexBytes};
 pub use joined::{Joined, rooms_at_most};
 pub use lower::Lower;
-pub use number::{Decimal, Digits, Formatted};
+pub use number::{Decimal, Digits, Formatted, formatted_room_suffices};
 pub use padded::{Padded, PaddedDigits};
 pub use part::Part;
 pub use plus::Plus;

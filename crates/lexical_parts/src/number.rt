@@ -1,12 +1,13 @@
 //! Parts that are one number.
 
+ghost use Rattle.std.specs.Prelude.{◌≡◌, ◌≤◌};
 ghost use Rattle.lexical_num.specs.Format.{IsRadix, standard};
-ghost use Rattle.lexical_num.specs.Size.{size_in};
+ghost use Rattle.lexical_num.specs.declared.constants.TheConstants.{BUFFER_SIZE};
 ghost use Rattle.lexical_write_integer.specs.DigitCount.{digit_count};
-ghost use Rattle.lexical_write_integer.specs.Text.{IsDigits, IsText};
+ghost use Rattle.lexical_write_integer.specs.Text.{IsDigits, IsText, need};
+ghost use Rattle.lexical_parts.specs.Formatted.{formatted_room, largest_magnitude};
 
 use crate::part::Part;
-use lexical_num::options::STANDARD as OPTIONS;
 use lexical_write_integer::digit_count::DigitCount;
 use lexical_write_integer::format::STANDARD;
 use lexical_write_integer::laws::size_suffices;
@@ -53,6 +54,28 @@ impl<T: Radix + DigitCount> Part for Digits<T> {
     }
 }
 
+// Returns the largest absolute value of a number of the type.
+fn largest_magnitude<T: ToLexicalWithOptions>() -> u64
+    ensures { result ≡ largest_magnitude T.least T.greatest }
+{
+    let all_bits = u64::MAX >> (64 - T::BITS);
+    if T::FORMATTED_SIZE_DECIMAL == T::DECIMAL_WIDTH {
+        all_bits
+    } else {
+        all_bits / 2 + 1
+    }
+}
+
+/// A law: the room of a `Formatted` is enough for the number, and it is at most `BUFFER_SIZE`.
+pub fn formatted_room_suffices<T: ToLexicalWithOptions>(number: T, format: &NumberFormat)
+    ensures need { need (T.number number) T.DECIMAL_WIDTH format.now
+        ≤ formatted_room T.least T.greatest format.now }
+    ensures buffer { formatted_room T.least T.greatest format.now ≤ BUFFER_SIZE }
+{
+    number.in_range();
+    format.in_range();
+}
+
 /// A number in a format, with its sign and its groups: in a format with groups of three digits and
 /// the separator `,`, `Formatted(1234567, &format)` writes `1,234,567`.
 #[derive(Clone, Copy, Drop)]
@@ -61,14 +84,18 @@ pub struct Formatted<'a, T>(pub T, pub &'a NumberFormat);
 impl<T: ToLexicalWithOptions> Part for Formatted<'_, T> {
     ghost is_text = { λ part. IsText (T.number part.0) part.1.now };
 
-    ghost room = { λ part. size_in T.FORMATTED_SIZE T.FORMATTED_SIZE_DECIMAL part.1.now };
+    ghost room = { λ part. formatted_room T.least T.greatest part.1.now };
 
     fn room(self) -> usize {
-        OPTIONS.buffer_size_const::<T>(self.1)
+        self.1.in_range();
+        let minus = T::FORMATTED_SIZE_DECIMAL - T::DECIMAL_WIDTH;
+        let sign = minus.max(usize::from(self.1.required_mantissa_sign()));
+        let digits = largest_magnitude::<T>().digit_count(self.1.mantissa_radix());
+        sign + self.1.grouped_len(digits)
     }
 
     fn write_to(self, buffer: &mut [u8]) -> usize {
-        size_suffices(self.0, self.1);
+        formatted_room_suffices(self.0, self.1);
         self.0.write_text(buffer, self.1)
     }
 }

@@ -122,19 +122,13 @@ impl<A: Part, B: Part, C: Part, D: Part, E: Part, F: Part, G: Part, H: Part> Par
         + (F.room p.5 + (G.room p.6 + H.room p.7)))))) };
 
     fn room(self) -> usize {
-        (
-            self.0,
-            (self.1, self.2, self.3, self.4, self.5, self.6, self.7),
-        )
-            .room()
+        let rest = (self.1, self.2, self.3, self.4, self.5, self.6, self.7);
+        (self.0, rest).room()
     }
 
     fn write_to(self, buffer: &mut [u8]) -> usize {
-        (
-            self.0,
-            (self.1, self.2, self.3, self.4, self.5, self.6, self.7),
-        )
-            .write_to(buffer)
+        let rest = (self.1, self.2, self.3, self.4, self.5, self.6, self.7);
+        (self.0, rest).write_to(buffer)
     }
 }
 
@@ -152,23 +146,17 @@ impl<A: Part, B: Part, C: Part, D: Part, E: Part, F: Part, G: Part, H: Part, I: 
         + (F.room p.5 + (G.room p.6 + (H.room p.7 + I.room p.8))))))) };
 
     fn room(self) -> usize {
-        (
-            self.0,
-            (
-                self.1, self.2, self.3, self.4, self.5, self.6, self.7, self.8,
-            ),
-        )
-            .room()
+        let rest = (
+            self.1, self.2, self.3, self.4, self.5, self.6, self.7, self.8,
+        );
+        (self.0, rest).room()
     }
 
     fn write_to(self, buffer: &mut [u8]) -> usize {
-        (
-            self.0,
-            (
-                self.1, self.2, self.3, self.4, self.5, self.6, self.7, self.8,
-            ),
-        )
-            .write_to(buffer)
+        let rest = (
+            self.1, self.2, self.3, self.4, self.5, self.6, self.7, self.8,
+        );
+        (self.0, rest).write_to(buffer)
     }
 }
 
@@ -186,23 +174,17 @@ impl<A: Part, B: Part, C: Part, D: Part, E: Part, F: Part, G: Part, H: Part, I: 
         + (F.room p.5 + (G.room p.6 + (H.room p.7 + (I.room p.8 + J.room p.9)))))))) };
 
     fn room(self) -> usize {
-        (
-            self.0,
-            (
-                self.1, self.2, self.3, self.4, self.5, self.6, self.7, self.8, self.9,
-            ),
-        )
-            .room()
+        let rest = (
+            self.1, self.2, self.3, self.4, self.5, self.6, self.7, self.8, self.9,
+        );
+        (self.0, rest).room()
     }
 
     fn write_to(self, buffer: &mut [u8]) -> usize {
-        (
-            self.0,
-            (
-                self.1, self.2, self.3, self.4, self.5, self.6, self.7, self.8, self.9,
-            ),
-        )
-            .write_to(buffer)
+        let rest = (
+            self.1, self.2, self.3, self.4, self.5, self.6, self.7, self.8, self.9,
+        );
+        (self.0, rest).write_to(buffer)
     }
 }
 
@@ -232,23 +214,17 @@ impl<
         + K.room p.10))))))))) };
 
     fn room(self) -> usize {
-        (
-            self.0,
-            (
-                self.1, self.2, self.3, self.4, self.5, self.6, self.7, self.8, self.9, self.10,
-            ),
-        )
-            .room()
+        let rest = (
+            self.1, self.2, self.3, self.4, self.5, self.6, self.7, self.8, self.9, self.10,
+        );
+        (self.0, rest).room()
     }
 
     fn write_to(self, buffer: &mut [u8]) -> usize {
-        (
-            self.0,
-            (
-                self.1, self.2, self.3, self.4, self.5, self.6, self.7, self.8, self.9, self.10,
-            ),
-        )
-            .write_to(buffer)
+        let rest = (
+            self.1, self.2, self.3, self.4, self.5, self.6, self.7, self.8, self.9, self.10,
+        );
+        (self.0, rest).write_to(buffer)
     }
 }
 
@@ -279,24 +255,18 @@ impl<
         + L.room p.11)))))))))) };
 
     fn room(self) -> usize {
-        (
-            self.0,
-            (
-                self.1, self.2, self.3, self.4, self.5, self.6, self.7, self.8, self.9, self.10,
-                self.11,
-            ),
-        )
-            .room()
+        let rest = (
+            self.1, self.2, self.3, self.4, self.5, self.6, self.7, self.8, self.9, self.10,
+            self.11,
+        );
+        (self.0, rest).room()
     }
 
     fn write_to(self, buffer: &mut [u8]) -> usize {
-        (
-            self.0,
-            (
-                self.1, self.2, self.3, self.4, self.5, self.6, self.7, self.8, self.9, self.10,
-                self.11,
-            ),
-        )
-            .write_to(buffer)
+        let rest = (
+            self.1, self.2, self.3, self.4, self.5, self.6, self.7, self.8, self.9, self.10,
+            self.11,
+        );
+        (self.0, rest).write_to(buffer)
     }
 }

@@ -1,6 +1,6 @@
 // Tests of the callers with known numbers.
 
-ghost use Rattle.std.specs.Prelude.{◌≤◌};
+ghost use Rattle.std.specs.Prelude.{◌≤◌, length};
 
 mod joined;
 mod lines;
@@ -8,13 +8,13 @@ mod parts;
 mod scientific;
 mod shown;
 
-use lexical_parts::Part;
+use lexical_parts::{Part, Utf8Part};
 use lexical_write_integer::{
     BUFFER_SIZE, Error, NumberFormatBuilder, Options, ToLexical, ToLexicalWithOptions,
 };
 use std::process::Abort;
 use uses::amount::width_of_amount;
-use uses::any_format::{LINE_SIZE, line_of_any, text_if_room};
+use uses::any_format::{LINE_SIZE, key, line_of_any, text_if_room};
 use uses::arena::{have_same_kept_texts, keep_text};
 use uses::fixed_text::{million, year_month};
 use uses::float_parts::{float_format, write_parts};
@@ -34,6 +34,27 @@ fn check_buffer(rt: &impl Abort, buffer: &[u8], count: usize, text: &[u8]) {
     assert!(rt; buffer[count..].iter().all(|byte| *byte == 7));
 }
 
+// Checks that the bytes are the text.
+fn check_bytes(rt: &impl Abort, bytes: &[u8], text: &[u8]) {
+    assert_eq!(rt; bytes, text);
+}
+
+// Checks that the part writes the text to the start of the buffer, and returns it as a `&str`.
+fn check_str<P: Utf8Part>(rt: &impl Abort, part: P, buffer: &mut [u8], text: &str)
+    requires valid { P.is_valid part }
+    requires utf8 { P.is_utf8 part }
+    requires room { P.room part ≤ length buffer.old }
+{
+    assert_eq!(rt; part.to_str(buffer), text);
+}
+
+// Checks the room of a part.
+fn check_room<P: Part>(rt: &impl Abort, part: P, room: usize)
+    requires { P.is_valid part }
+{
+    assert_eq!(rt; part.room(), room);
+}
+
 // Checks that the part writes the text, and no other byte.
 fn check_part<P: Part>(rt: &impl Abort, part: P, text: &[u8])
     requires valid { P.is_valid part }
@@ -47,17 +68,21 @@ fn check_part<P: Part>(rt: &impl Abort, part: P, text: &[u8])
 #[test]
 fn identifiers(rt: HostRuntime) {
     let mut buffer = [7; 13];
-    assert_eq!(rt; identifier(0, &mut buffer), b"0".as_slice());
+    check_bytes(&rt, identifier(0, &mut buffer), b"0");
     same_counter(35, 36);
-    assert_eq!(rt; identifier(35, &mut buffer), b"Z".as_slice());
-    assert_eq!(rt; identifier(36, &mut buffer), b"10".as_slice());
+    check_bytes(&rt, identifier(35, &mut buffer), b"Z");
+    check_bytes(&rt, identifier(36, &mut buffer), b"10");
     let largest = identifier(18446744073709551615, &mut buffer);
-    assert_eq!(rt; largest, b"3W5E11264SGSF".as_slice());
+    check_bytes(&rt, largest, b"3W5E11264SGSF");
     assert!(rt; have_same_identifier(71, 71));
     assert!(rt; !have_same_identifier(71, 72));
+}
+
+#[test]
+fn sorted_identifiers(rt: HostRuntime) {
     let mut buffer = [7; 8];
-    assert_eq!(rt; sorted_identifier(35, &mut buffer), b"0000000Z".as_slice());
-    assert_eq!(rt; sorted_identifier(36, &mut buffer), b"00000010".as_slice());
+    check_bytes(&rt, sorted_identifier(35, &mut buffer), b"0000000Z");
+    check_bytes(&rt, sorted_identifier(36, &mut buffer), b"00000010");
     assert!(rt; is_sorted_before(35, 36));
     assert!(rt; !is_sorted_before(36, 36));
     assert!(rt; !is_sorted_before(2821109907455, 35));
@@ -91,25 +116,26 @@ fn keys_in_the_order_of_the_numbers(rt: HostRuntime) {
 #[test]
 fn numbers_in_hexadecimal(rt: HostRuntime) {
     let mut buffer = [7; 10];
-    assert_eq!(rt; hexadecimal(0, &mut buffer), b"0x0".as_slice());
-    assert_eq!(rt; hexadecimal(48879, &mut buffer), b"0xBEEF".as_slice());
-    assert_eq!(rt;
-        hexadecimal(4294967295, &mut buffer),
-        b"0xFFFFFFFF".as_slice()
-    );
+    check_bytes(&rt, hexadecimal(0, &mut buffer), b"0x0");
+    check_bytes(&rt, hexadecimal(48879, &mut buffer), b"0xBEEF");
+    check_bytes(&rt, hexadecimal(4294967295, &mut buffer), b"0xFFFFFFFF");
 }
 
 #[test]
 fn any_type_in_any_format(rt: HostRuntime) {
     let binary = NumberFormatBuilder::binary();
     let mut buffer = [7; LINE_SIZE];
-    assert_eq!(rt;
-        line_of_any(-5i64, &binary, &mut buffer),
-        b"-101\n".as_slice()
-    );
-    assert_eq!(rt; line_of_any(6u8, &binary, &mut buffer), b"110\n".as_slice());
+    check_bytes(&rt, line_of_any(-5i64, &binary, &mut buffer), b"-101\n");
+    check_bytes(&rt, line_of_any(6u8, &binary, &mut buffer), b"110\n");
     assert!(rt; text_if_room(6u8, &binary, &Options::new(), &mut [7; 15]).is_none());
     assert!(rt; text_if_room(6u8, &binary, &Options::new(), &mut [7; 16]).is_some());
+}
+
+// 4294967295 is 3 * 32^6 + 31 * (32^5 + .. + 1).
+#[test]
+fn keys_in_radix_32(rt: HostRuntime) {
+    assert_eq!(rt; key(4294967295, &mut [7; 8]), "3VV_VVVV");
+    assert_eq!(rt; key(32, &mut [7; 8]), "10");
 }
 
 #[test]
@@ -128,9 +154,9 @@ fn widths_of_amounts(rt: HostRuntime) {
 
 #[test]
 fn text_of_a_constant(rt: HostRuntime) {
-    assert_eq!(rt; million(&mut [7; 14]), b"+1,000,000".as_slice());
-    assert_eq!(rt; year_month(2026, 11, &mut [7; 7]), b"2026-11".as_slice());
-    assert_eq!(rt; year_month(33, 4, &mut [7; 7]), b"0033-04".as_slice());
+    check_bytes(&rt, million(&mut [7; 14]), b"+1,000,000");
+    check_bytes(&rt, year_month(2026, 11, &mut [7; 7]), b"2026-11");
+    check_bytes(&rt, year_month(33, 4, &mut [7; 7]), b"0033-04");
 }
 
 #[test]
@@ -147,32 +173,32 @@ fn texts_in_an_arena(rt: HostRuntime) {
     let mut arena = [7; 60];
     let (first, rest) = keep_text(123, &mut arena);
     let (second, rest) = keep_text(-9223372036854775808, rest);
-    assert_eq!(rt; &*first, b"123".as_slice());
-    assert_eq!(rt; &*second, b"-9223372036854775808".as_slice());
+    check_bytes(&rt, first, b"123");
+    check_bytes(&rt, second, b"-9223372036854775808");
     assert_eq!(rt; rest.len(), 37);
     assert!(rt; have_same_kept_texts(-5, -5));
     assert!(rt; !have_same_kept_texts(-5, 5));
 }
 
-// The first example of the README.
+// The first example of the page of lexical_write_integer.
 #[test]
 fn a_first_use(rt: HostRuntime) {
     let mut buffer = [7u8; 20];
     let text = 1234u64.to_lexical(&mut buffer);
-    assert_eq!(rt; &*text, b"1234".as_slice());
-    assert!(rt; buffer[4..].iter().all(|byte| *byte == 7));
+    check_bytes(&rt, text, b"1234");
+    check_buffer(&rt, &buffer, 4, b"1234");
 
     let signed = NumberFormatBuilder::new()
         .required_mantissa_sign(true)
         .build_strict();
     let text = 127i8.to_lexical_with_options(&mut buffer, &signed, &Options::new());
-    assert_eq!(rt; &*text, b"+127".as_slice());
+    check_bytes(&rt, text, b"+127");
 
     let thousands = NumberFormatBuilder::new()
         .digit_grouping(3, b',')
         .build_strict();
     let mut buffer = [7u8; 20];
     let text = 1234567u32.to_lexical_with_options(&mut buffer, &thousands, &Options::new());
-    assert_eq!(rt; &*text, b"1,234,567".as_slice());
-    assert!(rt; buffer[9..].iter().all(|byte| *byte == 7));
+    check_bytes(&rt, text, b"1,234,567");
+    check_buffer(&rt, &buffer, 9, b"1,234,567");
 }

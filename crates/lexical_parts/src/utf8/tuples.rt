@@ -77,11 +77,8 @@ impl<
         × (E.is_utf8 p.4 × (F.is_utf8 p.5 × (G.is_utf8 p.6 × H.is_utf8 p.7)))))) };
 
     fn text_is_utf8(self) {
-        (
-            self.0,
-            (self.1, self.2, self.3, self.4, self.5, self.6, self.7),
-        )
-            .text_is_utf8();
+        let rest = (self.1, self.2, self.3, self.4, self.5, self.6, self.7);
+        (self.0, rest).text_is_utf8();
     }
 }
 
@@ -101,13 +98,10 @@ impl<
         × I.is_utf8 p.8))))))) };
 
     fn text_is_utf8(self) {
-        (
-            self.0,
-            (
-                self.1, self.2, self.3, self.4, self.5, self.6, self.7, self.8,
-            ),
-        )
-            .text_is_utf8();
+        let rest = (
+            self.1, self.2, self.3, self.4, self.5, self.6, self.7, self.8,
+        );
+        (self.0, rest).text_is_utf8();
     }
 }
 
@@ -128,13 +122,10 @@ impl<
         × J.is_utf8 p.9)))))))) };
 
     fn text_is_utf8(self) {
-        (
-            self.0,
-            (
-                self.1, self.2, self.3, self.4, self.5, self.6, self.7, self.8, self.9,
-            ),
-        )
-            .text_is_utf8();
+        let rest = (
+            self.1, self.2, self.3, self.4, self.5, self.6, self.7, self.8, self.9,
+        );
+        (self.0, rest).text_is_utf8();
     }
 }
 
@@ -156,13 +147,10 @@ impl<
         × (J.is_utf8 p.9 × K.is_utf8 p.10))))))))) };
 
     fn text_is_utf8(self) {
-        (
-            self.0,
-            (
-                self.1, self.2, self.3, self.4, self.5, self.6, self.7, self.8, self.9, self.10,
-            ),
-        )
-            .text_is_utf8();
+        let rest = (
+            self.1, self.2, self.3, self.4, self.5, self.6, self.7, self.8, self.9, self.10,
+        );
+        (self.0, rest).text_is_utf8();
     }
 }
 
@@ -185,13 +173,10 @@ impl<
         × (J.is_utf8 p.9 × (K.is_utf8 p.10 × L.is_utf8 p.11)))))))))) };
 
     fn text_is_utf8(self) {
-        (
-            self.0,
-            (
-                self.1, self.2, self.3, self.4, self.5, self.6, self.7, self.8, self.9, self.10,
-                self.11,
-            ),
-        )
-            .text_is_utf8();
+        let rest = (
+            self.1, self.2, self.3, self.4, self.5, self.6, self.7, self.8, self.9, self.10,
+            self.11,
+        );
+        (self.0, rest).text_is_utf8();
     }
 }

@@ -1,7 +1,7 @@
 // Tests of parts that are joined, and of callers that join parts.
 
-use super::check_buffer;
-use lexical_parts::{Fixed, HexBytes, Joined, Left, Padded, Part, Right, Utf8Part};
+use super::{check_buffer, check_part, check_room, check_str};
+use lexical_parts::{Fixed, HexBytes, Joined, Left, Padded, Part, Right};
 use uses::csv_row::{Row, try_write_rows};
 use uses::digest::write_digest;
 use uses::digit_pair::digit_pair;
@@ -10,37 +10,36 @@ use uses::ipv6::write_address;
 
 #[test]
 fn parts_of_each_kind_are_joined(rt: HostRuntime) {
-    let mut buffer = [7; 60];
-    let count = Joined(&[-1, 20], ", ").write_to(&mut buffer);
-    check_buffer(&rt, &buffer, count, b"-1, 20");
+    check_part(&rt, Joined(&[-1, 20], ", "), b"-1, 20");
     let time = Joined(&[Padded(7u8, 2), Padded(5, 2), Padded(9, 2)], ":");
-    assert_eq!(rt; time.to_str(&mut [7; 8]), "07:05:09");
+    check_str(&rt, time, &mut [7; 8], "07:05:09");
     let cells = Joined(
         &[Right(Fixed(-5, 2), 7, b' '), Right(Fixed(1200, 2), 7, b' ')],
         "|",
     );
-    assert_eq!(rt; cells.to_str(&mut [7; 60]), "  -0.05|  12.00");
+    check_str(&rt, cells, &mut [7; 60], "  -0.05|  12.00");
+}
+
+#[test]
+fn joined_parts_are_joined(rt: HostRuntime) {
     let rows = [
         Joined(&[1u8, 2], ","),
         Joined(&[], ","),
         Joined(&[255], ","),
     ];
-    assert_eq!(rt; Joined(&rows, ";").to_str(&mut [7; 12]), "1,2;;255");
-    assert_eq!(rt;
-        Joined(&["a", "", "°C"], "--").to_str(&mut [7; 8]),
-        "a----°C"
-    );
+    check_str(&rt, Joined(&rows, ";"), &mut [7; 12], "1,2;;255");
+    check_str(&rt, Joined(&["a", "", "°C"], "--"), &mut [7; 8], "a----°C");
 }
 
 #[test]
 fn rooms_of_joined_parts(rt: HostRuntime) {
-    assert_eq!(rt; Joined::<u8>(&[], ", ").room(), 0);
-    assert_eq!(rt; Joined(&[-5i64], ", ").room(), 20);
-    assert_eq!(rt; Joined(&[1i64, 2, 3], ", ").room(), 64);
-    assert_eq!(rt; Joined(&["a", "bcd", ""], ", ").room(), 8);
+    check_room(&rt, Joined::<u8>(&[], ", "), 0);
+    check_room(&rt, Joined(&[-5i64], ", "), 20);
+    check_room(&rt, Joined(&[1i64, 2, 3], ", "), 64);
+    check_room(&rt, Joined(&["a", "bcd", ""], ", "), 8);
     let wide = Left("", 18446744073709551615, b' ');
-    assert_eq!(rt; Joined(&[wide, wide], ", ").room(), 18446744073709551615);
-    assert_eq!(rt; HexBytes(&[1, 2, 3]).room(), 6);
+    check_room(&rt, Joined(&[wide, wide], ", "), 18446744073709551615);
+    check_room(&rt, HexBytes(&[1, 2, 3]), 6);
 }
 
 // The text of the largest number of each type is known from the language, and so is that of the smallest.
@@ -50,23 +49,28 @@ fn integers_are_parts(rt: HostRuntime) {
     let count = ("n=", 5, ".").write_to(&mut buffer);
     check_buffer(&rt, &buffer, count, b"n=5.");
     let unsigned = (255u8, " ", 65535u16, " ", 4294967295u32);
-    assert_eq!(rt; unsigned.to_str(&mut [7; 20]), "255 65535 4294967295");
+    check_str(&rt, unsigned, &mut [7; 20], "255 65535 4294967295");
     let signed = (-128i8, " ", -32768i16, " ", -2147483648i32);
-    assert_eq!(rt; signed.to_str(&mut [7; 23]), "-128 -32768 -2147483648");
+    check_str(&rt, signed, &mut [7; 23], "-128 -32768 -2147483648");
+    let largest = "18446744073709551615 -9223372036854775808";
     let wide = (18446744073709551615u64, " ", -9223372036854775808i64);
-    assert_eq!(rt;
-        wide.to_str(&mut [7; 41]),
-        "18446744073709551615 -9223372036854775808"
-    );
+    check_str(&rt, wide, &mut [7; 41], largest);
     let sizes = (18446744073709551615usize, " ", -9223372036854775808isize);
-    assert_eq!(rt;
-        sizes.to_str(&mut [7; 41]),
-        "18446744073709551615 -9223372036854775808"
-    );
-    assert_eq!(rt; (1u8.room(), 1u16.room(), 1u32.room()), (3, 5, 10));
-    assert_eq!(rt; (1i8.room(), 1i16.room(), 1i32.room()), (4, 6, 11));
-    assert_eq!(rt; (1u64.room(), 1i64.room()), (20, 20));
-    assert_eq!(rt; (1usize.room(), 1isize.room()), (20, 20));
+    check_str(&rt, sizes, &mut [7; 41], largest);
+}
+
+#[test]
+fn rooms_of_integers(rt: HostRuntime) {
+    check_room(&rt, 1u8, 3);
+    check_room(&rt, 1u16, 5);
+    check_room(&rt, 1u32, 10);
+    check_room(&rt, 1u64, 20);
+    check_room(&rt, 1usize, 20);
+    check_room(&rt, 1i8, 4);
+    check_room(&rt, 1i16, 6);
+    check_room(&rt, 1i32, 11);
+    check_room(&rt, 1i64, 20);
+    check_room(&rt, 1isize, 20);
 }
 
 #[test]
@@ -103,8 +107,8 @@ fn digests(rt: HostRuntime) {
         count,
         b"e3b0c44298fc1c149afbf4c8996fb92427ae41e4649b934ca495991b7852b855",
     );
-    assert_eq!(rt; HexBytes(&[0x0F, 0xA0]).to_str(&mut [7; 4]), "0FA0");
-    assert_eq!(rt; HexBytes(&[]).to_str(&mut [7; 4]), "");
+    check_str(&rt, HexBytes(&[0x0F, 0xA0]), &mut [7; 4], "0FA0");
+    check_str(&rt, HexBytes(&[]), &mut [7; 4], "");
 }
 
 #[test]

@@ -1,6 +1,6 @@
 // Tests of the callers of `lexical_parts`.
 
-use super::{check_buffer, check_part};
+use super::{check_buffer, check_bytes, check_part, check_room, check_str};
 use lexical_parts::{
     Byte, Bytes, Decimal, Digits, Formatted, Hex, Joined, Left, Lower, Padded, PaddedDigits, Part,
     Right, Utf8Part, ZeroPadded,
@@ -42,24 +42,62 @@ fn timestamps(rt: HostRuntime) {
 
 #[test]
 fn texts_as_str(rt: HostRuntime) {
-    let mut buffer = [7; 40];
-    assert_eq!(rt; (Decimal(-5i8), " °C").to_str(&mut buffer), "-5 °C");
-    assert_eq!(rt; Lower(("É ", Hex(255u8))).to_str(&mut buffer), "É ff");
+    check_str(&rt, (Decimal(-5i8), " °C"), &mut [7; 40], "-5 °C");
+    check_str(&rt, Lower(("É ", Hex(255u8))), &mut [7; 40], "É ff");
     let angle = ZeroPadded((Decimal(-5i8), "°"), 6);
-    assert_eq!(rt; angle.to_str(&mut buffer), "-005°");
-    assert!(rt; buffer[6..].iter().all(|byte| *byte == 7));
+    check_part(&rt, angle, "-005°".as_bytes());
+    check_str(&rt, angle, &mut [7; 40], "-005°");
     let row = (Byte(b'<'), Joined(&[1u8, 20], ", "), Byte(b'>'));
-    assert_eq!(rt; row.to_str(&mut buffer), "<1, 20>");
+    check_str(&rt, row, &mut [7; 40], "<1, 20>");
+}
+
+#[test]
+fn cells_as_str(rt: HostRuntime) {
     let digits = Left(Digits(16, 255u8), 4, b' ');
     let bits = Right(Some(PaddedDigits(2, 5u8, 4)), 6, b' ');
     digit_count_at_most(16, 255, 2);
     let cells = (digits, bits, None::<Decimal<u8>>);
-    assert_eq!(rt; cells.to_str(&mut buffer), "FF    0101");
+    check_str(&rt, cells, &mut [7; 40], "FF    0101");
+}
+
+// The longest texts of the types fill the rooms.
+#[test]
+fn numbers_in_a_format(rt: HostRuntime) {
     let thousands = NumberFormatBuilder::new()
         .digit_grouping(3, b',')
         .build_strict();
     let amount = Formatted(1234567u32, &thousands);
-    assert_eq!(rt; amount.to_str(&mut buffer), "1,234,567");
+    check_str(&rt, amount, &mut [7; 40], "1,234,567");
+    check_str(
+        &rt,
+        Formatted(u32::MAX, &thousands),
+        &mut [7; 13],
+        "4,294,967,295",
+    );
+    let signed = NumberFormatBuilder::new()
+        .required_mantissa_sign(true)
+        .build_strict();
+    check_str(
+        &rt,
+        Formatted(i32::MIN, &signed),
+        &mut [7; 11],
+        "-2147483648",
+    );
+    let padded = ZeroPadded(Formatted(42, &signed), 8);
+    check_str(&rt, padded, &mut [7; 11], "+0000042");
+    check_room(&rt, Formatted(1u8, &signed), 4);
+    check_room(&rt, Formatted(1u64, &NumberFormatBuilder::binary()), 64);
+    check_room(&rt, Formatted(1i64, &NumberFormatBuilder::binary()), 65);
+    check_room(
+        &rt,
+        Formatted(1i32, &NumberFormatBuilder::from_radix(36)),
+        7,
+    );
+}
+
+#[test]
+fn a_name_as_str(rt: HostRuntime) {
+    let mut buffer = [7; 40];
     let name = (Padded(7u8, 3), "é");
     assert_eq!(rt; name.try_to_str(&mut buffer[..5]), Some("007é"));
     assert_eq!(rt; name.try_to_str(&mut buffer[..4]), None);
@@ -72,17 +110,28 @@ fn bytes_after_a_text(rt: HostRuntime) {
     let part = (Decimal(-5i8), " °C");
     let text = "-5 °C";
     let mut buffer = [7; 12];
-    assert_eq!(rt; &*part.to_text(&mut buffer), text.as_bytes());
+    check_bytes(&rt, part.to_text(&mut buffer), text.as_bytes());
     check_buffer(&rt, &buffer, 6, text.as_bytes());
     let mut buffer = [7; 12];
     assert_eq!(rt; part.try_write_to(&mut buffer), Some(6));
     check_buffer(&rt, &buffer, 6, text.as_bytes());
+}
+
+#[test]
+fn bytes_after_a_str(rt: HostRuntime) {
+    let part = (Decimal(-5i8), " °C");
+    let text = "-5 °C";
     let mut buffer = [7; 12];
     assert_eq!(rt; part.to_str(&mut buffer), text);
     check_buffer(&rt, &buffer, 6, text.as_bytes());
     let mut buffer = [7; 12];
     assert_eq!(rt; part.try_to_str(&mut buffer), Some(text));
     check_buffer(&rt, &buffer, 6, text.as_bytes());
+}
+
+#[test]
+fn short_buffers(rt: HostRuntime) {
+    let part = (Decimal(-5i8), " °C");
     let mut short = [7; 7];
     assert_eq!(rt; part.try_write_to(&mut short), None);
     assert_eq!(rt; part.try_to_str(&mut short), None);
@@ -139,7 +188,7 @@ fn texts_for_writing(rt: HostRuntime) {
     );
     let flags = PaddedDigits(16, 255u32, 2);
     let text = (date, " ", Decimal(-12i32), " kg 0x", flags, ";").to_text(&mut buffer);
-    assert_eq!(rt; &*text, b"2026-11-03 -12 kg 0xFF;".as_slice());
+    check_bytes(&rt, text, b"2026-11-03 -12 kg 0xFF;");
     text[4] = b'.';
     check_buffer(&rt, &buffer, 23, b"2026.11-03 -12 kg 0xFF;");
 }

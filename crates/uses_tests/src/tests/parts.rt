@@ -1,9 +1,9 @@
 // Tests of single parts, and of callers that show one part each.
 
-use super::{check_buffer, check_part};
+use super::{check_buffer, check_part, check_room, check_str};
 use lexical_parts::{
     Binary, Center, Decimal, Fixed, GroupedFixed, Hex, Left, Lower, PaddedDigits, Part, Plus,
-    Right, Utf8Part, ZeroPadded,
+    Right, ZeroPadded,
 };
 use lexical_write_integer::NumberFormatBuilder;
 use lexical_write_integer::format::STANDARD;
@@ -18,7 +18,7 @@ fn parts_in_lowercase(rt: HostRuntime) {
     let count = (Lower(("@AZ[`az{", digits)), "K").write_to(&mut buffer);
     assert_eq!(rt; count, 15);
     assert_eq!(rt; buffer, *b"@az[`az{00beefKZZZZZ");
-    assert_eq!(rt; Lower(Decimal(-5i8)).room(), 4);
+    check_room(&rt, Lower(Decimal(-5i8)), 4);
 }
 
 #[test]
@@ -38,10 +38,10 @@ fn numbers_with_the_room_of_their_type(rt: HostRuntime) {
     check_part(&rt, (Hex(255u8), " ", Hex(0u16)), b"FF 0");
     check_part(&rt, (Lower(Hex(0xC0DEu32)), Binary(5u8)), b"c0de101");
     check_part(&rt, Hex(u64::MAX), b"FFFFFFFFFFFFFFFF");
-    assert_eq!(rt; Hex(1u8).room(), 2);
-    assert_eq!(rt; Hex(1u64).room(), 16);
-    assert_eq!(rt; Binary(1u8).room(), 8);
-    assert_eq!(rt; Binary(1u64).room(), 64);
+    check_room(&rt, Hex(1u8), 2);
+    check_room(&rt, Hex(1u64), 16);
+    check_room(&rt, Binary(1u8), 8);
+    check_room(&rt, Binary(1u64), 64);
 }
 
 #[test]
@@ -70,6 +70,10 @@ fn amounts_in_cents(rt: HostRuntime) {
     check_buffer(&rt, &buffer, count, b"1,234.50");
     let count = write_amount(i64::MIN, &mut buffer);
     check_buffer(&rt, &buffer, count, b"-92,233,720,368,547,758.08");
+}
+
+#[test]
+fn decimals_after_groups(rt: HostRuntime) {
     let by_one = NumberFormatBuilder::new()
         .required_mantissa_sign(true)
         .digit_grouping(1, b'_')
@@ -82,9 +86,9 @@ fn amounts_in_cents(rt: HostRuntime) {
         b"0.0000000000000000005",
     );
     check_part(&rt, GroupedFixed(-1234567, 2, &STANDARD), b"-12345.67");
-    assert_eq!(rt; GroupedFixed(1i64, 2, &by_one).room(), 37);
-    assert_eq!(rt; GroupedFixed(1u8, 0, &by_one).room(), 5);
-    assert_eq!(rt; GroupedFixed(7u8, 2, &by_one).to_str(&mut [7; 5]), "0.07");
+    check_room(&rt, GroupedFixed(1i64, 2, &by_one), 37);
+    check_room(&rt, GroupedFixed(1u8, 0, &by_one), 5);
+    check_str(&rt, GroupedFixed(7u8, 2, &by_one), &mut [7; 5], "0.07");
 }
 
 // Rust's own answers: `format!("{:06}", -42)`, and so on.
@@ -101,8 +105,14 @@ fn widths_as_in_rust(rt: HostRuntime) {
     check_part(&rt, Plus(i8::MIN), b"-128");
     check_part(&rt, ZeroPadded(Plus(42), 8), b"+0000042");
     check_part(&rt, ZeroPadded(Plus(-42), 8), b"-0000042");
-    assert_eq!(rt; (Plus(1u8).room(), Plus(1i8).room()), (4, 4));
-    assert_eq!(rt; (Plus(1u64).room(), Plus(1i32).room()), (21, 11));
+    check_room(&rt, Plus(1u8), 4);
+    check_room(&rt, Plus(1i8), 4);
+    check_room(&rt, Plus(1u64), 21);
+    check_room(&rt, Plus(1i32), 11);
+}
+
+#[test]
+fn columns_as_in_rust(rt: HostRuntime) {
     check_part(&rt, Right(Decimal(-42), 8, b' '), b"     -42");
     check_part(&rt, Right(Decimal(-42), 6, b'*'), b"***-42");
     check_part(&rt, Left(Decimal(-42), 6, b'*'), b"-42***");

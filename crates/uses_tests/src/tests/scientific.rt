@@ -2,8 +2,8 @@
 
 ghost use Rattle.std.specs.Prelude.{◌<◌, ◌≤◌};
 
-use super::check_part;
-use lexical_parts::{Part, Scientific, Utf8Part};
+use super::{check_part, check_room, check_str};
+use lexical_parts::{Part, Scientific};
 use uses::float_parts::write_float;
 
 // A generator of pseudorandom numbers, by multiplication and addition modulo 2^64.
@@ -74,10 +74,14 @@ fn scientific_notation(rt: HostRuntime) {
     check_part(&rt, Scientific(u8::MAX, i32::MIN), b"2.55e-2147483646");
     let longest = Scientific(u64::MAX, i32::MIN);
     check_part(&rt, longest, b"1.8446744073709551615e-2147483629");
-    assert_eq!(rt; longest.room(), 33);
+    check_room(&rt, longest, 33);
     let most = Scientific(10_000_000_000_000_000_000u64, i32::MAX);
-    assert_eq!(rt; most.to_str(&mut [7; 33]), "1e2147483666");
-    assert_eq!(rt; Scientific(-1i8, 0).room(), 17);
+    check_str(&rt, most, &mut [7; 33], "1e2147483666");
+    check_room(&rt, Scientific(-1i8, 0), 17);
+}
+
+#[test]
+fn floats(rt: HostRuntime) {
     assert_eq!(rt; write_float(true, 1234, -59, &mut [7; 34]), "-1.234e-56");
     assert_eq!(rt; write_float(false, 5, 0, &mut [7; 34]), "5e0");
 }

@@ -12,30 +12,42 @@ use uses::printed::{amount_string, flags_in_column};
 #[test]
 fn parts_in_format_strings(rt: HostRuntime) -> Result<(), Fail> {
     let alloc = rt.alloc();
-    let text = format!(in alloc;
-        "{}|{:>8}|{:*^7}|{:<4}|",
-        Hex(255u32),
-        Hex(255u32),
-        Decimal(-12),
-        Binary(5u8)
-    )?;
-    assert_eq!(rt; text.as_str(), "FF|      FF|**-12**|101 |");
+    let text = format!(in alloc; "{}|{:>8}|", Hex(255u32), Hex(255u32))?;
+    assert_eq!(rt; text.as_str(), "FF|      FF|");
+    let text = format!(in alloc; "{:*^7}|{:<4}|", Decimal(-12), Binary(5u8))?;
+    assert_eq!(rt; text.as_str(), "**-12**|101 |");
+    Ok(())
+}
+
+#[test]
+fn numbers_in_format_strings(rt: HostRuntime) -> Result<(), Fail> {
+    let alloc = rt.alloc();
     let thousands = NumberFormatBuilder::new()
         .digit_grouping(3, b',')
         .build_strict();
-    let text = format!(in alloc;
-        "{:12}|{:.3}",
-        Formatted(-1234567, &thousands),
-        Decimal(98765u64)
-    )?;
+    let number = Formatted(-1234567, &thousands);
+    let text = format!(in alloc; "{:12}|{:.3}", number, Decimal(98765u64))?;
     assert_eq!(rt; text.as_str(), "-1,234,567  |987");
+    Ok(())
+}
+
+#[test]
+fn styles_of_text(rt: HostRuntime) -> Result<(), Fail> {
+    let alloc = rt.alloc();
     let text = format!(in alloc; "{:08}|{:+}|{:#}", Decimal(5u8), Decimal(5u8), Hex(5u8))?;
     assert_eq!(rt; text.as_str(), "5       |5|5");
+    Ok(())
+}
+
+#[test]
+fn strings_of_parts(rt: HostRuntime) -> Result<(), Fail> {
+    let alloc = rt.alloc();
     assert_eq!(rt; flags_in_column(alloc, 0xBEEF)?.as_str(), "0x****BEEF");
-    assert_eq!(rt;
-        amount_string(alloc, -1234567, &thousands)?.as_str(),
-        "-1,234,567"
-    );
+    let thousands = NumberFormatBuilder::new()
+        .digit_grouping(3, b',')
+        .build_strict();
+    let amount = amount_string(alloc, -1234567, &thousands)?;
+    assert_eq!(rt; amount.as_str(), "-1,234,567");
     println!(rt; "{}", Hex(0xC0DEu32))?;
     Ok(())
 }
@@ -50,6 +62,11 @@ fn lines_of_a_log(rt: HostRuntime) -> Result<(), Fail> {
         log.as_slice(),
         b"4294967295 0xFFFF\n0 0x0\n12 0xFF\n".as_slice()
     );
+    Ok(())
+}
+
+#[test]
+fn lines_in_a_string(rt: HostRuntime) -> Result<(), Fail> {
     let mut log = String::new(rt.alloc());
     push_str_line(&mut log, 12, 255)?;
     push_str_line(&mut log, 7, 16)?;

@@ -1,0 +1,112 @@
+-- The room of a number in a format is enough for each number of the type.
+use Rattle.std.proofs.Common.{◌≡◌, ℕ, zero, suc, ◌+◌, ◌-◌, ◌/◌, ◌^◌, ◌<◌, ◌≤◌, ◌==◌, max, length, refl, inl, inr, arith, ℤ, pos, negsuc, ◌≤ℤ◌, unsigned_abs}
+use Rattle.std.specs.Prelude.{Bool, true, false}
+use mir.Val.{bool_byte}
+use Rattle.std.proofs.Math.Nat.{pow-le-pow_right}
+use Rattle.std.proofs.lemmas.Bool.{cases_lt, cond_both, eqb-true}
+use Rattle.std.proofs.lemmas.Int.{ints}
+use Rattle.lexical_num.specs.BitWidth.{is_8, is_16, is_32, is_64}
+use Rattle.lexical_num.specs.DecimalWidth.{IsDecimalWidth}
+use Rattle.lexical_num.specs.Format.{Format}
+use Rattle.lexical_num.specs.Range.{IsRange, unsigned, signed}
+use Rattle.lexical_num.specs.Sign.{sign_of}
+use Rattle.lexical_write_integer.specs.Computed.{digits_text}
+use Rattle.lexical_write_integer.specs.DigitCount.{digit_count}
+use Rattle.lexical_write_integer.specs.SizeBound.{grouped_length-le, grouped_length-more}
+use Rattle.lexical_write_integer.specs.Text.{digits_need, need}
+use Rattle.lexical_write_integer.proofs.OfDigits.Count.DigitCounts.{digit_count-fits, digit_count-le_64, digit_count-monotone}
+use Rattle.lexical_write_integer.proofs.OfDigits.Numerals.{length-IsDigits}
+use Rattle.lexical_write_integer.proofs.OfTexts.ComputedTexts.{digits_computed}
+use Rattle.lexical_parts.specs.Formatted.{count_in, formatted_room}
+
+-- ---- the largest magnitude
+
+pub largest-small : {bits : ℕ} {least greatest : ℤ} → IsRange bits least greatest → max (unsigned_abs least) (unsigned_abs greatest) < 2 ^ 64
+largest-small (unsigned _ is_8) = omega arith
+largest-small (unsigned _ is_16) = omega arith
+largest-small (unsigned _ is_32) = omega arith
+largest-small (unsigned _ is_64) = omega arith
+largest-small (signed _ is_8) = omega arith
+largest-small (signed _ is_16) = omega arith
+largest-small (signed _ is_32) = omega arith
+largest-small (signed _ is_64) = omega arith
+
+largest-le : {least greatest : ℤ} (x : ℤ) → least ≤ℤ x → x ≤ℤ greatest → unsigned_abs x ≤ max (unsigned_abs least) (unsigned_abs greatest)
+largest-le {least = pos m} {greatest = pos n} (pos x) low high = omega (arith, ints)
+largest-le {least = negsuc m} {greatest = pos n} (pos x) low high = omega (arith, ints)
+largest-le {greatest = negsuc n} (pos x) low high = absurd (omega (arith, ints))
+largest-le {least = pos m} (negsuc x) low high = absurd (omega (arith, ints))
+largest-le {least = negsuc m} (negsuc x) low high = omega (arith, ints)
+
+-- half of the bits of a signed type, and one more
+pub signed-largest : {bits : ℕ} {least greatest : ℤ} → IsRange bits least greatest → 0 < length (sign_of least false)
+    → (2 ^ 64 - 1) / 2 ^ (64 - bits) / 2 + 1 ≡ max (unsigned_abs least) (unsigned_abs greatest)
+signed-largest (unsigned _ _) negative = absurd (omega arith)
+signed-largest (signed _ is_8) negative = refl
+signed-largest (signed _ is_16) negative = refl
+signed-largest (signed _ is_32) negative = refl
+signed-largest (signed _ is_64) negative = refl
+
+-- ---- the sign and the digits
+
+sign-le : (least x : ℤ) (required : Bool) → least ≤ℤ x → length (sign_of x required) ≤ length (sign_of least required)
+sign-le (pos m) (pos n) required low = omega arith
+sign-le (negsuc m) (pos n) true low = omega arith
+sign-le (negsuc m) (pos n) false low = omega arith
+sign-le (pos m) (negsuc n) required low = absurd (omega (arith, ints))
+sign-le (negsuc m) (negsuc n) required low = omega arith
+
+sign-le_one : (least : ℤ) (required : Bool) → length (sign_of least required) ≤ 1
+sign-le_one (pos m) true = omega arith
+sign-le_one (pos m) false = omega arith
+sign-le_one (negsuc m) required = omega arith
+
+pub sign-is : (least : ℤ) (required : Bool) → length (sign_of least required) ≡ max (length (sign_of least false)) (bool_byte required)
+sign-is (pos m) true = refl
+sign-is (pos m) false = refl
+sign-is (negsuc m) true = refl
+sign-is (negsuc m) false = refl
+
+pub count_in-is : (r n : ℕ) → 2 ≤ r → n < 2 ^ 64 → count_in r n ≡ digit_count r n
+count_in-is zero n two small = absurd (omega arith)
+count_in-is (suc r) n two small = length-IsDigits (suc r) n (digits_text (suc r) n) two ((digits_computed (suc r) n (digits_text (suc r) n) two small).1 refl)
+
+-- a number with the largest decimal width has no fewer digits in decimal
+width-le : (width n : ℕ) → 1 ≤ width → 10 ^ (width - 1) ≤ n → width ≤ digit_count 10 n
+width-le width n some full =
+    elim (cases_lt (digit_count 10 n) width) [
+      | inl fewer ↦
+          let power = pow-le-pow_right {n = 10} (omega arith) {i = digit_count 10 n} {j = width - 1} (omega arith) in
+          absurd (omega (arith, power, full, digit_count-fits 10 n (omega arith)))
+      | inr enough ↦ enough
+    ]
+
+digits_need-le : (r n width largest : ℕ) → 2 ≤ r → n ≤ largest → 1 ≤ width → 10 ^ (width - 1) ≤ largest
+    → digits_need r n width ≤ digit_count r largest
+digits_need-le r n width largest two less some full =
+    cond_both (r == 10) width (digit_count r n) (λ k. k ≤ digit_count r largest)
+    (λ e. rw (eqb-true r 10 e) (width-le width largest some full))
+    (λ _. digit_count-monotone r n largest two less)
+
+-- ---- the room
+
+pub need-le_room : {bits width : ℕ} {least greatest : ℤ} (x : ℤ) (format : Format) → IsRange bits least greatest → IsDecimalWidth least greatest width
+    → 2 ≤ format.mantissa_radix → least ≤ℤ x → x ≤ℤ greatest → need x width format ≤ formatted_room least greatest format
+need-le_room {bits} {width} {least} {greatest} x format range decimal two low high =
+    let largest = max (unsigned_abs least) (unsigned_abs greatest) in
+    let counted = count_in-is format.mantissa_radix largest two (largest-small range) in
+    let digits =
+    digits_need-le format.mantissa_radix (unsigned_abs x) width largest two (largest-le x low high) decimal.some (omega (arith, decimal.needed)) in
+    let more =
+    grouped_length-more format.digit_grouping (digits_need format.mantissa_radix (unsigned_abs x) width) (count_in format.mantissa_radix largest) 0
+    (omega (arith, digits, counted)) in
+    omega (arith, more, sign-le least x format.required_mantissa_sign low)
+
+pub room-le : {bits : ℕ} {least greatest : ℤ} (format : Format) → IsRange bits least greatest → 2 ≤ format.mantissa_radix
+    → formatted_room least greatest format ≤ 128
+room-le {bits} {least} {greatest} format range two =
+    let largest = max (unsigned_abs least) (unsigned_abs greatest) in
+    let counted = count_in-is format.mantissa_radix largest two (largest-small range) in
+    let few = digit_count-le_64 format.mantissa_radix largest 64 two is_64 (largest-small range) in
+    let length = grouped_length-le format.digit_grouping (count_in format.mantissa_radix largest) 64 (omega (arith, counted, few)) (omega arith) in
+    omega (arith, length, sign-le_one least format.required_mantissa_sign)
