@@ -7,10 +7,12 @@ ghost use Rattle.lexical_write_integer.specs.Buffer.{WritesText};
 ghost use Rattle.lexical_write_integer.specs.Text.{need};
 ghost use Rattle.lexical_c.specs.Format.{HasOnlyRadix, IsAccepted, format_of};
 
-use crate::format::{CFormat, valid_format};
+use crate::format::CFormat;
 use lexical_num::limits::is_radix;
 use lexical_write_integer::write::WriteInteger;
-use lexical_write_integer::{FormattedSize, NumberFormat, ToLexical, write_sign};
+use lexical_write_integer::{
+    FormattedSize, NumberFormat, NumberFormatBuilder, ToLexical, write_sign,
+};
 
 /// Returns whether every field but the radix and the mark is 0. No field is tested by itself, so that
 /// one branch is enough.
@@ -41,7 +43,9 @@ pub fn plain_format<T: FormattedSize>(format: &CFormat, room: usize) -> Option<N
         T::FORMATTED_SIZE
     };
     if is_radix(u64::from(format.radix)) && has_only_radix(format) && size <= room {
-        Some(valid_format(format))
+        // The fields that are 0 are not read again.
+        let builder = NumberFormatBuilder::new().mantissa_radix(format.radix as u8);
+        Some(builder.build_strict())
     } else {
         None
     }
