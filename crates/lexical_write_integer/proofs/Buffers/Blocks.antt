@@ -1,5 +1,5 @@
 -- Blocks of digits in a buffer: how they join, and how the digits of a number are made of them.
-use Rattle.std.proofs.Common.{◌≡◌, ℕ, ◌+◌, ◌*◌, ◌/◌, ◌%◌, ◌^◌, ◌<◌, ◌≤◌, List, [], ◌∷◌, ◌++◌, length, take, drop, set, map, refl}
+use Rattle.std.proofs.Common.{◌≡◌, ℕ, ◌+◌, ◌-◌, ◌*◌, ◌/◌, ◌%◌, ◌^◌, ◌<◌, ◌≤◌, List, [], ◌∷◌, ◌++◌, length, take, drop, set, map, refl}
 use Rattle.std.proofs.Common.{sym, ap, subst, ◌∙◌, arith, add-zero, add_assoc, append_assoc, take-take}
 use Rattle.std.proofs.Math.Nat.{pow-zero, one-le-pow, mod-one, mod-lt, div-one, div-add-mod', add-mul, mul_assoc}
 use Rattle.std.proofs.lemmas.List.{map-append, append-nil, drop_all, drop-set, take-set}
@@ -96,6 +96,11 @@ IsWrittenBack-at {r} {n} {taken} {rest} {before = before} {after} same w = subst
 pub IsWrittenBack-counts : {r n taken rest at : ℕ} {before after : List ℕ}
     → 2 ≤ r → IsWrittenBack r n taken rest at before after → digit_count r rest + taken ≡ digit_count r n
 IsWrittenBack-counts {r} {n} {taken} {rest} two w = digit_count-left r n taken rest two w.fewer w.left
+
+-- of `count` digits in total, as many remain as the index
+pub IsWrittenBack-left : {r n count rest at : ℕ} {before after : List ℕ}
+    → 2 ≤ r → count ≡ digit_count r n → at ≤ count → IsWrittenBack r n (count - at) rest at before after → digit_count r rest ≡ at
+IsWrittenBack-left two is within w = omega (arith, IsWrittenBack-counts two w, within, is)
 
 -- `step` further digits, of a number that has more
 pub IsWrittenBack-more : {r n taken rest step next at : ℕ} {before between after : List ℕ}

@@ -14,8 +14,8 @@ pow-two r = rw (pow-suc r 1, pow-one) refl
 pub pow-four : (r : ℕ) → r ^ 4 ≡ r * r * (r * r)
 pow-four r = rw (pow-add r 2 2, pow-two) refl
 
-pub pow-eight : (r : ℕ) → r ^ 8 ≡ r * r * (r * r) * (r * r * (r * r))
-pow-eight r = rw (pow-add r 4 4, pow-four) refl
+pub pow-eight : (r : ℕ) → r ^ 8 ≡ r ^ 4 * r ^ 4
+pow-eight r = pow-add r 4 4
 
 -- a power of a power
 pub pow-pow : (base i j : ℕ) → (base ^ i) ^ j ≡ base ^ (i * j)

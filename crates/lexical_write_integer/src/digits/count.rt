@@ -5,7 +5,7 @@ ghost use Rattle.lexical_num.specs.Format.{IsRadix};
 ghost use Rattle.lexical_num.specs.BitWidth.{IsBitWidth};
 ghost use Rattle.lexical_write_integer.specs.Digits.DigitCount.{digit_count};
 ghost use Rattle.lexical_write_integer.specs.Digits.LoopTurns.{IsStep, TakesDigits, count_notes, count_turns};
-ghost use Rattle.lexical_write_integer.specs.Digits.LoopTurns.{slow_notes, slow_turns};
+ghost use Rattle.lexical_write_integer.specs.Digits.LoopTurns.{is_counted_at_once, slow_notes, slow_turns};
 
 pub mod decimal_count;
 pub mod logarithm;
@@ -95,6 +95,14 @@ pub fn slow_digit_count_counted<T: UnsignedInteger>(x: T, radix: u32, turns: &mu
     let (left, by_two) = take_digits(left, radix, 2, turns);
     let (_, by_one) = take_digits(left, radix, 1, turns);
     1 + by_four + by_two + by_one
+}
+
+// Returns whether `digit_count_counted` counts the digits in the radix without division: from the highest set bit, or in
+// radix 10 from a table.
+pub(crate) fn counts_at_once(radix: u32) -> bool
+    ensures { result ≡ is_counted_at_once radix }
+{
+    radix == 2 || radix == 4 || radix == 8 || radix == 10 || radix == 16 || radix == 32
 }
 
 /// Returns how many digits the number has. They are counted from the highest set bit if the radix is a

@@ -10,8 +10,13 @@ use Rattle.lexical_write_integer.specs.Texts.Groups.{mark_before, in_groups, gro
 pub mark_before-whole : (grouping : ℕ × ℕ) (right : ℕ) → right % grouping.0 ≡ 0 → mark_before grouping right ≡ grouping.1 ∷ []
 mark_before-whole grouping right whole = cond-true _ _ _ (eq-eqb (right % grouping.0) 0 whole)
 
-mark_before-part : (grouping : ℕ × ℕ) (right : ℕ) → (right % grouping.0 ≡ 0 → ⊥) → mark_before grouping right ≡ []
+pub mark_before-part : (grouping : ℕ × ℕ) (right : ℕ) → (right % grouping.0 ≡ 0 → ⊥) → mark_before grouping right ≡ []
 mark_before-part grouping right part = cond-false _ _ _ (ne_eqb (right % grouping.0) 0 part)
+
+pub in_groups-more : (grouping : ℕ × ℕ) (digit : ℕ) (digits : List ℕ)
+    → 0 < length digits → in_groups grouping (digit ∷ digits) ≡ digit ∷ mark_before grouping (length digits) ++ in_groups grouping digits
+in_groups-more grouping digit [] some = absurd (omega arith)
+in_groups-more grouping digit (next ∷ digits) some = refl
 
 -- a single group has no separator
 pub in_groups-one : (grouping : ℕ × ℕ) (digits : List ℕ) → length digits ≤ grouping.0 → in_groups grouping digits ≡ digits

@@ -6,7 +6,7 @@ ghost use Rattle.lexical_write_integer.specs.Digits.DigitCount.{digit_count};
 ghost use Rattle.lexical_write_integer.specs.Digits.Table.{BeginsWithPairs};
 ghost use Rattle.lexical_write_integer.specs.Digits.LoopTurns.{loop_notes, table_notes};
 
-use super::table_writer::{RadixTable, remove_eight, write_up_to_four};
+use super::table_writer::{RadixTable, first_pair, remove_eight, write_up_to_four};
 use crate::digits::count::digit_count_counted;
 use crate::turns::Turns;
 
@@ -33,19 +33,6 @@ fn write_four_bits(bits: u32, buffer: &mut [u8], at: usize)
     buffer[at..at + 4].copy_from_slice(&characters);
 }
 
-// Returns the digits before the last two of a number of up to four digits, and records them if there are any.
-fn first_pair(number: u32, turns: &mut Turns) -> u32
-    requires { number < 16 }
-    ensures pair { result ≡ number / 4 }
-    ensures notes { turns.new ≡ turns.old ++ loop_notes 2 number }
-{
-    let pair = number / 4;
-    if pair > 0 {
-        turns.tick(u64::from(pair));
-    }
-    pair
-}
-
 // Divides a number of up to eight digits by 16 if it has more than four, and then by 4 if more than two are left.
 // Records the quotients, and returns the number, put together from them: the digits come from what is recorded.
 fn record_up_to_eight(number: u32, turns: &mut Turns) -> u32
@@ -54,11 +41,11 @@ fn record_up_to_eight(number: u32, turns: &mut Turns) -> u32
     ensures notes { turns.new ≡ turns.old ++ loop_notes 2 number }
 {
     if number < 16 {
-        return 4 * first_pair(number, turns) + number % 4;
+        return 4 * first_pair::<2>(number, turns) + number % 4;
     }
     let left = number / 16;
     turns.tick(u64::from(left));
-    64 * first_pair(left, turns) + 16 * (left % 4) + number % 16
+    64 * first_pair::<2>(left, turns) + 16 * (left % 4) + number % 16
 }
 
 // Writes a number of up to eight binary digits, with a table that begins with their pairs. If there are more than four,

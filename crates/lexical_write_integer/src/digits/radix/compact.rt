@@ -11,7 +11,7 @@ ghost use Rattle.lexical_write_integer.specs.Digits.LoopTurns.{compact_notes, co
 
 use super::by_radix::by_radix;
 use crate::buffer::copy_to_front;
-use crate::digits::count::digit_count_counted;
+use crate::digits::count::{counts_at_once, digit_count_counted};
 use crate::turns::Turns;
 use lexical_num::constants::FormattedSize;
 use lexical_num::digit::digit_to_char;
@@ -65,8 +65,8 @@ fn write_in_radix<const RADIX: u32>(value: u64, buffer: &mut [u8]) -> (usize, Tu
     ensures notes { result.1 ≡ compact_notes RADIX value }
 {
     let mut turns = Turns::new();
-    // In these radices the digits are counted without a loop or a table, so they go to the buffer itself.
-    if RADIX == 2 || RADIX == 4 || RADIX == 8 || RADIX == 16 || RADIX == 32 {
+    // If the digits are counted without a loop or a table, they go to the buffer itself.
+    if RADIX != 10 && counts_at_once(RADIX) {
         let count = digit_count_counted(value, RADIX, &mut turns);
         write_to_end::<RADIX>(value, &mut buffer[..count], &mut turns);
         return (count, turns);

@@ -2,18 +2,16 @@
 // on. The functions record their quotients in two counters, which only contracts read: `counted` for the count of
 // the digits, and `written` for writing them.
 
-ghost use Rattle.std.specs.Prelude.{◌≡◌, ℕ, ◌+◌, ◌-◌, ◌*◌, ◌/◌, ◌%◌, ◌^◌, ◌<◌, ◌≤◌};
-ghost use Rattle.std.specs.Prelude.{◌++◌, [], ◌∷◌, false, length};
+ghost use Rattle.std.specs.Prelude.{◌≡◌, ◌+◌, ◌-◌, ◌*◌, ◌/◌, ◌%◌, ◌^◌, ◌<◌, ◌≤◌, ◌++◌, length};
 ghost use Rattle.lexical_num.specs.Format.{IsRadix};
 ghost use Rattle.lexical_write_integer.specs.Buffer.{WritesBlock, WritesDigits};
 ghost use Rattle.lexical_write_integer.specs.Digits.DigitCount.{digit_count};
 ghost use Rattle.lexical_write_integer.specs.Digits.Table.{BeginsWithPairs};
-ghost use Rattle.lexical_write_integer.specs.Digits.LoopTurns.{TakesDigits, count_notes, loop_notes, table_notes};
-ghost use Rattle.lexical_write_integer.specs.Digits.LoopTurns.{digits_after_first, is_counted_at_once};
+ghost use Rattle.lexical_write_integer.specs.Digits.LoopTurns.{count_notes, loop_notes, table_notes};
 
 use super::binary_words::{write_binary, write_binary_byte};
 use super::by_radix::by_radix;
-use crate::digits::count::digit_count_counted;
+use crate::digits::count::{counts_at_once, digit_count_counted};
 use crate::turns::Turns;
 
 // A table that begins with the digit pairs of the radix `R`.
@@ -24,11 +22,14 @@ pub(super) struct RadixTable<'a, const R: u32> {
     ghost begins: { BeginsWithPairs R pairs.now },
 }
 
-// Returns whether digits are counted without division in the radix, from the highest set bit or a table.
-fn counts_at_once(radix: u32) -> bool
-    ensures { result ≡ is_counted_at_once radix }
+// Returns the fourth power of the radix: the divisor that removes four digits.
+fn fourth_power(radix: u32) -> u32
+    requires { IsRadix radix }
+    ensures power { result ≡ radix ^ 4 }
+    ensures some { 0 < result }
 {
-    radix == 2 || radix == 4 || radix == 8 || radix == 10 || radix == 16 || radix == 32
+    let square = radix * radix;
+    square * square
 }
 
 // Copies the pair at `index` of the table to index `at` of the buffer. The pair has the two digits of the
@@ -59,25 +60,23 @@ fn write_last_four<const R: u32>(
     ensures { WritesBlock R 4 (number % R ^ 4) at buffer.old buffer.new }
 {
     let square = R * R;
-    let digits = (number - left * u64::from(square * square)) as u32;
+    let digits = (number - left * u64::from(fourth_power(R))) as u32;
     write_pair(2 * (digits % square) as usize, table, buffer, at + 2);
     write_pair(2 * (digits / square) as usize, table, buffer, at);
 }
 
-// If a number of up to two digits has two, removes the last digit and records the quotient. Returns how many
-// digits were removed.
-fn take_last_digit(number: u32, radix: u32, turns: &mut Turns) -> usize
-    requires radix { IsRadix radix }
-    requires short { number < radix ^ 2 }
-    ensures { (left : ℕ) × TakesDigits radix number 1 result left turns.old turns.new }
+// Returns the digits before the last two of a number of up to four digits, and records them if there are any.
+pub(super) fn first_pair<const R: u32>(number: u32, turns: &mut Turns) -> u32
+    requires radix { IsRadix R }
+    requires short { number < R ^ 4 }
+    ensures pair { result ≡ number / (R * R) }
+    ensures notes { turns.new ≡ turns.old ++ loop_notes R number }
 {
-    let left = number / radix;
-    if left > 0 {
-        turns.tick(u64::from(left));
-        1
-    } else {
-        0
+    let pair = number / (R * R);
+    if pair > 0 {
+        turns.tick(u64::from(pair));
     }
+    pair
 }
 
 // Writes the one to four digits of a number to the start of the buffer: four characters, each at its index or,
@@ -95,17 +94,30 @@ pub(super) fn write_up_to_four<const R: u32>(
     ensures written { WritesBlock R digits number 0 buffer.old buffer.new }
     ensures notes { turns.new ≡ turns.old ++ loop_notes R number }
 {
-    let square = R * R;
-    let left = number / square;
-    if left > 0 {
-        turns.tick(u64::from(left));
-    }
-    let first = 2 * left as usize;
-    let last = 2 * (number % square) as usize;
+    let first = 2 * first_pair::<R>(number, turns) as usize;
+    let last = 2 * (number % (R * R)) as usize;
     buffer[0] = table.pairs[first];
     buffer[digits / 4] = table.pairs[first + 1];
     buffer[digits.saturating_sub(2)] = table.pairs[last];
     buffer[digits - 1] = table.pairs[last + 1];
+}
+
+// Returns how many digits a number of one or two digits has.
+fn count_one_or_two(number: u32, radix: u32, turns: &mut Turns) -> usize
+    requires radix { IsRadix radix }
+    requires short { number < radix ^ 2 }
+    ensures count { result ≡ digit_count radix number }
+    ensures notes { turns.new ≡ turns.old ++ count_notes radix number }
+{
+    if counts_at_once(radix) {
+        return if number < radix { 1 } else { 2 };
+    }
+    let left = number / radix;
+    if left == 0 {
+        return 1;
+    }
+    turns.tick(u64::from(left));
+    2
 }
 
 // Returns how many digits a number of up to four digits has.
@@ -119,12 +131,11 @@ fn count_up_to_four<const R: u32>(number: u32, turns: &mut Turns) -> usize
         return digit_count_counted(number, R, turns);
     }
     let left = number / (R * R);
-    if left > 0 {
-        turns.tick(u64::from(left));
-        3 + take_last_digit(left, R, turns)
-    } else {
-        1 + take_last_digit(number, R, turns)
+    if left == 0 {
+        return count_one_or_two(number, R, turns);
     }
+    turns.tick(u64::from(left));
+    2 + count_one_or_two(left, R, turns)
 }
 
 // Writes a number of up to eight digits. Of the numbers of 8 bits, many have one or two.
@@ -142,8 +153,7 @@ fn write_up_to_eight<const BITS: u32, const R: u32>(
     ensures counted { counted.new ≡ counted.old ++ count_notes R value }
     ensures written { written.new ≡ written.old ++ loop_notes R value }
 {
-    let square = R * R;
-    let power = square * square;
+    let power = fourth_power(R);
     if value >= u64::from(power) {
         let left = if R < 16 || BITS == 32 {
             value as u32 / power
@@ -160,7 +170,7 @@ fn write_up_to_eight<const BITS: u32, const R: u32>(
         return head + 4;
     }
     let number = value as u32;
-    if BITS == 8 && number < square {
+    if BITS == 8 && number < R * R {
         return write_one_or_two(number, R, table.pairs, buffer, counted);
     }
     let count = count_up_to_four::<R>(number, counted);
@@ -183,8 +193,7 @@ fn write_after_count<const R: u32>(
     ensures written { written.new ≡ written.old ++ loop_notes R value }
 {
     let count = digit_count_counted(value, R, counted);
-    let square = R * R;
-    let power = u64::from(square * square);
+    let power = u64::from(fourth_power(R));
     let mut left = value;
     let mut at = count;
     while at > 4 {
@@ -215,8 +224,7 @@ pub(super) fn remove_eight<const R: u32>(
     ensures counted { counted.new ++ count_notes R result.1 ≡ counted.old ++ count_notes R value }
     ensures written { written.new ++ loop_notes R result.1 ≡ written.old ++ loop_notes R value }
 {
-    let square = R * R;
-    let power = u64::from(square * square);
+    let power = u64::from(fourth_power(R));
     let first = value / power;
     let second = first / power;
     if !counts_at_once(R) {
@@ -243,8 +251,7 @@ fn write_number<const R: u32>(
     ensures counted { counted.new ≡ counted.old ++ count_notes R value }
     ensures written { written.new ≡ written.old ++ loop_notes R value }
 {
-    let square = u64::from(R * R);
-    let power = square * square;
+    let power = u64::from(fourth_power(R));
     if value < power * power {
         return write_up_to_eight::<64, R>(value, table, buffer, counted, written);
     }
@@ -285,8 +292,7 @@ pub(crate) fn write_digits<const BITS: u32, const R: u32>(
         };
     }
     let table = RadixTable::<R> { pairs: table };
-    let square = u64::from(R * R);
-    let power = square * square;
+    let power = u64::from(fourth_power(R));
     let mut written = Turns::new();
     // In radix 16 and above a number of 32 bits has at most eight digits.
     if R >= 16 && BITS != 8 && value < 1 << 32 {
@@ -319,19 +325,6 @@ pub(crate) fn write_digits_in(
     ensures notes { turns.new ≡ turns.old ++ table_notes radix number }
 {
     by_radix!(radix, write_digits::<64>(number, table, buffer, turns))
-}
-
-// Returns how many digits a number of one or two digits has.
-fn count_one_or_two(value: u32, radix: u32, turns: &mut Turns) -> usize
-    requires radix { IsRadix radix }
-    requires short { value < radix ^ 2 }
-    ensures count { result ≡ digit_count radix value }
-    ensures notes { turns.new ≡ turns.old ++ count_notes radix value }
-{
-    if counts_at_once(radix) {
-        return if value < radix { 1 } else { 2 };
-    }
-    1 + take_last_digit(value, radix, turns)
 }
 
 // Writes a number of one or two digits without a branch: a single digit is written twice, to the same byte.

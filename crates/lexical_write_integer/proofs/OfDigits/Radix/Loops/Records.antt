@@ -2,17 +2,19 @@
 use Rattle.std.proofs.Common.{◌≡◌, ◌≢◌, ℕ, ◌+◌, ◌-◌, ◌*◌, ◌/◌, ◌%◌, ◌^◌, ◌<◌, ◌≤◌, Bool, true, false, cond, ltb, eqb, List, []}
 use Rattle.std.proofs.Common.{◌∷◌, ◌++◌, length, refl, sym, ap, ◌∙◌, inl, inr, arith, append_assoc, length-append}
 use Rattle.std.proofs.Math.Nat.{pow-le-pow_left, pow-le-pow_right, div-one}
+use Rattle.std.proofs.lemmas.Nat.{div_below, pow-add}
 use Rattle.std.proofs.lemmas.List.{append-nil}
 use Rattle.std.proofs.lemmas.Bool.{cond_both, ltb-true, ltb-false, eqb-true, eqb-false, or_from, ne_eqb, cases_eq}
 use Rattle.lexical_num.specs.BitWidth.{IsBitWidth}
 use Rattle.lexical_write_integer.specs.Digits.DigitCount.{digit_count}
-use Rattle.lexical_write_integer.specs.Digits.LoopTurns.{takes_two, takes_four}
+use Rattle.lexical_write_integer.specs.Digits.LoopTurns.{takes_two}
 use Rattle.lexical_write_integer.specs.Digits.LoopTurns.{TakesDigits, digits_after_first, quotients, loop_notes, slow_notes, count_notes}
 use Rattle.lexical_write_integer.specs.Digits.LoopTurns.{table_notes, compact_notes, is_counted_at_once, loop_turns, slow_turns}
 use Rattle.lexical_write_integer.specs.Digits.LoopTurns.{count_turns, table_turns, compact_turns}
-use Rattle.lexical_write_integer.proofs.OfDigits.Count.DigitCounts.{digit_count-pos, digit_count-le, digit_count-split, width-le_64}
-use Rattle.lexical_write_integer.proofs.OfDigits.Powers.{div-pow_more}
-use Rattle.lexical_write_integer.proofs.OfDigits.Radix.Loops.Divisions.{TakesDigits-none, TakesDigits-counts}
+use Rattle.lexical_write_integer.proofs.OfDigits.Count.DigitCounts.{digit_count-pos, digit_count-le, digit_count-one, digit_count-two, digit_count-split, width-le_64}
+use Rattle.lexical_write_integer.proofs.OfDigits.Powers.{div-pow_more, pow-one}
+use Rattle.lexical_write_integer.proofs.OfDigits.Count.RadixPowers.{power-gt_one}
+use Rattle.lexical_write_integer.proofs.OfDigits.Radix.Loops.Divisions.{TakesDigits-counts}
 use Rattle.lexical_write_integer.proofs.OfDigits.Radix.Loops.Divisions.{quotients-none, quotients-more, quotients-first, length-quotients}
 
 length-cond : (test : Bool) (xs ys : List ℕ) → length (cond test xs ys) ≡ cond test (length xs) (length ys)
@@ -51,19 +53,6 @@ unfolding loop_notes
 loop_notes-are {r} {n} {a = a} two t u =
     rw (u.notes, t.notes, two_notes two t) (append_assoc a (quotients r n 4 (digits_after_first r n / 4)) _)
 
--- for a number of one or two digits they record nothing
-pub loop_notes-none : (r n : ℕ) (notes : List ℕ) → 2 ≤ r → n < r ^ 2 → notes ≡ notes ++ loop_notes r n
-loop_notes-none r n notes two short =
-    let fits : n < r ^ 4 = omega (arith, pow-le-pow_right {n = r} (omega arith) {i = 2} {j = 4} (omega arith)) in
-    loop_notes-are two (TakesDigits-none two takes_four fits) (TakesDigits-none two takes_two short)
-
--- after the loop that divides by the fourth power, what is recorded for a number of at most four digits
-pub loop_notes-end : {r n four left : ℕ} {a b c : List ℕ}
-    → 2 ≤ r → TakesDigits r n 4 four left a b → left < r ^ 4 → c ≡ b ++ loop_notes r left → c ≡ a ++ loop_notes r n
-loop_notes-end {r} {left = left} {b = b} two t short noted =
-    let last : TakesDigits r left 2 _ _ b (b ++ quotients r left 2 (digits_after_first r left / 2)) = record { count = refl; rest = refl; notes = refl } in
-    noted ∙ sym (loop_notes-are two (TakesDigits-none two takes_four short) last) ∙ loop_notes-are two t last
-
 -- ---- the slow count, whose last loop removes single digits
 
 pub slow_count-is : {r n four left_four by_two left_two by_one left_one : ℕ} {a b c d : List ℕ}
@@ -97,6 +86,58 @@ pub slow_notes-are : {r n four left_four by_two left_two by_one left_one : ℕ} 
 unfolding slow_notes
 slow_notes-are {r} {n} {a = a} two t u v =
     rw (v.notes, loop_notes-are two t u, last_notes two t u) (append_assoc a (loop_notes r n) _)
+
+-- ---- a number of up to four digits
+
+loop_notes-short : (r n : ℕ) → 2 ≤ r → n < r ^ 2 → loop_notes r n ≡ []
+unfolding loop_notes quotients
+loop_notes-short r n two short =
+    let few = digit_count-le r n 2 (omega arith) short in
+    elim (cases_eq (digit_count r n) 1) [
+      | inl one ↦ rw one refl
+      | inr more ↦ let both : digit_count r n ≡ 2 = omega (arith, digit_count-pos r n) in rw both refl
+    ]
+
+-- with one or two digits, the loops before the last of the count record nothing
+pub loop_notes-none : (r n : ℕ) (notes : List ℕ) → 2 ≤ r → n < r ^ 2 → notes ≡ notes ++ loop_notes r n
+loop_notes-none r n notes two short = rw (loop_notes-short r n two short) (sym (append-nil notes))
+
+-- and with three or four, a quotient
+pub loop_notes-pair : (r n : ℕ) → 2 ≤ r → r ^ 2 ≤ n → n < r ^ 4 → loop_notes r n ≡ n / r ^ 2 ∷ []
+unfolding loop_notes quotients
+loop_notes-pair r n two long short =
+    let split = digit_count-split r 2 n two long in
+    let few = digit_count-le r n 4 (omega arith) short in
+    elim (cases_eq (digit_count r n) 3) [
+      | inl three ↦ rw three refl
+      | inr more ↦ let four : digit_count r n ≡ 4 = omega (arith, split, digit_count-pos r (n / r ^ 2)) in rw four refl
+    ]
+
+pub count_notes-one : (r n : ℕ) → 2 ≤ r → is_counted_at_once r ≡ false → n < r → count_notes r n ≡ []
+unfolding count_notes slow_notes
+count_notes-one r n two by_turns short =
+    let short_too : n < r ^ 2 = omega (arith, pow-one r, pow-le-pow_right {n = r} (omega arith) {i = 1} {j = 2} (omega arith)) in
+    rw (by_turns, loop_notes-short r n two short_too, digit_count-one r n two short) refl
+
+pub count_notes-two : (r n : ℕ) → 2 ≤ r → is_counted_at_once r ≡ false → r ≤ n → n < r ^ 2 → count_notes r n ≡ n / r ∷ []
+unfolding count_notes slow_notes
+count_notes-two r n two by_turns long short = rw (by_turns, loop_notes-short r n two short, digit_count-two r n two long short, pow-one) refl
+
+pub count_notes-pair : (r n : ℕ)
+    → 2 ≤ r → is_counted_at_once r ≡ false → r ^ 2 ≤ n → n < r ^ 4 → count_notes r n ≡ n / r ^ 2 ∷ count_notes r (n / r ^ 2)
+unfolding count_notes slow_notes
+count_notes-pair r n two by_turns long short =
+    let below : n / r ^ 2 < r ^ 2 = div_below n (r ^ 2) (r ^ 2) (omega (arith, power-gt_one r 2 two takes_two)) (rw (pow-add r 2 2) at short) in
+    let few = digit_count-le r (n / r ^ 2) 2 (omega arith) below in
+    let split = digit_count-split r 2 n two long in
+    let pair = loop_notes-pair r n two long short in
+    let none = loop_notes-short r (n / r ^ 2) two below in
+    elim (cases_eq (digit_count r (n / r ^ 2)) 1) [
+      | inl one ↦ rw (by_turns, pair, none, split, one) refl
+      | inr more ↦
+          let both : digit_count r (n / r ^ 2) ≡ 2 = omega (arith, digit_count-pos r (n / r ^ 2)) in
+          rw (by_turns, pair, none, split, both, div-pow_more) refl
+    ]
 
 -- ---- a number of more than four digits: its first quotient, and then what is recorded for that quotient
 
@@ -148,7 +189,7 @@ table_notes-are r n a b c counted written = rw (written, counted) (append_assoc 
 
 -- ---- a number of more than four digits, whose first quotient is recorded before what is recorded for that quotient
 
-after_first : (a b c : List ℕ) (q : ℕ) (notes : List ℕ) → b ≡ a ++ q ∷ [] → c ≡ b ++ notes → c ≡ a ++ q ∷ notes
+pub after_first : (a b c : List ℕ) (q : ℕ) (notes : List ℕ) → b ≡ a ++ q ∷ [] → c ≡ b ++ notes → c ≡ a ++ q ∷ notes
 after_first a b c q notes noted following = rw (following, noted) (append_assoc a (q ∷ []) notes)
 
 pub loop_notes-after : (r n : ℕ) (a b c : List ℕ)

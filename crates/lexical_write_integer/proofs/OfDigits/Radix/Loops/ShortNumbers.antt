@@ -1,24 +1,13 @@
 -- Numbers of one to four digits, which are written without a loop.
-use Rattle.std.proofs.Common.{◌≡◌, ℕ, ◌+◌, ◌*◌, ◌/◌, ◌^◌, ◌<◌, ◌≤◌, List, [], ◌∷◌, ◌++◌, drop, inl, inr, arith}
+use Rattle.std.proofs.Common.{◌≡◌, ℕ, ◌+◌, ◌*◌, ◌/◌, ◌^◌, ◌<◌, ◌≤◌, List, drop, inl, inr, arith}
 use Rattle.std.proofs.Math.Nat.{div-eq_of_lt, pow-le-pow_right}
 use Rattle.std.proofs.lemmas.Bool.{cases_lt}
-use Rattle.std.proofs.lemmas.Nat.{pow-add, div_below, le-div}
+use Rattle.std.proofs.lemmas.Nat.{pow-add, le-div}
 use Rattle.lexical_write_integer.specs.Buffer.{WritesBlock}
 use Rattle.lexical_write_integer.specs.Digits.DigitCount.{digit_count}
-use Rattle.lexical_write_integer.specs.Digits.LoopTurns.{IsStep, TakesDigits, takes_four}
-use Rattle.lexical_write_integer.proofs.OfDigits.Radix.Loops.Divisions.{IsDivided-start, IsDivided-more, TakesDigits-end}
+use Rattle.lexical_write_integer.specs.Digits.LoopTurns.{takes_four}
 use Rattle.lexical_write_integer.proofs.OfDigits.Count.RadixPowers.{power-gt_one}
 use Rattle.lexical_write_integer.proofs.OfDigits.Count.DigitCounts.{digit_count-fits, digit_count-le}
-
--- one iteration, after which there is none
-pub TakesDigits-once : {r n step next : ℕ} {before after : List ℕ}
-    → 2 ≤ r → IsStep step → r ^ step ≤ n → n < r ^ (step + step) → next ≡ n / r ^ step → after ≡ before ++ next ∷ []
-    → TakesDigits r n step step next before after
-TakesDigits-once {r} {n} {step} {next} two stepped long short is noted =
-    let first : 0 + step ≡ step = omega arith in
-    let some : 0 < r ^ step = omega (arith, power-gt_one r step two stepped) in
-    let below : next < r ^ step = rw is (div_below n (r ^ step) (r ^ step) some (rw pow-add at short)) in
-    TakesDigits-end two stepped (rw first at (IsDivided-more two IsDivided-start long is noted)) below
 
 -- a quotient is 0 if and only if the number is smaller than the divisor
 pub quotient-some : (k n : ℕ) → 0 < n / k → k ≤ n

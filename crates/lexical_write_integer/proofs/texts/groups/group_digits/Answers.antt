@@ -16,14 +16,10 @@ loop-end-init c =
     IsSpread-start (has_room c.in-Some.ensures.value c.from-size.ensures c.in-Some.ensures.valid c.requires.some c.requires.room)
 
 pub loop-end-preserved-then-in_group-size : goal.loop-end-preserved-then-in_group-size
-loop-end-preserved-then-in_group-size c =
-    let room = has_room c.in-Some.ensures.value c.from-size.ensures c.in-Some.ensures.valid c.requires.some c.requires.room in
-    IsSpread-mark room (omega arith) (omega arith) (omega arith) c.loop-end.invariant
+loop-end-preserved-then-in_group-size c = IsSpread-mark (omega arith) (omega arith) c.loop-end.invariant
 
 pub loop-end-preserved : goal.loop-end-preserved
-loop-end-preserved c =
-    let room = has_room c.in-Some.ensures.value c.from-size.ensures c.in-Some.ensures.valid c.requires.some c.requires.room in
-    IsSpread-digit room (omega arith) (omega arith) (omega (arith, c.loop-end.invariant.few)) c.loop-end.invariant
+loop-end-preserved c = IsSpread-digit (omega arith) (omega (arith, c.loop-end.invariant.few)) c.loop-end.invariant
 
 pub returns-clause-groups : goal.returns-clause-groups
 returns-clause-groups c =

@@ -1,9 +1,8 @@
-use Rattle.std.proofs.Common.{◌≡◌, ℕ, ◌+◌, ◌-◌, ◌*◌, ◌/◌, ◌%◌, ◌<◌, ◌≤◌, ◌^◌, List, ◌++◌, refl, sym, ap, subst, ◌∙◌, arith}
+use Rattle.std.proofs.Common.{◌≡◌, ℕ, ◌+◌, ◌-◌, ◌*◌, ◌/◌, ◌%◌, ◌<◌, ◌≤◌, ◌^◌, ◌++◌, refl, sym, ap, subst, ◌∙◌, arith}
 use Rattle.std.proofs.Math.Nat.{mod-eq_of_lt}
 use Rattle.lexical_write_integer.specs.Buffer.{WritesBlock}
-use Rattle.lexical_write_integer.specs.Digits.DigitCount.{digit_count}
 use Rattle.lexical_write_integer.specs.Digits.LoopTurns.{loop_notes}
-use Rattle.lexical_write_integer.proofs.Buffers.Blocks.{IsWrittenBack, IsWrittenBack-start, IsWrittenBack-at, IsWrittenBack-counts}
+use Rattle.lexical_write_integer.proofs.Buffers.Blocks.{IsWrittenBack-start, IsWrittenBack-at, IsWrittenBack-left}
 use Rattle.lexical_write_integer.proofs.Buffers.Blocks.{IsWrittenBack-more, IsWrittenBack-last}
 use Rattle.lexical_write_integer.proofs.Buffers.BlocksAfter.{WritesDigits-block}
 use Rattle.lexical_write_integer.proofs.OfDigits.Count.DigitCounts.{digit_count-fits, digit_count-more}
@@ -13,11 +12,6 @@ use Rattle.lexical_write_integer.proofs.OfDigits.Radix.Loops.Records.{none_noted
 use Rattle.lexical_write_integer.proofs.OfDigits.Radix.Loops.ShortNumbers.{fits-within, longer-than}
 use Rattle.lexical_write_integer.proofs.digits.radix.binary_words.write_binary.Goals as goal
 use Rattle.lexical_write_integer.proofs.digits.radix.binary_words.write_binary.Goals.{After-remove_eight-rest, After-from}
-
--- the digits that remain are as many as the index of those that are written
-count_left : {n count left end : ℕ} {before after : List ℕ}
-    → IsWrittenBack 2 n (count - end) left end before after → end ≤ count → count ≡ digit_count 2 n → digit_count 2 left ≡ end
-count_left w within is = omega (arith, IsWrittenBack-counts {r = 2} (omega arith) w, within, is)
 
 without_eight : (left first next : ℕ) → first ≡ left / 2 ^ 4 → next ≡ first / 2 ^ 4 → next ≡ left / 2 ^ 8
 without_eight left first next one two = two ∙ ap (λ k. k / 2 ^ 4) one ∙ div-pow_more 2 left 4 4
@@ -38,7 +32,7 @@ loop-at-init c =
 
 pub remove_eight-next-requires-clause-long : goal.remove_eight-next-requires-clause-long
 remove_eight-next-requires-clause-long c =
-    let counts = count_left c.loop-at.invariant.written c.loop-at.invariant.within c.digit_count_counted-count.ensures.count in
+    let counts = IsWrittenBack-left (omega arith) c.digit_count_counted-count.ensures.count c.loop-at.invariant.within c.loop-at.invariant.written in
     longer-than 2 c.loop-at.left 8 (omega arith) (omega (arith, counts, c.loop-at.invariant.more))
 
 pub loop-at-preserved : goal.loop-at-preserved
@@ -47,7 +41,7 @@ loop-at-preserved c =
     let count = c.digit_count_counted-count.result in
     let eight = c.remove_eight-next.ensures in
     let two : 2 ≤ 2 = omega arith in
-    let counts = count_left c.loop-at.invariant.written c.loop-at.invariant.within c.digit_count_counted-count.ensures.count in
+    let counts = IsWrittenBack-left (omega arith) c.digit_count_counted-count.ensures.count c.loop-at.invariant.within c.loop-at.invariant.written in
     let long = longer-than 2 left 8 (omega arith) (omega (arith, counts, c.loop-at.invariant.more)) in
     let order : 8 + (count - c.loop-at.at) ≡ count - (c.loop-at.at - 8) = omega (arith, c.loop-at-test.true, c.loop-at.invariant.within) in
     let place : c.loop-at.at ≡ c.loop-at.at - 8 + 8 = omega (arith, c.loop-at-test.true) in
@@ -65,12 +59,12 @@ loop-at-preserved c =
 
 pub remove_eight-rest-requires-clause-long : goal.remove_eight-rest-requires-clause-long
 remove_eight-rest-requires-clause-long c =
-    let counts = count_left c.loop-at.invariant.written c.loop-at.invariant.within c.digit_count_counted-count.ensures.count in
+    let counts = IsWrittenBack-left (omega arith) c.digit_count_counted-count.ensures.count c.loop-at.invariant.within c.loop-at.invariant.written in
     longer-than 2 c.loop-at.left 8 (omega arith) (omega (arith, counts, c.loop-at.invariant.more))
 
 rest_short : (c : After-remove_eight-rest) → c.remove_eight-rest.result.1 < 256
 rest_short c =
-    let counts = count_left c.loop-at.invariant.written c.loop-at.invariant.within c.digit_count_counted-count.ensures.count in
+    let counts = IsWrittenBack-left (omega arith) c.digit_count_counted-count.ensures.count c.loop-at.invariant.within c.loop-at.invariant.written in
     omega (
       arith,
       without_eight c.loop-at.left _ _ c.remove_eight-rest.ensures.first c.remove_eight-rest.ensures.second,
@@ -86,7 +80,7 @@ record_up_to_eight-first-requires c = rest_short (goal.at.record_up_to_eight-fir
 -- with zeros after them
 first_short : (c : After-from) → c.loop-at.left / 2 ^ 8 * 2 ^ (16 - c.loop-at.at) < 2 ^ 8
 first_short c =
-    let counts = count_left c.loop-at.invariant.written c.loop-at.invariant.within c.digit_count_counted-count.ensures.count in
+    let counts = IsWrittenBack-left (omega arith) c.digit_count_counted-count.ensures.count c.loop-at.invariant.within c.loop-at.invariant.written in
     shifted-lt c.loop-at.left c.loop-at.at 8 8 (omega (arith, c.loop-at.invariant.more)) (omega (arith, c.loop-at-test.false))
     (rw (← counts) (digit_count-fits 2 c.loop-at.left (omega arith)))
 

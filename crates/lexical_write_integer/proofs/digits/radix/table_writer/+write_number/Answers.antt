@@ -9,12 +9,12 @@ use Rattle.lexical_write_integer.proofs.digits.radix.table_writer.+write_number.
 
 pub write_up_to_eight-requires : goal.write_up_to_eight-requires
 write_up_to_eight-requires g t c =
-    let short : c.args.value < g.row.R ^ 8 = rw (pow-eight, ← c.from-square.ensures) (omega (arith, c.if-value-power.true)) in
+    let short : c.args.value < g.row.R ^ 8 = rw (pow-eight, ← c.fourth_power.ensures.power, ← c.from-power.ensures) (omega (arith, c.if-value-power.true)) in
     (lit< tt, (short, (λ wide. absurd (omega (arith, wide)), c.requires.room)))
 
 pub remove_eight-first-requires-clause-long : goal.remove_eight-first-requires-clause-long
 remove_eight-first-requires-clause-long g t c =
-    rw (pow-eight, ← c.from-square.ensures) (omega (arith, c.if-value-power.false))
+    rw (pow-eight, ← c.fourth_power.ensures.power, ← c.from-power.ensures) (omega (arith, c.if-value-power.false))
 
 pub returns-clause-digits : goal.returns-clause-digits
 returns-clause-digits g t c =
@@ -22,7 +22,7 @@ returns-clause-digits g t c =
     let r = g.row.R in
     let n = c.args.value in
     let eight = c.remove_eight-first.ensures in
-    let long : r ^ 8 ≤ n = rw (pow-eight, ← c.from-square.ensures) (omega (arith, c.if-value-power.false)) in
+    let long : r ^ 8 ≤ n = rw (pow-eight, ← c.fourth_power.ensures.power, ← c.from-power.ensures) (omega (arith, c.if-value-power.false)) in
     let both = HasEight-of two long in
     let second : WritesDigits r c.remove_eight-first.result.1 c.args.buffer.now c.if-this-lt16-2.buffer c.if-this-lt16-2.head =
     elim c.if-this-lt16-2.branch [

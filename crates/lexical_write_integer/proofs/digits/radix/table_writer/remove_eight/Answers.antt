@@ -4,7 +4,6 @@ use Rattle.std.proofs.lemmas.Nat.{div_below, pow-add}
 use Rattle.lexical_write_integer.specs.Digits.LoopTurns.{count_notes, loop_notes, takes_four}
 use Rattle.lexical_write_integer.proofs.OfDigits.Count.DigitCounts.{digit_count-split}
 use Rattle.lexical_write_integer.proofs.OfDigits.Count.RadixPowers.{power-gt_one}
-use Rattle.lexical_write_integer.proofs.OfDigits.Powers.{pow-four}
 use Rattle.lexical_write_integer.proofs.OfDigits.Radix.Loops.Records.{count_notes-after, count_notes-same, loop_notes-after}
 use Rattle.lexical_write_integer.proofs.OfDigits.Radix.Loops.Divisions.{left-smaller}
 use Rattle.lexical_write_integer.proofs.OfDigits.Radix.Loops.ShortNumbers.{HasEight-of}
@@ -12,7 +11,7 @@ use Rattle.lexical_write_integer.proofs.digits.radix.table_writer.remove_eight.G
 use Rattle.lexical_write_integer.proofs.digits.radix.table_writer.remove_eight.Goals.{After-from-power, then-not-counts_at_once, else-not-counts_at_once}
 
 power_is : (g : _) (c : After-from-power g) → c.from-power.result ≡ g.row.R ^ 4
-power_is g c = c.from-power.ensures ∙ sym (pow-four g.row.R)
+power_is g c = c.from-power.ensures ∙ c.fourth_power.ensures.power
 
 pub returns-clause-first : goal.returns-clause-first
 returns-clause-first g c = ap (λ k. c.args.value / k) (power_is g (goal.at.returns-clause-first g c).After-from-power)

@@ -1,23 +1,20 @@
 use Rattle.std.proofs.Common.{◌≡◌, ◌+◌, ◌-◌, ◌/◌, ◌<◌, ◌^◌, refl, sym, ap, ◌∙◌, lit<, arith}
 use Rattle.lexical_write_integer.specs.Digits.DigitCount.{digit_count}
 use Rattle.lexical_write_integer.specs.Digits.LoopTurns.{takes_four}
-use Rattle.lexical_write_integer.proofs.Buffers.Blocks.{IsWrittenBack-start, IsWrittenBack-at, IsWrittenBack-more, IsWrittenBack-last}
+use Rattle.lexical_write_integer.proofs.Buffers.Blocks.{IsWrittenBack-start, IsWrittenBack-at, IsWrittenBack-left, IsWrittenBack-more, IsWrittenBack-last}
 use Rattle.lexical_write_integer.proofs.Buffers.BlocksAfter.{WritesDigits-block}
-use Rattle.lexical_write_integer.proofs.OfDigits.Count.DigitCounts.{digit_count-left}
 use Rattle.lexical_write_integer.proofs.OfDigits.Radix.Loops.ShortNumbers.{fits-within, longer-than}
-use Rattle.lexical_write_integer.proofs.OfDigits.Radix.Loops.Divisions.{IsDivided-start, IsDivided-more, TakesDigits-end}
-use Rattle.lexical_write_integer.proofs.OfDigits.Radix.Loops.Records.{loop_notes-end}
+use Rattle.lexical_write_integer.proofs.OfDigits.Radix.Loops.Records.{loop_notes-after}
 use Rattle.lexical_write_integer.proofs.OfDigits.Count.RadixPowers.{power-small}
-use Rattle.lexical_write_integer.proofs.OfDigits.Powers.{pow-four}
 use Rattle.lexical_write_integer.proofs.digits.radix.table_writer.write_after_count.Goals as goal
-use Rattle.lexical_write_integer.proofs.digits.radix.table_writer.write_after_count.Goals.{In-loop-at, After-loop-at}
+use Rattle.lexical_write_integer.proofs.digits.radix.table_writer.write_after_count.Goals.{After-loop-at}
 
 pub loop-at-init : goal.loop-at-init
 loop-at-init g c =
     let count = c.digit_count_counted-count.result in
     let none : count - count ≡ 0 = omega arith in
     record {
-      divided = rw none IsDivided-start;
+      noted = refl;
       written = rw none IsWrittenBack-start;
       within = omega arith;
       room = refl;
@@ -27,7 +24,7 @@ pub write_last_four-requires : goal.write_last_four-requires
 write_last_four-requires g c = (
   lit< tt,
   (
-    ap (λ k. c.loop-at.left / k) (c.from-power.ensures ∙ sym (pow-four g.row.R)),
+    ap (λ k. c.loop-at.left / k) (c.from-power.ensures ∙ c.fourth_power.ensures.power),
     omega (arith, c.requires.room, c.digit_count_counted-count.ensures.count, c.loop-at.invariant, c.loop-at-test.true),
   ),
 )
@@ -35,32 +32,26 @@ write_last_four-requires g c = (
 pub loop-at-preserved : goal.loop-at-preserved
 loop-at-preserved g c =
     let two = c.args.table.is_radix.at_least_two in
+    let left = c.loop-at.left in
+    let at = c.loop-at.at in
     let count = c.digit_count_counted-count.result in
-    let taken = count - c.loop-at.at in
-    let divided = c.loop-at.invariant.divided in
-    let counts = digit_count-left g.row.R c.args.value taken c.loop-at.left two divided.fewer divided.rest in
-    let long =
-    longer-than g.row.R c.loop-at.left 4 (omega arith)
-    (omega (arith, counts, c.digit_count_counted-count.ensures.count, c.loop-at-test.true, c.loop-at.invariant.within)) in
-    let next = ap (λ k. c.loop-at.left / k) (c.from-power.ensures ∙ sym (pow-four g.row.R)) in
-    let turn : taken + 4 ≡ count - (c.loop-at.at - 4) = omega (arith, c.loop-at-test.true, c.loop-at.invariant.within) in
-    let order : 4 + taken ≡ count - (c.loop-at.at - 4) = omega (arith, c.loop-at-test.true, c.loop-at.invariant.within) in
-    let place : c.loop-at.at ≡ c.loop-at.at - 4 + 4 = omega (arith, c.loop-at-test.true) in
+    let counts = IsWrittenBack-left two c.digit_count_counted-count.ensures.count c.loop-at.invariant.within c.loop-at.invariant.written in
+    let long = longer-than g.row.R left 4 (omega arith) (omega (arith, counts, c.loop-at-test.true)) in
+    let next = ap (λ k. left / k) (c.from-power.ensures ∙ c.fourth_power.ensures.power) in
+    let order : 4 + (count - at) ≡ count - (at - 4) = omega (arith, c.loop-at-test.true, c.loop-at.invariant.within) in
+    let place : at ≡ at - 4 + 4 = omega (arith, c.loop-at-test.true) in
     record {
-      divided = rw turn at (IsDivided-more two divided long next c.tick.ensures);
+      noted = rw next (loop_notes-after g.row.R left c.loop-at.written c.tick.new.self _ two long (rw next at c.tick.ensures) refl)
+          ∙ c.loop-at.invariant.noted;
       written = rw order at (IsWrittenBack-more two long next (IsWrittenBack-at place c.loop-at.invariant.written) c.write_last_four.ensures);
       within = omega (arith, c.loop-at.invariant.within);
       room = c.write_last_four.auto.buffer ∙ c.loop-at.invariant.room;
     }
 
 -- the remaining digits, at most four
-count_left : (g : _) (c : After-loop-at g) → c.loop-at.at ≡ digit_count g.row.R c.loop-at.left
+count_left : (g : _) (c : After-loop-at g) → digit_count g.row.R c.loop-at.left ≡ c.loop-at.at
 count_left g c =
-    let two = c.args.table.is_radix.at_least_two in
-    let divided = c.loop-at.invariant.divided in
-    let taken = c.digit_count_counted-count.result - c.loop-at.at in
-    let counts = digit_count-left g.row.R c.args.value taken c.loop-at.left two divided.fewer divided.rest in
-    omega (arith, c.digit_count_counted-count.ensures.count, c.loop-at.invariant.within, counts)
+    IsWrittenBack-left c.args.table.is_radix.at_least_two c.digit_count_counted-count.ensures.count c.loop-at.invariant.within c.loop-at.invariant.written
 
 short : (g : _) (c : After-loop-at g) → c.loop-at.left < g.row.R ^ 4
 short g c = fits-within g.row.R c.loop-at.left 4 c.args.table.is_radix.at_least_two (omega (arith, count_left g c))
@@ -71,16 +62,9 @@ overflow_cast-left g c =
 
 pub write_up_to_four-requires : goal.write_up_to_four-requires
 write_up_to_four-requires g c =
-    let c' = (goal.at.write_up_to_four-requires g c).After-loop-at in (
-      lit< tt,
-      (
-        short g c',
-        (
-          count_left g c',
-          omega (arith, c.requires.room, c.digit_count_counted-count.ensures.count, c.loop-at.invariant),
-        ),
-      ),
-    )
+    let c' = (goal.at.write_up_to_four-requires g c).After-loop-at in
+    let is = c.digit_count_counted-count.ensures.count in
+    (lit< tt, (short g c', (sym (count_left g c'), omega (arith, is, c.requires.room, c.loop-at.invariant))))
 
 pub returns-clause-digits : goal.returns-clause-digits
 returns-clause-digits g c =
@@ -92,7 +76,4 @@ returns-clause-digits g c =
     WritesDigits-block c.args.table.is_radix.at_least_two (sym is) (omega (arith, is, c.requires.room)) (rw whole at block)
 
 pub returns-clause-written : goal.returns-clause-written
-returns-clause-written g c =
-    let few = short g (goal.at.returns-clause-written g c).After-loop-at in
-    let taken = TakesDigits-end c.args.table.is_radix.at_least_two takes_four c.loop-at.invariant.divided few in
-    loop_notes-end c.args.table.is_radix.at_least_two taken few c.write_up_to_four.ensures.notes
+returns-clause-written g c = c.write_up_to_four.ensures.notes ∙ c.loop-at.invariant.noted

@@ -1,11 +1,11 @@
-use Rattle.std.proofs.Common.{◌≡◌, ◌-◌, ◌≤◌, length}
+use Rattle.std.proofs.Common.{◌≡◌, ◌-◌, ◌++◌, ◌≤◌, length}
+use Rattle.lexical_write_integer.specs.Digits.LoopTurns.{loop_notes}
 use Rattle.lexical_write_integer.proofs.Buffers.Blocks.{IsWrittenBack}
-use Rattle.lexical_write_integer.proofs.OfDigits.Radix.Loops.Divisions.{IsDivided}
 use Rattle.lexical_write_integer.proofs.digits.radix.table_writer.write_after_count.Given as goal
 
 abbrev pub invariant-loop-at : goal.invariant-loop-at
 invariant-loop-at g l = record {
-  divided : IsDivided g.row.R l.fn.value 4 (l.count - l.at) l.left l.fn.written l.written;
+  noted : l.written ++ loop_notes g.row.R l.left ≡ l.fn.written ++ loop_notes g.row.R l.fn.value;
   written : IsWrittenBack g.row.R l.fn.value (l.count - l.at) l.left l.at l.fn.buffer l.buffer;
   within : l.at ≤ l.count;
   room : length l.buffer ≡ length l.fn.buffer;

@@ -31,7 +31,7 @@ write_up_to_eight-count-requires-then-value-power g c =
     let short : n < r ^ 8 = elim c.if-this-eq8-2.branch [
       | then-this-eq8-2 w ↦
           omega (arith, rw w.if-this-eq8-2.true at c.requires.bits, pow-le-pow_left {n = 2} {m = r} c.requires.radix.at_least_two 8)
-      | else-this-eq8-2 w ↦ rw (pow-eight, ← c.from-square.ensures) (ltb-true _ _ (sym w.value-is ∙ c.if-value-power.true))
+      | else-this-eq8-2 w ↦ rw (pow-eight, ← c.fourth_power.ensures.power, ← c.from-power.ensures) (ltb-true _ _ (sym w.value-is ∙ c.if-value-power.true))
     ] in
     (lit< tt, (short, (λ wide. rw wide at c.requires.bits, c.requires.room)))
 

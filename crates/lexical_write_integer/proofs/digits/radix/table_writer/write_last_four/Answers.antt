@@ -1,4 +1,4 @@
-use Rattle.std.proofs.Common.{◌≡◌, ◌+◌, ◌*◌, ◌-◌, ◌%◌, ◌^◌, ◌<◌, ◌∙◌, refl, sym, lit<, arith}
+use Rattle.std.proofs.Common.{◌≡◌, ◌+◌, ◌*◌, ◌-◌, ◌%◌, ◌^◌, ◌<◌, ◌∙◌, refl, lit<, arith}
 use Rattle.std.proofs.Math.Nat.{mod-lt, div-add-mod'}
 use Rattle.std.proofs.lemmas.Nat.{div_below}
 use Rattle.lexical_write_integer.specs.Digits.LoopTurns.{takes_two, takes_four}
@@ -9,7 +9,7 @@ use Rattle.lexical_write_integer.proofs.digits.radix.table_writer.write_last_fou
 use Rattle.lexical_write_integer.proofs.digits.radix.table_writer.write_last_four.Goals.{After-from}
 
 power_is : (g : _) (c : After-from g) → c.from.result ≡ g.row.R ^ 4
-power_is g c = c.from.ensures ∙ sym (pow-four g.row.R)
+power_is g c = c.from.ensures ∙ c.fourth_power.ensures.power
 
 parts : (g : _) (c : After-from g) → c.args.left * c.from.result + c.args.number % g.row.R ^ 4 ≡ c.args.number
 parts g c = rw (c.requires.left, power_is g c) (div-add-mod' c.args.number (g.row.R ^ 4))

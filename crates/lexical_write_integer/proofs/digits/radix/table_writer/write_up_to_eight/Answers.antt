@@ -6,7 +6,7 @@ use Rattle.lexical_write_integer.specs.Digits.LoopTurns.{count_notes, takes_four
 use Rattle.lexical_write_integer.proofs.Buffers.BlocksAfter.{WritesDigits-block, WritesDigits-after}
 use Rattle.lexical_write_integer.proofs.OfDigits.Count.DigitCounts.{digit_count-split}
 use Rattle.lexical_write_integer.proofs.OfDigits.Count.RadixPowers.{power-small, power-gt_one}
-use Rattle.lexical_write_integer.proofs.OfDigits.Powers.{pow-two, pow-four}
+use Rattle.lexical_write_integer.proofs.OfDigits.Powers.{pow-two}
 use Rattle.lexical_write_integer.proofs.OfDigits.Radix.Loops.Records.{count_notes-after, count_notes-same, loop_notes-after, loop_notes-none}
 use Rattle.lexical_write_integer.proofs.digits.radix.table_writer.write_up_to_eight.Goals as goal
 use Rattle.lexical_write_integer.proofs.digits.radix.table_writer.write_up_to_eight.Goals.{After-from, After-counts_at_once}
@@ -20,7 +20,7 @@ left_below r n two short =
     div_below n (r ^ 4) (r ^ 4) some (rw (pow-add r 4 4) at short)
 
 power_is : (g : _) (c : After-from g) → c.from.result ≡ g.row.R ^ 4
-power_is g c = c.from.ensures ∙ sym (pow-four g.row.R)
+power_is g c = c.from.ensures ∙ c.fourth_power-power.ensures.power
 
 pub overflow_cast-left : goal.overflow_cast-left
 overflow_cast-left g c = elim c.if-this-eq32.either [
@@ -30,19 +30,19 @@ overflow_cast-left g c = elim c.if-this-eq32.either [
 
 pub overflow_cast-left-else-this-eq32 : goal.overflow_cast-left-else-this-eq32
 overflow_cast-left-else-this-eq32 g c =
-    let power = c.from-else-this-eq32.ensures ∙ sym (pow-four g.row.R) in
+    let power = c.from-else-this-eq32.ensures ∙ c.fourth_power-power.ensures.power in
     let below = left_below g.row.R c.args.value c.args.table.is_radix.at_least_two c.requires.short in
     rw power (omega (arith, below, power-small g.row.R 4 c.args.table.is_radix.at_most_36 takes_four))
 
 -- ---- more than four digits
 
 long : (g : _) (c : After-counts_at_once g) → g.row.R ^ 4 ≤ c.args.value
-long g c = omega (arith, c.from.ensures, pow-four g.row.R, c.if-value-from.true)
+long g c = omega (arith, c.from.ensures, c.fourth_power-power.ensures.power, c.if-value-from.true)
 
 left_is : (g : _) (c : After-counts_at_once g) → c.if-this-eq32.left ≡ c.args.value / g.row.R ^ 4
 left_is g c = elim c.if-this-eq32.branch [
-  | then-this-eq32 w ↦ w.left-is ∙ ap (λ k. c.args.value / k) (sym (pow-four g.row.R))
-  | else-this-eq32 w ↦ w.left-is ∙ ap (λ k. c.args.value / k) (w.from-else-this-eq32.ensures ∙ sym (pow-four g.row.R))
+  | then-this-eq32 w ↦ w.left-is ∙ ap (λ k. c.args.value / k) c.fourth_power-power.ensures.power
+  | else-this-eq32 w ↦ w.left-is ∙ ap (λ k. c.args.value / k) (w.from-else-this-eq32.ensures ∙ c.fourth_power-power.ensures.power)
 ]
 
 left_short : (g : _) (c : After-counts_at_once g) → c.if-this-eq32.left < g.row.R ^ 4
@@ -108,9 +108,9 @@ returns-then-value-from-clause-written g c =
 
 -- ---- one or two digits of a byte
 
-pub returns-then-number-square-clause-written : goal.returns-then-number-square-clause-written
-returns-then-number-square-clause-written g c =
-    loop_notes-none g.row.R c.args.value c.args.written.now c.args.table.is_radix.at_least_two (rw (← pow-two) at c.if-number-square.true)
+pub returns-then-number-clause-written : goal.returns-then-number-clause-written
+returns-then-number-clause-written g c =
+    loop_notes-none g.row.R c.args.value c.args.written.now c.args.table.is_radix.at_least_two (rw (← pow-two) at c.if-number.true)
 
 -- ---- up to four digits
 

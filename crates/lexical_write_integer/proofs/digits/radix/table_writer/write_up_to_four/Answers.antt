@@ -1,17 +1,14 @@
-use Rattle.std.proofs.Common.{◌≡◌, ◌-◌, ◌*◌, ◌/◌, ◌%◌, ◌<◌, ◌≤◌, sym, ap, arith, length-set}
+use Rattle.std.proofs.Common.{◌≡◌, ◌-◌, ◌*◌, ◌/◌, ◌%◌, ◌<◌, ◌≤◌, arith, length-set}
 use Rattle.std.proofs.Math.Nat.{mod-lt}
 use Rattle.std.proofs.lemmas.Nat.{div_below}
-use Rattle.lexical_write_integer.specs.Digits.LoopTurns.{takes_two, takes_four}
-use Rattle.lexical_write_integer.proofs.OfDigits.Count.DigitCounts.{digit_count-pos, digit_count-le}
+use Rattle.lexical_write_integer.specs.Digits.LoopTurns.{takes_two}
+use Rattle.lexical_write_integer.proofs.OfDigits.Count.DigitCounts.{digit_count-pos}
 use Rattle.lexical_write_integer.proofs.OfDigits.Count.RadixPowers.{power-gt_one}
 use Rattle.lexical_write_integer.proofs.OfDigits.Powers.{pow-two, pow-four}
 use Rattle.lexical_write_integer.proofs.OfDigits.Radix.FourDigits.{WritesBlock-four}
-use Rattle.lexical_write_integer.proofs.OfDigits.Radix.Loops.Divisions.{TakesDigits-none}
-use Rattle.lexical_write_integer.proofs.OfDigits.Radix.Loops.Records.{loop_notes-are}
-use Rattle.lexical_write_integer.proofs.OfDigits.Radix.Loops.ShortNumbers.{TakesDigits-once, quotient-some, quotient-none}
 use Rattle.lexical_write_integer.proofs.OfDigits.Radix.TablePairs.{length-table, first_digit, second_digit}
 use Rattle.lexical_write_integer.proofs.digits.radix.table_writer.write_up_to_four.Goals as goal
-use Rattle.lexical_write_integer.proofs.digits.radix.table_writer.write_up_to_four.Goals.{Start, then-left-gt0, else-left-gt0}
+use Rattle.lexical_write_integer.proofs.digits.radix.table_writer.write_up_to_four.Goals.{Start}
 
 some : (g : _) (c : Start g) → 0 < g.row.R * g.row.R
 some g c = omega (arith, pow-two g.row.R, power-gt_one g.row.R 2 c.args.table.is_radix.at_least_two takes_two)
@@ -42,9 +39,6 @@ bounds-table-last-2 g c =
 some_digit : (g : _) (c : Start g) → 1 ≤ c.args.digits
 some_digit g c = omega (arith, c.requires.digits, digit_count-pos g.row.R c.args.number)
 
-few_digits : (g : _) (c : Start g) → c.args.digits ≤ 4
-few_digits g c = omega (arith, c.requires.digits, digit_count-le g.row.R c.args.number 4 (omega arith) c.requires.short)
-
 pub bounds-buffer-0 : goal.bounds-buffer-0
 bounds-buffer-0 g c = omega (arith, some_digit g (goal.at.bounds-buffer-0 g c).Start, c.requires.room)
 
@@ -74,23 +68,6 @@ returns-clause-written g c =
     let b = second_digit g.row.R hi pairs begins (first g c') in
     let d = first_digit g.row.R lo pairs begins (last g c') in
     let e = second_digit g.row.R lo pairs begins (last g c') in
-    rw (a, b, d, e, place)
+    rw (c.first_pair.ensures.pair, a, b, d, e, place)
     (WritesBlock-four g.row.R c.args.number c.args.digits c.args.buffer.now c.args.table.is_radix.at_least_two
     c.requires.short c.requires.digits c.requires.room)
-
--- the quotient is recorded if it is not 0
-pub returns-clause-notes : goal.returns-clause-notes
-returns-clause-notes g c =
-    let two = c.args.table.is_radix.at_least_two in
-    let square = sym (pow-two g.row.R) in
-    let is = ap (λ k. c.args.number / k) square in
-    let four = TakesDigits-none {notes = c.args.turns.now} two takes_four c.requires.short in
-    elim c.if-left-gt0.branch [
-      | then-left-gt0 w ↦
-          let long = quotient-some (g.row.R * g.row.R) c.args.number w.if-left-gt0.true in
-          let notes = rw w.from.ensures at w.tick.ensures in
-          rw w.turns-is (loop_notes-are two four (TakesDigits-once two takes_two (rw square at long) c.requires.short is notes))
-      | else-left-gt0 w ↦
-          let less = quotient-none (g.row.R * g.row.R) c.args.number (some g (goal.at.returns-clause-notes g c).Start) w.if-left-gt0.false in
-          rw w.turns-is (loop_notes-are two four (TakesDigits-none two takes_two (rw square at less)))
-    ]
