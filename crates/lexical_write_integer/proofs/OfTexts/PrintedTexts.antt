@@ -41,7 +41,7 @@ IsRange-small _ _ _ x (signed bits width) low high = signed-small bits x width l
 
 -- ---- the digits
 
-digit_char-decimal : (d : ℕ) → d < 10 → digit_char d ≡ 48 + d
+pub digit_char-decimal : (d : ℕ) → d < 10 → digit_char d ≡ 48 + d
 digit_char-decimal d small = grind (arith, nat_tests)
 
 one_digit : (n : ℕ) → n < 10 → IsDigits 10 n ((48 + n) ∷ [])

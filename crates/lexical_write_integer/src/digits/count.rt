@@ -97,8 +97,7 @@ pub fn slow_digit_count_counted<T: UnsignedInteger>(x: T, radix: u32, turns: &mu
     1 + by_four + by_two + by_one
 }
 
-// Returns whether `digit_count_counted` counts the digits in the radix without division: from the highest set bit, or in
-// radix 10 from a table.
+// Returns whether `digit_count_counted` counts digits in the radix without division, from the highest set bit or a table.
 pub(crate) fn counts_at_once(radix: u32) -> bool
     ensures { result ≡ is_counted_at_once radix }
 {
@@ -108,6 +107,7 @@ pub(crate) fn counts_at_once(radix: u32) -> bool
 /// Returns how many digits the number has. They are counted from the highest set bit if the radix is a
 /// power of 2, by `decimal_count` in radix 10, and otherwise by division, whose quotients are recorded
 /// in the counter. The radix is from 2 to 36.
+#[tactic(auto, using(crate::proofs::OfDigits::Radix::Loops::Records::none_noted))]
 pub fn digit_count_counted<T: DecimalCount>(x: T, radix: u32, turns: &mut Turns) -> usize
     requires { IsRadix radix }
     ensures count { result ≡ digit_count radix (T.magnitude x) }

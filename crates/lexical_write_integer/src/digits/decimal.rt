@@ -1,4 +1,5 @@
 //! Writing decimal digits, two at a time. Examples are in `crates/write_integer_tests/src/decimal_values.rt`.
+#![tactic(auto, using(crate::proofs::OfDigits::Count::DigitCounts::widths))]
 
 ghost use Rattle.std.specs.Prelude.{◌≡◌, ℕ, pos, negsuc, ◌-◌, ◌^◌, ◌<◌, ◌≤◌, ◌+◌, length};
 ghost use Rattle.std.proofs.Common.{lit≤};
@@ -13,9 +14,7 @@ mod kernels;
 pub use super::count::decimal_count::{DecimalCount, fallback_digit_count, fast_digit_count};
 pub use super::count::logarithm::fast_log10;
 use crate::turns::Turns;
-use jeaiii::{
-    from_i64_counted, from_u8_counted, from_u16_counted, from_u32_counted, from_u64_counted,
-};
+use jeaiii::{write_32, write_64};
 use lexical_num::num::{LexicalInteger, UnsignedInteger};
 
 /// An unsigned integer type whose numbers are written in decimal, two digits at a time.
@@ -66,11 +65,11 @@ impl Decimal for u8 {
     ghost signed_width = { is_decimal_width (lit≤ tt) (lit≤ tt) (lit≤ tt) (lit≤ tt) };
 
     fn decimal_signed(self, buffer: &mut [u8]) -> usize {
-        from_u8_counted(self, buffer, &mut Turns::new())
+        write_32(u32::from(self), buffer, &mut Turns::new())
     }
 
     fn decimal_counted(self, buffer: &mut [u8], turns: &mut Turns) -> usize {
-        from_u8_counted(self, buffer, turns)
+        write_32(u32::from(self), buffer, turns)
     }
 }
 
@@ -82,11 +81,11 @@ impl Decimal for u16 {
     ghost signed_width = { is_decimal_width (lit≤ tt) (lit≤ tt) (lit≤ tt) (lit≤ tt) };
 
     fn decimal_signed(self, buffer: &mut [u8]) -> usize {
-        from_u16_counted(self, buffer, &mut Turns::new())
+        write_32(u32::from(self), buffer, &mut Turns::new())
     }
 
     fn decimal_counted(self, buffer: &mut [u8], turns: &mut Turns) -> usize {
-        from_u16_counted(self, buffer, turns)
+        write_32(u32::from(self), buffer, turns)
     }
 }
 
@@ -98,11 +97,11 @@ impl Decimal for u32 {
     ghost signed_width = { is_decimal_width (lit≤ tt) (lit≤ tt) (lit≤ tt) (lit≤ tt) };
 
     fn decimal_signed(self, buffer: &mut [u8]) -> usize {
-        from_u32_counted(self, buffer, &mut Turns::new())
+        write_32(self, buffer, &mut Turns::new())
     }
 
     fn decimal_counted(self, buffer: &mut [u8], turns: &mut Turns) -> usize {
-        from_u32_counted(self, buffer, turns)
+        write_32(self, buffer, turns)
     }
 }
 
@@ -114,11 +113,11 @@ impl Decimal for u64 {
     ghost signed_width = { is_decimal_width (lit≤ tt) (lit≤ tt) (lit≤ tt) (lit≤ tt) };
 
     fn decimal_signed(self, buffer: &mut [u8]) -> usize {
-        from_i64_counted(self, buffer, &mut Turns::new())
+        write_64(self, buffer, &mut Turns::new())
     }
 
     fn decimal_counted(self, buffer: &mut [u8], turns: &mut Turns) -> usize {
-        from_u64_counted(self, buffer, turns)
+        write_64(self, buffer, turns)
     }
 }
 
@@ -131,10 +130,10 @@ impl Decimal for usize {
     ghost signed_width = { is_decimal_width (lit≤ tt) (lit≤ tt) (lit≤ tt) (lit≤ tt) };
 
     fn decimal_signed(self, buffer: &mut [u8]) -> usize {
-        from_i64_counted(self as u64, buffer, &mut Turns::new())
+        write_64(self as u64, buffer, &mut Turns::new())
     }
 
     fn decimal_counted(self, buffer: &mut [u8], turns: &mut Turns) -> usize {
-        from_u64_counted(self as u64, buffer, turns)
+        write_64(self as u64, buffer, turns)
     }
 }

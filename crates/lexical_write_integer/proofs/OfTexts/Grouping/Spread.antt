@@ -15,7 +15,7 @@ pub record IsSpread (grouping : ℕ × ℕ) (count total left end in_group : ℕ
   pub moved : List ℕ
   pub behind : List ℕ
   pub groups : ℕ
-  pub size : 0 < grouping.0
+  pub fits : HasRoomInGroups grouping count total before
   pub many : length moved ≡ groups * grouping.0 + in_group
   pub few : in_group ≤ grouping.0
   pub some : 0 < left + in_group
@@ -34,7 +34,7 @@ IsSpread-start {grouping} {count} {total} {before} h =
       moved = [];
       behind = [];
       groups = 0;
-      size = h.size;
+      fits = h;
       many = omega arith;
       few = omega arith;
       some = omega (arith, h.some);
@@ -50,7 +50,7 @@ IsSpread-start {grouping} {count} {total} {before} h =
 left-some : {grouping : ℕ × ℕ} {count total left end in_group : ℕ} {before between : List ℕ}
     → 0 < end → IsSpread grouping count total left end in_group before between → 0 < left
 left-some {grouping} {left = zero} {in_group = in_group} due w =
-    let none : (0 + in_group - 1) / grouping.0 ≡ 0 = div-eq_of_lt (omega (arith, w.few, w.size)) in
+    let none : (0 + in_group - 1) / grouping.0 ≡ 0 = div-eq_of_lt (omega (arith, w.few, w.fits.size)) in
     absurd (omega (arith, w.place, none, due))
 left-some {left = suc left} due w = omega arith
 
@@ -78,7 +78,7 @@ IsSpread-digit {grouping} {count} {left = left} {end} {in_group} {before} {betwe
       moved = digit ∷ w.moved;
       behind = digit ∷ w.behind;
       groups = w.groups;
-      size = w.size;
+      fits = w.fits;
       many = omega (arith, w.many);
       few = omega arith;
       some = omega arith;
@@ -101,14 +101,14 @@ pub IsSpread-mark : {grouping : ℕ × ℕ} {count total left end in_group : ℕ
 IsSpread-mark {grouping} {left = left} {end} {in_group} {between = between} due full w =
     let some = left-some due w in
     let fewer : (left + in_group - 1) / grouping.0 ≡ (left + 0 - 1) / grouping.0 + 1 =
-    ap (λ n. n / grouping.0) (let e : left + in_group - 1 ≡ left + 0 - 1 + grouping.0 = omega arith in e) ∙ add-div_right (left + 0 - 1) w.size in
+    ap (λ n. n / grouping.0) (let e : left + in_group - 1 ≡ left + 0 - 1 + grouping.0 = omega arith in e) ∙ add-div_right (left + 0 - 1) w.fits.size in
     let many : length w.moved ≡ (w.groups + 1) * grouping.0 = omega (arith, w.many) in
     let mark = mark_before-whole grouping (length w.moved) (ap (λ n. n % grouping.0) many ∙ mul-mod_left (w.groups + 1) grouping.0) in
     record {
       moved = w.moved;
       behind = grouping.1 ∷ w.behind;
       groups = w.groups + 1;
-      size = w.size;
+      fits = w.fits;
       many = omega (arith, many);
       few = omega arith;
       some = omega arith;
@@ -122,13 +122,12 @@ IsSpread-mark {grouping} {left = left} {end} {in_group} {between = between} due 
 
 -- every byte is written
 pub IsSpread-end : {grouping : ℕ × ℕ} {count total left end in_group : ℕ} {before after : List ℕ}
-    → HasRoomInGroups grouping count total before → end ≡ 0
-    → IsSpread grouping count total left end in_group before after → Front before after (in_groups grouping (take count before))
-IsSpread-end {grouping} {count} {left = left} {in_group = in_group} {before} {after} h none w =
-    let long = length-in_groups_taken h in
+    → end ≡ 0 → IsSpread grouping count total left end in_group before after → Front before after (in_groups grouping (take count before))
+IsSpread-end {grouping} {count} {left = left} {in_group = in_group} {before} none w =
+    let long = length-in_groups_taken w.fits in
     let no_left : left ≡ 0 = omega (arith, w.place) in
     let text : in_groups grouping (take count before) ≡ w.behind = rw no_left at (ap (in_groups grouping) w.digits) ∙ w.whole (omega (arith, w.some)) in
     record {
-      fits = omega (arith, long, h.room);
+      fits = omega (arith, long, w.fits.room);
       written = rw none at w.written ∙ (λ i. sym text i ++ drop (sym long i) before);
     }

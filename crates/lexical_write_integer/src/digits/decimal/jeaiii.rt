@@ -9,7 +9,7 @@
 //!
 //! Examples of the writers are in `crates/write_integer_tests/src/decimal_values.rt`, and of the kernels
 //! in `crates/write_integer_tests/src/kernel_values.rt`.
-#![tactic(auto, using(crate::proofs::OfDigits::Decimal::PairBlocks::widths), unfolding(crate::specs::Digits::DecimalTurns::decimal_notes_32))]
+#![tactic(auto, using(crate::proofs::OfDigits::Count::DigitCounts::widths), unfolding(crate::specs::Digits::DecimalTurns::decimal_notes_32))]
 
 ghost use Rattle.std.specs.Prelude.{◌+◌, ◌-◌, ◌/◌, ◌^◌, ◌<◌, ◌≤◌, length};
 ghost use Rattle.lexical_write_integer.specs.Buffer.{WritesDigits};
@@ -24,7 +24,7 @@ use crate::turns::Turns;
 use lexical_num::num::UnsignedInteger;
 
 // Writes the digits of a number of up to 32 bits.
-fn write_32(n: u32, buffer: &mut [u8], turns: &mut Turns) -> usize
+pub(super) fn write_32(n: u32, buffer: &mut [u8], turns: &mut Turns) -> usize
     requires { digit_count 10 n ≤ length buffer.old }
     ensures { WritesDecimal n (decimal_notes_32 n) buffer.old buffer.new turns.old turns.new result }
 {
@@ -49,8 +49,8 @@ fn write_32(n: u32, buffer: &mut [u8], turns: &mut Turns) -> usize
 
 // Writes the digits of a number of up to 64 bits. If it has more than ten digits, the last ten are
 // written by division, after the digits before them.
-#[tactic(auto, using(crate::proofs::OfDigits::Decimal::PairBlocks::widths), unfolding(crate::specs::Digits::DecimalTurns::decimal_notes_64))]
-fn write_64(n: u64, buffer: &mut [u8], turns: &mut Turns) -> usize
+#[tactic(auto, using(crate::proofs::OfDigits::Count::DigitCounts::widths), unfolding(crate::specs::Digits::DecimalTurns::decimal_notes_64))]
+pub(super) fn write_64(n: u64, buffer: &mut [u8], turns: &mut Turns) -> usize
     requires { digit_count 10 n ≤ length buffer.old }
     ensures { WritesDecimal n (decimal_notes_64 n) buffer.old buffer.new turns.old turns.new result }
 {

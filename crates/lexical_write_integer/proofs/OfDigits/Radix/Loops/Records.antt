@@ -11,7 +11,8 @@ use Rattle.lexical_write_integer.specs.Digits.LoopTurns.{takes_two}
 use Rattle.lexical_write_integer.specs.Digits.LoopTurns.{TakesDigits, digits_after_first, quotients, loop_notes, slow_notes, count_notes}
 use Rattle.lexical_write_integer.specs.Digits.LoopTurns.{table_notes, compact_notes, is_counted_at_once, loop_turns, slow_turns}
 use Rattle.lexical_write_integer.specs.Digits.LoopTurns.{count_turns, table_turns, compact_turns}
-use Rattle.lexical_write_integer.proofs.OfDigits.Count.DigitCounts.{digit_count-pos, digit_count-le, digit_count-one, digit_count-two, digit_count-split, width-le_64}
+use Rattle.lexical_write_integer.proofs.OfDigits.Count.DigitCounts.{digit_count-pos, digit_count-le, digit_count-one, digit_count-two}
+use Rattle.lexical_write_integer.proofs.OfDigits.Count.DigitCounts.{digit_count-split, width-le_64}
 use Rattle.lexical_write_integer.proofs.OfDigits.Powers.{div-pow_more, pow-one}
 use Rattle.lexical_write_integer.proofs.OfDigits.Count.RadixPowers.{power-gt_one}
 use Rattle.lexical_write_integer.proofs.OfDigits.Radix.Loops.Divisions.{TakesDigits-counts}

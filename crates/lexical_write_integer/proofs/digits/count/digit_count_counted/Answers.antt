@@ -1,8 +1,8 @@
-use Rattle.std.proofs.Common.{refl, sym, arith}
+use Rattle.std.proofs.Common.{sym, arith}
 use Rattle.std.proofs.Math.Nat.{div-one}
 use Rattle.lexical_write_integer.proofs.OfDigits.Count.DigitCounts.{digit_count-le_64, digit_count-pos}
 use Rattle.lexical_write_integer.proofs.OfDigits.Count.Logarithms.{digit_count-log2}
-use Rattle.lexical_write_integer.proofs.OfDigits.Radix.Loops.Records.{none_noted, slow_noted, not_at_once}
+use Rattle.lexical_write_integer.proofs.OfDigits.Radix.Loops.Records.{slow_noted, not_at_once}
 use Rattle.lexical_write_integer.proofs.digits.count.digit_count_counted.Goals as goal
 
 pub returns-in-2-clause-count : goal.returns-in-2-clause-count
@@ -34,24 +34,6 @@ returns-in-10-clause-some g c = omega (arith, c.decimal_count.ensures, digit_cou
 pub returns-in-10-clause-at_most_64 : goal.returns-in-10-clause-at_most_64
 returns-in-10-clause-at_most_64 g c =
     omega (arith, c.decimal_count.ensures, digit_count-le_64 10 _ _ (omega arith) g.met.T.UnsignedInteger.range.width c.fits_bits.ensures)
-
-pub returns-in-2-clause-notes : goal.returns-in-2-clause-notes
-returns-in-2-clause-notes g c = none_noted _ _ _ (rw c.in-2.is refl)
-
-pub returns-in-4-clause-notes : goal.returns-in-4-clause-notes
-returns-in-4-clause-notes g c = none_noted _ _ _ (rw c.in-4.is refl)
-
-pub returns-in-8-clause-notes : goal.returns-in-8-clause-notes
-returns-in-8-clause-notes g c = none_noted _ _ _ (rw c.in-8.is refl)
-
-pub returns-in-16-clause-notes : goal.returns-in-16-clause-notes
-returns-in-16-clause-notes g c = none_noted _ _ _ (rw c.in-16.is refl)
-
-pub returns-in-32-clause-notes : goal.returns-in-32-clause-notes
-returns-in-32-clause-notes g c = none_noted _ _ _ (rw c.in-32.is refl)
-
-pub returns-in-10-clause-notes : goal.returns-in-10-clause-notes
-returns-in-10-clause-notes g c = none_noted _ _ _ (rw c.in-10.is refl)
 
 pub returns-in_default-clause-notes : goal.returns-in_default-clause-notes
 returns-in_default-clause-notes g c =

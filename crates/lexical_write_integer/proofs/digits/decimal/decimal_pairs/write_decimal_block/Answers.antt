@@ -1,14 +1,11 @@
-use Rattle.std.proofs.Common.{◌≡◌, ℕ, suc, ◌+◌, ◌-◌, ◌/◌, ◌%◌, ◌^◌, ◌<◌, length, set, sym, ap, subst, ◌∙◌, arith}
+use Rattle.std.proofs.Common.{◌≡◌, suc, ◌+◌, ◌-◌, ◌/◌, ◌%◌, ◌^◌, ◌<◌, length, set, sym, ap, subst, ◌∙◌, arith}
 use Rattle.std.proofs.Math.Nat.{mod-eq_of_lt, one-le-pow, pow-suc}
 use Rattle.std.proofs.lemmas.Nat.{div_below}
-use Rattle.lexical_num.specs.Digit.{digit_char}
 use Rattle.lexical_write_integer.specs.Buffer.{WritesBlock}
 use Rattle.lexical_write_integer.proofs.Buffers.Blocks.{WritesBlock-next, WritesBlock-one, WritesBlock-whole}
 use Rattle.lexical_write_integer.proofs.OfDigits.Powers.{div-pow_more}
+use Rattle.lexical_write_integer.proofs.OfTexts.PrintedTexts.{digit_char-decimal}
 use Rattle.lexical_write_integer.proofs.digits.decimal.decimal_pairs.write_decimal_block.Goals as goal
-
-digit_char-small : (d : ℕ) → d < 10 → digit_char d ≡ 48 + d
-digit_char-small d small = grind (arith, small)
 
 pub loop-at-preserved : goal.loop-at-preserved
 loop-at-preserved c =
@@ -41,7 +38,7 @@ returns-then-at-eq1 c =
     let last = subst (λ k. WritesBlock 10 taken (n % 10 ^ taken) k c.args.buffer.now l.buffer) c.if-at-eq1.true l.invariant.block in
     let first = WritesBlock-one 10 l.left 0 l.buffer small (omega (arith, l.invariant.room, long)) in
     subst (λ k. WritesBlock 10 k n 0 c.args.buffer.now (set l.buffer 0 (48 + l.left))) (sym long)
-    (WritesBlock-whole {n = n} l.invariant.rest last (rw (digit_char-small l.left small) at first))
+    (WritesBlock-whole {n = n} l.invariant.rest last (rw (digit_char-decimal l.left small) at first))
 
 pub returns-else-at-eq1 : goal.returns-else-at-eq1
 returns-else-at-eq1 c =

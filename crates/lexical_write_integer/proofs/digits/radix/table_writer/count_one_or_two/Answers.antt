@@ -13,7 +13,8 @@ pub returns-then-number-radix-clause-notes : goal.returns-then-number-radix-clau
 returns-then-number-radix-clause-notes c = none_noted c.args.radix c.args.number c.args.turns.now (sym c.if-counts_at_once.ensures)
 
 pub returns-else-number-radix-clause-count : goal.returns-else-number-radix-clause-count
-returns-else-number-radix-clause-count c = sym (digit_count-two c.args.radix c.args.number c.requires.radix.at_least_two c.if-number-radix.false c.requires.short)
+returns-else-number-radix-clause-count c =
+    sym (digit_count-two c.args.radix c.args.number c.requires.radix.at_least_two c.if-number-radix.false c.requires.short)
 
 pub returns-else-number-radix-clause-notes : goal.returns-else-number-radix-clause-notes
 returns-else-number-radix-clause-notes c = none_noted c.args.radix c.args.number c.args.turns.now (sym c.if-counts_at_once.ensures)
