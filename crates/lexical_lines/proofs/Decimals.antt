@@ -2,7 +2,6 @@
 use Rattle.std.proofs.Common.{◌≡◌, ℕ, ◌+◌, ◌-◌, ◌*◌, ◌^◌, ◌<◌, ◌≤◌, List, [], ◌∷◌, ◌++◌, length, get_or, map, take, drop, refl, sym, ap, subst, ◌∙◌, arith}
 use Rattle.std.proofs.Common.{length-append, length-drop, length-take, length-take-le, drop-drop}
 use Rattle.std.specs.List.{All}
-use Rattle.std.proofs.lemmas.Bool.Decides.{nat_tests}
 use Rattle.std.proofs.lemmas.List.{take_more, take-append-drop, length-map, map-append}
 use Rattle.std.proofs.lemmas.List.Elements.{All-head, All-tail, All-map, All-append, All-take, All-drop, All-weaker, All-get_or}
 use Rattle.std.proofs.Math.Nat.{one-le-pow, mul-le-mul_left}
@@ -11,6 +10,7 @@ use Rattle.lexical_num.specs.Digit.{digit_char}
 use Rattle.lexical_write_integer.specs.Numeral.{value_of}
 use Rattle.lexical_write_integer.specs.Text.{IsDigits}
 use Rattle.lexical_write_integer.proofs.OfDigits.DigitValues.{value_of-append, value_of-one}
+pub use Rattle.lexical_write_integer.proofs.OfTexts.PrintedTexts.{digit_char-decimal}
 use Rattle.lexical_lines.specs.Decimal.{IsDecimalNumeral}
 
 pub record IsDigitByte (byte : ℕ) : Type 0 where
@@ -20,9 +20,6 @@ pub record IsDigitByte (byte : ℕ) : Type 0 where
 -- the digits that these bytes represent
 abbrev pub digits_in : List ℕ → List ℕ
 digits_in text = map (λ byte. byte - 48) text
-
-pub digit_char-decimal : (d : ℕ) → d < 10 → digit_char d ≡ 48 + d
-digit_char-decimal d h = grind (arith, nat_tests)
 
 byte_of_digit : (d : ℕ) → d < 10 → IsDigitByte (digit_char d)
 byte_of_digit d h = let e = digit_char-decimal d h in record { at_least = omega arith; at_most = omega arith }

@@ -6,7 +6,7 @@ use Rattle.lexical_write_integer.specs.Text.{IsText}
 use Rattle.lexical_num.specs.Sign.{sign_of}
 use Rattle.lexical_write_integer.proofs.OfDigits.Numerals.{digits_unique}
 use Rattle.lexical_lines.specs.declared.request.integer_type.IntegerType.{IntegerType}
-use Rattle.lexical_lines.specs.Answer.{IsAnswer, WithNewline, IsBadLine, AreAnswersFrom, AnswersAll, AnswersEnded, format_of}
+use Rattle.lexical_lines.specs.Answer.{IsAnswer, WithNewline, IsBadLine, AreAnswersFrom, AnswersAll, AnswersEnded, requested_format}
 use Rattle.lexical_lines.specs.IntegerType.{with_sign}
 use Rattle.lexical_lines.specs.Lines.{AreLines, EndsLine}
 use Rattle.lexical_lines.proofs.Runs.{AreAnswersFrom-push}
@@ -41,8 +41,8 @@ IsRequest-unique {kind = kind} {other = other} {plus = plus} {add = add} {radix 
     ∙ IsDecimalNumeral-value base h.radix_text (rw signs.1 (IsDecimalNumeral-from_digits base k.radix_text k.radix_digits)) in
     (signs.0, same, IsValue-number h.value (let value : IsValue other second h.value_text = rw parts.1 k.value in value))
 
-IsText-unique : (number : ℤ) (radix : ℕ) (plus : Bool) (a b : List ℕ) → 2 ≤ radix → IsText number (format_of radix plus) a
-    → IsText number (format_of radix plus) b → a ≡ b
+IsText-unique : (number : ℤ) (radix : ℕ) (plus : Bool) (a b : List ℕ) → 2 ≤ radix → IsText number (requested_format radix plus) a
+    → IsText number (requested_format radix plus) b → a ≡ b
 IsText-unique number radix plus a b h p q =
     p.whole ∙ ap (λ digits. sign_of number plus ++ digits) (digits_unique radix _ p.digits q.digits h p.magnitude q.magnitude) ∙ sym q.whole
 
@@ -56,8 +56,8 @@ IsBadLine-unique n a b (s, p, e) (t, q, f) = e ∙ ap (λ digits. codes "bad lin
 IsAnswer-unique : (i : ℕ) (line a b : List ℕ) → IsAnswer i line a → IsAnswer i line b → a ≡ b
 IsAnswer-unique i line a b (inl p) (inl q) =
     let same = IsRequest-unique p.request q.request in
-    let other : WithNewline (IsText p.number (format_of p.radix p.plus)) b = rw (same.0, same.1, same.2) q.text in
-    WithNewline-unique (IsText p.number (format_of p.radix p.plus)) a b
+    let other : WithNewline (IsText p.number (requested_format p.radix p.plus)) b = rw (same.0, same.1, same.2) q.text in
+    WithNewline-unique (IsText p.number (requested_format p.radix p.plus)) a b
     (λ s t. IsText-unique p.number p.radix p.plus s t p.request.radix_valid.at_least_two) p.text other
 IsAnswer-unique i line a b (inl p) (inr q) = absurd (q.bad (p.kind, p.plus, p.radix, p.number, p.request))
 IsAnswer-unique i line a b (inr p) (inl q) = absurd (p.bad (q.kind, q.plus, q.radix, q.number, q.request))

@@ -7,8 +7,8 @@ use Rattle.lexical_lines.specs.Lines.{IsCut, AreLines}
 use Rattle.lexical_lines.specs.Request.{IsGood, IsRequest}
 
 -- the standard format with this mantissa and exponent radix, and with the sign `+` required or not
-abbrev pub format_of : ℕ → Bool → Format
-format_of radix plus = record standard { mantissa_radix = radix; exponent_radix = radix; required_mantissa_sign = plus }
+abbrev pub requested_format : ℕ → Bool → Format
+requested_format radix plus = record standard { mantissa_radix = radix; exponent_radix = radix; required_mantissa_sign = plus }
 
 -- the line is a text of this kind followed by a newline
 abbrev pub WithNewline : (List ℕ → Type 0) → List ℕ → Type 0
@@ -25,7 +25,7 @@ pub record IsTextAnswer (line answer : List ℕ) : Type 0 where
   pub radix : ℕ
   pub number : ℤ
   pub request : IsRequest kind plus radix number line
-  pub text : WithNewline (IsText number (format_of radix plus)) answer
+  pub text : WithNewline (IsText number (requested_format radix plus)) answer
 
 -- the line is not valid, and the answer names its number, or the largest number of 64 bits if that is less
 pub record IsBadAnswer (i : ℕ) (line answer : List ℕ) : Type 0 where

@@ -5,7 +5,7 @@ ghost use Rattle.lexical_num.specs.Format.{IsRadix};
 ghost use Rattle.lexical_num.specs.declared.constants.TheConstants.{BUFFER_SIZE};
 ghost use Rattle.lexical_write_integer.specs.Buffer.{Writes};
 ghost use Rattle.lexical_write_integer.specs.Text.{IsText};
-ghost use Rattle.lexical_lines.specs.Answer.{IsAnswer, WithNewline, IsBadLine, format_of};
+ghost use Rattle.lexical_lines.specs.Answer.{IsAnswer, WithNewline, IsBadLine, requested_format};
 ghost use Rattle.lexical_lines.specs.Line.{short_line, bytes_of};
 ghost use Rattle.lexical_lines.specs.Request.{IsGood, Asks, number_of};
 
@@ -49,7 +49,7 @@ pub fn write_answer(line: Option<&[u8]>, line_number: u64, buffer: &mut [u8]) ->
 // Returns the format of a radix, with a `+` before each number that is not negative if `plus` is true.
 fn format_for(radix: u8, plus: bool) -> NumberFormat
     requires { IsRadix radix }
-    ensures { result ≡ format_of radix plus }
+    ensures { result ≡ requested_format radix plus }
 {
     NumberFormatBuilder::new()
         .mantissa_radix(radix)
@@ -64,7 +64,7 @@ fn write_requested(request: &Request, buffer: &mut [u8]) -> usize
     requires room { BUFFER_SIZE + 2 ≤ length buffer.old }
     ensures { Writes
         (WithNewline (IsText (number_of request.now.number)
-        (format_of request.now.radix request.now.plus)))
+        (requested_format request.now.radix request.now.plus)))
         buffer.old buffer.new result }
 {
     let format = format_for(request.radix, request.plus);

@@ -1,5 +1,5 @@
 -- How long a text is, and how long a buffer it requires at most.
-use Rattle.std.proofs.Common.{◌≡◌, Option, None, Some, ℕ, ◌+◌, ◌*◌, ◌^◌, ◌<◌, ◌≤◌, ◌≤ℤ◌, ◌==◌, List, length, refl, ap, ◌∙◌}
+use Rattle.std.proofs.Common.{◌≡◌, Option, None, Some, ℕ, ◌+◌, ◌^◌, ◌<◌, ◌≤◌, ◌≤ℤ◌, ◌==◌, List, length, refl, ap, ◌∙◌}
 use Rattle.std.proofs.Common.{arith, ℤ, unsigned_abs, length-append}
 use Rattle.std.specs.Option.{ForSome}
 use Rattle.std.specs.Prelude.{Bool, true, false, if◌then◌else◌}
@@ -7,11 +7,9 @@ use Rattle.std.proofs.lemmas.Bool.{cond_both, eqb-true}
 use Rattle.lexical_num.specs.DecimalWidth.{IsDecimalWidth}
 use Rattle.lexical_num.specs.Format.{Format, IsGrouping, grouped_length}
 use Rattle.lexical_num.specs.Sign.{sign_of}
-use Rattle.lexical_num.specs.Size.{size_in}
-use Rattle.lexical_num.specs.declared.constants.TheConstants.{BUFFER_SIZE}
 use Rattle.lexical_write_integer.specs.Digits.DigitCount.{digit_count-le, digit_count}
 use Rattle.lexical_write_integer.specs.Texts.Groups.{grouped}
-use Rattle.lexical_write_integer.specs.Texts.SizeBound.{grouped_length-le, grouped_length-more}
+use Rattle.lexical_write_integer.specs.Texts.SizeBound.{grouped_length-more}
 use Rattle.lexical_write_integer.specs.Texts.Text.{IsText, digits_need, need}
 use Rattle.lexical_write_integer.proofs.OfDigits.Count.DigitCounts.{digit_count-pos}
 use Rattle.lexical_write_integer.proofs.OfTexts.Grouping.Digits.{length-in_groups}
@@ -69,18 +67,3 @@ need-pos x width format some =
     one_of (format.mantissa_radix == 10) width (digit_count format.mantissa_radix (unsigned_abs x)) some
     (digit_count-pos format.mantissa_radix (unsigned_abs x)) in
     omega (arith, digits, grouped_length-ge format.digit_grouping (digits_need format.mantissa_radix (unsigned_abs x) width))
-
--- ---- the size of a type
-
--- it is at most the buffer size in every format
-pub size_in-within : (size decimal : ℕ) (format : Format)
-    → size ≤ BUFFER_SIZE → 1 ≤ decimal → 2 * decimal ≤ BUFFER_SIZE → size_in size decimal format ≤ BUFFER_SIZE
-size_in-within size decimal format a some b = within (format.mantissa_radix == 10) format.required_mantissa_sign
-  where
-    grouped : grouped_length format.digit_grouping decimal + 1 ≤ 2 * decimal
-    grouped = grouped_length-le format.digit_grouping decimal decimal (omega arith) some
-
-    within : (is_decimal plus : Bool) → (if is_decimal then grouped_length format.digit_grouping decimal + (if plus then 1 else 0) else size) ≤ BUFFER_SIZE
-    within true true = omega (arith, grouped, b)
-    within true false = omega (arith, grouped, b)
-    within false plus = omega (arith, a)

@@ -86,8 +86,8 @@ fn floats(rt: HostRuntime) {
     assert_eq!(rt; write_float(false, 5, 0, &mut [7; 34]), "5e0");
 }
 
-// The Rust program `tests/scientific.rs` makes the same 30,000 numbers and printed these sums of the texts that `{:e}` writes. The
-// digits of the floats, of which there are at most 15, are their shortest.
+// The Rust program `tests/scientific.rs` makes the same 30,000 numbers and printed these sums of the texts that `{:e}`
+// writes. The digits of the floats, of which there are at most 15, are their shortest.
 #[test]
 fn numbers_as_rust_writes_them(rt: HostRuntime) {
     let mut numbers = Numbers(1);

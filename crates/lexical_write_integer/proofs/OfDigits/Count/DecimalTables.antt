@@ -8,7 +8,7 @@ use Rattle.std.proofs.lemmas.List.FromFn.{get_or-map-range_with_len}
 use Rattle.lexical_write_integer.specs.Digits.Logarithm.{IsLog2}
 use Rattle.lexical_write_integer.specs.Digits.DigitCount.{digit_count}
 use Rattle.lexical_write_integer.specs.Digits.PowersOfTen.{IsPowersOfTen}
-use Rattle.lexical_write_integer.specs.declared.digits.count.decimal_count.TheConstants.{DIGITS_BY_LOG2, POWERS_OF_TEN}
+use Rattle.lexical_write_integer.specs.declared.digits.count.decimal_count.TheConstants.{DIGITS_BY_LOG2}
 use Rattle.lexical_write_integer.proofs.OfDigits.Count.DigitCounts.{digit_count-is}
 use Rattle.lexical_write_integer.proofs.OfDigits.Powers.{pow-lt_more}
 use Rattle.lexical_write_integer.proofs.OfDigits.Count.Logarithms.{IsLog2-lt}
@@ -29,9 +29,6 @@ pub past_table : {X : Type 0} (limit : ℕ) (number : X → ℕ) (table : List X
 past_table limit number table i past powers =
     let count = length-map table number in
     omega (arith, powers.all, pow-le-pow_right {n = 10} (omega arith) {i = length (map number table) + 1} {j = i + 1} (omega arith))
-
-pub IsPowersOfTen-64 : IsPowersOfTen (2 ^ 64) (map (λ n. n) POWERS_OF_TEN)
-IsPowersOfTen-64 = record { rising = refl; below = omega arith; all = omega arith }
 
 -- ---- the table that is indexed by the position of the highest bit
 

@@ -27,9 +27,6 @@ overflow_add-result-3 g c = omega (arith, count_is g c, at_most_64 g c)
 pub returns-clause-count : goal.returns-clause-count
 returns-clause-count g c = count_is g c
 
-pub returns-clause-some : goal.returns-clause-some
-returns-clause-some g c = omega arith
-
 pub returns-clause-at_most_64 : goal.returns-clause-at_most_64
 returns-clause-at_most_64 g c = omega (arith, count_is g c, at_most_64 g c)
 

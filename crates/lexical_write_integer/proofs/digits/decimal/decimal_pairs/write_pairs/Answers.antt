@@ -1,5 +1,4 @@
-use Rattle.std.proofs.Common.{◌≡◌, ℕ, ◌+◌, ◌*◌, ◌/◌, ◌%◌, ◌^◌, [], ◌∷◌, ◌++◌, length, sym, ap, ◌∙◌, arith, zero-add, length-append, append_assoc}
-use Rattle.std.proofs.lemmas.List.{append-nil}
+use Rattle.std.proofs.Common.{◌≡◌, ℕ, ◌+◌, ◌*◌, ◌/◌, ◌%◌, ◌^◌, [], ◌∷◌, ◌++◌, length, ap, ◌∙◌, arith, zero-add, length-append, append_assoc}
 use Rattle.std.proofs.lemmas.List.FromFn.{map-range_with_len_more, length-map-range_with_len}
 use Rattle.lexical_write_integer.specs.Digits.Carries.{carried}
 use Rattle.lexical_write_integer.specs.Digits.DecimalTurns.{products}
@@ -18,16 +17,6 @@ pub write_one_or_two-count-requires-clause-room : goal.write_one_or_two-count-re
 write_one_or_two-count-requires-clause-room c =
     let start : carried c.args.fraction 0 ≡ c.args.fraction / 2 ^ 32 = omega arith in
     rw start at (room_for_carried c.args.fraction 0 c.args.pair_count _ (omega arith) c.requires.room)
-
-pub loop-init : goal.loop-init
-loop-init c =
-    let start : carried c.args.fraction 0 ≡ c.args.fraction / 2 ^ 32 = omega arith in
-    record {
-      following = omega arith;
-      digits = rw start c.write_one_or_two-count.ensures.digits;
-      notes = sym (append-nil c.args.turns.now);
-      count = omega arith;
-    }
 
 pub write_pair-requires-clause-room : goal.write_pair-requires-clause-room
 write_pair-requires-clause-room c =

@@ -5,17 +5,12 @@ use Rattle.lexical_write_integer.proofs.OfDigits.Count.DigitCounts.{digit_count-
 use Rattle.lexical_write_integer.proofs.OfDigits.Count.RadixPowers.{power-gt_one}
 use Rattle.lexical_write_integer.proofs.OfDigits.Powers.{pow-two, pow-four}
 use Rattle.lexical_write_integer.proofs.OfDigits.Radix.Loops.Records.{after_first, count_notes-pair}
-use Rattle.lexical_write_integer.proofs.OfDigits.Radix.Loops.ShortNumbers.{quotient-some, quotient-none}
+use Rattle.lexical_write_integer.proofs.OfDigits.Radix.Loops.ShortNumbers.{quotient-some}
 use Rattle.lexical_write_integer.proofs.digits.radix.table_writer.count_up_to_four.Goals as goal
 use Rattle.lexical_write_integer.proofs.digits.radix.table_writer.count_up_to_four.Goals.{Start, After-tick}
 
 some : (g : _) (c : Start g) → 0 < g.row.R * g.row.R
 some g c = omega (arith, pow-two g.row.R, power-gt_one g.row.R 2 c.requires.radix.at_least_two takes_two)
-
-pub count_one_or_two-requires-clause-short : goal.count_one_or_two-requires-clause-short
-count_one_or_two-requires-clause-short g c =
-    let square = some g (goal.at.count_one_or_two-requires-clause-short g c).Start in
-    rw pow-two (quotient-none (g.row.R * g.row.R) c.args.number square (omega (arith, c.if-left-eq0.true)))
 
 -- ---- more than two digits
 

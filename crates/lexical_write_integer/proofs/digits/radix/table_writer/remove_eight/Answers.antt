@@ -1,4 +1,4 @@
-use Rattle.std.proofs.Common.{◌≡◌, ◌/◌, ◌^◌, ◌<◌, ◌++◌, refl, sym, ap, ◌∙◌, arith}
+use Rattle.std.proofs.Common.{◌≡◌, ◌/◌, ◌^◌, ◌<◌, ◌++◌, refl, sym, ◌∙◌, arith}
 use Rattle.std.proofs.Math.Nat.{pow-le-pow_left}
 use Rattle.std.proofs.lemmas.Nat.{div_below, pow-add}
 use Rattle.lexical_write_integer.specs.Digits.LoopTurns.{count_notes, loop_notes, takes_four}
@@ -12,13 +12,6 @@ use Rattle.lexical_write_integer.proofs.digits.radix.table_writer.remove_eight.G
 
 power_is : (g : _) (c : After-from-power g) → c.from-power.result ≡ g.row.R ^ 4
 power_is g c = c.from-power.ensures ∙ c.fourth_power.ensures.power
-
-pub returns-clause-first : goal.returns-clause-first
-returns-clause-first g c = ap (λ k. c.args.value / k) (power_is g (goal.at.returns-clause-first g c).After-from-power)
-
-pub returns-clause-second : goal.returns-clause-second
-returns-clause-second g c =
-    ap (λ k. c.args.value / c.from-power.result / k) (power_is g (goal.at.returns-clause-second g c).After-from-power)
 
 pub returns-clause-smaller : goal.returns-clause-smaller
 returns-clause-smaller g c =

@@ -1,33 +1,13 @@
 use Rattle.std.proofs.Common.{◌≡◌, ◌+◌, ◌-◌, ◌/◌, ◌<◌, ◌^◌, refl, sym, ap, ◌∙◌, lit<, arith}
 use Rattle.lexical_write_integer.specs.Digits.DigitCount.{digit_count}
 use Rattle.lexical_write_integer.specs.Digits.LoopTurns.{takes_four}
-use Rattle.lexical_write_integer.proofs.Buffers.Blocks.{IsWrittenBack-start, IsWrittenBack-at, IsWrittenBack-left, IsWrittenBack-more, IsWrittenBack-last}
+use Rattle.lexical_write_integer.proofs.Buffers.Blocks.{IsWrittenBack-at, IsWrittenBack-left, IsWrittenBack-more, IsWrittenBack-last}
 use Rattle.lexical_write_integer.proofs.Buffers.BlocksAfter.{WritesDigits-block}
 use Rattle.lexical_write_integer.proofs.OfDigits.Radix.Loops.ShortNumbers.{fits-within, longer-than}
 use Rattle.lexical_write_integer.proofs.OfDigits.Radix.Loops.Records.{loop_notes-after}
 use Rattle.lexical_write_integer.proofs.OfDigits.Count.RadixPowers.{power-small}
 use Rattle.lexical_write_integer.proofs.digits.radix.table_writer.write_after_count.Goals as goal
 use Rattle.lexical_write_integer.proofs.digits.radix.table_writer.write_after_count.Goals.{After-loop-at}
-
-pub loop-at-init : goal.loop-at-init
-loop-at-init g c =
-    let count = c.digit_count_counted-count.result in
-    let none : count - count ≡ 0 = omega arith in
-    record {
-      noted = refl;
-      written = rw none IsWrittenBack-start;
-      within = omega arith;
-      room = refl;
-    }
-
-pub write_last_four-requires : goal.write_last_four-requires
-write_last_four-requires g c = (
-  lit< tt,
-  (
-    ap (λ k. c.loop-at.left / k) (c.from-power.ensures ∙ c.fourth_power.ensures.power),
-    omega (arith, c.requires.room, c.digit_count_counted-count.ensures.count, c.loop-at.invariant, c.loop-at-test.true),
-  ),
-)
 
 pub loop-at-preserved : goal.loop-at-preserved
 loop-at-preserved g c =
@@ -74,6 +54,3 @@ returns-clause-digits g c =
     let place : c.loop-at.at ≡ 0 + c.loop-at.at = omega arith in
     let block = IsWrittenBack-last (IsWrittenBack-at place c.loop-at.invariant.written) c.write_up_to_four.ensures.written in
     WritesDigits-block c.args.table.is_radix.at_least_two (sym is) (omega (arith, is, c.requires.room)) (rw whole at block)
-
-pub returns-clause-written : goal.returns-clause-written
-returns-clause-written g c = c.write_up_to_four.ensures.notes ∙ c.loop-at.invariant.noted

@@ -2,7 +2,7 @@ use Rattle.std.proofs.Common.{◌≡◌, ◌+◌, ◌*◌, ◌-◌, ◌%◌, ◌
 use Rattle.std.proofs.Math.Nat.{mod-lt, div-add-mod'}
 use Rattle.std.proofs.lemmas.Nat.{div_below}
 use Rattle.lexical_write_integer.specs.Digits.LoopTurns.{takes_two, takes_four}
-use Rattle.lexical_write_integer.proofs.OfDigits.Count.RadixPowers.{power-small, power-gt_one}
+use Rattle.lexical_write_integer.proofs.OfDigits.Count.RadixPowers.{power-gt_one}
 use Rattle.lexical_write_integer.proofs.OfDigits.Powers.{pow-two, pow-four}
 use Rattle.lexical_write_integer.proofs.OfDigits.Radix.TablePairs.{half, WritesBlock-pairs}
 use Rattle.lexical_write_integer.proofs.digits.radix.table_writer.write_last_four.Goals as goal
@@ -14,26 +14,10 @@ power_is g c = c.from.ensures ∙ c.fourth_power.ensures.power
 parts : (g : _) (c : After-from g) → c.args.left * c.from.result + c.args.number % g.row.R ^ 4 ≡ c.args.number
 parts g c = rw (c.requires.left, power_is g c) (div-add-mod' c.args.number (g.row.R ^ 4))
 
-pub overflow_mul-digits : goal.overflow_mul-digits
-overflow_mul-digits g c = omega (arith, parts g (goal.at.overflow_mul-digits g c).After-from)
-
-pub overflow_sub-digits : goal.overflow_sub-digits
-overflow_sub-digits g c = omega (arith, parts g (goal.at.overflow_sub-digits g c).After-from)
-
 small : (g : _) (c : After-from g) → c.args.number - c.args.left * c.from.result < g.row.R ^ 4
 small g c =
     let some : 0 < g.row.R ^ 4 = omega (arith, power-gt_one g.row.R 4 c.args.table.is_radix.at_least_two takes_four) in
     omega (arith, parts g c, mod-lt c.args.number some)
-
-pub overflow_cast-digits : goal.overflow_cast-digits
-overflow_cast-digits g c =
-    omega (arith, small g (goal.at.overflow_cast-digits g c).After-from, power-small g.row.R 4 c.args.table.is_radix.at_most_36 takes_four)
-
-pub write_pair-requires : goal.write_pair-requires
-write_pair-requires g c =
-    let square = g.row.R * g.row.R in
-    let some : 0 < square = omega (arith, pow-two g.row.R, power-gt_one g.row.R 2 c.args.table.is_radix.at_least_two takes_two) in
-    (lit< tt, (omega arith, (rw half (mod-lt (c.args.number - c.args.left * c.from.result) some), omega (arith, c.requires.room))))
 
 pub write_pair-requires-2 : goal.write_pair-requires-2
 write_pair-requires-2 g c =

@@ -9,7 +9,7 @@ use Rattle.lexical_write_integer.proofs.OfDigits.Count.RadixPowers.{power-small,
 use Rattle.lexical_write_integer.proofs.OfDigits.Powers.{pow-two}
 use Rattle.lexical_write_integer.proofs.OfDigits.Radix.Loops.Records.{count_notes-after, count_notes-same, loop_notes-after, loop_notes-none}
 use Rattle.lexical_write_integer.proofs.digits.radix.table_writer.write_up_to_eight.Goals as goal
-use Rattle.lexical_write_integer.proofs.digits.radix.table_writer.write_up_to_eight.Goals.{After-from, After-counts_at_once}
+use Rattle.lexical_write_integer.proofs.digits.radix.table_writer.write_up_to_eight.Goals.{After-counts_at_once}
 use Rattle.lexical_write_integer.proofs.digits.radix.table_writer.write_up_to_eight.Goals.{then-this-eq32, else-this-eq32}
 use Rattle.lexical_write_integer.proofs.digits.radix.table_writer.write_up_to_eight.Goals.{then-not-counts_at_once, else-not-counts_at_once}
 
@@ -18,9 +18,6 @@ left_below : (r n : ℕ) → 2 ≤ r → n < r ^ 8 → n / r ^ 4 < r ^ 4
 left_below r n two short =
     let some : 0 < r ^ 4 = omega (arith, power-gt_one r 4 two takes_four) in
     div_below n (r ^ 4) (r ^ 4) some (rw (pow-add r 4 4) at short)
-
-power_is : (g : _) (c : After-from g) → c.from.result ≡ g.row.R ^ 4
-power_is g c = c.from.ensures ∙ c.fourth_power-power.ensures.power
 
 pub overflow_cast-left : goal.overflow_cast-left
 overflow_cast-left g c = elim c.if-this-eq32.either [
@@ -113,19 +110,6 @@ returns-then-number-clause-written g c =
     loop_notes-none g.row.R c.args.value c.args.written.now c.args.table.is_radix.at_least_two (rw (← pow-two) at c.if-number.true)
 
 -- ---- up to four digits
-
-short : (g : _) (c : After-from g) → c.args.value < c.from.result → c.args.value < g.row.R ^ 4
-short g c less = omega (arith, power_is g c, less)
-
-pub count_up_to_four-count-requires-clause-short : goal.count_up_to_four-count-requires-clause-short
-count_up_to_four-count-requires-clause-short g c =
-    short g (goal.at.count_up_to_four-count-requires-clause-short g c).After-from c.if-value-from.false
-
-pub write_up_to_four-requires-2 : goal.write_up_to_four-requires-2
-write_up_to_four-requires-2 g c =
-    let few = short g (goal.at.write_up_to_four-requires-2 g c).After-from c.if-value-from.false in
-    let is = c.count_up_to_four-count.ensures.count in
-    (lit< tt, (few, (is, omega (arith, is, c.requires.room))))
 
 pub returns-clause-digits : goal.returns-clause-digits
 returns-clause-digits g c =

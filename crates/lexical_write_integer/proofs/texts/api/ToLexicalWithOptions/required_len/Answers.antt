@@ -1,9 +1,7 @@
-use Rattle.std.proofs.Common.{◌≡◌, ◌+◌, ◌≤◌, length, unsigned_abs, refl, sym, ◌∙◌, arith}
+use Rattle.std.proofs.Common.{◌≡◌, ◌+◌, length, unsigned_abs, refl, sym, ◌∙◌}
 use Rattle.std.proofs.lemmas.Bool.{cond-true, cond-false, eq-eqb, ne_eqb}
 use Rattle.lexical_num.specs.Sign.{sign_of}
-use Rattle.lexical_num.specs.declared.constants.TheConstants.{BUFFER_SIZE}
 use Rattle.lexical_write_integer.specs.Texts.Text.{digits_need, need}
-use Rattle.lexical_write_integer.proofs.OfTexts.Required.{size_in-within}
 use Rattle.lexical_write_integer.proofs.OfTexts.Signs.{sign_of-below, sign_of-other, length-plus}
 use Rattle.lexical_write_integer.proofs.texts.api.ToLexicalWithOptions.required_len.Goals as goal
 use Rattle.lexical_write_integer.proofs.texts.api.ToLexicalWithOptions.required_len.Goals.{After-grouped_len, then-is_negative, else-is_negative}
@@ -35,25 +33,6 @@ need_is g c =
           ∙ sym (cond-false _ _ _ (ne_eqb format.mantissa_radix 10 (λ e. w.if-radix-eq10.false (c.mantissa_radix-radix.ensures.value ∙ e))))
     ] in
     rw (sign, c.grouped_len.ensures, digits) refl
-
-within : (g : _) (c : After-grouped_len g) → c.from-sign.result + c.grouped_len.result ≤ BUFFER_SIZE
-within g c =
-    let room = g.Self.FormattedSize.within_buffer in
-    let radix = rw c.mantissa_radix-radix.ensures.value at c.mantissa_radix-radix.ensures.radix in
-    let range = c.in_range.ensures in
-    let enough =
-    g.met.Self.ToLexicalWithOptions.size_suffices
-    (g.Self.LexicalInteger.number c.args.self) c.args.format.now radix range.at_least range.at_most in
-    let size = g.Self.FormattedSize.FORMATTED_SIZE in
-    let decimal = g.Self.FormattedSize.FORMATTED_SIZE_DECIMAL in
-    let within_size = size_in-within size decimal c.args.format.now room.fits room.some_decimal room.fits_decimal in
-    omega (arith, need_is g c, enough, within_size)
-
-pub overflow_add-result : goal.overflow_add-result
-overflow_add-result g c = omega (arith, within g c)
-
-pub returns-clause-short : goal.returns-clause-short
-returns-clause-short g c = within g c
 
 -- the check finds this proof by itself, but with an answer the refusal of a mistake says what is wrong
 pub returns-clause-need : goal.returns-clause-need
