@@ -1,4 +1,4 @@
-use Rattle.std.proofs.Common.{drop, sym, arith, length-append, length-drop}
+use Rattle.std.proofs.Common.{sym, arith}
 use Rattle.std.proofs.lemmas.List.{length-take-le}
 use Rattle.lexical_lines.proofs.AnswerTexts.{Writes-newline}
 use Rattle.lexical_lines.proofs.Buffers.{Writes-front}
@@ -10,21 +10,6 @@ slice_bounds-room-end-2 g c = sym (length-take-le 128 c.args.buffer.now (omega (
 pub write_lexical_with_options-end-requires : goal.write_lexical_with_options-end-requires
 write_lexical_with_options-end-requires g c =
     omega (arith, c.size_suffices.ensures.size, c.size_suffices.ensures.buffer, length-take-le 128 c.args.buffer.now (omega (arith, c.requires)))
-
-pub bounds-buffer-end : goal.bounds-buffer-end
-bounds-buffer-end g c =
-    let written = c.write_lexical_with_options-end.ensures.text in
-    let buffer = c.args.buffer.now in
-    omega (
-      arith,
-      written.count,
-      written.front.fits,
-      length-take-le 128 buffer (omega (arith, c.requires)),
-      length-append c.write_lexical_with_options-end.new.buffer (drop 128 buffer),
-      length-drop 128 buffer,
-      c.write_lexical_with_options-end.auto.buffer,
-      c.requires,
-    )
 
 pub returns : goal.returns
 returns g c =

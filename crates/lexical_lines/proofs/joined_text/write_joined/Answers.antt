@@ -53,9 +53,3 @@ loop-index-preserved g c =
 
 pub returns-clause-text : goal.returns-clause-text
 returns-clause-text g c = rw (take_all c.loop-index.index c.args.values.now c.loop-index-test.false) at c.loop-index.invariant.written
-
-pub returns-clause-short : goal.returns-clause-short
-returns-clause-short g c =
-    let size = size_in g.T.FormattedSize.FORMATTED_SIZE g.T.FormattedSize.FORMATTED_SIZE_DECIMAL c.args.format.now in
-    let inside : c.loop-index.index ≤ length c.args.values.now = omega arith in
-    omega (arith, c.loop-index.invariant.within, mul-le-mul_right (size + 1) inside)

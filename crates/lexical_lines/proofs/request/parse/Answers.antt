@@ -1,17 +1,12 @@
-use Rattle.std.proofs.Common.{◌≡◌, ◌∷◌, ◌++◌, sym, ◌∙◌}
+use Rattle.std.proofs.Common.{◌≡◌, sym, ◌∙◌}
 use Rattle.lexical_lines.specs.IntegerType.{name_of}
 use Rattle.lexical_lines.specs.Split.{optional_sign}
 use Rattle.lexical_lines.proofs.Decimals.{IsDecimalNumeral-bytes, IsDecimalNumeral-from_digits}
 use Rattle.lexical_lines.proofs.IntegerTypes.{name_unique}
-use Rattle.lexical_lines.proofs.Requests.{short_line-is, line_front, no_space-name, whole_as}
-use Rattle.lexical_lines.proofs.Requests.{IsRequest-long, IsRequest-name, IsRequest-signed, IsRequest-value, IsRequest-value_some}
+use Rattle.lexical_lines.proofs.Requests.{short_line-is, line_front, no_space-name}
+use Rattle.lexical_lines.proofs.Requests.{IsRequest-name, IsRequest-signed, IsRequest-value, IsRequest-value_some}
 use Rattle.lexical_lines.proofs.request.parse.Goals as goal
 use Rattle.lexical_lines.proofs.request.parse.Goals.{In_ok-line, In_ok-kind, In_ok-radix}
-
-pub returns-in_err-kind-clause-none : goal.returns-in_err-kind-clause-none
-returns-in_err-kind-clause-none c = rw c.from_residual-in_err-kind.ensures (λ bytes is (kind, plus, radix, number, h).
-    c.in_err-kind.ensures.none kind ((optional_sign plus 43 ++ h.radix_text) ++ 32 ∷ h.value_text) (IsRequest-long h)
-    (sym (short_line-is (rw c.in_ok-line.was at is)) ∙ whole_as h))
 
 pub returns-in_err-radix-clause-none : goal.returns-in_err-radix-clause-none
 returns-in_err-radix-clause-none c = rw c.from_residual-in_err-radix.ensures (λ bytes is (kind, plus, radix, number, h).

@@ -1,24 +1,11 @@
-use Rattle.std.proofs.Common.{[], ◌++◌, ◌∙◌, refl, sym, ap, inl, inr, true, ◌≡◌, ◌+◌, arith}
+use Rattle.std.proofs.Common.{◌∙◌, ap, inr, true, ◌≡◌, ◌+◌, arith}
 use Rattle.std.proofs.Math.Bool.{or-true}
 use Rattle.std.proofs.lemmas.List.{append-nil}
 use Rattle.std.proofs.lemmas.Result.{err_from_is_err_and}
-use Rattle.lexical_lines.proofs.Added.{added-is, added-more, grown}
+use Rattle.lexical_lines.proofs.Added.{added-more, grown}
 use Rattle.lexical_lines.proofs.Results.{IfOk-no_fault, OnErr-one_fault}
-use Rattle.lexical_lines.proofs.Runs.{answers_ended, BreaksOff-open}
+use Rattle.lexical_lines.proofs.Runs.{BreaksOff-open}
 use Rattle.lexical_lines.proofs.answer.line_loop.run.Goals as goal
-
-pub loop-byte-init : goal.loop-byte-init
-loop-byte-init g c =
-    let given = g.S.ByteSource.given c.args.source.now in
-    let none = added-is given given [] (sym (append-nil given)) in
-    record {
-      given = sym (append-nil given) ∙ ap (λ more. given ++ more) (sym none);
-      read = rw none (c.new-answerer.ensures (g.K.ByteSink.taken c.args.sink.now));
-      source_faults = refl;
-      sink_faults = refl;
-      source_kept = g.met.S.ByteSource.keeps_reflexive c.args.source.now;
-      sink_kept = g.met.K.ByteSink.keeps_reflexive c.args.sink.now;
-    }
 
 pub loop-byte-preserved : goal.loop-byte-preserved
 loop-byte-preserved g c =
@@ -33,17 +20,6 @@ loop-byte-preserved g c =
       source_kept = g.met.S.ByteSource.keeps_transitive _ _ _ loop.source_kept next.kept;
       sink_kept = g.met.K.ByteSink.keeps_transitive _ _ _ loop.sink_kept c.push.ensures.puts.kept;
     }
-
-pub returns-in_err-byte-clause-err : goal.returns-in_err-byte-clause-err
-returns-in_err-byte-clause-err g c =
-    let loop = c.loop-byte.invariant in
-    let next = c.in_err-byte.ensures in
-    let same = added-more _ _ _ _ loop.given next.given ∙ append-nil _ in
-    rw (err_from_is_err_and c.from_residual.result c.from_residual.ensures.1).1 (inl (record {
-      source = omega (arith, next.faults, loop.source_faults);
-      sink = loop.sink_faults;
-      answers = rw same (answers_ended loop.read);
-    }))
 
 pub returns-in_err-push-clause-err : goal.returns-in_err-push-clause-err
 returns-in_err-push-clause-err g c =
