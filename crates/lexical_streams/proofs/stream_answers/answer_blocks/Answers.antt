@@ -1,13 +1,9 @@
 use Rattle.std.proofs.Common.{take, rules, Ok, ap, ◌∙◌, arith, append-nil}
 use Rattle.std.proofs.lemmas.Result.{err_from_is_err_and}
-use Rattle.lexical_streams.specs.Blocks.{taken}
 use Rattle.lexical_streams.specs.Kept.{Yields-more, KeepsBytes-transitive}
-use Rattle.lexical_streams.proofs.Steps.{IsUnderWay-start, answers-given, flush-failed, IsUnderWay-flushed, read-failed, push-failed}
+use Rattle.lexical_streams.proofs.Steps.{answers-given, flush-failed, IsUnderWay-flushed, read-failed, push-failed}
 use Rattle.lexical_streams.proofs.Steps.{IsUnderWay-next, IsUnderWay-ended, finish-failed, last-failed, all-answered}
 use Rattle.lexical_streams.proofs.stream_answers.answer_blocks.Goals as goal
-
-pub loop-reader-init : goal.loop-reader-init
-loop-reader-init g c = IsUnderWay-start c.args.reader.now c.args.writer.now c.new-answerer.result (c.new-answerer.ensures (taken c.args.writer.now))
 
 pub returns-in_err-flush-clause-err : goal.returns-in_err-flush-clause-err
 returns-in_err-flush-clause-err g c = rw (err_from_is_err_and c.from_residual.result c.from_residual.ensures.1).1 (
@@ -41,9 +37,6 @@ returns-in_err-count-clause-err g c =
     let h = IsUnderWay-flushed _ _ _ _ _ c.loop-reader.invariant c.flush.new.self flush.taken flush.kept (omega (arith, flush.faults)) in
     rw (err_from_is_err_and c.from_residual-in_err-count.result c.from_residual-in_err-count.ensures.1).1 (
     read-failed _ _ _ _ _ h c.read.new.self flush.ok (read.yields.given ∙ append-nil _) read.faults)
-
-pub returns-in_err-count-clause-read : goal.returns-in_err-count-clause-read
-returns-in_err-count-clause-read g c = Yields-more _ _ _ _ c.loop-reader.invariant.read c.read.ensures.yields
 
 pub returns-in_err-count-clause-written : goal.returns-in_err-count-clause-written
 returns-in_err-count-clause-written g c = KeepsBytes-transitive _ _ _ c.loop-reader.invariant.written c.flush.ensures.kept
@@ -86,9 +79,6 @@ returns-in_err-all_good-clause-err g c =
     rw (err_from_is_err_and c.from_residual-in_err-all_good.result c.from_residual-in_err-all_good.ensures.1).1 (
     finish-failed _ _ _ _ _ h c.finish.new.sink (read.ended (ap Ok c.if-count-eq0.true)) (finish.err _ _ h.answered) finish.puts.faults)
 
-pub returns-in_err-all_good-clause-read : goal.returns-in_err-all_good-clause-read
-returns-in_err-all_good-clause-read g c = Yields-more _ _ _ _ c.loop-reader.invariant.read c.read.ensures.yields
-
 pub returns-in_err-all_good-clause-written : goal.returns-in_err-all_good-clause-written
 returns-in_err-all_good-clause-written g c = KeepsBytes-transitive _ _ _ c.loop-reader.invariant.written
     (KeepsBytes-transitive _ _ _ c.flush.ensures.kept c.finish.ensures.puts.kept)
@@ -103,9 +93,6 @@ returns-in_err-flush-2-clause-err g c =
     rw (err_from_is_err_and c.from_residual-in_err-flush-2.result c.from_residual-in_err-flush-2.ensures.1).1 (
     last-failed _ _ _ _ _ h c.finish.new.sink c.flush-2.new.self (read.ended (ap Ok c.if-count-eq0.true)) (finish.ok _ _ h.answered)
     (omega (arith, finish.puts.faults)) c.in_err-flush-2.ensures.taken c.in_err-flush-2.ensures.faults)
-
-pub returns-in_err-flush-2-clause-read : goal.returns-in_err-flush-2-clause-read
-returns-in_err-flush-2-clause-read g c = Yields-more _ _ _ _ c.loop-reader.invariant.read c.read.ensures.yields
 
 pub returns-in_err-flush-2-clause-written : goal.returns-in_err-flush-2-clause-written
 returns-in_err-flush-2-clause-written g c = KeepsBytes-transitive _ _ _ c.loop-reader.invariant.written
@@ -130,9 +117,6 @@ returns-clause-good g c =
     let flushed = IsUnderWay-flushed _ _ _ _ _ c.loop-reader.invariant c.flush.new.self flush.taken flush.kept (omega (arith, flush.faults)) in
     let h = IsUnderWay-ended _ _ _ _ _ flushed c.read.new.self _ _ read.yields c.if-count-eq0.true (omega (arith, read.faults)) in
     c.in_ok-all_good.ensures.good _ _ h.answered
-
-pub returns-clause-read : goal.returns-clause-read
-returns-clause-read g c = Yields-more _ _ _ _ c.loop-reader.invariant.read c.read.ensures.yields
 
 pub returns-clause-written : goal.returns-clause-written
 returns-clause-written g c = KeepsBytes-transitive _ _ _ c.loop-reader.invariant.written

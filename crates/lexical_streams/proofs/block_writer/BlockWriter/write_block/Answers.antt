@@ -60,6 +60,3 @@ pub returns-clause-faults : goal.returns-clause-faults
 returns-clause-faults g c =
     let wrote = c.put_all-count in
     wrote.ensures.faults ∙ ap (λ w. w.faults + faults_of wrote.result.1) c.self.view_is
-
-pub returns-clause-flushes : goal.returns-clause-flushes
-returns-clause-flushes g c = (g.met.K.BlockSink.keeps_puts _ _ c.put_all-count.ensures.kept).flushes ∙ ap (λ w. w.flushes) c.self.view_is
