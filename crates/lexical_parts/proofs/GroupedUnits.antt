@@ -68,22 +68,42 @@ grouped_units-le {decimals} {width = width} {digits = digits} grouping are =
 
 -- ---- the text in the buffer
 
--- the whole part is copied, and put into groups where it was copied to
+-- digits are put into groups where they were written
+written_in_groups : {grouping : Option (ℕ × ℕ)} {number whole count : ℕ} {digits before between after : List ℕ} → IsDigits 10 number digits
+    → length digits ≡ whole → Front before between digits → Front between after (grouped grouping (take whole between))
+    → count ≡ length (grouped grouping (take whole between)) → count ≡ grouped_length grouping whole
+    → Writes (IsText (pos number) (record standard { digit_grouping = grouping })) before after count
+written_in_groups {grouping} {number} {whole} {digits = digits} {before} {between} is long written moved counted total =
+    let same : take whole between ≡ digits = ap (take whole) written.written ∙ take_at digits (drop (length digits) before) whole long in
+    record {
+      text = grouped grouping (take whole between);
+      is = record { digits = digits; magnitude = is; whole = ap (grouped grouping) same };
+      front = Front-over written moved (omega (arith, long, counted, total, grouped_length-more grouping 0 whole whole (omega arith)));
+      count = counted;
+    }
+
+-- without decimals the digits are written to the buffer itself
+pub written_without_decimals : {grouping : Option (ℕ × ℕ)} {whole count : ℕ} {before between after : List ℕ} (decimals units : ℕ) → decimals ≡ 0
+    → Writes (IsDigits 10 units) before between whole → Front between after (grouped grouping (take whole between))
+    → count ≡ length (grouped grouping (take whole between)) → count ≡ grouped_length grouping whole
+    → Writes (IsGroupedUnits grouping decimals units) before after count
+written_without_decimals decimals units none w moved counted total =
+    let whole = written_in_groups w.is (sym w.count) w.front moved counted total in
+    let all : units / 10 ^ 0 ≡ units = omega arith in
+    rw none (record {
+      text = whole.text;
+      is = record { first = whole.text; second = []; is_first = rw all whole.is; is_second = refl; whole = sym (append-nil whole.text) };
+      front = whole.front;
+      count = whole.count;
+    })
+
+-- the whole part is copied from an array
 pub written_whole : {grouping : Option (ℕ × ℕ)} {decimals units width count : ℕ} {digits before between after : List ℕ} → AreUnits decimals units width digits
     → Front before between (take (length digits - decimals) digits) → Front between after (grouped grouping (take (length digits - decimals) between))
     → count ≡ length (grouped grouping (take (length digits - decimals) between)) → count ≡ grouped_length grouping (length digits - decimals)
     → Writes (IsText (pos (units / 10 ^ decimals)) (record standard { digit_grouping = grouping })) before after count
-written_whole {grouping} {decimals} {digits = digits} {before} {between} are copied moved counted total =
-    let whole : List ℕ = take (length digits - decimals) digits in
-    let long : length whole ≡ length digits - decimals = length-take-le (length digits - decimals) digits (omega arith) in
-    let same : take (length digits - decimals) between ≡ whole =
-    ap (take (length digits - decimals)) copied.written ∙ take_at whole (drop (length whole) before) (length digits - decimals) long in
-    record {
-      text = grouped grouping (take (length digits - decimals) between);
-      is = record { digits = whole; magnitude = are.whole; whole = ap (grouped grouping) same };
-      front = Front-over copied moved (omega (arith, long, counted, total, grouped_whole-le grouping are));
-      count = counted;
-    }
+written_whole {decimals = decimals} {digits = digits} are copied moved counted total =
+    written_in_groups are.whole (length-take-le (length digits - decimals) digits (omega arith)) copied moved counted total
 
 -- a byte is written after a text
 written_byte : {Is : List ℕ → Type 0} {before after : List ℕ} {count : ℕ} (byte : ℕ) → count < length after → Writes Is before after count
@@ -107,17 +127,6 @@ written_byte {before = before} {after} {count} byte room w =
       };
       count = sym long;
     }
-
--- without decimals the whole part is all
-pub written_without_decimals : {grouping : Option (ℕ × ℕ)} {count : ℕ} {before after : List ℕ} (decimals units : ℕ) → decimals ≡ 0
-    → Writes (IsText (pos (units / 10 ^ decimals)) (record standard { digit_grouping = grouping })) before after count
-    → Writes (IsGroupedUnits grouping decimals units) before after count
-written_without_decimals decimals units none w = rw none (record {
-  text = w.text;
-  is = record { first = w.text; second = []; is_first = rw none at w.is; is_second = refl; whole = sym (append-nil w.text) };
-  front = w.front;
-  count = w.count;
-})
 
 -- the point is written after the whole part, and the decimals are copied to the bytes after it
 pub written_with_decimals : {grouping : Option (ℕ × ℕ)} {count more : ℕ} {before after part rest : List ℕ} (decimals units room : ℕ) → 0 < decimals

@@ -62,6 +62,10 @@ fn write_grouped_units<T: ToLexicalWithOptions>(
     ensures short { result ≤ grouped_units_room format.now.digit_grouping T.DECIMAL_WIDTH decimals }
 {
     number.in_range();
+    if decimals == 0 {
+        let count = number.write_magnitude(&STANDARD, buffer);
+        return group_digits(count, format, buffer);
+    }
     let mut digits = [b'0'; 40];
     let count = number.write_magnitude(&STANDARD, &mut digits[20..]);
     let zeros = (decimals + 1).saturating_sub(count);
@@ -69,9 +73,6 @@ fn write_grouped_units<T: ToLexicalWithOptions>(
     let whole = units.len() - decimals;
     copy_to_front(&units[..whole], buffer);
     let end = group_digits(whole, format, buffer);
-    if decimals == 0 {
-        return end;
-    }
     buffer[end] = b'.';
     end + 1 + copy_to_front(&units[whole..], &mut buffer[end + 1..])
 }
