@@ -1,5 +1,6 @@
 -- The whole part of a number of units, in groups.
-use Rattle.std.proofs.Common.{◌≡◌, Option, ℕ, zero, suc, ◌+◌, ◌-◌, ◌/◌, ◌%◌, ◌^◌, ◌<◌, ◌≤◌, List, [], ◌∷◌, ◌++◌, length, length-append, append_assoc, take, drop, set, replicate, refl, sym, ap, ◌∙◌, arith, pos}
+use Rattle.std.proofs.Common.{◌≡◌, Option, ℕ, zero, suc, ◌+◌, ◌-◌, ◌/◌, ◌%◌, ◌^◌, ◌<◌, ◌≤◌, List, [], ◌∷◌, ◌++◌, length, length-append, append_assoc, take}
+use Rattle.std.proofs.Common.{drop, set, replicate, refl, sym, ap, ◌∙◌, arith, pos}
 use Rattle.std.specs.Prelude.{max, min}
 use Rattle.std.proofs.Math.Seq.{take-append-add}
 use Rattle.std.proofs.lemmas.List.{append-nil, drop-append-le, drop-replicate, length-drop, length-replicate, length-take-le, set_split, take_at}
@@ -18,8 +19,8 @@ use Rattle.lexical_parts.specs.Sequence.{◌then◌}
 use Rattle.lexical_parts.proofs.Inserts.{Front-over}
 use Rattle.lexical_parts.proofs.Points.{digits_around_point}
 
--- the digits of a number of units, with zeros before them if there is no digit for the whole part otherwise, of a type
--- whose numbers have at most `width` digits
+-- the digits of a number of units, for a type whose numbers have at most `width` digits: zeros before them make at least
+-- one digit for the whole part
 pub record AreUnits (decimals units width : ℕ) (digits : List ℕ) : Type 0 where
   pub more : decimals < length digits
   pub few : length digits ≤ max width (decimals + 1)
@@ -35,7 +36,8 @@ digits_after_zeros {before = before} {part} {count} added skip few w =
     let left : skip - (skip - added) ≡ added = omega arith in
     let counted : skip + count - (skip - added) ≡ length zeros + count = omega (arith, long) in
     let first = drop-append-le (skip - added) (replicate skip 48) (part ++ []) (omega (arith, length-replicate {A = ℕ} skip 48)) in
-    rw (first, drop-replicate {X = ℕ} (skip - added) skip 48, left, append-nil part, counted, sym (take-Writes before part count w)) (take-append-add zeros part count)
+    rw (first, drop-replicate {X = ℕ} (skip - added) skip 48, left, append-nil part, counted, sym (take-Writes before part count w))
+    (take-append-add zeros part count)
 
 pub units_after_zeros : {number decimals added count width : ℕ} {before part : List ℕ} (skip : ℕ) → added ≤ skip → count ≤ width
     → Writes (IsDigits 10 number) before part count → added ≡ (decimals + 1) - count

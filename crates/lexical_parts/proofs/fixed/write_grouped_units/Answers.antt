@@ -3,7 +3,8 @@ use Rattle.std.specs.Prelude.{max}
 use Rattle.std.proofs.lemmas.List.{length-drop, length-set, length-take, take_rest}
 use Rattle.lexical_write_integer.specs.DigitCount.{digit_count, digit_count-le}
 use Rattle.lexical_write_integer.specs.SizeBound.{grouped_length-more}
-use Rattle.lexical_parts.proofs.GroupedUnits.{AreUnits, grouped_units-le, grouped_whole-le, units_after_zeros, written_whole, written_with_decimals, written_without_decimals}
+use Rattle.lexical_parts.proofs.GroupedUnits.{AreUnits, grouped_units-le, grouped_whole-le, units_after_zeros, written_whole, written_with_decimals}
+use Rattle.lexical_parts.proofs.GroupedUnits.{written_without_decimals}
 use Rattle.lexical_parts.proofs.Widths.{decimal_width-le_20}
 use Rattle.lexical_parts.proofs.fixed.write_grouped_units.Goals as goal
 use Rattle.lexical_parts.proofs.fixed.write_grouped_units.Goals.{After-in_range, After-saturating_sub-zeros}
@@ -27,7 +28,8 @@ group_digits-requires-clause-room g c =
     let few = few_digits g (goal.at.group_digits-requires-clause-room g c).After-in_range in
     let most = max g.T.LexicalInteger.DECIMAL_WIDTH (c.args.decimals + 1) - c.args.decimals in
     let count = c.write_magnitude-count in
-    let more = grouped_length-more c.args.format.now.digit_grouping count.result most 0 (omega (arith, few, count.ensures.digits.count, c.if-decimals-eq0.true)) in
+    let within : count.result + 0 ≤ most = omega (arith, few, count.ensures.digits.count, c.if-decimals-eq0.true) in
+    let more = grouped_length-more c.args.format.now.digit_grouping count.result most 0 within in
     omega (arith, more, c.requires.room, count.auto.buffer)
 
 pub returns-then-decimals-eq0-clause-short : goal.returns-then-decimals-eq0-clause-short
@@ -35,7 +37,8 @@ returns-then-decimals-eq0-clause-short g c =
     let few = few_digits g (goal.at.returns-then-decimals-eq0-clause-short g c).After-in_range in
     let most = max g.T.LexicalInteger.DECIMAL_WIDTH (c.args.decimals + 1) - c.args.decimals in
     let count = c.write_magnitude-count in
-    let more = grouped_length-more c.args.format.now.digit_grouping count.result most 0 (omega (arith, few, count.ensures.digits.count, c.if-decimals-eq0.true)) in
+    let within : count.result + 0 ≤ most = omega (arith, few, count.ensures.digits.count, c.if-decimals-eq0.true) in
+    let more = grouped_length-more c.args.format.now.digit_grouping count.result most 0 within in
     omega (arith, more, c.group_digits.ensures.total)
 
 pub returns-then-decimals-eq0-clause-text : goal.returns-then-decimals-eq0-clause-text
@@ -131,7 +134,8 @@ copy_to_front-requires-2 g c =
 pub returns-clause-text : goal.returns-clause-text
 returns-clause-text g c =
     let are = are_units g (goal.at.returns-clause-text g c).After-saturating_sub-zeros in
-    let first = written_whole are c.copy_to_front.ensures.front c.group_digits-end.ensures.groups c.group_digits-end.ensures.count c.group_digits-end.ensures.total in
+    let moved = c.group_digits-end.ensures in
+    let first = written_whole are c.copy_to_front.ensures.front moved.groups moved.count moved.total in
     let within : c.group_digits-end.result < length c.group_digits-end.new.buffer =
     omega (
       arith,
