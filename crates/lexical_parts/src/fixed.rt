@@ -66,6 +66,7 @@ fn write_grouped_units<T: ToLexicalWithOptions>(
         let count = number.write_magnitude(&STANDARD, buffer);
         return group_digits(count, format, buffer);
     }
+    // A short number takes zeros from those before its digits, so that no digit is moved for them.
     let mut digits = [b'0'; 40];
     let count = number.write_magnitude(&STANDARD, &mut digits[20..]);
     let zeros = (decimals + 1).saturating_sub(count);
