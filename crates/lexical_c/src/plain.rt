@@ -8,6 +8,7 @@ ghost use Rattle.lexical_write_integer.specs.Text.{need};
 ghost use Rattle.lexical_c.specs.Format.{HasOnlyRadix, IsAccepted, format_of};
 
 use crate::format::CFormat;
+use lexical_num::format::STANDARD;
 use lexical_num::limits::is_radix;
 use lexical_write_integer::write::WriteInteger;
 use lexical_write_integer::{
@@ -37,13 +38,17 @@ pub fn plain_format<T: FormattedSize>(format: &CFormat, room: usize) -> Option<N
     ensures room { IfSome result (λ plain.
         size_in T.FORMATTED_SIZE T.FORMATTED_SIZE_DECIMAL plain ≤ room) }
 {
-    let size = if format.radix == 10 {
-        T::FORMATTED_SIZE_DECIMAL
-    } else {
-        T::FORMATTED_SIZE
-    };
-    if is_radix(u64::from(format.radix)) && has_only_radix(format) && size <= room {
-        // The fields that are 0 are not read again.
+    if !has_only_radix(format) {
+        return None;
+    }
+    // The fields that are 0 are not read again.
+    if format.radix == 10 {
+        if T::FORMATTED_SIZE_DECIMAL <= room {
+            Some(STANDARD)
+        } else {
+            None
+        }
+    } else if is_radix(u64::from(format.radix)) && T::FORMATTED_SIZE <= room {
         let builder = NumberFormatBuilder::new().mantissa_radix(format.radix as u8);
         Some(builder.build_strict())
     } else {
