@@ -67,7 +67,8 @@ pub centered_is_utf8 : {Is : List ℕ → Type 0} (width fill : ℕ) → fill < 
 centered_is_utf8 width fill small cells text is =
     let added = width - length is.cell in
     let before = IsUtf8-append (replicate (added / 2) fill) is.cell (fill_is_utf8 fill (added / 2) small) (cells is.cell is.is) in
-    rw is.whole (IsUtf8-append (replicate (added / 2) fill ++ is.cell) (replicate (added - added / 2) fill) before (fill_is_utf8 fill (added - added / 2) small))
+    let after = fill_is_utf8 fill (added - added / 2) small in
+    rw is.whole (IsUtf8-append (replicate (added / 2) fill ++ is.cell) (replicate (added - added / 2) fill) before after)
 
 sign_is_utf8 : (number : ℤ) → AreUtf8 (IsExactly (sign_of number false))
 sign_is_utf8 (pos n) text is = rw is IsUtf8-nil

@@ -1,5 +1,6 @@
 -- Numbers of units of a power of ten, with a decimal point.
-use Rattle.std.specs.Prelude.{ℕ, zero, suc, ◌+◌, ◌-◌, ◌/◌, ◌%◌, ◌^◌, max, min, ℤ, pos, unsigned_abs, false, List, [], Option}
+use Rattle.std.specs.Prelude.{ℕ, zero, suc, ◌+◌, ◌-◌, ◌/◌, ◌%◌, ◌^◌, max, min, ℤ, pos, unsigned_abs, false, List, []}
+use Rattle.std.specs.Prelude.{Option}
 use Rattle.lexical_num.specs.Format.{grouped_length, standard}
 use Rattle.lexical_num.specs.Sign.{sign_of}
 use Rattle.lexical_write_integer.specs.Padded.{IsPadded}

@@ -21,7 +21,8 @@ pub record IsScientificUnsigned (number : ℕ) (exponent : ℤ) (text : List ℕ
   pub zeros : ℕ
   pub whole : number ≡ units * 10 ^ zeros
   pub shortest : units % 10 ≡ 0 → (units ≡ 0) × (zeros ≡ 0)
-  pub is : (IsUnits (digits_after_first units) units then IsStr "e" then IsDecimal (exponent_of_first number exponent)) text
+  pub is : (IsUnits (digits_after_first units) units
+      then IsStr "e" then IsDecimal (exponent_of_first number exponent)) text
 
 -- a number times 10 ^ `exponent`, with a `-` if it is negative
 abbrev pub IsScientific : ℤ → ℤ → List ℕ → Type 0

@@ -1,6 +1,6 @@
 //! Numbers with a fixed number of decimals.
 
-ghost use Rattle.std.specs.Prelude.{◌≡◌, ◌+◌, ◌-◌, ◌<◌, ◌≤◌, false, length, min, unsigned_abs};
+ghost use Rattle.std.specs.Prelude.{◌≡◌, ◌+◌, ◌-◌, ◌≤◌, false, length, unsigned_abs};
 ghost use Rattle.lexical_num.specs.Sign.{sign_of};
 ghost use Rattle.lexical_write_integer.specs.Buffer.{Front, Writes};
 ghost use Rattle.lexical_parts.specs.Fixed.{IsFixed, IsUnits, fixed_room, units_room};
@@ -35,7 +35,6 @@ fn write_units<T: ToLexicalWithOptions>(number: T, decimals: usize, buffer: &mut
     requires room { units_room T.DECIMAL_WIDTH decimals ≤ length buffer.old }
     ensures text { Writes (IsUnits decimals (unsigned_abs (T.number number))) buffer.old buffer.new result }
     ensures short { result ≤ units_room T.DECIMAL_WIDTH decimals }
-    ensures whole { decimals + min decimals 1 < result }
 {
     number.in_range();
     let count = number.write_magnitude(&STANDARD, buffer);
@@ -62,13 +61,21 @@ fn write_grouped_units<T: ToLexicalWithOptions>(
         buffer.old buffer.new result }
     ensures short { result ≤ grouped_units_room format.now.digit_grouping T.DECIMAL_WIDTH decimals }
 {
-    let mut units = [0; 21];
-    let count = write_units(number, decimals, &mut units);
-    let units = &units[..count];
-    let whole = count - decimals - decimals.min(1);
+    number.in_range();
+    if decimals == 0 {
+        let count = number.write_magnitude(&STANDARD, buffer);
+        return group_digits(count, format, buffer);
+    }
+    // A short number takes zeros from those before its digits, so that no digit is moved for them.
+    let mut digits = [b'0'; 40];
+    let count = number.write_magnitude(&STANDARD, &mut digits[20..]);
+    let zeros = (decimals + 1).saturating_sub(count);
+    let units = &digits[20 - zeros..20 + count];
+    let whole = units.len() - decimals;
     copy_to_front(&units[..whole], buffer);
     let end = group_digits(whole, format, buffer);
-    end + copy_to_front(&units[whole..], &mut buffer[end..])
+    buffer[end] = b'.';
+    end + 1 + copy_to_front(&units[whole..], &mut buffer[end + 1..])
 }
 
 /// A number of units of 10^-`decimals`, such as an amount in cents: `Fixed(-5i64, 2)` writes `-0.05`,

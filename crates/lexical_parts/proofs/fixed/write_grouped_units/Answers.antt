@@ -1,73 +1,164 @@
-use Rattle.std.proofs.Common.{ℕ, ◌+◌, ◌-◌, arith, unsigned_abs}
+use Rattle.std.proofs.Common.{ℕ, ◌+◌, ◌-◌, ◌<◌, ◌≤◌, [], ◌++◌, length, take, drop, replicate, arith, unsigned_abs}
 use Rattle.std.specs.Prelude.{max}
-use Rattle.std.proofs.lemmas.List.{length-drop, length-take}
+use Rattle.std.proofs.lemmas.List.{length-drop, length-set, length-take, take_rest}
+use Rattle.lexical_write_integer.specs.DigitCount.{digit_count, digit_count-le}
 use Rattle.lexical_write_integer.specs.SizeBound.{grouped_length-more}
-use Rattle.lexical_write_integer.proofs.Buffers.Prefixes.{Writes-is}
-use Rattle.lexical_parts.proofs.GroupedUnits.{written_grouped_units}
+use Rattle.lexical_parts.proofs.GroupedUnits.{AreUnits, grouped_units-le, grouped_whole-le, units_after_zeros, written_whole, written_with_decimals}
+use Rattle.lexical_parts.proofs.GroupedUnits.{written_without_decimals}
 use Rattle.lexical_parts.proofs.Widths.{decimal_width-le_20}
 use Rattle.lexical_parts.proofs.fixed.write_grouped_units.Goals as goal
+use Rattle.lexical_parts.proofs.fixed.write_grouped_units.Goals.{After-in_range, After-saturating_sub-zeros}
 
-pub write_units-count-requires-clause-room : goal.write_units-count-requires-clause-room
-write_units-count-requires-clause-room g c =
-    let width = decimal_width-le_20 _ _ _ _ g.met.T.LexicalInteger.range_of_bits g.met.T.LexicalInteger.decimal_width in
-    omega (arith, width, c.requires.decimals)
+few_digits : (g : _) (c : After-in_range g) → digit_count 10 (unsigned_abs (g.T.LexicalInteger.number c.args.number)) ≤ g.T.LexicalInteger.DECIMAL_WIDTH
+few_digits g c =
+    let width = g.met.T.LexicalInteger.decimal_width in
+    digit_count-le 10 _ _ width.some (width.enough _ c.in_range.ensures.at_least c.in_range.ensures.at_most)
+
+-- ---- without decimals
+
+pub write_magnitude-count-requires : goal.write_magnitude-count-requires
+write_magnitude-count-requires g c =
+    let width = g.T.LexicalInteger.DECIMAL_WIDTH in
+    let most = max width (c.args.decimals + 1) - c.args.decimals in
+    let more = grouped_length-more c.args.format.now.digit_grouping 0 most width (omega (arith, c.if-decimals-eq0.true)) in
+    omega (arith, more, c.requires.room)
+
+pub group_digits-requires-clause-room : goal.group_digits-requires-clause-room
+group_digits-requires-clause-room g c =
+    let few = few_digits g (goal.at.group_digits-requires-clause-room g c).After-in_range in
+    let most = max g.T.LexicalInteger.DECIMAL_WIDTH (c.args.decimals + 1) - c.args.decimals in
+    let count = c.write_magnitude-count in
+    let within : count.result + 0 ≤ most = omega (arith, few, count.ensures.digits.count, c.if-decimals-eq0.true) in
+    let more = grouped_length-more c.args.format.now.digit_grouping count.result most 0 within in
+    omega (arith, more, c.requires.room, count.auto.buffer)
+
+pub returns-then-decimals-eq0-clause-short : goal.returns-then-decimals-eq0-clause-short
+returns-then-decimals-eq0-clause-short g c =
+    let few = few_digits g (goal.at.returns-then-decimals-eq0-clause-short g c).After-in_range in
+    let most = max g.T.LexicalInteger.DECIMAL_WIDTH (c.args.decimals + 1) - c.args.decimals in
+    let count = c.write_magnitude-count in
+    let within : count.result + 0 ≤ most = omega (arith, few, count.ensures.digits.count, c.if-decimals-eq0.true) in
+    let more = grouped_length-more c.args.format.now.digit_grouping count.result most 0 within in
+    omega (arith, more, c.group_digits.ensures.total)
+
+pub returns-then-decimals-eq0-clause-text : goal.returns-then-decimals-eq0-clause-text
+returns-then-decimals-eq0-clause-text g c =
+    let moved = c.group_digits.ensures in
+    written_without_decimals c.args.decimals _ c.if-decimals-eq0.true c.write_magnitude-count.ensures.digits.writes moved.groups moved.count moved.total
+
+-- ---- with decimals
+
+pub write_magnitude-count-requires-2 : goal.write_magnitude-count-requires-2
+write_magnitude-count-requires-2 g c = decimal_width-le_20 _ _ _ _ g.met.T.LexicalInteger.range_of_bits g.met.T.LexicalInteger.decimal_width
+
+are_units : (g : _) (c : After-saturating_sub-zeros g)
+    → AreUnits c.args.decimals (unsigned_abs (g.T.LexicalInteger.number c.args.number)) g.T.LexicalInteger.DECIMAL_WIDTH
+    (take (20 + c.write_magnitude-count-2.result - (20 - c.saturating_sub-zeros.result))
+    (drop (20 - c.saturating_sub-zeros.result) (replicate 20 48 ++ (c.write_magnitude-count-2.new.buffer ++ []))))
+are_units g c =
+    let width = g.met.T.LexicalInteger.decimal_width in
+    let few = digit_count-le 10 _ _ width.some (width.enough _ c.in_range.ensures.at_least c.in_range.ensures.at_most) in
+    let written = c.write_magnitude-count-2.ensures.digits in
+    units_after_zeros 20 (omega (arith, c.saturating_sub-zeros.ensures, c.requires.decimals)) (omega (arith, few, written.count))
+    written.writes c.saturating_sub-zeros.ensures
+
+pub copy_to_front-requires : goal.copy_to_front-requires
+copy_to_front-requires g c =
+    let are = are_units g (goal.at.copy_to_front-requires g c).After-saturating_sub-zeros in
+    let grouping = c.args.format.now.digit_grouping in
+    omega (arith, are.more, grouped_whole-le grouping are, grouped_units-le grouping are, c.requires.room, length-take {A = ℕ})
 
 pub group_digits-end-requires-clause-room : goal.group_digits-end-requires-clause-room
 group_digits-end-requires-clause-room g c =
-    let whole = c.write_units-count.result - c.args.decimals - c.min.result in
-    let most = max g.T.LexicalInteger.DECIMAL_WIDTH (c.args.decimals + 1) - c.args.decimals in
-    let few = grouped_length-more c.args.format.now.digit_grouping whole most 0 (omega (arith, c.min.ensures, c.write_units-count.ensures.short)) in
-    omega (arith, few, c.requires.room, c.copy_to_front.auto.buffer)
+    let are = are_units g (goal.at.group_digits-end-requires-clause-room g c).After-saturating_sub-zeros in
+    omega (arith, grouped_units-le c.args.format.now.digit_grouping are, c.requires.room, c.copy_to_front.auto.buffer)
+
+pub bounds-buffer-end : goal.bounds-buffer-end
+bounds-buffer-end g c =
+    let are = are_units g (goal.at.bounds-buffer-end g c).After-saturating_sub-zeros in
+    omega (
+      arith,
+      grouped_units-le c.args.format.now.digit_grouping are,
+      c.group_digits-end.ensures.total,
+      c.if-decimals-eq0.false,
+      c.requires.room,
+      c.copy_to_front.auto.buffer,
+      c.group_digits-end.auto.buffer,
+    )
+
+pub slice_bounds-copy_to_front-count-2 : goal.slice_bounds-copy_to_front-count-2
+slice_bounds-copy_to_front-count-2 g c =
+    let are = are_units g (goal.at.slice_bounds-copy_to_front-count-2 g c).After-saturating_sub-zeros in
+    omega (
+      arith,
+      grouped_units-le c.args.format.now.digit_grouping are,
+      c.group_digits-end.ensures.total,
+      c.if-decimals-eq0.false,
+      c.requires.room,
+      c.copy_to_front.auto.buffer,
+      c.group_digits-end.auto.buffer,
+      length-set {A = ℕ},
+    )
+
+pub slice_bounds-copy_to_front-start-2 : goal.slice_bounds-copy_to_front-start-2
+slice_bounds-copy_to_front-start-2 g c =
+    let are = are_units g (goal.at.slice_bounds-copy_to_front-start-2 g c).After-saturating_sub-zeros in
+    omega (
+      arith,
+      grouped_units-le c.args.format.now.digit_grouping are,
+      c.group_digits-end.ensures.total,
+      c.if-decimals-eq0.false,
+      c.requires.room,
+      c.copy_to_front.auto.buffer,
+      c.group_digits-end.auto.buffer,
+      length-set {A = ℕ},
+    )
 
 pub copy_to_front-requires-2 : goal.copy_to_front-requires-2
 copy_to_front-requires-2 g c =
-    let whole = c.write_units-count.result - c.args.decimals - c.min.result in
-    let most = max g.T.LexicalInteger.DECIMAL_WIDTH (c.args.decimals + 1) - c.args.decimals in
-    let few = grouped_length-more c.args.format.now.digit_grouping whole most 0 (omega (arith, c.min.ensures, c.write_units-count.ensures.short)) in
+    let are = are_units g (goal.at.copy_to_front-requires-2 g c).After-saturating_sub-zeros in
     omega (
       arith,
-      few,
-      c.min.ensures,
+      are.more,
+      grouped_units-le c.args.format.now.digit_grouping are,
+      c.group_digits-end.ensures.total,
+      c.if-decimals-eq0.false,
       c.requires.room,
-      c.write_units-count.ensures.whole,
       c.copy_to_front.auto.buffer,
       c.group_digits-end.auto.buffer,
-      c.group_digits-end.ensures.total,
-      length-take {A = ℕ},
-      length-drop {A = ℕ},
-    )
-
-pub returns-clause-short : goal.returns-clause-short
-returns-clause-short g c =
-    let whole = c.write_units-count.result - c.args.decimals - c.min.result in
-    let most = max g.T.LexicalInteger.DECIMAL_WIDTH (c.args.decimals + 1) - c.args.decimals in
-    let few = grouped_length-more c.args.format.now.digit_grouping whole most 0 (omega (arith, c.min.ensures, c.write_units-count.ensures.short)) in
-    omega (
-      arith,
-      few,
-      c.min.ensures,
-      c.write_units-count.ensures.whole,
-      c.group_digits-end.ensures.total,
-      c.copy_to_front-2.ensures.count,
+      length-set {A = ℕ},
       length-take {A = ℕ},
       length-drop {A = ℕ},
     )
 
 pub returns-clause-text : goal.returns-clause-text
 returns-clause-text g c =
-    let whole = c.write_units-count.result - c.args.decimals - c.min.result in
-    let width = decimal_width-le_20 _ _ _ _ g.met.T.LexicalInteger.range_of_bits g.met.T.LexicalInteger.decimal_width in
-    let more = grouped_length-more c.args.format.now.digit_grouping 0 whole whole (omega arith) in
-    written_grouped_units c.args.decimals (unsigned_abs (g.T.LexicalInteger.number c.args.number)) _ (Writes-is _ _ _ c.write_units-count.ensures.text)
-    (omega (
+    let are = are_units g (goal.at.returns-clause-text g c).After-saturating_sub-zeros in
+    let moved = c.group_digits-end.ensures in
+    let first = written_whole are c.copy_to_front.ensures.front moved.groups moved.count moved.total in
+    let within : c.group_digits-end.result < length c.group_digits-end.new.buffer =
+    omega (
       arith,
-      width,
-      c.requires.decimals,
-      c.min.ensures,
-      c.write_units-count.ensures.whole,
-      c.write_units-count.ensures.short,
-      c.write_units-count.auto.buffer,
+      grouped_units-le c.args.format.now.digit_grouping are,
+      c.group_digits-end.ensures.total,
+      c.if-decimals-eq0.false,
+      c.requires.room,
+      c.copy_to_front.auto.buffer,
+      c.group_digits-end.auto.buffer,
+    ) in
+    written_with_decimals c.args.decimals _ _ (omega (arith, c.if-decimals-eq0.false)) first within (rw (take_rest {X = ℕ}) are.rest)
+    c.copy_to_front-2.ensures.front c.copy_to_front-2.ensures.count
+
+pub returns-clause-short : goal.returns-clause-short
+returns-clause-short g c =
+    let are = are_units g (goal.at.returns-clause-short g c).After-saturating_sub-zeros in
+    omega (
+      arith,
+      are.more,
+      grouped_units-le c.args.format.now.digit_grouping are,
+      c.group_digits-end.ensures.total,
+      c.if-decimals-eq0.false,
+      c.copy_to_front-2.ensures.count,
       length-take {A = ℕ},
-    ))
-    c.copy_to_front.ensures.front c.group_digits-end.ensures.groups c.group_digits-end.ensures.count
-    (omega (arith, more, c.group_digits-end.ensures.total)) c.copy_to_front-2.ensures.front c.copy_to_front-2.ensures.count
+      length-drop {A = ℕ},
+    )

@@ -1,7 +1,6 @@
-use Rattle.std.proofs.Common.{ℕ, arith, unsigned_abs}
+use Rattle.std.proofs.Common.{ℕ, arith}
 use Rattle.std.proofs.lemmas.List.{length-drop, length-take}
 use Rattle.lexical_write_integer.specs.DigitCount.{digit_count-le}
-use Rattle.lexical_write_integer.proofs.OfDigits.Count.DigitCounts.{digit_count-pos}
 use Rattle.lexical_parts.proofs.Points.{written_point}
 use Rattle.lexical_parts.proofs.fixed.write_units.Goals as goal
 
@@ -27,10 +26,6 @@ insert_fill-requires-2 g c =
       length-take {A = ℕ},
       length-drop {A = ℕ},
     )
-
-pub returns-then-decimals-eq0-clause-whole : goal.returns-then-decimals-eq0-clause-whole
-returns-then-decimals-eq0-clause-whole g c =
-    omega (arith, c.write_magnitude-count.ensures.digits.count, digit_count-pos 10 (unsigned_abs (g.T.LexicalInteger.number c.args.number)), c.if-decimals-eq0.true)
 
 pub returns-clause-short : goal.returns-clause-short
 returns-clause-short g c =

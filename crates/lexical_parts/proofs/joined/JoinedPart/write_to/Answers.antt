@@ -25,6 +25,7 @@ loop-index-preserved g c =
     let leads = leads_at separator c.loop-index.index in
     let more = joined_room-more g.P.Part.room separator _ parts c.loop-index-test.true c.part-item.is leads in
     record {
-      written = written_joined g.P.Part.is_text separator _ _ _ c.loop-index-test.true c.part-item.is leads c.loop-index.invariant.written c.write_next-count.ensures.text;
+      written = written_joined g.P.Part.is_text separator _ _ _ c.loop-index-test.true c.part-item.is leads c.loop-index.invariant.written
+          c.write_next-count.ensures.text;
       within = omega (arith, more, c.loop-index.invariant.within, c.write_next-count.ensures.short);
     }
