@@ -29,7 +29,7 @@ fn has_only_radix(format: &CFormat) -> bool
 
 /// Returns the format if it is valid and has no required sign, no groups and no lowercase, and a
 /// buffer of `room` bytes is enough for every number of the type. Otherwise returns `None`.
-pub fn plain_format<T: FormattedSize>(format: &CFormat, room: usize) -> Option<NumberFormat>
+pub fn fitting_plain_format<T: FormattedSize>(format: &CFormat, room: usize) -> Option<NumberFormat>
     ensures format { IfSome result (λ plain. plain ≡ format_of format.now) }
     ensures accepted { IfSome result (λ plain. IsAccepted format.now) }
     ensures uppercase { IfSome result (λ plain. format.now.lowercase ≡ 0) }

@@ -6,7 +6,7 @@ ghost use Rattle.lexical_c.specs.Buffer.{WritesOrRefuses};
 
 use crate::format::CFormat;
 use crate::general::write_if_it_fits;
-use crate::plain::{plain_format, write_plain_digits, write_sign_and_digits};
+use crate::plain::{fitting_plain_format, write_plain_digits, write_sign_and_digits};
 use lexical_write_integer::ToLexicalWithOptions;
 use lexical_write_integer::laws::size_suffices;
 use lexical_write_integer::write::WriteInteger;
@@ -21,7 +21,7 @@ fn write_unsigned<T: WriteInteger + ToLexicalWithOptions>(
     ensures { WritesOrRefuses (T.number value) format.now buffer.old buffer.new result }
 {
     value.in_range();
-    match plain_format::<T>(format, buffer.len()) {
+    match fitting_plain_format::<T>(format, buffer.len()) {
         Some(format) => {
             size_suffices(value, &format);
             write_plain_digits(value, &format, buffer)
@@ -42,7 +42,7 @@ fn write_signed<T: ToLexicalWithOptions>(
     ensures { WritesOrRefuses (T.number value) format.now buffer.old buffer.new result }
 {
     value.in_range();
-    match plain_format::<T>(format, buffer.len()) {
+    match fitting_plain_format::<T>(format, buffer.len()) {
         Some(format) => {
             size_suffices(value, &format);
             write_sign_and_digits(value, &format, buffer)

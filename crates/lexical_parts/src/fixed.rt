@@ -16,7 +16,7 @@ use lexical_write_integer::{NumberFormat, ToLexicalWithOptions, group_digits};
 
 // Writes the sign of a number to the start of the buffer, a `-` if it is negative and otherwise nothing, and
 // returns its length.
-pub(crate) fn write_sign<T: LexicalInteger>(number: T, buffer: &mut [u8]) -> usize
+pub(crate) fn write_minus<T: LexicalInteger>(number: T, buffer: &mut [u8]) -> usize
     requires { length (sign_of (T.number number) false) ≤ length buffer.old }
     ensures front { Front buffer.old buffer.new (sign_of (T.number number) false) }
     ensures count { result ≡ length (sign_of (T.number number) false) }
@@ -99,7 +99,7 @@ impl<T: ToLexicalWithOptions> Part for Fixed<T> {
 
     fn write_to(self, buffer: &mut [u8]) -> usize {
         size_suffices(self.0, &STANDARD);
-        let start = write_sign(self.0, buffer);
+        let start = write_minus(self.0, buffer);
         start + write_units(self.0, self.1, &mut buffer[start..])
     }
 }
@@ -128,7 +128,7 @@ impl<T: ToLexicalWithOptions> Part for GroupedFixed<'_, T> {
 
     fn write_to(self, buffer: &mut [u8]) -> usize {
         size_suffices(self.0, &STANDARD);
-        let start = write_sign(self.0, buffer);
+        let start = write_minus(self.0, buffer);
         start + write_grouped_units(self.0, self.1, self.2, &mut buffer[start..])
     }
 }

@@ -8,7 +8,7 @@ ghost use Rattle.lexical_parts.specs.Fixed.{IsUnits};
 ghost use Rattle.lexical_parts.specs.Scientific.{IsScientific, IsScientificUnsigned, exponent_of_first};
 ghost use Rattle.lexical_parts.specs.Sequence.{◌then◌, IsDecimal, IsStr};
 
-use crate::fixed::write_sign;
+use crate::fixed::write_minus;
 use crate::part::Part;
 use crate::text::Bytes;
 use lexical_write_integer::ToLexicalWithOptions;
@@ -109,7 +109,7 @@ impl<T: ToLexicalWithOptions> Part for Scientific<T> {
 
     fn write_to(self, buffer: &mut [u8]) -> usize {
         size_suffices(self.0, &STANDARD);
-        let start = write_sign(self.0, buffer);
+        let start = write_minus(self.0, buffer);
         start + write_magnitude(self.0, self.1, &mut buffer[start..])
     }
 }

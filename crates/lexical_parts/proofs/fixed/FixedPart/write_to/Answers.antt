@@ -7,6 +7,6 @@ returns-clause-text g c =
     written_then _ _ _ _ _ _ _ _ (record {
       text = _;
       is = refl;
-      front = c.write_sign-start.ensures.front;
-      count = c.write_sign-start.ensures.count;
+      front = c.write_minus-start.ensures.front;
+      count = c.write_minus-start.ensures.count;
     }) c.write_units.ensures.text

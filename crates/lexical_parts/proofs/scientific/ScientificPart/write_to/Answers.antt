@@ -6,7 +6,7 @@ use Rattle.lexical_parts.proofs.scientific.ScientificPart.write_to.Goals as goal
 
 pub returns-clause-text : goal.returns-clause-text
 returns-clause-text g c =
-    let sign = c.write_sign-start.ensures in
+    let sign = c.write_minus-start.ensures in
     let exponent = to_z-of_z w32 c.args.self.1 (search rules) in
     written_then _ _ _ _ _ _ _ _ (record { text = _; is = refl; front = sign.front; count = sign.count })
     (rw exponent at c.write_magnitude.ensures.text)

@@ -1,5 +1,5 @@
 use Rattle.std.proofs.Common.{refl}
-use Rattle.lexical_c.proofs.plain.plain_format.Goals as goal
+use Rattle.lexical_c.proofs.plain.fitting_plain_format.Goals as goal
 
 -- the check finds this proof by itself, but with an answer the refusal of a mistake says what is wrong
 pub returns-then-FORMATTED_SIZE_DECIMAL-room-clause-format : goal.returns-then-FORMATTED_SIZE_DECIMAL-room-clause-format
