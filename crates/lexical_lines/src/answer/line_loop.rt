@@ -53,5 +53,6 @@ pub fn run<S: ByteSource, K: ByteSink>(source: &mut S, sink: &mut K) -> io::Resu
     while let Some(byte) = source.next()? {
         answerer.push(byte, sink)?;
     }
+    // The last line may have no newline.
     answerer.finish(sink)
 }

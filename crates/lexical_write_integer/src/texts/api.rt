@@ -105,6 +105,7 @@ pub trait ToLexicalWithOptions: ToLexical {
         ensures plain { IsText (Self.number self) (without_groups format.now)
             (without_marks format.now.digit_grouping (take result buffer.new)) }
     {
+        // The options have no effect.
         self.write_text(buffer, format)
     }
 

@@ -65,7 +65,8 @@ impl ToLexicalWithOptions for usize {
 
 impl ToLexical for i8 {
     fn write_magnitude(self, format: &NumberFormat, buffer: &mut [u8]) -> usize {
-        // Only the unsigned type holds the magnitude of the smallest value.
+        // The magnitude of the smallest value, 128, is no `i8`.
+        // Only the unsigned type holds it.
         self.unsigned_abs()
             .write_integer_signed(format.mantissa_radix(), buffer)
     }

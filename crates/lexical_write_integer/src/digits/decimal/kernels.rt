@@ -52,6 +52,7 @@ pub fn fixed_8_ten(n: u32) -> u64
     ensures number { result ≡ n * 1441151881 / 2 ^ 25 }
     ensures carries { Carries n result 4 }
 {
+    // The multiplier for nine digits is 1 more: with it, 4,294,967,295 would end in 8.
     (u64::from(n) * 1_441_151_881) >> 25
 }
 
