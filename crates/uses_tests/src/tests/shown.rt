@@ -12,10 +12,14 @@ use uses::printed::{amount_string, flags_in_column};
 #[test]
 fn parts_in_format_strings(rt: HostRuntime) -> Result<(), Fail> {
     let alloc = rt.alloc();
-    let text = format!(in alloc; "{}|{:>8}|", Hex(255u32), Hex(255u32))?;
-    assert_eq!(rt; text.as_str(), "FF|      FF|");
-    let text = format!(in alloc; "{:*^7}|{:<4}|", Decimal(-12), Binary(5u8))?;
-    assert_eq!(rt; text.as_str(), "**-12**|101 |");
+    let text = format!(in alloc;
+        "{}|{:>8}|{:*^7}|{:<4}|",
+        Hex(255u32),
+        Hex(255u32),
+        Decimal(-12),
+        Binary(5u8)
+    )?;
+    assert_eq!(rt; text.as_str(), "FF|      FF|**-12**|101 |");
     Ok(())
 }
 
