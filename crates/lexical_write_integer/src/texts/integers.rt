@@ -66,7 +66,6 @@ impl ToLexicalWithOptions for usize {
 impl ToLexical for i8 {
     fn write_magnitude(self, format: &NumberFormat, buffer: &mut [u8]) -> usize {
         // The magnitude of the smallest value, 128, is no `i8`.
-        // Only the unsigned type holds it.
         self.unsigned_abs()
             .write_integer_signed(format.mantissa_radix(), buffer)
     }
@@ -86,6 +85,7 @@ impl ToLexicalWithOptions for i8 {
 
 impl ToLexical for i16 {
     fn write_magnitude(self, format: &NumberFormat, buffer: &mut [u8]) -> usize {
+        // The magnitude 32,768 is no `i16`.
         self.unsigned_abs()
             .write_integer_signed(format.mantissa_radix(), buffer)
     }

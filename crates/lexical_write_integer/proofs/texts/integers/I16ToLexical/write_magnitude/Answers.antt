@@ -1,7 +1,7 @@
 use Rattle.std.proofs.Common.{subst, arith}
 use Rattle.std.proofs.lemmas.Int.{ints}
 use Rattle.lexical_write_integer.specs.Buffer.{WritesDigits}
-use Rattle.lexical_write_integer.proofs.texts.integers.I8ToLexical.write_magnitude.Goals as goal
+use Rattle.lexical_write_integer.proofs.texts.integers.I16ToLexical.write_magnitude.Goals as goal
 
 -- the check finds this proof by itself, but with an answer the refusal of a mistake says what is wrong
 pub returns : goal.returns
