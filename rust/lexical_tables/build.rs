@@ -1,3 +1,3 @@
 fn main() {
-    strip::build("lexical_tables", &[]);
+    strip::build("lexical_tables", &strip::Additions::default());
 }

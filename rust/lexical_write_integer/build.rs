@@ -1,13 +1,44 @@
+use strip::Additions;
+
 fn main() {
-    // The functions of these files choose a writer. If the format or the radix is constant in a caller, so is the
-    // choice, and only the writer is left there.
-    let always = [
+    // What chooses a writer, the decimal writer, and the writer of a number whose digits are counted at once. If the
+    // format is constant in a caller, so is the choice. The others would make the code of a caller long if its radix is
+    // known only at run time.
+    let always_inlined = &[
+        "buffer.rt",
         "texts/api.rt",
         "texts/integers.rt",
         "digits/write.rt",
+        "digits/decimal.rt",
+        "digits/decimal/jeaiii.rt",
+        "digits/decimal/kernels.rt",
+        "digits/decimal/decimal_pairs.rt",
+        "digits/pairs.rt",
         "digits/radix.rt",
-        "digits/radix/binary_words.rt",
-        "digits/radix/table_writer.rt",
+        "digit_count_counted",
+        "fast_log2",
+        "write_after_count",
+        "write_last_four",
+        "write_up_to_four",
+        "first_pair",
+        "remove_four",
+        "fourth_power",
     ];
-    strip::build("lexical_write_integer", &always);
+    // Only proofs need the laws and the counters.
+    let hidden = &[
+        "laws",
+        "turns",
+        "write_integer_counted",
+        "decimal_counted",
+        "digit_count_counted",
+        "slow_digit_count_counted",
+        "from_u8_counted",
+        "from_u16_counted",
+        "from_u32_counted",
+        "from_u64_counted",
+        "from_i64_counted",
+        "compact_counted",
+        "algorithm_counted",
+    ];
+    strip::build("lexical_write_integer", &Additions { always_inlined, hidden, ..Default::default() });
 }

@@ -1,5 +1,8 @@
+mod without_runtime;
+
 fn main() {
-    for tests in ["write_integer_tests", "lines_tests", "uses_tests"] {
-        strip::build_changed(&format!("../../crates/{tests}"), &[], runtime::without_runtime);
+    let additions = strip::Additions { change: Some(without_runtime::without_runtime), ..Default::default() };
+    for name in ["uses", "uses_tests", "write_integer_tests", "lines_tests"] {
+        strip::build(name, &additions);
     }
 }

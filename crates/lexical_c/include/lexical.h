@@ -27,15 +27,17 @@
  * Buffer. `buffer` points to `length` bytes that the call may write. They must
  * not overlap the format, and no other thread may use them during the call. The
  * pointer may be NULL if the length is 0. The length must be at most
- * PTRDIFF_MAX, since no object is longer. The call does not read what the buffer
- * held, writes nothing outside it, and keeps no pointer to it.
+ * PTRDIFF_MAX, since no object is longer. The result and the text do not depend
+ * on what the buffer held, which may be uninitialized; a call may load a byte and
+ * store it back. It writes nothing outside the buffer, and keeps no pointer to it.
  *
  * Length of the buffer. A call writes if the text fits the buffer, and
  * otherwise returns 0. LEXICAL_BUFFER_SIZE bytes are enough for every number of
- * every type in every format. A call is fastest if the format has no groups, no
- * required sign and no lowercase, and the buffer is long enough for every number of the type
- * (LEXICAL_BUFFER_SIZE_.. below). In other cases the text may be written to an
- * array on the stack first; LEXICAL_BUFFER_SIZE bytes always avoid that.
+ * every type in every format. A call is fastest if the format has no groups and
+ * no required sign, and the buffer is long enough for every number of the type
+ * (LEXICAL_BUFFER_SIZE_.. below). Lowercase letters take a little longer. In other
+ * cases the text may be written to an array on the stack first;
+ * LEXICAL_BUFFER_SIZE bytes always avoid that.
  *
  * Strings. No terminating 0 is written; the result of the call is the length of
  * the text. For a string, reserve a further byte, which is not part of `length`:
@@ -44,6 +46,15 @@
  *     size_t count = lexical_write_i32(-42, &lexical_standard_format,
  *                                      text, sizeof text - 1);
  *     text[count] = '\0';
+ *
+ * Zeros. For a width of 8, write an unsigned number after 8 zeros:
+ *
+ *     char text[8 + LEXICAL_BUFFER_SIZE_DECIMAL_U32];
+ *     memset(text, '0', 8);
+ *     size_t count = lexical_write_u32(42, &lexical_standard_format, text + 8,
+ *                                      sizeof text - 8);
+ *
+ * The 8 bytes at text + count are 00000042.
  *
  * Threads and signals. The functions have no state, allocate nothing, and do
  * not change errno: any thread and any signal handler may call them.
@@ -96,7 +107,16 @@ extern "C" {
  */
 #define LEXICAL_VERSION 3000000
 
-/* Returns the version of the library, as a number of the form of LEXICAL_VERSION. */
+/* The major number, which is also that of the name liblexical_c.so.3. */
+#define LEXICAL_VERSION_MAJOR (LEXICAL_VERSION / 1000000)
+
+/*
+ * Returns the version of the library, as a number of the form of LEXICAL_VERSION.
+ * A program that was compiled with this header can run with a library for which
+ *
+ *     lexical_version() / 1000000 == LEXICAL_VERSION_MAJOR
+ *         && lexical_version() >= LEXICAL_VERSION
+ */
 LEXICAL_HAS((nothrow, const)) uint32_t lexical_version(void) LEXICAL_NOEXCEPT;
 
 /* ---- formats ------------------------------------------------------------- */
@@ -112,6 +132,10 @@ LEXICAL_HAS((nothrow, const)) uint32_t lexical_version(void) LEXICAL_NOEXCEPT;
  * Groups are counted from the right: this format writes 1,234,567. The fields
  * have 32 bits, so a radix, a group size or a mark above 255 is not truncated to
  * a byte but is invalid.
+ *
+ * In C++14 and later each field after the radix is 0 by default. There a format
+ * is set to zeros by `format = {}`, since g++ warns of memset, and a union with a
+ * format as a member needs a constructor.
  */
 #if defined(__cplusplus) && __cplusplus >= 201402L
 #define LEXICAL_DEFAULT(value) = value /* so that g++ does not warn of fields that are not named */
@@ -132,14 +156,16 @@ struct lexical_format {
 
 /*
  * The standard format, as an initializer and as an object: decimal, with no '+'
- * and no groups. A program has one such object: `inline constexpr` from C++17 on, and
- * otherwise a weak symbol, which compilers other than gcc and clang lack.
+ * and no groups. A program has one such object, and so has each shared library, which
+ * does not export it: it is `inline constexpr` in C++17 and later, and otherwise a weak
+ * symbol, which compilers other than gcc and clang lack.
  */
 #define LEXICAL_STANDARD_FORMAT { 10, 0, 0, 0, 0, { 0, 0 } }
 #if defined(__cplusplus) && __cplusplus >= 201703L
+LEXICAL_HAS((visibility("hidden")))
 inline constexpr lexical_format lexical_standard_format = LEXICAL_STANDARD_FORMAT;
 #elif defined(__GNUC__)
-extern __attribute__((weak)) const struct lexical_format lexical_standard_format;
+extern __attribute__((weak, visibility("hidden"))) const struct lexical_format lexical_standard_format;
 const struct lexical_format lexical_standard_format = LEXICAL_STANDARD_FORMAT;
 #else
 static const struct lexical_format lexical_standard_format = LEXICAL_STANDARD_FORMAT;
@@ -294,15 +320,22 @@ size_t lexical_write_i64(int64_t value, const struct lexical_format *format,
 /*
  * lexical_write and lexical_length, in C11 and later, and in C++: call the function
  * above that the type of the value chooses, as lexical_write_i32 for an int. A
- * char and a bool are refused: a cast says whether the number or a letter is meant.
+ * char and a bool are refused, and in C++ also wchar_t, char8_t, char16_t and
+ * char32_t, which in C are names of integer types: a cast says whether the number
+ * or a letter is meant. In C11 a bit-field needs a cast too.
  */
 #if defined(__cplusplus)
+extern "C++" {
 #if __cplusplus >= 201103L
 #define LEXICAL_REFUSED(type)                                                  \
     size_t lexical_write(type, const struct lexical_format *, char *, size_t) = delete; \
     size_t lexical_length(type, const struct lexical_format *) = delete;
 #else
-#define LEXICAL_REFUSED(type)
+/* A call whose result has an incomplete type does not compile. */
+struct lexical_refused;
+#define LEXICAL_REFUSED(type)                                                  \
+    lexical_refused lexical_write(type, const lexical_format *, char *, size_t); \
+    lexical_refused lexical_length(type, const lexical_format *);
 #endif
 #define LEXICAL_OVERLOAD(name, type)                                           \
     LEXICAL_WRITES                                                             \
@@ -331,8 +364,17 @@ LEXICAL_OVERLOAD(i64, long long)
 #endif
 LEXICAL_REFUSED(char)
 LEXICAL_REFUSED(bool)
+LEXICAL_REFUSED(wchar_t)
+#if defined(__cpp_char8_t)
+LEXICAL_REFUSED(char8_t)
+#endif
+#if __cplusplus >= 201103L
+LEXICAL_REFUSED(char16_t)
+LEXICAL_REFUSED(char32_t)
+#endif
 #undef LEXICAL_OVERLOAD
 #undef LEXICAL_REFUSED
+}
 #elif defined(__STDC_VERSION__) && __STDC_VERSION__ >= 201112L
 #define LEXICAL_FOR_TYPE(function, value)                                      \
     _Generic((value), unsigned char: function##_u8, unsigned short: function##_u16, \

@@ -1,13 +1,29 @@
 -- Texts in formats without groups and required signs.
-use Rattle.std.proofs.Common.{◌≡◌, None, ℕ, ◌-◌, ◌+◌, ◌≤◌, ℤ, pos, unsigned_abs, List, ◌++◌, length, take, drop, refl, sym, ap, ◌∙◌, arith}
+use Rattle.std.proofs.Common.{◌≡◌, None, ℕ, ◌-◌, ◌+◌, ◌≤◌, ℤ, pos, unsigned_abs, List, ◌++◌, length, take, drop, refl, sym, ap, ◌∙◌, arith, rules}
 use Rattle.std.specs.Prelude.{false}
 use Rattle.std.proofs.lemmas.List.{length-take, take-append-drop}
-use Rattle.lexical_num.specs.Format.{Format}
+use Rattle.lexical_num.specs.Format.{Format, IsRadix, standard}
 use Rattle.lexical_num.specs.Sign.{sign_of}
 use Rattle.lexical_write_integer.specs.Buffer.{Front, Writes, WritesDigits, WritesText}
+use Rattle.lexical_c.specs.Format.{HasOnlyRadixAndCase, IsAccepted, format_of}
+use Rattle.lexical_c.specs.declared.format.CFormat.{CFormat}
 use Rattle.lexical_write_integer.proofs.Buffers.Prefixes.{take-Writes}
 use Rattle.lexical_write_integer.proofs.OfTexts.SignedTexts.{WritesText-over}
 use borrow.Rule.Slice.PartMut.{put_mid}
+
+-- a format that has only a radix and a case
+pub only_radix : (format : CFormat) → HasOnlyRadixAndCase format → format_of format ≡ record standard { mantissa_radix = format.radix }
+only_radix format only = rw (only.sign, only.groups) refl
+
+pub accepted : (format : CFormat) → HasOnlyRadixAndCase format → IsRadix format.radix → IsAccepted format
+accepted format only radix = record {
+  valid = record {
+    mantissa = radix;
+    exponent = record { at_least_two = omega arith; at_most_36 = omega arith };
+    groups = rw only.groups (λ grouping none. search rules);
+  };
+  unreserved = only.unreserved;
+}
 
 -- the digits of a number that is not negative are its text
 pub digits_are_text : (format : Format) (magnitude : ℕ) (before after : List ℕ) (count : ℕ) →

@@ -14,6 +14,7 @@ use Rattle.lexical_write_integer.proofs.OfTexts.Required.{length-IsText}
 use Rattle.lexical_c.specs.Buffer.{IsWritable, WritesIf, WritesOrRefuses}
 use Rattle.lexical_c.specs.Format.{IsAccepted, format_of}
 use Rattle.lexical_c.specs.declared.format.CFormat.{CFormat}
+use Rattle.lexical_c.proofs.Letters.{lowercase-IsText}
 
 -- the length of the written text is that of the computed text
 pub length-written : (x : ℤ) (format : Format) (before after : List ℕ) (count : ℕ) → 2 ≤ format.mantissa_radix →
@@ -73,6 +74,28 @@ in_uppercase x format before after count none w = record {
   text = λ some. let t = w.text some in record {
     text = t.text;
     is = record { upper = λ _. t.is; lower = λ other. absurd (other none) };
+    front = t.front;
+    count = t.count;
+  };
+  refused = w.refused;
+}
+
+-- without groups, in radix 10 or below if lowercase is requested, the text is in the requested case
+pub in_either_case : (x : ℤ) (format : CFormat) (before after : List ℕ) (count : ℕ) → format.group_size ≡ 0 →
+    (format.lowercase ≢ 0 → format.radix ≤ 10) → WritesIf x format (IsText x (format_of format)) before after count →
+    WritesOrRefuses x format before after count
+in_either_case x format before after count none few w = record {
+  accepts = w.accepts;
+  text = λ some. let t = w.text some in record {
+    text = t.text;
+    is = record {
+      upper = λ _. t.is;
+      lower = λ other. record {
+        original = t.text;
+        is = t.is;
+        whole = lowercase-IsText x (format_of format) t.text (few other) (rw none refl) t.is;
+      };
+    };
     front = t.front;
     count = t.count;
   };

@@ -21,12 +21,16 @@ pub record IsUnreserved (format : CFormat) : Type 0 where
   pub first : format.reserved_1 ≡ 0
   pub second : format.reserved_2 ≡ 0
 
--- every field except the radix and the mark is 0
-pub record HasOnlyRadix (format : CFormat) : Type 0 where
+-- every field except the radix, the mark and lowercase is 0
+pub record HasOnlyRadixAndCase (format : CFormat) : Type 0 where
   pub sign : format.required_sign ≡ 0
   pub groups : format.group_size ≡ 0
-  pub uppercase : format.lowercase ≡ 0
   pub unreserved : IsUnreserved format
+
+-- every field except the radix and the mark is 0
+pub record HasOnlyRadix (format : CFormat) : Type 0 where
+  pub others : HasOnlyRadixAndCase format
+  pub uppercase : format.lowercase ≡ 0
 
 -- every field has a meaning
 pub record IsAccepted (format : CFormat) : Type 0 where

@@ -16,5 +16,6 @@ mod format;
 mod general;
 mod length;
 mod plain;
+mod signed;
 mod version;
 mod write;

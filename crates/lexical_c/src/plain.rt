@@ -1,11 +1,13 @@
 //! Writes a number in a format without groups and required signs, to a buffer that is long enough for
 //! every number of the type.
 
-ghost use Rattle.std.specs.Prelude.{◌≡◌, ◌≤◌, ◌↔◌, IsTrue, pos, length, false, None, IfSome};
+ghost use Rattle.std.specs.Prelude.{◌≡◌, ◌<◌, ◌≤◌, ◌↔◌, IsTrue, pos, length, map, false, None, IfSome};
+ghost use Rattle.std.specs.Int.Bits.{bit_or};
+ghost use Rattle.lexical_num.specs.Format.{IsRadix, standard};
 ghost use Rattle.lexical_num.specs.Size.{size_in};
 ghost use Rattle.lexical_write_integer.specs.Buffer.{WritesText};
 ghost use Rattle.lexical_write_integer.specs.Text.{need};
-ghost use Rattle.lexical_c.specs.Format.{HasOnlyRadix, IsAccepted, format_of};
+ghost use Rattle.lexical_c.specs.Format.{HasOnlyRadix, HasOnlyRadixAndCase};
 
 use crate::format::CFormat;
 use lexical_num::format::STANDARD;
@@ -15,44 +17,60 @@ use lexical_write_integer::{
     FormattedSize, NumberFormat, NumberFormatBuilder, ToLexical, write_sign,
 };
 
-/// Returns whether every field but the radix and the mark is 0. No field is tested by itself, so that
-/// one branch is enough.
-fn has_only_radix(format: &CFormat) -> bool
-    ensures { IsTrue result ↔ HasOnlyRadix format.now }
+/// Returns whether every field but the radix, the mark and lowercase is 0. No field is tested by itself, so
+/// that one branch is enough.
+pub fn has_only_radix_and_case(format: &CFormat) -> bool
+    ensures { IsTrue result ↔ HasOnlyRadixAndCase format.now }
 {
     (format.required_sign == 0)
         & (format.group_size == 0)
-        & (format.lowercase == 0)
         & (format.reserved_1 == 0)
         & (format.reserved_2 == 0)
 }
 
-/// Returns the format if it is valid and has no required sign, no groups and no lowercase, and a
-/// buffer of `room` bytes is enough for every number of the type. Otherwise returns `None`.
-pub fn fitting_plain_format<T: FormattedSize>(format: &CFormat, room: usize) -> Option<NumberFormat>
-    ensures format { IfSome result (λ plain. plain ≡ format_of format.now) }
-    ensures accepted { IfSome result (λ plain. IsAccepted format.now) }
-    ensures uppercase { IfSome result (λ plain. format.now.lowercase ≡ 0) }
-    ensures sign { IfSome result (λ plain. plain.required_mantissa_sign ≡ false) }
-    ensures groups { IfSome result (λ plain. plain.digit_grouping ≡ None) }
+/// Returns whether every field but the radix and the mark is 0.
+pub fn has_only_radix(format: &CFormat) -> bool
+    ensures { IsTrue result ↔ HasOnlyRadix format.now }
+{
+    has_only_radix_and_case(format) & (format.lowercase == 0)
+}
+
+/// Returns whether digits of the radix of the format are letters.
+pub fn has_letters(format: &CFormat) -> bool
+    ensures { IsTrue result ↔ (10 < format.now.radix) }
+{
+    format.radix > 10
+}
+
+/// Returns the format of this radix without a required sign and groups if the radix is valid and a buffer of
+/// `room` bytes is enough for every number of the type. Otherwise returns `None`.
+pub fn fitting_format<T: FormattedSize>(radix: u32, room: usize) -> Option<NumberFormat>
+    ensures format { IfSome result (λ plain. plain ≡ record standard { mantissa_radix = radix }) }
+    ensures radix { IfSome result (λ plain. IsRadix radix) }
     ensures room { IfSome result (λ plain.
         size_in T.FORMATTED_SIZE T.FORMATTED_SIZE_DECIMAL plain ≤ room) }
 {
-    if !has_only_radix(format) {
-        return None;
-    }
-    // The fields that are 0 are not read again.
-    if format.radix == 10 {
+    if radix == 10 {
         if T::FORMATTED_SIZE_DECIMAL <= room {
             Some(STANDARD)
         } else {
             None
         }
-    } else if is_radix(u64::from(format.radix)) && T::FORMATTED_SIZE <= room {
-        let builder = NumberFormatBuilder::new().mantissa_radix(format.radix as u8);
+    } else if is_radix(u64::from(radix)) && T::FORMATTED_SIZE <= room {
+        let builder = NumberFormatBuilder::new().mantissa_radix(radix as u8);
         Some(builder.build_strict())
     } else {
         None
+    }
+}
+
+/// Sets the bit 32 in each byte of a text. Of the bytes of digits and signs only uppercase letters lack this bit, which
+/// is all that distinguishes them from lowercase letters.
+pub fn set_lowercase_bit(text: &mut [u8])
+    ensures { text.new ≡ map (λ byte. bit_or byte 32) text.old }
+{
+    for byte in text.iter_mut() {
+        *byte |= 32;
     }
 }
 

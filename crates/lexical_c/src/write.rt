@@ -1,12 +1,17 @@
 //! The functions that write a number. Each returns the length of the text, or returns 0 and leaves the
 //! buffer unchanged if the format is invalid or the text does not fit.
 
-ghost use Rattle.std.specs.Prelude.{◌≡◌, pos};
+ghost use Rattle.std.specs.Prelude.{◌≡◌, ◌≢◌, ◌≤◌, pos};
 ghost use Rattle.lexical_c.specs.Buffer.{WritesOrRefuses};
+ghost use Rattle.lexical_c.specs.Format.{HasOnlyRadix, HasOnlyRadixAndCase};
 
 use crate::format::CFormat;
 use crate::general::write_if_it_fits;
-use crate::plain::{fitting_plain_format, write_plain_digits, write_sign_and_digits};
+use crate::plain::{
+    fitting_format, has_letters, has_only_radix, has_only_radix_and_case, set_lowercase_bit,
+    write_plain_digits, write_sign_and_digits,
+};
+use crate::signed::SignedInteger;
 use lexical_write_integer::ToLexicalWithOptions;
 use lexical_write_integer::laws::size_suffices;
 use lexical_write_integer::write::WriteInteger;
@@ -20,34 +25,142 @@ fn write_unsigned<T: WriteInteger + ToLexicalWithOptions>(
 ) -> usize
     ensures { WritesOrRefuses (T.number value) format.now buffer.old buffer.new result }
 {
+    if has_only_radix(format) {
+        write_unsigned_digits(value, format, buffer)
+    } else {
+        write_other_unsigned(value, format, buffer)
+    }
+}
+
+// Does what `write_unsigned` does in any other format. It is cold, and so not inlined: otherwise a call in
+// uppercase would save registers that only this needs.
+#[cold]
+fn write_other_unsigned<T: WriteInteger + ToLexicalWithOptions>(
+    value: T,
+    format: &CFormat,
+    buffer: &mut [u8],
+) -> usize
+    requires { ¬ HasOnlyRadix format.now }
+    ensures { WritesOrRefuses (T.number value) format.now buffer.old buffer.new result }
+{
+    if !has_only_radix_and_case(format) {
+        write_if_it_fits(value.as_usize(), format, buffer)
+    } else if !has_letters(format) {
+        write_unsigned_digits(value, format, buffer)
+    } else {
+        write_unsigned_in_lowercase(value, format, buffer)
+    }
+}
+
+// Does what `write_unsigned` does in a format that has only a radix, or at most 10 as the radix and a case: then
+// the text is the same in lowercase.
+fn write_unsigned_digits<T: WriteInteger + ToLexicalWithOptions>(
+    value: T,
+    format: &CFormat,
+    buffer: &mut [u8],
+) -> usize
+    requires only { HasOnlyRadixAndCase format.now }
+    requires case { format.now.lowercase ≢ 0 → format.now.radix ≤ 10 }
+    ensures { WritesOrRefuses (T.number value) format.now buffer.old buffer.new result }
+{
     value.in_range();
-    match fitting_plain_format::<T>(format, buffer.len()) {
-        Some(format) => {
-            size_suffices(value, &format);
-            write_plain_digits(value, &format, buffer)
+    match fitting_format::<T>(format.radix, buffer.len()) {
+        Some(plain) => {
+            size_suffices(value, &plain);
+            write_plain_digits(value, &plain, buffer)
+        }
+        None => write_if_it_fits(value.as_usize(), format, buffer),
+    }
+}
+
+// Does what `write_unsigned` does in a format that has only a radix and lowercase.
+fn write_unsigned_in_lowercase<T: WriteInteger + ToLexicalWithOptions>(
+    value: T,
+    format: &CFormat,
+    buffer: &mut [u8],
+) -> usize
+    requires only { HasOnlyRadixAndCase format.now }
+    requires lowercase { format.now.lowercase ≢ 0 }
+    ensures { WritesOrRefuses (T.number value) format.now buffer.old buffer.new result }
+{
+    value.in_range();
+    match fitting_format::<T>(format.radix, buffer.len()) {
+        Some(plain) => {
+            size_suffices(value, &plain);
+            let count = write_plain_digits(value, &plain, buffer);
+            set_lowercase_bit(&mut buffer[..count]);
+            count
         }
         None => write_if_it_fits(value.as_usize(), format, buffer),
     }
 }
 
 // Writes a number of a signed type to the buffer, and returns the length of its text, or 0 if it is
-// refused. `wide` is the number as an `isize`.
-fn write_signed<T: ToLexicalWithOptions>(
-    value: T,
-    wide: isize,
-    format: &CFormat,
-    buffer: &mut [u8],
-) -> usize
-    requires { wide ≡ T.number value }
+// refused.
+fn write_signed<T: SignedInteger>(value: T, format: &CFormat, buffer: &mut [u8]) -> usize
+    ensures { WritesOrRefuses (T.number value) format.now buffer.old buffer.new result }
+{
+    if has_only_radix(format) {
+        write_signed_digits(value, format, buffer)
+    } else {
+        write_other_signed(value, format, buffer)
+    }
+}
+
+// Does what `write_signed` does in any other format. It is cold, and so not inlined: otherwise a call in
+// uppercase would save registers that only this needs.
+#[cold]
+fn write_other_signed<T: SignedInteger>(value: T, format: &CFormat, buffer: &mut [u8]) -> usize
+    requires { ¬ HasOnlyRadix format.now }
+    ensures { WritesOrRefuses (T.number value) format.now buffer.old buffer.new result }
+{
+    if !has_only_radix_and_case(format) {
+        write_if_it_fits(value.as_isize(), format, buffer)
+    } else if !has_letters(format) {
+        write_signed_digits(value, format, buffer)
+    } else {
+        write_signed_in_lowercase(value, format, buffer)
+    }
+}
+
+// Does what `write_signed` does in a format that has only a radix, or at most 10 as the radix and a case: then
+// the text is the same in lowercase.
+fn write_signed_digits<T: SignedInteger>(value: T, format: &CFormat, buffer: &mut [u8]) -> usize
+    requires only { HasOnlyRadixAndCase format.now }
+    requires case { format.now.lowercase ≢ 0 → format.now.radix ≤ 10 }
     ensures { WritesOrRefuses (T.number value) format.now buffer.old buffer.new result }
 {
     value.in_range();
-    match fitting_plain_format::<T>(format, buffer.len()) {
-        Some(format) => {
-            size_suffices(value, &format);
-            write_sign_and_digits(value, &format, buffer)
+    match fitting_format::<T>(format.radix, buffer.len()) {
+        Some(plain) => {
+            size_suffices(value, &plain);
+            write_sign_and_digits(value, &plain, buffer)
         }
-        None => write_if_it_fits(wide, format, buffer),
+        None => write_if_it_fits(value.as_isize(), format, buffer),
+    }
+}
+
+// Does what `write_signed` does in a format that has only a radix and lowercase. This is cold too: with the code for
+// the sign, the calls without letters would save registers for it.
+#[cold]
+fn write_signed_in_lowercase<T: SignedInteger>(
+    value: T,
+    format: &CFormat,
+    buffer: &mut [u8],
+) -> usize
+    requires only { HasOnlyRadixAndCase format.now }
+    requires lowercase { format.now.lowercase ≢ 0 }
+    ensures { WritesOrRefuses (T.number value) format.now buffer.old buffer.new result }
+{
+    value.in_range();
+    match fitting_format::<T>(format.radix, buffer.len()) {
+        Some(plain) => {
+            size_suffices(value, &plain);
+            let count = write_sign_and_digits(value, &plain, buffer);
+            set_lowercase_bit(&mut buffer[..count]);
+            count
+        }
+        None => write_if_it_fits(value.as_isize(), format, buffer),
     }
 }
 
@@ -96,7 +209,7 @@ pub extern "C" fn lexical_write_size(value: usize, format: &CFormat, buffer: &mu
 pub extern "C" fn lexical_write_i8(value: i8, format: &CFormat, buffer: &mut [u8]) -> usize
     ensures { WritesOrRefuses value format.now buffer.old buffer.new result }
 {
-    write_signed::<i8>(value, value as isize, format, buffer)
+    write_signed::<i8>(value, format, buffer)
 }
 
 /// Writes an `int16_t` to the buffer, and returns the length of its text, or 0 if it is refused.
@@ -104,7 +217,7 @@ pub extern "C" fn lexical_write_i8(value: i8, format: &CFormat, buffer: &mut [u8
 pub extern "C" fn lexical_write_i16(value: i16, format: &CFormat, buffer: &mut [u8]) -> usize
     ensures { WritesOrRefuses value format.now buffer.old buffer.new result }
 {
-    write_signed::<i16>(value, value as isize, format, buffer)
+    write_signed::<i16>(value, format, buffer)
 }
 
 /// Writes an `int32_t` to the buffer, and returns the length of its text, or 0 if it is refused.
@@ -112,7 +225,7 @@ pub extern "C" fn lexical_write_i16(value: i16, format: &CFormat, buffer: &mut [
 pub extern "C" fn lexical_write_i32(value: i32, format: &CFormat, buffer: &mut [u8]) -> usize
     ensures { WritesOrRefuses value format.now buffer.old buffer.new result }
 {
-    write_signed::<i32>(value, value as isize, format, buffer)
+    write_signed::<i32>(value, format, buffer)
 }
 
 /// Writes an `int64_t` to the buffer, and returns the length of its text, or 0 if it is refused.
@@ -120,5 +233,5 @@ pub extern "C" fn lexical_write_i32(value: i32, format: &CFormat, buffer: &mut [
 pub extern "C" fn lexical_write_i64(value: i64, format: &CFormat, buffer: &mut [u8]) -> usize
     ensures { WritesOrRefuses value format.now buffer.old buffer.new result }
 {
-    write_signed::<i64>(value, value as isize, format, buffer)
+    write_signed::<i64>(value, format, buffer)
 }

@@ -1,7 +1,8 @@
 /*
  * Calls lexical_write and lexical_length, which choose the function by the type of
  * the value, for each type of C, and compares texts and lengths. It is compiled as
- * C11 and C++98, and as each later standard. With REFUSED it must not compile: a char or a bool.
+ * C11 and C++98, and as each later standard. With REFUSED, a char or a bool, or in C++
+ * another type of characters, it must not compile.
  */
 #include "lexical.h"
 #include "types.h"
@@ -40,10 +41,10 @@ int main(void)
     TRY(size_t, -1, "18446744073709551615")
     TRY(ptrdiff_t, -1, "-1")
     TRY(uint8_t, -1, "255")
-    TRY(int64_t, -1, "-1")
+    TRY(int64_t, INT64_MIN, "-9223372036854775808")
 #if !defined(__cplusplus) || __cplusplus >= 201103L
     TRY(unsigned long long, -1, "18446744073709551615")
-    TRY(long long, -1, "-1")
+    TRY(long long, -9223372036854775807LL - 1, "-9223372036854775808")
 #endif
 #ifdef REFUSED
     TRY(REFUSED, 1, "1")

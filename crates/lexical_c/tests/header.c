@@ -107,6 +107,18 @@ static int check_fields(void)
     return is_wrong(count == 4 && memcmp(buffer, "+a,0", 4) == 0, "the fields of a format");
 }
 
+/* A format is set to zeros as the header says, without a warning. */
+static int check_zero_format(void)
+{
+    struct lexical_format format = FORMAT(10, 1, 3, ',');
+#ifdef __cplusplus
+    format = {};
+#else
+    memset(&format, 0, sizeof format);
+#endif
+    return is_wrong(check_format(&format) == LEXICAL_INVALID_RADIX && format.mark == 0, "a format of zeros");
+}
+
 /* The first example of the header. */
 static int check_example(void)
 {
@@ -130,10 +142,28 @@ static int check_string(void)
     return is_wrong(strcmp(text, "-42") == 0, "the example of a string");
 }
 
+/* The example of a text with zeros before its digits. */
+static int check_zeros(void)
+{
+    char text[8 + LEXICAL_BUFFER_SIZE_DECIMAL_U32];
+    memset(text, '0', 8);
+    size_t count = lexical_write_u32(42, &lexical_standard_format, text + 8,
+                                     sizeof text - 8);
+    return is_wrong(memcmp(text + count, "00000042", 8) == 0, "the example of zeros");
+}
+
+/* The example of the version that is running. */
+static int check_version(void)
+{
+    int is_as_declared = version() / 1000000 == LEXICAL_VERSION_MAJOR
+        && version() >= LEXICAL_VERSION;
+    return is_wrong(is_as_declared, "LEXICAL_VERSION_MAJOR")
+        + is_wrong(version() == LEXICAL_VERSION, "LEXICAL_VERSION");
+}
+
 int main(void)
 {
-    int wrong = is_wrong(version() == LEXICAL_VERSION, "LEXICAL_VERSION");
-    wrong += check_sizes() + check_formats() + check_fields();
-    wrong += check_example() + check_string();
+    int wrong = check_sizes() + check_formats() + check_fields() + check_zero_format();
+    wrong += check_example() + check_string() + check_zeros() + check_version();
     return wrong == 0 ? EXIT_SUCCESS : EXIT_FAILURE;
 }

@@ -7,18 +7,18 @@ use Rattle.lexical_write_integer.specs.Buffer.{Front, Writes}
 use Rattle.lexical_write_integer.proofs.Buffers.Prefixes.{Front-after}
 
 -- another byte after a text
-pub Front-push : (before between text : List ℕ) (count mark : ℕ) → count ≡ length text → Front before between text
-    → count < length before → Front before (set between count mark) (text ++ mark ∷ [])
-Front-push before between text count mark e front less =
-    let long : length (text ++ mark ∷ []) ≡ count + 1 = length-append text (mark ∷ []) ∙ ap (λ k. k + 1) (sym e) in
+pub Front-push : (before between text : List ℕ) (count byte : ℕ) → count ≡ length text → Front before between text
+    → count < length before → Front before (set between count byte) (text ++ byte ∷ [])
+Front-push before between text count byte e front less =
+    let long : length (text ++ byte ∷ []) ≡ count + 1 = length-append text (byte ∷ []) ∙ ap (λ k. k + 1) (sym e) in
     let next : suc count ≡ count + 1 = omega arith in
     let rest : drop (length text) before ≡ get_or before count 0 ∷ drop (count + 1) before =
     ap (λ k. drop k before) (sym e) ∙ drop-cons before count 0 less ∙ ap (λ k. get_or before count 0 ∷ drop k before) next in
     record {
       fits = omega (arith, long);
-      written = ap (λ bytes. set bytes count mark) (front.written ∙ ap (λ bytes. text ++ bytes) rest)
-          ∙ set_at text (get_or before count 0) (drop (count + 1) before) mark count (sym e)
-          ∙ sym (append_assoc text (mark ∷ []) (drop (count + 1) before)) ∙ ap (λ k. (text ++ mark ∷ []) ++ drop k before) (sym long);
+      written = ap (λ bytes. set bytes count byte) (front.written ∙ ap (λ bytes. text ++ bytes) rest)
+          ∙ set_at text (get_or before count 0) (drop (count + 1) before) byte count (sym e)
+          ∙ sym (append_assoc text (byte ∷ []) (drop (count + 1) before)) ∙ ap (λ k. (text ++ byte ∷ []) ++ drop k before) (sym long);
     }
 
 -- ---- what a writer has written is at the start

@@ -1,11 +1,9 @@
 -- Decimal digits and the bytes that represent them.
-use Rattle.std.proofs.Common.{◌≡◌, ℕ, ◌+◌, ◌-◌, ◌*◌, ◌^◌, ◌<◌, ◌≤◌, List, [], ◌∷◌, ◌++◌, length, get_or, map, take, drop, refl, sym, ap, subst, ◌∙◌, arith}
-use Rattle.std.proofs.Common.{length-append, length-drop, length-take, length-take-le, drop-drop}
+use Rattle.std.proofs.Common.{◌≡◌, ℕ, ◌+◌, ◌-◌, ◌*◌, ◌^◌, ◌<◌, ◌≤◌, List, [], ◌∷◌, ◌++◌, length, get_or, map, take, drop, refl, sym, ap, ◌∙◌, arith}
 use Rattle.std.specs.List.{All}
 use Rattle.std.proofs.lemmas.List.{take_more, take-append-drop, length-map, map-append}
-use Rattle.std.proofs.lemmas.List.Elements.{All-head, All-tail, All-map, All-append, All-take, All-drop, All-weaker, All-get_or}
+use Rattle.std.proofs.lemmas.List.Elements.{All-head, All-tail, All-map, All-weaker, All-get_or}
 use Rattle.std.proofs.Math.Nat.{one-le-pow, mul-le-mul_left}
-use lib.Seq.{take-add}
 use Rattle.lexical_num.specs.Digit.{digit_char}
 use Rattle.lexical_write_integer.specs.Numeral.{value_of}
 use Rattle.lexical_write_integer.specs.Text.{IsDigits}
@@ -95,53 +93,6 @@ IsDecimalNumeral-byte n text i h d = All-get_or IsDigitByte text i 0 h (IsDecima
 pub IsDecimalNumeral-at_least : (n : ℕ) (text : List ℕ) (i : ℕ) → i < length text → IsDecimalNumeral n text
     → value_of 10 (digits_in (take i text)) * 10 + (get_or text i 0 - 48) ≤ n
 IsDecimalNumeral-at_least n text i h d = omega (arith, value_of-more text i h, value_of-front text (i + 1), IsDecimalNumeral-value n text d)
-
--- ---- digits read eight at a time
-
-IsDecimalNumeral-append : (m n : ℕ) (xs ys : List ℕ) → IsDecimalNumeral m xs → IsDecimalNumeral n ys
-    → IsDecimalNumeral (m * 10 ^ length ys + n) (xs ++ ys)
-IsDecimalNumeral-append m n xs ys h k =
-    IsDecimalNumeral-from (m * 10 ^ length ys + n) (xs ++ ys) (omega (arith, IsDecimalNumeral-some m xs h, length-append xs ys))
-    (All-append IsDigitByte xs ys (IsDecimalNumeral-bytes m xs h) (IsDecimalNumeral-bytes n ys k))
-    (sym (
-    ap (value_of 10) (map-append (λ byte. byte - 48) xs ys) ∙ value_of-append 10 (digits_in xs) (digits_in ys)
-    ∙ (λ i. IsDecimalNumeral-value m xs h i * 10 ^ length-map ys (λ byte. byte - 48) i + IsDecimalNumeral-value n ys k i)
-    ))
-
-module _ (line : List ℕ) (start end : ℕ) where
-  -- the number up to eight more digits
-  pub IsDecimalNumeral-eight : (m n : ℕ) → start ≤ end → end + 8 ≤ length line → IsDecimalNumeral m (take (end - start) (drop start line))
-      → IsDecimalNumeral n (take 8 (drop (end + 8 - 8) line))
-      → IsDecimalNumeral (m * 100000000 + n) (take (end + 8 - start) (drop start line))
-  IsDecimalNumeral-eight m n from room h k =
-      let text = drop start line in
-      let index : end + 8 - 8 ≡ start + (end - start) = omega arith in
-      let count : (end - start) + 8 ≡ end + 8 - start = omega arith in
-      let piece : take 8 (drop (end + 8 - 8) line) ≡ take 8 (drop (end - start) text) =
-      ap (λ i. take 8 (drop i line)) index ∙ ap (take 8) (sym (drop-drop (end - start) start line)) in
-      let eight : length (take 8 (drop (end - start) text)) ≡ 8 =
-      length-take-le 8 (drop (end - start) text) (omega (arith, length-drop (end - start) text, length-drop start line)) in
-      let whole = IsDecimalNumeral-append m n (take (end - start) text) (take 8 (drop (end - start) text)) h (subst (IsDecimalNumeral n) piece k) in
-      subst (IsDecimalNumeral (m * 100000000 + n)) (sym (take-add (end - start) 8 text) ∙ ap (λ i. take i text) count)
-      (subst (λ i. IsDecimalNumeral (m * 10 ^ i + n) (take (end - start) text ++ take 8 (drop (end - start) text))) eight whole)
-
-  -- bytes in a decimal number are a number
-  pub IsDecimalNumeral-piece : (n count : ℕ) → 1 ≤ count → start + count ≤ end → end ≤ length line → IsDecimalNumeral n (drop start line)
-      → IsDecimalNumeral (value_of 10 (digits_in (take count (drop (end - count) line)))) (take count (drop (end - count) line))
-  IsDecimalNumeral-piece n count some inside within h =
-      let piece = take count (drop (end - count) line) in
-      let index : start + (end - count - start) ≡ end - count = omega arith in
-      let moved : drop (end - count - start) (drop start line) ≡ drop (end - count) line =
-      drop-drop (end - count - start) start line ∙ ap (λ i. drop i line) index in
-      let bytes = All-drop IsDigitByte (end - count - start) (drop start line) (IsDecimalNumeral-bytes n (drop start line) h) in
-      IsDecimalNumeral-from (value_of 10 (digits_in piece)) piece
-      (omega (arith, length-take count (drop (end - count) line), length-drop (end - count) line))
-      (All-take IsDigitByte count (drop (end - count) line) (subst (All IsDigitByte) moved bytes)) refl
-
--- the number of the first digits is at most the number
-pub IsDecimalNumeral-front : (n m : ℕ) (text : List ℕ) (i : ℕ) → IsDecimalNumeral n text → IsDecimalNumeral m (take i text) → m ≤ n
-IsDecimalNumeral-front n m text i h k =
-    omega (arith, value_of-front text i, IsDecimalNumeral-value n text h, IsDecimalNumeral-value m (take i text) k)
 
 -- ---- digits without leading zeros
 

@@ -13,30 +13,30 @@ pub record Ready (IsNext IsWhole : List ℕ → Type 0) (before between : List �
   pub whole : (last : List ℕ) → IsNext last → IsWhole (text ++ last)
 
 -- before the first text
-pub Ready-one : {A : Type 0} (IsOf : A → List ℕ → Type 0) (mark : ℕ) (xs : List A) (x : A) (before between : List ℕ) (count : ℕ) → length xs ≡ 0
-    → Writes (AreJoined IsOf (mark ∷ []) xs) before between count
-    → Ready (IsOf x) (AreJoined IsOf (mark ∷ []) (xs ++ x ∷ [])) before between count
-Ready-one IsOf mark xs x before between count none w =
+pub Ready-one : {A : Type 0} (IsOf : A → List ℕ → Type 0) (separator : ℕ) (xs : List A) (x : A) (before between : List ℕ) (count : ℕ) → length xs ≡ 0
+    → Writes (AreJoined IsOf (separator ∷ []) xs) before between count
+    → Ready (IsOf x) (AreJoined IsOf (separator ∷ []) (xs ++ x ∷ [])) before between count
+Ready-one IsOf separator xs x before between count none w =
     record {
       text = w.text;
       counted = w.count;
       front = w.front;
       whole = λ last is.
-          AreJoined-push IsOf (mark ∷ []) [] xs x w.text last record { at_first = λ _. refl; later = λ some. absurd (omega (arith, none, some)) }
+          AreJoined-push IsOf (separator ∷ []) [] xs x w.text last record { at_first = λ _. refl; later = λ some. absurd (omega (arith, none, some)) }
           w.is record { first = []; second = last; is_first = refl; is_second = is; whole = refl };
     }
 
 -- before each later text, after its separator
-pub Ready-push : {A : Type 0} (IsOf : A → List ℕ → Type 0) (mark : ℕ) (xs : List A) (x : A) (before between : List ℕ) (count : ℕ) → 0 < length xs
-    → count < length before → Writes (AreJoined IsOf (mark ∷ []) xs) before between count
-    → Ready (IsOf x) (AreJoined IsOf (mark ∷ []) (xs ++ x ∷ [])) before (set between count mark) (count + 1)
-Ready-push IsOf mark xs x before between count some less w =
+pub Ready-push : {A : Type 0} (IsOf : A → List ℕ → Type 0) (separator : ℕ) (xs : List A) (x : A) (before between : List ℕ) (count : ℕ) → 0 < length xs
+    → count < length before → Writes (AreJoined IsOf (separator ∷ []) xs) before between count
+    → Ready (IsOf x) (AreJoined IsOf (separator ∷ []) (xs ++ x ∷ [])) before (set between count separator) (count + 1)
+Ready-push IsOf separator xs x before between count some less w =
     record {
-      text = w.text ++ mark ∷ [];
-      counted = ap (λ k. k + 1) w.count ∙ sym (length-append w.text (mark ∷ []));
-      front = Front-push before between w.text count mark w.count w.front less;
+      text = w.text ++ separator ∷ [];
+      counted = ap (λ k. k + 1) w.count ∙ sym (length-append w.text (separator ∷ []));
+      front = Front-push before between w.text count separator w.count w.front less;
       whole = λ last is.
-          rw (append_assoc w.text (mark ∷ []) last) (AreJoined-push IsOf (mark ∷ []) (mark ∷ []) xs x w.text (mark ∷ last)
+          rw (append_assoc w.text (separator ∷ []) last) (AreJoined-push IsOf (separator ∷ []) (separator ∷ []) xs x w.text (separator ∷ last)
           record { at_first = λ none. absurd (omega (arith, none, some)); later = λ _. refl }
-          w.is record { first = mark ∷ []; second = last; is_first = refl; is_second = is; whole = refl });
+          w.is record { first = separator ∷ []; second = last; is_first = refl; is_second = is; whole = refl });
     }

@@ -3,13 +3,9 @@ pub mod Splits
 pub mod Lines
 pub mod AnswerTexts
 pub mod UniqueAnswers
--- requests: names and ranges of types, decimal numbers, signs, and the parts of a line
+-- requests: ranges and names of types, decimal numbers, signs, and the parts of a line
 pub mod IntegerTypes
-pub mod Words
-pub mod Names
 pub mod Decimals
-pub mod Eights
-pub mod ShortRadixes
 pub mod Signs
 pub mod Requests
 -- runs: what was appended to a list, and what an answerer has done

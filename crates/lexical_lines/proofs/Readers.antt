@@ -28,14 +28,14 @@ IsAtEnd-limited (Some xs) limit (inr none) = ap (take limit) none ∙ take-nil l
 -- ---- a read
 
 -- a call that yields these bytes
-pub KeepsReader-more : {R : Type 0} (remaining : R → Option (List ℕ)) (a b : StreamReading R) (more : List ℕ) → b.given ≡ a.given ++ more
+pub KeepsReader-more : {R : Type 0} (remaining : R → Option (List ℕ)) (a b : StreamReading R) (more : List ℕ) → b.yielded ≡ a.yielded ++ more
     → b.left + length more ≡ a.left → Consumes (remaining a.reader) (remaining b.reader) more
     → (IsSome (remaining a.reader) → (a.is_ended ≡ true → IsUsedUp remaining a) → b.is_ended ≡ true → IsUsedUp remaining b)
     → KeepsReader remaining a b
-KeepsReader-more remaining a b more given left gave at_end = record {
-  longer = ap (take (length a.given)) given ∙ take-append_seam a.given more;
-  left = omega (arith, left, ap length given, length-append a.given more);
-  bytes = subst (Consumes _ _) (sym (added-is a.given b.given more given)) gave;
+KeepsReader-more remaining a b more yielded left gave at_end = record {
+  longer = ap (take (length a.yielded)) yielded ∙ take-append_seam a.yielded more;
+  left = omega (arith, left, ap length yielded, length-append a.yielded more);
+  bytes = subst (Consumes _ _) (sym (added-is a.yielded b.yielded more yielded)) gave;
   at_end = at_end;
 }
 
@@ -59,10 +59,10 @@ module _ (before after : Option (List ℕ)) (count : ℕ) (block rest : List ℕ
   more = take-append-le count block rest within
 
   pub KeepsReader-read : {R : Type 0} (remaining : R → Option (List ℕ)) (a b : StreamReading R) → remaining a.reader ≡ before → remaining b.reader ≡ after
-      → (a.left ≡ 0 → ⊥) → b.left + count ≡ a.left → b.given ≡ a.given ++ take count (block ++ rest) → b.is_ended ≡ (a.is_ended || nat_eq count 0)
+      → (a.left ≡ 0 → ⊥) → b.left + count ≡ a.left → b.yielded ≡ a.yielded ++ take count (block ++ rest) → b.is_ended ≡ (a.is_ended || nat_eq count 0)
       → KeepsReader remaining a b
-  KeepsReader-read remaining a b old new some left given ended =
-      KeepsReader-more remaining a b (take count block) (rw more at given) (omega (arith, left, length-take-le count block within)) (rw (old, new) read.0)
+  KeepsReader-read remaining a b old new some left yielded ended =
+      KeepsReader-more remaining a b (take count block) (rw more at yielded) (omega (arith, left, length-take-le count block within)) (rw (old, new) read.0)
       (λ told used is. at_end count refl told used (sym ended ∙ is))
     where
       at_end : (n : ℕ) → count ≡ n → IsSome (remaining a.reader) → (a.is_ended ≡ true → IsUsedUp remaining a) → (a.is_ended || nat_eq n 0) ≡ true

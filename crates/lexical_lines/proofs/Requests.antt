@@ -1,7 +1,6 @@
 -- The parts of a line.
-use Rattle.std.proofs.Common.{◌≡◌, ◌≢◌, ℕ, List, [], ◌∷◌, ◌++◌, Bool, true, false, not, ◌&&◌, refl, sym, ap, ◌∙◌, ℤ, arith, ◌==◌, eq-eqb, append_assoc}
-use Rattle.std.proofs.Common.{Some, get_or, ◌<◌, ◌+◌, ◌-◌, ◌≤◌, length, drop, length-append}
-use Rattle.std.proofs.lemmas.List.{drop_all, drop-append-le}
+use Rattle.std.proofs.Common.{◌≡◌, ◌≢◌, ℕ, List, [], ◌∷◌, ◌++◌, Bool, true, false, not, ◌&&◌, refl, sym, ◌∙◌, ℤ, arith, ◌==◌, eq-eqb, append_assoc}
+use Rattle.std.proofs.Common.{Some, get_or, ◌<◌, ◌≤◌, length}
 use Rattle.std.proofs.lemmas.Option.{cond_some}
 use Rattle.std.specs.Prelude.{nat_le}
 use Rattle.std.specs.Io.{StartsWith}
@@ -65,20 +64,6 @@ first_digit : (text rest : List ℕ) → All IsDigitByte text → 0 < length tex
 first_digit [] rest h some = absurd (omega arith)
 first_digit (byte ∷ text) rest h some = let digit = All-head IsDigitByte byte text h in omega arith
 
--- ---- the last part of a line
-
-pub last_part : (line front text sign digits : List ℕ) → line ≡ front ++ text → text ≡ sign ++ digits → drop (length line - length digits) line ≡ digits
-last_part line front text sign digits e f =
-    let before = front ++ sign in
-    let whole : line ≡ before ++ digits = e ∙ ap (λ bytes. front ++ bytes) f ∙ sym (append_assoc front sign digits) in
-    let count : length line - length digits ≡ length before = omega (arith, ap length whole, length-append before digits) in
-    (λ i. drop (count i) (whole i)) ∙ drop-append-le (length before) before digits (omega arith)
-    ∙ ap (λ bytes. bytes ++ digits) (drop_all (length before) before (omega arith))
-
-pub line_front : (line name rest sign radix digits value : List ℕ) → line ≡ name ++ 32 ∷ rest → rest ≡ sign ++ radix → radix ≡ digits ++ 32 ∷ value
-    → (front : List ℕ) × (line ≡ front ++ value)
-line_front line name rest sign radix digits value e f g = (name ++ 32 ∷ (sign ++ (digits ++ 32 ∷ [])), rw (e, f, g) (simp append_assoc))
-
 -- ---- the parts of a valid line are unique
 
 regroup : (n o r v : List ℕ) → n ++ 32 ∷ o ++ r ++ 32 ∷ v ≡ n ++ 32 ∷ ((o ++ r) ++ 32 ∷ v)
@@ -94,18 +79,6 @@ module _ {kind : IntegerType} {plus : Bool} {radix : ℕ} {number : ℤ} {line :
 
   pub whole_as : line ≡ name_of kind ++ 32 ∷ (signed_radix ++ 32 ∷ h.value_text)
   whole_as = h.whole ∙ regroup (name_of kind) (optional_sign plus 43) h.radix_text h.value_text
-
-  -- at least three bytes follow the name and the space
-  pub IsRequest-long : 3 ≤ length (signed_radix ++ 32 ∷ h.value_text)
-  IsRequest-long =
-      let numeral = IsDecimalNumeral-from_digits radix h.radix_text h.radix_digits in
-      let first = IsDecimalNumeral-some radix h.radix_text numeral in
-      let second = IsDecimalNumeral-some h.value.magnitude h.value.digits h.value.decimal in
-      let whole : length h.value_text ≡ length (optional_sign h.value.minus 45) + length h.value.digits =
-      ap length h.value.whole ∙ length-append (optional_sign h.value.minus 45) h.value.digits in
-      let parts = length-append signed_radix (32 ∷ h.value_text) in
-      let sign = length-append (optional_sign plus 43) h.radix_text in
-      omega arith
 
   pub IsRequest-name : (name rest : List ℕ) → line ≡ name ++ 32 ∷ rest → NoSpace name
       → (name ≡ name_of kind) × (rest ≡ signed_radix ++ 32 ∷ h.value_text)
@@ -127,13 +100,6 @@ module _ {kind : IntegerType} {plus : Bool} {radix : ℕ} {number : ℤ} {line :
       → (digits ≡ h.radix_text) × (value ≡ h.value_text)
   IsRequest-value digits value e bytes =
       cut_unique 32 digits value h.radix_text h.value_text (no_space-digits digits bytes) (no_space-digits h.radix_text radix_bytes) (sym e)
-
-  pub IsRequest-value_some : 1 ≤ length h.value_text
-  IsRequest-value_some =
-      let second = IsDecimalNumeral-some h.value.magnitude h.value.digits h.value.decimal in
-      let whole : length h.value_text ≡ length (optional_sign h.value.minus 45) + length h.value.digits =
-      ap length h.value.whole ∙ length-append (optional_sign h.value.minus 45) h.value.digits in
-      omega arith
 
   pub IsRequest-parts : (rest first value : List ℕ) → rest ≡ signed_radix ++ 32 ∷ h.value_text → rest ≡ first ++ 32 ∷ value → NoSpace first
       → (first ≡ signed_radix) × (value ≡ h.value_text)

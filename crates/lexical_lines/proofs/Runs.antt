@@ -8,10 +8,11 @@ use Rattle.lexical_lines.specs.Answer.{IsAnswer, AreAnswers, AreAnswersFrom, Ans
 use Rattle.lexical_lines.specs.Answerer.{HasAnswered}
 use Rattle.lexical_lines.specs.Line.{short_line}
 use Rattle.lexical_lines.specs.Lines.{AreLines, EndsLine, NoNewline}
-use Rattle.lexical_lines.specs.Request.{IsGood}
+use Rattle.lexical_lines.specs.Request.{IsValidLine}
 use Rattle.lexical_lines.specs.RunOutcome.{added, BreaksOff}
 use Rattle.lexical_lines.specs.Sink.{IsBeginning}
 use Rattle.lexical_lines.proofs.Added.{added-is}
+use Rattle.lexical_lines.proofs.Requests.{short_line-is}
 use Rattle.lexical_lines.proofs.Lines.{IsCut-more, IsCut-newline, AreLines-ended, AreLines-rest}
 use Rattle.std.proofs.lemmas.List.{append-nil}
 
@@ -59,18 +60,19 @@ module _ {before bytes taken : List ℕ} {answerer : Answerer} (h : HasAnswered 
       AreAnswersFrom-push 1 h.ended h.answers h.rest answer h.answered
       (rw here at (IsAnswer-counted (length h.ended + 1) answerer.line_number h.rest answer h.number is))
 
-  pub good_after : (is_good : Bool) → (IsTrue is_good ↔ IsGood h.rest) → IsTrue (answerer.all_good && is_good) ↔ All IsGood (h.ended ++ h.rest ∷ [])
-  good_after is_good good =
-      let both = and_iff answerer.all_good is_good (All IsGood h.ended) (IsGood h.rest) h.good good in
-      (λ e. let parts = both.0 e in All-push IsGood h.ended h.rest parts.0 parts.1, λ all. both.1 (All-push_iff IsGood h.ended h.rest all))
+  pub valid_after : (is_valid : Bool) → (IsTrue is_valid ↔ IsValidLine h.rest)
+      → IsTrue (answerer.all_valid && is_valid) ↔ All IsValidLine (h.ended ++ h.rest ∷ [])
+  valid_after is_valid valid =
+      let both = and_iff answerer.all_valid is_valid (All IsValidLine h.ended) (IsValidLine h.rest) h.valid valid in
+      (λ e. let parts = both.0 e in All-push IsValidLine h.ended h.rest parts.0 parts.1, λ all. both.1 (All-push_iff IsValidLine h.ended h.rest all))
 
   pub taken_after : (after answer : List ℕ) → after ≡ taken ++ answer → after ≡ before ++ (h.answers ++ answer)
   taken_after after answer e = e ∙ ap (λ xs. xs ++ answer) h.whole ∙ append_assoc before h.answers answer
 
   -- more bytes of a line
   abbrev pub HasAnswered-more : (more : List ℕ) (next : Answerer) → NoNewline more → next.line ≡ short_line (h.rest ++ more)
-      → next.line_number ≡ answerer.line_number → next.all_good ≡ answerer.all_good → HasAnswered before (bytes ++ more) taken next
-  HasAnswered-more more next inside line number good = record {
+      → next.line_number ≡ answerer.line_number → next.all_valid ≡ answerer.all_valid → HasAnswered before (bytes ++ more) taken next
+  HasAnswered-more more next inside line number valid = record {
     ended = h.ended;
     rest = h.rest ++ more;
     answers = h.answers;
@@ -78,16 +80,16 @@ module _ {before bytes taken : List ℕ} {answerer : Answerer} (h : HasAnswered 
     answered = h.answered;
     whole = h.whole;
     number = number ∙ h.number;
-    good = rw (sym good) at h.good;
+    valid = rw (sym valid) at h.valid;
     last = line;
   }
 
   -- a line has ended and is answered
-  pub HasAnswered-line : (put answer : List ℕ) (next : Answerer) (is_good : Bool) → put ≡ taken ++ answer
-      → IsAnswer answerer.line_number h.rest answer → (IsTrue is_good ↔ IsGood h.rest)
+  pub HasAnswered-line : (put answer : List ℕ) (next : Answerer) (is_valid : Bool) → put ≡ taken ++ answer
+      → IsAnswer answerer.line_number h.rest answer → (IsTrue is_valid ↔ IsValidLine h.rest)
       → next.line ≡ short_line [] → next.line_number ≡ min (answerer.line_number + 1) (2 ^ 64 - 1)
-      → next.all_good ≡ (answerer.all_good && is_good) → HasAnswered before (bytes ++ 10 ∷ []) put next
-  HasAnswered-line put answer next is_good e is good line number all = record {
+      → next.all_valid ≡ (answerer.all_valid && is_valid) → HasAnswered before (bytes ++ 10 ∷ []) put next
+  HasAnswered-line put answer next is_valid e is valid line number all = record {
     ended = h.ended ++ h.rest ∷ [];
     rest = [];
     answers = h.answers ++ answer;
@@ -95,7 +97,7 @@ module _ {before bytes taken : List ℕ} {answerer : Answerer} (h : HasAnswered 
     answered = answers_after answer is;
     whole = taken_after put answer e;
     number = omega (arith, number, h.number, length-append h.ended (h.rest ∷ []));
-    good = rw (sym all) at (good_after is_good good);
+    valid = rw (sym all) at (valid_after is_valid valid);
     last = line;
   }
 
@@ -107,6 +109,10 @@ module _ {before bytes taken : List ℕ} {answerer : Answerer} (h : HasAnswered 
   -- the lines that ended are answered
   pub answers_ended : AnswersEnded bytes (added before taken)
   answers_ended = (h.ended, h.rest, h.cut, rw (sym answers_are) at h.answered)
+
+  -- if the answerer keeps no bytes, these are all lines
+  pub answers_at_newline : answerer.line ≡ short_line [] → AnswersAll bytes (added before taken)
+  answers_at_newline none = (h.ended, AreLines-ended h.cut (short_line-is (sym none ∙ h.last)), rw (sym answers_are) at h.answered)
 
   -- if the answerer keeps bytes, they are the last line
   pub lines_at_rest : (answerer.line ≡ short_line [] → ⊥) → AreLines bytes (h.ended ++ h.rest ∷ [])

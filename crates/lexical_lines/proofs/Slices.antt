@@ -9,14 +9,14 @@ use Rattle.lexical_lines.specs.declared.devices.slice.SliceSink.{SliceSink}
 use Rattle.lexical_lines.specs.Slice.{KeepsSlice, SliceReading, KeepsBuffer, rest_in, taken_in}
 
 -- a source that has reported its end has yielded all its bytes
-pub given-ended : {a b : SliceReading} (bytes : List ℕ) → a.given ≡ [] → a.left ≡ bytes → a.is_ended ≡ false → KeepsSlice a b
-    → IsTrue b.is_ended → b.given ≡ bytes
-given-ended {a} {b} bytes none all unended kept ended =
+pub yielded-ended : {a b : SliceReading} (bytes : List ℕ) → a.yielded ≡ [] → a.left ≡ bytes → a.is_ended ≡ false → KeepsSlice a b
+    → IsTrue b.is_ended → b.yielded ≡ bytes
+yielded-ended {a} {b} bytes none all unended kept ended =
     let left : b.left ≡ [] = kept.at_end (λ e. cc (e, unended)) ended in
-    sym (append-nil b.given) ∙ ap (λ rest. b.given ++ rest) (sym left) ∙ kept.whole ∙ ap (λ front. front ++ a.left) none ∙ all
+    sym (append-nil b.yielded) ∙ ap (λ rest. b.yielded ++ rest) (sym left) ∙ kept.whole ∙ ap (λ front. front ++ a.left) none ∙ all
 
-pub given-part : {a b : SliceReading} (bytes : List ℕ) → a.given ≡ [] → a.left ≡ bytes → KeepsSlice a b → bytes ≡ b.given ++ b.left
-given-part {a} {b} bytes none all kept = sym (kept.whole ∙ ap (λ front. front ++ a.left) none ∙ all)
+pub yielded-part : {a b : SliceReading} (bytes : List ℕ) → a.yielded ≡ [] → a.left ≡ bytes → KeepsSlice a b → bytes ≡ b.yielded ++ b.left
+yielded-part {a} {b} bytes none all kept = sym (kept.whole ∙ ap (λ front. front ++ a.left) none ∙ all)
 
 -- the buffer of a sink is the bytes that it has taken, and then unchanged bytes
 pub Writes-sink : {Is : List ℕ → Type 0} {a b : SliceSink} {before after : List ℕ} {count : ℕ} → taken_in a ≡ []

@@ -4,11 +4,12 @@ use Rattle.lexical_num.specs.Format.{Format, standard}
 use Rattle.lexical_write_integer.specs.Text.{IsDigits, IsText}
 use Rattle.lexical_lines.specs.declared.request.integer_type.IntegerType.{IntegerType}
 use Rattle.lexical_lines.specs.Lines.{IsCut, AreLines}
-use Rattle.lexical_lines.specs.Request.{IsGood, IsRequest}
+use Rattle.lexical_lines.specs.Request.{IsValidLine, IsRequest}
 
 -- the standard format with this mantissa and exponent radix, and with the sign `+` required or not
 abbrev pub requested_format : ℕ → Bool → Format
-requested_format radix plus = record standard { mantissa_radix = radix; exponent_radix = radix; required_mantissa_sign = plus }
+requested_format radix plus =
+    record standard { mantissa_radix = radix; exponent_radix = radix; required_mantissa_sign = plus }
 
 -- the line is a text of this kind followed by a newline
 abbrev pub WithNewline : (List ℕ → Type 0) → List ℕ → Type 0
@@ -29,7 +30,7 @@ pub record IsTextAnswer (line answer : List ℕ) : Type 0 where
 
 -- the line is not valid, and the answer names its number, or the largest number of 64 bits if that is less
 pub record IsBadAnswer (i : ℕ) (line answer : List ℕ) : Type 0 where
-  pub bad : IsGood line → ⊥
+  pub bad : IsValidLine line → ⊥
   pub told : WithNewline (IsBadLine (min i (2 ^ 64 - 1))) answer
 
 -- this is the answer to the line with number i

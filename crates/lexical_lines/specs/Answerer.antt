@@ -5,10 +5,10 @@ use Rattle.lexical_lines.specs.declared.answer.answerer.Answerer.{Answerer}
 use Rattle.lexical_lines.specs.Answer.{IsAnswer, AreAnswers}
 use Rattle.lexical_lines.specs.Line.{short_line}
 use Rattle.lexical_lines.specs.Lines.{IsCut}
-use Rattle.lexical_lines.specs.Request.{IsGood}
+use Rattle.lexical_lines.specs.Request.{IsValidLine}
 use Rattle.lexical_lines.specs.RunOutcome.{added}
 use Rattle.lexical_lines.specs.Sink.{IsBeginning}
-use Rattle.lexical_lines.specs.Source.{faults_of}
+use Rattle.lexical_lines.specs.Source.{failures_of}
 
 -- the answerer has received `bytes`. Its sink had taken `before` at the start. It has since taken the answers to the
 -- lines that ended, and the answerer keeps the rest
@@ -20,20 +20,20 @@ pub record HasAnswered (before bytes taken : List ℕ) (answerer : Answerer) : T
   pub answered : AreAnswers ended answers
   pub whole : taken ≡ before ++ answers
   pub number : answerer.line_number ≡ min (length ended + 1) (2 ^ 64 - 1)
-  pub good : IsTrue answerer.all_good ↔ All IsGood ended
+  pub valid : IsTrue answerer.all_valid ↔ All IsValidLine ended
   pub last : answerer.line ≡ short_line rest
 
 -- the call only appends to what its sink has taken, and the sink failed once if the result is an `Err`, otherwise never
-pub record PutsMore {K A E : Type 0} (taken : K → List ℕ) (fault_count : K → ℕ) (keeps : K → K → Type 0)
+pub record PutsMore {K A E : Type 0} (taken : K → List ℕ) (failure_count : K → ℕ) (keeps : K → K → Type 0)
     (old new : K) (result : Result A E) : Type 0 where
   pub longer : taken new ≡ taken old ++ added (taken old) (taken new)
-  pub faults : fault_count new ≡ fault_count old + faults_of result
+  pub failures : failure_count new ≡ failure_count old + failures_of result
   pub kept : keeps old new
 
 -- the call writes the answer to a line, and returns whether the line is valid. If it returns an `Err`, it has written a
 -- proper prefix of the answer
 pub record PutsAnswer {E : Type 0} (line_number : ℕ) (line old new : List ℕ) (result : Result Bool E) : Type 0 where
   pub whole : OnOk result ((answer : List ℕ) × IsAnswer line_number line answer × (new ≡ old ++ answer))
-  pub good : IfOk result (λ good. IsTrue good ↔ IsGood line)
+  pub valid : IfOk result (λ valid. IsTrue valid ↔ IsValidLine line)
   pub broken : OnErr result ((answer : List ℕ) × (part : List ℕ) × IsAnswer line_number line answer
       × IsBeginning part answer × (new ≡ old ++ part))

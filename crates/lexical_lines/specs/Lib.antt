@@ -1,5 +1,6 @@
 pub mod Answer
 pub mod Answerer
+pub mod BlockWriter
 pub mod Decimal
 pub mod ExitStatus
 pub mod IntegerType
@@ -8,14 +9,12 @@ pub mod Lines
 pub mod Puts
 pub mod Request
 pub mod RunOutcome
-pub mod ShortRadix
 pub mod Sink
 pub mod Slice
 pub mod Source
 pub mod Split
 pub mod Stream
 pub mod Trace
-pub mod Words
 -- the definitions of lower crates that these contracts use
 pub use Rattle.lexical_num.specs.Format
 pub use Rattle.lexical_num.specs.Size

@@ -31,8 +31,9 @@ pub record IsRequest (kind : IntegerType) (plus : Bool) (radix : ℕ) (number : 
   pub whole : line ≡ name_of kind ++ 32 ∷ optional_sign plus 43 ++ radix_text ++ 32 ∷ value_text
 
 -- the line is valid
-abbrev pub IsGood : List ℕ → Type 0
-IsGood line = (kind : IntegerType) × (plus : Bool) × (radix : ℕ) × (number : ℤ) × IsRequest kind plus radix number line
+abbrev pub IsValidLine : List ℕ → Type 0
+IsValidLine line =
+    (kind : IntegerType) × (plus : Bool) × (radix : ℕ) × (number : ℤ) × IsRequest kind plus radix number line
 
 -- the number that a request stores
 abbrev pub number_of : Number → ℤ

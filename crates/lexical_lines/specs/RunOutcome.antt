@@ -2,16 +2,16 @@
 use Rattle.std.specs.Prelude.{◌≡◌, ◌⊎◌, ℕ, ◌+◌, List, [], ◌∷◌, ◌++◌, length, drop, Bool, ◌↔◌, IsTrue, All}
 use Rattle.lexical_lines.specs.Answer.{IsAnswer, AreAnswers, AnswersAll, AnswersEnded}
 use Rattle.lexical_lines.specs.Lines.{AreLines, EndsLine}
-use Rattle.lexical_lines.specs.Request.{IsGood}
+use Rattle.lexical_lines.specs.Request.{IsValidLine}
 use Rattle.lexical_lines.specs.Sink.{IsBeginning}
 
 -- the elements that were appended to a list
 abbrev pub added : List ℕ → List ℕ → List ℕ
 added before after = drop (length before) after
 
--- `all_good` is whether all lines of the input are valid
-abbrev pub TellsAllGood : List ℕ → Bool → Type 0
-TellsAllGood bytes all_good = (all : List (List ℕ)) × AreLines bytes all × (IsTrue all_good ↔ All IsGood all)
+-- `all_valid` is whether all lines of the input are valid
+abbrev pub ReportsAllValid : List ℕ → Bool → Type 0
+ReportsAllValid bytes all_valid = (all : List (List ℕ)) × AreLines bytes all × (IsTrue all_valid ↔ All IsValidLine all)
 
 -- the input was read to the end of a line. What was written is the answers to all its lines except the last, and then a
 -- proper prefix of the answer to the last
@@ -31,12 +31,12 @@ pub record BreaksOff (is_ended : Bool) (bytes put : List ℕ) : Type 0 where
 -- ---- how a run ends. `before` and `after` are the numbers of failures of the source and of the sink
 
 -- no device failed, the source reported its end, and all lines are answered
-pub record RunAnswered (before after : ℕ × ℕ) (is_ended : Bool) (bytes put : List ℕ) (all_good : Bool) : Type 0 where
+pub record RunAnswered (before after : ℕ × ℕ) (is_ended : Bool) (bytes put : List ℕ) (all_valid : Bool) : Type 0 where
   pub source : after.0 ≡ before.0
   pub sink : after.1 ≡ before.1
   pub ended : IsTrue is_ended
   pub answers : AnswersAll bytes put
-  pub good : TellsAllGood bytes all_good
+  pub valid : ReportsAllValid bytes all_valid
 
 -- the source failed, and all lines that ended are answered
 pub record SourceFailed (before after : ℕ × ℕ) (bytes put : List ℕ) : Type 0 where

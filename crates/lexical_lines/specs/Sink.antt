@@ -7,11 +7,11 @@ taken_by (Ok count) = count
 taken_by (Err e) = 0
 
 -- the number of failures of the call: 1 for an error, or if the call took no bytes and there were some to take
-abbrev pub put_faults : {E : Type 0} → Result ℕ E → List ℕ → ℕ
-put_faults (Ok zero) (byte ∷ bytes) = 1
-put_faults (Ok zero) [] = 0
-put_faults (Ok (suc count)) bytes = 0
-put_faults (Err e) bytes = 1
+abbrev pub put_failures : {E : Type 0} → Result ℕ E → List ℕ → ℕ
+put_failures (Ok zero) (byte ∷ bytes) = 1
+put_failures (Ok zero) [] = 0
+put_failures (Ok (suc count)) bytes = 0
+put_failures (Err e) bytes = 1
 
 -- the part is a proper prefix of the whole, as what a sink has taken if it fails
 abbrev pub IsBeginning : List ℕ → List ℕ → Type 0

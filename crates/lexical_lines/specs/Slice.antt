@@ -10,13 +10,13 @@ use Rattle.lexical_lines.specs.declared.devices.slice.SliceSink.{SliceSink}
 
 -- the bytes that were yielded, those that are left, and whether the source has reported its end
 pub record SliceReading : Type 0 where
-  pub given : List ℕ
+  pub yielded : List ℕ
   pub left : List ℕ
   pub is_ended : Bool
 
 -- the bytes as a whole are unchanged, and once the source has reported its end, none are left
 pub record KeepsSlice (a b : SliceReading) : Type 0 where
-  pub whole : b.given ++ b.left ≡ a.given ++ a.left
+  pub whole : b.yielded ++ b.left ≡ a.yielded ++ a.left
   pub at_end : (a.is_ended ≡ true → a.left ≡ []) → b.is_ended ≡ true → b.left ≡ []
 
 -- ---- the sink
@@ -34,8 +34,8 @@ abbrev pub loan_in : SliceSink → GName
 loan_in sink = sink.buffer.ghost_name
 
 -- the number of failures
-abbrev pub faults_in : SliceSink → ℕ
-faults_in sink = sink.trace.faults
+abbrev pub failures_in : SliceSink → ℕ
+failures_in sink = sink.trace.failures
 
 -- the loan and the bytes after those that were taken are unchanged, and if the sink failed, its buffer is full
 pub record KeepsBuffer (a b : SliceSink) : Type 0 where
@@ -43,7 +43,7 @@ pub record KeepsBuffer (a b : SliceSink) : Type 0 where
   pub longer : length (taken_in a) ≤ length (taken_in b)
   pub whole : length (taken_in b) + length (rest_in b) ≡ length (taken_in a) + length (rest_in a)
   pub rest : rest_in b ≡ drop (length (taken_in b) - length (taken_in a)) (rest_in a)
-  pub full : (faults_in b ≡ faults_in a) ⊎ (rest_in b ≡ [])
+  pub full : (failures_in b ≡ failures_in a) ⊎ (rest_in b ≡ [])
 
 -- ---- proofs that ghost members cite
 
@@ -65,7 +65,7 @@ KeepsBuffer-reflexive a =
     }
 
 full-transitive : (a b c : SliceSink) → KeepsBuffer a b → KeepsBuffer b c
-    → (faults_in c ≡ faults_in a) ⊎ (rest_in c ≡ [])
+    → (failures_in c ≡ failures_in a) ⊎ (rest_in c ≡ [])
 full-transitive a b c p q = elim q.full [
   | inr full ↦ inr full
   | inl same ↦ elim p.full [

@@ -16,13 +16,14 @@ pub record StreamReading (R : Type 0) : Type 0 where
   pub reader : R
   pub left : ℕ
   pub is_ended : Bool
-  pub given : List ℕ
+  pub yielded : List ℕ
   pub calls : ℕ
-  pub faults : ℕ
+  pub failures : ℕ
 
 -- a source that has yielded nothing
 abbrev pub new_reading : {R : Type 0} → R → ℕ → StreamReading R
-new_reading reader limit = record { reader = reader; left = limit; is_ended = false; given = []; calls = 0; faults = 0 }
+new_reading reader limit =
+    record { reader = reader; left = limit; is_ended = false; yielded = []; calls = 0; failures = 0 }
 
 -- a sink that writes to a writer: the writer, the bytes that were taken, those of them that are not flushed, and the
 -- numbers of flushes that succeeded and of failures
@@ -31,7 +32,7 @@ pub record StreamWriting (W : Type 0) : Type 0 where
   pub taken : List ℕ
   pub unflushed : List ℕ
   pub flushes : ℕ
-  pub faults : ℕ
+  pub failures : ℕ
 
 -- ---- what calls of a source leave unchanged
 
@@ -46,9 +47,9 @@ IsUsedUp remaining s = (s.left ≡ 0) ⊎ IsAtEnd (remaining s.reader)
 -- the bytes that were yielded are those that the reader lost, and they count towards the limit. If the remaining bytes
 -- of the reader are known, the source reports its end only once it is used up
 pub record KeepsReader {R : Type 0} (remaining : R → Option (List ℕ)) (a b : StreamReading R) : Type 0 where
-  pub longer : StartsWith b.given a.given
-  pub left : b.left + length b.given ≡ a.left + length a.given
-  pub bytes : Consumes (remaining a.reader) (remaining b.reader) (added a.given b.given)
+  pub longer : StartsWith b.yielded a.yielded
+  pub left : b.left + length b.yielded ≡ a.left + length a.yielded
+  pub bytes : Consumes (remaining a.reader) (remaining b.reader) (added a.yielded b.yielded)
   pub at_end : IsSome (remaining a.reader) → (a.is_ended ≡ true → IsUsedUp remaining a) → b.is_ended ≡ true
       → IsUsedUp remaining b
 
@@ -63,9 +64,9 @@ KeepsWriter contents = PutsOnly (λ s. s.taken) (λ s. s.unflushed) (λ s. conte
 pub KeepsReader-reflexive : {R : Type 0} (remaining : R → Option (List ℕ)) (a : StreamReading R)
     → KeepsReader remaining a a
 KeepsReader-reflexive remaining a = record {
-  longer = take-length a.given;
+  longer = take-length a.yielded;
   left = refl;
-  bytes = subst (Consumes _ _) (sym (drop-length a.given)) (Consumes-nil (remaining a.reader));
+  bytes = subst (Consumes _ _) (sym (drop-length a.yielded)) (Consumes-nil (remaining a.reader));
   at_end = λ _ used. used;
 }
 
@@ -79,9 +80,9 @@ still-told (Some xs) (Some ys) bytes gave told = refl
 pub KeepsReader-transitive : {R : Type 0} (remaining : R → Option (List ℕ)) (a b c : StreamReading R)
     → KeepsReader remaining a b → KeepsReader remaining b c → KeepsReader remaining a c
 KeepsReader-transitive remaining a b c p q = record {
-  longer = starts_with_trans c.given b.given a.given q.longer p.longer;
+  longer = starts_with_trans c.yielded b.yielded a.yielded q.longer p.longer;
   left = q.left ∙ p.left;
-  bytes = Consumes-more _ _ _ a.given b.given c.given p.longer q.longer p.bytes q.bytes;
+  bytes = Consumes-more _ _ _ a.yielded b.yielded c.yielded p.longer q.longer p.bytes q.bytes;
   at_end = λ told used. q.at_end (still-told _ _ _ p.bytes told) (p.at_end told used);
 }
 

@@ -7,4 +7,4 @@ pub record Traced : Type 0 where
   pub unflushed : List ℕ
   pub calls : ℕ
   pub flushes : ℕ
-  pub faults : ℕ
+  pub failures : ℕ

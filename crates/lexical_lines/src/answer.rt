@@ -7,7 +7,7 @@ ghost use Rattle.lexical_write_integer.specs.Buffer.{Writes};
 ghost use Rattle.lexical_write_integer.specs.Text.{IsText};
 ghost use Rattle.lexical_lines.specs.Answer.{IsAnswer, WithNewline, IsBadLine, requested_format};
 ghost use Rattle.lexical_lines.specs.Line.{short_line, bytes_of};
-ghost use Rattle.lexical_lines.specs.Request.{IsGood, Asks, number_of};
+ghost use Rattle.lexical_lines.specs.Request.{IsValidLine, Asks, number_of};
 
 // Answers to the lines of bytes that arrive in chunks, and of a whole source.
 pub mod answerer;
@@ -37,8 +37,8 @@ pub fn write_answer(line: Option<&[u8]>, line_number: u64, buffer: &mut [u8]) ->
     ensures within { result.0 ≤ length buffer.new }
     ensures answer { (bytes : List ℕ) → bytes_of line.entry ≡ short_line bytes
         → Writes (IsAnswer line_number bytes) buffer.old buffer.new result.0 }
-    ensures good { (bytes : List ℕ) → bytes_of line.entry ≡ short_line bytes
-        → IsTrue result.1 ↔ IsGood bytes }
+    ensures valid { (bytes : List ℕ) → bytes_of line.entry ≡ short_line bytes
+        → IsTrue result.1 ↔ IsValidLine bytes }
 {
     match parse(line) {
         Some(request) => (write_requested(&request, buffer), true),

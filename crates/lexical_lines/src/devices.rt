@@ -8,5 +8,8 @@ pub mod source;
 pub mod slice;
 pub mod stream;
 
+// A sink that collects bytes in a block.
+pub mod block_writer;
+
 // The record that a device keeps for contracts.
 pub mod trace;

@@ -16,14 +16,14 @@ use lexical_write_integer::ToLexicalWithOptions;
 use lexical_write_integer::buffer::front_mut;
 use lexical_write_integer::laws::size_suffices;
 
-/// Writes the texts of the values, with the separator `mark` between adjacent texts, to the start of
-/// `buffer`, and returns the number of bytes written: 0 if there are no values.
+/// Writes the texts of the values, with `separator` between adjacent texts, to the start of `buffer`, and
+/// returns the number of bytes written: 0 if there are no values.
 ///
 /// For each value, the buffer must have the buffer size of the type in the format plus one byte. The
 /// bytes after the written ones are unchanged. The options have no effect.
 pub fn write_joined<T: ToLexicalWithOptions>(
     values: &[T],
-    mark: u8,
+    separator: u8,
     buffer: &mut [u8],
     format: &NumberFormat,
     options: &T::Options,
@@ -31,7 +31,7 @@ pub fn write_joined<T: ToLexicalWithOptions>(
     requires { length values.now * (size_in T.FORMATTED_SIZE T.FORMATTED_SIZE_DECIMAL format.now + 1)
         ≤ length buffer.old }
     ensures text { Writes
-        (AreJoined (λ x. IsText (T.number x) format.now) (mark ∷ []) values.now)
+        (AreJoined (λ x. IsText (T.number x) format.now) (separator ∷ []) values.now)
         buffer.old buffer.new result }
     ensures short { result ≤ length values.now
         * (size_in T.FORMATTED_SIZE T.FORMATTED_SIZE_DECIMAL format.now + 1) - 1 }
@@ -41,7 +41,7 @@ pub fn write_joined<T: ToLexicalWithOptions>(
     for (index, value) in values.iter().enumerate() {
         // A separator precedes each text except the first, so none follows the last.
         if index > 0 {
-            buffer[count] = mark;
+            buffer[count] = separator;
             count += 1;
         }
         size_suffices(*value, format);
@@ -57,7 +57,7 @@ pub fn write_joined<T: ToLexicalWithOptions>(
 /// a caller that changes it changes `buffer`. The bytes after the prefix are unchanged.
 pub fn join<'a, T: ToLexicalWithOptions>(
     values: &[T],
-    mark: u8,
+    separator: u8,
     buffer: &'a mut [u8],
     format: &NumberFormat,
     options: &T::Options,
@@ -65,10 +65,10 @@ pub fn join<'a, T: ToLexicalWithOptions>(
     requires { length values.now * (size_in T.FORMATTED_SIZE T.FORMATTED_SIZE_DECIMAL format.now + 1)
         ≤ length buffer.old }
     ensures* lends { sem 𝓛 (LendsFront buffer.entry (length result.now) result) }
-    ensures text { AreJoined (λ x. IsText (T.number x) format.now) (mark ∷ []) values.now result.now }
+    ensures text { AreJoined (λ x. IsText (T.number x) format.now) (separator ∷ []) values.now result.now }
     ensures short { length result.now ≤ length values.now
         * (size_in T.FORMATTED_SIZE T.FORMATTED_SIZE_DECIMAL format.now + 1) - 1 }
 {
-    let count = write_joined(values, mark, buffer, format, options);
+    let count = write_joined(values, separator, buffer, format, options);
     front_mut(buffer, count)
 }

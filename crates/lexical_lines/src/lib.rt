@@ -3,7 +3,7 @@
 //!
 //! # Examples
 //!
-//! Each line names a type, a radix and a number (`crates/lines_tests/src/tests/answers.rt`). The input
+//! Each line names a type, a radix and a number. The input
 //!
 //! ```text
 //! i8 10 -128
@@ -35,9 +35,11 @@
 //! assert_eq!(rt; &buffer[..length], b"-128\nbad line 2\n".as_slice());
 //! ```
 //!
-//! `write_joined` writes several numbers, and `join` returns their text (`length_of_joined_texts` in
-//! `crates/refused_calls/src/texts.rt`).
+//! `write_joined` writes several numbers, and `join` returns their text.
 #![tactic(auto)]
+
+// The lines above are in `crates/lines_tests/src/tests/answers.rt`, and `length_of_joined_texts` in
+// `crates/refused_calls/src/texts.rt` calls `join`.
 
 // Several numbers with a separator between them.
 mod joined_text;
@@ -57,6 +59,7 @@ pub mod laws;
 pub use answer::answerer::Answerer;
 pub use answer::exit_status::status;
 pub use answer::line_loop::run;
+pub use devices::block_writer::BlockWriter;
 pub use devices::sink::{BlockSink, ByteSink, put_all};
 pub use devices::slice::{SliceSink, SliceSource, answer_slice};
 pub use devices::source::{BlockSource, ByteSource};

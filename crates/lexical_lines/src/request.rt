@@ -3,23 +3,19 @@
 ghost use Rattle.std.specs.Prelude.{◌≡◌, ◌^◌, ℕ, List, ◌++◌, ℤ, pos, neg_ℤ, ◌≤◌, length, IfSome, IfNone};
 ghost use Rattle.lexical_num.specs.Format.{IsRadix};
 ghost use Rattle.lexical_lines.specs.Line.{short_line, bytes_of};
-ghost use Rattle.lexical_lines.specs.Request.{IsValue, IsGood, Asks, number_of};
+ghost use Rattle.lexical_lines.specs.Request.{IsValue, IsValidLine, Asks, number_of};
 
 // The line that is being read.
 pub mod line;
 
-// Parts of a line: names of types, decimal numbers, signs and separators.
+// Parts of a line: names of types, decimal numbers and signs.
 pub mod decimal_parser;
 pub mod integer_type;
-pub mod split;
+pub mod sign;
 
-// Bytes, eight at a time.
-pub mod search;
-pub mod word;
-
-use crate::request::decimal_parser::{parse_decimal_at, split_radix};
+use crate::request::decimal_parser::{parse_decimal, split_radix};
 use crate::request::integer_type::IntegerType;
-use crate::request::split::strip_sign;
+use crate::request::sign::strip_sign;
 
 /// A number of any of the ten types, as a number of one of the two widest types.
 #[derive(Clone, Copy)]
@@ -46,13 +42,13 @@ pub fn parse(line: Option<&[u8]>) -> Option<Request>
     ensures found { IfSome result (λ request. (bytes : List ℕ) → bytes_of line.entry ≡ short_line bytes
         → Asks bytes request) }
     ensures none { IfNone result ((bytes : List ℕ) → bytes_of line.entry ≡ short_line bytes
-        → IsGood bytes → ⊥) }
+        → IsValidLine bytes → ⊥) }
 {
     let line = line?;
     let (kind, rest) = IntegerType::split_name(line)?;
     let (plus, radix_value) = strip_sign(b'+', rest);
     let (radix, value) = split_radix(radix_value)?;
-    let number = parse_value(kind, line, value)?;
+    let number = parse_value(kind, value)?;
     Some(Request {
         plus,
         radix,
@@ -60,15 +56,13 @@ pub fn parse(line: Option<&[u8]>) -> Option<Request>
     })
 }
 
-// Parses a number of this type: an optional `-`, and decimal digits. The line ends with the text.
-fn parse_value(kind: IntegerType, line: &[u8], text: &[u8]) -> Option<Number>
-    requires { (front : List ℕ) × (line.now ≡ front ++ text.now) }
+// Parses a number of this type: an optional `-`, and decimal digits.
+fn parse_value(kind: IntegerType, text: &[u8]) -> Option<Number>
     ensures found { IfSome result (λ number. IsValue kind (number_of number) text.now) }
     ensures none { IfNone result ((number : ℤ) → IsValue kind number text.now → ⊥) }
 {
     let (minus, digits) = strip_sign(b'-', text);
-    // Bytes of the line before the digits are read too, a word at a time.
-    let magnitude = parse_decimal_at(line, line.len() - digits.len())?;
+    let magnitude = parse_decimal(digits)?;
     if !kind.holds(minus, magnitude) {
         None
     } else if minus {

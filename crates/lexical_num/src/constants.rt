@@ -8,13 +8,13 @@ ghost use Rattle.lexical_num.specs.Size.{IsWithin};
 /// The length of a buffer that is long enough for every number of every type in every format.
 pub const BUFFER_SIZE: usize = 128;
 
-/// An integer type with buffer lengths that are enough for each of its numbers. `buffer_size` of the
-/// options chooses between them.
+/// An integer type with two buffer lengths, between which `buffer_size` of the options chooses. That the length is
+/// enough for each number of the type is a law of `ToLexicalWithOptions` in `lexical_write_integer`.
 pub trait FormattedSize {
-    /// The number of bytes that is enough in every radix from 2 to 36, with a sign and with groups.
+    /// The buffer length in a radix other than 10, with a sign and with groups.
     const FORMATTED_SIZE: usize;
 
-    /// The number of bytes that is enough in decimal, with a `-` but without a `+` and without groups.
+    /// The buffer length in decimal, with a `-` but without a `+` and without groups.
     const FORMATTED_SIZE_DECIMAL: usize;
 
     ghost FORMATTED_SIZE: { ℕ };

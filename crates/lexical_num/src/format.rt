@@ -1,9 +1,10 @@
 //! Formats: how a number is written.
 
-ghost use Rattle.std.specs.Prelude.{◌≡◌, ◌^◌, ◌<◌, IsTrue};
+ghost use Rattle.std.specs.Prelude.{◌≡◌, ◌^◌, ◌<◌, ◌↔◌, IsTrue};
 ghost use Rattle.std.specs.Option.{ForSome};
 ghost use Rattle.lexical_num.specs.Format.{IsRadix, IsGrouping, IsValid, grouped_length};
 
+use crate::limits::{is_group_size, is_mark, is_radix};
 use std::marker::Model;
 
 /// The parts of a format, valid or not: the radices of the mantissa and of the exponent, whether a
@@ -15,6 +16,21 @@ pub(crate) struct Parts {
     pub exponent_radix: u8,
     pub required_mantissa_sign: bool,
     pub digit_grouping: Option<(u8, u8)>,
+}
+
+impl Parts {
+    /// Returns whether a format can have these parts.
+    pub fn are_valid(&self) -> bool
+        ensures { IsTrue result ↔ IsValid self.now }
+    {
+        let are_groups_valid = match self.digit_grouping {
+            Some((size, mark)) => is_group_size(size as u64) && is_mark(mark as u64),
+            None => true,
+        };
+        is_radix(self.mantissa_radix as u64)
+            && is_radix(self.exponent_radix as u64)
+            && are_groups_valid
+    }
 }
 
 /// A valid format. Both radices are from 2 to 36. If the digits are grouped, a group has from 1 to 64
@@ -62,7 +78,7 @@ impl NumberFormat {
         ensures value { result ≡ self.now.mantissa_radix }
         ensures radix { IsRadix result }
     {
-        u32::from(self.parts.mantissa_radix)
+        self.parts.mantissa_radix as u32
     }
 
     /// Returns the exponent radix, from 2 to 36, in which exponents are written.
@@ -70,7 +86,7 @@ impl NumberFormat {
         ensures value { result ≡ self.now.exponent_radix }
         ensures radix { IsRadix result }
     {
-        u32::from(self.parts.exponent_radix)
+        self.parts.exponent_radix as u32
     }
 
     /// Returns whether a `+` precedes a number that is not negative.
@@ -96,7 +112,7 @@ impl NumberFormat {
         ensures { result ≡ grouped_length self.now.digit_grouping count }
     {
         match self.digit_grouping() {
-            Some((size, _)) => count + count.saturating_sub(1) / usize::from(size),
+            Some((size, _)) => count + count.saturating_sub(1) / size as usize,
             None => count,
         }
     }
@@ -109,13 +125,13 @@ impl NumberFormat {
         let _ = &self.parts;
     }
 
-    /// Returns whether numbers can be written in the format. This is always true, since a format is
-    /// valid once it is built.
+    /// Returns whether numbers can be written in the format. This is true for each format that was built
+    /// from valid parts.
     pub fn is_valid(&self) -> bool
         ensures always { IsTrue result }
         ensures valid { IsValid self.now }
     {
         self.in_range();
-        true
+        self.parts.are_valid()
     }
 }

@@ -51,6 +51,7 @@ impl NumberFormatBuilder {
         requires { IsRadix radix }
         ensures { result ≡ record standard { mantissa_radix = radix; exponent_radix = radix } }
     {
+        prove!(is_radix(radix as u64));
         Self::new()
             .mantissa_radix(radix)
             .exponent_radix(radix)
@@ -115,17 +116,17 @@ impl NumberFormatBuilder {
             ↔ (IsRadix self.now.mantissa_radix × IsRadix self.now.exponent_radix
             × IsGroupSize grouping.0 × ¬ IsMark grouping.1)) }
     {
-        if !is_radix(u64::from(self.parts.mantissa_radix)) {
+        if !is_radix(self.parts.mantissa_radix as u64) {
             return Err(Error::InvalidMantissaRadix(self.parts.mantissa_radix));
         }
-        if !is_radix(u64::from(self.parts.exponent_radix)) {
+        if !is_radix(self.parts.exponent_radix as u64) {
             return Err(Error::InvalidExponentRadix(self.parts.exponent_radix));
         }
         if let Some((size, mark)) = self.parts.digit_grouping {
-            if !is_group_size(u64::from(size)) {
+            if !is_group_size(size as u64) {
                 return Err(Error::InvalidGroupSize(size));
             }
-            if !is_mark(u64::from(mark)) {
+            if !is_mark(mark as u64) {
                 return Err(Error::InvalidGroupMark(mark));
             }
         }
@@ -139,6 +140,7 @@ impl NumberFormatBuilder {
         requires { IsValid self.now }
         ensures { result ≡ self.now }
     {
+        prove!(self.parts.are_valid());
         NumberFormat { parts: self.parts }
     }
 }

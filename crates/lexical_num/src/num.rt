@@ -1,4 +1,4 @@
-//! The traits of the integer types, for contracts and for generic code.
+//! The traits of the integer types, for generic code.
 #![tactic(auto, using(crate::proofs::LeadingZeros::leading_zeros))]
 
 ghost use Rattle.std.specs.Prelude.{◌≡◌, ℕ, ◌-◌, ◌/◌, ◌%◌, ◌^◌, ◌<◌, ◌≤◌, ◌↔◌, IsTrue, refl};
@@ -320,7 +320,9 @@ pub trait UnsignedInteger: LexicalInteger {
         requires { magnitude self < 2 ^ 32 }
         ensures { result ≡ magnitude self }
     {
-        self.as_usize() as u32
+        let number = self.as_usize();
+        prove!(number < 4_294_967_296);
+        number as u32
     }
 
     /// Returns the number as a `usize`, which every number of the type fits.
@@ -372,6 +374,7 @@ impl UnsignedInteger for u8 {
     ghost equal_by_number = { Prim.search rules };
 
     fn from_u32(value: u32) -> u8 {
+        prove!(value < 256);
         value as u8
     }
 
@@ -398,6 +401,7 @@ impl UnsignedInteger for u16 {
     ghost equal_by_number = { Prim.search rules };
 
     fn from_u32(value: u32) -> u16 {
+        prove!(value < 65_536);
         value as u16
     }
 

@@ -15,8 +15,9 @@ pub trait WriteOptions {
     fn is_valid(&self) -> bool
         ensures { result ≡ is_valid self.now };
 
-    /// Returns the length of a buffer that is long enough for every number of the type in the format,
-    /// with its sign and its groups.
+    /// Returns the size of the type in the format: in a radix other than 10 `FORMATTED_SIZE`, and in radix 10
+    /// what `FORMATTED_SIZE_DECIMAL` digits take in the groups of the format, and one byte for a required sign.
+    /// `laws::size_suffices` of `lexical_write_integer` says that it is enough for every number of the type.
     fn buffer_size<T: FormattedSize>(&self, format: &NumberFormat) -> usize
         ensures { result ≡ size_in T.FORMATTED_SIZE T.FORMATTED_SIZE_DECIMAL format.now };
 }
@@ -53,15 +54,14 @@ impl Options {
         true
     }
 
-    /// Returns the length of a buffer that is long enough for every number of the type in the format,
-    /// with its sign and its groups, as `buffer_size` does.
+    /// Returns the size of the type in the format, as `buffer_size` does.
     pub fn buffer_size_const<T: FormattedSize>(&self, format: &NumberFormat) -> usize
         ensures { result ≡ size_in T.FORMATTED_SIZE T.FORMATTED_SIZE_DECIMAL format.now }
     {
         if format.mantissa_radix() != 10 {
             return T::FORMATTED_SIZE;
         }
-        let sign = usize::from(format.required_mantissa_sign());
+        let sign = format.required_mantissa_sign() as usize;
         sign + format.grouped_len(T::FORMATTED_SIZE_DECIMAL)
     }
 

@@ -19,6 +19,22 @@ AreEach-push IsOf (y ∷ ys) x s t each is = record {
   whole = ap (λ k. k ++ t) each.whole ∙ append_assoc each.first each.second t;
 }
 
+-- a loop of the caller's adds the text of element `i` to bytes that end in the texts of the elements before it
+pub added_each : {A : Type 0} (IsOf : A → List ℕ → Type 0) (start : List ℕ) (xs : List A) {i : ℕ} (d : A) {before text : List ℕ} →
+    i < length xs → (IsExactly start then AreEach IsOf (take i xs)) before → IsOf (get_or xs i d) text →
+    (IsExactly start then AreEach IsOf (take (i + 1) xs)) (before ++ text)
+added_each IsOf start xs {i} d {before} {text} inside each is = rw (take_more xs i d inside) (record {
+  first = each.first;
+  second = each.second ++ text;
+  is_first = each.is_first;
+  is_second = AreEach-push IsOf (take i xs) (get_or xs i d) each.second text each.is_second is;
+  whole = ap (λ k. k ++ text) each.whole ∙ append_assoc each.first each.second text;
+})
+
+-- before such a loop nothing is added
+pub added_none : {A : Type 0} (IsOf : A → List ℕ → Type 0) (start : List ℕ) → (IsExactly start then AreEach {A = A} IsOf []) start
+added_none IsOf start = record { first = start; second = []; is_first = refl; is_second = refl; whole = sym (append-nil start) }
+
 -- a loop of the caller's writes the text of element `i` after the texts of the elements before it
 pub written_each : {A : Type 0} (IsOf : A → List ℕ → Type 0) (xs : List A) {i : ℕ} (d : A)
     {before between part : List ℕ} {count more : ℕ} (room : ℕ) →

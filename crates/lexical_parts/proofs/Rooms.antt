@@ -1,10 +1,11 @@
 -- The room of the elements of a list with a separator between them.
-use Rattle.std.proofs.Common.{◌≡◌, ℕ, zero, suc, ◌+◌, ◌-◌, ◌*◌, ◌<◌, ◌≤◌, List, length, take, get_or, refl, ap, arith}
+use Rattle.std.proofs.Common.{◌≡◌, ℕ, zero, suc, ◌+◌, ◌-◌, ◌*◌, ◌<◌, ◌≤◌, List, [], ◌∷◌, length, take, get_or, refl, ap, arith}
+use Rattle.std.specs.List.{sum_by}
 use Rattle.std.proofs.Math.Nat.{mul-le-mul_right, suc-mul}
 use Rattle.std.proofs.lemmas.List.{length-take-le}
-use Rattle.std.proofs.lemmas.List.Sums.{sum_by_more, sum_by-take-le}
+use Rattle.std.proofs.lemmas.List.Sums.{sum_by_more, sum_by-cons, sum_by-take-le}
 use Rattle.lexical_write_integer.proofs.OfTexts.Joins.{Leads}
-use Rattle.lexical_parts.specs.Joined.{joined_room}
+use Rattle.lexical_parts.specs.Joined.{joined_room, lead}
 
 -- the separators before one further element
 separators_more : (separator lead : List ℕ) (i : ℕ) → Leads separator i lead
@@ -14,6 +15,11 @@ separators_more separator lead (suc i) leads =
     let one_more : suc i + 1 - 1 ≡ suc i = omega arith in
     let one_less : suc i - 1 ≡ i = omega arith in
     rw (one_more, one_less) (omega (arith, suc-mul i (length separator), ap length (leads.later (omega arith))))
+
+-- what precedes an element
+pub leads_at : (separator : List ℕ) (index : ℕ) → Leads separator index (lead index separator)
+leads_at separator zero = record { at_first = λ _. refl; later = λ some. absurd (omega arith) }
+leads_at separator (suc index) = record { at_first = λ none. absurd (omega arith); later = λ _. refl }
 
 -- one further element needs its own room and that of the separator before it
 pub joined_room-more : {A : Type 0} (room : A → ℕ) (separator lead : List ℕ) (xs : List A) {i : ℕ} {x : A} → i < length xs → x ≡ get_or xs i x
@@ -32,3 +38,8 @@ joined_room-take-le room separator xs i inside =
     let long : length (take i xs) ≡ i = length-take-le i xs inside in
     let fewer : i - 1 ≤ length xs - 1 = omega arith in
     rw long (omega (arith, sum_by-take-le room xs i, mul-le-mul_right separator fewer))
+
+-- elements that each need two bytes
+pub two_each : {A : Type 0} (xs : List A) → sum_by {X = A} (λ _. 2) xs ≡ 2 * length xs
+two_each [] = refl
+two_each (x ∷ xs) = omega (arith, sum_by-cons (λ _. 2) x xs, two_each xs)

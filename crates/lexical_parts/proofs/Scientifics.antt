@@ -5,7 +5,7 @@ use Rattle.std.specs.Prelude.{◌+ℤ◌}
 use Rattle.std.proofs.Math.Nat.{div-add-mod'}
 use Rattle.std.proofs.lemmas.Bool.{cases_lt}
 use Rattle.std.proofs.lemmas.Bool.Decides.{eqb_tells}
-use Rattle.std.proofs.lemmas.List.{append-nil, get_or-drop, get_or-take, length-drop, length-take-le, take_all}
+use Rattle.std.proofs.lemmas.List.{get_or-drop, get_or-take, length-drop, length-take-le, take_all}
 use Rattle.lexical_write_integer.specs.Buffer.{Writes}
 use Rattle.lexical_write_integer.specs.DigitCount.{digit_count}
 use Rattle.lexical_write_integer.specs.Padded.{IsPadded}
@@ -15,7 +15,7 @@ use Rattle.lexical_write_integer.proofs.OfDigits.Count.DigitCounts.{digit_count-
 use Rattle.lexical_write_integer.proofs.OfDigits.Numerals.{digits_unique, length-IsDigits}
 use Rattle.lexical_write_integer.proofs.OfDigits.PaddedDigits.{IsPadded-zeros, padded_unique}
 use Rattle.lexical_write_integer.proofs.OfTexts.ComputedTexts.{digits_computed}
-use Rattle.lexical_write_integer.proofs.OfTexts.Orders.{equal_from_IsDigits, equal_from_IsPadded}
+use Rattle.lexical_write_integer.proofs.OfTexts.Orders.{equal_from_IsPadded}
 use Rattle.lexical_parts.specs.Fixed.{IsUnits}
 use Rattle.lexical_parts.specs.Scientific.{IsScientificUnsigned, exponent_of_first}
 use Rattle.lexical_parts.specs.Sequence.{◌then◌, IsStr, IsDecimal}
@@ -89,12 +89,6 @@ with_point units text is more =
     let both = digits_around_point units (length text - 1) 0 (length text) 1 text is refl (omega arith) (omega arith) in
     IsUnits-point (length text - 1) units _ _ (omega arith) both.0 both.1
 
-pub without_point : (units : ℕ) (text : List ℕ) → IsDigits 10 units text → length text ≡ 1 → IsUnits (length text - 1) units text
-without_point units text is one =
-    let none : length text - 1 ≡ 0 = omega arith in
-    let same : units / 10 ^ 0 ≡ units = omega arith in
-    rw none (record { first = text; second = []; is_first = rw same is; is_second = refl; whole = sym (append-nil text) })
-
 -- a tuple of the first digit, a point and the others
 pub pointed : (units : ℕ) (text whole : List ℕ) → IsDigits 10 units text → 2 ≤ length text
     → (IsExactly (take 1 text) then IsExactly (46 ∷ []) then IsExactly (take (length text - 1) (drop 1 text))) whole → IsUnits (length text - 1) units whole
@@ -107,10 +101,6 @@ pointed units text whole is more parts =
 
 zero_digits : IsDigits 10 0 (48 ∷ [])
 zero_digits = (digits_computed 10 0 (48 ∷ []) (omega arith) (omega arith)).1 refl
-
-pub exponent_of_zero : (number : ℕ) (exponent : ℤ) (text : List ℕ) → IsDigits 10 number text → text ≡ 48 ∷ []
-    → exponent_of_first number exponent ≡ pos 0
-exponent_of_zero number exponent text is zero = rw (equal_from_IsDigits 10 number 0 (48 ∷ []) (rw zero at is) zero_digits) refl
 
 pub exponent_of_digits : (number : ℕ) (exponent : ℤ) (text : List ℕ) → IsDigits 10 number text → (text ≡ 48 ∷ [] → ⊥)
     → exponent_of_first number exponent ≡ exponent +ℤ pos (length text - 1)

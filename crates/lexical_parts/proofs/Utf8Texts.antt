@@ -1,5 +1,5 @@
 -- The texts of parts are UTF-8.
-use Rattle.std.proofs.Common.{ℕ, zero, suc, ◌-◌, ◌/◌, ◌%◌, ◌^◌, ◌<◌, ◌≤◌, List, [], ◌∷◌, ◌++◌, false, length, replicate, arith, ℤ, pos, negsuc, unsigned_abs}
+use Rattle.std.proofs.Common.{Bool, true, ℕ, zero, suc, ◌-◌, ◌/◌, ◌%◌, ◌^◌, ◌<◌, ◌≤◌, List, [], ◌∷◌, ◌++◌, false, length, replicate, arith, ℤ, pos, negsuc, unsigned_abs}
 use Rattle.std.specs.List.{All}
 use Rattle.std.specs.Str.{IsUtf8}
 use Rattle.std.proofs.lemmas.List.Elements.{All-nil, All-cons, All-head, All-tail, All-replicate}
@@ -13,7 +13,6 @@ use Rattle.lexical_write_integer.specs.Text.{IsDigits, IsText}
 use Rattle.lexical_write_integer.proofs.OfTexts.Ascii.{IsAscii-IsText, IsAscii-digit_chars}
 use Rattle.lexical_parts.specs.Column.{IsAtLeft, IsAtRight, IsCentered}
 use Rattle.lexical_parts.specs.Fixed.{IsFixed, IsFraction, IsGroupedFixed, IsUnits}
-use Rattle.lexical_parts.specs.Joined.{AreEach}
 use Rattle.lexical_parts.specs.Scientific.{IsScientific, IsScientificUnsigned}
 use Rattle.lexical_parts.specs.Utf8.{AreUtf8}
 
@@ -46,10 +45,6 @@ joined_is_utf8 IsOf separator (x ∷ y ∷ xs) each between text is =
     let rest = joined_is_utf8 IsOf separator (y ∷ xs) (All-tail (λ y. AreUtf8 (IsOf y)) x (y ∷ xs) each) between in
     then_is_utf8 first (then_is_utf8 (λ mark same. rw same between) rest) text is
 
-pub each_is_utf8 : {A : Type 0} (IsOf : A → List ℕ → Type 0) (xs : List A) → ((x : A) → AreUtf8 (IsOf x)) → AreUtf8 (AreEach IsOf xs)
-each_is_utf8 IsOf [] each text is = rw is IsUtf8-nil
-each_is_utf8 IsOf (x ∷ xs) each text is = then_is_utf8 (each x) (each_is_utf8 IsOf xs each) text is
-
 -- copies of a byte below 128
 pub fill_is_utf8 : (fill count : ℕ) → fill < 128 → IsUtf8 (replicate count fill)
 fill_is_utf8 fill count small =
@@ -70,9 +65,10 @@ centered_is_utf8 width fill small cells text is =
     let after = fill_is_utf8 fill (added - added / 2) small in
     rw is.whole (IsUtf8-append (replicate (added / 2) fill ++ is.cell) (replicate (added - added / 2) fill) before after)
 
-sign_is_utf8 : (number : ℤ) → AreUtf8 (IsExactly (sign_of number false))
-sign_is_utf8 (pos n) text is = rw is IsUtf8-nil
-sign_is_utf8 (negsuc n) text is = one_is_utf8 45 (omega arith) text is
+pub sign_is_utf8 : (number : ℤ) (required : Bool) → AreUtf8 (IsExactly (sign_of number required))
+sign_is_utf8 (pos n) false text is = rw is IsUtf8-nil
+sign_is_utf8 (pos n) true text is = one_is_utf8 43 (omega arith) text is
+sign_is_utf8 (negsuc n) required text is = one_is_utf8 45 (omega arith) text is
 
 fraction_is_utf8 : (decimals units : ℕ) → AreUtf8 (IsFraction decimals units)
 fraction_is_utf8 zero units text is = rw is IsUtf8-nil
@@ -84,14 +80,14 @@ units_are_utf8 decimals units text is =
     then_is_utf8 (digits_are_utf8 10 (units / 10 ^ decimals) (omega arith)) (fraction_is_utf8 decimals (units % 10 ^ decimals)) text is
 
 pub fixed_is_utf8 : (decimals : ℕ) (number : ℤ) → AreUtf8 (IsFixed decimals number)
-fixed_is_utf8 decimals number text is = then_is_utf8 (sign_is_utf8 number) (units_are_utf8 decimals (unsigned_abs number)) text is
+fixed_is_utf8 decimals number text is = then_is_utf8 (sign_is_utf8 number false) (units_are_utf8 decimals (unsigned_abs number)) text is
 
 pub grouped_fixed_is_utf8 : (format : Format) (decimals : ℕ) (number : ℤ) → IsValid standard → IsValid format
     → AreUtf8 (IsGroupedFixed format.digit_grouping decimals number)
 grouped_fixed_is_utf8 format decimals number plain valid text is =
     let groups : IsValid (record standard { digit_grouping = format.digit_grouping }) =
     record { mantissa = plain.mantissa; exponent = plain.exponent; groups = valid.groups } in
-    then_is_utf8 (sign_is_utf8 number)
+    then_is_utf8 (sign_is_utf8 number false)
     (then_is_utf8 (text_is_utf8 _ (record standard { digit_grouping = format.digit_grouping }) groups) (fraction_is_utf8 decimals _)) text is
 
 unsigned_is_utf8 : (number : ℕ) (exponent : ℤ) → IsValid standard → AreUtf8 (IsScientificUnsigned number exponent)
@@ -100,4 +96,4 @@ unsigned_is_utf8 number exponent valid text is =
 
 pub scientific_is_utf8 : (number exponent : ℤ) → IsValid standard → AreUtf8 (IsScientific number exponent)
 scientific_is_utf8 number exponent valid text is =
-    then_is_utf8 (sign_is_utf8 number) (unsigned_is_utf8 (unsigned_abs number) exponent valid) text is
+    then_is_utf8 (sign_is_utf8 number false) (unsigned_is_utf8 (unsigned_abs number) exponent valid) text is

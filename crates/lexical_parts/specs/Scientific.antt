@@ -1,18 +1,14 @@
 -- Numbers in scientific notation, as `1.234e-56`.
-use Rattle.std.specs.Prelude.{◌≡◌, ℕ, ◌-◌, ◌*◌, ◌%◌, ◌^◌, ℤ, pos, ◌+ℤ◌, unsigned_abs, false, List, if◌then◌else◌, ◌==◌}
+use Rattle.std.specs.Prelude.{◌≡◌, ℕ, ◌*◌, ◌%◌, ◌^◌, ℤ, pos, ◌+ℤ◌, unsigned_abs, false, List, if◌then◌else◌, ◌==◌}
 use Rattle.lexical_num.specs.Sign.{sign_of}
-use Rattle.lexical_write_integer.specs.DigitCount.{digit_count}
+use Rattle.lexical_write_integer.specs.LoopTurns.{digits_after_first}
 use Rattle.lexical_write_integer.specs.Sequence.{IsExactly}
 use Rattle.lexical_parts.specs.Fixed.{IsUnits}
 use Rattle.lexical_parts.specs.Sequence.{◌then◌, IsStr, IsDecimal}
 
--- how many digits of a number follow the first
-abbrev pub digits_after_first : ℕ → ℕ
-digits_after_first number = digit_count 10 number - 1
-
 -- the exponent of the first digit of a number times 10 ^ `exponent`; that of 0 is 0
 abbrev pub exponent_of_first : ℕ → ℤ → ℤ
-exponent_of_first number exponent = if number == 0 then pos 0 else exponent +ℤ pos (digits_after_first number)
+exponent_of_first number exponent = if number == 0 then pos 0 else exponent +ℤ pos (digits_after_first 10 number)
 
 -- a natural number times 10 ^ `exponent`: its digits without the zeros at their end, with a point after the first if
 -- there are more, and the exponent of the first
@@ -21,7 +17,7 @@ pub record IsScientificUnsigned (number : ℕ) (exponent : ℤ) (text : List ℕ
   pub zeros : ℕ
   pub whole : number ≡ units * 10 ^ zeros
   pub shortest : units % 10 ≡ 0 → (units ≡ 0) × (zeros ≡ 0)
-  pub is : (IsUnits (digits_after_first units) units
+  pub is : (IsUnits (digits_after_first 10 units) units
       then IsStr "e" then IsDecimal (exponent_of_first number exponent)) text
 
 -- a number times 10 ^ `exponent`, with a `-` if it is negative

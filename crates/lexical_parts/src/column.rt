@@ -9,7 +9,7 @@ use crate::part::Part;
 /// A part that is aligned to the left of a column: a byte, often a space, is added after its text, up to
 /// the width. `Left(Decimal(12), 4, b'.')` writes `12..`. Nothing is added to a text longer than the
 /// width.
-#[derive(Clone, Copy, Drop)]
+#[derive(Clone, Copy, Debug, Drop)]
 pub struct Left<P>(pub P, pub usize, pub u8);
 
 impl<P: Part> Part for Left<P> {
@@ -32,7 +32,7 @@ impl<P: Part> Part for Left<P> {
 /// A part that is aligned to the right of a column: a byte, often a space, is added before its text, up
 /// to the width. `Right(Decimal(42), 4, b' ')` writes two spaces and `42`. Nothing is added to a text
 /// longer than the width.
-#[derive(Clone, Copy, Drop)]
+#[derive(Clone, Copy, Debug, Drop)]
 pub struct Right<P>(pub P, pub usize, pub u8);
 
 impl<P: Part> Part for Right<P> {
@@ -57,7 +57,7 @@ impl<P: Part> Part for Right<P> {
 /// A part in the centre of a column: a byte, often a space, is added before and after its text, up to
 /// the width. Of an odd number of bytes the larger half is after the text, as with `{:^6}` in Rust:
 /// `Center(Decimal(-12), 6, b'*')` writes `*-12**`. Nothing is added to a text longer than the width.
-#[derive(Clone, Copy, Drop)]
+#[derive(Clone, Copy, Debug, Drop)]
 pub struct Center<P>(pub P, pub usize, pub u8);
 
 impl<P: Part> Part for Center<P> {

@@ -1,17 +1,18 @@
 //! Parts in a format string: `{}` of a part writes its text, with the width and the fill of the format.
 
-ghost use Rattle.std.specs.Prelude.{Some};
+ghost use Rattle.std.specs.Prelude.{Some, true};
 ghost use Rattle.std.specs.Fmt.{padded};
 ghost use Rattle.lexical_num.specs.Format.{standard};
 ghost use Rattle.lexical_write_integer.specs.Computed.{digits_text, text_of};
 
-use crate::hex::{Binary, Hex};
 use crate::number::{Decimal, Formatted, formatted_room_suffices};
+use crate::plus::Plus;
+use crate::powers_of_two::{Binary, Hex};
 use crate::utf8::Utf8Part;
 use lexical_write_integer::format::STANDARD;
 use lexical_write_integer::laws::{digits_computed, text_computed};
 use lexical_write_integer::radix::Radix;
-use lexical_write_integer::{BUFFER_SIZE, ToLexicalWithOptions};
+use lexical_write_integer::{BUFFER_SIZE, NumberFormatBuilder, ToLexicalWithOptions};
 use std::fmt;
 
 impl<T: ToLexicalWithOptions> fmt::Display for Formatted<'_, T> {
@@ -35,6 +36,20 @@ impl<T: ToLexicalWithOptions> fmt::Display for Decimal<T> {
 
     fn fmt<W: fmt::Write>(&self, f: &mut fmt::Formatter<W>) -> fmt::Result {
         fmt::Display::fmt(&Formatted(self.0, &STANDARD), f)
+    }
+}
+
+impl<T: ToLexicalWithOptions> fmt::Display for Plus<T> {
+    ghost output = { λ part. Some (text_of (T.number part.0) (record standard { required_mantissa_sign = true })) };
+
+    ghost styled_output = { λ part spec. Some (padded spec
+        (text_of (T.number part.0) (record standard { required_mantissa_sign = true }))) };
+
+    fn fmt<W: fmt::Write>(&self, f: &mut fmt::Formatter<W>) -> fmt::Result {
+        let format = NumberFormatBuilder::new()
+            .required_mantissa_sign(true)
+            .build_strict();
+        fmt::Display::fmt(&Formatted(self.0, &format), f)
     }
 }
 

@@ -8,25 +8,11 @@ ghost use Rattle.lexical_parts.specs.Fixed.{IsGroupedFixed, IsGroupedUnits, grou
 
 use crate::fill::insert_fill;
 use crate::part::Part;
-use lexical_num::num::LexicalInteger;
+use crate::sign::Sign;
 use lexical_write_integer::buffer::copy_to_front;
 use lexical_write_integer::format::STANDARD;
 use lexical_write_integer::laws::size_suffices;
 use lexical_write_integer::{NumberFormat, ToLexicalWithOptions, group_digits};
-
-// Writes the sign of a number to the start of the buffer, a `-` if it is negative and otherwise nothing, and
-// returns its length.
-pub(crate) fn write_minus<T: LexicalInteger>(number: T, buffer: &mut [u8]) -> usize
-    requires { length (sign_of (T.number number) false) ≤ length buffer.old }
-    ensures front { Front buffer.old buffer.new (sign_of (T.number number) false) }
-    ensures count { result ≡ length (sign_of (T.number number) false) }
-{
-    if number.is_negative() {
-        copy_to_front(b"-", buffer)
-    } else {
-        0
-    }
-}
 
 // Writes the absolute value of a number of units of 10^-`decimals` to the start of the buffer, and returns the
 // number of bytes written. If the number has too few digits, zeros are inserted before them.
@@ -81,7 +67,7 @@ fn write_grouped_units<T: ToLexicalWithOptions>(
 /// A number of units of 10^-`decimals`, such as an amount in cents: `Fixed(-5i64, 2)` writes `-0.05`,
 /// and `Fixed(1234u32, 3)` writes `1.234`. At least one digit precedes the point, and `decimals`
 /// digits follow it; a number without decimals has no point. There are at most 19 decimals.
-#[derive(Clone, Copy, Drop)]
+#[derive(Clone, Copy, Debug, Drop)]
 pub struct Fixed<T>(pub T, pub usize);
 
 impl<T: ToLexicalWithOptions> Part for Fixed<T> {
@@ -99,14 +85,14 @@ impl<T: ToLexicalWithOptions> Part for Fixed<T> {
 
     fn write_to(self, buffer: &mut [u8]) -> usize {
         size_suffices(self.0, &STANDARD);
-        let start = write_minus(self.0, buffer);
+        let start = Sign(self.0, false).write_to(buffer);
         start + write_units(self.0, self.1, &mut buffer[start..])
     }
 }
 
 /// A number as `Fixed` writes it, with its whole part in the groups of the format, and nothing else of it:
 /// in groups of three with `,`, `GroupedFixed(-123456, 2, &format)` writes `-1,234.56`.
-#[derive(Clone, Copy, Drop)]
+#[derive(Clone, Copy, Debug, Drop)]
 pub struct GroupedFixed<'a, T>(pub T, pub usize, pub &'a NumberFormat);
 
 impl<T: ToLexicalWithOptions> Part for GroupedFixed<'_, T> {
@@ -128,7 +114,7 @@ impl<T: ToLexicalWithOptions> Part for GroupedFixed<'_, T> {
 
     fn write_to(self, buffer: &mut [u8]) -> usize {
         size_suffices(self.0, &STANDARD);
-        let start = write_minus(self.0, buffer);
+        let start = Sign(self.0, false).write_to(buffer);
         start + write_grouped_units(self.0, self.1, self.2, &mut buffer[start..])
     }
 }

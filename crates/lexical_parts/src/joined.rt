@@ -24,7 +24,12 @@ fn write_lead(index: usize, separator: &str, buffer: &mut [u8]) -> usize
 }
 
 // Writes what precedes the part at the index, and then the part. Returns their length.
-fn write_next<P: Part>(index: usize, separator: &str, part: P, buffer: &mut [u8]) -> usize
+pub(crate) fn write_next<P: Part>(
+    index: usize,
+    separator: &str,
+    part: P,
+    buffer: &mut [u8],
+) -> usize
     requires valid { P.is_valid part }
     requires room { length (lead index separator.now) + P.room part ≤ length buffer.old }
     ensures text { Writes (IsExactly (lead index separator.now) then P.is_text part)
@@ -38,7 +43,7 @@ fn write_next<P: Part>(index: usize, separator: &str, part: P, buffer: &mut [u8]
 /// The parts of a slice, with the separator between adjacent parts: `Joined(&[-1, 20], ", ")` writes
 /// `-1, 20`. An array of other values becomes parts by `map`: `Joined(&[10u8, 2].map(Hex), ":")` writes
 /// `A:2`.
-#[derive(Clone, Copy, Drop)]
+#[derive(Clone, Copy, Debug, Drop)]
 pub struct Joined<'a, P>(pub &'a [P], pub &'a str);
 
 impl<P: Part> Part for Joined<'_, P> {

@@ -17,18 +17,18 @@
 //! assert_eq!(rt; &*text, b"2026-11-03 -12 kg 0xFF;".as_slice());
 //! ```
 //!
-//! The example is from the test `texts_for_writing` in `crates/uses_tests/src/tests/lines.rt`. The calls
-//! that write are the methods of [`Part`], and those that return a `&str` are the methods of
+//! The calls that write are the methods of [`Part`], and those that return a `&str` are the methods of
 //! [`Utf8Part`]. The other types of this crate are parts, and so are the integer types.
-//! [`rooms_at_most`] and [`formatted_room_suffices`] are laws, which bound the room of a [`Joined`] and of a
-//! [`Formatted`].
 #![tactic(auto)]
+
+// The example is from the test `texts_for_writing` in `crates/uses_tests/src/tests/lines.rt`. `rooms_at_most` and
+// `formatted_room_suffices` are laws, which bound the room of a `Joined` and of a `Formatted`.
 
 mod column;
 mod display;
+mod equal;
 mod fill;
 mod fixed;
-mod hex;
 mod integers;
 mod joined;
 mod lower;
@@ -37,22 +37,26 @@ mod option;
 mod padded;
 mod part;
 mod plus;
+mod powers_of_two;
 mod scientific;
+mod sign;
 mod text;
 mod tuples;
 mod utf8;
 mod zero_padded;
 
 pub use column::{Center, Left, Right};
+pub use equal::same_rest;
 pub use fixed::{Fixed, GroupedFixed};
-pub use hex::{Binary, Hex, HexBytes};
 pub use joined::{Joined, rooms_at_most};
 pub use lower::Lower;
 pub use number::{Decimal, Digits, Formatted, formatted_room_suffices};
 pub use padded::{Padded, PaddedDigits};
 pub use part::Part;
 pub use plus::Plus;
+pub use powers_of_two::{Binary, Hex, HexBytes};
 pub use scientific::Scientific;
+pub use sign::Sign;
 pub use text::{Byte, Bytes};
 pub use utf8::Utf8Part;
 pub use zero_padded::ZeroPadded;

@@ -6,7 +6,7 @@ use crate::part::Part;
 
 /// A part in lowercase: its text with `A` to `Z` as `a` to `z`, and every other byte unchanged.
 /// `Lower(PaddedDigits(16, 255u32, 4))` writes `00ff`.
-#[derive(Clone, Copy, Drop)]
+#[derive(Clone, Copy, Debug, Drop)]
 pub struct Lower<P>(pub P);
 
 impl<P: Part> Part for Lower<P> {

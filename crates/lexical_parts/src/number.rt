@@ -16,7 +16,7 @@ use lexical_write_integer::{NumberFormat, ToLexicalWithOptions};
 
 /// A number in decimal, with a `-` if it is negative: `Decimal(-5)` writes `-5`, as the part `-5` does. It
 /// is for generic code, in which the number has a type parameter.
-#[derive(Clone, Copy, Drop)]
+#[derive(Clone, Copy, Debug, Drop)]
 pub struct Decimal<T>(pub T);
 
 impl<T: ToLexicalWithOptions> Part for Decimal<T> {
@@ -35,7 +35,7 @@ impl<T: ToLexicalWithOptions> Part for Decimal<T> {
 }
 
 /// The digits of an unsigned number in a radix from 2 to 36: `Digits(16, 255u32)` writes `FF`.
-#[derive(Clone, Copy, Drop)]
+#[derive(Clone, Copy, Debug, Drop)]
 pub struct Digits<T>(pub u32, pub T);
 
 impl<T: Radix + DigitCount> Part for Digits<T> {
@@ -78,7 +78,7 @@ pub fn formatted_room_suffices<T: ToLexicalWithOptions>(number: T, format: &Numb
 
 /// A number in a format, with its sign and its groups: in a format with groups of three digits and
 /// the separator `,`, `Formatted(1234567, &format)` writes `1,234,567`.
-#[derive(Clone, Copy, Drop)]
+#[derive(Clone, Copy, Debug, Drop)]
 pub struct Formatted<'a, T>(pub T, pub &'a NumberFormat);
 
 impl<T: ToLexicalWithOptions> Part for Formatted<'_, T> {

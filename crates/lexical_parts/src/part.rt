@@ -53,7 +53,7 @@ pub trait Part: Copy {
 
     /// If the buffer has `room` bytes or more, writes the text to its start, and returns the length of
     /// the text; every byte after the text is unchanged. Otherwise returns `None`, and the buffer is
-    /// unchanged. The part must be valid.
+    /// unchanged. Only the room is tested: the part must be valid.
     final fn try_write_to(self, buffer: &mut [u8]) -> Option<usize>
         requires { is_valid self }
         ensures fits { IsSome result ↔ (room self ≤ length buffer.old) }

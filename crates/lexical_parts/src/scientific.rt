@@ -8,8 +8,8 @@ ghost use Rattle.lexical_parts.specs.Fixed.{IsUnits};
 ghost use Rattle.lexical_parts.specs.Scientific.{IsScientific, IsScientificUnsigned, exponent_of_first};
 ghost use Rattle.lexical_parts.specs.Sequence.{◌then◌, IsDecimal, IsStr};
 
-use crate::fixed::write_minus;
 use crate::part::Part;
+use crate::sign::Sign;
 use crate::text::Bytes;
 use lexical_write_integer::ToLexicalWithOptions;
 use lexical_write_integer::format::STANDARD;
@@ -94,7 +94,7 @@ fn write_magnitude<T: ToLexicalWithOptions>(number: T, exponent: i32, buffer: &m
 /// A number times a power of ten, as `{:e}` writes it in Rust: `Scientific(1234, -59)` writes `1.234e-56`,
 /// and `Scientific(-1000, 0)` writes `-1e3`. The digits have no zeros at the end, and a point after the
 /// first if there are more. Its room is 13 bytes more than that of `Decimal`.
-#[derive(Clone, Copy, Drop)]
+#[derive(Clone, Copy, Debug, Drop)]
 pub struct Scientific<T>(pub T, pub i32);
 
 impl<T: ToLexicalWithOptions> Part for Scientific<T> {
@@ -109,7 +109,7 @@ impl<T: ToLexicalWithOptions> Part for Scientific<T> {
 
     fn write_to(self, buffer: &mut [u8]) -> usize {
         size_suffices(self.0, &STANDARD);
-        let start = write_minus(self.0, buffer);
+        let start = Sign(self.0, false).write_to(buffer);
         start + write_magnitude(self.0, self.1, &mut buffer[start..])
     }
 }

@@ -21,7 +21,7 @@ impl Part for &str {
 }
 
 /// A part whose text is the bytes of a slice.
-#[derive(Clone, Copy, Drop)]
+#[derive(Clone, Copy, Debug, Drop)]
 pub struct Bytes<'a>(pub &'a [u8]);
 
 impl Part for Bytes<'_> {
@@ -39,7 +39,7 @@ impl Part for Bytes<'_> {
 }
 
 /// A part whose text is one byte.
-#[derive(Clone, Copy, Drop)]
+#[derive(Clone, Copy, Debug, Drop)]
 pub struct Byte(pub u8);
 
 impl Part for Byte {

@@ -9,16 +9,18 @@ mod tuples;
 
 use crate::column::{Center, Left, Right};
 use crate::fixed::{Fixed, GroupedFixed};
-use crate::hex::{Binary, Hex, HexBytes};
 use crate::joined::Joined;
 use crate::lower::Lower;
 use crate::number::{Decimal, Digits, Formatted};
 use crate::padded::{Padded, PaddedDigits};
 use crate::part::Part;
 use crate::plus::Plus;
+use crate::powers_of_two::{Binary, Hex, HexBytes};
 use crate::scientific::Scientific;
+use crate::sign::Sign;
 use crate::text::Byte;
 use crate::zero_padded::ZeroPadded;
+use lexical_num::num::LexicalInteger;
 use lexical_write_integer::ToLexicalWithOptions;
 use lexical_write_integer::digit_count::DigitCount;
 use lexical_write_integer::format::STANDARD;
@@ -38,9 +40,9 @@ pub trait Utf8Part: Part {
         requires utf8 { is_utf8 self }
         ensures { AreUtf8 (Self.is_text self) };
 
-    /// Writes the text to the start of the buffer, and returns it as a `&str`, which borrows the
-    /// buffer. The part must be valid, each `Byte` in it and each byte of a column must be below 128,
-    /// and the buffer must have `room` bytes or more.
+    /// Writes the text into the buffer, and returns it as a `&str`, which borrows the buffer. What the buffer holds
+    /// afterwards is not promised. The part must be valid, each `Byte` in it and each byte of a column must be below
+    /// 128, and the buffer must have `room` bytes or more.
     ///
     /// At run time this is `to_text` and then a call of `std::str::from_utf8`, which reads the text
     /// once and cannot fail. The standard library has no call that returns a `&mut str`.
@@ -56,7 +58,8 @@ pub trait Utf8Part: Part {
     }
 
     /// If the buffer has `room` bytes or more, returns the text as `to_str` does, at the same cost.
-    /// Otherwise returns `None`. The part must be valid, and each `Byte` in it must be below 128.
+    /// Otherwise returns `None`. Only the room is tested: the part must be valid, and each `Byte` in it and
+    /// each byte of a column must be below 128.
     final fn try_to_str(self, buffer: &mut [u8]) -> Option<&str>
         requires valid { Self.is_valid self }
         requires utf8 { is_utf8 self }
@@ -93,6 +96,10 @@ impl<T: ToLexicalWithOptions> Utf8Part for Plus<T> {
     }
 }
 
+impl<T: LexicalInteger> Utf8Part for Sign<T> {
+    fn text_is_utf8(self) {}
+}
+
 impl<T: Radix + DigitCount> Utf8Part for Digits<T> {
     fn text_is_utf8(self) {}
 }
@@ -120,7 +127,9 @@ impl<T: Radix> Utf8Part for Binary<T> {
 }
 
 impl Utf8Part for HexBytes<'_> {
-    fn text_is_utf8(self) {}
+    fn text_is_utf8(self) {
+        self.1.text_is_utf8();
+    }
 }
 
 impl<T: ToLexicalWithOptions> Utf8Part for Fixed<T> {

@@ -20,7 +20,7 @@ fn length_of_sign(text: &[u8]) -> usize
 /// A part with zeros after its sign, up to the width: `ZeroPadded(Decimal(-42), 6)` writes `-00042`, as
 /// `{:06}` does in Rust. A text longer than the width has no zeros. `Padded` has a width that the number
 /// must fit.
-#[derive(Clone, Copy, Drop)]
+#[derive(Clone, Copy, Debug, Drop)]
 pub struct ZeroPadded<P>(pub P, pub usize);
 
 impl<P: Part> Part for ZeroPadded<P> {

@@ -1,22 +1,45 @@
 -- What callers know if the bytes of the source and the contents of the sink are known.
-use Rattle.std.proofs.Common.{◌≡◌, ℕ, List, [], ◌++◌, Option, Some, None, IfSome, sym, ap, subst, ◌∙◌}
-use Rattle.std.specs.Io.KnownBytes.{Appends}
+use Rattle.std.proofs.Common.{◌≡◌, ℕ, Bool, List, [], ◌++◌, take, Option, Some, None, IfSome, sym, ap, subst, ◌∙◌}
+use Rattle.std.proofs.Transfers.{starts_with_of_append}
+use Rattle.std.specs.Option.{option_map}
+use Rattle.std.specs.Io.{StartsWith}
+use Rattle.std.specs.Io.KnownBytes.{Appends, Consumes}
 use Rattle.lexical_lines.specs.Answer.{AnswersAll}
-use Rattle.lexical_streams.specs.Blocks.{BlockReading, BlockWriting}
-use Rattle.lexical_streams.specs.StreamAnswers.{AllAnswered, bytes_read, bytes_put}
+use Rattle.lexical_lines.specs.BlockWriter.{BlockWriting}
+use Rattle.lexical_lines.specs.RunOutcome.{ReportsAllValid}
+use Rattle.lexical_streams.specs.StreamAnswers.{AllAnswered, bytes_put}
 
-known-text : (old new : Option (List ℕ)) (more items : List ℕ) → old ≡ Some [] → new ≡ Some items → Appends old new more → items ≡ more
-known-text None new more items none some appends = absurd (cc none)
-known-text (Some xs) None more items none some appends = absurd appends
-known-text (Some xs) (Some ys) more items none some appends = same_items items ys (sym some) ∙ appends ∙ ap (λ front. front ++ more) (same_items xs [] none)
+answers-limited : (limit : ℕ) (known : Option (List ℕ)) (read text : List ℕ) → IfSome (option_map (take limit) known) (λ bytes. read ≡ bytes)
+    → AnswersAll read text → IfSome known (λ bytes. AnswersAll (take limit bytes) text)
+answers-limited limit None read text all answers = all
+answers-limited limit (Some bytes) read text all answers = subst (λ xs. AnswersAll xs text) all answers
+
+-- the sink has taken what was in the block and the answers to all lines, up to the limit
+pub answers-known : (limit : ℕ) (known : Option (List ℕ)) {failures : ℕ} {is_ended : Bool} {read : List ℕ} (c d : BlockWriting)
+    → AllAnswered failures (option_map (take limit) known) is_ended read c d
+    → (text : List ℕ) × Appends c.contents d.contents (c.held ++ text) × IfSome known (λ bytes. AnswersAll (take limit bytes) text)
+answers-known limit known {read = read} c d h =
+    (bytes_put c d, h.handed.contents, answers-limited limit known read (bytes_put c d) h.all h.answers)
+
+-- a report about the bytes that were read is one about the known bytes, up to the limit
+pub reports-known : (limit : ℕ) (known : Option (List ℕ)) (read : List ℕ) (all_valid : Bool)
+    → IfSome (option_map (take limit) known) (λ bytes. read ≡ bytes) → ReportsAllValid read all_valid
+    → IfSome known (λ bytes. ReportsAllValid (take limit bytes) all_valid)
+reports-known limit None read all_valid all reports = all
+reports-known limit (Some bytes) read all_valid all reports = subst (λ xs. ReportsAllValid xs all_valid) all reports
+
+-- what was read is a prefix of the known bytes, up to the limit
+pub begins-known : (limit : ℕ) (known new : Option (List ℕ)) (read : List ℕ) → Consumes (option_map (take limit) known) new read
+    → IfSome known (λ bytes. StartsWith (take limit bytes) read)
+begins-known limit None new read h = tt
+begins-known limit (Some bytes) None read h = absurd h
+begins-known limit (Some bytes) (Some rest) read h = starts_with_of_append (take limit bytes) read rest h
+
+-- a sink that was empty contains what it has taken
+pub contents-known : (old new : Option (List ℕ)) (more items : List ℕ) → old ≡ Some [] → new ≡ Some items → Appends old new more → items ≡ more
+contents-known None new more items none some appends = absurd (cc none)
+contents-known (Some xs) None more items none some appends = absurd appends
+contents-known (Some xs) (Some ys) more items none some appends = same_items items ys (sym some) ∙ appends ∙ ap (λ front. front ++ more) (same_items xs [] none)
   where
     same_items : (a b : List ℕ) → Some a ≡ Some b → a ≡ b
     same_items a b e = cc
-
--- a sink that was empty now contains the answers to all lines
-pub answers-known : (a b : BlockReading) (c d : BlockWriting) (bytes items : List ℕ) → AllAnswered a b c d → a.unread ≡ Some bytes
-    → c.held ≡ [] → c.contents ≡ Some [] → d.contents ≡ Some items → AnswersAll bytes items
-answers-known a b c d bytes items h known empty none some =
-    let read = subst (λ o. IfSome o (λ xs. bytes_read a b ≡ xs)) known h.all in
-    let put = known-text c.contents d.contents (c.held ++ bytes_put c d) items none some h.handed.contents ∙ ap (λ front. front ++ bytes_put c d) empty in
-    subst (λ text. AnswersAll bytes text) (sym put) (subst (λ xs. AnswersAll xs (bytes_put c d)) read h.answers)

@@ -1,3 +1,1 @@
-pub mod Blocks
-pub mod Kept
 pub mod StreamAnswers

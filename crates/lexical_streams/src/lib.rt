@@ -1,27 +1,25 @@
-//! Answers the lines of a source, and writes the answers to a sink. Both are called once for a block of
-//! bytes. No call allocates memory: the blocks are on the stack.
+//! Answers the lines of a source, and writes the answers to a sink, both in blocks of bytes. No call
+//! allocates memory: the blocks are on the stack.
 //!
-//! The contracts say which bytes the source yielded, which bytes were written and flushed, and which
-//! device failed. A `Reading` and a `Writing` are devices over a reader and a writer of the standard
-//! library. They count their own calls and failures, since its traits do not say that a call failed.
+//! The devices are in `lexical_lines`: a `Reading` and a `Writing` over a reader and a writer
+//! of the standard library, and a `BlockWriter`, which collects bytes in a block. A device records its own
+//! failures, since the traits of the standard library do not say that a call failed.
 //!
-//! # Examples
-//!
-//! The answers to the lines of a slice, in a vector, and the exit status (`answered` in
-//! `crates/lines_tests/src/tests/blocks.rt`):
+//! The answers to the lines of a slice, in a vector, and the exit status:
 //!
 //! ```
-//! let mut reader = BlockReader::new(Reading::whole(bytes));
+//! use lexical_lines::{BlockWriter, Writing};
+//! use lexical_streams::answer_reader;
+//!
 //! let mut writer = BlockWriter::<_, 7>::new(Writing::new(Vec::new(alloc)));
-//! let status = answer_stream(&mut reader, &mut writer);
-//! (status, writer.into_inner().into_inner())
+//! let status = answer_reader(b"i8 10 -128\nu8 37 5\n".as_slice(), &mut writer);
+//! assert_eq!(rt; status, 1);
+//! assert_eq!(rt; writer.into_inner().into_inner(), b"-128\nbad line 2\n");
 //! ```
 #![tactic(auto)]
 
-mod block_reader;
-mod block_writer;
+// `answered` in `crates/uses_tests/src/tests/streams.rt` is like the example above.
+
 mod stream_answers;
 
-pub use block_reader::BlockReader;
-pub use block_writer::BlockWriter;
-pub use stream_answers::{answer_lines, answer_stream};
+pub use stream_answers::{answer_lines, answer_reader, answer_stream};

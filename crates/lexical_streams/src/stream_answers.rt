@@ -1,15 +1,17 @@
 //! Answers the lines of a source, and writes the answers to a sink.
 
-ghost use Rattle.std.specs.Prelude.{◌≡◌, ◌⊎◌, ◌≤◌, true, false, [], IfOk, OnOk, OnErr};
-ghost use Rattle.lexical_lines.specs.RunOutcome.{TellsAllGood};
-ghost use Rattle.lexical_streams.specs.Blocks.{Yields, KeepsBytes};
-ghost use Rattle.lexical_streams.specs.StreamAnswers.{bytes_read, NoFaultSoFar};
-ghost use Rattle.lexical_streams.specs.StreamAnswers.{AllAnswered, ReaderFailed, WriterFailed, OneFailed};
+ghost use Rattle.std.specs.Prelude.{◌≡◌, ◌⊎◌, ℕ, ◌-◌, ◌^◌, ◌≤◌, Bool, true, false, List, [], ◌++◌, take};
+ghost use Rattle.std.specs.Io.{StartsWith};
+ghost use Rattle.std.specs.Prelude.{IfSome, IfOk, OnOk, OnErr};
+ghost use Rattle.std.specs.Io.KnownBytes.{Appends};
+ghost use Rattle.lexical_lines.specs.Answer.{AnswersAll};
+ghost use Rattle.lexical_lines.specs.BlockWriter.{KeepsBytes};
+ghost use Rattle.lexical_lines.specs.RunOutcome.{ReportsAllValid};
+ghost use Rattle.lexical_streams.specs.StreamAnswers.{Yields, AllAnswered, ReadFailed, WriteFailed, OneFailed};
 
-use crate::block_reader::BlockReader;
-use crate::block_writer::BlockWriter;
-use lexical_lines::{Answerer, BlockSink, BlockSource, Reading, Writing};
+use lexical_lines::{Answerer, BlockSink, BlockSource, BlockWriter, Reading, Writing};
 use std::io;
+use std::io::Read;
 
 // The writer is flushed before each read, so a larger block leads to fewer, longer writes. It is on the stack, where
 // 128 KiB leave room even in a thread of 1 MiB.
@@ -17,14 +19,37 @@ const READ_BLOCK: usize = 128 * 1024;
 
 const WRITE_BLOCK: usize = 16 * 1024;
 
-/// Answers the lines of standard input on standard output with `answer_stream`, and returns the exit
-/// status. It reads blocks of 128 KiB and writes blocks of 16 KiB.
+/// Answers the lines of standard input on standard output with `answer_reader`, and returns the exit
+/// status. It writes blocks of 16 KiB.
 pub fn answer_lines(rt: HostRuntime) -> u8
     ensures { result ≤ 2 }
 {
-    let mut reader = BlockReader::new(Reading::whole(rt.reader()));
     let mut writer = BlockWriter::<_, WRITE_BLOCK>::new(Writing::new(io::writer(&rt)));
-    answer_stream(&mut reader, &mut writer)
+    answer_reader(rt.reader(), &mut writer)
+}
+
+/// Answers the lines of a reader with `answer_stream`, and returns the exit status. The writer must not have
+/// failed. Of a longer input only the first 2^63 - 1 bytes are read.
+pub fn answer_reader<R: Read + Drop, K: BlockSink, const SIZE: usize>(
+    reader: R,
+    writer: &mut BlockWriter<K, SIZE>,
+) -> u8
+    requires { writer.old.failures ≡ 0 }
+    ensures range { result ≤ 2 }
+    // If the status is 0 or 1, the sink has taken what was in the block, the answers to all lines, and nothing else.
+    ensures answered { result ≤ 1 → (text : List ℕ)
+        × Appends writer.old.contents writer.new.contents (writer.old.held ++ text)
+        × IfSome (R.remaining reader) (λ bytes. AnswersAll (take (2 ^ 63 - 1) bytes) text) }
+    ensures valid { result ≡ 0
+        → IfSome (R.remaining reader) (λ bytes. ReportsAllValid (take (2 ^ 63 - 1) bytes) true) }
+    ensures bad { result ≡ 1
+        → IfSome (R.remaining reader) (λ bytes. ReportsAllValid (take (2 ^ 63 - 1) bytes) false) }
+    // If the status is 2, a read, or a write or flush, failed after these bytes of the reader.
+    ensures failed { result ≡ 2 → (read : List ℕ)
+        × IfSome (R.remaining reader) (λ bytes. StartsWith (take (2 ^ 63 - 1) bytes) read)
+        × ((failures : ℕ) × (is_ended : Bool) × OneFailed failures is_ended read writer.old writer.new) }
+{
+    answer_stream(&mut Reading::whole(reader), writer)
 }
 
 /// Reads lines and writes their answers, as `lexical_lines::run` does, and then flushes the writer.
@@ -33,62 +58,68 @@ pub fn answer_lines(rt: HostRuntime) -> u8
 /// device may have failed before.
 ///
 /// When a read begins, every line that has ended is answered, and the answers are written and flushed.
-/// So an answer never waits for the next line. After a failure neither device is called.
+/// So an answer never waits for the next line. A failure ends the call.
 ///
 /// The block of 128 KiB that is read into is on the stack. With a `BlockWriter` of 16 KiB, a call uses
 /// about 160 KB of stack, or 180 KB if Rattle's own compiler builds it, and no other memory.
 pub fn answer_stream<S: BlockSource, K: BlockSink, const SIZE: usize>(
-    reader: &mut BlockReader<S>,
+    source: &mut S,
     writer: &mut BlockWriter<K, SIZE>,
 ) -> u8
-    requires fresh { reader.old.given ≡ [] }
-    requires no_fault { NoFaultSoFar reader.old writer.old }
+    requires fresh { S.yielded source.old ≡ [] }
+    requires no_failure { (S.failures source.old ≡ 0) × (writer.old.failures ≡ 0) }
     ensures range { result ≤ 2 }
-    // The bytes that `reader` yielded are those that it read from its source, in order. The bytes that
-    // `writer` took are written to its sink in order, or are still in its block.
-    ensures read { Yields reader.old reader.new (bytes_read reader.old reader.new) }
+    // The bytes that `source` yielded were read, in order. The bytes that `writer` took are written to its
+    // sink in order, or are still in its block.
+    ensures read { Yields S.yielded S.remaining S.unread S.is_ended source.old source.new (S.yielded source.new) }
     ensures written { KeepsBytes writer.old writer.new }
     // If the status is 0 or 1, no device failed, and the answers to all lines are written and flushed.
-    ensures answered { result ≤ 1 → AllAnswered reader.old reader.new writer.old writer.new }
-    ensures good { result ≡ 0 → TellsAllGood (bytes_read reader.old reader.new) true }
-    ensures bad { result ≡ 1 → TellsAllGood (bytes_read reader.old reader.new) false }
+    ensures answered { result ≤ 1 → AllAnswered (S.failures source.new) (S.unread source.old)
+        (S.is_ended source.new) (S.yielded source.new) writer.old writer.new }
+    ensures valid { result ≡ 0 → ReportsAllValid (S.yielded source.new) true }
+    ensures bad { result ≡ 1 → ReportsAllValid (S.yielded source.new) false }
     // If the status is 2, one read failed, and the answers to all lines that had ended are written and
     // flushed; or one write or flush failed, and the bytes that `writer` took are a prefix of the answers.
-    ensures failed { result ≡ 2 → ReaderFailed reader.old reader.new writer.old writer.new
-        ⊎ WriterFailed reader.old reader.new writer.old writer.new }
+    ensures failed { result ≡ 2
+        → ReadFailed (S.failures source.new) (S.yielded source.new) writer.old writer.new
+        ⊎ WriteFailed (S.failures source.new) (S.is_ended source.new) (S.yielded source.new) writer.old writer.new }
 {
-    match answer_blocks(reader, writer) {
+    match answer_blocks(source, writer) {
         Ok(true) => 0,
         Ok(false) => 1,
         Err(_) => 2,
     }
 }
 
-// Answers all lines of the reader, up to the first failure of a device, and flushes the writer before each
+// Answers all lines of the source, up to the first failure of a device, and flushes the writer before each
 // read and at the end. Returns whether all lines are valid.
 fn answer_blocks<S: BlockSource, K: BlockSink, const SIZE: usize>(
-    reader: &mut BlockReader<S>,
+    source: &mut S,
     writer: &mut BlockWriter<K, SIZE>,
 ) -> io::Result<bool>
-    requires fresh { reader.old.given ≡ [] }
-    requires no_fault { NoFaultSoFar reader.old writer.old }
-    ensures ok { OnOk result (AllAnswered reader.old reader.new writer.old writer.new) }
-    ensures good { IfOk result (λ all_good. TellsAllGood (bytes_read reader.old reader.new) all_good) }
-    ensures err { OnErr result (OneFailed reader.old reader.new writer.old writer.new) }
-    ensures read { Yields reader.old reader.new (bytes_read reader.old reader.new) }
+    requires fresh { S.yielded source.old ≡ [] }
+    requires no_failure { (S.failures source.old ≡ 0) × (writer.old.failures ≡ 0) }
+    ensures ok { OnOk result (AllAnswered (S.failures source.new) (S.unread source.old)
+        (S.is_ended source.new) (S.yielded source.new) writer.old writer.new) }
+    ensures valid { IfOk result (λ all_valid. ReportsAllValid (S.yielded source.new) all_valid) }
+    ensures err { OnErr result (OneFailed (S.failures source.new) (S.is_ended source.new) (S.yielded source.new)
+        writer.old writer.new) }
+    ensures read { Yields S.yielded S.remaining S.unread S.is_ended source.old source.new (S.yielded source.new) }
     ensures written { KeepsBytes writer.old writer.new }
 {
     let mut block = [0u8; READ_BLOCK];
     let mut answerer = Answerer::new();
+    writer.flush()?;
     loop {
-        writer.flush()?;
-        let count = reader.read(&mut block, writer)?;
+        // A read may wait for input. Here all lines that have ended are answered, and the writer is flushed.
+        let count = source.read_block(&mut block)?;
         if count == 0 {
             break;
         }
         answerer.push_all(&block[..count], writer)?;
+        writer.flush()?;
     }
-    let all_good = answerer.finish(writer)?;
+    let all_valid = answerer.finish(writer)?;
     writer.flush()?;
-    Ok(all_good)
+    Ok(all_valid)
 }

@@ -13,7 +13,8 @@
 #![tactic(auto)]
 
 ghost use Rattle.std.specs.Prelude.{◌≡◌, ℕ, ◌+◌, ◌*◌, ◌/◌, ◌%◌, ◌<◌, ◌≤◌, length, slice_index};
-ghost use Rattle.lexical_tables.specs.Pairs.{digit_char, pairs};
+ghost use Rattle.lexical_num.specs.Digit.{digit_char};
+ghost use Rattle.lexical_tables.specs.Pairs.{pairs};
 
 mod table_binary;
 mod table_decimal;
@@ -51,6 +52,8 @@ pub fn get_table(radix: u32) -> &'static [u8]
     ensures second { (i : ℕ) → i < radix * radix
         → slice_index result.now (2 * i + 1) ≡ digit_char (i % radix) }
 {
+    prove!(radix >= 2);
+    prove!(radix <= 36);
     if radix <= 18 {
         table_to_18(radix)
     } else {

@@ -3,6 +3,9 @@
 // How many digits a number has.
 pub mod count;
 
+// Two digits at a time, from a table.
+mod pairs;
+
 // Radix 10: `jeaiii` writes two digits at a time.
 pub mod decimal;
 

@@ -24,17 +24,10 @@
 //! let text = 127i8.to_lexical_with_options(&mut buffer, &signed, &Options::new());
 //! assert_eq!(rt; &*text, b"+127".as_slice());
 //! ```
-//!
-//! These lines are from `a_first_use` in `crates/uses_tests/src/tests.rt`. The crate `uses` has further
-//! examples, and the documentation of most calls names one of them.
-//!
-//! # Words
-//!
-//! The *text* of a number is its sign and then its digits, in the groups of the format if it has any.
-//! The *required length* of a number, which contracts call `need`, is the length of the shortest buffer
-//! that its writer takes. The *mark* is the separator between two groups. A *turn* is an iteration of a
-//! writer's loop, and its *note* is the number that the iteration records in a counter of type `Turns`.
 #![tactic(auto)]
+
+// The examples above are from `a_first_use` in `crates/uses_tests/src/tests.rt`. The crate `uses` has others, and the
+// documentation of most calls names one.
 
 // The texts of numbers: the calls that most callers want.
 mod texts;

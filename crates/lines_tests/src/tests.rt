@@ -3,7 +3,7 @@ mod blocks;
 mod checks;
 mod devices;
 mod failing;
-mod faults;
+mod failures;
 mod joined;
 mod laws;
 mod lines;

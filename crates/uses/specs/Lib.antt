@@ -2,6 +2,7 @@ pub mod CsvRow
 pub mod DateTime
 pub mod DumpLine
 pub mod Ipv6
+pub mod Link
 pub mod LogLine
 pub mod Reading
 pub mod TurnLists

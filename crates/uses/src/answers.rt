@@ -2,8 +2,8 @@
 
 ghost use Rattle.std.specs.Prelude.{◌≡◌, ◌⊎◌, List, ℕ, ◌+◌, ◌++◌, IfOk, IsTrue, OnErr, OnOk};
 ghost use Rattle.lexical_lines.specs.Answer.{AnswersAll};
-ghost use Rattle.lexical_lines.specs.RunOutcome.{added, TellsAllGood, BreaksOff};
-ghost use Rattle.lexical_lines.specs.Source.{faults_of};
+ghost use Rattle.lexical_lines.specs.RunOutcome.{added, ReportsAllValid, BreaksOff};
+ghost use Rattle.lexical_lines.specs.Source.{failures_of};
 
 use lexical_lines::{Answerer, ByteSink, ByteSource, Writing, run};
 use std::alloc::Global;
@@ -15,10 +15,10 @@ use std::io;
 pub fn answers_to<S: ByteSource>(alloc: Global, source: &mut S) -> io::Result<Vec<u8>>
     ensures ended { OnOk result (IsTrue (S.is_ended source.new)) }
     ensures answers { IfOk result (λ answers.
-        AnswersAll (added (S.given source.old) (S.given source.new)) answers.items) }
-    ensures err { OnErr result ((S.faults source.new ≡ S.faults source.old + 1)
+        AnswersAll (added (S.yielded source.old) (S.yielded source.new)) answers.items) }
+    ensures err { OnErr result ((S.failures source.new ≡ S.failures source.old + 1)
         ⊎ ((put : List ℕ) × BreaksOff (S.is_ended source.new)
-        (added (S.given source.old) (S.given source.new)) put)) }
+        (added (S.yielded source.old) (S.yielded source.new)) put)) }
 {
     let mut sink = Writing::new(Vec::new(alloc));
     run(source, &mut sink)?;
@@ -31,12 +31,12 @@ pub fn answers_to<S: ByteSource>(alloc: Global, source: &mut S) -> io::Result<Ve
 pub fn answer_pieces<K: ByteSink>(first: &[u8], second: &[u8], sink: &mut K) -> io::Result<bool>
     ensures answers { OnOk result (AnswersAll (first.now ++ second.now)
         (added (K.taken sink.old) (K.taken sink.new))) }
-    ensures good { IfOk result (λ all_good. TellsAllGood (first.now ++ second.now) all_good) }
-    ensures faults { K.faults sink.new ≡ K.faults sink.old + faults_of result }
+    ensures valid { IfOk result (λ all_valid. ReportsAllValid (first.now ++ second.now) all_valid) }
+    ensures failures { K.failures sink.new ≡ K.failures sink.old + failures_of result }
 {
     let mut answerer = Answerer::new();
     answerer.push_all(first, sink)?;
     answerer.push_all(second, sink)?;
-    let all_good = answerer.finish(sink)?;
-    Ok(all_good)
+    let all_valid = answerer.finish(sink)?;
+    Ok(all_valid)
 }

@@ -1,15 +1,16 @@
 //! Writes rows of numbers, as in CSV.
 
 ghost use Rattle.std.specs.Prelude.{◌≡◌, ◌↔◌, ◌+◌, ◌*◌, ◌≤◌, [], ◌∷◌};
-ghost use Rattle.std.specs.Prelude.{IfNone, IfSome, IsSome, codes, length, ⊤};
+ghost use Rattle.std.specs.Prelude.{IfNone, IfSome, IsSome, OnOk, codes, length, ⊤};
 ghost use Rattle.lexical_write_integer.specs.Buffer.{Writes};
-ghost use Rattle.lexical_write_integer.specs.Sequence.{AreJoined};
+ghost use Rattle.lexical_write_integer.specs.Sequence.{AreJoined, IsExactly};
 ghost use Rattle.lexical_parts.specs.Joined.{AreEach, joined_room};
 ghost use Rattle.lexical_parts.specs.Sequence.{◌then◌, IsDecimal, IsStr};
 ghost use Rattle.uses.specs.CsvRow.{IsEntry, IsRow, row_room};
 
 use lexical_num::constants::FormattedSize;
 use lexical_parts::{Joined, Part, rooms_at_most};
+use std::alloc::AllocError;
 
 /// A number of bytes that is enough for a row: eight numbers, and a comma or a newline after each.
 pub const ROW_SIZE: usize = 8 * (i64::FORMATTED_SIZE_DECIMAL + 1);
@@ -86,6 +87,17 @@ pub fn try_write_rows(rows: &[Row<'_>], buffer: &mut [u8]) -> Option<usize>
     ensures none { IfNone result (buffer.new ≡ buffer.old) }
 {
     (Joined(rows, "\n"), "\n").try_write_to(buffer)
+}
+
+/// Adds each number and a semicolon after it to the end of the entries, or returns an error if memory runs
+/// out.
+pub fn push_entries(entries: &mut Vec<u8>, numbers: &[i64]) -> Result<(), AllocError>
+    ensures { OnOk result ((IsExactly entries.old.items then AreEach IsEntry numbers.now) entries.new.items) }
+{
+    for number in numbers {
+        entries.extend_from_slice((*number, ";").to_text(&mut [0; 21]))?;
+    }
+    Ok(())
 }
 
 /// Writes each number and a semicolon after it to the start of the buffer, and returns the number of

@@ -4,7 +4,7 @@
 ghost use Rattle.std.specs.Prelude.{◌≡◌, ◌<◌, ◌≤◌, length, true, unsigned_abs, ⊤};
 ghost use Rattle.lexical_num.specs.Sign.{sign_of};
 
-use lexical_parts::{Padded, Part, Utf8Part};
+use lexical_parts::{Padded, Part, Sign, Utf8Part};
 
 /// A date with a time of day, whose text is as in `2026-11-23T07:05:09`.
 #[derive(Clone, Copy, Drop)]
@@ -69,14 +69,6 @@ impl Utf8Part for DateTime {
 /// The length of a timestamp.
 pub const TIMESTAMP_SIZE: usize = "2026-11-23T07:05:09.042+01:00".len();
 
-// Returns the sign of an offset, which is written even if it is `+`.
-fn sign(offset: i16) -> &'static str
-    ensures sign { result.now ≡ sign_of offset true }
-    ensures short { length result.now ≤ 1 }
-{
-    if offset < 0 { "-" } else { "+" }
-}
-
 impl DateTime {
     ghost use Rattle.uses.specs.DateTime.{IsTimestamp};
 
@@ -90,7 +82,7 @@ impl DateTime {
     {
         let minutes = offset.unsigned_abs();
         let zone = (
-            sign(offset),
+            Sign(offset, true),
             Padded(minutes / 60, 2),
             ":",
             Padded(minutes % 60, 2),

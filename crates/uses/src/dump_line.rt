@@ -1,21 +1,59 @@
 //! Writes a line of a memory dump: an address, and the bytes at that address.
 
+ghost use Rattle.std.specs.Prelude.{◌≡◌};
 ghost use Rattle.lexical_write_integer.specs.Buffer.{Writes};
-ghost use Rattle.uses.specs.DumpLine.{IsDumpLine};
+ghost use Rattle.uses.specs.DumpLine.{AreShown, IsDumpLine, IsHexdumpLine, shown};
 
-use lexical_parts::{Joined, PaddedDigits, Part};
+use lexical_parts::{Bytes, HexBytes, PaddedDigits, Part};
 
 /// Writes the address in eight hexadecimal digits, and each byte in two, to the array, and returns the
 /// length of the line.
 pub fn write_dump_line(address: u32, bytes: &[u8; 8], buffer: &mut [u8; 34]) -> usize
     ensures { Writes (IsDumpLine address bytes.now) buffer.old buffer.new result }
 {
-    let digits = bytes.map(|byte| PaddedDigits(16, byte, 2));
     (
         PaddedDigits(16, address, 8),
         ": ",
-        Joined(&digits, " "),
+        HexBytes(bytes, " "),
         "\n",
+    )
+        .write_to(buffer)
+}
+
+// Returns the byte if it is a printable ASCII character, and otherwise a `.`.
+fn shown(byte: u8) -> u8
+    ensures { result ≡ shown byte }
+{
+    if 31 < byte && byte < 127 { byte } else { b'.' }
+}
+
+/// Returns the bytes with a `.` for each that is not a printable ASCII character.
+pub fn characters(bytes: &[u8; 16]) -> [u8; 16]
+    ensures { AreShown bytes.now result }
+{
+    bytes.map(shown)
+}
+
+/// Writes the offset in eight hexadecimal digits, the bytes in two groups of eight, and their characters,
+/// as in `00000010  48 65 ..  |He..|`, to the array, and returns the length of the line.
+pub fn write_hexdump_line(
+    offset: u32,
+    bytes: &[u8; 16],
+    characters: &[u8; 16],
+    buffer: &mut [u8; 79],
+) -> usize
+    ensures { Writes (IsHexdumpLine offset bytes.now characters.now) buffer.old buffer.new result }
+{
+    let (first, last) = bytes.split_at(8);
+    (
+        PaddedDigits(16, offset, 8),
+        "  ",
+        HexBytes(first, " "),
+        "  ",
+        HexBytes(last, " "),
+        "  |",
+        Bytes(characters),
+        "|\n",
     )
         .write_to(buffer)
 }

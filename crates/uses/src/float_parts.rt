@@ -1,7 +1,8 @@
 //! Writes floats: in decimal from their digits, and in two radices, whose format it builds.
 
-ghost use Rattle.std.specs.Prelude.{◌≡◌, ◌↔◌, ◌≤◌, [], ◌∷◌, IsOk, IfOk, codes, if◌then◌else◌, length, pos};
+ghost use Rattle.std.specs.Prelude.{◌≡◌, ◌↔◌, ◌≤◌, [], ◌∷◌, IsOk, IfOk, false, length, pos};
 ghost use Rattle.lexical_num.specs.Format.{IsValid, standard};
+ghost use Rattle.lexical_num.specs.Sign.{sign_of};
 ghost use Rattle.lexical_write_integer.specs.Buffer.{Writes};
 ghost use Rattle.lexical_write_integer.specs.Sequence.{IsExactly, Then};
 ghost use Rattle.lexical_write_integer.specs.Text.{IsDigits};
@@ -11,7 +12,7 @@ ghost use Rattle.lexical_parts.specs.Sequence.{◌then◌};
 use lexical_num::error::Result;
 use lexical_num::format::NumberFormat;
 use lexical_num::format_builder::NumberFormatBuilder;
-use lexical_parts::{Scientific, Utf8Part};
+use lexical_parts::{Scientific, Sign, Utf8Part};
 use lexical_write_integer::buffer::copy_to_front;
 use lexical_write_integer::laws::digit_count_within_bits;
 use lexical_write_integer::write::WriteInteger;
@@ -57,19 +58,10 @@ pub fn write_parts(
     marked + exponent.write_exponent(format, &mut buffer[marked..])
 }
 
-// Returns the sign of a float: `-` if it is negative, and otherwise nothing.
-fn sign(negative: bool) -> &'static str
-    ensures sign { result.now ≡ (if negative then codes "-" else []) }
-    ensures short { length result.now ≤ 1 }
-{
-    if negative { "-" } else { "" }
-}
-
 /// Returns a float in scientific notation, such as `-1.234e-56`, which borrows the array. The float is
-/// `digits` times 10^`exponent`, and negative if `negative` is true.
-pub fn write_float(negative: bool, digits: u64, exponent: i32, buffer: &mut [u8; 34]) -> &str
-    ensures { (IsExactly (if negative then codes "-" else [])
-        then IsScientific (pos digits) exponent) result.now }
+/// `digits` times 10^`exponent`, and negative if `sign` is below 0.
+pub fn write_float(sign: i8, digits: u64, exponent: i32, buffer: &mut [u8; 34]) -> &str
+    ensures { (IsExactly (sign_of sign false) then IsScientific (pos digits) exponent) result.now }
 {
-    (sign(negative), Scientific(digits, exponent)).to_str(buffer)
+    (Sign(sign, false), Scientific(digits, exponent)).to_str(buffer)
 }

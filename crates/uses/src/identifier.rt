@@ -3,8 +3,9 @@
 ghost use Rattle.std.specs.Prelude.{◌≡◌, ◌^◌, ◌<◌, ◌↔◌, IsTrue, List, ℕ};
 ghost use Rattle.lexical_write_integer.specs.Padded.{IsPadded};
 ghost use Rattle.lexical_write_integer.specs.Text.{IsDigits};
+ghost use Rattle.uses.specs.Link.{IsLink};
 
-use lexical_parts::{PaddedDigits, Part};
+use lexical_parts::{Digits, PaddedDigits, Part, Utf8Part, same_rest};
 use lexical_write_integer::laws::{
     digit_count_at_most, digits_equal_iff, equal_digits, padded_order,
 };
@@ -25,6 +26,22 @@ pub fn same_counter(a: u64, b: u64)
     ensures { (identifier : List ℕ) → IsDigits 36 a identifier → IsDigits 36 b identifier → a ≡ b }
 {
     equal_digits(36, a, b);
+}
+
+/// Returns the link of the counter, such as `/l/RS` for 1000, which borrows the array.
+pub fn link(counter: u64, buffer: &mut [u8; 16]) -> &str
+    ensures { IsLink counter result.now }
+{
+    digit_count_at_most(36, counter, 13);
+    ("/l/", Digits(36, counter)).to_str(buffer)
+}
+
+/// A law: two counters with equal links are equal.
+pub fn same_link(a: u64, b: u64)
+    ensures { (link : List ℕ) → IsLink a link → IsLink b link → a ≡ b }
+{
+    same_rest("/l/", 3, Digits(36, a), Digits(36, b));
+    same_counter(a, b);
 }
 
 /// Returns whether two counters have the same identifier, which is the case if and only if they are

@@ -21,6 +21,7 @@ pub fn printed(number: i32, buffer: &mut [u8; 11]) -> &str
 }
 
 /// Returns the flags in radix 16, after `0x` and at the right of a column of eight characters with `*` before them.
+/// The numbers of `format_spec` are the fill, the alignment to the right, no zeros, the width and no precision.
 pub fn flags_in_column(alloc: Global, flags: u32) -> Result<String, AllocError>
     ensures { IfOk result (λ text. string_bytes text
         ≡ codes "0x" ++ padded (format_spec 42 3 0 8 (2 ^ 64 - 1)) (digits_text 16 flags)) }

@@ -13,15 +13,15 @@ pub fn uuid(high: u64, low: u64, buffer: &mut [u8; 36]) -> &str
 {
     let (high, low) = (high.to_be_bytes(), low.to_be_bytes());
     let digits = (
-        HexBytes(&high[..4]),
+        HexBytes(&high[..4], ""),
         "-",
-        HexBytes(&high[4..6]),
+        HexBytes(&high[4..6], ""),
         "-",
-        HexBytes(&high[6..]),
+        HexBytes(&high[6..], ""),
         "-",
-        HexBytes(&low[..2]),
+        HexBytes(&low[..2], ""),
         "-",
-        HexBytes(&low[2..]),
+        HexBytes(&low[2..], ""),
     );
     Lower(digits).to_str(buffer)
 }

@@ -7,6 +7,7 @@ mod lines;
 mod parts;
 mod scientific;
 mod shown;
+mod streams;
 
 use lexical_parts::{Part, Utf8Part};
 use lexical_write_integer::{
@@ -20,7 +21,8 @@ use uses::fixed_text::{million, year_month};
 use uses::float_parts::{float_format, write_parts};
 use uses::hexadecimal::hexadecimal;
 use uses::identifier::{
-    have_same_identifier, identifier, is_sorted_before, same_counter, sorted_identifier,
+    have_same_identifier, identifier, is_sorted_before, link, same_counter, same_link,
+    sorted_identifier,
 };
 use uses::printed::printed;
 use uses::sorted_keys::{comes_before, is_earlier_key};
@@ -70,6 +72,12 @@ fn identifiers(rt: HostRuntime) {
     let mut buffer = [7; 13];
     check_bytes(&rt, identifier(0, &mut buffer), b"0");
     same_counter(35, 36);
+    same_link(35, 36);
+    assert_eq!(rt; link(1000, &mut [7; 16]), "/l/RS");
+    assert_eq!(rt;
+        link(18446744073709551615, &mut [7; 16]),
+        "/l/3W5E11264SGSF"
+    );
     check_bytes(&rt, identifier(35, &mut buffer), b"Z");
     check_bytes(&rt, identifier(36, &mut buffer), b"10");
     let largest = identifier(18446744073709551615, &mut buffer);

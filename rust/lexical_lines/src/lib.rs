@@ -1,5 +1,4 @@
 #![doc = include_str!(concat!(env!("OUT_DIR"), "/lexical_lines/lib.md"))]
-#![doc = include_str!("../../conditions.md")]
 #![forbid(unsafe_code)]
 #![allow(unused_imports, unused_variables, reason = "contracts use them")]
 #![allow(clippy::new_without_default, reason = "a list that only contracts see is empty, and a state is at its start")]

@@ -1,4 +1,6 @@
 #![doc = include_str!(concat!(env!("OUT_DIR"), "/lexical_tables/lib.md"))]
-#![doc = include_str!("../../conditions.md")]
+#![no_std]
 #![forbid(unsafe_code)]
+
+extern crate core as std;
 include!(concat!(env!("OUT_DIR"), "/lexical_tables/lib.rs"));

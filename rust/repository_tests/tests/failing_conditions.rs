@@ -1,14 +1,18 @@
 //! Calls whose condition does not hold. Each panics or returns within a second, and changes no byte outside the
-//! buffer that it was passed.
+//! buffer that it was passed. In a debug build those that would return a wrong result panic, and name the condition.
 
 use lexical_lines::join;
-use lexical_parts::{Decimal, Digits, Joined, Padded, PaddedDigits, Part};
+use lexical_num::UnsignedInteger;
+use lexical_parts::{Decimal, Digits, Joined, Padded, PaddedDigits, Part, Utf8Part};
+use lexical_write_integer::algorithm::algorithm;
 use lexical_write_integer::compact::Compact;
+use lexical_write_integer::decimal::Decimal as _;
 use lexical_write_integer::digit_count::DigitCount;
 use lexical_write_integer::padded::write_padded;
 use lexical_write_integer::radix::Radix;
 use lexical_write_integer::write::WriteInteger;
-use lexical_write_integer::{NumberFormat, NumberFormatBuilder, Options, ToLexical, ToLexicalWithOptions, table};
+use lexical_write_integer::{NumberFormat, NumberFormatBuilder, Options, ToLexical, ToLexicalWithOptions};
+use lexical_write_integer::{jeaiii, table};
 use std::panic::{AssertUnwindSafe, catch_unwind};
 use std::sync::mpsc;
 use std::thread;
@@ -33,8 +37,9 @@ fn with_buffer(length: usize, call: impl FnOnce(&mut [u8]) -> usize) {
     assert!(buffer[..50].iter().chain(&buffer[50 + length..]).all(|byte| *byte == 7));
 }
 
-fn invalid(radix: u8) -> NumberFormat {
-    NumberFormatBuilder::new().radix(radix).exponent_radix(radix).build_strict()
+/// Returns a format with parts that may be invalid, or `None` if a debug build refuses them.
+fn unchecked(builder: NumberFormatBuilder) -> Option<NumberFormat> {
+    catch_unwind(|| builder.build_strict()).ok()
 }
 
 #[test]
@@ -79,14 +84,20 @@ fn invalid_radices_of_numbers() {
 fn invalid_formats() {
     check("a format", 10, || {
         for radix in RADICES {
-            let format = invalid(radix);
-            drop(catch_unwind(|| u64::MAX.required_len(&format)));
             drop(catch_unwind(|| NumberFormatBuilder::from_radix(radix).mantissa_radix()));
+            let Some(format) = unchecked(NumberFormatBuilder::new().radix(radix).exponent_radix(radix)) else {
+                continue;
+            };
+            assert!(!format.is_valid());
+            drop(catch_unwind(|| u64::MAX.required_len(&format)));
             with_buffer(128, |buffer| i64::MIN.to_lexical_with_options(buffer, &format, &Options::new()).len());
             with_buffer(128, |buffer| u64::MAX.write_exponent(&format, buffer));
         }
         for (size, mark) in [(0, b','), (65, b','), (255, b'0'), (3, 0)] {
-            let format = NumberFormatBuilder::new().digit_grouping(size, mark).build_strict();
+            let Some(format) = unchecked(NumberFormatBuilder::new().digit_grouping(size, mark)) else {
+                continue;
+            };
+            assert!(!format.is_valid());
             drop(catch_unwind(|| u64::MAX.required_len(&format)));
             with_buffer(128, |buffer| u64::MAX.to_lexical_with_options(buffer, &format, &Options::new()).len());
         }
@@ -102,4 +113,56 @@ fn numbers_above_their_width() {
         }
         with_buffer(19, |buffer| u64::MAX.write_integer_signed(10, buffer));
     });
+}
+
+/// Returns with what a call panics, and `None` if it returns.
+fn message_of<T>(call: impl FnOnce() -> T) -> Option<String> {
+    let panic = catch_unwind(AssertUnwindSafe(|| drop(call()))).err()?;
+    panic
+        .downcast::<String>()
+        .map_or_else(|panic| panic.downcast().ok().map(|text: Box<&str>| text.to_string()), |text| Some(*text))
+}
+
+/// Checks that each call panics in a debug build, with a message that contains the condition. In a release build it
+/// panics or returns.
+macro_rules! check_messages {
+    ($($condition:literal: $($call:expr),+;)+) => {
+        $($(
+            let message = message_of(|| $call).unwrap_or_default();
+            assert!(!cfg!(debug_assertions) || message.contains($condition), "{}: {message:?}", stringify!($call));
+        )+)+
+    };
+}
+
+#[test]
+fn messages_of_debug_builds() {
+    let buffer = &mut [7; 128];
+    let builder = NumberFormatBuilder::new();
+    let table = table::get_table;
+    check_messages! {
+        "is_radix(radix": NumberFormatBuilder::from_radix(37), NumberFormatBuilder::from_radix(1);
+        "are_valid()": builder.radix(37).build_strict(), builder.exponent_radix(1).build_strict(),
+            builder.digit_grouping(0, b',').build_strict(), builder.digit_grouping(3, b'0').build_strict();
+        "is_radix(radix": 255u8.digit_count(u32::MAX), 255u8.slow_digit_count(1), u64::MAX.digit_count(0);
+        "radix <= 36": table(37);
+        "radix >= 2": table(1);
+        "fits_width(": Padded(2026u16, 2).to_text(buffer), Padded(15u8, 1).try_to_str(buffer),
+            Padded(1234567u32, 3).to_str(buffer), PaddedDigits(16, 256u32, 2).to_text(buffer),
+            write_padded(10u8, 10, &mut buffer[..1]), write_padded(1u8, 16, &mut []);
+        "begins_with_pairs(": algorithm(7u32, 16, &table(16)[..511], buffer), algorithm(7u32, 12, table(13), buffer),
+            algorithm(7u32, 13, table(12), buffer), algorithm(7u32, 2, table(36), buffer);
+        "number < 10_000_000_000_000_000_000": u64::MAX.decimal_signed(buffer), usize::MAX.decimal_signed(buffer);
+        "n < 10_000_000_000_000_000_000": jeaiii::from_i64(u64::MAX, buffer);
+        "n < 10_000": jeaiii::fixed_2(10_000);
+        "n < 1_000_000": jeaiii::fixed_4(1_000_000);
+        "n >= 1_000_000": jeaiii::fixed_6(999_999);
+        "n < 100_000_000": jeaiii::fixed_6(100_000_000);
+        "n >= 100_000_000": jeaiii::fixed_8_nine(99_999_999);
+        "n < 1_000_000_000": jeaiii::fixed_8_nine(1_000_000_000);
+        "n >= 1_000_000_000": jeaiii::fixed_8_ten(999_999_999), jeaiii::fixed_8_wide(999_999_999);
+        "n < 10_000_000_000": jeaiii::fixed_8_wide(10_000_000_000);
+        "value < 256": <u8 as UnsignedInteger>::from_u32(256);
+        "value < 65_536": <u16 as UnsignedInteger>::from_u32(65_536);
+        "number < 4_294_967_296": 0x1_0000_0000u64.as_u32();
+    }
 }

@@ -7,10 +7,11 @@
 
 #![forbid(unsafe_code)]
 
+mod attributes;
 mod contracts;
-mod inline;
 mod tokens;
 
+use attributes::Unused;
 use std::path::{Path, PathBuf};
 use std::{env, fs, io};
 
@@ -21,45 +22,73 @@ struct Unknown {
     message: &'static str,
 }
 
-/// Writes the sources of `crates/NAME`, for a package in a folder of `rust/`, to Cargo's output folder as
-/// `NAME/*.rs`, and the comment of the crate as `NAME/lib.md`. In the files `always`, which are paths in `src`, each
-/// function is `#[inline(always)]`. An error ends the build.
-pub fn build(name: &str, always: &[&str]) {
-    build_changed(&format!("../../crates/{name}"), always, |text| text);
+/// What a package has that its crate does not say. rustc checks what is added.
+#[derive(Default)]
+pub struct Additions {
+    /// The functions, and the files as paths in `src`, that are `#[inline(always)]` in place of `#[inline]`.
+    pub always_inlined: &'static [&'static str],
+    /// The names of public functions that are `const fn`.
+    pub constant: &'static [&'static str],
+    /// The names of items that the documentation does not show. It does not show laws either.
+    pub hidden: &'static [&'static str],
+    /// What changes the text of each file in the end.
+    pub change: Option<fn(String) -> String>,
 }
 
-/// Does what `build` does for the crate in this folder, a path in that of the package, and changes each file.
-pub fn build_changed(folder: &str, always: &[&str], change: fn(String) -> String) {
-    if let Err(message) = try_build(folder, always, change) {
+/// Writes the sources of `crates/NAME` to Cargo's output folder as `NAME/*.rs`, and the comment of the crate, with what
+/// rustc does not check, as `NAME/lib.md`. An error ends the build.
+///
+/// The link `bazel-sources` of a package leads to the sources, so what cargo makes of the package contains them. In a
+/// checkout without links it is a file, and a package of tests has none: then `crates` is in a folder above. `rt` refuses
+/// a link with a name that does not begin with `bazel-`.
+pub fn build(name: &str, additions: &Additions) {
+    if let Err(message) = try_build(name, additions) {
         println!("cargo::error={message}");
     }
 }
 
-fn try_build(folder: &str, always: &[&str], change: fn(String) -> String) -> Result<(), String> {
-    let path_in = |variable| env::var_os(variable).map(PathBuf::from).ok_or(format!("{variable} is not set"));
-    let source = path_in("CARGO_MANIFEST_DIR")?.join(folder).join("src");
-    let target = path_in("OUT_DIR")?.join(Path::new(folder).file_name().unwrap_or_default());
-    println!("cargo::rerun-if-changed={}", source.display());
-    let always: Vec<PathBuf> = always.iter().map(|file| source.join(file)).collect();
-    if let Some(missing) = always.iter().chain([&source.join("lib.rt")]).find(|file| !file.is_file()) {
-        return Err(format!("{}: there is no such file", missing.display()));
+fn try_build(name: &str, additions: &Additions) -> Result<(), String> {
+    // The sources are proved for a `usize` of 64 bits, and convert a `u64` to it.
+    if env::var("CARGO_CFG_TARGET_POINTER_WIDTH").as_deref() != Ok("64") {
+        return Err(format!("{name} needs a target with pointers of 64 bits: with others its texts would be wrong"));
     }
+    let path_in = |variable| env::var_os(variable).map(PathBuf::from).ok_or(format!("{variable} is not set"));
+    let source = source_of(name, &path_in("CARGO_MANIFEST_DIR")?)?;
+    let target = path_in("OUT_DIR")?.join(name);
+    println!("cargo::rerun-if-changed={}", source.display());
     if target.exists() {
         fs::remove_dir_all(&target).map_err(|error| message(&target, error))?;
     }
-    copy(&source, &target, &|file, text| {
-        let attribute = if always.contains(&file.into()) { "#[inline(always)] " } else { "#[inline] " };
-        Ok(change(inline::with_attribute(&contracts::without_contracts(text)?, attribute)?))
+    let mut unused = Unused::of(additions);
+    copy(&source, &target, &mut |file, text| {
+        let file = file.strip_prefix(&source).unwrap_or(file);
+        let text = attributes::with_additions(&contracts::without_contracts(text)?, file, additions, &mut unused)?;
+        Ok(match additions.change {
+            Some(change) => change(text),
+            None => text,
+        })
     })?;
+    unused.check()?;
     // rustc takes no comment of the crate from a file that is included.
     let root = target.join("lib.rs");
     let (comment, code) = without_comment(&read(&root)?);
-    write(&target.join("lib.md"), &comment)?;
+    write(&target.join("lib.md"), &format!("{comment}\n\n{}", include_str!("../conditions.md")))?;
     write(&root, &code)
 }
 
+/// Returns the folder of the sources of a crate, for the package in this folder.
+fn source_of(name: &str, package: &Path) -> Result<PathBuf, String> {
+    let in_crates = package.ancestors().map(|folder| folder.join("crates").join(name).join("src"));
+    let mut folders = [package.join("bazel-sources")].into_iter().chain(in_crates);
+    folders.find(|folder| folder.join("lib.rt").is_file()).ok_or(format!("the sources of {name} are in no folder"))
+}
+
 /// Copies the `.rt` files of a folder and of the folders in it as `.rs` files, and changes their texts.
-fn copy(source: &Path, target: &Path, change: &dyn Fn(&Path, &str) -> Result<String, Unknown>) -> Result<(), String> {
+fn copy(
+    source: &Path,
+    target: &Path,
+    change: &mut dyn FnMut(&Path, &str) -> Result<String, Unknown>,
+) -> Result<(), String> {
     fs::create_dir_all(target).map_err(|error| message(target, error))?;
     for entry in fs::read_dir(source).map_err(|error| message(source, error))? {
         let entry = entry.map_err(|error| message(source, error))?;

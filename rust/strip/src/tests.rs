@@ -1,8 +1,9 @@
 //! Each form of the sources, and forms that must not be mistaken for one.
 
+use crate::attributes::{Unused, with_additions};
 use crate::contracts::without_contracts;
-use crate::inline::with_attribute;
-use crate::{Unknown, without_comment};
+use crate::{Additions, Unknown, without_comment};
+use std::path::Path;
 
 fn check(text: &str, expected: &str) {
     assert_eq!(without_contracts(text).as_deref(), Ok(expected), "in {text:?}");
@@ -16,8 +17,16 @@ fn check_unknown(text: &str, line: usize, message: &'static str) {
     assert_eq!(without_contracts(text), Err(Unknown { line, message }), "in {text:?}");
 }
 
+/// Checks the text of a file `a/b.rt`, and which additions are then unused.
+fn check_added(text: &str, additions: Additions, expected: &str, unused: &str) {
+    let mut left = Unused::of(&additions);
+    let added = with_additions(text, Path::new("a/b.rt"), &additions, &mut left);
+    assert_eq!(added.as_deref(), Ok(expected), "in {text:?}");
+    assert_eq!(left.check().err().unwrap_or_default(), unused, "in {text:?}");
+}
+
 fn check_inline(text: &str, expected: &str) {
-    assert_eq!(with_attribute(text, "#[inline] ").as_deref(), Ok(expected), "in {text:?}");
+    check_added(text, Additions::default(), expected, "");
 }
 
 #[test]
@@ -106,7 +115,28 @@ fn inlining() {
     );
     check_inline("pub(crate) fn f() {} fn g();", "#[inline] pub(crate) fn f() {} fn g();");
     check_inline("struct S { pub a: fn(u8), pub(super) b: u8 }", "struct S { pub a: fn(u8), pub(super) b: u8 }");
+    check_inline("pub extern \"C\" fn f() {}", "pub extern \"C\" fn f() {}");
     check_inline("// fn f() {}\nlet s = \"fn f() {}\";", "// fn f() {}\nlet s = \"fn f() {}\";");
+}
+
+#[test]
+fn additions() {
+    let inlined = || Additions { always_inlined: &["a/b.rt"], ..Additions::default() };
+    check_added("fn f() {} fn g();", inlined(), "#[inline(always)] fn f() {} fn g();", "");
+    let other = Additions { always_inlined: &["b.rt", "a/c.rt"], ..Additions::default() };
+    check_added("fn f() {}", other, "#[inline] fn f() {}", "the crate does not have a/c.rt, b.rt");
+    let function = Additions { always_inlined: &["f"], ..Additions::default() };
+    check_added("fn f() {} fn g() {}", function, "#[inline(always)] fn f() {} #[inline] fn g() {}", "");
+    let constant = || Additions { constant: &["f"], ..Additions::default() };
+    check_added("pub fn f() {} pub fn g() {}", constant(), "#[inline] pub const fn f() {} #[inline] pub fn g() {}", "");
+    check_added("fn f(); fn f() {}", constant(), "fn f(); #[inline] fn f() {}", "the crate does not have f");
+    let hidden = || Additions { hidden: &["m", "S", "f"], ..Additions::default() };
+    let text = "pub mod m; /** b */ pub struct S {} fn g() {} fn f();";
+    let expected =
+        "#[doc(hidden)] pub mod m; /** b */ #[doc(hidden)] pub struct S {} #[inline] fn g() {} #[doc(hidden)] fn f();";
+    check_added(text, hidden(), expected, "");
+    let law = "/// A law: a.\n/**/\npub fn f() {}\n/// Not a law.\nfn g();";
+    check_inline(law, "/// A law: a.\n/**/\n#[doc(hidden)] #[inline] pub fn f() {}\n/// Not a law.\nfn g();");
 }
 
 #[test]

@@ -1,19 +1,18 @@
 //! Answers lines whose bytes arrive in chunks.
 
 ghost use Rattle.std.specs.Prelude.{◌≡◌, ◌≤◌, length, IfSome, ℕ, ◌+◌, List, [], ◌∷◌, ◌++◌, false, true, IfOk};
-ghost use Rattle.std.specs.Prelude.{OnOk, OnErr};
+ghost use Rattle.std.specs.Prelude.{OnOk, OnErr, IfNone};
 ghost use Rattle.std.specs.Io.{StartsWith};
 ghost use Rattle.lexical_num.specs.declared.constants.TheConstants.{BUFFER_SIZE};
 ghost use Rattle.lexical_lines.specs.Answer.{AnswersAll};
 ghost use Rattle.lexical_lines.specs.Answerer.{HasAnswered, PutsMore, PutsAnswer};
 ghost use Rattle.lexical_lines.specs.Line.{short_line, bytes_of};
 ghost use Rattle.lexical_lines.specs.Lines.{NoNewline};
-ghost use Rattle.lexical_lines.specs.RunOutcome.{added, TellsAllGood, BreaksOff};
+ghost use Rattle.lexical_lines.specs.RunOutcome.{added, ReportsAllValid, BreaksOff};
 
 use crate::answer::{MAX_ANSWER, write_answer};
 use crate::devices::sink::{ByteSink, put_all};
 use crate::request::line::Line;
-use crate::request::split::split_at;
 use std::io;
 
 // The byte that ends a line.
@@ -30,7 +29,7 @@ const NEWLINE: u8 = b'\n';
 pub struct Answerer {
     line: Line,
     line_number: u64,
-    all_good: bool,
+    all_valid: bool,
     // The buffer for an answer. It is a field so that it is zeroed once and not for each line.
     answer: [u8; MAX_ANSWER],
 }
@@ -43,7 +42,7 @@ impl Answerer {
         Answerer {
             line: Line::new(),
             line_number: 1,
-            all_good: true,
+            all_valid: true,
             answer: [0; MAX_ANSWER],
         }
     }
@@ -56,7 +55,7 @@ impl Answerer {
         ensures err { OnErr result ((before read : List ℕ)
             → HasAnswered before read (K.taken sink.old) self.old
             → BreaksOff false (read ++ byte ∷ []) (added before (K.taken sink.new))) }
-        ensures puts { PutsMore K.taken K.faults K.keeps sink.old sink.new result }
+        ensures puts { PutsMore K.taken K.failures K.keeps sink.old sink.new result }
     {
         if byte == NEWLINE {
             self.end_line(&[], sink)
@@ -76,10 +75,10 @@ impl Answerer {
             → HasAnswered before read (K.taken sink.old) self.old
             → (front : List ℕ) × StartsWith bytes.now front
             × BreaksOff false (read ++ front) (added before (K.taken sink.new))) }
-        ensures puts { PutsMore K.taken K.faults K.keeps sink.old sink.new result }
+        ensures puts { PutsMore K.taken K.failures K.keeps sink.old sink.new result }
     {
         let mut rest = bytes;
-        while let Some((end, more)) = split_at(NEWLINE, rest) {
+        while let Some((end, more)) = split_line(rest) {
             self.end_line(end, sink)?;
             rest = more;
         }
@@ -96,13 +95,13 @@ impl Answerer {
         ensures err { OnErr result ((before read : List ℕ)
             → HasAnswered before read (K.taken sink.old) self.old
             → BreaksOff false (read ++ (end.now ++ 10 ∷ [])) (added before (K.taken sink.new))) }
-        ensures puts { PutsMore K.taken K.faults K.keeps sink.old sink.new result }
+        ensures puts { PutsMore K.taken K.failures K.keeps sink.old sink.new result }
     {
         let line = self.line.ended(end);
-        let is_good = put_answer(line, self.line_number, &mut self.answer, sink)?;
+        let is_valid = put_answer(line, self.line_number, &mut self.answer, sink)?;
         self.line.clear();
         self.line_number = self.line_number.saturating_add(1);
-        self.all_good &= is_good;
+        self.all_valid &= is_valid;
         Ok(())
     }
 
@@ -112,19 +111,19 @@ impl Answerer {
         ensures ok { OnOk result ((before read : List ℕ)
             → HasAnswered before read (K.taken sink.old) self
             → AnswersAll read (added before (K.taken sink.new))) }
-        ensures good { IfOk result (λ all_good. (before read : List ℕ)
-            → HasAnswered before read (K.taken sink.old) self → TellsAllGood read all_good) }
+        ensures valid { IfOk result (λ all_valid. (before read : List ℕ)
+            → HasAnswered before read (K.taken sink.old) self → ReportsAllValid read all_valid) }
         ensures err { OnErr result ((before read : List ℕ)
             → HasAnswered before read (K.taken sink.old) self
             → BreaksOff true read (added before (K.taken sink.new))) }
-        ensures puts { PutsMore K.taken K.faults K.keeps sink.old sink.new result }
+        ensures puts { PutsMore K.taken K.failures K.keeps sink.old sink.new result }
     {
         if self.line.is_empty() {
-            return Ok(self.all_good);
+            return Ok(self.all_valid);
         }
         let line = self.line.as_slice();
-        let is_good = put_answer(line, self.line_number, &mut self.answer, sink)?;
-        Ok(self.all_good & is_good)
+        let is_valid = put_answer(line, self.line_number, &mut self.answer, sink)?;
+        Ok(self.all_valid & is_valid)
     }
 }
 
@@ -140,10 +139,20 @@ fn put_answer<K: ByteSink>(
     requires room { BUFFER_SIZE + 11 ≤ length buffer.old }
     ensures answer { (bytes : List ℕ) → bytes_of line.entry ≡ short_line bytes
         → PutsAnswer line_number bytes (K.taken sink.old) (K.taken sink.new) result }
-    ensures puts { PutsMore K.taken K.faults K.keeps sink.old sink.new result }
+    ensures puts { PutsMore K.taken K.failures K.keeps sink.old sink.new result }
 {
-    let (count, is_good) = write_answer(line, line_number, buffer);
+    let (count, is_valid) = write_answer(line, line_number, buffer);
     let (_, put) = put_all(sink, &buffer[..count]);
     put?;
-    Ok(is_good)
+    Ok(is_valid)
+}
+
+// Returns the bytes before the first newline and the bytes after it, or `None` if there is no newline.
+fn split_line(bytes: &[u8]) -> Option<(&[u8], &[u8])>
+    ensures found { IfSome result (λ parts. bytes.now ≡ parts.0.now ++ 10 ∷ parts.1.now) }
+    ensures first { IfSome result (λ parts. NoNewline parts.0.now) }
+    ensures none { IfNone result (NoNewline bytes.now) }
+{
+    let end = bytes.iter().position(|byte| *byte == NEWLINE)?;
+    Some((&bytes[..end], &bytes[end + 1..]))
 }

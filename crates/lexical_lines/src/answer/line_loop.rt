@@ -20,33 +20,33 @@ use std::io;
 /// text of a number that is not negative begins with that sign. The answer to any other line is
 /// `bad line ` and the number of the line; the first line is line 1. Each answer ends with a newline.
 ///
-/// The first error of a device ends the run, and is returned. If the sink takes no bytes, the error is
-/// of kind `WriteZero`.
+/// The first failure of a device ends the run, and its error is returned; the contract does not say which
+/// error that is.
 #[tactic(auto, using(crate::proofs::Added::grown))]
 pub fn run<S: ByteSource, K: ByteSink>(source: &mut S, sink: &mut K) -> io::Result<bool>
     // The run only appends to what the source has yielded and to what the sink has taken.
-    ensures given { S.given source.new
-        ≡ S.given source.old ++ added (S.given source.old) (S.given source.new) }
+    ensures yielded { S.yielded source.new
+        ≡ S.yielded source.old ++ added (S.yielded source.old) (S.yielded source.new) }
     ensures taken { K.taken sink.new
         ≡ K.taken sink.old ++ added (K.taken sink.old) (K.taken sink.new) }
     ensures kept_source { S.keeps source.old source.new }
     ensures kept_sink { K.keeps sink.old sink.new }
 
     // If the run succeeds, no device failed, the source reported its end, and all lines are answered.
-    ensures ok { IfOk result (λ all_good.
-        let bytes = added (S.given source.old) (S.given source.new) in
+    ensures ok { IfOk result (λ all_valid.
+        let bytes = added (S.yielded source.old) (S.yielded source.new) in
         let put = added (K.taken sink.old) (K.taken sink.new) in
-        let before : ℕ × ℕ = (S.faults source.old, K.faults sink.old) in
-        let after : ℕ × ℕ = (S.faults source.new, K.faults sink.new) in
-        RunAnswered before after (S.is_ended source.new) bytes put all_good) }
+        let before : ℕ × ℕ = (S.failures source.old, K.failures sink.old) in
+        let after : ℕ × ℕ = (S.failures source.new, K.failures sink.new) in
+        RunAnswered before after (S.is_ended source.new) bytes put all_valid) }
 
     // If the run fails, either the source failed, and all lines that ended are answered, or the sink
     // failed during the answer to the last line.
     ensures err { OnErr result
-        (let bytes = added (S.given source.old) (S.given source.new) in
+        (let bytes = added (S.yielded source.old) (S.yielded source.new) in
         let put = added (K.taken sink.old) (K.taken sink.new) in
-        let before : ℕ × ℕ = (S.faults source.old, K.faults sink.old) in
-        let after : ℕ × ℕ = (S.faults source.new, K.faults sink.new) in
+        let before : ℕ × ℕ = (S.failures source.old, K.failures sink.old) in
+        let after : ℕ × ℕ = (S.failures source.new, K.failures sink.new) in
         SourceFailed before after bytes put ⊎ SinkFailed before after (S.is_ended source.new) bytes put) }
 {
     let mut answerer = Answerer::new();

@@ -3,8 +3,8 @@
 ghost use Rattle.std.specs.Prelude.{◌≡◌, ℕ, ◌+◌, ◌<◌, ◌≤◌, List, [], ◌++◌, length, take, Option, IfOk, OnOk, OnErr};
 ghost use Rattle.std.specs.Io.KnownBytes.{Keeps};
 ghost use Rattle.lexical_lines.specs.Puts.{PutsOnly};
-ghost use Rattle.lexical_lines.specs.Sink.{taken_by, put_faults};
-ghost use Rattle.lexical_lines.specs.Source.{faults_of};
+ghost use Rattle.lexical_lines.specs.Sink.{taken_by, put_failures};
+ghost use Rattle.lexical_lines.specs.Source.{failures_of};
 
 use crate::devices::trace::Trace;
 use std::io;
@@ -15,7 +15,7 @@ pub trait ByteSink {
     ghost taken: { Self → List ℕ };
 
     // The number of failures so far.
-    ghost faults: { Self → ℕ };
+    ghost failures: { Self → ℕ };
 
     // What calls leave unchanged, as a relation between the states before and after any calls.
     ghost keeps: { Self → Self → Type 0 };
@@ -25,7 +25,7 @@ pub trait ByteSink {
     fn put(&mut self, bytes: &[u8]) -> io::Result<usize>
         ensures within { IfOk result (λ count. count ≤ length bytes.now) }
         ensures taken { taken self.new ≡ taken self.old ++ take (taken_by result) bytes.now }
-        ensures faults { faults self.new ≡ faults self.old + put_faults result bytes.now }
+        ensures failures { failures self.new ≡ failures self.old + put_failures result bytes.now }
         ensures kept { keeps self.old self.new };
 
     ghost keeps_reflexive: { (a : Self) → keeps a a };
@@ -33,7 +33,9 @@ pub trait ByteSink {
     ghost keeps_transitive: { (a b c : Self) → keeps a b → keeps b c → keeps a c };
 }
 
-/// A sink that can be flushed. Its contract counts its flushes.
+/// A sink that can be flushed.
+///
+/// Its contract counts its flushes.
 pub trait BlockSink: ByteSink {
     // The bytes that the sink contains, if they are known.
     ghost contents: { Self → Option (List ℕ) };
@@ -49,8 +51,8 @@ pub trait BlockSink: ByteSink {
     fn flush(&mut self) -> io::Result<()>
         ensures ok { OnOk result (unflushed self.new ≡ []) }
         ensures taken { Self.taken self.new ≡ Self.taken self.old }
-        ensures flushes { flushes self.new + faults_of result ≡ flushes self.old + 1 }
-        ensures faults { Self.faults self.new ≡ Self.faults self.old + faults_of result }
+        ensures flushes { flushes self.new + failures_of result ≡ flushes self.old + 1 }
+        ensures failures { Self.failures self.new ≡ Self.failures self.old + failures_of result }
         ensures bytes { Keeps (contents self.old) (contents self.new) };
 
     // What calls of `put` do.
@@ -58,12 +60,12 @@ pub trait BlockSink: ByteSink {
 }
 
 /// Writes all bytes to the sink, and stops at its first failure. Returns how many bytes the sink has
-/// taken, and the error of the sink, or an error of kind `WriteZero` if the sink takes no bytes.
+/// taken, and an error if it failed; the contract does not say which.
 pub fn put_all<K: ByteSink>(sink: &mut K, bytes: &[u8]) -> (usize, io::Result<()>)
     ensures ok { OnOk result.1 (result.0 ≡ length bytes.now) }
     ensures err { OnErr result.1 (result.0 < length bytes.now) }
     ensures taken { K.taken sink.new ≡ K.taken sink.old ++ take result.0 bytes.now }
-    ensures faults { K.faults sink.new ≡ K.faults sink.old + faults_of result.1 }
+    ensures failures { K.failures sink.new ≡ K.failures sink.old + failures_of result.1 }
     ensures kept { K.keeps sink.old sink.new }
 {
     let mut taken = 0;
@@ -83,7 +85,7 @@ pub fn note_put(trace: &mut Trace, bytes: &[u8], outcome: &io::Result<usize>)
     ensures { trace.new ≡ record trace.old {
       bytes = trace.old.bytes ++ take (taken_by outcome.now) bytes.now;
       unflushed = trace.old.unflushed ++ take (taken_by outcome.now) bytes.now;
-      faults = trace.old.faults + put_faults outcome.now bytes.now;
+      failures = trace.old.failures + put_failures outcome.now bytes.now;
     } }
 {
     match outcome {
@@ -97,8 +99,8 @@ pub fn note_put(trace: &mut Trace, bytes: &[u8], outcome: &io::Result<usize>)
 pub fn note_flush(trace: &mut Trace, outcome: &io::Result<()>)
     ensures ok { OnOk outcome.now (trace.new.unflushed ≡ []) }
     ensures bytes { trace.new.bytes ≡ trace.old.bytes }
-    ensures flushes { trace.new.flushes + faults_of outcome.now ≡ trace.old.flushes + 1 }
-    ensures faults { trace.new.faults ≡ trace.old.faults + faults_of outcome.now }
+    ensures flushes { trace.new.flushes + failures_of outcome.now ≡ trace.old.flushes + 1 }
+    ensures failures { trace.new.failures ≡ trace.old.failures + failures_of outcome.now }
 {
     match outcome {
         Ok(()) => trace.flush(),

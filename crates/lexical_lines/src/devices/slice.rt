@@ -3,8 +3,8 @@
 ghost use Rattle.std.specs.Prelude.{◌≡◌, ℕ, List, ◌+◌, ◌≤◌, false, ◌||◌, [], ◌++◌, Ok, None, Some, length};
 ghost use Rattle.std.specs.Prelude.{take, drop, min, IfOk, IfSome, IfNone, ◌<◌, slice_get};
 ghost use Rattle.lexical_lines.specs.Answer.{AnswersAll};
-ghost use Rattle.lexical_lines.specs.Sink.{taken_by, put_faults, IsBeginning};
-ghost use Rattle.lexical_lines.specs.Source.{given_by, tells_end, faults_of};
+ghost use Rattle.lexical_lines.specs.Sink.{taken_by, put_failures, IsBeginning};
+ghost use Rattle.lexical_lines.specs.Source.{yielded_by, reports_end, failures_of};
 ghost use Rattle.lexical_write_integer.specs.Buffer.{Writes};
 
 use crate::answer::line_loop::run;
@@ -29,7 +29,7 @@ impl<'a> Model for SliceSource<'a> {
     ghost Value = { SliceReading };
 
     ghost view = { λ s. record {
-      given = take s.position s.bytes.now;
+      yielded = take s.position s.bytes.now;
       left = drop s.position s.bytes.now;
       is_ended = s.is_ended;
     } };
@@ -40,7 +40,7 @@ impl<'a> Model for SliceSource<'a> {
 impl<'a> SliceSource<'a> {
     /// Returns a source that yields all of `bytes`.
     pub fn new(bytes: &'a [u8]) -> SliceSource<'a>
-        ensures given { result.given ≡ [] }
+        ensures yielded { result.yielded ≡ [] }
         ensures left { result.left ≡ bytes.entry.now }
         ensures ended { result.is_ended ≡ false }
     {
@@ -55,11 +55,11 @@ impl<'a> SliceSource<'a> {
 impl ByteSource for SliceSource<'_> {
     ghost use Rattle.lexical_lines.specs.Slice.{KeepsSlice, KeepsSlice-reflexive, KeepsSlice-transitive};
 
-    ghost given = { λ s. s.given };
+    ghost yielded = { λ s. s.yielded };
 
     ghost is_ended = { λ s. s.is_ended };
 
-    ghost faults = { λ _. 0 };
+    ghost failures = { λ _. 0 };
 
     ghost remaining = { λ s. length s.left };
 
@@ -71,10 +71,10 @@ impl ByteSource for SliceSource<'_> {
 
     /// Returns the next byte, or `None` at the end of the slice.
     fn next(&mut self) -> io::Result<Option<u8>>
-        ensures given { self.new.given ≡ self.old.given ++ given_by result }
-        ensures ended { self.new.is_ended ≡ (self.old.is_ended || tells_end result) }
-        ensures faults { 0 ≡ 0 + faults_of result }
-        ensures remaining { length self.new.left + length (given_by result) ≤ length self.old.left }
+        ensures yielded { self.new.yielded ≡ self.old.yielded ++ yielded_by result }
+        ensures ended { self.new.is_ended ≡ (self.old.is_ended || reports_end result) }
+        ensures failures { 0 ≡ 0 + failures_of result }
+        ensures remaining { length self.new.left + length (yielded_by result) ≤ length self.old.left }
         ensures kept { KeepsSlice self.old self.new }
         ensures exact { result ≡ Ok (slice_get self.old.left 0) }
         ensures left { self.new.left ≡ drop 1 self.old.left }
@@ -101,13 +101,13 @@ pub struct SliceSink<'a> {
 
 impl<'a> SliceSink<'a> {
     ghost use Rattle.std.specs.Prelude.{◌≡◌, [], length};
-    ghost use Rattle.lexical_lines.specs.Slice.{taken_in, rest_in, faults_in, loan_in};
+    ghost use Rattle.lexical_lines.specs.Slice.{taken_in, rest_in, failures_in, loan_in};
 
     /// Returns a sink that has taken no bytes and fills `buffer` from its start.
     pub fn new(buffer: &'a mut [u8]) -> SliceSink<'a>
         ensures taken { taken_in result ≡ [] }
         ensures rest { rest_in result ≡ buffer.entry.now }
-        ensures faults { faults_in result ≡ 0 }
+        ensures failures { failures_in result ≡ 0 }
         ensures loan { loan_in result ≡ buffer.entry.ghost_name }
     {
         SliceSink {
@@ -127,13 +127,13 @@ impl<'a> SliceSink<'a> {
 
 impl ByteSink for SliceSink<'_> {
     ghost use Rattle.std.specs.Prelude.{◌≡◌, ◌≤◌, ◌+◌, ◌++◌, Ok, length, take, min, IfOk};
-    ghost use Rattle.lexical_lines.specs.Sink.{taken_by, put_faults};
-    ghost use Rattle.lexical_lines.specs.Slice.{taken_in, rest_in, faults_in, KeepsBuffer};
+    ghost use Rattle.lexical_lines.specs.Sink.{taken_by, put_failures};
+    ghost use Rattle.lexical_lines.specs.Slice.{taken_in, rest_in, failures_in, KeepsBuffer};
     ghost use Rattle.lexical_lines.specs.Slice.{KeepsBuffer-reflexive, KeepsBuffer-transitive};
 
     ghost taken = { taken_in };
 
-    ghost faults = { faults_in };
+    ghost failures = { failures_in };
 
     ghost keeps = { KeepsBuffer };
 
@@ -145,7 +145,7 @@ impl ByteSink for SliceSink<'_> {
     fn put(&mut self, bytes: &[u8]) -> io::Result<usize>
         ensures within { IfOk result (λ count. count ≤ length bytes.now) }
         ensures taken { taken_in self.new ≡ taken_in self.old ++ take (taken_by result) bytes.now }
-        ensures faults { faults_in self.new ≡ faults_in self.old + put_faults result bytes.now }
+        ensures failures { failures_in self.new ≡ failures_in self.old + put_failures result bytes.now }
         ensures kept { KeepsBuffer self.old self.new }
         ensures exact { result ≡ Ok (min (length bytes.now) (length (rest_in self.old))) }
     {

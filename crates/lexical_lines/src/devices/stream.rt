@@ -3,8 +3,8 @@
 ghost use Rattle.std.specs.Prelude.{◌≡◌, ◌⊎◌, ◌+◌, ◌-◌, ◌^◌, ◌≤◌, true, false, ◌||◌, [], ◌++◌, Ok, None, length};
 ghost use Rattle.std.specs.Prelude.{take, drop, IfOk};
 ghost use Rattle.std.specs.Io.KnownBytes.{Consumes, IsAtEnd, ReadConsumes, WriteAppends};
-ghost use Rattle.lexical_lines.specs.Sink.{taken_by, put_faults};
-ghost use Rattle.lexical_lines.specs.Source.{given_by, tells_end, reads_end, faults_of};
+ghost use Rattle.lexical_lines.specs.Sink.{taken_by, put_failures};
+ghost use Rattle.lexical_lines.specs.Source.{yielded_by, reports_end, reads_end, failures_of};
 
 use crate::devices::sink::{BlockSink, ByteSink, note_flush, note_put};
 use crate::devices::source::{BlockSource, ByteSource};
@@ -16,7 +16,7 @@ use std::marker::Model;
 // An offset in a file is a signed number of 64 bits, so every file is shorter than this.
 const LONGEST: u64 = 9_223_372_036_854_775_807;
 
-/// A source that yields the bytes of a reader, up to a limit. It calls `read` once for each byte or block.
+/// A source that yields the bytes of a reader, up to a limit.
 #[derive(Drop)]
 pub struct Reading<R> {
     reader: R,
@@ -34,9 +34,9 @@ impl<R> Model for Reading<R> {
       reader = s.reader;
       left = s.left;
       is_ended = s.is_ended;
-      given = s.trace.bytes;
+      yielded = s.trace.bytes;
       calls = s.trace.calls;
-      faults = s.trace.faults;
+      failures = s.trace.failures;
     } };
 }
 
@@ -67,11 +67,11 @@ impl<R: Read> Reading<R> {
 impl<R: Read> ByteSource for Reading<R> {
     ghost use Rattle.lexical_lines.specs.Stream.{KeepsReader, KeepsReader-reflexive, KeepsReader-transitive};
 
-    ghost given = { λ s. s.given };
+    ghost yielded = { λ s. s.yielded };
 
     ghost is_ended = { λ s. s.is_ended };
 
-    ghost faults = { λ s. s.faults };
+    ghost failures = { λ s. s.failures };
 
     ghost remaining = { λ s. s.left };
 
@@ -83,16 +83,16 @@ impl<R: Read> ByteSource for Reading<R> {
 
     /// Returns the next byte of the reader, or `None` at the limit or if the reader yields no byte.
     fn next(&mut self) -> io::Result<Option<u8>>
-        ensures given { self.new.given ≡ self.old.given ++ given_by result }
-        ensures ended { self.new.is_ended ≡ (self.old.is_ended || tells_end result) }
-        ensures faults { self.new.faults ≡ self.old.faults + faults_of result }
-        ensures remaining { self.new.left + length (given_by result) ≤ self.old.left }
+        ensures yielded { self.new.yielded ≡ self.old.yielded ++ yielded_by result }
+        ensures ended { self.new.is_ended ≡ (self.old.is_ended || reports_end result) }
+        ensures failures { self.new.failures ≡ self.old.failures + failures_of result }
+        ensures remaining { self.new.left + length (yielded_by result) ≤ self.old.left }
         ensures kept { KeepsReader R.remaining self.old self.new }
         ensures bytes { Consumes (R.remaining self.old.reader) (R.remaining self.new.reader)
-            (given_by result) }
+            (yielded_by result) }
         ensures end { result ≡ Ok None
             → (self.old.left ≡ 0) ⊎ IsAtEnd (R.remaining self.new.reader) }
-        ensures left { self.new.left ≡ self.old.left - length (given_by result) }
+        ensures left { self.new.left ≡ self.old.left - length (yielded_by result) }
         ensures limit { self.old.left ≡ 0 → result ≡ Ok None }
     {
         let mut byte = [0u8];
@@ -115,11 +115,11 @@ impl<R: Read> BlockSource for Reading<R> {
     fn read_block(&mut self, block: &mut [u8]) -> io::Result<usize>
         requires { 1 ≤ length block.old }
         ensures within { IfOk result (λ count. count ≤ length block.new) }
-        ensures given { self.new.given ≡ self.old.given ++ take (taken_by result) block.new }
+        ensures yielded { self.new.yielded ≡ self.old.yielded ++ take (taken_by result) block.new }
         ensures ended { self.new.is_ended ≡ (self.old.is_ended || reads_end result) }
         ensures remaining { self.new.left + taken_by result ≡ self.old.left }
         ensures calls { self.new.calls ≡ self.old.calls + 1 }
-        ensures faults { self.new.faults ≡ self.old.faults + faults_of result }
+        ensures failures { self.new.failures ≡ self.old.failures + failures_of result }
         ensures kept { KeepsReader R.remaining self.old self.new }
         ensures bytes { ReadConsumes (unread_of R.remaining self.old) (unread_of R.remaining self.new)
             result block.new }
@@ -146,8 +146,7 @@ impl<R: Read> BlockSource for Reading<R> {
     }
 }
 
-/// A sink that writes to a writer. It calls `write` once for each call of `put`, and `flush` once for each
-/// flush.
+/// A sink that writes to a writer.
 #[derive(Drop)]
 pub struct Writing<W> {
     writer: W,
@@ -164,14 +163,14 @@ impl<W> Model for Writing<W> {
       taken = s.trace.bytes;
       unflushed = s.trace.unflushed;
       flushes = s.trace.flushes;
-      faults = s.trace.faults;
+      failures = s.trace.failures;
     } };
 }
 
 impl<W: Write> Writing<W> {
     /// Returns a sink that has taken no bytes and writes to `writer`.
     pub fn new(writer: W) -> Writing<W>
-        ensures { result ≡ record { writer = writer; taken = []; unflushed = []; flushes = 0; faults = 0 } }
+        ensures { result ≡ record { writer = writer; taken = []; unflushed = []; flushes = 0; failures = 0 } }
     {
         Writing {
             writer,
@@ -194,7 +193,7 @@ impl<W: Write> ByteSink for Writing<W> {
 
     ghost taken = { λ s. s.taken };
 
-    ghost faults = { λ s. s.faults };
+    ghost failures = { λ s. s.failures };
 
     ghost keeps = { KeepsWriter W.contents };
 
@@ -206,7 +205,7 @@ impl<W: Write> ByteSink for Writing<W> {
     fn put(&mut self, bytes: &[u8]) -> io::Result<usize>
         ensures within { IfOk result (λ count. count ≤ length bytes.now) }
         ensures taken { self.new.taken ≡ self.old.taken ++ take (taken_by result) bytes.now }
-        ensures faults { self.new.faults ≡ self.old.faults + put_faults result bytes.now }
+        ensures failures { self.new.failures ≡ self.old.failures + put_failures result bytes.now }
         ensures kept { KeepsWriter W.contents self.old self.new }
         ensures bytes { WriteAppends (W.contents self.old.writer) (W.contents self.new.writer)
             result bytes.now }

@@ -16,7 +16,7 @@ pub struct Trace {
     // One number for each call, flush or failure. Only their counts are read.
     calls: GhostLog,
     flushes: GhostLog,
-    faults: GhostLog,
+    failures: GhostLog,
 }
 
 impl Model for Trace {
@@ -30,7 +30,7 @@ impl Model for Trace {
       unflushed = t.unflushed;
       calls = length t.calls;
       flushes = length t.flushes;
-      faults = length t.faults;
+      failures = length t.failures;
     } };
 }
 
@@ -39,14 +39,14 @@ const _: () = prove!(size_of::<Trace>() == 0);
 impl Trace {
     /// Returns a trace with no bytes, no calls and no failures.
     pub fn new() -> Trace
-        ensures { result ≡ record { bytes = []; unflushed = []; calls = 0; flushes = 0; faults = 0 } }
+        ensures { result ≡ record { bytes = []; unflushed = []; calls = 0; flushes = 0; failures = 0 } }
     {
         Trace {
             bytes: GhostLog::new(),
             unflushed: GhostLog::new(),
             calls: GhostLog::new(),
             flushes: GhostLog::new(),
-            faults: GhostLog::new(),
+            failures: GhostLog::new(),
         }
     }
 
@@ -78,8 +78,8 @@ impl Trace {
 
     /// Adds 1 to the number of failures.
     pub fn fault(&mut self)
-        ensures { self.new ≡ record self.old { faults = self.old.faults + 1 } }
+        ensures { self.new ≡ record self.old { failures = self.old.failures + 1 } }
     {
-        self.faults.tick(0);
+        self.failures.tick(0);
     }
 }

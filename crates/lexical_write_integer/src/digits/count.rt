@@ -12,23 +12,9 @@ pub mod logarithm;
 
 use crate::turns::Turns;
 use decimal_count::DecimalCount;
+use lexical_num::limits::is_radix;
 use lexical_num::num::UnsignedInteger;
 pub use logarithm::fast_log2;
-
-// Returns whether `radix.pow(exponent)` fits in `bits` bits.
-fn power_fits(bits: usize, radix: u32, exponent: u32) -> bool
-    requires bits { IsBitWidth bits }
-    requires radix { IsRadix radix }
-    requires exponent { IsStep exponent }
-    ensures { IsTrue result ↔ (radix ^ exponent < 2 ^ bits) }
-{
-    match (exponent, bits) {
-        (4, 8) => radix <= 3,
-        (4, 16) => radix <= 15,
-        (2, 8) => radix <= 15,
-        _ => true,
-    }
-}
 
 // Returns `radix.pow(exponent)`, or `None` if it does not fit in the type. Then every number of the type is
 // smaller, so nothing is left to divide by it.
@@ -38,8 +24,9 @@ fn power_of<T: UnsignedInteger>(radix: u32, exponent: u32) -> Option<T>
     ensures power { IfSome result (λ power. T.magnitude power ≡ radix ^ exponent) }
     ensures too_great { IfNone result (2 ^ T.BITS ≤ radix ^ exponent) }
 {
-    if power_fits(T::BITS, radix, exponent) {
-        Some(T::from_u32(radix.pow(exponent)))
+    let power = radix.pow(exponent);
+    if T::BITS >= 32 || power >> T::BITS == 0 {
+        Some(T::from_u32(power))
     } else {
         None
     }
@@ -90,6 +77,7 @@ pub fn slow_digit_count_counted<T: UnsignedInteger>(x: T, radix: u32, turns: &mu
     ensures notes { turns.new ≡ turns.old ++ slow_notes radix (T.magnitude x) }
     ensures turns { length turns.new ≡ length turns.old + slow_turns result }
 {
+    prove!(is_radix(radix as u64));
     x.fits_bits();
     let (left, by_four) = take_digits(x, radix, 4, turns);
     let (left, by_two) = take_digits(left, radix, 2, turns);
@@ -116,6 +104,7 @@ pub fn digit_count_counted<T: DecimalCount>(x: T, radix: u32, turns: &mut Turns)
     ensures notes { turns.new ≡ turns.old ++ count_notes radix (T.magnitude x) }
     ensures turns { length turns.new ≡ length turns.old + count_turns radix result }
 {
+    prove!(is_radix(radix as u64));
     x.fits_bits();
     match radix {
         2 => fast_log2(x) + 1,
@@ -141,8 +130,8 @@ pub trait DigitCount: DecimalCount {
         digit_count_counted(self, radix, &mut Turns::new())
     }
 
-    /// Returns how many digits the number has. They are counted by division in every radix. The radix
-    /// is from 2 to 36.
+    /// Returns how many digits the number has, as `digit_count` does. `slow_digit_count_counted`, which it calls,
+    /// says how they are counted. The radix is from 2 to 36.
     fn slow_digit_count(self, radix: u32) -> usize
         requires { IsRadix radix }
         ensures count { result ≡ digit_count radix (Self.magnitude self) }

@@ -1,4 +1,6 @@
-//! Writing decimal digits, two at a time. Examples are in `crates/write_integer_tests/src/decimal_values.rt`.
+//! Writing decimal digits, two at a time.
+//!
+//! Examples are in `crates/write_integer_tests/src/decimal_values.rt`.
 #![tactic(auto, using(crate::proofs::OfDigits::Count::DigitCounts::widths))]
 
 ghost use Rattle.std.specs.Prelude.{◌≡◌, ℕ, pos, negsuc, ◌-◌, ◌^◌, ◌<◌, ◌≤◌, ◌+◌, length};
@@ -14,7 +16,7 @@ mod kernels;
 pub use super::count::decimal_count::{DecimalCount, fallback_digit_count, fast_digit_count};
 pub use super::count::logarithm::fast_log10;
 use crate::turns::Turns;
-use jeaiii::{write_32, write_64};
+use jeaiii::write_decimal;
 use lexical_num::num::{LexicalInteger, UnsignedInteger};
 
 /// An unsigned integer type whose numbers are written in decimal, two digits at a time.
@@ -42,7 +44,12 @@ pub trait Decimal: DecimalCount {
         requires number { Self.magnitude self < 10 ^ SIGNED_WIDTH }
         requires room { SIGNED_WIDTH ≤ length buffer.old }
         ensures digits { WritesDigits 10 (Self.magnitude self) buffer.old buffer.new result }
-        ensures short { result ≤ SIGNED_WIDTH };
+        ensures short { result ≤ SIGNED_WIDTH }
+    {
+        let number = self.as_usize() as u64;
+        prove!(number < 10_000_000_000_000_000_000);
+        write_decimal(self, buffer, &mut Turns::new())
+    }
 
     /// Writes the digits as `decimal` does, under the same condition, and records its iterations in
     /// the counter: one for each pair of digits after the first, and at most 9.
@@ -51,7 +58,11 @@ pub trait Decimal: DecimalCount {
         ensures writes { WritesDecimal (Self.magnitude self) (decimal_notes Self.BITS (Self.magnitude self))
             buffer.old buffer.new turns.old turns.new result }
         ensures short { result ≤ Self.DECIMAL_WIDTH }
-        ensures few { length turns.new ≤ length turns.old + 9 };
+        ensures few { length turns.new ≤ length turns.old + 9 }
+    {
+        self.in_range();
+        write_decimal(self, buffer, turns)
+    }
 
     ghost signed_width: { let greatest = 2 ^ (Self.BITS - 1) - 1 in
         IsDecimalWidth (negsuc greatest) (pos greatest) SIGNED_WIDTH };
@@ -63,14 +74,6 @@ impl Decimal for u8 {
     ghost SIGNED_WIDTH = { 3 };
 
     ghost signed_width = { is_decimal_width (lit≤ tt) (lit≤ tt) (lit≤ tt) (lit≤ tt) };
-
-    fn decimal_signed(self, buffer: &mut [u8]) -> usize {
-        write_32(u32::from(self), buffer, &mut Turns::new())
-    }
-
-    fn decimal_counted(self, buffer: &mut [u8], turns: &mut Turns) -> usize {
-        write_32(u32::from(self), buffer, turns)
-    }
 }
 
 impl Decimal for u16 {
@@ -79,14 +82,6 @@ impl Decimal for u16 {
     ghost SIGNED_WIDTH = { 5 };
 
     ghost signed_width = { is_decimal_width (lit≤ tt) (lit≤ tt) (lit≤ tt) (lit≤ tt) };
-
-    fn decimal_signed(self, buffer: &mut [u8]) -> usize {
-        write_32(u32::from(self), buffer, &mut Turns::new())
-    }
-
-    fn decimal_counted(self, buffer: &mut [u8], turns: &mut Turns) -> usize {
-        write_32(u32::from(self), buffer, turns)
-    }
 }
 
 impl Decimal for u32 {
@@ -95,14 +90,6 @@ impl Decimal for u32 {
     ghost SIGNED_WIDTH = { 10 };
 
     ghost signed_width = { is_decimal_width (lit≤ tt) (lit≤ tt) (lit≤ tt) (lit≤ tt) };
-
-    fn decimal_signed(self, buffer: &mut [u8]) -> usize {
-        write_32(self, buffer, &mut Turns::new())
-    }
-
-    fn decimal_counted(self, buffer: &mut [u8], turns: &mut Turns) -> usize {
-        write_32(self, buffer, turns)
-    }
 }
 
 impl Decimal for u64 {
@@ -111,14 +98,6 @@ impl Decimal for u64 {
     ghost SIGNED_WIDTH = { 19 };
 
     ghost signed_width = { is_decimal_width (lit≤ tt) (lit≤ tt) (lit≤ tt) (lit≤ tt) };
-
-    fn decimal_signed(self, buffer: &mut [u8]) -> usize {
-        write_64(self, buffer, &mut Turns::new())
-    }
-
-    fn decimal_counted(self, buffer: &mut [u8], turns: &mut Turns) -> usize {
-        write_64(self, buffer, turns)
-    }
 }
 
 // A `usize` has 64 bits.
@@ -128,12 +107,4 @@ impl Decimal for usize {
     ghost SIGNED_WIDTH = { 19 };
 
     ghost signed_width = { is_decimal_width (lit≤ tt) (lit≤ tt) (lit≤ tt) (lit≤ tt) };
-
-    fn decimal_signed(self, buffer: &mut [u8]) -> usize {
-        write_64(self as u64, buffer, &mut Turns::new())
-    }
-
-    fn decimal_counted(self, buffer: &mut [u8], turns: &mut Turns) -> usize {
-        write_64(self as u64, buffer, turns)
-    }
 }

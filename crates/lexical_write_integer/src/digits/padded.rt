@@ -1,6 +1,6 @@
 //! Numbers with leading zeros, as in dates and times.
 
-ghost use Rattle.std.specs.Prelude.{◌≡◌, ◌^◌, ◌<◌, length, replicate};
+ghost use Rattle.std.specs.Prelude.{◌≡◌, ◌^◌, ◌<◌, ◌↔◌, IsTrue, length, replicate};
 ghost use Rattle.lexical_num.specs.Format.{IsRadix};
 ghost use Rattle.lexical_write_integer.specs.Buffer.{Writes};
 ghost use Rattle.lexical_write_integer.specs.Digits.Padded.{IsPadded};
@@ -16,6 +16,14 @@ fn write_zeros(buffer: &mut [u8])
     buffer.fill(b'0');
 }
 
+// Returns whether the number, with leading zeros, can have this number of digits. Without digits it is 0.
+fn fits_width(number: u64, radix: u32, width: usize) -> bool
+    requires { IsRadix radix }
+    ensures { IsTrue result ↔ number < radix ^ width }
+{
+    number == 0 || number.digit_count(radix) <= width
+}
+
 /// Writes the number with leading zeros over the whole buffer, and returns the length of the buffer.
 /// The radix is from 2 to 36, and the number is below the radix to the power of that length.
 pub fn write_padded<T: DigitCount + Radix>(value: T, radix: u32, buffer: &mut [u8]) -> usize
@@ -26,8 +34,10 @@ pub fn write_padded<T: DigitCount + Radix>(value: T, radix: u32, buffer: &mut [u
     ensures width { result ≡ length buffer.old }
 {
     value.fits_bits();
+    let number = value.as_usize() as u64;
+    prove!(fits_width(number, radix, buffer.len()));
     if radix == 10 {
-        write_decimal_block(value.as_usize() as u64, buffer);
+        write_decimal_block(number, buffer);
         return buffer.len();
     }
     // The number is 0 here, and its digit does not fit in an empty buffer.

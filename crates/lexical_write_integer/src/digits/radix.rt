@@ -1,10 +1,11 @@
 //! Writing the digits of a number in any radix, from the tables of digit pairs.
 
-ghost use Rattle.std.specs.Prelude.{◌≡◌, ◌≤◌, ◌++◌, length};
+ghost use Rattle.std.specs.Prelude.{◌≤◌, length};
 ghost use Rattle.lexical_num.specs.Format.{IsRadix};
 ghost use Rattle.lexical_write_integer.specs.Buffer.{WritesDigits};
 ghost use Rattle.lexical_write_integer.specs.Digits.DigitCount.{digit_count};
-ghost use Rattle.lexical_write_integer.specs.Digits.LoopTurns.{table_notes};
+ghost use Rattle.lexical_write_integer.specs.Digits.LoopTurns.{WritesByTable};
+ghost use Rattle.lexical_write_integer.specs.Digits.Table.{BeginsWithPairs};
 
 pub mod algorithm;
 mod binary_words;
@@ -12,14 +13,56 @@ mod by_radix;
 pub mod compact;
 mod table_writer;
 
+use crate::digits::count::counts_at_once;
 use crate::digits::decimal::jeaiii::write_decimal;
+use crate::digits::pairs::RadixTable;
 use crate::turns::Turns;
+use binary_words::{write_binary, write_binary_byte};
 use by_radix::by_radix;
 use lexical_num::num::UnsignedInteger;
 use lexical_tables::get_table;
-use table_writer::{write_digits, write_one_or_two};
+use table_writer::{
+    count_and_write_more, count_and_write_up_to_eight, eighth_power, write_after_count,
+};
 
-// Writes a number with the table of the radix. Above radix 32 a number below 1024 has at most two digits.
+// Writes a number in the radix `R`, with a table that begins with the digit pairs of that radix: after the count of
+// the digits if that needs no division, and otherwise while they are counted. What the count records precedes what
+// the writer records.
+fn write_digits<T: UnsignedInteger, const R: u32>(
+    value: T,
+    table: &[u8],
+    buffer: &mut [u8],
+    turns: &mut Turns,
+) -> usize
+    requires radix { IsRadix R }
+    requires table { BeginsWithPairs R table.now }
+    requires room { digit_count R (T.magnitude value) ≤ length buffer.old }
+    ensures { WritesByTable R (T.magnitude value) buffer.old buffer.new turns.old turns.new result }
+{
+    value.fits_bits();
+    let number = value.as_usize() as u64;
+    if R == 2 {
+        return if number < 256 {
+            write_binary_byte(number as u32, table, buffer, turns)
+        } else {
+            write_binary(number, buffer, turns)
+        };
+    }
+    let table = RadixTable::<R> { pairs: table };
+    let mut written = Turns::new();
+    let count = if counts_at_once(R) {
+        write_after_count(number, table, buffer, turns, &mut written)
+    } else if number < eighth_power(R) {
+        // This is known of each number of 8 bits, so their code has nothing else.
+        count_and_write_up_to_eight(number, table, buffer, turns, &mut written)
+    } else {
+        count_and_write_more(number, table, buffer, turns, &mut written)
+    };
+    turns.append(&written);
+    count
+}
+
+// Writes a number with the table of the radix.
 fn write_by_table<T: UnsignedInteger, const R: u32>(
     value: T,
     buffer: &mut [u8],
@@ -27,20 +70,9 @@ fn write_by_table<T: UnsignedInteger, const R: u32>(
 ) -> usize
     requires radix { IsRadix R }
     requires room { digit_count R (T.magnitude value) ≤ length buffer.old }
-    ensures digits { WritesDigits R (T.magnitude value) buffer.old buffer.new result }
-    ensures notes { turns.new ≡ turns.old ++ table_notes R (T.magnitude value) }
+    ensures { WritesByTable R (T.magnitude value) buffer.old buffer.new turns.old turns.new result }
 {
-    value.fits_bits();
-    let number = value.as_usize() as u64;
-    let table = get_table(R);
-    if R > 32 && number < 1024 {
-        return write_one_or_two(number as u32, R, table, buffer, turns);
-    }
-    match T::BITS {
-        8 => write_digits::<8, R>(number, table, buffer, turns),
-        16 | 32 if R == 16 => write_digits::<32, R>(number, table, buffer, turns),
-        _ => write_digits::<64, R>(number, table, buffer, turns),
-    }
+    write_digits::<T, R>(value, get_table(R), buffer, turns)
 }
 
 // Writes the digits with the table of the radix, and records its iterations. The radix is looked at only
@@ -53,8 +85,7 @@ pub(crate) fn radix_counted<T: UnsignedInteger>(
 ) -> usize
     requires radix { IsRadix radix }
     requires room { digit_count radix (T.magnitude value) ≤ length buffer.old }
-    ensures digits { WritesDigits radix (T.magnitude value) buffer.old buffer.new result }
-    ensures notes { turns.new ≡ turns.old ++ table_notes radix (T.magnitude value) }
+    ensures { WritesByTable radix (T.magnitude value) buffer.old buffer.new turns.old turns.new result }
 {
     by_radix!(radix, write_by_table::<T>(value, buffer, turns))
 }
@@ -72,7 +103,7 @@ pub trait Radix: UnsignedInteger {
     {
         self.fits_bits();
         if radix == 10 {
-            write_decimal(self, buffer)
+            write_decimal(self, buffer, &mut Turns::new())
         } else {
             radix_counted(self, radix, buffer, &mut Turns::new())
         }

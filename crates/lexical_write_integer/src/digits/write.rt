@@ -60,7 +60,7 @@ pub trait WriteInteger: Decimal + Radix {
         write_integer_counted(self, radix, buffer, &mut Turns::new())
     }
 
-    /// Writes the digits of the magnitude of a signed number in a radix from 2 to 36.
+    /// Writes the digits of the magnitude of a signed number, without its sign, in a radix from 2 to 36.
     fn write_integer_signed(self, radix: u32, buffer: &mut [u8]) -> usize
         requires radix { IsRadix radix }
         requires number { radix ≡ 10 → Self.magnitude self < 10 ^ Self.SIGNED_WIDTH }
@@ -88,7 +88,7 @@ pub trait WriteInteger: Decimal + Radix {
         self.write_integer(format.mantissa_radix(), buffer)
     }
 
-    /// Writes the digits of the magnitude of a signed number in the mantissa radix of the format.
+    /// Writes the digits of the magnitude of a signed number, without its sign, in the mantissa radix of the format.
     fn write_mantissa_signed(self, format: &NumberFormat, buffer: &mut [u8]) -> usize
         requires number { format.now.mantissa_radix ≡ 10
             → Self.magnitude self < 10 ^ Self.SIGNED_WIDTH }
@@ -112,7 +112,7 @@ pub trait WriteInteger: Decimal + Radix {
         self.write_integer(format.exponent_radix(), buffer)
     }
 
-    /// Writes the digits of the magnitude of a signed number in the exponent radix of the format.
+    /// Writes the digits of the magnitude of a signed number, without its sign, in the exponent radix of the format.
     fn write_exponent_signed(self, format: &NumberFormat, buffer: &mut [u8]) -> usize
         requires number { format.now.exponent_radix ≡ 10
             → Self.magnitude self < 10 ^ Self.SIGNED_WIDTH }

@@ -30,7 +30,7 @@ pub fn group_digits(count: usize, format: &NumberFormat, buffer: &mut [u8]) -> u
         return count;
     };
     let size = usize::from(size);
-    let total = count + (count - 1) / size;
+    let total = format.grouped_len(count);
     let mut left = count;
     let mut end = total;
     let mut in_group = 0;

@@ -7,15 +7,14 @@ ghost use Rattle.lexical_write_integer.specs.Texts.SizeBound.{unsigned_need-le, 
 use super::api::{ToLexical, ToLexicalWithOptions};
 use crate::digits::count::DigitCount;
 use crate::digits::decimal::Decimal;
-use crate::digits::write::{WriteInteger, write_integer_counted};
-use crate::turns::Turns;
+use crate::digits::write::WriteInteger;
 use lexical_num::constants::FormattedSize;
 use lexical_num::format::NumberFormat;
 use lexical_num::options::Options;
 
 impl<T: Decimal + FormattedSize> ToLexical for T {
     fn write_magnitude(self, format: &NumberFormat, buffer: &mut [u8]) -> usize {
-        write_integer_counted(self, format.mantissa_radix(), buffer, &mut Turns::new())
+        self.write_mantissa(format, buffer)
     }
 
     fn magnitude_digits(self, radix: u32) -> usize {
@@ -66,8 +65,7 @@ impl ToLexicalWithOptions for usize {
 impl ToLexical for i8 {
     fn write_magnitude(self, format: &NumberFormat, buffer: &mut [u8]) -> usize {
         // The magnitude of the smallest value, 128, is no `i8`.
-        self.unsigned_abs()
-            .write_integer_signed(format.mantissa_radix(), buffer)
+        self.unsigned_abs().write_mantissa_signed(format, buffer)
     }
 
     fn magnitude_digits(self, radix: u32) -> usize {
@@ -86,8 +84,7 @@ impl ToLexicalWithOptions for i8 {
 impl ToLexical for i16 {
     fn write_magnitude(self, format: &NumberFormat, buffer: &mut [u8]) -> usize {
         // The magnitude 32,768 is no `i16`.
-        self.unsigned_abs()
-            .write_integer_signed(format.mantissa_radix(), buffer)
+        self.unsigned_abs().write_mantissa_signed(format, buffer)
     }
 
     fn magnitude_digits(self, radix: u32) -> usize {
@@ -105,8 +102,7 @@ impl ToLexicalWithOptions for i16 {
 
 impl ToLexical for i32 {
     fn write_magnitude(self, format: &NumberFormat, buffer: &mut [u8]) -> usize {
-        self.unsigned_abs()
-            .write_integer_signed(format.mantissa_radix(), buffer)
+        self.unsigned_abs().write_mantissa_signed(format, buffer)
     }
 
     fn magnitude_digits(self, radix: u32) -> usize {
@@ -124,8 +120,7 @@ impl ToLexicalWithOptions for i32 {
 
 impl ToLexical for i64 {
     fn write_magnitude(self, format: &NumberFormat, buffer: &mut [u8]) -> usize {
-        self.unsigned_abs()
-            .write_integer_signed(format.mantissa_radix(), buffer)
+        self.unsigned_abs().write_mantissa_signed(format, buffer)
     }
 
     fn magnitude_digits(self, radix: u32) -> usize {
@@ -143,8 +138,7 @@ impl ToLexicalWithOptions for i64 {
 
 impl ToLexical for isize {
     fn write_magnitude(self, format: &NumberFormat, buffer: &mut [u8]) -> usize {
-        self.unsigned_abs()
-            .write_integer_signed(format.mantissa_radix(), buffer)
+        self.unsigned_abs().write_mantissa_signed(format, buffer)
     }
 
     fn magnitude_digits(self, radix: u32) -> usize {

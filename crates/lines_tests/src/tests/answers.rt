@@ -66,14 +66,14 @@ const ANSWERS: &[(&str, &str, bool)] = &[
 
 #[test]
 fn answers_to_known_lines(rt: HostRuntime) {
-    for (input, output, all_good) in ANSWERS {
+    for (input, output, all_valid) in ANSWERS {
         check_slice(
             &rt,
             *input,
             input.as_bytes(),
             256,
             output.as_bytes(),
-            Ok(*all_good),
+            Ok(*all_valid),
         );
     }
 }

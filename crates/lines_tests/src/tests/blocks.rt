@@ -1,37 +1,16 @@
 mod answers;
 mod std_devices;
 
-ghost use Rattle.std.specs.Prelude.{◌≡◌, ◌-◌, ◌^◌, ◌≤◌, length, take, IfOk};
-ghost use Rattle.lexical_lines.specs.Answer.{AnswersAll};
+ghost use Rattle.std.specs.Prelude.{◌≤◌, length, IfOk};
 
 use crate::tests::checks::check_equal;
 use crate::tests::devices::Taker;
-use lexical_lines::{ByteSink, Reading, Writing};
-use lexical_streams::{BlockReader, BlockWriter, answer_stream};
-use std::alloc::Global;
+use lexical_lines::{BlockWriter, ByteSink, Writing};
 use std::cell::Cell;
 use std::io::ErrorKind;
 use std::process::Abort;
 
 const TEXT: &[u8] = b"0123456789abcdef";
-
-// Returns the exit status, and the answers to the lines of a slice.
-fn answered(alloc: Global, bytes: &[u8]) -> (u8, Vec<u8>)
-    ensures { result.0 ≤ 1 → AnswersAll (take (2 ^ 63 - 1) bytes.now) result.1.items }
-{
-    let mut reader = BlockReader::new(Reading::whole(bytes));
-    let mut writer = BlockWriter::<_, 7>::new(Writing::new(Vec::new(alloc)));
-    let status = answer_stream(&mut reader, &mut writer);
-    (status, writer.into_inner().into_inner())
-}
-
-#[test]
-fn answers_go_into_a_vector(rt: HostRuntime) {
-    let (status, answers) = answered(rt.alloc(), b"u8 10 5\nu8 2 256\ni8 16 -128");
-    check_equal(&rt, "the status", status, 1);
-    let expected = b"5\nbad line 2\n-80\n".as_slice();
-    check_equal(&rt, "the answers", answers.as_slice(), expected);
-}
 
 // Puts the bytes, and returns how many were taken. If there are none, flushes and returns 0.
 fn put_or_flush(

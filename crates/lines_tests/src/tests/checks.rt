@@ -52,7 +52,7 @@ pub fn check_outcome<R: Copy + Debug + Drop>(
         [wanted, 2],
     );
     let outcome = match ran {
-        Ok(all_good) => Ok(all_good),
+        Ok(all_valid) => Ok(all_valid),
         Err(error) => Err(error.kind()),
     };
     check_equal(rt, row, outcome, expected);

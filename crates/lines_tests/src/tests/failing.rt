@@ -1,8 +1,8 @@
 // A source and a sink that fail, with their own implementations of the traits of `lexical_lines`.
 
 ghost use Rattle.std.specs.Prelude.{◌≡◌, ℕ, ◌+◌, ◌-◌, ◌≤◌, ◌||◌, ◌++◌, IfOk, length, take, ⊤};
-ghost use Rattle.lexical_lines.specs.Sink.{taken_by, put_faults};
-ghost use Rattle.lexical_lines.specs.Source.{given_by, tells_end, faults_of};
+ghost use Rattle.lexical_lines.specs.Sink.{taken_by, put_failures};
+ghost use Rattle.lexical_lines.specs.Source.{yielded_by, reports_end, failures_of};
 
 use crate::tests::devices::NEVER;
 use lexical_lines::{ByteSink, ByteSource, Trace};
@@ -44,11 +44,11 @@ impl<'a> FailingSource<'a> {
 }
 
 impl ByteSource for FailingSource<'_> {
-    ghost given = { λ s. s.trace.bytes };
+    ghost yielded = { λ s. s.trace.bytes };
 
     ghost is_ended = { λ s. s.is_ended };
 
-    ghost faults = { λ s. s.trace.faults };
+    ghost failures = { λ s. s.trace.failures };
 
     ghost remaining = { λ s. length s.bytes.now };
 
@@ -116,15 +116,15 @@ impl<'a> FailingSink<'a> {
         ensures room { result ≤ length self.now.buffer.now - self.now.count }
     {
         let room = self.buffer.len() - self.count;
-        let good = self.good_bytes.saturating_sub(self.count);
-        wanted.min(self.piece).min(room).min(good)
+        let valid = self.good_bytes.saturating_sub(self.count);
+        wanted.min(self.piece).min(room).min(valid)
     }
 }
 
 impl ByteSink for FailingSink<'_> {
     ghost taken = { λ s. s.trace.bytes };
 
-    ghost faults = { λ s. s.trace.faults };
+    ghost failures = { λ s. s.trace.failures };
 
     ghost keeps = { λ _ _. ⊤ };
 

@@ -16,7 +16,7 @@ use std::process::Abort;
 fn check_joined<T: ToLexicalWithOptions>(
     rt: &impl Abort,
     values: &[T],
-    mark: u8,
+    separator: u8,
     room: usize,
     format: &NumberFormat,
     options: &T::Options,
@@ -27,7 +27,7 @@ fn check_joined<T: ToLexicalWithOptions>(
     requires room { room ≤ 256 }
 {
     let mut buffer = UNCHANGED;
-    let joined = join(values, mark, &mut buffer[..room], format, options);
+    let joined = join(values, separator, &mut buffer[..room], format, options);
     check_equal(rt, text, &*joined, text.as_bytes());
     joined.fill(b'#');
     let overwritten = [b'#'; 32];

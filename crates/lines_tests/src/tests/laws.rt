@@ -18,9 +18,9 @@ struct CountingSink {
 impl ByteSink for CountingSink {
     ghost taken = { λ s. s.trace.bytes };
 
-    ghost faults = { λ s. s.trace.faults };
+    ghost failures = { λ s. s.trace.failures };
 
-    ghost keeps = { λ a b. b.trace.faults ≡ a.trace.faults };
+    ghost keeps = { λ a b. b.trace.failures ≡ a.trace.failures };
 
     ghost keeps_reflexive = { λ a. refl };
 

@@ -5,7 +5,7 @@ use lexical_parts::{Fixed, HexBytes, Joined, Left, Padded, Part, Right};
 use uses::csv_row::{Row, try_write_rows};
 use uses::digest::write_digest;
 use uses::digit_pair::digit_pair;
-use uses::dump_line::write_dump_line;
+use uses::dump_line::{characters, write_dump_line, write_hexdump_line};
 use uses::ipv6::write_address;
 
 #[test]
@@ -39,7 +39,9 @@ fn rooms_of_joined_parts(rt: HostRuntime) {
     check_room(&rt, Joined(&["a", "bcd", ""], ", "), 8);
     let wide = Left("", 18446744073709551615, b' ');
     check_room(&rt, Joined(&[wide, wide], ", "), 18446744073709551615);
-    check_room(&rt, HexBytes(&[1, 2, 3]), 6);
+    check_room(&rt, HexBytes(&[1, 2, 3], ""), 6);
+    check_room(&rt, HexBytes(&[1, 2, 3], ", "), 10);
+    check_room(&rt, HexBytes(&[], ", "), 0);
 }
 
 // The text of the largest number of each type is known from the language, and so is that of the smallest.
@@ -107,8 +109,16 @@ fn digests(rt: HostRuntime) {
         count,
         b"e3b0c44298fc1c149afbf4c8996fb92427ae41e4649b934ca495991b7852b855",
     );
-    check_str(&rt, HexBytes(&[0x0F, 0xA0]), &mut [7; 4], "0FA0");
-    check_str(&rt, HexBytes(&[]), &mut [7; 4], "");
+    check_str(&rt, HexBytes(&[0x0F, 0xA0], ""), &mut [7; 4], "0FA0");
+    check_str(&rt, HexBytes(&[], ""), &mut [7; 4], "");
+    let address = [0x00, 0x1B, 0x44, 0x11, 0x3A, 0xB7];
+    check_str(
+        &rt,
+        HexBytes(&address, ":"),
+        &mut [7; 17],
+        "00:1B:44:11:3A:B7",
+    );
+    check_str(&rt, HexBytes(&[255], ":"), &mut [7; 2], "FF");
 }
 
 #[test]
@@ -124,6 +134,12 @@ fn lines_of_a_dump(rt: HostRuntime) {
     let bytes = [0x01, 0x23, 0xAB, 0xFF, 0, 0x10, 0x9C, 0xDE];
     let count = write_dump_line(0xC0DE, &bytes, &mut buffer);
     check_buffer(&rt, &buffer, count, b"0000C0DE: 01 23 AB FF 00 10 9C DE\n");
+    // As `hexdump -C` prints these bytes, but with its digits in uppercase.
+    let mut buffer = [7; 79];
+    let bytes = *b"Hello, world!\n\x00\xFF";
+    let count = write_hexdump_line(16, &bytes, &characters(&bytes), &mut buffer);
+    let text = b"00000010  48 65 6C 6C 6F 2C 20 77  6F 72 6C 64 21 0A 00 FF  |Hello, world!...|\n";
+    check_buffer(&rt, &buffer, count, text);
 }
 
 #[test]

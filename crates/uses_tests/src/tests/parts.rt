@@ -2,11 +2,12 @@
 
 use super::{check_buffer, check_part, check_room, check_str};
 use lexical_parts::{
-    Binary, Center, Decimal, Fixed, GroupedFixed, Hex, Left, Lower, PaddedDigits, Part, Plus,
-    Right, ZeroPadded,
+    Binary, Center, Decimal, Fixed, Formatted, GroupedFixed, Hex, Left, Lower, PaddedDigits, Part,
+    Plus, Right, Sign, ZeroPadded,
 };
-use lexical_write_integer::NumberFormatBuilder;
 use lexical_write_integer::format::STANDARD;
+use lexical_write_integer::{NumberFormat, NumberFormatBuilder};
+use std::process::Abort;
 use uses::amount::write_amount;
 use uses::table_row::write_table_row;
 use uses::uuid::uuid;
@@ -100,6 +101,11 @@ fn widths_as_in_rust(rt: HostRuntime) {
     check_part(&rt, ZeroPadded(Decimal(0u8), 0), b"0");
     check_part(&rt, ZeroPadded(Hex(255u16), 6), b"0000FF");
     check_part(&rt, ZeroPadded(Fixed(-5i32, 2), 9), b"-00000.05");
+    check_part(&rt, Sign(-5, false), b"-");
+    check_part(&rt, Sign(i64::MIN, true), b"-");
+    check_part(&rt, Sign(0, false), b"");
+    check_part(&rt, Sign(0u8, true), b"+");
+    check_room(&rt, Sign(5u8, false), 1);
     check_part(&rt, Plus(0u8), b"+0");
     check_part(&rt, Plus(u64::MAX), b"+18446744073709551615");
     check_part(&rt, Plus(i8::MIN), b"-128");
@@ -126,4 +132,39 @@ fn rows_in_columns(rt: HostRuntime) {
     let mut row = [7; 36];
     assert_eq!(rt; write_table_row("total", -2147483648, -1234, &mut row), 36);
     assert_eq!(rt; row, *b"---total---- -2147483648......-1234\n");
+}
+
+// Checks the room of a `Formatted` of each type but `usize` and `isize`, which have 64 bits.
+fn check_rooms(rt: &impl Abort, format: &NumberFormat, rooms: [usize; 8]) {
+    check_room(rt, Formatted(0u8, format), rooms[0]);
+    check_room(rt, Formatted(0u16, format), rooms[1]);
+    check_room(rt, Formatted(0u32, format), rooms[2]);
+    check_room(rt, Formatted(0u64, format), rooms[3]);
+    check_room(rt, Formatted(0i8, format), rooms[4]);
+    check_room(rt, Formatted(0i16, format), rooms[5]);
+    check_room(rt, Formatted(0i32, format), rooms[6]);
+    check_room(rt, Formatted(0i64, format), rooms[7]);
+}
+
+// The lengths of `255`, `65,535` and so on, of `-128` and so on, and of `+255`, `FFFF_FFFF` and `-1.28`.
+#[test]
+fn rooms_of_formats(rt: HostRuntime) {
+    let thousands = NumberFormatBuilder::new().digit_grouping(3, b',');
+    let signed = thousands.required_mantissa_sign(true).build_strict();
+    let thousands = thousands.build_strict();
+    let hexadecimal = NumberFormatBuilder::new()
+        .mantissa_radix(16)
+        .digit_grouping(4, b'_')
+        .build_strict();
+    check_rooms(&rt, &thousands, [3, 6, 13, 26, 4, 7, 14, 26]);
+    check_rooms(&rt, &signed, [4, 7, 14, 27, 4, 7, 14, 26]);
+    check_rooms(&rt, &hexadecimal, [2, 4, 9, 19, 3, 5, 10, 20]);
+    check_room(&rt, GroupedFixed(0u8, 2, &thousands), 4);
+    check_room(&rt, GroupedFixed(0u16, 2, &thousands), 6);
+    check_room(&rt, GroupedFixed(0u32, 2, &thousands), 13);
+    check_room(&rt, GroupedFixed(0u64, 2, &thousands), 26);
+    check_room(&rt, GroupedFixed(0i8, 2, &thousands), 5);
+    check_room(&rt, GroupedFixed(0i16, 2, &thousands), 7);
+    check_room(&rt, GroupedFixed(0i32, 2, &thousands), 14);
+    check_room(&rt, GroupedFixed(0i64, 2, &thousands), 26);
 }

@@ -82,8 +82,8 @@ fn scientific_notation(rt: HostRuntime) {
 
 #[test]
 fn floats(rt: HostRuntime) {
-    assert_eq!(rt; write_float(true, 1234, -59, &mut [7; 34]), "-1.234e-56");
-    assert_eq!(rt; write_float(false, 5, 0, &mut [7; 34]), "5e0");
+    assert_eq!(rt; write_float(-1, 1234, -59, &mut [7; 34]), "-1.234e-56");
+    assert_eq!(rt; write_float(1, 5, 0, &mut [7; 34]), "5e0");
 }
 
 // The Rust program `tests/scientific.rs` makes the same 30,000 numbers and printed these sums of the texts that `{:e}`

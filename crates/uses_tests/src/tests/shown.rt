@@ -1,10 +1,11 @@
 // Parts in format strings, and texts in a `Vec` and a `String`.
 
-use lexical_parts::{Binary, Decimal, Formatted, Hex};
+use lexical_parts::{Binary, Decimal, Formatted, Hex, Plus};
 use lexical_write_integer::NumberFormatBuilder;
 use std::alloc::Alloc;
 use std::io::{self, Write};
 use std::test::Fail;
+use uses::csv_row::push_entries;
 use uses::log_lines::{push_line, push_str_line, write_line};
 use uses::printed::{amount_string, flags_in_column};
 
@@ -32,6 +33,29 @@ fn numbers_in_format_strings(rt: HostRuntime) -> Result<(), Fail> {
     let number = Formatted(-1234567, &thousands);
     let text = format!(in alloc; "{:12}|{:.3}", number, Decimal(98765u64))?;
     assert_eq!(rt; text.as_str(), "-1,234,567  |987");
+    let text = format!(in alloc; "{}|{:>6}|{}", Plus(42u8), Plus(0i16), Plus(-42))?;
+    assert_eq!(rt; text.as_str(), "+42|    +0|-42");
+    Ok(())
+}
+
+// The longest texts, of which no clause says that `fmt` has room for them.
+#[test]
+fn longest_texts_in_format_strings(rt: HostRuntime) -> Result<(), Fail> {
+    let alloc = rt.alloc();
+    let ones = NumberFormatBuilder::new()
+        .mantissa_radix(2)
+        .required_mantissa_sign(true)
+        .digit_grouping(1, b'.')
+        .build_strict();
+    let largest = Binary(18446744073709551615u64);
+    let text = format!(in alloc; "{}|{}", largest, Hex(18446744073709551615u64))?;
+    assert_eq!(rt;
+        text.as_str(),
+        "1111111111111111111111111111111111111111111111111111111111111111|FFFFFFFFFFFFFFFF"
+    );
+    let text = format!(in alloc; "{}", Formatted(-9223372036854775808i64, &ones))?;
+    assert_eq!(rt; text.len(), 128);
+    assert!(rt; text.starts_with("-1.0.0.0.") && text.ends_with(".0.0.0"));
     Ok(())
 }
 
@@ -65,6 +89,19 @@ fn lines_of_a_log(rt: HostRuntime) -> Result<(), Fail> {
     assert_eq!(rt;
         log.as_slice(),
         b"4294967295 0xFFFF\n0 0x0\n12 0xFF\n".as_slice()
+    );
+    Ok(())
+}
+
+#[test]
+fn entries_in_a_vector(rt: HostRuntime) -> Result<(), Fail> {
+    let mut entries = Vec::new(rt.alloc());
+    push_entries(&mut entries, &[])?;
+    push_entries(&mut entries, &[5, -6])?;
+    push_entries(&mut entries, &[-9223372036854775808])?;
+    assert_eq!(rt;
+        entries.as_slice(),
+        b"5;-6;-9223372036854775808;".as_slice()
     );
     Ok(())
 }

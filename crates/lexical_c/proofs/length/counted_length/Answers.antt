@@ -1,4 +1,4 @@
-use Rattle.std.proofs.Common.{◌≡◌, Bool, true, false, ◌+◌, ◌^◌, ◌<◌, ◌≤◌, length, unsigned_abs, refl, ap, ◌∙◌, arith}
+use Rattle.std.proofs.Common.{◌≡◌, Bool, true, false, ◌^◌, ◌<◌, ◌≤◌, length, unsigned_abs, refl, ap, ◌∙◌, arith}
 use Rattle.lexical_num.specs.Format.{grouped_length}
 use Rattle.lexical_num.specs.Sign.{sign_of}
 use Rattle.lexical_write_integer.specs.DigitCount.{digit_count}

@@ -13,7 +13,7 @@ returns-in-None-clause-answer c = λ bytes is.
     }
 
 -- the check finds this proof by itself, but with an answer the refusal of a mistake says what is wrong
-pub returns-in-None-clause-good : goal.returns-in-None-clause-good
-returns-in-None-clause-good c = λ bytes is.
+pub returns-in-None-clause-valid : goal.returns-in-None-clause-valid
+returns-in-None-clause-valid c = λ bytes is.
     let no : IsTrue false → ⊥ = λ yes. cc in
-    (λ yes. absurd (no yes), λ good. absurd (c.in-None.ensures.none bytes is good))
+    (λ yes. absurd (no yes), λ valid. absurd (c.in-None.ensures.none bytes is valid))

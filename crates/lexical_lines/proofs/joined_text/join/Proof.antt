@@ -59,18 +59,18 @@ join_spec 𝓤 𝓛 𝓜 𝓡 wired X Y L LY C g d gl dl gn dn gc dc gs ds gt dt
       ),
     ))
     (λ κs qs bounds a ghost are.
-    let values = a.0 in let mark = a.1.0 in let self = a.1.1.0 in let format = a.1.1.1.0 in let options = a.1.1.1.1.0 in
+    let values = a.0 in let separator = a.1.0 in let self = a.1.1.0 in let format = a.1.1.1.0 in let options = a.1.1.1.1.0 in
     let κv = κs.0 in let qv = qs.0 in let κ = κs.1.0 in let q = qs.1.0 in let room = are.1.1.0.0.1 in
     let words : List Val × (List Val × (List Val × (List Val × (List Val × Unit {0})))) =
-    (shr_slice_vals values, (uint_vals w8 mark, (mut_slice_vals self, (shr_vals format, (shr_vals options, tt))))) in
+    (shr_slice_vals values, (uint_vals w8 separator, (mut_slice_vals self, (shr_vals format, (shr_vals options, tt))))) in
     -- the length of buffer that the call requires, and what a text of the numbers is
     let needed = length values.now * (size_in gs.FORMATTED_SIZE gs.FORMATTED_SIZE_DECIMAL format.now + 1) in
-    let Text : List ℕ → Type 0 = AreJoined (λ x. IsText (gn.number x) format.now) (mark ∷ []) values.now in
+    let Text : List ℕ → Type 0 = AreJoined (λ x. IsText (gn.number x) format.now) (separator ∷ []) values.now in
     qed 𝓛 (((‵ (flft κv qv) ⊛ ‵ (flft κ q) ⊛ raw (toks 𝓛 4 κs.1.1 qs.1.1)) ⊛ (‵ ((ShrSlice (named 0) κv R).own_val values words.0) ⊛
-    ‵ (u8.own_val mark words.1.0) ⊛ ‵ ((MutSlice (named 1) κ u8).own_val self words.1.1.0) ⊛
+    ‵ (u8.own_val separator words.1.0) ⊛ ‵ ((MutSlice (named 1) κ u8).own_val self words.1.1.0) ⊛
     ‵ (owns (ShrRef (named 2) κs.1.1.0 NumberFormat ∷ ShrRef (named 3) κs.1.1.1.0 O ∷ []) a.1.1.1 words.1.1.1))) ∷ raw ((c κs a).requires tt) ∷ []) ∵
     split ! $ split3 ! $ move ! (3 ∷ []) $ split ! $ move ! (1 ∷ []) $ split3 ! $
-    -- [the mark; the slice; the references; the values; the token of κv; the token of κ; the other tokens; what is required]
+    -- [the separator; the slice; the references; the values; the token of κv; the token of κ; the other tokens; what is required]
     enter ! _ _ _ _ _ $ alloc_all ! (λ l. pass_all ! refl (
       (tt, (tt, (record { fits = are.0.0.1.0 }, tt))),
       ((tt, record { fits = are.1.0.1 }), ((tt, (tt, (record { fits = room.0 }, tt))), ((tt, tt), ((tt, tt), tt)))),
@@ -80,9 +80,9 @@ join_spec 𝓤 𝓛 𝓜 𝓡 wired X Y L LY C g d gl dl gn dn gc dc gs ds gt dt
     sets ! (agg ! (and_then ! (get ! refl) (and_then ! (get_in ! (fld ! refl (stop !)) (sub ! 1 refl (whole !))) (no_more !)))) refl
     (tt, (tt, (record { fits = room.0 }, tt))) $
     move ! (1 ∷ 5 ∷ []) $ lends 𝓛 u8 (named 1) κ q self ! tt (λ α δ.
-    -- [the loan; what the lender keeps; the token of α; the mark; the references; the values; the token of κv; the other tokens; what is required]
+    -- [the loan; what the lender keeps; the token of α; the separator; the references; the values; the token of κv; the other tokens; what is required]
     let z : Writes.Ghost =
-    (((κv, (α ∷ [], κs.1.1)), (qv, (full_share, qs.1.1)), bounds, (values, (mark, (record self { ghost_name = δ }, a.1.1.1))), words), tt) in
+    (((κv, (α ∷ [], κs.1.1)), (qv, (full_share, qs.1.1)), bounds, (values, (separator, (record self { ghost_name = δ }, a.1.1.1))), words), tt) in
     move ! (0 ∷ 4 ∷ []) $ join ! $ move ! (3 ∷ 0 ∷ []) $ join ! $ move ! (3 ∷ 0 ∷ []) $ join ! $ move ! (2 ∷ 4 ∷ []) $ join ! $
     move ! (3 ∷ 0 ∷ []) $ join ! $ join ! $ move ! (0 ∷ 2 ∷ []) $ join ! $ use1 𝓛 (raw (Writes.pre z)) (id⊢ 𝓤 _) $
     calls_at ! fm Writes writes z

@@ -28,13 +28,13 @@ loop-index-preserved g c =
     let many : length before ≡ index = length-take-le index values (omega arith) in
     let next : take (index + 1) values ≡ before ++ x ∷ [] = take_more values index x inside ∙ ap (λ y. before ++ y ∷ []) (sym c.index-values-index.is) in
     let was = c.loop-index.invariant.written in
-    let ready : Ready (IsOf x) (AreJoined IsOf (c.args.mark ∷ []) (before ++ x ∷ [])) c.args.buffer.now c.if-index-gt0.buffer c.if-index-gt0.count =
+    let ready : Ready (IsOf x) (AreJoined IsOf (c.args.separator ∷ []) (before ++ x ∷ [])) c.args.buffer.now c.if-index-gt0.buffer c.if-index-gt0.count =
     elim c.if-index-gt0.branch [
       | then-index-gt0 w ↦
-          rw (w.buffer-is, w.count-is) (Ready-push IsOf c.args.mark before x c.args.buffer.now c.loop-index.buffer
+          rw (w.buffer-is, w.count-is) (Ready-push IsOf c.args.separator before x c.args.buffer.now c.loop-index.buffer
           c.loop-index.count (omega (arith, many, w.if-index-gt0.true)) room was)
       | else-index-gt0 w ↦
-          rw (w.buffer-is, w.count-is) (Ready-one IsOf c.args.mark before x c.args.buffer.now c.loop-index.buffer
+          rw (w.buffer-is, w.count-is) (Ready-one IsOf c.args.separator before x c.args.buffer.now c.loop-index.buffer
           c.loop-index.count (omega (arith, many, w.if-index-gt0.false)) was)
     ] in
     let size = size_in g.T.FormattedSize.FORMATTED_SIZE g.T.FormattedSize.FORMATTED_SIZE_DECIMAL format in

@@ -1,5 +1,6 @@
 use Rattle.std.proofs.Common.{ℕ, arith}
 use Rattle.std.proofs.lemmas.List.{length-drop, length-take}
+use Rattle.std.proofs.lemmas.Grind.{common_steps}
 use Rattle.lexical_write_integer.specs.DigitCount.{digit_count-le}
 use Rattle.lexical_parts.proofs.Points.{written_point}
 use Rattle.lexical_parts.proofs.fixed.write_units.Goals as goal
@@ -37,3 +38,7 @@ pub returns-clause-text : goal.returns-clause-text
 returns-clause-text g c =
     written_point _ _ (omega (arith, c.if-decimals-eq0.false)) c.write_magnitude-count.ensures.digits.writes c.insert_fill.ensures c.insert_fill-2.ensures
     c.saturating_sub-zeros.ensures (omega (arith, c.saturating_sub-zeros.ensures))
+
+-- the check finds this proof by itself, but close to its limits
+pub returns-then-decimals-eq0-clause-text : goal.returns-then-decimals-eq0-clause-text
+returns-then-decimals-eq0-clause-text g c = grind (arith, common_steps)

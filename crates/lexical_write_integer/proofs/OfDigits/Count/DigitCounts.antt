@@ -1,9 +1,10 @@
 -- How many digits a number has: the least exponent, from both sides, and what a division by a power of the radix leaves.
-use Rattle.std.proofs.Common.{◌≡◌, ℕ, zero, suc, ◌+◌, ◌-◌, ◌*◌, ◌/◌, ◌^◌, ◌<◌, ◌≤◌, ltb, sym, inl, inr, arith}
+use Rattle.std.proofs.Common.{◌≡◌, ℕ, zero, suc, ◌+◌, ◌-◌, ◌*◌, ◌/◌, ◌^◌, ◌<◌, ◌≤◌, List, ltb, sym, inl, inr, arith}
 use Rattle.std.proofs.Math.Nat.{pow-zero, pow-le-pow_right, mul-le-mul_right, one-le-pow, div-lt_iff_lt-mul, div-mul-le_self, div-one}
 use Rattle.std.proofs.lemmas.Bool.{cases_lt, ltb-true, cond_both}
 use Rattle.std.proofs.lemmas.Nat.{pow-add}
 use Rattle.lexical_num.specs.BitWidth.{IsBitWidth, is_8, is_16, is_32, is_64}
+use Rattle.lexical_write_integer.specs.Buffer.{WritesDigits}
 use Rattle.lexical_write_integer.specs.Digits.DigitCount.{digit_count, least_exponent}
 pub use Rattle.lexical_write_integer.specs.Digits.DigitCount.{digit_count-le, digit_count-le_bits}
 use Rattle.lexical_write_integer.proofs.OfDigits.Powers.{lt-pow_self, pow-lt_more, pow-one}
@@ -99,6 +100,14 @@ digit_count-two r n two more less = digit_count-is r n 2 two (omega arith) less 
 
 -- ---- the numbers of a type
 
+-- a decimal width whose smallest number is within a limit
+pub width-le : (width most limit : ℕ) → 10 ^ (width - 1) ≤ limit → limit < 10 ^ most → width ≤ most
+width-le width most limit needed below =
+    elim (cases_lt most width) [
+      | inr few ↦ few
+      | inl more ↦ absurd (omega (arith, pow-le-pow_right {n = 10} (omega arith) {i = most} {j = width - 1} (omega arith), needed, below))
+    ]
+
 -- no type has more than 64 bits
 pub width-le_64 : (bits : ℕ) → IsBitWidth bits → bits ≤ 64
 width-le_64 bits is_8 = omega arith
@@ -115,10 +124,11 @@ width-some bits is_64 = omega arith
 
 -- a number has at most one digit for each bit of its type
 pub digit_count-le_width : (r n bits : ℕ) → 2 ≤ r → IsBitWidth bits → n < 2 ^ bits → digit_count r n ≤ bits
-digit_count-le_width r n bits two is_8 fits = digit_count-le_bits r n 8 two (omega arith) fits
-digit_count-le_width r n bits two is_16 fits = digit_count-le_bits r n 16 two (omega arith) fits
-digit_count-le_width r n bits two is_32 fits = digit_count-le_bits r n 32 two (omega arith) fits
-digit_count-le_width r n bits two is_64 fits = digit_count-le_bits r n 64 two (omega arith) fits
+digit_count-le_width r n bits two width fits = digit_count-le_bits r n bits two (width-some bits width) fits
+
+pub WritesDigits-short : {r n bits len : ℕ} {before after : List ℕ}
+    → WritesDigits r n before after len → 2 ≤ r → IsBitWidth bits → n < 2 ^ bits → len ≤ bits
+WritesDigits-short w two width fits = omega (arith, w.count, digit_count-le_width _ _ _ two width fits)
 
 -- and so at most 64 digits
 pub digit_count-le_64 : (r n bits : ℕ) → 2 ≤ r → IsBitWidth bits → n < 2 ^ bits → digit_count r n ≤ 64

@@ -1,43 +1,8 @@
 -- The powers of a radix by which the loops divide: which of them fit in which type.
-use Rattle.std.proofs.Common.{◌≡◌, ◌≢◌, ℕ, ◌+◌, ◌^◌, ◌<◌, ◌≤◌, ◌↔◌, true, ltb, leb, IsTrue, refl, inl, inr, arith}
+use Rattle.std.proofs.Common.{ℕ, ◌^◌, ◌<◌, ◌≤◌, arith}
 use Rattle.std.proofs.Math.Nat.{pow-zero, pow-le-pow_left, pow-le-pow_right}
-use Rattle.std.proofs.lemmas.Bool.{leb-true, le-leb, ltb-true, cases_lt}
-use Rattle.lexical_num.specs.BitWidth.{IsBitWidth, is_8, is_16, is_32, is_64}
 use Rattle.lexical_write_integer.specs.Digits.LoopTurns.{IsStep, takes_one, takes_two, takes_four}
 use Rattle.lexical_write_integer.proofs.OfDigits.Powers.{pow-lt_more}
-
--- if the powers of the radices up to a limit fit, and the power of the next does not
-pub fits_up_to : (limit radix exponent bits : ℕ)
-    → ltb (limit ^ exponent) (2 ^ bits) ≡ true → leb (2 ^ bits) ((limit + 1) ^ exponent) ≡ true
-    → IsTrue (leb radix limit) ↔ (radix ^ exponent < 2 ^ bits)
-fits_up_to limit radix exponent bits low high = (
-  λ few. omega (arith, ltb-true (limit ^ exponent) (2 ^ bits) low, pow-le-pow_left {n = radix} {m = limit} (leb-true radix limit few) exponent),
-  λ fits. elim (cases_lt limit radix) [
-    | inl more ↦ absurd (omega (arith, leb-true (2 ^ bits) ((limit + 1) ^ exponent) high, pow-le-pow_left {n = limit + 1} {m = radix} (omega arith) exponent))
-    | inr few ↦ le-leb radix limit few
-  ],
-)
-
-fits_36 : (radix exponent bits : ℕ) → radix ≤ 36 → ltb (36 ^ exponent) (2 ^ bits) ≡ true → IsTrue true ↔ (radix ^ exponent < 2 ^ bits)
-fits_36 radix exponent bits few low =
-    (λ _. omega (arith, ltb-true (36 ^ exponent) (2 ^ bits) low, pow-le-pow_left {n = radix} {m = 36} few exponent), λ _. refl)
-
--- if the power of every radix fits
-pub fits_always : (radix exponent bits : ℕ)
-    → radix ≤ 36 → IsStep exponent → IsBitWidth bits → (exponent ≡ 4 → bits ≢ 8) → (exponent ≡ 4 → bits ≢ 16)
-    → (exponent ≡ 2 → bits ≢ 8) → IsTrue true ↔ (radix ^ exponent < 2 ^ bits)
-fits_always radix exponent bits few takes_one is_8 four_8 four_16 two_8 = fits_36 radix 1 8 few refl
-fits_always radix exponent bits few takes_one is_16 four_8 four_16 two_8 = fits_36 radix 1 16 few refl
-fits_always radix exponent bits few takes_one is_32 four_8 four_16 two_8 = fits_36 radix 1 32 few refl
-fits_always radix exponent bits few takes_one is_64 four_8 four_16 two_8 = fits_36 radix 1 64 few refl
-fits_always radix exponent bits few takes_two is_8 four_8 four_16 two_8 = absurd (two_8 refl refl)
-fits_always radix exponent bits few takes_two is_16 four_8 four_16 two_8 = fits_36 radix 2 16 few refl
-fits_always radix exponent bits few takes_two is_32 four_8 four_16 two_8 = fits_36 radix 2 32 few refl
-fits_always radix exponent bits few takes_two is_64 four_8 four_16 two_8 = fits_36 radix 2 64 few refl
-fits_always radix exponent bits few takes_four is_8 four_8 four_16 two_8 = absurd (four_8 refl refl)
-fits_always radix exponent bits few takes_four is_16 four_8 four_16 two_8 = absurd (four_16 refl refl)
-fits_always radix exponent bits few takes_four is_32 four_8 four_16 two_8 = fits_36 radix 4 32 few refl
-fits_always radix exponent bits few takes_four is_64 four_8 four_16 two_8 = fits_36 radix 4 64 few refl
 
 -- the steps of the loops
 pub ruleset steps = (takes_one, takes_two, takes_four)

@@ -1,22 +1,12 @@
--- Pairs of decimal digits: those of the table, and how the pairs of a fraction make up the digits that it carries.
-use Rattle.std.proofs.Common.{◌≡◌, ℕ, ◌+◌, ◌*◌, ◌/◌, ◌%◌, ◌^◌, ◌<◌, ◌≤◌, List, length, get_or, set, arith}
-use Rattle.lexical_tables.specs.Pairs.{pairs}
-use Rattle.lexical_tables.proofs.Pairs.{slice_index-pairs_first, slice_index-pairs_second}
+-- How the pairs of a fraction make up the digits that it carries.
+use Rattle.std.proofs.Common.{◌≡◌, ℕ, ◌+◌, ◌*◌, ◌/◌, ◌%◌, ◌^◌, ◌≤◌, List, length, arith}
 use Rattle.lexical_write_integer.specs.Buffer.{WritesBlock, WritesDigits}
 use Rattle.lexical_write_integer.specs.Digits.Carries.{carried}
 use Rattle.lexical_write_integer.specs.Digits.DigitCount.{digit_count}
 use Rattle.lexical_write_integer.proofs.Buffers.BlocksAfter.{WritesDigits-after}
 use Rattle.lexical_write_integer.proofs.OfDigits.Count.DigitCounts.{digit_count-monotone, digit_count-split}
 use Rattle.lexical_write_integer.proofs.OfDigits.Decimal.Fractions.{carried-more, carried-monotone}
-use Rattle.lexical_write_integer.proofs.OfDigits.Radix.TablePairs.{WritesBlock-two}
 pub use Rattle.lexical_write_integer.proofs.OfDigits.Count.DigitCounts.{widths}
-
--- a pair from the table
-pub WritesBlock-table : (r pair at : ℕ) (list table : List ℕ)
-    → 0 < r → table ≡ pairs r → pair < r * r → at + 2 ≤ length list
-    → WritesBlock r 2 pair at list (set (set list (at + 1) (get_or table (2 * pair + 1) 0)) at (get_or table (2 * pair) 0))
-WritesBlock-table r pair at list table some is small room =
-    rw (is, slice_index-pairs_first r pair small, slice_index-pairs_second r pair small) (WritesBlock-two r pair at list some small room)
 
 -- fewer pairs have no more digits
 pub room_for_carried : (y i k room : ℕ) → i ≤ k → digit_count 10 (carried y k) ≤ room → digit_count 10 (carried y i) ≤ room

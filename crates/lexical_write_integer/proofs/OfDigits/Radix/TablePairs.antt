@@ -1,19 +1,14 @@
 -- Pairs of digits, which are read from a table that begins with the pairs of the radix.
-use Rattle.std.proofs.Common.{◌≡◌, ℕ, ◌+◌, ◌*◌, ◌/◌, ◌%◌, ◌^◌, ◌<◌, ◌≤◌, List, length, get_or, set, refl, sym, ap, subst, ◌∙◌, arith, length-take, length-set}
+use Rattle.std.proofs.Common.{◌≡◌, ℕ, ◌+◌, ◌*◌, ◌/◌, ◌%◌, ◌^◌, ◌<◌, ◌≤◌, List, length, get_or, set, sym, ap, subst, ◌∙◌, arith, length-take, length-set}
 use Rattle.std.proofs.Math.Nat.{mod-lt, div-add-mod'}
 use Rattle.std.proofs.lemmas.List.{get_or-take}
 use Rattle.std.proofs.lemmas.Nat.{div_below}
 use Rattle.lexical_num.specs.Digit.{digit_char}
-use Rattle.lexical_tables.specs.Pairs as Tables
 use Rattle.lexical_tables.proofs.Pairs.{length-pairs, slice_index-pairs_first, slice_index-pairs_second}
 use Rattle.lexical_write_integer.specs.Buffer.{WritesBlock}
 use Rattle.lexical_write_integer.specs.Digits.Table.{BeginsWithPairs}
 use Rattle.lexical_write_integer.proofs.Buffers.Blocks.{WritesBlock-one, WritesBlock-front}
 use Rattle.lexical_write_integer.proofs.OfDigits.Powers.{pow-two, pow-one}
-
--- the tables have the characters of digits that the writers use
-same_characters : (digit : ℕ) → Tables.digit_char digit ≡ digit_char digit
-same_characters digit = refl
 
 -- a radix that equals another has its table
 pub begins_in_arm : {radix r : ℕ} {table : List ℕ} → BeginsWithPairs radix table → radix ≡ r → BeginsWithPairs r table
@@ -22,26 +17,19 @@ begins_in_arm {table = table} t is = subst (λ k. BeginsWithPairs k table) is t
 pub length-table : (r : ℕ) (table : List ℕ) → BeginsWithPairs r table → 2 * (r * r) ≤ length table
 length-table r table t = omega (arith, length-pairs r, ap length t.first, length-take (2 * (r * r)) table)
 
-pub pair_first : (r index : ℕ) (table : List ℕ)
-    → BeginsWithPairs r table → index % 2 ≡ 0 → index / 2 < r * r → get_or table index 0 ≡ digit_char (index / 2 / r)
-pair_first r index table t even within =
-    let twice : 2 * (index / 2) ≡ index = omega arith in
-    sym (get_or-take (2 * (r * r)) table index 0 (omega arith))
-    ∙ ap (λ list. get_or list index 0) t.first
-    ∙ rw twice at (slice_index-pairs_first r (index / 2) within)
-    ∙ same_characters (index / 2 / r)
+-- the two characters of a pair
+pub pair_first : (r k : ℕ) (table : List ℕ) → BeginsWithPairs r table → k < r * r → get_or table (2 * k) 0 ≡ digit_char (k / r)
+pair_first r k table t small =
+    sym (get_or-take (2 * (r * r)) table (2 * k) 0 (omega arith)) ∙ ap (λ list. get_or list (2 * k) 0) t.first ∙ slice_index-pairs_first r k small
 
-pub pair_second : (r index : ℕ) (table : List ℕ)
-    → BeginsWithPairs r table → index % 2 ≡ 0 → index / 2 < r * r → get_or table (index + 1) 0 ≡ digit_char (index / 2 % r)
-pair_second r index table t even within =
-    let twice : 2 * (index / 2) ≡ index = omega arith in
-    sym (get_or-take (2 * (r * r)) table (index + 1) 0 (omega arith))
-    ∙ ap (λ list. get_or list (index + 1) 0) t.first
-    ∙ rw twice at (slice_index-pairs_second r (index / 2) within)
-    ∙ same_characters (index / 2 % r)
+pub pair_second : (r k : ℕ) (table : List ℕ) → BeginsWithPairs r table → k < r * r → get_or table (2 * k + 1) 0 ≡ digit_char (k % r)
+pair_second r k table t small =
+    sym (get_or-take (2 * (r * r)) table (2 * k + 1) 0 (omega arith))
+    ∙ ap (λ list. get_or list (2 * k + 1) 0) t.first
+    ∙ slice_index-pairs_second r k small
 
 -- two digits, the last one first
-pub WritesBlock-two : (r n at : ℕ) (list : List ℕ) → 0 < r → n < r * r → at + 2 ≤ length list
+WritesBlock-two : (r n at : ℕ) (list : List ℕ) → 0 < r → n < r * r → at + 2 ≤ length list
     → WritesBlock r 2 n at list (set (set list (at + 1) (digit_char (n % r))) at (digit_char (n / r)))
 WritesBlock-two r n at list some small room =
     let between = set list (at + 1) (digit_char (n % r)) in
@@ -51,29 +39,16 @@ WritesBlock-two r n at list some small room =
     let first = WritesBlock-one r (n / r) at between (div_below n r r some small) (omega (arith, same)) in
     rw whole at (WritesBlock-front last first)
 
-pub WritesBlock-pair : (r index at : ℕ) (table list : List ℕ)
-    → 0 < r → BeginsWithPairs r table → index % 2 ≡ 0 → index / 2 < r * r → at + 2 ≤ length list
-    → WritesBlock r 2 (index / 2) at list (set (set list (at + 1) (get_or table (index + 1) 0)) at (get_or table index 0))
-WritesBlock-pair r index at table list some t even within room =
-    let first = pair_first r index table t even within in
-    let second = pair_second r index table t even within in
-    rw (first, second) (WritesBlock-two r (index / 2) at list some within room)
-
--- the index of a pair is twice its number
-pub half : (k : ℕ) → 2 * k / 2 ≡ k
-half k = omega arith
+-- a pair from the table
+pub WritesBlock-pair : (r k at : ℕ) (table list : List ℕ) → 0 < r → BeginsWithPairs r table → k < r * r → at + 2 ≤ length list
+    → WritesBlock r 2 k at list (set (set list (at + 1) (get_or table (2 * k + 1) 0)) at (get_or table (2 * k) 0))
+WritesBlock-pair r k at table list some t small room =
+    rw (pair_first r k table t small, pair_second r k table t small) (WritesBlock-two r k at list some small room)
 
 -- the two pairs of four digits, the last pair first
 pub WritesBlock-pairs : (r n square : ℕ) {at : ℕ} {before between after : List ℕ}
-    → square ≡ r * r → WritesBlock r 2 (2 * (n % square) / 2) (at + 2) before between → WritesBlock r 2 (2 * (n / square) / 2) at between after
+    → square ≡ r * r → WritesBlock r 2 (n % square) (at + 2) before between → WritesBlock r 2 (n / square) at between after
     → WritesBlock r 4 n at before after
 WritesBlock-pairs r n square is last first =
     let whole : n / square * r ^ 2 + n % square ≡ n = rw (pow-two, ← is) (div-add-mod' n square) in
-    rw whole at (WritesBlock-front (rw half at last) (rw half at first))
-
--- the two characters of a pair
-pub first_digit : (r k : ℕ) (table : List ℕ) → BeginsWithPairs r table → k < r * r → get_or table (2 * k) 0 ≡ digit_char (k / r)
-first_digit r k table t small = rw half at (pair_first r (2 * k) table t (omega arith) (rw half small))
-
-pub second_digit : (r k : ℕ) (table : List ℕ) → BeginsWithPairs r table → k < r * r → get_or table (2 * k + 1) 0 ≡ digit_char (k % r)
-second_digit r k table t small = rw half at (pair_second r (2 * k) table t (omega arith) (rw half small))
+    rw whole at (WritesBlock-front last first)

@@ -7,22 +7,8 @@ ghost use Rattle.lexical_write_integer.specs.Digits.DecimalTurns.{WritesDecimal,
 ghost use Rattle.lexical_write_integer.specs.Digits.DigitCount.{digit_count};
 
 use super::kernels::next2;
+use crate::digits::pairs::RadixTable;
 use crate::turns::Turns;
-use lexical_tables::get_table;
-
-// Writes the two digits of a number below 100 at index `at`.
-fn write_pair(pair: u32, at: usize, buffer: &mut [u8])
-    requires pair { pair < 100 }
-    requires room { at + 2 ≤ length buffer.old }
-    ensures { WritesBlock 10 2 pair at buffer.old buffer.new }
-{
-    let table = get_table(10);
-    let index = 2 * pair as usize;
-    let first = table[index];
-    let second = table[index + 1];
-    buffer[at + 1] = second;
-    buffer[at] = first;
-}
 
 /// Writes the one or two digits of a number below 100 to the start of the buffer, and returns how many
 /// there are.
@@ -34,7 +20,7 @@ pub(crate) fn write_one_or_two(pair: u32, buffer: &mut [u8]) -> usize
 {
     // A single digit is the second of its pair. It is written twice to the same byte, to avoid a branch.
     let is_pair = pair >= 10;
-    let table = get_table(10);
+    let table = RadixTable::<10>::new().pairs;
     let index = 2 * pair as usize;
     let first = table[index + 1 - is_pair as usize];
     let second = table[index + 1];
@@ -60,11 +46,12 @@ pub(crate) fn write_pairs(
         buffer.old buffer.new turns.old turns.new result }
 {
     let mut count = write_one_or_two((fraction >> 32) as u32, buffer);
+    let table = RadixTable::<10>::new();
     let mut rest = fraction;
     for _ in 0..pair_count {
         let pair = next2(&mut rest);
         turns.tick(rest);
-        write_pair(pair, count, buffer);
+        table.write(pair, buffer, count);
         count += 2;
     }
     count
@@ -77,7 +64,7 @@ fn write_and_record_pair(pair: u32, at: usize, buffer: &mut [u8], turns: &mut Tu
     ensures block { WritesBlock 10 2 pair at buffer.old buffer.new }
     ensures notes { turns.new ≡ turns.old ++ pair ∷ [] }
 {
-    write_pair(pair, at, buffer);
+    RadixTable::<10>::new().write(pair, buffer, at);
     turns.tick(u64::from(pair));
 }
 
@@ -113,11 +100,12 @@ pub(crate) fn write_decimal_block(number: u64, buffer: &mut [u8])
     requires { number < 10 ^ length buffer.old }
     ensures { WritesBlock 10 (length buffer.old) number 0 buffer.old buffer.new }
 {
+    let table = RadixTable::<10>::new();
     let mut left = number;
     let mut at = buffer.len();
     while at > 1 {
         at -= 2;
-        write_pair((left % 100) as u32, at, buffer);
+        table.write((left % 100) as u32, buffer, at);
         left /= 100;
     }
     if at == 1 {

@@ -4,7 +4,7 @@
 //! (<https://github.com/jeaiii/itoa>); Lemire, Kaser and Kurz, "Faster Remainder by Direct Computation"
 //! (2019), describe how digits are obtained from the fraction of a product with a reciprocal.
 //!
-//! Each `_counted` function writes what the function without that suffix writes, and notes in `turns` what
+//! Each `_counted` function writes what the function without that suffix writes, and records in `turns` what
 //! each iteration computes: one number for each pair of digits after the first, and at most 9.
 //!
 //! Examples of the writers are in `crates/write_integer_tests/src/decimal_values.rt`, and of the kernels
@@ -13,7 +13,7 @@
 
 ghost use Rattle.std.specs.Prelude.{◌+◌, ◌-◌, ◌/◌, ◌^◌, ◌<◌, ◌≤◌, length};
 ghost use Rattle.lexical_write_integer.specs.Buffer.{WritesDigits};
-ghost use Rattle.lexical_write_integer.specs.Digits.DecimalTurns.{WritesDecimal, decimal_notes_32, decimal_notes_64};
+ghost use Rattle.lexical_write_integer.specs.Digits.DecimalTurns.{WritesDecimal, decimal_notes, decimal_notes_32, decimal_notes_64};
 ghost use Rattle.lexical_write_integer.specs.Digits.DigitCount.{digit_count};
 
 use super::decimal_pairs::{write_last_ten, write_one_or_two, write_pairs};
@@ -24,7 +24,7 @@ use crate::turns::Turns;
 use lexical_num::num::UnsignedInteger;
 
 // Writes the digits of a number of up to 32 bits.
-pub(super) fn write_32(n: u32, buffer: &mut [u8], turns: &mut Turns) -> usize
+fn write_32(n: u32, buffer: &mut [u8], turns: &mut Turns) -> usize
     requires { digit_count 10 n ≤ length buffer.old }
     ensures { WritesDecimal n (decimal_notes_32 n) buffer.old buffer.new turns.old turns.new result }
 {
@@ -50,7 +50,7 @@ pub(super) fn write_32(n: u32, buffer: &mut [u8], turns: &mut Turns) -> usize
 // Writes the digits of a number of up to 64 bits. If it has more than ten digits, the last ten are
 // written by division, after the digits before them.
 #[tactic(auto, using(crate::proofs::OfDigits::Count::DigitCounts::widths), unfolding(crate::specs::Digits::DecimalTurns::decimal_notes_64))]
-pub(super) fn write_64(n: u64, buffer: &mut [u8], turns: &mut Turns) -> usize
+fn write_64(n: u64, buffer: &mut [u8], turns: &mut Turns) -> usize
     requires { digit_count 10 n ≤ length buffer.old }
     ensures { WritesDecimal n (decimal_notes_64 n) buffer.old buffer.new turns.old turns.new result }
 {
@@ -65,17 +65,21 @@ pub(super) fn write_64(n: u64, buffer: &mut [u8], turns: &mut Turns) -> usize
     }
 }
 
-/// Writes the digits of a number of any type to the start of the buffer, and returns how many there are. The
-/// buffer has room for the digits.
-pub(crate) fn write_decimal<T: UnsignedInteger>(value: T, buffer: &mut [u8]) -> usize
+// Writes the digits of a number of any type.
+pub(crate) fn write_decimal<T: UnsignedInteger>(
+    value: T,
+    buffer: &mut [u8],
+    turns: &mut Turns,
+) -> usize
     requires { digit_count 10 (T.magnitude value) ≤ length buffer.old }
-    ensures { WritesDigits 10 (T.magnitude value) buffer.old buffer.new result }
+    ensures { WritesDecimal (T.magnitude value) (decimal_notes T.BITS (T.magnitude value))
+        buffer.old buffer.new turns.old turns.new result }
 {
     value.fits_bits();
-    if T::BITS <= 32 {
-        write_32(value.as_u32(), buffer, &mut Turns::new())
+    if T::BITS == 64 {
+        write_64(value.as_usize() as u64, buffer, turns)
     } else {
-        write_64(value.as_usize() as u64, buffer, &mut Turns::new())
+        write_32(value.as_u32(), buffer, turns)
     }
 }
 
@@ -130,7 +134,7 @@ pub fn from_i64(n: u64, buffer: &mut [u8]) -> usize
     from_i64_counted(n, buffer, &mut Turns::new())
 }
 
-/// Writes the digits as `from_u8` does, under the same condition, and notes its iterations.
+/// Writes the digits as `from_u8` does, under the same condition, and records its iterations.
 pub fn from_u8_counted(n: u8, buffer: &mut [u8], turns: &mut Turns) -> usize
     requires { 3 ≤ length buffer.old }
     ensures writes { WritesDecimal n (decimal_notes_32 n) buffer.old buffer.new turns.old turns.new result }
@@ -140,7 +144,7 @@ pub fn from_u8_counted(n: u8, buffer: &mut [u8], turns: &mut Turns) -> usize
     write_32(u32::from(n), buffer, turns)
 }
 
-/// Writes the digits as `from_u16` does, under the same condition, and notes its iterations.
+/// Writes the digits as `from_u16` does, under the same condition, and records its iterations.
 pub fn from_u16_counted(n: u16, buffer: &mut [u8], turns: &mut Turns) -> usize
     requires { 5 ≤ length buffer.old }
     ensures writes { WritesDecimal n (decimal_notes_32 n) buffer.old buffer.new turns.old turns.new result }
@@ -150,7 +154,7 @@ pub fn from_u16_counted(n: u16, buffer: &mut [u8], turns: &mut Turns) -> usize
     write_32(u32::from(n), buffer, turns)
 }
 
-/// Writes the digits as `from_u32` does, under the same condition, and notes its iterations.
+/// Writes the digits as `from_u32` does, under the same condition, and records its iterations.
 pub fn from_u32_counted(n: u32, buffer: &mut [u8], turns: &mut Turns) -> usize
     requires { 10 ≤ length buffer.old }
     ensures writes { WritesDecimal n (decimal_notes_32 n) buffer.old buffer.new turns.old turns.new result }
@@ -160,7 +164,7 @@ pub fn from_u32_counted(n: u32, buffer: &mut [u8], turns: &mut Turns) -> usize
     write_32(n, buffer, turns)
 }
 
-/// Writes the digits as `from_u64` does, under the same condition, and notes its iterations.
+/// Writes the digits as `from_u64` does, under the same condition, and records its iterations.
 pub fn from_u64_counted(n: u64, buffer: &mut [u8], turns: &mut Turns) -> usize
     requires { 20 ≤ length buffer.old }
     ensures writes { WritesDecimal n (decimal_notes_64 n) buffer.old buffer.new turns.old turns.new result }
@@ -170,7 +174,7 @@ pub fn from_u64_counted(n: u64, buffer: &mut [u8], turns: &mut Turns) -> usize
     write_64(n, buffer, turns)
 }
 
-/// Writes the digits as `from_i64` does, under the same conditions, and notes its iterations.
+/// Writes the digits as `from_i64` does, under the same conditions, and records its iterations.
 pub fn from_i64_counted(n: u64, buffer: &mut [u8], turns: &mut Turns) -> usize
     requires number { n < 10 ^ 19 }
     requires room { 19 ≤ length buffer.old }
@@ -178,5 +182,6 @@ pub fn from_i64_counted(n: u64, buffer: &mut [u8], turns: &mut Turns) -> usize
     ensures short { result ≤ 19 }
     ensures few { length turns.new ≤ length turns.old + 9 }
 {
+    prove!(n < 10_000_000_000_000_000_000);
     write_64(n, buffer, turns)
 }

@@ -11,6 +11,7 @@ pub fn fixed_2(n: u32) -> u64
     ensures number { result ≡ n * 42949673 }
     ensures carries { Carries n result 1 }
 {
+    prove!(n < 10_000);
     u64::from(n) * 42_949_673
 }
 
@@ -20,6 +21,7 @@ pub fn fixed_4(n: u32) -> u64
     ensures number { result ≡ n * 429497 }
     ensures carries { Carries n result 2 }
 {
+    prove!(n < 1_000_000);
     u64::from(n) * 429_497
 }
 
@@ -31,6 +33,8 @@ pub fn fixed_6(n: u32) -> u64
     ensures number { result ≡ n * 281474978 / 2 ^ 16 }
     ensures carries { Carries n result 3 }
 {
+    prove!(n >= 1_000_000);
+    prove!(n < 100_000_000);
     (u64::from(n) * 281_474_978) >> 16
 }
 
@@ -42,6 +46,8 @@ pub fn fixed_8_nine(n: u32) -> u64
     ensures number { result ≡ n * 1441151882 / 2 ^ 25 }
     ensures carries { Carries n result 4 }
 {
+    prove!(n >= 100_000_000);
+    prove!(n < 1_000_000_000);
     (u64::from(n) * 1_441_151_882) >> 25
 }
 
@@ -52,6 +58,7 @@ pub fn fixed_8_ten(n: u32) -> u64
     ensures number { result ≡ n * 1441151881 / 2 ^ 25 }
     ensures carries { Carries n result 4 }
 {
+    prove!(n >= 1_000_000_000);
     // The multiplier for nine digits is 1 more: with it, 4,294,967,295 would end in 8.
     (u64::from(n) * 1_441_151_881) >> 25
 }
@@ -63,6 +70,8 @@ pub fn fixed_8_wide(n: u64) -> u64
     ensures number { result ≡ n * 11529215047 / 2 ^ 28 }
     ensures carries { Carries n result 4 }
 {
+    prove!(n >= 1_000_000_000);
+    prove!(n < 10_000_000_000);
     // The product needs more than 64 bits.
     ((u128::from(n) * 11_529_215_047) >> 28) as u64
 }

@@ -1,16 +1,46 @@
-//! The table writer, which writes four digits per iteration from a table of the digit pairs of the radix.
+//! The table writer, which writes four digits per iteration from a table of the digit pairs of the radix, or in
+//! radix 2 eight, which it computes.
+//!
 //! `crates/write_integer_tests/src/tables.rt` has examples.
 
-ghost use Rattle.std.specs.Prelude.{◌≡◌, ◌+◌, ◌≤◌, ◌++◌, length};
+ghost use Rattle.std.specs.Prelude.{◌≡◌, ◌+◌, ◌≤◌, ◌++◌, IsTrue, length};
 ghost use Rattle.lexical_num.specs.Format.{IsRadix};
 ghost use Rattle.lexical_write_integer.specs.Buffer.{WritesDigits};
 ghost use Rattle.lexical_write_integer.specs.Digits.DigitCount.{digit_count};
 ghost use Rattle.lexical_write_integer.specs.Digits.Table.{BeginsWithPairs};
-ghost use Rattle.lexical_write_integer.specs.Digits.LoopTurns.{table_notes, table_turns};
+ghost use Rattle.lexical_write_integer.specs.Digits.LoopTurns.{WritesByTable, table_notes, table_turns};
 
-use super::table_writer::write_digits_in;
+use super::by_radix::by_radix;
+use super::write_digits;
 use crate::digits::count::DigitCount;
 use crate::turns::Turns;
+
+// Calls `write_digits` for a radix that is known only at run time.
+fn write_digits_in(
+    number: u64,
+    radix: u32,
+    table: &[u8],
+    buffer: &mut [u8],
+    turns: &mut Turns,
+) -> usize
+    requires radix { IsRadix radix }
+    requires table { BeginsWithPairs radix table.now }
+    requires room { digit_count radix number ≤ length buffer.old }
+    ensures { WritesByTable radix number buffer.old buffer.new turns.old turns.new result }
+{
+    by_radix!(radix, write_digits::<u64>(number, table, buffer, turns))
+}
+
+// Returns whether the table is long enough for the radix, and has the pair `10` for the number that is the radix, which
+// no table of another radix has.
+fn begins_with_pairs(radix: u32, table: &[u8]) -> bool
+    requires radix { IsRadix radix }
+    requires table { BeginsWithPairs radix table.now }
+    ensures { IsTrue result }
+{
+    let pair = 2 * radix as usize;
+    table.len() >= pair * radix as usize && table[pair] == b'1' && table[pair + 1] == b'0'
+}
 
 /// Writes the digits of the number to the start of the buffer, and returns how many there are. The radix is
 /// from 2 to 36, the table begins with the digit pairs of the radix, and the buffer has room for the
@@ -32,6 +62,7 @@ pub fn algorithm_counted<T: DigitCount>(
     ensures few_turns { length turns.new ≤ length turns.old + 21 }
     ensures short { result ≤ T.BITS }
 {
+    prove!(begins_with_pairs(radix, table));
     value.fits_bits();
     write_digits_in(value.as_usize() as u64, radix, table, buffer, turns)
 }

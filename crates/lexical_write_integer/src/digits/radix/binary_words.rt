@@ -1,13 +1,14 @@
 // Writing binary digits, eight at a time, as the bytes of a word.
 
 ghost use Rattle.std.specs.Prelude.{◌≡◌, ◌+◌, ◌/◌, ◌<◌, ◌≤◌, ◌++◌, length};
-ghost use Rattle.lexical_write_integer.specs.Buffer.{WritesBlock, WritesDigits};
+ghost use Rattle.lexical_write_integer.specs.Buffer.{WritesBlock};
 ghost use Rattle.lexical_write_integer.specs.Digits.DigitCount.{digit_count};
 ghost use Rattle.lexical_write_integer.specs.Digits.Table.{BeginsWithPairs};
-ghost use Rattle.lexical_write_integer.specs.Digits.LoopTurns.{loop_notes, table_notes};
+ghost use Rattle.lexical_write_integer.specs.Digits.LoopTurns.{WritesByTable, loop_notes};
 
-use super::table_writer::{RadixTable, first_pair, remove_eight, write_up_to_four};
+use super::table_writer::{first_pair, remove_four, write_up_to_four};
 use crate::digits::count::digit_count_counted;
+use crate::digits::pairs::RadixTable;
 use crate::turns::Turns;
 
 // Writes the eight binary digits of a number below 256 at index `at`. The product has the number eight times, nine
@@ -33,19 +34,19 @@ fn write_four_bits(bits: u32, buffer: &mut [u8], at: usize)
     buffer[at..at + 4].copy_from_slice(&characters);
 }
 
-// Divides a number of up to eight digits by 16 if it has more than four, and then by 4 if more than two are left.
-// Records the quotients, and returns the number, put together from them: the digits come from what is recorded.
-fn record_up_to_eight(number: u32, turns: &mut Turns) -> u32
+// Records the quotients of a number of up to eight digits: by 16 if it has more than four, and then by 4 if more than
+// two are left.
+fn record_up_to_eight(number: u32, turns: &mut Turns)
     requires { number < 256 }
-    ensures number { result ≡ number }
-    ensures notes { turns.new ≡ turns.old ++ loop_notes 2 number }
+    ensures { turns.new ≡ turns.old ++ loop_notes 2 number }
 {
     if number < 16 {
-        return 4 * first_pair::<2>(number, turns) + number % 4;
+        first_pair::<2>(number, turns);
+        return;
     }
     let left = number / 16;
     turns.tick(u64::from(left));
-    64 * first_pair::<2>(left, turns) + 16 * (left % 4) + number % 16
+    first_pair::<2>(left, turns);
 }
 
 // Writes a number of up to eight binary digits, with a table that begins with their pairs. If there are more than four,
@@ -59,8 +60,7 @@ pub(super) fn write_binary_byte(
     requires short { number < 256 }
     requires table { BeginsWithPairs 2 table.now }
     requires room { digit_count 2 number ≤ length buffer.old }
-    ensures digits { WritesDigits 2 number buffer.old buffer.new result }
-    ensures notes { turns.new ≡ turns.old ++ table_notes 2 number }
+    ensures { WritesByTable 2 number buffer.old buffer.new turns.old turns.new result }
 {
     let count = digit_count_counted(number, 2, turns);
     if count <= 4 {
@@ -68,9 +68,9 @@ pub(super) fn write_binary_byte(
         write_up_to_four(number, count, table, buffer, turns);
         return count;
     }
-    let bits = record_up_to_eight(number, turns);
-    write_four_bits(bits / 16 << (8 - count), buffer, 0);
-    write_four_bits(bits % 16, buffer, count - 4);
+    record_up_to_eight(number, turns);
+    write_four_bits((number / 16) << (8 - count), buffer, 0);
+    write_four_bits(number % 16, buffer, count - 4);
     count
 }
 
@@ -79,21 +79,22 @@ pub(super) fn write_binary_byte(
 pub(super) fn write_binary(value: u64, buffer: &mut [u8], turns: &mut Turns) -> usize
     requires long { 256 ≤ value }
     requires room { digit_count 2 value ≤ length buffer.old }
-    ensures digits { WritesDigits 2 value buffer.old buffer.new result }
-    ensures notes { turns.new ≡ turns.old ++ table_notes 2 value }
+    ensures { WritesByTable 2 value buffer.old buffer.new turns.old turns.new result }
 {
     let count = digit_count_counted(value, 2, turns);
     let mut left = value;
     let mut at = count;
     while at > 16 {
-        let (_, next) = remove_eight::<2>(left, &mut Turns::new(), turns);
+        let first = remove_four::<2>(left, turns);
+        let next = remove_four::<2>(first, turns);
         at -= 8;
         write_eight_bits(left % 256, buffer, at);
         left = next;
     }
-    let (_, rest) = remove_eight::<2>(left, &mut Turns::new(), turns);
-    let first = record_up_to_eight(rest as u32, turns);
-    write_eight_bits(u64::from(first) << (16 - at), buffer, 0);
+    let first = remove_four::<2>(left, turns);
+    let rest = remove_four::<2>(first, turns);
+    record_up_to_eight(rest as u32, turns);
+    write_eight_bits(rest << (16 - at), buffer, 0);
     write_eight_bits(left % 256, buffer, at - 8);
     count
 }

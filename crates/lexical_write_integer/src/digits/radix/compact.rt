@@ -1,5 +1,6 @@
-//! The compact writer, which writes one digit per iteration. `crates/write_integer_tests/src/tables.rt`
-//! has examples.
+//! The compact writer, which writes one digit per iteration.
+//!
+//! `crates/write_integer_tests/src/tables.rt` has examples.
 
 ghost use Rattle.std.specs.Prelude.{◌≡◌, ◌+◌, ◌/◌, ◌%◌, ◌<◌, ◌≤◌, ◌++◌, [], ◌∷◌, length, drop};
 ghost use Rattle.lexical_num.specs.Digit.{digit_char};
@@ -11,7 +12,6 @@ ghost use Rattle.lexical_write_integer.specs.Digits.LoopTurns.{compact_notes, co
 
 use super::by_radix::by_radix;
 use crate::buffer::copy_to_front;
-use crate::digits::count::{counts_at_once, digit_count_counted};
 use crate::turns::Turns;
 use lexical_num::constants::FormattedSize;
 use lexical_num::digit::digit_to_char;
@@ -44,16 +44,16 @@ fn write_to_end<const RADIX: u32>(value: u64, buffer: &mut [u8], turns: &mut Tur
 {
     let radix = u64::from(RADIX);
     let mut index = buffer.len();
-    let mut rest = value;
-    while rest >= radix {
-        let left = rest / radix;
-        turns.tick(left);
+    let mut left = value;
+    while left >= radix {
+        let next = left / radix;
+        turns.tick(next);
         index -= 1;
-        buffer[index] = char_of::<RADIX>((rest % radix) as u32);
-        rest = left;
+        buffer[index] = char_of::<RADIX>((left % radix) as u32);
+        left = next;
     }
     index -= 1;
-    buffer[index] = char_of::<RADIX>(rest as u32);
+    buffer[index] = char_of::<RADIX>(left as u32);
     index
 }
 
@@ -65,12 +65,6 @@ fn write_in_radix<const RADIX: u32>(value: u64, buffer: &mut [u8]) -> (usize, Tu
     ensures notes { result.1 ≡ compact_notes RADIX value }
 {
     let mut turns = Turns::new();
-    // If the digits are counted without a loop or a table, they go to the buffer itself.
-    if RADIX != 10 && counts_at_once(RADIX) {
-        let count = digit_count_counted(value, RADIX, &mut turns);
-        write_to_end::<RADIX>(value, &mut buffer[..count], &mut turns);
-        return (count, turns);
-    }
     // The last digit is computed first, so the digits go to a temporary array.
     let mut digits = [0u8; MAX_DIGITS];
     let index = write_to_end::<RADIX>(value, &mut digits, &mut turns);

@@ -2,8 +2,8 @@
 
 use crate::tests::checks::check_equal;
 use crate::tests::devices::{Giver, NEVER, Taker};
-use lexical_lines::{Reading, Writing};
-use lexical_streams::{BlockReader, BlockWriter, answer_stream};
+use lexical_lines::{BlockWriter, Reading, Writing};
+use lexical_streams::answer_stream;
 use std::cell::Cell;
 use std::process::Abort;
 
@@ -75,7 +75,7 @@ fn check_row(rt: &impl Abort, row: Row) {
 // Answers the lines, and returns the exit status, how often the devices were called, and the number of bytes
 // taken.
 fn answer(reader: &mut Giver<'_>, writer: &mut Taker<'_>) -> (u8, [usize; 4]) {
-    let mut input = BlockReader::new(Reading::whole(&mut *reader));
+    let mut input = Reading::whole(&mut *reader);
     let mut output = BlockWriter::<_, 16_384>::new(Writing::new(&mut *writer));
     let status = answer_stream(&mut input, &mut output);
     let calls = [reader.reads, writer.writes, writer.flushes, writer.count];

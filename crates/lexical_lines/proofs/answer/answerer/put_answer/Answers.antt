@@ -15,7 +15,7 @@ returns-in_err-put-clause-answer g c = rw (err_from_is_err_and c.from_residual.r
     let written = c.write_answer-count.ensures.answer bytes is in
     let put = c.put_all-put.ensures in
     let less = rw c.in_err-put.was at put.err in
-    record { whole = tt; good = tt; broken = (written.text, _, written.is, beginning _ _ _ (Writes-take written) less, put.taken) })
+    record { whole = tt; valid = tt; broken = (written.text, _, written.is, beginning _ _ _ (Writes-take written) less, put.taken) })
 
 pub returns-clause-answer : goal.returns-clause-answer
 returns-clause-answer g c = λ bytes is.
@@ -24,6 +24,6 @@ returns-clause-answer g c = λ bytes is.
     let all = take_all _ _ (omega (arith, rw c.in_ok-put.was at put.ok)) in
     record {
       whole = (written.text, written.is, put.taken ∙ ap (λ text. g.K.ByteSink.taken c.args.sink.now ++ text) (all ∙ Writes-take written));
-      good = c.write_answer-count.ensures.good bytes is;
+      valid = c.write_answer-count.ensures.valid bytes is;
       broken = tt;
     }

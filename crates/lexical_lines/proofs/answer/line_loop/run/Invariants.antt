@@ -8,10 +8,10 @@ invariant-loop-byte g l =
     let source = g.S.ByteSource in
     let sink = g.K.ByteSink in
     record {
-      given : source.given l.source ≡ source.given l.fn.source ++ added (source.given l.fn.source) (source.given l.source);
-      read : HasAnswered (sink.taken l.fn.sink) (added (source.given l.fn.source) (source.given l.source)) (sink.taken l.sink) l.answerer;
-      source_faults : source.faults l.source ≡ source.faults l.fn.source;
-      sink_faults : sink.faults l.sink ≡ sink.faults l.fn.sink;
+      yielded : source.yielded l.source ≡ source.yielded l.fn.source ++ added (source.yielded l.fn.source) (source.yielded l.source);
+      read : HasAnswered (sink.taken l.fn.sink) (added (source.yielded l.fn.source) (source.yielded l.source)) (sink.taken l.sink) l.answerer;
+      source_failures : source.failures l.source ≡ source.failures l.fn.source;
+      sink_failures : sink.failures l.sink ≡ sink.failures l.fn.sink;
       source_kept : source.keeps l.fn.source l.source;
       sink_kept : sink.keeps l.fn.sink l.sink;
     }

@@ -1,16 +1,16 @@
 use Rattle.std.proofs.Common.{◌≡◌, ◌-◌, ◌++◌, length, take, drop, sym, ap, ◌∙◌, arith, append_assoc}
 use Rattle.std.proofs.Common.{ℕ, zero, suc, List, [], ◌∷◌, Ok, refl, length-take, length-drop}
 use lib.Seq.{take-add, take-take}
-use Rattle.lexical_lines.specs.Sink.{put_faults}
+use Rattle.lexical_lines.specs.Sink.{put_failures}
 use Rattle.lexical_lines.proofs.devices.sink.put_all.Goals as goal
 
 -- a call that takes some bytes is no failure
-some-taken : (count : ℕ) (bytes : List ℕ) → (count ≡ 0 → ⊥) → put_faults {E = ℕ} (Ok count) bytes ≡ 0
+some-taken : (count : ℕ) (bytes : List ℕ) → (count ≡ 0 → ⊥) → put_failures {E = ℕ} (Ok count) bytes ≡ 0
 some-taken zero bytes some = absurd (some refl)
 some-taken (suc count) bytes some = refl
 
 -- a call that takes none of some bytes is a failure
-none-taken : (bytes : List ℕ) → (length bytes ≡ 0 → ⊥) → put_faults {E = ℕ} (Ok 0) bytes ≡ 1
+none-taken : (bytes : List ℕ) → (length bytes ≡ 0 → ⊥) → put_failures {E = ℕ} (Ok 0) bytes ≡ 1
 none-taken [] some = absurd (some refl)
 none-taken (byte ∷ bytes) some = refl
 
@@ -27,20 +27,20 @@ loop-taken-preserved g c =
       within = omega arith;
       taken = next.taken ∙ ap (λ l. l ++ take count (take (length all - done) (drop done all))) loop.taken
           ∙ append_assoc (sink.taken c.args.sink.now) (take done all) _ ∙ ap (λ l. sink.taken c.args.sink.now ++ l) joined;
-      faults = omega (arith, next.faults, loop.faults, some-taken count (take (length all - done) (drop done all)) c.in-Ok.count-test.1);
+      failures = omega (arith, next.failures, loop.failures, some-taken count (take (length all - done) (drop done all)) c.in-Ok.count-test.1);
       kept = g.met.K.ByteSink.keeps_transitive _ _ _ loop.kept next.kept;
     }
 
-pub returns-in-Err-clause-faults : goal.returns-in-Err-clause-faults
-returns-in-Err-clause-faults g c = omega (arith, c.in-Err.ensures.faults, c.loop-taken.invariant.faults)
+pub returns-in-Err-clause-failures : goal.returns-in-Err-clause-failures
+returns-in-Err-clause-failures g c = omega (arith, c.in-Err.ensures.failures, c.loop-taken.invariant.failures)
 
-pub returns-in-Ok-eq0-clause-faults : goal.returns-in-Ok-eq0-clause-faults
-returns-in-Ok-eq0-clause-faults g c =
+pub returns-in-Ok-eq0-clause-failures : goal.returns-in-Ok-eq0-clause-failures
+returns-in-Ok-eq0-clause-failures g c =
     let done = c.loop-taken.taken in
     let all = c.args.bytes.now in
     let rest = take (length all - done) (drop done all) in
     let some : length rest ≡ 0 → ⊥ = λ none. absurd (omega (arith, none, length-take (length all - done) (drop done all), length-drop done all)) in
-    omega (arith, rw c.in-Ok-eq0.field-0-test at c.in-Ok-eq0.ensures.faults, c.loop-taken.invariant.faults, none-taken rest some)
+    omega (arith, rw c.in-Ok-eq0.field-0-test at c.in-Ok-eq0.ensures.failures, c.loop-taken.invariant.failures, none-taken rest some)
 
 pub returns-clause-ok : goal.returns-clause-ok
 returns-clause-ok g c = omega arith

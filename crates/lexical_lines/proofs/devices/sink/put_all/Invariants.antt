@@ -8,7 +8,7 @@ invariant-loop-taken g l =
     record {
       within : l.taken ≤ length l.bytes;
       taken : sink.taken l.sink ≡ sink.taken l.initial.sink ++ take l.taken l.bytes;
-      faults : sink.faults l.sink ≡ sink.faults l.initial.sink;
+      failures : sink.failures l.sink ≡ sink.failures l.initial.sink;
       kept : sink.keeps l.initial.sink l.sink;
     }
 

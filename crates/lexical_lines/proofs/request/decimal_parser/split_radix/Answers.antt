@@ -1,60 +1,68 @@
-use Rattle.std.proofs.Common.{◌≡◌, ℕ, ◌-◌, List, [], ◌∷◌, length, take, drop, get_or, arith, length-drop, inl, inr}
+use Rattle.std.proofs.Common.{◌≡◌, ◌⊎◌, ℕ, ◌+◌, ◌-◌, ◌*◌, ◌/◌, ◌%◌, ◌<◌, ◌≤◌, List, [], ◌∷◌, ◌++◌, length, get_or, take, drop, refl, arith, inl, inr}
+use Rattle.std.proofs.lemmas.Bool.{cases_lt}
 use Rattle.std.proofs.lemmas.List.{take_all}
-use Rattle.lexical_lines.proofs.ShortRadixes.{begins, cut_one, cut_two, one_digit, two_digits}
+use Rattle.lexical_num.specs.Format.{IsRadix}
+use Rattle.lexical_write_integer.specs.Text.{IsDigits}
+use Rattle.lexical_write_integer.proofs.OfDigits.Numerals.{digits_unique}
+use Rattle.lexical_write_integer.proofs.OfTexts.ComputedTexts.{IsDigits-one, IsDigits-more}
+use Rattle.lexical_write_integer.proofs.OfTexts.PrintedTexts.{digit_char-decimal}
 use Rattle.lexical_lines.proofs.request.decimal_parser.split_radix.Goals as goal
-use Rattle.lexical_lines.proofs.request.decimal_parser.split_radix.Goals.{then-second-eq32, else-second-eq32}
 
-whole_drop : (n : ℕ) (text : List ℕ) → take (length text - n) (drop n text) ≡ drop n text
-whole_drop n text = take_all (length text - n) (drop n text) (omega (arith, length-drop n text))
+one : (r : ℕ) → r < 10 → IsDigits 10 r ((48 + r) ∷ [])
+one r small = rw (digit_char-decimal r small) at (IsDigits-one 10 r small)
 
-pub returns-then-radix-eq0-clause-none : goal.returns-then-radix-eq0-clause-none
-returns-then-radix-eq0-clause-none c = λ radix digits rest valid is some e.
-    let zero = c.if-radix-eq0.true in
-    let least = valid.at_least_two in
-    elim (begins radix c.args.text.now digits rest valid is e) [
-      | inl one ↦ let same = c.short_radix-radix.ensures.none_one radix one.space one.digit in absurd (omega arith)
-      | inr two ↦
-          let byte = two.digits.second_at_least in
-          let same = c.short_radix-radix.ensures.none_two radix (λ space. absurd (omega arith)) least two.digits in absurd (omega arith)
-    ]
+two : (r : ℕ) → 10 ≤ r → r < 100 → IsDigits 10 r ((48 + r / 10) ∷ (48 + r % 10) ∷ [])
+two r big small =
+    let last = digit_char-decimal (r % 10) (omega arith) in
+    rw last at (IsDigits-more 10 r ((48 + r / 10) ∷ []) (omega arith) big (one (r / 10) (omega arith)))
 
-pub returns-then-text-count-ne32-clause-none : goal.returns-then-text-count-ne32-clause-none
-returns-then-text-count-ne32-clause-none c = λ radix digits rest valid is some e.
-    elim (begins radix c.args.text.now digits rest valid is e) [
-      | inl one ↦ elim c.if-second-eq32.branch [
-        | then-second-eq32 w ↦ c.if-text-count-ne32.true (rw w.count-is one.space)
-        | else-second-eq32 w ↦ w.if-second-eq32.false one.space
-      ]
-      | inr two ↦ elim c.if-second-eq32.branch [
-        | then-second-eq32 w ↦ let byte = two.digits.second_at_least in let space = w.if-second-eq32.true in absurd (omega arith)
-        | else-second-eq32 w ↦ c.if-text-count-ne32.true (rw w.count-is two.space)
-      ]
-    ]
+abbrev Splits : ℕ → List ℕ → List ℕ → Type 0
+Splits r text rest = IsRadix r × ((digits : List ℕ) × IsDigits 10 r digits × (text ≡ digits ++ 32 ∷ rest))
 
-pub returns-clause-found : goal.returns-clause-found
-returns-clause-found c =
-    let text = c.args.text.now in
-    let radix = c.short_radix-radix.result in
-    elim c.if-second-eq32.branch [
-      | then-second-eq32 w ↦
-          let digit = c.short_radix-radix.ensures.one w.if-second-eq32.true c.if-radix-eq0.false in
-          let least = digit.at_least in let most = digit.at_most in let value = digit.value in (
-            record { at_least_two = omega arith; at_most_36 = omega arith },
-            (
-              get_or text 0 0 ∷ [],
-              one_digit radix (get_or text 0 0) digit,
-              rw (w.count-is, whole_drop 2 text) (cut_one text c.in-len3-up.len_at_least w.if-second-eq32.true),
-            ),
-          )
-      | else-second-eq32 w ↦
-          let digits = c.short_radix-radix.ensures.two w.if-second-eq32.false c.if-radix-eq0.false in
-          let least = digits.first_at_least in let value = digits.value in
-          let space : get_or text 2 0 ≡ 32 = rw w.count-is at c.if-text-count-ne32.false in (
-            record { at_least_two = omega arith; at_most_36 = digits.at_most },
-            (
-              get_or text 0 0 ∷ get_or text 1 0 ∷ [],
-              two_digits radix (get_or text 0 0) (get_or text 1 0) digits,
-              rw (w.count-is, whole_drop 3 text) (cut_two text c.in-len3-up.len_at_least space),
-            ),
-          )
-    ]
+after_one : (text : List ℕ) → 50 ≤ get_or text 0 0 → get_or text 0 0 ≤ 57 → get_or text 1 0 ≡ 32
+    → Splits (get_or text 0 0 - 48) text (take (length text - 2) (drop 2 text))
+after_one (a ∷ b ∷ rest) least most space =
+    let is : 48 + (a - 48) ≡ a = omega arith in
+    let all = take_all (length (a ∷ b ∷ rest) - 2) rest (omega arith) in
+    (record { at_least_two = omega arith; at_most_36 = omega arith }, (a ∷ [], rw is at (one (a - 48) (omega arith)), cc))
+after_one _ least most space = absurd (omega arith)
+
+after_two : (text : List ℕ) (r : ℕ) → r ≡ (get_or text 0 0 - 48) * 10 + (get_or text 1 0 - 48) → IsRadix r → 49 ≤ get_or text 0 0
+    → 48 ≤ get_or text 1 0 → get_or text 1 0 ≤ 57 → get_or text 2 0 ≡ 32 → Splits r text (take (length text - 3) (drop 3 text))
+after_two (a ∷ b ∷ c ∷ rest) r value valid first least last space =
+    let tens : 48 + r / 10 ≡ a = omega arith in
+    let ones : 48 + r % 10 ≡ b = omega arith in
+    let all = take_all (length (a ∷ b ∷ c ∷ rest) - 3) rest (omega arith) in
+    (valid, (a ∷ b ∷ [], rw (tens, ones) at (two r (omega arith) (omega (arith, valid.at_most_36))), cc))
+after_two _ r value valid first least last space = absurd (omega arith)
+
+-- the text of a radix has one digit or two
+by_digits : (r : ℕ) (digits rest text : List ℕ) → IsRadix r → IsDigits 10 r digits → text ≡ digits ++ 32 ∷ rest
+    → ((r < 10) × (text ≡ (48 + r) ∷ 32 ∷ rest)) ⊎ ((10 ≤ r) × (text ≡ (48 + r / 10) ∷ (48 + r % 10) ∷ 32 ∷ rest))
+by_digits r digits rest text valid is e = elim (cases_lt r 10) [
+  | inl few ↦ inl (few, rw (digits_unique 10 r _ _ (omega arith) is (one r few)) at e)
+  | inr many ↦ inr (many, rw (digits_unique 10 r _ _ (omega arith) is (two r many (omega (arith, valid.at_most_36)))) at e)
+]
+
+pub returns-in-50-to-57-clause-found : goal.returns-in-50-to-57-clause-found
+returns-in-50-to-57-clause-found c = after_one c.args.text.now (grind arith) (grind arith) (grind arith)
+
+pub returns-then-is_radix-clause-found : goal.returns-then-is_radix-clause-found
+returns-then-is_radix-clause-found c =
+    let valid = rw c.from.ensures at (c.is_radix.ensures.0 c.if-is_radix.true) in
+    after_two c.args.text.now _ refl valid (grind arith) (grind arith) (grind arith) (grind arith)
+
+pub returns-else-is_radix-clause-none : goal.returns-else-is_radix-clause-none
+returns-else-is_radix-clause-none c r digits rest valid is e = elim (by_digits r digits rest c.args.text.now valid is e) [
+  | inl (few, text) ↦ grind arith
+  | inr (many, text) ↦
+      let same : r ≡ c.from.result = grind (arith, c.from.ensures) in
+      let yes = c.is_radix.ensures.1 (rw same at valid) in
+      cc
+]
+
+pub returns-in_default-clause-none : goal.returns-in_default-clause-none
+returns-in_default-clause-none c r digits rest valid is e = elim (by_digits r digits rest c.args.text.now valid is e) [
+  | inl (few, text) ↦ let least = valid.at_least_two in grind arith
+  | inr (many, text) ↦ let most = valid.at_most_36 in grind arith
+]

@@ -1,13 +1,7 @@
-use Rattle.std.proofs.Common.{ℕ, zero, suc, ◌+◌, List, length, refl, arith}
-use Rattle.lexical_write_integer.proofs.OfTexts.Joins.{Leads}
-use Rattle.lexical_parts.specs.Joined.{lead}
+use Rattle.std.proofs.Common.{◌+◌, length, arith}
 use Rattle.lexical_parts.proofs.Lists.{written_joined}
-use Rattle.lexical_parts.proofs.Rooms.{joined_room-more, joined_room-take-le}
+use Rattle.lexical_parts.proofs.Rooms.{leads_at, joined_room-more, joined_room-take-le}
 use Rattle.lexical_parts.proofs.joined.JoinedPart.write_to.Goals as goal
-
-leads_at : (separator : List ℕ) (index : ℕ) → Leads separator index (lead index separator)
-leads_at separator zero = record { at_first = λ _. refl; later = λ some. absurd (omega arith) }
-leads_at separator (suc index) = record { at_first = λ none. absurd (omega arith); later = λ _. refl }
 
 pub write_next-count-requires-clause-room : goal.write_next-count-requires-clause-room
 write_next-count-requires-clause-room g c =

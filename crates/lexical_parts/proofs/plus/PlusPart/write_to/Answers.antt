@@ -1,4 +1,3 @@
-use Rattle.std.specs.Prelude.{refl}
 use Rattle.std.proofs.Common.{arith}
 use Rattle.lexical_write_integer.specs.DigitCount.{digit_count-le}
 use Rattle.lexical_write_integer.proofs.OfTexts.Sequences.{written_then}
@@ -7,12 +6,10 @@ use Rattle.lexical_parts.proofs.plus.PlusPart.write_to.Goals as goal
 
 pub returns-clause-text : goal.returns-clause-text
 returns-clause-text g c =
-    let sign = c.write_required_sign-start.ensures in
-    written_plus
-    (written_then _ _ _ _ _ _ _ _ (record { text = _; is = refl; front = sign.front; count = sign.count }) c.write_magnitude.ensures.digits.writes)
+    written_plus (written_then _ _ _ _ _ _ _ _ c.write_to-start.ensures.text c.write_magnitude.ensures.digits.writes)
 
 pub returns-clause-short : goal.returns-clause-short
 returns-clause-short g c =
     let width = g.met.T.LexicalInteger.decimal_width in
     let few = digit_count-le 10 _ _ width.some (width.enough _ c.in_range.ensures.at_least c.in_range.ensures.at_most) in
-    omega (arith, few, c.write_magnitude.ensures.digits.count, c.write_required_sign-start.ensures.one)
+    omega (arith, few, c.write_magnitude.ensures.digits.count, c.write_to-start.ensures.short)

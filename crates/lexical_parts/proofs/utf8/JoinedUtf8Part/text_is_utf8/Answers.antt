@@ -1,5 +1,6 @@
 use Rattle.std.proofs.Common.{refl, arith}
 use Rattle.std.proofs.lemmas.List.{take_all}
+use Rattle.std.proofs.lemmas.Grind.{common_steps}
 use Rattle.lexical_parts.proofs.Utf8Texts.{joined_is_utf8}
 use Rattle.lexical_parts.proofs.utf8.JoinedUtf8Part.text_is_utf8.Goals as goal
 
@@ -11,3 +12,7 @@ pub returns : goal.returns
 returns g c =
     let each = rw (take_all c.loop-part.part-index c.args.self.0.now c.loop-part-test.false) at c.loop-part.invariant in
     joined_is_utf8 g.P.Part.is_text _ _ each (c.text_is_utf8.ensures _ refl)
+
+-- the check finds this proof by itself, but close to its limits
+pub loop-part-preserved : goal.loop-part-preserved
+loop-part-preserved g c = grind (arith, common_steps)

@@ -114,30 +114,29 @@ loop_notes-pair r n two long short =
       | inr more ↦ let four : digit_count r n ≡ 4 = omega (arith, split, digit_count-pos r (n / r ^ 2)) in rw four refl
     ]
 
-pub count_notes-one : (r n : ℕ) → 2 ≤ r → is_counted_at_once r ≡ false → n < r → count_notes r n ≡ []
-unfolding count_notes slow_notes
-count_notes-one r n two by_turns short =
+pub slow_notes-one : (r n : ℕ) → 2 ≤ r → n < r → slow_notes r n ≡ []
+unfolding slow_notes
+slow_notes-one r n two short =
     let short_too : n < r ^ 2 = omega (arith, pow-one r, pow-le-pow_right {n = r} (omega arith) {i = 1} {j = 2} (omega arith)) in
-    rw (by_turns, loop_notes-short r n two short_too, digit_count-one r n two short) refl
+    rw (loop_notes-short r n two short_too, digit_count-one r n two short) refl
 
-pub count_notes-two : (r n : ℕ) → 2 ≤ r → is_counted_at_once r ≡ false → r ≤ n → n < r ^ 2 → count_notes r n ≡ n / r ∷ []
-unfolding count_notes slow_notes
-count_notes-two r n two by_turns long short = rw (by_turns, loop_notes-short r n two short, digit_count-two r n two long short, pow-one) refl
+pub slow_notes-two : (r n : ℕ) → 2 ≤ r → r ≤ n → n < r ^ 2 → slow_notes r n ≡ n / r ∷ []
+unfolding slow_notes
+slow_notes-two r n two long short = rw (loop_notes-short r n two short, digit_count-two r n two long short, pow-one) refl
 
-pub count_notes-pair : (r n : ℕ)
-    → 2 ≤ r → is_counted_at_once r ≡ false → r ^ 2 ≤ n → n < r ^ 4 → count_notes r n ≡ n / r ^ 2 ∷ count_notes r (n / r ^ 2)
-unfolding count_notes slow_notes
-count_notes-pair r n two by_turns long short =
+pub slow_notes-pair : (r n : ℕ) → 2 ≤ r → r ^ 2 ≤ n → n < r ^ 4 → slow_notes r n ≡ n / r ^ 2 ∷ slow_notes r (n / r ^ 2)
+unfolding slow_notes
+slow_notes-pair r n two long short =
     let below : n / r ^ 2 < r ^ 2 = div_below n (r ^ 2) (r ^ 2) (omega (arith, power-gt_one r 2 two takes_two)) (rw (pow-add r 2 2) at short) in
     let few = digit_count-le r (n / r ^ 2) 2 (omega arith) below in
     let split = digit_count-split r 2 n two long in
     let pair = loop_notes-pair r n two long short in
     let none = loop_notes-short r (n / r ^ 2) two below in
     elim (cases_eq (digit_count r (n / r ^ 2)) 1) [
-      | inl one ↦ rw (by_turns, pair, none, split, one) refl
+      | inl one ↦ rw (pair, none, split, one) refl
       | inr more ↦
           let both : digit_count r (n / r ^ 2) ≡ 2 = omega (arith, digit_count-pos r (n / r ^ 2)) in
-          rw (by_turns, pair, none, split, both, div-pow_more) refl
+          rw (pair, none, split, both, div-pow_more) refl
     ]
 
 -- ---- a number of more than four digits: its first quotient, and then what is recorded for that quotient
@@ -198,19 +197,10 @@ pub loop_notes-after : (r n : ℕ) (a b c : List ℕ)
 loop_notes-after r n a b c two long noted following =
     rw (loop_notes-first r n two long) (after_first a b c (n / r ^ 4) (loop_notes r (n / r ^ 4)) noted following)
 
-pub count_notes-after : (r n : ℕ) (a b c : List ℕ)
-    → 2 ≤ r → r ^ 4 ≤ n → is_counted_at_once r ≡ false → b ≡ a ++ n / r ^ 4 ∷ [] → c ≡ b ++ count_notes r (n / r ^ 4)
-    → c ≡ a ++ count_notes r n
-unfolding count_notes
-count_notes-after r n a b c two long by_turns noted following =
-    let slow : c ≡ b ++ slow_notes r (n / r ^ 4) = rw by_turns at following in
-    rw (by_turns, slow_notes-first r n two long) (after_first a b c (n / r ^ 4) (slow_notes r (n / r ^ 4)) noted slow)
-
-pub count_notes-same : (r m n : ℕ) (a c : List ℕ) → is_counted_at_once r ≡ true → c ≡ a ++ count_notes r m → c ≡ a ++ count_notes r n
-unfolding count_notes
-count_notes-same r m n a c at_once noted =
-    let none : c ≡ a ++ [] = rw at_once at noted in
-    rw at_once none
+pub slow_notes-after : (r n : ℕ) (a b c : List ℕ)
+    → 2 ≤ r → r ^ 4 ≤ n → b ≡ a ++ n / r ^ 4 ∷ [] → c ≡ b ++ slow_notes r (n / r ^ 4) → c ≡ a ++ slow_notes r n
+slow_notes-after r n a b c two long noted following =
+    rw (slow_notes-first r n two long) (after_first a b c (n / r ^ 4) (slow_notes r (n / r ^ 4)) noted following)
 
 -- ---- how many quotients are recorded
 

@@ -1,33 +1,25 @@
 use Rattle.std.proofs.Common.{◌+◌, ◌-◌, ◌/◌, cond, length, sym, ap, ◌∙◌, arith}
 use Rattle.std.proofs.lemmas.Bool.{ne_eqb}
 use Rattle.lexical_write_integer.specs.Digits.LoopTurns.{table_turns}
-use Rattle.lexical_write_integer.proofs.OfDigits.Count.DigitCounts.{digit_count-le_width}
+use Rattle.lexical_write_integer.proofs.OfDigits.Count.DigitCounts.{WritesDigits-short}
 use Rattle.lexical_write_integer.proofs.OfDigits.Radix.Loops.Records.{table_turns-are, table_turns-few}
 use Rattle.lexical_write_integer.proofs.digits.write.write_integer_counted.Goals as goal
 
 pub returns-then-radix-eq10-clause-short : goal.returns-then-radix-eq10-clause-short
 returns-then-radix-eq10-clause-short g c =
-    omega (
-      arith,
-      c.decimal_counted.ensures.writes.digits.count,
-      digit_count-le_width 10 _ _ (omega arith) g.met.T.UnsignedInteger.range.width c.fits_bits.ensures,
-    )
+    WritesDigits-short c.decimal_counted.ensures.writes.digits (omega arith) g.met.T.UnsignedInteger.range.width c.fits_bits.ensures
 
 pub returns-else-radix-eq10-clause-turns : goal.returns-else-radix-eq10-clause-turns
 returns-else-radix-eq10-clause-turns g c =
     let digits = c.radix_counted.result in
     let other = ne_eqb c.args.radix 10 c.if-radix-eq10.false in
     let turns = ap (λ test. length c.args.turns.now + cond test ((digits - 1) / 2) (table_turns c.args.radix digits)) other in
-    table_turns-are _ _ _ _ _ c.radix_counted.ensures.notes c.radix_counted.ensures.digits.count ∙ sym turns
+    table_turns-are _ _ _ _ _ c.radix_counted.ensures.noted c.radix_counted.ensures.digits.count ∙ sym turns
 
 pub returns-else-radix-eq10-clause-few_turns : goal.returns-else-radix-eq10-clause-few_turns
 returns-else-radix-eq10-clause-few_turns g c =
-    table_turns-few _ _ _ _ _ c.requires.radix.at_least_two g.met.T.UnsignedInteger.range.width c.fits_bits.ensures c.radix_counted.ensures.notes
+    table_turns-few _ _ _ _ _ c.requires.radix.at_least_two g.met.T.UnsignedInteger.range.width c.fits_bits.ensures c.radix_counted.ensures.noted
 
 pub returns-else-radix-eq10-clause-short : goal.returns-else-radix-eq10-clause-short
 returns-else-radix-eq10-clause-short g c =
-    omega (
-      arith,
-      c.radix_counted.ensures.digits.count,
-      digit_count-le_width _ _ _ c.requires.radix.at_least_two g.met.T.UnsignedInteger.range.width c.fits_bits.ensures,
-    )
+    WritesDigits-short c.radix_counted.ensures.digits c.requires.radix.at_least_two g.met.T.UnsignedInteger.range.width c.fits_bits.ensures

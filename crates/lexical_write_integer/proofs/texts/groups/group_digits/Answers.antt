@@ -5,12 +5,12 @@ use Rattle.lexical_write_integer.proofs.texts.groups.group_digits.Goals as goal
 
 pub loop-end-init : goal.loop-end-init
 loop-end-init c =
-    let room = rw (← c.in-Some.ensures.value) at c.requires.room in
+    let total = rw (← c.in-Some.ensures.value) at c.grouped_len-total.ensures in
     IsSpread-start record {
       size = omega (arith, c.from-size.ensures, (c.in-Some.ensures.valid _ refl).size.at_least_one);
       some = c.requires.some;
-      total_count = refl;
-      room = rw c.from-size.ensures room;
+      total_count = rw c.from-size.ensures total;
+      room = rw c.grouped_len-total.ensures c.requires.room;
     }
 
 pub loop-end-preserved-then-in_group-size : goal.loop-end-preserved-then-in_group-size

@@ -26,7 +26,7 @@ loop-end-preserved g c =
             (append_assoc read front line) (c.in_ok-end_line.ensures.ok before (read ++ front) (reads before read h)),
       );
       taken = grown _ _ _ _ _ c.loop-end.invariant.taken c.end_line.ensures.puts.longer;
-      faults = omega (arith, c.in_ok-end_line.ensures.puts.faults, c.loop-end.invariant.faults);
+      failures = omega (arith, c.in_ok-end_line.ensures.puts.failures, c.loop-end.invariant.failures);
       kept = g.met.K.ByteSink.keeps_transitive _ _ _ c.loop-end.invariant.kept c.end_line.ensures.puts.kept;
     }
 

@@ -11,7 +11,7 @@ invariant-loop-end g l =
           → HasAnswered before read (sink.taken l.fn.sink) l.fn.self → HasAnswered before (read ++ front)
           (sink.taken l.sink) l.self);
       taken : sink.taken l.sink ≡ sink.taken l.fn.sink ++ added (sink.taken l.fn.sink) (sink.taken l.sink);
-      faults : sink.faults l.sink ≡ sink.faults l.fn.sink;
+      failures : sink.failures l.sink ≡ sink.failures l.fn.sink;
       kept : sink.keeps l.fn.sink l.sink;
     }
 

@@ -8,7 +8,7 @@ is_end : (E : Type 0) (count : ℕ) → (count == 0) ≡ reads_end {E = E} (Ok c
 is_end E zero = refl
 is_end E (suc count) = grind arith
 
--- the check finds these two proofs by itself, but with answers the refusals of mistakes say what is wrong
+-- the check finds three of these proofs by itself, but with answers the refusals of mistakes say what is wrong
 
 pub returns-in-Ok-clause-ended : goal.returns-in-Ok-clause-ended
 returns-in-Ok-clause-ended g c = rw (sym c.self.view_is) (ap (λ end. c.self.inside.is_ended || end) (is_end the_row.Denot c.in-Ok.count))
@@ -20,10 +20,10 @@ pub returns-in-Ok-clause-kept : goal.returns-in-Ok-clause-kept
 returns-in-Ok-clause-kept g c =
     let read = c.in-Ok.ensures in
     let size : length c.read.new.buf ≡ c.min-size.result = omega (arith, c.read.auto.buf, c.min-size.ensures, length-take c.min-size.result c.args.block.now) in
-    let given = rw (ap (λ t. t.bytes) c.call.ensures) at (ap (λ t. t.bytes) c.note.ensures) in
+    let yielded = rw (ap (λ t. t.bytes) c.call.ensures) at (ap (λ t. t.bytes) c.note.ensures) in
     rw (sym c.self.view_is) (KeepsReader-read _ _ _ c.read.new.buf _ (omega (arith, size, c.min-size.ensures, c.requires, c.if-self-eq0.false))
     (omega (arith, read.bound)) read.bytes g.R.Read.remaining _ _ refl refl c.if-self-eq0.false
-    (omega (arith, size, c.min-size.ensures, read.bound)) given refl)
+    (omega (arith, size, c.min-size.ensures, read.bound)) yielded refl)
 
 pub returns-in-Ok-clause-bytes : goal.returns-in-Ok-clause-bytes
 returns-in-Ok-clause-bytes g c =
@@ -31,3 +31,7 @@ returns-in-Ok-clause-bytes g c =
     let size : length c.read.new.buf ≡ c.min-size.result = omega (arith, c.read.auto.buf, c.min-size.ensures, length-take c.min-size.result c.args.block.now) in
     rw (sym c.self.view_is) (ReadConsumes-limited _ _ _ c.read.new.buf _ (omega (arith, size, c.min-size.ensures, c.requires, c.if-self-eq0.false))
     (omega (arith, read.bound)) read.bytes _ _ (omega (arith, size, c.min-size.ensures, read.bound)))
+
+pub returns-in-Err-clause-failures : goal.returns-in-Err-clause-failures
+returns-in-Err-clause-failures g c =
+    omega (arith, ap (λ r. r.failures) c.self.view_is, ap (λ t. t.failures) c.call.ensures, ap (λ t. t.failures) c.fault.ensures)

@@ -1,28 +1,25 @@
-use Rattle.std.proofs.Common.{◌∙◌, sym, ap, ℕ, ◌-◌, ◌<◌, ◌∷◌, ◌++◌, length, drop, get_or, arith, length-drop}
+use Rattle.std.proofs.Common.{◌≡◌, ℕ, ◌-◌, ◌≤◌, List, ◌∷◌, length, get_or, take, drop, arith}
 use Rattle.std.proofs.lemmas.List.{take_all}
-use Rattle.lexical_lines.specs.IntegerType.{name_of}
-use Rattle.lexical_lines.proofs.Names.{split_found, name_starts, name_bits, six}
-use mir.Syntax.{w8}
-use mir.Val.{Fits}
+use Rattle.lexical_lines.specs.declared.request.integer_type.IntegerType.TheVariants.{U8, U16, U32, U64, Usize, I8, I16, I32, I64, Isize}
 use Rattle.lexical_lines.proofs.request.integer_type.IntegerType.split_name.Goals as goal
 
-fits : {n : ℕ} → Fits w8 n → n < 256
-fits h = omega arith
+three : (line : List ℕ) → 3 ≤ length line → get_or line 0 0 ≡ 105 → get_or line 1 0 ≡ 56 → get_or line 2 0 ≡ 32
+    → line ≡ 105 ∷ 56 ∷ 32 ∷ take (length line - 3) (drop 3 line)
+three (a ∷ b ∷ c ∷ rest) long p q r = let all = take_all (length (a ∷ b ∷ c ∷ rest) - 3) rest (omega arith) in cc
+three _ long p q r = absurd (omega arith)
 
-pub returns-then-word-name_mask-clause-found : goal.returns-then-word-name_mask-clause-found
-returns-then-word-name_mask-clause-found c =
-    let line = c.args.line.now in
-    let kind = c.beginning_with-kind.result in
-    let n = c.name_end.result in
-    let same = split_found kind line c.in-len6-up.len_at_least (λ i. fits (c.type_inv.line i))
-    (rw (← c.name_mask.ensures, ← c.from_le_bytes-word.ensures, ← c.name_word.ensures) c.if-word-name_mask.true) in
-    let whole = take_all (length line - n) (drop n line) (omega (arith, length-drop n line)) in
-    same ∙ ap (λ rest. name_of kind ++ 32 ∷ rest) (ap (λ k. drop k line) (sym c.name_end.ensures) ∙ sym whole)
+-- the check finds this proof by itself, but with an answer the refusal of a mistake says what is wrong
+pub returns-in-105-clause-found : goal.returns-in-105-clause-found
+returns-in-105-clause-found c = three c.args.line.now (grind arith) (grind arith) (grind arith) (grind arith)
 
-pub returns-else-word-name_mask-clause-none : goal.returns-else-word-name_mask-clause-none
-returns-else-word-name_mask-clause-none c = λ kind rest long e.
-    let each : (i : ℕ) → get_or c.args.line.now i 0 < 256 = λ i. fits (c.type_inv.line i) in
-    let bits = name_bits kind rest (rw e at each) in
-    let is = c.beginning_with-kind.ensures kind (drop 2 (name_of kind)) (rw e (name_starts kind rest)) in
-    let word = c.from_le_bytes-word.ensures ∙ ap six e in
-    c.if-word-name_mask.false (rw (word, c.name_mask.ensures, c.name_word.ensures, is) bits)
+pub returns-in_default-clause-none : goal.returns-in_default-clause-none
+returns-in_default-clause-none c U8 rest e = grind arith
+returns-in_default-clause-none c U16 rest e = grind arith
+returns-in_default-clause-none c U32 rest e = grind arith
+returns-in_default-clause-none c U64 rest e = grind arith
+returns-in_default-clause-none c Usize rest e = grind arith
+returns-in_default-clause-none c I8 rest e = grind arith
+returns-in_default-clause-none c I16 rest e = grind arith
+returns-in_default-clause-none c I32 rest e = grind arith
+returns-in_default-clause-none c I64 rest e = grind arith
+returns-in_default-clause-none c Isize rest e = grind arith

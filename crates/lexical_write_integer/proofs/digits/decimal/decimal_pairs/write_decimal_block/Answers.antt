@@ -15,13 +15,13 @@ loop-at-preserved c =
     let turn : 2 + taken ≡ length c.args.buffer.now - (l.at - 2) = omega (arith, l.invariant.within, c.loop-at-test.true) in
     let place : l.at ≡ l.at - 2 + 2 = omega (arith, c.loop-at-test.true) in
     let last = subst (λ k. WritesBlock 10 taken (n % 10 ^ taken) k c.args.buffer.now l.buffer) place l.invariant.block in
-    let first = subst (λ k. WritesBlock 10 2 (k % 100) (l.at - 2) l.buffer c.write_pair.new.buffer) l.invariant.rest c.write_pair.ensures in
+    let first = subst (λ k. WritesBlock 10 2 (k % 100) (l.at - 2) l.buffer c.write.new.buffer) l.invariant.rest c.write.ensures in
     record {
-      block = subst (λ k. WritesBlock 10 k (n % 10 ^ k) (l.at - 2) c.args.buffer.now c.write_pair.new.buffer) turn
+      block = subst (λ k. WritesBlock 10 k (n % 10 ^ k) (l.at - 2) c.args.buffer.now c.write.new.buffer) turn
           (WritesBlock-next {step = 2} n (omega arith) last first);
       rest = ap (λ k. k / 100) l.invariant.rest ∙ div-pow_more 10 n 2 taken ∙ ap (λ k. n / 10 ^ k) turn;
       within = omega (arith, l.invariant.within);
-      room = c.write_pair.auto.buffer ∙ l.invariant.room;
+      room = c.write.auto.buffer ∙ l.invariant.room;
     }
 
 -- one digit is left

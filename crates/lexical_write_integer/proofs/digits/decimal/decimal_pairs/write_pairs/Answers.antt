@@ -1,4 +1,4 @@
-use Rattle.std.proofs.Common.{◌≡◌, ℕ, ◌+◌, ◌*◌, ◌/◌, ◌%◌, ◌^◌, [], ◌∷◌, ◌++◌, length, ap, ◌∙◌, arith, zero-add, length-append, append_assoc}
+use Rattle.std.proofs.Common.{◌≡◌, ℕ, ◌+◌, ◌*◌, ◌/◌, ◌%◌, ◌^◌, [], ◌∷◌, ◌++◌, length, ap, ◌∙◌, lit<, arith, zero-add, length-append, append_assoc}
 use Rattle.std.proofs.lemmas.List.FromFn.{map-range_with_len_more, length-map-range_with_len}
 use Rattle.lexical_write_integer.specs.Digits.Carries.{carried}
 use Rattle.lexical_write_integer.specs.Digits.DecimalTurns.{products}
@@ -18,10 +18,11 @@ write_one_or_two-count-requires-clause-room c =
     let start : carried c.args.fraction 0 ≡ c.args.fraction / 2 ^ 32 = omega arith in
     rw start at (room_for_carried c.args.fraction 0 c.args.pair_count _ (omega arith) c.requires.room)
 
-pub write_pair-requires-clause-room : goal.write_pair-requires-clause-room
-write_pair-requires-clause-room c =
+pub write-requires : goal.write-requires
+write-requires c =
     let room = room_for_carried c.args.fraction (c.loop.counter + 1) c.args.pair_count _ (omega arith) c.requires.room in
-    omega (arith, digit_count-carried c.args.fraction c.loop.counter c.requires.first, c.loop.invariant.digits.count)
+    let more = digit_count-carried c.args.fraction c.loop.counter c.requires.first in
+    (lit< tt, (c.next2-pair.ensures.below, omega (arith, more, c.loop.invariant.digits.count)))
 
 pub loop-preserved : goal.loop-preserved
 loop-preserved c =
@@ -31,7 +32,7 @@ loop-preserved c =
     let room = room_for_carried c.args.fraction (c.loop.counter + 1) c.args.pair_count _ (omega arith) c.requires.room in
     record {
       following = rw c.next2-pair.ensures.product (rest-more c.args.fraction c.loop.counter _ done.following);
-      digits = WritesDigits-pair _ _ c.requires.first room pair done.digits c.write_pair.ensures;
+      digits = WritesDigits-pair _ _ c.requires.first room pair done.digits c.write.ensures;
       notes = let more = products-more c.args.fraction c.loop.counter in grind (arith, append_assoc);
       count = omega arith;
     }

@@ -2,7 +2,7 @@ use Rattle.std.proofs.Common.{arith}
 use Rattle.lexical_write_integer.proofs.OfDigits.Radix.Loops.Records.{loop_notes-after}
 use Rattle.lexical_write_integer.proofs.digits.radix.binary_words.record_up_to_eight.Goals as goal
 
-pub returns-clause-notes : goal.returns-clause-notes
-returns-clause-notes c =
+pub returns : goal.returns
+returns c =
     loop_notes-after 2 c.args.number c.args.turns.now c.tick.new.self c.first_pair-2.new.turns (omega arith) c.if-number-lt16.false
     (rw c.from.ensures at c.tick.ensures) c.first_pair-2.ensures.notes

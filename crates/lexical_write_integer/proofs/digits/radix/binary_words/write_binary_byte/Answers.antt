@@ -17,15 +17,14 @@ write_up_to_four-requires c =
     let short = fits-within 2 c.args.number 4 (omega arith) (omega (arith, is, c.if-count-le4.true)) in
     (lit< tt, (short, (is, omega (arith, is, c.requires.room))))
 
-pub returns-then-count-le4-clause-digits : goal.returns-then-count-le4-clause-digits
-returns-then-count-le4-clause-digits c =
+pub returns-then-count-le4 : goal.returns-then-count-le4
+returns-then-count-le4 c =
     let is = c.digit_count_counted-count.ensures.count in
-    WritesDigits-block {r = 2} (omega arith) (sym is) (omega (arith, is, c.requires.room)) c.write_up_to_four.ensures.written
-
-pub returns-then-count-le4-clause-notes : goal.returns-then-count-le4-clause-notes
-returns-then-count-le4-clause-notes c =
-    table_notes-are 2 c.args.number c.args.turns.now c.digit_count_counted-count.new.turns c.write_up_to_four.new.turns
-    c.digit_count_counted-count.ensures.notes c.write_up_to_four.ensures.notes
+    let written = c.write_up_to_four.ensures in
+    record {
+      digits = WritesDigits-block {r = 2} (omega arith) (sym is) (omega (arith, is, c.requires.room)) written.written;
+      noted = table_notes-are 2 c.args.number c.args.turns.now _ _ c.digit_count_counted-count.ensures.notes written.notes;
+    }
 
 -- ---- five to eight digits
 
@@ -40,26 +39,21 @@ first_short n count is more short =
 pub write_four_bits-requires-clause-short : goal.write_four_bits-requires-clause-short
 write_four_bits-requires-clause-short c =
     let is = c.digit_count_counted-count.ensures.count in
-    rw c.record_up_to_eight-bits.ensures.number
-    (omega (arith, first_short c.args.number c.digit_count_counted-count.result is c.if-count-le4.false c.requires.short))
+    omega (arith, first_short c.args.number c.digit_count_counted-count.result is c.if-count-le4.false c.requires.short)
 
-pub returns-clause-digits : goal.returns-clause-digits
-returns-clause-digits c =
+pub returns : goal.returns
+returns c =
     let n = c.args.number in
     let count = c.digit_count_counted-count.result in
     let is = c.digit_count_counted-count.ensures.count in
-    let bits = c.record_up_to_eight-bits.ensures.number in
     let short = first_short n count is c.if-count-le4.false c.requires.short in
-    let same : c.record_up_to_eight-bits.result / 16 * 2 ^ (8 - count) % 2 ^ 32 ≡ n / 2 ^ 4 * 2 ^ (8 - count) =
-    rw bits (mod-eq_of_lt (omega (arith, short))) in
+    let same : n / 16 * 2 ^ (8 - count) % 2 ^ 32 ≡ n / 2 ^ 4 * 2 ^ (8 - count) = mod-eq_of_lt (omega (arith, short)) in
     let first = subst (λ m. WritesBlock 2 4 m 0 c.args.buffer.now c.write_four_bits.new.buffer) same c.write_four_bits.ensures in
     let few : count ≤ 8 = omega (arith, is, digit_count-le 2 n 8 (omega arith) c.requires.short) in
     let block =
     WritesBlock-overlap n count 4 4 (omega (arith, c.if-count-le4.false)) (omega (arith, c.if-count-le4.false)) few
-    first (rw bits at c.write_four_bits-2.ensures) in
-    WritesDigits-block {r = 2} (omega arith) (sym is) (omega (arith, is, c.requires.room)) block
-
-pub returns-clause-notes : goal.returns-clause-notes
-returns-clause-notes c =
-    table_notes-are 2 c.args.number c.args.turns.now c.digit_count_counted-count.new.turns c.record_up_to_eight-bits.new.turns
-    c.digit_count_counted-count.ensures.notes c.record_up_to_eight-bits.ensures.notes
+    first c.write_four_bits-2.ensures in
+    record {
+      digits = WritesDigits-block {r = 2} (omega arith) (sym is) (omega (arith, is, c.requires.room)) block;
+      noted = table_notes-are 2 n c.args.turns.now _ _ c.digit_count_counted-count.ensures.notes c.record_up_to_eight.ensures;
+    }

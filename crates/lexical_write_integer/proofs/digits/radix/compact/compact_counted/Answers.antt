@@ -1,11 +1,6 @@
-use Rattle.std.proofs.Common.{arith}
-use Rattle.lexical_write_integer.proofs.OfDigits.Count.DigitCounts.{digit_count-le_width}
+use Rattle.lexical_write_integer.proofs.OfDigits.Count.DigitCounts.{WritesDigits-short}
 use Rattle.lexical_write_integer.proofs.OfDigits.Radix.Loops.Records.{length-more, length-compact_notes}
 use Rattle.lexical_write_integer.proofs.digits.radix.compact.compact_counted.Goals as goal
-
--- the check finds this proof by itself, but with an answer the refusal of a mistake says what is wrong
-pub returns-clause-digits : goal.returns-clause-digits
-returns-clause-digits g c = rw c.as_usize.ensures at c.write_in-count.ensures.digits
 
 pub returns-clause-turns : goal.returns-clause-turns
 returns-clause-turns g c =
@@ -15,9 +10,4 @@ returns-clause-turns g c =
 
 pub returns-clause-short : goal.returns-clause-short
 returns-clause-short g c =
-    let written = rw c.as_usize.ensures at c.write_in-count.ensures in
-    omega (
-      arith,
-      written.digits.count,
-      digit_count-le_width _ _ _ c.requires.radix.at_least_two g.met.T.UnsignedInteger.range.width c.fits_bits.ensures,
-    )
+    WritesDigits-short (rw c.as_usize.ensures at c.write_in-count.ensures.digits) c.requires.radix.at_least_two g.met.T.UnsignedInteger.range.width c.fits_bits.ensures

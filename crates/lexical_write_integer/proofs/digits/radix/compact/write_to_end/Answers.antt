@@ -11,66 +11,66 @@ use Rattle.lexical_write_integer.proofs.OfDigits.Radix.Loops.Divisions.{IsDivide
 use Rattle.lexical_write_integer.proofs.OfDigits.Radix.Loops.Records.{compact_notes-are}
 use Rattle.lexical_write_integer.proofs.OfDigits.Powers.{pow-one}
 use Rattle.lexical_write_integer.proofs.digits.radix.compact.write_to_end.Goals as goal
-use Rattle.lexical_write_integer.proofs.digits.radix.compact.write_to_end.Goals.{In-loop-rest, After-loop-rest}
+use Rattle.lexical_write_integer.proofs.digits.radix.compact.write_to_end.Goals.{In-loop-left, After-loop-left}
 
-long : (g : _) (c : In-loop-rest g) → g.row.RADIX ^ 1 ≤ c.loop-rest.rest
+long : (g : _) (c : In-loop-left g) → g.row.RADIX ^ 1 ≤ c.loop-left.left
 long g c = rw pow-one (omega arith)
 
 -- the next digit has room, and so have those before it
-room : (g : _) (c : In-loop-rest g) → length c.args.buffer.now - c.loop-rest.index + 1 < digit_count g.row.RADIX c.args.value
-room g c = IsDivided-room c.requires.radix.at_least_two c.loop-rest.invariant.divided (long g c)
+room : (g : _) (c : In-loop-left g) → length c.args.buffer.now - c.loop-left.index + 1 < digit_count g.row.RADIX c.args.value
+room g c = IsDivided-room c.requires.radix.at_least_two c.loop-left.invariant.divided (long g c)
 
-block : (g : _) (c : In-loop-rest g)
-    → WritesBlock g.row.RADIX 1 (c.loop-rest.rest % g.row.RADIX ^ 1) (c.loop-rest.index - 1) c.loop-rest.buffer
-    (set c.loop-rest.buffer (c.loop-rest.index - 1) (digit_char (c.loop-rest.rest % c.from-radix.result)))
+block : (g : _) (c : In-loop-left g)
+    → WritesBlock g.row.RADIX 1 (c.loop-left.left % g.row.RADIX ^ 1) (c.loop-left.index - 1) c.loop-left.buffer
+    (set c.loop-left.buffer (c.loop-left.index - 1) (digit_char (c.loop-left.left % c.from-radix.result)))
 block g c =
     let some : 0 < g.row.RADIX = omega arith in
     rw (pow-one, c.from-radix.ensures)
-    (WritesBlock-one g.row.RADIX (c.loop-rest.rest % g.row.RADIX) (c.loop-rest.index - 1) c.loop-rest.buffer
-    (mod-lt c.loop-rest.rest some) (omega (arith, room g c)))
+    (WritesBlock-one g.row.RADIX (c.loop-left.left % g.row.RADIX) (c.loop-left.index - 1) c.loop-left.buffer
+    (mod-lt c.loop-left.left some) (omega (arith, room g c)))
 
-pub loop-rest-init : goal.loop-rest-init
-loop-rest-init g c = record {
+pub loop-left-init : goal.loop-left-init
+loop-left-init g c = record {
   within = omega arith;
   written = rw sub_self IsWrittenBack-start;
   divided = rw sub_self IsDivided-start;
 }
 
-pub loop-rest-preserved : goal.loop-rest-preserved
-loop-rest-preserved g c =
-    let c' = (goal.at.loop-rest-preserved g c).In-loop-rest in
+pub loop-left-preserved : goal.loop-left-preserved
+loop-left-preserved g c =
+    let c' = (goal.at.loop-left-preserved g c).In-loop-left in
     let two = c.requires.radix.at_least_two in
-    let taken = length c.args.buffer.now - c.loop-rest.index in
-    let place : c.loop-rest.index ≡ c.loop-rest.index - 1 + 1 = omega (arith, room g c', IsWrittenBack-counts two c.loop-rest.invariant.written) in
-    let turn : taken + 1 ≡ length c.args.buffer.now - (c.loop-rest.index - 1) = omega (arith, place) in
-    let order : 1 + taken ≡ length c.args.buffer.now - (c.loop-rest.index - 1) = omega (arith, place) in
-    let left : c.loop-rest.rest / c.from-radix.result ≡ c.loop-rest.rest / g.row.RADIX ^ 1 = rw (pow-one, c.from-radix.ensures) refl in
+    let taken = length c.args.buffer.now - c.loop-left.index in
+    let place : c.loop-left.index ≡ c.loop-left.index - 1 + 1 = omega (arith, room g c', IsWrittenBack-counts two c.loop-left.invariant.written) in
+    let turn : taken + 1 ≡ length c.args.buffer.now - (c.loop-left.index - 1) = omega (arith, place) in
+    let order : 1 + taken ≡ length c.args.buffer.now - (c.loop-left.index - 1) = omega (arith, place) in
+    let next : c.loop-left.left / c.from-radix.result ≡ c.loop-left.left / g.row.RADIX ^ 1 = rw (pow-one, c.from-radix.ensures) refl in
     record {
       within = omega arith;
-      written = rw order at (IsWrittenBack-more two (long g c') left
-          (IsWrittenBack-at place c.loop-rest.invariant.written) (rw (← c.char_of.ensures) at (block g c')));
-      divided = rw turn at (IsDivided-more two c.loop-rest.invariant.divided (long g c') left c.tick.ensures);
+      written = rw order at (IsWrittenBack-more two (long g c') next
+          (IsWrittenBack-at place c.loop-left.invariant.written) (rw (← c.char_of.ensures) at (block g c')));
+      divided = rw turn at (IsDivided-more two c.loop-left.invariant.divided (long g c') next c.tick.ensures);
     }
 
-single : (g : _) (c : After-loop-rest g) → digit_count g.row.RADIX c.loop-rest.rest ≡ 1
-single g c = digit_count-one g.row.RADIX c.loop-rest.rest c.requires.radix.at_least_two (omega arith)
+single : (g : _) (c : After-loop-left g) → digit_count g.row.RADIX c.loop-left.left ≡ 1
+single g c = digit_count-one g.row.RADIX c.loop-left.left c.requires.radix.at_least_two (omega arith)
 
 pub returns-clause-place : goal.returns-clause-place
 returns-clause-place g c =
-    omega (arith, single g (goal.at.returns-clause-place g c).After-loop-rest, IsWrittenBack-counts c.requires.radix.at_least_two c.loop-rest.invariant.written)
+    omega (arith, single g (goal.at.returns-clause-place g c).After-loop-left, IsWrittenBack-counts c.requires.radix.at_least_two c.loop-left.invariant.written)
 
 pub returns-clause-digits : goal.returns-clause-digits
 returns-clause-digits g c =
-    let c' = (goal.at.returns-clause-digits g c).After-loop-rest in
+    let c' = (goal.at.returns-clause-digits g c).After-loop-left in
     let two = c.requires.radix.at_least_two in
-    let counts = IsWrittenBack-counts two c.loop-rest.invariant.written in
-    let place : c.loop-rest.index ≡ c.loop-rest.index - 1 + 1 = omega (arith, counts, single g c') in
-    IsDigits-block g.row.RADIX c.args.value (1 + (length c.args.buffer.now - c.loop-rest.index)) (c.loop-rest.index - 1) _ _ two
+    let counts = IsWrittenBack-counts two c.loop-left.invariant.written in
+    let place : c.loop-left.index ≡ c.loop-left.index - 1 + 1 = omega (arith, counts, single g c') in
+    IsDigits-block g.row.RADIX c.args.value (1 + (length c.args.buffer.now - c.loop-left.index)) (c.loop-left.index - 1) _ _ two
     (omega (arith, counts, single g c')) (omega (arith, place))
-    (IsWrittenBack-last (IsWrittenBack-at place c.loop-rest.invariant.written)
+    (IsWrittenBack-last (IsWrittenBack-at place c.loop-left.invariant.written)
     (rw c.char_of-2.ensures
-    (WritesBlock-one g.row.RADIX c.loop-rest.rest (c.loop-rest.index - 1) c.loop-rest.buffer (omega arith) (omega (arith, place)))))
+    (WritesBlock-one g.row.RADIX c.loop-left.left (c.loop-left.index - 1) c.loop-left.buffer (omega arith) (omega (arith, place)))))
 
 pub returns-clause-notes : goal.returns-clause-notes
 returns-clause-notes g c =
-    compact_notes-are (TakesDigits-end c.requires.radix.at_least_two takes_one c.loop-rest.invariant.divided (rw pow-one (omega arith)))
+    compact_notes-are (TakesDigits-end c.requires.radix.at_least_two takes_one c.loop-left.invariant.divided (rw pow-one (omega arith)))

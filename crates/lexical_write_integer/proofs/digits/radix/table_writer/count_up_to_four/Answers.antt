@@ -1,10 +1,10 @@
-use Rattle.std.proofs.Common.{◌^◌, ◌*◌, ◌<◌, ◌≤◌, sym, arith}
+use Rattle.std.proofs.Common.{◌^◌, ◌*◌, ◌<◌, ◌≤◌, arith}
 use Rattle.std.proofs.lemmas.Nat.{div_below}
 use Rattle.lexical_write_integer.specs.Digits.LoopTurns.{takes_two}
 use Rattle.lexical_write_integer.proofs.OfDigits.Count.DigitCounts.{digit_count-split, digit_count-le}
 use Rattle.lexical_write_integer.proofs.OfDigits.Count.RadixPowers.{power-gt_one}
 use Rattle.lexical_write_integer.proofs.OfDigits.Powers.{pow-two, pow-four}
-use Rattle.lexical_write_integer.proofs.OfDigits.Radix.Loops.Records.{after_first, count_notes-pair}
+use Rattle.lexical_write_integer.proofs.OfDigits.Radix.Loops.Records.{after_first, slow_notes-pair}
 use Rattle.lexical_write_integer.proofs.OfDigits.Radix.Loops.ShortNumbers.{quotient-some}
 use Rattle.lexical_write_integer.proofs.digits.radix.table_writer.count_up_to_four.Goals as goal
 use Rattle.lexical_write_integer.proofs.digits.radix.table_writer.count_up_to_four.Goals.{Start, After-tick}
@@ -32,10 +32,11 @@ returns-clause-count g c =
     let split = digit_count-split g.row.R 2 c.args.number c.requires.radix.at_least_two (long g (goal.at.returns-clause-count g c).After-tick) in
     omega (arith, rw (← pow-two) at c.count_one_or_two-2.ensures.count, split)
 
-pub returns-clause-notes : goal.returns-clause-notes
-returns-clause-notes g c =
+pub returns-clause-counted : goal.returns-clause-counted
+returns-clause-counted g c =
     let r = g.row.R in
-    let more = long g (goal.at.returns-clause-notes g c).After-tick in
-    let pair = count_notes-pair r c.args.number c.requires.radix.at_least_two (sym c.if-counts_at_once.ensures) more c.requires.short in
+    let more = long g (goal.at.returns-clause-counted g c).After-tick in
+    let pair = slow_notes-pair r c.args.number c.requires.radix.at_least_two more c.requires.short in
     rw (pair, pow-two)
-    (after_first c.args.turns.now c.tick.new.self c.count_one_or_two-2.new.turns _ _ (rw c.from.ensures at c.tick.ensures) c.count_one_or_two-2.ensures.notes)
+    (after_first c.args.counted.now c.tick.new.self c.count_one_or_two-2.new.counted _ _ (rw c.from.ensures at c.tick.ensures)
+    c.count_one_or_two-2.ensures.counted)

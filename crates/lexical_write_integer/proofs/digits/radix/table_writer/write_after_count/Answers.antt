@@ -1,29 +1,36 @@
-use Rattle.std.proofs.Common.{◌≡◌, ◌+◌, ◌-◌, ◌/◌, ◌<◌, ◌^◌, refl, sym, ap, ◌∙◌, lit<, arith}
+use Rattle.std.proofs.Common.{◌≡◌, ◌+◌, ◌-◌, ◌<◌, ◌≤◌, ◌^◌, sym, ◌∙◌, lit<, arith}
+use Rattle.std.proofs.lemmas.Grind.{common_steps}
 use Rattle.lexical_write_integer.specs.Digits.DigitCount.{digit_count}
 use Rattle.lexical_write_integer.specs.Digits.LoopTurns.{takes_four}
 use Rattle.lexical_write_integer.proofs.Buffers.Blocks.{IsWrittenBack-at, IsWrittenBack-left, IsWrittenBack-more, IsWrittenBack-last}
 use Rattle.lexical_write_integer.proofs.Buffers.BlocksAfter.{WritesDigits-block}
 use Rattle.lexical_write_integer.proofs.OfDigits.Radix.Loops.ShortNumbers.{fits-within, longer-than}
-use Rattle.lexical_write_integer.proofs.OfDigits.Radix.Loops.Records.{loop_notes-after}
 use Rattle.lexical_write_integer.proofs.OfDigits.Count.RadixPowers.{power-small}
 use Rattle.lexical_write_integer.proofs.digits.radix.table_writer.write_after_count.Goals as goal
-use Rattle.lexical_write_integer.proofs.digits.radix.table_writer.write_after_count.Goals.{After-loop-at}
+use Rattle.lexical_write_integer.proofs.digits.radix.table_writer.write_after_count.Goals.{In-loop-at, After-loop-at}
+
+-- in an iteration more than four digits are left
+long : (g : _) (c : In-loop-at g) → g.row.R ^ 4 ≤ c.loop-at.left
+long g c =
+    let counts =
+    IsWrittenBack-left c.args.table.is_radix.at_least_two c.digit_count_counted-count.ensures.count c.loop-at.invariant.within
+    c.loop-at.invariant.written in
+    longer-than g.row.R c.loop-at.left 4 (omega arith) (omega (arith, counts, c.loop-at-test.true))
+
+pub remove_four-next-requires-clause-long : goal.remove_four-next-requires-clause-long
+remove_four-next-requires-clause-long g c = long g (goal.at.remove_four-next-requires-clause-long g c).In-loop-at
 
 pub loop-at-preserved : goal.loop-at-preserved
 loop-at-preserved g c =
-    let two = c.args.table.is_radix.at_least_two in
-    let left = c.loop-at.left in
+    let c' = (goal.at.loop-at-preserved g c).In-loop-at in
     let at = c.loop-at.at in
     let count = c.digit_count_counted-count.result in
-    let counts = IsWrittenBack-left two c.digit_count_counted-count.ensures.count c.loop-at.invariant.within c.loop-at.invariant.written in
-    let long = longer-than g.row.R left 4 (omega arith) (omega (arith, counts, c.loop-at-test.true)) in
-    let next = ap (λ k. left / k) (c.from-power.ensures ∙ c.fourth_power.ensures.power) in
     let order : 4 + (count - at) ≡ count - (at - 4) = omega (arith, c.loop-at-test.true, c.loop-at.invariant.within) in
     let place : at ≡ at - 4 + 4 = omega (arith, c.loop-at-test.true) in
     record {
-      noted = rw next (loop_notes-after g.row.R left c.loop-at.written c.tick.new.self _ two long (rw next at c.tick.ensures) refl)
-          ∙ c.loop-at.invariant.noted;
-      written = rw order at (IsWrittenBack-more two long next (IsWrittenBack-at place c.loop-at.invariant.written) c.write_last_four.ensures);
+      noted = c.remove_four-next.ensures.written ∙ c.loop-at.invariant.noted;
+      written = rw order at (IsWrittenBack-more c.args.table.is_radix.at_least_two (long g c') c.remove_four-next.ensures.left
+          (IsWrittenBack-at place c.loop-at.invariant.written) c.write_last_four.ensures);
       within = omega (arith, c.loop-at.invariant.within);
       room = c.write_last_four.auto.buffer ∙ c.loop-at.invariant.room;
     }
@@ -54,3 +61,8 @@ returns-clause-digits g c =
     let place : c.loop-at.at ≡ 0 + c.loop-at.at = omega arith in
     let block = IsWrittenBack-last (IsWrittenBack-at place c.loop-at.invariant.written) c.write_up_to_four.ensures.written in
     WritesDigits-block c.args.table.is_radix.at_least_two (sym is) (omega (arith, is, c.requires.room)) (rw whole at block)
+
+-- the check finds this proof by itself, but close to its limits
+pub loop-at-init : goal.loop-at-init
+loop-at-init g c
+    = grind (arith, common_steps)

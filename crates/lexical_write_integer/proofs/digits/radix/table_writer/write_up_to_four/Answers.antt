@@ -6,7 +6,7 @@ use Rattle.lexical_write_integer.proofs.OfDigits.Count.DigitCounts.{digit_count-
 use Rattle.lexical_write_integer.proofs.OfDigits.Count.RadixPowers.{power-gt_one}
 use Rattle.lexical_write_integer.proofs.OfDigits.Powers.{pow-two, pow-four}
 use Rattle.lexical_write_integer.proofs.OfDigits.Radix.FourDigits.{WritesBlock-four}
-use Rattle.lexical_write_integer.proofs.OfDigits.Radix.TablePairs.{length-table, first_digit, second_digit}
+use Rattle.lexical_write_integer.proofs.OfDigits.Radix.TablePairs.{length-table, pair_first, pair_second}
 use Rattle.lexical_write_integer.proofs.digits.radix.table_writer.write_up_to_four.Goals as goal
 use Rattle.lexical_write_integer.proofs.digits.radix.table_writer.write_up_to_four.Goals.{Start}
 
@@ -64,10 +64,10 @@ returns-clause-written g c =
     let place : c.saturating_sub.result ≡ c.args.digits - 2 = omega (arith, c.saturating_sub.ensures) in
     let hi = c.args.number / (g.row.R * g.row.R) in
     let lo = c.args.number % (g.row.R * g.row.R) in
-    let a = first_digit g.row.R hi pairs begins (first g c') in
-    let b = second_digit g.row.R hi pairs begins (first g c') in
-    let d = first_digit g.row.R lo pairs begins (last g c') in
-    let e = second_digit g.row.R lo pairs begins (last g c') in
+    let a = pair_first g.row.R hi pairs begins (first g c') in
+    let b = pair_second g.row.R hi pairs begins (first g c') in
+    let d = pair_first g.row.R lo pairs begins (last g c') in
+    let e = pair_second g.row.R lo pairs begins (last g c') in
     rw (c.first_pair.ensures.pair, a, b, d, e, place)
     (WritesBlock-four g.row.R c.args.number c.args.digits c.args.buffer.now c.args.table.is_radix.at_least_two
     c.requires.short c.requires.digits c.requires.room)

@@ -6,9 +6,8 @@ use Rattle.lexical_write_integer.proofs.texts.integers.I16ToLexical.write_magnit
 -- the check finds this proof by itself, but with an answer the refusal of a mistake says what is wrong
 pub returns : goal.returns
 returns c =
-    let radix = c.mantissa_radix in
-    let written = c.write_integer_signed in
+    let written = c.write_mantissa_signed in
     record {
-      digits = rw (← radix.ensures.value) (subst (λ number. WritesDigits radix.result number c.args.buffer.now written.new.buffer written.result)
-          (omega (arith, ints)) written.ensures.digits);
+      digits = subst (λ number. WritesDigits c.args.format.now.mantissa_radix number c.args.buffer.now written.new.buffer written.result)
+          (omega (arith, ints)) written.ensures.digits;
     }

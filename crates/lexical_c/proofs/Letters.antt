@@ -1,0 +1,95 @@
+-- Texts in lowercase: those of radix 10 and below have no letters, and the letters of the others differ in a bit.
+use Rattle.std.proofs.Common.{◌≡◌, None, Bool, true, false, ℕ, ◌+◌, ◌%◌, ◌<◌, ◌≤◌, List, [], ◌∷◌, ◌++◌, map, refl, sym, arith, inl, inr, ◌-◌, ◌*◌, ◌/◌, ℤ, pos, negsuc}
+use Rattle.std.specs.List.{All}
+use Rattle.std.specs.Char.{to_ascii_lowercase}
+use Rattle.std.proofs.lemmas.Bool.Decides.{nat_tests}
+use Rattle.std.proofs.lemmas.List.Elements.{All-nil, All-cons, All-head, All-tail, All-map, All-append}
+use Rattle.std.proofs.lemmas.List.{map-append}
+use Rattle.std.proofs.lemmas.Str.Ascii.{lowercase_is}
+use Rattle.std.proofs.lemmas.Nat.Bits.{and_pow}
+use Rattle.std.proofs.lemmas.Bool.{cases_lt}
+use Rattle.std.specs.Int.Bits.{bit_and, bit_or, or_add_and}
+use Rattle.lexical_num.specs.Digit.{digit_char}
+use Rattle.lexical_num.specs.Format.{Format}
+use Rattle.lexical_num.specs.Sign.{sign_of}
+use Rattle.lexical_write_integer.specs.Text.{IsText}
+
+-- every byte precedes the letters
+abbrev Unlettered : List ℕ → Type 0
+Unlettered = All (λ b. b < 65)
+
+digit_char-unlettered : (d : ℕ) → d < 10 → digit_char d < 65
+digit_char-unlettered d small = grind (arith, nat_tests)
+
+Unlettered-digit_chars : (r : ℕ) (digits : List ℕ) → r ≤ 10 → All (λ d. d < r) digits → Unlettered (map digit_char digits)
+Unlettered-digit_chars r digits few below = All-map (λ b. b < 65) digit_char digits (λ k d less. digit_char-unlettered _ (omega (arith, below k d less)))
+
+Unlettered-one : (b : ℕ) → b < 65 → Unlettered (b ∷ [])
+Unlettered-one b small = All-cons (λ b. b < 65) b [] small (All-nil (λ b. b < 65))
+
+Unlettered-sign : (x : ℤ) (required : Bool) → Unlettered (sign_of x required)
+Unlettered-sign (negsuc n) required = Unlettered-one 45 (omega arith)
+Unlettered-sign (pos n) true = Unlettered-one 43 (omega arith)
+Unlettered-sign (pos n) false = All-nil (λ b. b < 65)
+
+lowercase-unlettered : (text : List ℕ) → Unlettered text → map to_ascii_lowercase text ≡ text
+lowercase-unlettered [] all = refl
+lowercase-unlettered (b ∷ text) all =
+    let first = (lowercase_is b).1 (All-head (λ b. b < 65) b text all) in
+    rw (first, lowercase-unlettered text (All-tail (λ b. b < 65) b text all)) refl
+
+-- a text without groups in radix 10 or below is the same in lowercase
+pub lowercase-IsText : (x : ℤ) (format : Format) (text : List ℕ) → format.mantissa_radix ≤ 10 → format.digit_grouping ≡ None →
+    IsText x format text → text ≡ map to_ascii_lowercase text
+lowercase-IsText x format text few none is =
+    let digits : Unlettered is.digits =
+    rw is.magnitude.characters (Unlettered-digit_chars format.mantissa_radix is.magnitude.digits few is.magnitude.numeral.numeral.below_radix) in
+    let whole = All-append (λ b. b < 65) (sign_of x format.required_mantissa_sign) is.digits (Unlettered-sign x format.required_mantissa_sign) digits in
+    sym (lowercase-unlettered text (rw (is.whole, none) whole))
+
+-- ---- texts whose letters are changed by setting a bit
+
+or_32 : (c : ℕ) → bit_or c 32 ≡ c + 32 - c / 32 % 2 * 32
+or_32 c =
+    let both : bit_and c 32 ≡ c / 32 % 2 * 32 = and_pow c 5 in
+    omega (arith, or_add_and c 32, both)
+
+digit_char-lowered : (d : ℕ) → d < 36 → bit_or (digit_char d) 32 ≡ to_ascii_lowercase (digit_char d)
+digit_char-lowered d small = elim (cases_lt d 10) [
+  | inl decimal ↦
+      let char : digit_char d ≡ 48 + d = grind (arith, nat_tests) in
+      rw char (omega (arith, or_32 (48 + d), (lowercase_is (48 + d)).1 (omega arith)))
+  | inr letter ↦
+      let char : digit_char d ≡ 55 + d = grind (arith, nat_tests) in
+      rw char (omega (arith, or_32 (55 + d), (lowercase_is (55 + d)).0 (omega arith, omega arith)))
+]
+
+-- the bit is all that distinguishes the letters of the text from lowercase letters
+abbrev Lowered : List ℕ → Type 0
+Lowered text = map (λ byte. bit_or byte 32) text ≡ map to_ascii_lowercase text
+
+Lowered-digit_chars : (digits : List ℕ) → All (λ d. d < 36) digits → Lowered (map digit_char digits)
+Lowered-digit_chars [] below = refl
+Lowered-digit_chars (d ∷ digits) below =
+    rw (digit_char-lowered d (All-head (λ k. k < 36) d digits below), Lowered-digit_chars digits (All-tail (λ k. k < 36) d digits below)) refl
+
+Lowered-sign : (x : ℤ) (required : Bool) → Lowered (sign_of x required)
+Lowered-sign (negsuc n) required = refl
+Lowered-sign (pos n) true = refl
+Lowered-sign (pos n) false = refl
+
+-- the letters of a text without groups are changed to lowercase by setting the bit
+pub lowered-IsText : (x : ℤ) (format : Format) (text : List ℕ) → format.mantissa_radix ≤ 36 → format.digit_grouping ≡ None →
+    IsText x format text → map (λ byte. bit_or byte 32) text ≡ map to_ascii_lowercase text
+lowered-IsText x format text few none is =
+    let sign = sign_of x format.required_mantissa_sign in
+    let digits = is.magnitude.digits in
+    let below : All (λ d. d < 36) digits = λ k d less. omega (arith, is.magnitude.numeral.numeral.below_radix k d less) in
+    let whole : text ≡ sign ++ map digit_char digits = rw (none, is.magnitude.characters) at is.whole in
+    rw (
+      whole,
+      map-append (λ byte. bit_or byte 32) sign (map digit_char digits),
+      map-append to_ascii_lowercase sign (map digit_char digits),
+      Lowered-sign x format.required_mantissa_sign,
+      Lowered-digit_chars digits below,
+    ) refl

@@ -1,0 +1,63 @@
+use Rattle.std.proofs.Common.{◌≡◌, ℕ, ◌+◌, ◌-◌, ◌<◌, ◌≤◌, List, ◌++◌, length, take, drop, sym, ap, ◌∙◌, arith, length-take, take-append-drop}
+use Rattle.std.specs.List.{copy_within}
+use Rattle.std.proofs.lemmas.List.{append-nil, drop-take}
+use Rattle.std.proofs.lemmas.List.Edits.{take-paste}
+use Rattle.lexical_lines.specs.Source.{failures_of}
+use Rattle.lexical_lines.specs.BlockWriter.{taken}
+use Rattle.lexical_lines.proofs.devices.block_writer.BlockWriter.write_block.Goals as goal
+use Rattle.std.proofs.Common.{length-drop, append_assoc, [], Result, Ok, Err, OnOk, OnErr}
+use Rattle.std.specs.Prelude.{⊤}
+
+-- the bytes after the first ones are moved to the start
+take-copy_within : (xs : List ℕ) (count end : ℕ) → count ≤ end → end ≤ length xs
+    → take (end - count) (copy_within xs count end 0) ≡ drop count (take end xs)
+take-copy_within xs count end ordered within =
+    let left = end - count in
+    let parts : end ≡ count + left = omega arith in
+    let none : left ≡ 0 + left = omega arith in
+    ap (λ k. take k (copy_within xs count end 0)) none
+    ∙ take-paste xs 0 (drop count xs) left (omega arith) (omega (arith, length-drop count xs))
+    ∙ sym (ap (λ k. drop count (take k xs)) parts ∙ drop-take count left xs)
+
+-- the block held the bytes that were written, followed by those that it holds after the move
+parted : (xs ys : List ℕ) (count end : ℕ) → count ≤ end → end ≤ length xs → ys ≡ copy_within xs count end 0
+    → take end xs ≡ take count (take end xs) ++ take (end - count) ys
+parted xs ys count end ordered within moved =
+    let rest = ap (take (end - count)) moved ∙ take-copy_within xs count end ordered within in
+    sym (take-append-drop count (take end xs)) ∙ ap (λ l. take count (take end xs) ++ l) (sym rest)
+
+-- each byte that was taken is still taken: it was written, or it is in the block
+same : (written after xs ys : List ℕ) (count end : ℕ) → after ≡ written ++ take count (take end xs)
+    → take end xs ≡ take count (take end xs) ++ take (end - count) ys → after ++ take (end - count) ys ≡ written ++ take end xs
+same written after xs ys count end passed parts =
+    ap (λ front. front ++ take (end - count) ys) passed ∙ append_assoc written (take count (take end xs)) (take (end - count) ys)
+    ∙ ap (λ held. written ++ held) (sym parts)
+
+within : {E : Type 0} (result : Result ⊤ E) (count whole : ℕ) → OnOk result (count ≡ whole) → OnErr result (count < whole) → count ≤ whole
+within (Ok done) count whole all less = omega (arith, all)
+within (Err e) count whole all less = omega (arith, less)
+
+pub returns-clause-taken : goal.returns-clause-taken
+returns-clause-taken g c =
+    let w = c.self.inside in
+    let count = c.put_all-count.result.0 in
+    let bound : count ≤ w.end = omega (arith, within _ _ _ c.put_all-count.ensures.ok c.put_all-count.ensures.err, length-take w.end w.block) in
+    let parts = parted w.block c.copy_within.new.self count w.end bound (omega (arith, c.self.invariant.1, c.self.told)) c.copy_within.ensures.after in
+    same (g.K.ByteSink.taken w.sink) _ w.block c.copy_within.new.self count w.end c.put_all-count.ensures.taken parts ∙ ap taken c.self.view_is
+
+pub returns-clause-kept : goal.returns-clause-kept
+returns-clause-kept g c =
+    let wrote = c.put_all-count.ensures in
+    let puts = g.met.K.BlockSink.keeps_puts _ _ wrote.kept in
+    record {
+      more = [];
+      sent = puts.more;
+      longer = returns-clause-taken g c ∙ sym (append-nil _);
+      passed = rw (sym c.self.view_is) (record { written = puts.taken; contents = puts.contents });
+    }
+
+-- the check finds this proof by itself, but with an answer the refusal of a mistake says what is wrong
+pub returns-clause-failures : goal.returns-clause-failures
+returns-clause-failures g c =
+    let wrote = c.put_all-count in
+    wrote.ensures.failures ∙ ap (λ w. w.failures + failures_of wrote.result.1) c.self.view_is

@@ -1,0 +1,110 @@
+//! Unsigned numbers in radix 16 and in radix 2, which need as many bytes as their type has digits, and
+//! bytes in radix 16.
+
+ghost use Rattle.std.specs.Prelude.{◌≡◌, ◌+◌, ◌-◌, ◌*◌, ◌/◌, ◌≤◌, length};
+ghost use Rattle.lexical_write_integer.specs.Buffer.{Writes};
+ghost use Rattle.lexical_write_integer.specs.Padded.{IsPadded};
+ghost use Rattle.lexical_write_integer.specs.Sequence.{AreJoined};
+ghost use Rattle.lexical_write_integer.specs.Text.{IsDigits};
+
+use crate::joined::write_next;
+use crate::part::Part;
+use lexical_tables::get_table;
+use lexical_write_integer::laws::digit_count_within_bits;
+use lexical_write_integer::radix::Radix;
+
+/// The digits of an unsigned number in radix 16, without a prefix: `Hex(255u32)` writes `FF`. Its room
+/// is that of its type: 2 bytes for a `u8`, and 16 for a `u64`.
+#[derive(Clone, Copy, Debug, Drop)]
+pub struct Hex<T>(pub T);
+
+impl<T: Radix> Part for Hex<T> {
+    ghost is_text = { λ part. IsDigits 16 (T.magnitude part.0) };
+
+    ghost room = { λ _. T.BITS / 4 };
+
+    fn room(self) -> usize {
+        T::BITS / 4
+    }
+
+    fn write_to(self, buffer: &mut [u8]) -> usize {
+        self.0.fits_bits();
+        self.0.radix(16, buffer)
+    }
+}
+
+/// The digits of an unsigned number in radix 2, without a prefix: `Binary(5u8)` writes `101`. Its room
+/// is that of its type: 8 bytes for a `u8`, and 64 for a `u64`.
+#[derive(Clone, Copy, Debug, Drop)]
+pub struct Binary<T>(pub T);
+
+impl<T: Radix> Part for Binary<T> {
+    ghost is_text = { λ part. IsDigits 2 (T.magnitude part.0) };
+
+    ghost room = { λ _. T.BITS };
+
+    fn room(self) -> usize {
+        T::BITS
+    }
+
+    fn write_to(self, buffer: &mut [u8]) -> usize {
+        digit_count_within_bits(2, self.0);
+        self.0.radix(2, buffer)
+    }
+}
+
+// Writes the two digits of a byte in radix 16 to the start of the buffer, and returns 2.
+fn write_byte(byte: u8, buffer: &mut [u8]) -> usize
+    requires { 2 ≤ length buffer.old }
+    ensures text { Writes (IsPadded 16 2 byte) buffer.old buffer.new result }
+    ensures count { result ≡ 2 }
+{
+    let table = get_table(16);
+    let index = 2 * usize::from(byte);
+    buffer[0] = table[index];
+    buffer[1] = table[index + 1];
+    2
+}
+
+// The two digits of a byte in radix 16.
+#[derive(Clone, Copy, Drop)]
+struct HexByte(u8);
+
+impl Part for HexByte {
+    ghost is_text = { λ part. IsPadded 16 2 part.0 };
+
+    ghost room = { λ _. 2 };
+
+    fn room(self) -> usize {
+        2
+    }
+
+    fn write_to(self, buffer: &mut [u8]) -> usize {
+        write_byte(self.0, buffer)
+    }
+}
+
+/// The bytes of a slice in radix 16, each in two digits, with a separator between adjacent bytes:
+/// `HexBytes(&[1, 255], "")` writes `01FF`, and `HexBytes(&[1, 255], ":")` writes `01:FF`.
+#[derive(Clone, Copy, Debug, Drop)]
+pub struct HexBytes<'a>(pub &'a [u8], pub &'a str);
+
+impl Part for HexBytes<'_> {
+    ghost is_text = { λ part. AreJoined (IsPadded 16 2) part.1.now part.0.now };
+
+    ghost room = { λ part. 2 * length part.0.now + (length part.0.now - 1) * length part.1.now };
+
+    fn room(self) -> usize {
+        let separators = self.0.len().saturating_sub(1);
+        let digits = self.0.len().saturating_mul(2);
+        digits.saturating_add(separators.saturating_mul(self.1.len()))
+    }
+
+    fn write_to(self, buffer: &mut [u8]) -> usize {
+        let mut count = 0;
+        for (index, byte) in self.0.iter().enumerate() {
+            count += write_next(index, self.1, HexByte(*byte), &mut buffer[count..]);
+        }
+        count
+    }
+}

@@ -1,0 +1,33 @@
+//! The sign of a number, as a part of its own.
+
+ghost use Rattle.lexical_num.specs.Sign.{sign_of};
+ghost use Rattle.lexical_write_integer.specs.Sequence.{IsExactly};
+
+use crate::part::Part;
+use lexical_num::num::LexicalInteger;
+use lexical_write_integer::buffer::copy_to_front;
+
+/// The sign of a number: `-` if it is below 0, and otherwise nothing, or a `+` if one is required. Before
+/// other parts, `Sign(-5, false)` and `Sign(-5, true)` write `-`, and `Sign(5, true)` writes `+`.
+#[derive(Clone, Copy, Debug, Drop)]
+pub struct Sign<T>(pub T, pub bool);
+
+impl<T: LexicalInteger> Part for Sign<T> {
+    ghost is_text = { λ part. IsExactly (sign_of (T.number part.0) part.1) };
+
+    ghost room = { λ _. 1 };
+
+    fn room(self) -> usize {
+        1
+    }
+
+    fn write_to(self, buffer: &mut [u8]) -> usize {
+        if self.0.is_negative() {
+            copy_to_front(b"-", buffer)
+        } else if self.1 {
+            copy_to_front(b"+", buffer)
+        } else {
+            0
+        }
+    }
+}

@@ -1,0 +1,25 @@
+use Rattle.std.proofs.Common.{ℕ, suc, zero, ◌<◌, ◌≤◌, ◌^◌, arith}
+use Rattle.std.proofs.Math.Nat.{pow-zero, pow-le-pow_right, one-le-pow}
+use Rattle.std.proofs.lemmas.Bool.Decides.{nat_tests}
+use Rattle.lexical_write_integer.specs.Digits.DigitCount.{digit_count, digit_count-le}
+use Rattle.lexical_write_integer.proofs.OfDigits.Count.DigitCounts.{digit_count-fits}
+use Rattle.lexical_write_integer.proofs.digits.padded.fits_width.Goals as goal
+
+-- a number of at most `width` digits is below `radix ^ width`
+below : (r n width : ℕ) → 2 ≤ r → digit_count r n ≤ width → n < r ^ width
+below r n width two few = omega (arith, digit_count-fits r n two, pow-le-pow_right {n = r} (omega arith) few)
+
+-- a number other than 0 that is below `radix ^ width` has at most `width` digits
+few : (r n width : ℕ) → 1 ≤ n → n < r ^ width → digit_count r n ≤ width
+few r n zero some fits = absurd (omega (arith, rw pow-zero at fits))
+few r n (suc width) some fits = digit_count-le r n (suc width) (omega arith) fits
+
+pub returns-then-number-eq0 : goal.returns-then-number-eq0
+returns-then-number-eq0 c =
+    (λ _. rw c.if-number-eq0.true (omega (arith, one-le-pow c.args.width c.args.radix (omega (arith, c.requires.at_least_two)))), λ _. grind (arith, nat_tests))
+
+pub returns-else-number-eq0 : goal.returns-else-number-eq0
+returns-else-number-eq0 c = (
+  λ test. below c.args.radix c.args.number c.args.width c.requires.at_least_two (grind (arith, nat_tests, c.digit_count.ensures.count)),
+  λ fits. let within = few c.args.radix c.args.number c.args.width (omega arith) fits in grind (arith, nat_tests, within, c.digit_count.ensures.count),
+)

@@ -1,0 +1,62 @@
+use Rattle.std.proofs.Common.{◌≡◌, ◌+◌, ◌/◌, ◌^◌, ◌++◌, ◌∙◌, arith}
+use Rattle.lexical_write_integer.specs.Buffer.{WritesDigits}
+use Rattle.lexical_write_integer.specs.Digits.LoopTurns.{loop_notes, slow_notes}
+use Rattle.lexical_write_integer.proofs.Buffers.BlocksAfter.{WritesDigits-after}
+use Rattle.lexical_write_integer.proofs.OfDigits.Radix.Loops.Records.{slow_notes-after}
+use Rattle.lexical_write_integer.proofs.OfDigits.Radix.Loops.ShortNumbers.{HasEight-of}
+use Rattle.lexical_write_integer.proofs.digits.radix.table_writer.+count_and_write_more.Goals as goal
+use Rattle.lexical_write_integer.proofs.digits.radix.table_writer.+count_and_write_more.Goals.{then-second-eighth_power, else-second-eighth_power}
+
+pub remove_four-first-requires-clause-long : goal.remove_four-first-requires-clause-long
+remove_four-first-requires-clause-long g t c = (HasEight-of c.args.table.is_radix.at_least_two c.requires.long).value
+
+pub remove_four-second-requires-clause-long : goal.remove_four-second-requires-clause-long
+remove_four-second-requires-clause-long g t c =
+    rw c.remove_four-first.ensures.left (HasEight-of c.args.table.is_radix.at_least_two c.requires.long).first
+
+pub returns-clause-digits : goal.returns-clause-digits
+returns-clause-digits g t c =
+    let two = c.args.table.is_radix.at_least_two in
+    let r = g.row.R in
+    let n = c.args.value in
+    let first = c.remove_four-first.ensures in
+    let second = c.remove_four-second.ensures in
+    let both = HasEight-of two c.requires.long in
+    let head = c.if-second-eighth_power.head in
+    let before : WritesDigits r c.remove_four-second.result c.args.buffer.now c.if-second-eighth_power.buffer head =
+    elim c.if-second-eighth_power.branch [
+      | then-second-eighth_power w ↦ rw (w.buffer-is, w.head-is) w.count_and_write_up_to_eight-head.ensures.digits
+      | else-second-eighth_power w ↦ rw (w.buffer-is, w.head-is) w.count_and_write_more-head.ensures.digits
+    ] in
+    let total : head + 4 + 4 ≡ head + 8 = omega arith in
+    let four =
+    WritesDigits-after (n / r ^ 4) two both.first (omega (arith, rw first.left at first.digits, c.requires.room))
+    (rw (second.left, first.left) at before) (rw first.left at c.write_last_four.ensures) in
+    rw total at (WritesDigits-after n two both.value c.requires.room four c.write_last_four-2.ensures)
+
+pub returns-clause-counted : goal.returns-clause-counted
+returns-clause-counted g t c =
+    let two = c.args.table.is_radix.at_least_two in
+    let r = g.row.R in
+    let n = c.args.value in
+    let first = c.remove_four-first.ensures.left in
+    let both = HasEight-of two c.requires.long in
+    let counted = c.if-second-eighth_power.counted in
+    let before : counted ≡ c.tick-2.new.self ++ slow_notes r c.remove_four-second.result =
+    elim c.if-second-eighth_power.branch [
+      | then-second-eighth_power w ↦ rw w.counted-is w.count_and_write_up_to_eight-head.ensures.counted
+      | else-second-eighth_power w ↦ rw w.counted-is w.count_and_write_more-head.ensures.counted
+    ] in
+    slow_notes-after r n c.args.counted.now c.tick.new.self counted two both.value (rw first at c.tick.ensures)
+    (slow_notes-after r (n / r ^ 4) c.tick.new.self c.tick-2.new.self counted two both.first
+    (rw (c.remove_four-second.ensures.left, first) at c.tick-2.ensures) (rw (c.remove_four-second.ensures.left, first) at before))
+
+-- the check finds this proof by itself, but with an answer the refusal of a mistake says what is wrong
+pub returns-clause-written : goal.returns-clause-written
+returns-clause-written g t c =
+    let before : c.if-second-eighth_power.written ≡ c.remove_four-second.new.written ++ loop_notes g.row.R c.remove_four-second.result =
+    elim c.if-second-eighth_power.branch [
+      | then-second-eighth_power w ↦ rw w.written-is w.count_and_write_up_to_eight-head.ensures.written
+      | else-second-eighth_power w ↦ rw w.written-is w.count_and_write_more-head.ensures.written
+    ] in
+    before ∙ c.remove_four-second.ensures.written ∙ c.remove_four-first.ensures.written

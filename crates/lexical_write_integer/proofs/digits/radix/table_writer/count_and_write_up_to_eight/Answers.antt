@@ -1,0 +1,61 @@
+use Rattle.std.proofs.Common.{◌^◌, ◌<◌, ◌≤◌, ◌∙◌, lit<, arith}
+use Rattle.std.proofs.lemmas.Nat.{div_below, pow-add}
+use Rattle.lexical_write_integer.specs.Digits.LoopTurns.{takes_four}
+use Rattle.lexical_write_integer.proofs.Buffers.BlocksAfter.{WritesDigits-after}
+use Rattle.lexical_write_integer.proofs.OfDigits.Count.RadixPowers.{power-small, power-gt_one}
+use Rattle.lexical_write_integer.proofs.OfDigits.Radix.Loops.Records.{slow_notes-after}
+use Rattle.lexical_write_integer.proofs.digits.radix.table_writer.count_and_write_up_to_eight.Goals as goal
+use Rattle.lexical_write_integer.proofs.digits.radix.table_writer.count_and_write_up_to_eight.Goals.{After-remove_four-left}
+
+-- ---- up to four digits
+
+pub overflow_cast-value : goal.overflow_cast-value
+overflow_cast-value g c =
+    omega (arith, c.if-value-fourth_power.true, c.fourth_power.ensures.power, power-small g.row.R 4 c.args.table.is_radix.at_most_36 takes_four)
+
+-- ---- more than four digits
+
+long : (g : _) (c : After-remove_four-left g) → g.row.R ^ 4 ≤ c.args.value
+long g c = omega (arith, c.if-value-fourth_power.false, c.fourth_power.ensures.power)
+
+-- the number without its last four digits has at most four
+left_short : (g : _) (c : After-remove_four-left g) → c.remove_four-left.result < g.row.R ^ 4
+left_short g c =
+    let some : 0 < g.row.R ^ 4 = omega (arith, power-gt_one g.row.R 4 c.args.table.is_radix.at_least_two takes_four) in
+    rw c.remove_four-left.ensures.left (div_below c.args.value (g.row.R ^ 4) (g.row.R ^ 4) some (rw (pow-add g.row.R 4 4) at c.requires.short))
+
+pub overflow_cast-left : goal.overflow_cast-left
+overflow_cast-left g c =
+    omega (
+      arith,
+      left_short g (goal.at.overflow_cast-left g c).After-remove_four-left,
+      power-small g.row.R 4 c.args.table.is_radix.at_most_36 takes_four,
+    )
+
+pub count_and_write_up_to_four-head-requires : goal.count_and_write_up_to_four-head-requires
+count_and_write_up_to_four-head-requires g c =
+    let c' = (goal.at.count_and_write_up_to_four-head-requires g c).After-remove_four-left in
+    (lit< tt, (left_short g c', omega (arith, c.remove_four-left.ensures.digits, c.requires.room)))
+
+pub write_last_four-requires : goal.write_last_four-requires
+write_last_four-requires g c =
+    let c' = (goal.at.write_last_four-requires g c).After-remove_four-left in
+    let head = c.count_and_write_up_to_four-head in
+    (lit< tt, (c.remove_four-left.ensures.left, omega (arith, head.ensures.digits.count, c.remove_four-left.ensures.digits, c.requires.room, head.auto.buffer)))
+
+pub returns-clause-digits : goal.returns-clause-digits
+returns-clause-digits g c =
+    let c' = (goal.at.returns-clause-digits g c).After-remove_four-left in
+    WritesDigits-after c.args.value c.args.table.is_radix.at_least_two (long g c') c.requires.room
+    (rw c.remove_four-left.ensures.left at c.count_and_write_up_to_four-head.ensures.digits) c.write_last_four.ensures
+
+pub returns-clause-counted : goal.returns-clause-counted
+returns-clause-counted g c =
+    let c' = (goal.at.returns-clause-counted g c).After-remove_four-left in
+    let left = c.remove_four-left.ensures.left in
+    slow_notes-after g.row.R c.args.value c.args.counted.now c.tick.new.self c.count_and_write_up_to_four-head.new.counted
+    c.args.table.is_radix.at_least_two (long g c') (rw left at c.tick.ensures) (rw left at c.count_and_write_up_to_four-head.ensures.counted)
+
+-- the check finds this proof by itself, but with an answer the refusal of a mistake says what is wrong
+pub returns-clause-written : goal.returns-clause-written
+returns-clause-written g c = c.count_and_write_up_to_four-head.ensures.written ∙ c.remove_four-left.ensures.written

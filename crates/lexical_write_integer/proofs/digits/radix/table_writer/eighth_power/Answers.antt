@@ -1,0 +1,13 @@
+use Rattle.std.proofs.Common.{sym, arith}
+use Rattle.std.proofs.Math.Nat.{pow-le-pow_left}
+use Rattle.lexical_write_integer.proofs.OfDigits.Powers.{pow-eight}
+use Rattle.lexical_write_integer.proofs.digits.radix.table_writer.eighth_power.Goals as goal
+
+pub overflow_mul-result : goal.overflow_mul-result
+overflow_mul-result c =
+    let power = c.fourth_power.ensures.power in
+    rw (power, c.fourth_power-2.ensures.power, ← pow-eight)
+    (omega (arith, pow-le-pow_left {n = c.args.radix} {m = 36} c.requires.at_most_36 8))
+
+pub returns : goal.returns
+returns c = rw (c.fourth_power.ensures.power, c.fourth_power-2.ensures.power) (sym (pow-eight c.args.radix))

@@ -1,0 +1,40 @@
+#![doc = include_str!(concat!(env!("OUT_DIR"), "/lexical_c/lib.md"))]
+#![no_std]
+#![allow(unused_imports, unused_variables, reason = "contracts use them")]
+
+extern crate core as std;
+include!(concat!(env!("OUT_DIR"), "/lexical_c/lib.rs"));
+
+/// Exports the writers, which take a slice, as functions that take a pointer and a length.
+macro_rules! export {
+    ($($name:ident($number:ty)),*) => { $(
+        #[unsafe(no_mangle)]
+        unsafe extern "C" fn $name(value: $number, format: &format::CFormat, buffer: *mut u8, length: usize) -> usize {
+            if length == 0 {
+                return 0; // The pointer may be NULL, which is no slice, and no text fits.
+            }
+            // SAFETY: `lexical.h` requires of the caller that `buffer` points to `length` bytes, at most PTRDIFF_MAX,
+            // that may be written, that they do not overlap the format, and that nothing else uses them during the
+            // call. The caller may not have initialized them, but no compiler sees its code together with this.
+            let buffer = unsafe { core::slice::from_raw_parts_mut(buffer, length) };
+            write::$name(value, format, buffer)
+        }
+    )* };
+}
+
+export! {
+    lexical_write_u8(u8), lexical_write_u16(u16), lexical_write_u32(u32), lexical_write_u64(u64),
+    lexical_write_size(usize),
+    lexical_write_i8(i8), lexical_write_i16(i16), lexical_write_i32(i32), lexical_write_i64(i64)
+}
+
+#[link(name = "c")]
+unsafe extern "C" {
+    safe fn abort() -> !;
+}
+
+/// Ends the program: a panic does not unwind into C. No call that meets the conditions of the header panics.
+#[panic_handler]
+fn panic(_: &core::panic::PanicInfo) -> ! {
+    abort()
+}

@@ -1,3 +1,0 @@
-fn main() {
-    strip::build_changed("../../../crates/uses", &[], runtime::without_runtime);
-}
