@@ -18,6 +18,8 @@ returns-clause-bad g c = λ one.
     (rw c.whole.ensures at (c.answer_stream.ensures.answered (omega (arith, one))).all) (c.answer_stream.ensures.bad one)
 
 pub returns-clause-failed : goal.returns-clause-failed
-returns-clause-failed g c = λ two.
-    (_, begins-known (2 ^ 63 - 1) (g.R.Read.remaining c.args.reader) _ _ (rw c.whole.ensures at c.answer_stream.ensures.read.known),
-    (_, _, c.answer_stream.ensures.failed two))
+returns-clause-failed g c = λ two. (
+  _,
+  begins-known (2 ^ 63 - 1) (g.R.Read.remaining c.args.reader) _ _ (rw c.whole.ensures at c.answer_stream.ensures.read.known),
+  (_, _, c.answer_stream.ensures.failed two),
+)
