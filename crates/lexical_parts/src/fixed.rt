@@ -2,7 +2,7 @@
 
 ghost use Rattle.std.specs.Prelude.{◌≡◌, ◌+◌, ◌-◌, ◌≤◌, false, length, unsigned_abs};
 ghost use Rattle.lexical_num.specs.Sign.{sign_of};
-ghost use Rattle.lexical_write_integer.specs.Buffer.{Front, Writes};
+ghost use Rattle.lexical_write_integer.specs.Buffer.{Writes};
 ghost use Rattle.lexical_parts.specs.Fixed.{IsFixed, IsUnits, fixed_room, units_room};
 ghost use Rattle.lexical_parts.specs.Fixed.{IsGroupedFixed, IsGroupedUnits, grouped_units_room};
 

@@ -21,8 +21,7 @@
 //! [`Utf8Part`]. The other types of this crate are parts, and so are the integer types.
 #![tactic(auto)]
 
-// The example is from the test `texts_for_writing` in `crates/uses_tests/src/tests/lines.rt`. `rooms_at_most` and
-// `formatted_room_suffices` are laws, which bound the room of a `Joined` and of a `Formatted`.
+// The example is from the test `texts_for_writing` in `crates/uses_tests/src/tests/lines.rt`.
 
 mod column;
 mod display;

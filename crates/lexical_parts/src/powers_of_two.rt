@@ -1,8 +1,6 @@
-//! Unsigned numbers in radix 16 and in radix 2, which need as many bytes as their type has digits, and
-//! bytes in radix 16.
+//! Unsigned numbers in radix 16 and in radix 2, in the room of their type, and bytes in radix 16.
 
-ghost use Rattle.std.specs.Prelude.{◌≡◌, ◌+◌, ◌-◌, ◌*◌, ◌/◌, ◌≤◌, length};
-ghost use Rattle.lexical_write_integer.specs.Buffer.{Writes};
+ghost use Rattle.std.specs.Prelude.{◌+◌, ◌-◌, ◌*◌, ◌/◌, length};
 ghost use Rattle.lexical_write_integer.specs.Padded.{IsPadded};
 ghost use Rattle.lexical_write_integer.specs.Sequence.{AreJoined};
 ghost use Rattle.lexical_write_integer.specs.Text.{IsDigits};
@@ -53,19 +51,6 @@ impl<T: Radix> Part for Binary<T> {
     }
 }
 
-// Writes the two digits of a byte in radix 16 to the start of the buffer, and returns 2.
-fn write_byte(byte: u8, buffer: &mut [u8]) -> usize
-    requires { 2 ≤ length buffer.old }
-    ensures text { Writes (IsPadded 16 2 byte) buffer.old buffer.new result }
-    ensures count { result ≡ 2 }
-{
-    let table = get_table(16);
-    let index = 2 * usize::from(byte);
-    buffer[0] = table[index];
-    buffer[1] = table[index + 1];
-    2
-}
-
 // The two digits of a byte in radix 16.
 #[derive(Clone, Copy, Drop)]
 struct HexByte(u8);
@@ -80,7 +65,11 @@ impl Part for HexByte {
     }
 
     fn write_to(self, buffer: &mut [u8]) -> usize {
-        write_byte(self.0, buffer)
+        let table = get_table(16);
+        let index = 2 * usize::from(self.0);
+        buffer[0] = table[index];
+        buffer[1] = table[index + 1];
+        2
     }
 }
 

@@ -66,12 +66,8 @@ fn write_exponent(exponent: i64, buffer: &mut [u8]) -> usize
     ensures text { Writes (IsStr "e" then IsDecimal exponent) buffer.old buffer.new result }
     ensures short { result ≤ 12 }
 {
-    let magnitude = exponent.unsigned_abs() as u32;
-    if exponent < 0 {
-        ("e-", magnitude).write_to(buffer)
-    } else {
-        ("e", magnitude).write_to(buffer)
-    }
+    let start = if exponent < 0 { "e-" } else { "e" };
+    (start, exponent.unsigned_abs() as u32).write_to(buffer)
 }
 
 // Writes the absolute value of a number times 10^`exponent` to the start of the buffer, and returns the number of

@@ -204,9 +204,8 @@ impl<P: Utf8Part> Utf8Part for Option<P> {
     ghost is_utf8 = { IsValidOptional P.is_utf8 };
 
     fn text_is_utf8(self) {
-        match self {
-            Some(part) => part.text_is_utf8(),
-            None => {}
+        if let Some(part) = self {
+            part.text_is_utf8();
         }
     }
 }

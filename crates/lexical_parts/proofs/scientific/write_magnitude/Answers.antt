@@ -1,4 +1,4 @@
-use Rattle.std.proofs.Common.{ℕ, arith, rules, w32, w64}
+use Rattle.std.proofs.Common.{ℕ, ◌≤◌, arith, rules, w32, w64}
 use Rattle.std.proofs.lemmas.Int.{to_z-of_z}
 use Rattle.std.proofs.lemmas.List.{length-drop, length-take}
 use Rattle.lexical_write_integer.specs.DigitCount.{digit_count-le}
@@ -7,45 +7,33 @@ use Rattle.lexical_write_integer.proofs.OfTexts.Sequences.{written_then}
 use Rattle.lexical_parts.proofs.Scientifics.{written_scientific}
 use Rattle.lexical_parts.proofs.Widths.{decimal_width-le_20}
 use Rattle.lexical_parts.proofs.scientific.write_magnitude.Goals as goal
+use Rattle.lexical_parts.proofs.scientific.write_magnitude.Goals.{After-count_without_zeros-kept}
 
 pub write_magnitude-count-requires : goal.write_magnitude-count-requires
 write_magnitude-count-requires g c = decimal_width-le_20 _ _ _ _ g.met.T.LexicalInteger.range_of_bits g.met.T.LexicalInteger.decimal_width
 
-pub write_with_point-end-requires-clause-room : goal.write_with_point-end-requires-clause-room
-write_with_point-end-requires-clause-room g c =
+-- no more digits are left than a number of the type has
+kept_few : (g : _) (c : After-count_without_zeros-kept g) → c.count_without_zeros-kept.result ≤ g.T.LexicalInteger.DECIMAL_WIDTH
+kept_few g c =
     let width = g.met.T.LexicalInteger.decimal_width in
     let few = digit_count-le 10 _ _ width.some (width.enough _ c.in_range.ensures.at_least c.in_range.ensures.at_most) in
-    omega (arith, few, c.write_magnitude-count.ensures.digits.count, c.count_without_zeros-kept.ensures.within, length-take {A = ℕ}, c.requires)
+    omega (arith, few, c.write_magnitude-count.ensures.digits.count, c.count_without_zeros-kept.ensures.within, length-take {A = ℕ})
+
+pub write_with_point-end-requires-clause-room : goal.write_with_point-end-requires-clause-room
+write_with_point-end-requires-clause-room g c =
+    let few = kept_few g (goal.at.write_with_point-end-requires-clause-room g c).After-count_without_zeros-kept in
+    omega (arith, few, length-take {A = ℕ}, c.requires)
 
 pub write_exponent-requires-clause-room : goal.write_exponent-requires-clause-room
 write_exponent-requires-clause-room g c =
-    let width = g.met.T.LexicalInteger.decimal_width in
-    let few = digit_count-le 10 _ _ width.some (width.enough _ c.in_range.ensures.at_least c.in_range.ensures.at_most) in
-    omega (
-      arith,
-      few,
-      c.write_magnitude-count.ensures.digits.count,
-      c.count_without_zeros-kept.ensures.within,
-      c.write_with_point-end.ensures.short,
-      c.write_with_point-end.auto.buffer,
-      length-take {A = ℕ},
-      length-drop {A = ℕ},
-      c.requires,
-    )
+    let few = kept_few g (goal.at.write_exponent-requires-clause-room g c).After-count_without_zeros-kept in
+    let point = c.write_with_point-end in
+    omega (arith, few, point.ensures.short, point.auto.buffer, length-take {A = ℕ}, length-drop {A = ℕ}, c.requires)
 
 pub returns-clause-short : goal.returns-clause-short
 returns-clause-short g c =
-    let width = g.met.T.LexicalInteger.decimal_width in
-    let few = digit_count-le 10 _ _ width.some (width.enough _ c.in_range.ensures.at_least c.in_range.ensures.at_most) in
-    omega (
-      arith,
-      few,
-      c.write_magnitude-count.ensures.digits.count,
-      c.count_without_zeros-kept.ensures.within,
-      c.write_with_point-end.ensures.short,
-      c.write_exponent.ensures.short,
-      length-take {A = ℕ},
-    )
+    let few = kept_few g (goal.at.returns-clause-short g c).After-count_without_zeros-kept in
+    omega (arith, few, c.write_with_point-end.ensures.short, c.write_exponent.ensures.short, length-take {A = ℕ})
 
 pub returns-clause-text : goal.returns-clause-text
 returns-clause-text g c =
