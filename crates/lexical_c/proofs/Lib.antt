@@ -6,3 +6,5 @@ pub mod PlainTexts
 pub mod TextLengths
 -- what a function that writes promises, from what it knows of the text
 pub mod WrittenTexts
+-- a change of both ends of a list
+pub mod Halves

@@ -2,7 +2,7 @@
 use Rattle.std.proofs.Common.{◌≡◌, Option, None, Some, ℕ, ◌^◌, ◌<◌, ◌≤◌, ℤ, unsigned_abs, List, ◌++◌, length, map, take, drop, length-append, refl, sym, ap, ◌∙◌, arith}
 use Rattle.std.specs.Prelude.{◌≢◌}
 use Rattle.std.specs.Char.{to_ascii_lowercase}
-use Rattle.lexical_num.specs.Format.{Format, grouped_length}
+use Rattle.lexical_num.specs.Format.{Format, IsValid, grouped_length}
 use Rattle.lexical_write_integer.specs.Buffer.{Front, Writes, WritesText}
 use Rattle.lexical_write_integer.specs.Computed.{text_of}
 use Rattle.lexical_write_integer.specs.Text.{IsText}
@@ -34,15 +34,19 @@ pub grouped_length-pos : (grouping : Option (ℕ × ℕ)) (count : ℕ) → 1 �
 grouped_length-pos None count some = some
 grouped_length-pos (Some grouping) count some = omega arith
 
+-- the text of a number is not empty
+pub some-written : (x : ℤ) (format : Format) (before after : List ℕ) (count : ℕ) → IsValid format → WritesText x format before after count → 1 ≤ count
+some-written x format before after count valid w =
+    let digits = digit_count-pos format.mantissa_radix (unsigned_abs x) in
+    let long = length-IsText x format w.text valid.mantissa.at_least_two valid.groups w.is in
+    omega (arith, w.count, long, grouped_length-pos format.digit_grouping _ digits)
+
 -- the text of a number in a format that is accepted is the result
 pub written : (x : ℤ) (format : CFormat) (before after : List ℕ) (count : ℕ) → IsAccepted format → unsigned_abs x < 2 ^ 64 →
     WritesText x (format_of format) before after count → WritesIf x format (IsText x (format_of format)) before after count
 written x format before after count accepted small w =
-    let valid = accepted.valid in
-    let computed = length-written x (format_of format) before after count valid.mantissa.at_least_two small w in
-    let digits = digit_count-pos (format_of format).mantissa_radix (unsigned_abs x) in
-    let long = length-IsText x (format_of format) w.text valid.mantissa.at_least_two valid.groups w.is in
-    let some : 1 ≤ count = omega (arith, w.count, long, grouped_length-pos (format_of format).digit_grouping _ digits) in
+    let computed = length-written x (format_of format) before after count accepted.valid.mantissa.at_least_two small w in
+    let some = some-written x (format_of format) before after count accepted.valid w in
     record {
       accepts = (λ _. record { accepted = accepted; fits = omega (arith, computed, w.count, w.front.fits) }, λ _. some);
       text = λ _. w;

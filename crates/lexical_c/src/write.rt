@@ -64,7 +64,7 @@ fn write_unsigned_digits<T: WriteInteger + ToLexicalWithOptions>(
     ensures { WritesOrRefuses (T.number value) format.now buffer.old buffer.new result }
 {
     value.in_range();
-    match fitting_format::<T>(format.radix, buffer.len()) {
+    match fitting_format::<T, false>(format.radix, buffer.len()) {
         Some(plain) => {
             size_suffices(value, &plain);
             write_plain_digits(value, &plain, buffer)
@@ -84,12 +84,11 @@ fn write_unsigned_in_lowercase<T: WriteInteger + ToLexicalWithOptions>(
     ensures { WritesOrRefuses (T.number value) format.now buffer.old buffer.new result }
 {
     value.in_range();
-    match fitting_format::<T>(format.radix, buffer.len()) {
+    match fitting_format::<T, true>(format.radix, buffer.len()) {
         Some(plain) => {
             size_suffices(value, &plain);
             let count = write_plain_digits(value, &plain, buffer);
-            set_lowercase_bit(&mut buffer[..count]);
-            count
+            set_lowercase_bit(&mut buffer[..count])
         }
         None => write_if_it_fits(value.as_usize(), format, buffer),
     }
@@ -131,7 +130,7 @@ fn write_signed_digits<T: SignedInteger>(value: T, format: &CFormat, buffer: &mu
     ensures { WritesOrRefuses (T.number value) format.now buffer.old buffer.new result }
 {
     value.in_range();
-    match fitting_format::<T>(format.radix, buffer.len()) {
+    match fitting_format::<T, false>(format.radix, buffer.len()) {
         Some(plain) => {
             size_suffices(value, &plain);
             write_sign_and_digits(value, &plain, buffer)
@@ -153,12 +152,11 @@ fn write_signed_in_lowercase<T: SignedInteger>(
     ensures { WritesOrRefuses (T.number value) format.now buffer.old buffer.new result }
 {
     value.in_range();
-    match fitting_format::<T>(format.radix, buffer.len()) {
+    match fitting_format::<T, true>(format.radix, buffer.len()) {
         Some(plain) => {
             size_suffices(value, &plain);
             let count = write_sign_and_digits(value, &plain, buffer);
-            set_lowercase_bit(&mut buffer[..count]);
-            count
+            set_lowercase_bit(&mut buffer[..count])
         }
         None => write_if_it_fits(value.as_isize(), format, buffer),
     }
