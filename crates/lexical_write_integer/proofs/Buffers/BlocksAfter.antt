@@ -41,10 +41,7 @@ pub WritesBlock-after : {r i j m n at : ℕ} {before between after : List ℕ}
     → WritesBlock r i m at before between → WritesBlock r j n (at + i) between after → WritesBlock r (i + j) (m * r ^ j + n) at before after
 WritesBlock-after {i = i} {j} {at = at} {before} {between} {after} first last =
     let text = map digit_char first.digits in
-    let t : IsTextAt at i before between text = record {
-      long = length-map first.digits digit_char ∙ first.block.counted;
-      written = first.written;
-    } in
+    let t : IsTextAt at i before between text = grind (arith, length-map) in
     record {
       digits = first.digits ++ last.digits;
       block = IsBlockOf-append first.block last.block;

@@ -12,8 +12,7 @@ pub written_lower : {Is : List ℕ → Type 0} {before between lower : List ℕ}
 written_lower {Is} {before} {between} {lower} {count} a is =
     let whole : lower ≡ map to_ascii_lowercase a.text = is ∙ ap (map to_ascii_lowercase) (take-Writes before between count a) in
     let long : length lower ≡ length a.text = ap length whole ∙ length-map a.text to_ascii_lowercase in
-    let rest : drop count between ≡ drop (length a.text) before =
-    ap (drop count) a.front.written ∙ drop_at a.text (drop (length a.text) before) count (sym a.count) in
+    let rest : drop count between ≡ drop (length a.text) before = grind (arith, drop_at) in
     record {
       text = lower;
       is = record { original = a.text; is = a.is; whole = whole };

@@ -1,5 +1,5 @@
 -- Prefixes of a buffer: one text after another, and what is known of the text that is written there.
-use Rattle.std.proofs.Common.{◌≡◌, ℕ, ◌+◌, ◌-◌, ◌≤◌, List, ◌++◌, length, take, drop, sym, ap, subst, ◌∙◌, arith, length-append, append_assoc}
+use Rattle.std.proofs.Common.{◌≡◌, ℕ, ◌+◌, ◌≤◌, List, ◌++◌, length, take, drop, sym, ap, subst, ◌∙◌, arith, length-append, append_assoc}
 use Rattle.std.proofs.lemmas.List.{drop-drop, take_at, drop_at, length-take, length-drop, drop-append-le, take-append-drop}
 use Rattle.lexical_write_integer.specs.Buffer.{Front, Writes}
 use borrow.Rule.Slice.PartMut.{put_mid}
@@ -9,19 +9,14 @@ pub Front-after : (before between part text following : List ℕ) (count room : 
     → count ≡ length text → Front before between text → Front (take room (drop count between)) part following
     → Front before (put_mid count room between part) (text ++ following)
 Front-after before between part text following count room e front back =
-    let rest : drop count between ≡ drop count before =
-    ap (drop count) front.written ∙ drop_at text (drop (length text) before) count (sym e) ∙ ap (λ k. drop k before) (sym e) in
+    let rest : drop count between ≡ drop count before = grind (arith, drop_at) in
     let first : take count between ≡ text = ap (take count) front.written ∙ take_at text (drop (length text) before) count (sym e) in
     let lent = take room (drop count between) in
     let unused = drop room (drop count between) in
     let left : drop (length following) lent ++ unused ≡ drop (length following) (drop count between) =
     sym (drop-append-le (length following) lent unused back.fits) ∙ ap (drop (length following)) (take-append-drop room (drop count between)) in
-    let written : part ++ unused ≡ following ++ drop (count + length following) before =
-    ap (λ xs. xs ++ unused) back.written
-    ∙ append_assoc following _ _
-    ∙ ap (λ xs. following ++ xs) (left ∙ ap (drop (length following)) rest ∙ drop-drop (length following) count before) in
-    let long : length (text ++ following) ≡ count + length following =
-    length-append text following ∙ ap (λ k. k + length following) (sym e) in
+    let written : part ++ unused ≡ following ++ drop (count + length following) before = grind (arith, append_assoc, drop-drop) in
+    let long : length (text ++ following) ≡ count + length following = grind (arith, length-append) in
     record {
       fits = omega (arith, long, front.fits, back.fits, length-take room (drop count between), ap length rest, length-drop count before);
       written = (λ i. first i ++ written i)
@@ -68,14 +63,7 @@ Writes-short room before after count w short =
 pub Writes-over : {Is : List ℕ → Type 0} {before between after : List ℕ} {count : ℕ}
     → length between ≡ length before → drop 1 between ≡ drop 1 before → 1 ≤ count → Writes Is between after count → Writes Is before after count
 Writes-over {before = before} {between} long rest some w =
-    let counted = w.count in
-    let split : length w.text ≡ 1 + (length w.text - 1) = omega arith in
-    let same : drop (length w.text) between ≡ drop (length w.text) before =
-    ap (λ k. drop k between) split
-    ∙ sym (drop-drop (length w.text - 1) 1 between)
-    ∙ ap (drop (length w.text - 1)) rest
-    ∙ drop-drop (length w.text - 1) 1 before
-    ∙ ap (λ k. drop k before) (sym split) in
+    let same : drop (length w.text) between ≡ drop (length w.text) before = grind (arith, drop-drop) in
     record {
       text = w.text;
       is = w.is;

@@ -40,11 +40,7 @@ IsPadded-zeros r width some = record {
 pub IsPadded-digits : (r n zeros width : ℕ) (text : List ℕ)
     → 2 ≤ r → zeros + digit_count r n ≡ width → IsDigits r n text → IsPadded r width n (replicate zeros 48 ++ text)
 IsPadded-digits r n zeros width text two long is =
-    let block : IsBlockOf r (digit_count r n) n is.digits = record {
-      counted = length-IsNumeralOf two is.numeral;
-      below_radix = is.numeral.numeral.below_radix;
-      value = is.numeral.value;
-    } in
+    let block : IsBlockOf r (digit_count r n) n is.digits = grind (arith, length-IsNumeralOf) in
     let none : 0 * r ^ digit_count r n + n ≡ n = omega arith in
     record {
       digits = replicate zeros 0 ++ is.digits;
@@ -78,10 +74,7 @@ IsPadded-padded_text r (suc width) n two fits =
     IsPadded-more r width n (padded_text r width (n / r)) two (IsPadded-padded_text r width (n / r) two less)
 
 pub padded_unique : (r width n : ℕ) (a b : List ℕ) → IsPadded r width n a → IsPadded r width n b → a ≡ b
-padded_unique r width n a b p q =
-    let same =
-    same_digits r p.digits q.digits (p.block.counted ∙ sym q.block.counted) p.block.below_radix q.block.below_radix (p.block.value ∙ sym q.block.value) in
-    p.characters ∙ ap (map digit_char) same ∙ sym q.characters
+padded_unique r width n a b p q = grind (arith, same_digits)
 
 pub padded_computed : (r width n : ℕ) (text : List ℕ) → 2 ≤ r → n < r ^ width → IsPadded r width n text ↔ (text ≡ padded_text r width n)
 padded_computed r width n text two fits =

@@ -49,11 +49,4 @@ AllAscii-sign (pos n) false = All-nil (λ b. b < 128)
 
 pub IsAscii-IsText : (x : ℤ) (format : Format) (text : List ℕ)
     → format.mantissa_radix ≤ 36 → ForSome format.digit_grouping IsGrouping → IsText x format text → IsAscii text
-IsAscii-IsText x format text few good is =
-    let sign = sign_of x format.required_mantissa_sign in
-    let digits : AllAscii is.digits =
-    rw is.magnitude.characters (AllAscii-digit_chars format.mantissa_radix is.magnitude.digits few is.magnitude.numeral.numeral.below_radix) in
-    let whole =
-    All-append (λ b. b < 128) sign (grouped format.digit_grouping is.digits) (AllAscii-sign x format.required_mantissa_sign)
-    (AllAscii-grouped format.digit_grouping is.digits good digits) in
-    IsAscii-from_all text (rw is.whole whole)
+IsAscii-IsText x format text few good is = grind (arith, AllAscii-digit_chars, All-append, AllAscii-sign, AllAscii-grouped, IsAscii-from_all)

@@ -7,7 +7,7 @@ use Rattle.std.specs.Cmp.Derive.Mapped.{lex_map}
 use Rattle.std.specs.Cmp.Lexicographic.{slice_cmp}
 use Rattle.std.specs.List.{All}
 use Rattle.std.specs.Ordering.{nat_cmp, ordering_then}
-use Rattle.std.specs.declared.cmp.Ordering.TheVariants.{Less, Equal, Greater}
+use Rattle.std.specs.declared.cmp.Ordering.TheVariants.{Less, Greater}
 use Rattle.std.proofs.Math.Nat.{mul-le-mul_right}
 use Rattle.std.proofs.lemmas.Bool.{cases_lt, cases_order}
 use Rattle.std.proofs.lemmas.Cmp.{by_ranked, nat_cmp_total, tied_itself}
@@ -104,11 +104,7 @@ nat_cmp-Less m n less = rw less at (ranks m n)
 
 -- a function that preserves `<` preserves the result of a comparison
 nat_cmp-monotone : (f : ℕ → ℕ) → ((m n : ℕ) → m < n → f m < f n) → (m n : ℕ) → nat_cmp (f m) (f n) ≡ nat_cmp m n
-nat_cmp-monotone f more m n =
-    by_ranked (m < n) (m ≡ n) (n < m) (nat_cmp m n) (ranks m n)
-    (λ e less. sym (e ∙ nat_cmp_is (f m) (f n) Less (more m n less)))
-    (λ e same. sym (e ∙ nat_cmp_is (f m) (f n) Equal (ap f same)))
-    (λ e greater. sym (e ∙ nat_cmp_is (f m) (f n) Greater (more n m greater)))
+nat_cmp-monotone f more m n = grind (arith, by_ranked)
 
 nat_cmp-digit_char : (c d : ℕ) → nat_cmp (digit_char c) (digit_char d) ≡ nat_cmp c d
 nat_cmp-digit_char = nat_cmp-monotone digit_char (λ c d less. grind arith)
@@ -144,11 +140,7 @@ slice_cmp-value_of r (x ∷ xs) (y ∷ ys) long p q =
 
 -- texts of the same length are in the order of their numbers
 slice_cmp-IsDigits : (r m n : ℕ) (s t : List ℕ) → length s ≡ length t → IsDigits r m s → IsDigits r n t → slice_cmp nat_cmp s t ≡ nat_cmp m n
-slice_cmp-IsDigits r m n s t long p q =
-    let long' : length p.digits ≡ length q.digits =
-    sym (ap length p.characters ∙ length-map p.digits digit_char) ∙ long ∙ ap length q.characters ∙ length-map q.digits digit_char in
-    let values = slice_cmp-value_of r p.digits q.digits long' p.numeral.numeral.below_radix q.numeral.numeral.below_radix in
-    rw (p.characters, q.characters, slice_cmp-digit_char, values, p.numeral.value, q.numeral.value)
+slice_cmp-IsDigits r m n s t long p q = grind (arith, length-map, slice_cmp-value_of, slice_cmp-digit_char)
 
 -- ---- numbers with leading zeros, in one width
 
@@ -193,17 +185,7 @@ ComesBefore-IsDigits r m n s t two p q =
 
 -- a common prefix does not change the order of two texts
 ComesBefore-append : (front s t : List ℕ) → ComesBefore s t ↔ ComesBefore (front ++ s) (front ++ t)
-ComesBefore-append front s t =
-    let bytes = slice_cmp-append front s t in (
-      λ before. elim before [
-        | inl shorter ↦ inl (simp length-append (omega arith))
-        | inr earlier ↦ inr (simp length-append (omega arith), bytes ∙ earlier.1)
-      ],
-      λ before. elim before [
-        | inl shorter ↦ inl (omega (arith, length-append front s, length-append front t))
-        | inr earlier ↦ inr (omega (arith, length-append front s, length-append front t), sym bytes ∙ earlier.1)
-      ],
-    )
+ComesBefore-append front s t = grind (arith, slice_cmp-append, length-append)
 
 -- groups do not change the order of digits of the same length, since their separators are at the same positions
 slice_cmp-in_groups : (grouping : ℕ × ℕ) (s t : List ℕ)
@@ -228,25 +210,7 @@ slice_cmp-grouped None s t long = refl
 slice_cmp-grouped (Some grouping) s t long = slice_cmp-in_groups grouping s t long
 
 ComesBefore-grouped : (grouping : Option (ℕ × ℕ)) (s t : List ℕ) → ComesBefore s t ↔ ComesBefore (grouped grouping s) (grouped grouping t)
-ComesBefore-grouped grouping s t = (
-  λ before. elim before [
-    | inl shorter ↦ inl (length-grouped_lt grouping s t shorter)
-    | inr earlier ↦ inr (length-grouped_same grouping s t earlier.0, slice_cmp-grouped grouping s t earlier.0 ∙ earlier.1)
-  ],
-  λ before. elim (cases_order (length s) (length t)) [
-    | inl same ↦ elim before [
-      | inl shorter ↦ absurd (omega (arith, length-grouped_same grouping s t same))
-      | inr earlier ↦ inr (same, sym (slice_cmp-grouped grouping s t same) ∙ earlier.1)
-    ]
-    | inr other ↦ elim other [
-      | inl shorter ↦ inl shorter
-      | inr longer ↦ elim before [
-        | inl shorter ↦ absurd (omega (arith, length-grouped_lt grouping t s longer))
-        | inr earlier ↦ absurd (omega (arith, length-grouped_lt grouping t s longer, earlier.0))
-      ]
-    ]
-  ],
-)
+ComesBefore-grouped grouping s t = grind (arith, length-grouped_lt, length-grouped_same, slice_cmp-grouped, cases_order)
 
 pub ComesBefore-IsText : (m n : ℤ) (format : Format) (s t : List ℕ)
     → 2 ≤ format.mantissa_radix → pos 0 ≤ℤ m → pos 0 ≤ℤ n → IsText m format s → IsText n format t → (m <ℤ n) ↔ ComesBefore s t

@@ -1,5 +1,5 @@
 -- How long a text is, and how long a buffer it requires at most.
-use Rattle.std.proofs.Common.{◌≡◌, Option, None, Some, ℕ, ◌+◌, ◌^◌, ◌<◌, ◌≤◌, ◌≤ℤ◌, ◌==◌, List, length, refl, ap, ◌∙◌}
+use Rattle.std.proofs.Common.{◌≡◌, Option, None, Some, ℕ, ◌+◌, ◌^◌, ◌<◌, ◌≤◌, ◌≤ℤ◌, ◌==◌, List, length, refl}
 use Rattle.std.proofs.Common.{arith, ℤ, unsigned_abs, length-append}
 use Rattle.std.specs.Option.{ForSome}
 use Rattle.std.specs.Prelude.{Bool, true, false, if◌then◌else◌}
@@ -25,13 +25,7 @@ length-grouped (Some grouping) digits good = length-in_groups grouping digits (g
 -- the sign, the digits, and the separators between their groups
 pub length-IsText : (x : ℤ) (format : Format) (text : List ℕ) → 2 ≤ format.mantissa_radix → ForSome format.digit_grouping IsGrouping → IsText x format text
     → length text ≡ length (sign_of x format.required_mantissa_sign) + grouped_length format.digit_grouping (digit_count format.mantissa_radix (unsigned_abs x))
-length-IsText x format text two good is =
-    let sign = sign_of x format.required_mantissa_sign in
-    let grouping = format.digit_grouping in
-    let digits =
-    length-grouped grouping is.digits good
-    ∙ ap (grouped_length grouping) (length-IsDigits format.mantissa_radix (unsigned_abs x) is.digits two is.magnitude) in
-    ap length is.whole ∙ length-append sign (grouped grouping is.digits) ∙ ap (λ n. length sign + n) digits
+length-IsText x format text two good is = grind (arith, length-grouped, length-IsDigits, length-append)
 
 -- ---- the required length
 
@@ -62,8 +56,4 @@ one_of true m n first second = first
 one_of false m n first second = second
 
 pub need-pos : (x : ℤ) (width : ℕ) (format : Format) → 1 ≤ width → 1 ≤ need x width format
-need-pos x width format some =
-    let digits =
-    one_of (format.mantissa_radix == 10) width (digit_count format.mantissa_radix (unsigned_abs x)) some
-    (digit_count-pos format.mantissa_radix (unsigned_abs x)) in
-    omega (arith, digits, grouped_length-ge format.digit_grouping (digits_need format.mantissa_radix (unsigned_abs x) width))
+need-pos x width format some = grind (arith, digit_count-pos, grouped_length-ge)

@@ -1,5 +1,5 @@
 -- A sign, and the digits after it.
-use Rattle.std.proofs.Common.{◌≡◌, Option, ℕ, ◌+◌, ◌-◌, ◌≤◌, List, ◌++◌, length, take, drop, refl, sym, ap, ◌∙◌, arith, ℤ, unsigned_abs, length-append}
+use Rattle.std.proofs.Common.{◌≡◌, Option, ℕ, ◌+◌, ◌-◌, ◌≤◌, List, ◌++◌, length, take, drop, refl, ap, ◌∙◌, arith, ℤ, unsigned_abs, length-append}
 use Rattle.std.proofs.lemmas.List.{length-take, length-drop, take-append-drop}
 use Rattle.std.proofs.lemmas.Slice.{drop-append-drop}
 use Rattle.lexical_num.specs.Format.{Format}
@@ -65,13 +65,4 @@ pub WritesText-over : {x : ℤ} {format : Format} {before between written after 
     → 1 ≤ digits → IsAfterSign x format between written after sign digits total
     → WritesText x format before (put_mid sign (length between - sign) between after) (sign + total)
 WritesText-over {x} {format} {before} {between} {written} {sign = sign} {digits} is_sign same rest some w =
-    let sign_text = sign_of x format.required_mantissa_sign in
-    let front : Front between between sign_text = record {
-      fits = omega (arith, ap length is_sign, length-take sign between);
-      written = sym (take-append-drop sign between)
-          ∙ ap (λ xs. xs ++ drop sign between) is_sign
-          ∙ ap (λ k. sign_text ++ drop k between) w.sign_count;
-    } in
-    let all = ap length (take-Writes _ written digits w.magnitude.writes) in
-    let more = length-grouped_ge format.digit_grouping (take digits written) in
-    Writes-over same rest (omega (arith, w.total_count, w.magnitude.writes.count)) (WritesText-after front w)
+    grind (arith, length-take, take-append-drop, take-Writes, length-grouped_ge, Writes-over, WritesText-after)

@@ -81,37 +81,11 @@ row-digits : (k c p entry number : ℕ)
     → (number + entry) / 4294967296 ≡ digit_count 10 number
 unfolding is_row
 row-digits k c p entry number some whole fits test log =
-    let parts = and_parts (leb (2 ^ (k + 1)) (10 ^ c)) _ test in
-    let below : number < 10 ^ c = omega (arith, IsLog2-lt number k log, leb-true (2 ^ (k + 1)) (10 ^ c) parts.0) in
-    elim (or_cases _ _ parts.1) [
-      | inl alike ↦
-          let both = and_parts (eqb p 0) (no_fewer k c) alike in
-          let count = digit_count-is 10 number c (omega arith) some below (no_fewer-sound k c number both.1 log) in
-          omega (arith, count, eqb-true p 0 both.0)
-      | inr apart ↦
-          let first = and_parts (ltb 1 c) _ apart in
-          let second = and_parts (ltb p 4294967296) _ first.1 in
-          let third = and_parts (eqb p (10 ^ (c - 1))) (no_fewer k (c - 1)) second.1 in
-          let more = ltb-true 1 c first.0 in
-          let small = ltb-true p 4294967296 second.0 in
-          let power : p ≡ 10 ^ (c - 1) = eqb-true p (10 ^ (c - 1)) third.0 in
-          elim (cases_lt number p) [
-            | inl less ↦
-                let count = digit_count-is 10 number (c - 1) (omega arith) (omega arith) (rw power at less) (no_fewer-sound k (c - 1) number third.1 log) in
-                omega (arith, count)
-            | inr enough ↦
-                let count = digit_count-is 10 number c (omega arith) some below (λ _. rw power at enough) in
-                omega (arith, count)
-          ]
-    ]
+    grind (arith, and_parts, IsLog2-lt, leb-true, or_cases, digit_count-is, no_fewer-sound, eqb-true, ltb-true, cases_lt)
 
 entry-digits : (k entry number : ℕ) → is_entry k entry ≡ true → number < 4294967296 → IsLog2 number k → (number + entry) / 4294967296 ≡ digit_count 10 number
 unfolding is_entry digits_of_row
-entry-digits k entry number test fits log =
-    let parts = and_parts (ltb 0 entry) _ test in
-    let some = ltb-true 0 entry parts.0 in
-    row-digits k ((entry + 4294967295) / 4294967296) ((entry + 4294967295) / 4294967296 * 4294967296 - entry) entry number
-    (omega arith) (omega arith) fits parts.1 log
+entry-digits k entry number test fits log = grind (arith, and_parts, ltb-true, row-digits)
 
 DIGITS_BY_LOG2-are_entries : are_entries 0 DIGITS_BY_LOG2 ≡ true
 unfolding are_entries is_entry digits_of_row is_row no_fewer

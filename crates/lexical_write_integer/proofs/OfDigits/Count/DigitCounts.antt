@@ -102,11 +102,7 @@ digit_count-two r n two more less = digit_count-is r n 2 two (omega arith) less 
 
 -- a decimal width whose smallest number is within a limit
 pub width-le : (width most limit : ℕ) → 10 ^ (width - 1) ≤ limit → limit < 10 ^ most → width ≤ most
-width-le width most limit needed below =
-    elim (cases_lt most width) [
-      | inr few ↦ few
-      | inl more ↦ absurd (omega (arith, pow-le-pow_right {n = 10} (omega arith) {i = most} {j = width - 1} (omega arith), needed, below))
-    ]
+width-le width most limit needed below = grind (arith, cases_lt, pow-le-pow_right)
 
 -- no type has more than 64 bits
 pub width-le_64 : (bits : ℕ) → IsBitWidth bits → bits ≤ 64

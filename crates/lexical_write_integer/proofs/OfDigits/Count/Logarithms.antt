@@ -1,6 +1,6 @@
 -- Logarithms, rounded down, and what follows from them for the number of digits.
-use Rattle.std.proofs.Common.{◌≡◌, ℕ, zero, suc, ◌+◌, ◌-◌, ◌*◌, ◌/◌, ◌^◌, ◌<◌, ◌≤◌, Bool, true, ◌&&◌, ltb, leb, refl, ap, inl, inr, arith}
-use Rattle.std.proofs.Math.Nat.{pow-suc, pow-le-pow_right, one-le-pow, mul-le-mul_left, mod-lt, div-add-mod'}
+use Rattle.std.proofs.Common.{◌≡◌, ℕ, zero, suc, ◌+◌, ◌-◌, ◌*◌, ◌/◌, ◌^◌, ◌<◌, ◌≤◌, Bool, true, ◌&&◌, ltb, leb, refl, inl, inr, arith}
+use Rattle.std.proofs.Math.Nat.{pow-suc, pow-le-pow_right, one-le-pow}
 use Rattle.std.proofs.lemmas.Bool.{and_parts, cases_lt, cases_eq, ltb-true, leb-true}
 use Rattle.lexical_write_integer.specs.Digits.Logarithm.{IsGreatestPower, IsLog2, IsLog10Estimate}
 use Rattle.lexical_write_integer.specs.Digits.DigitCount.{digit_count}
@@ -17,20 +17,12 @@ IsGreatestPower-between base number k two low high = record {
 }
 
 pub IsGreatestPower-lt : (base number k : ℕ) → IsGreatestPower base number k → number < base ^ (k + 1)
-IsGreatestPower-lt base number k g =
-    elim (cases_lt number (base ^ (k + 1))) [
-      | inl less ↦ less
-      | inr more ↦ absurd (omega (arith, g.greatest (k + 1) more))
-    ]
+IsGreatestPower-lt base number k g = grind (arith, cases_lt)
 
 -- ---- base 2
 
 pub IsLog2-lt : (number k : ℕ) → IsLog2 number k → number < 2 ^ (k + 1)
-IsLog2-lt number k log =
-    elim (cases_lt 0 number) [
-      | inl some ↦ IsGreatestPower-lt 2 number k (log.of_positive some)
-      | inr none ↦ omega (arith, one-le-pow (k + 1) 2 (omega arith))
-    ]
+IsLog2-lt number k log = grind (arith, cases_lt, IsGreatestPower-lt, one-le-pow)
 
 -- ---- base 10
 
@@ -80,15 +72,7 @@ log10-lt : (number e : ℕ) → IsLog10Estimate number e → number < 10 ^ (e + 
 log10-lt number e est =
     let more : e + 2 ≡ suc (e + 1) = omega arith in
     let up : est.log2 + 1 ≡ suc est.log2 = omega arith in
-    omega (
-      arith,
-      IsLog2-lt number est.log2 est.is_log2,
-      IsGreatestPower-lt 10 (2 ^ est.log2) e est.estimate,
-      pow-suc 2 est.log2,
-      ap (λ k. 2 ^ k) up,
-      pow-suc 10 (e + 1),
-      ap (λ k. 10 ^ k) more,
-    )
+    grind (arith, IsLog2-lt, IsGreatestPower-lt, pow-suc)
 
 -- the digit count is one or two more than the estimate
 pub digit_count-estimate : (number e : ℕ) → IsLog10Estimate number e → number < 10 ^ (e + 1) → digit_count 10 number ≡ e + 1
@@ -105,16 +89,11 @@ digit_count-estimate_more number e est above =
 pub digit_count-log2 : (number k step : ℕ) → 0 < step → IsLog2 number k → digit_count (2 ^ step) number ≡ k / step + 1
 digit_count-log2 number k step some log =
     let q = k / step in
-    let split = div-add-mod' k step in
-    let short = mod-lt k some in
     let last : q + 1 - 1 ≡ q = omega arith in
     let two : 2 ≤ 2 ^ step = omega (arith, pow-le-pow_right {n = 2} (omega arith) {i = 1} {j = step} some) in
-    let product : step * (q + 1) ≡ q * step + step = omega arith in
     let high : number < 2 ^ (step * (q + 1)) =
     omega (arith, IsLog2-lt number k log, pow-le-pow_right {n = 2} (omega arith) {i = k + 1} {j = step * (q + 1)} (omega arith)) in
     let low : 0 < q → 2 ^ (step * q) ≤ number = λ pos.
-    let commuted : step * q ≡ q * step = omega arith in
-    let large : 1 ≤ k = omega (arith, mul-le-mul_left step pos) in
     elim (cases_lt 0 number) [
       | inl positive ↦ omega (arith, (log.of_positive positive).within, pow-le-pow_right {n = 2} (omega arith) {i = step * q} {j = k} (omega arith))
       | inr none ↦ absurd (omega (arith, log.of_zero (omega arith)))

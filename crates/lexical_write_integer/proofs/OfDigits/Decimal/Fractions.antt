@@ -1,6 +1,6 @@
 -- A fraction that carries a number's digits: each multiplication by 100 moves the next pair before the point.
 use Rattle.std.proofs.Common.{◌≡◌, ℕ, ◌+◌, ◌-◌, ◌*◌, ◌/◌, ◌%◌, ◌^◌, ◌<◌, ◌≤◌, ap, ◌∙◌, arith}
-use Rattle.std.proofs.Math.Nat.{one-le-pow, mod-lt, div-add-mod', mul-le-mul_left, mul-le-mul_right, pow-le-pow_right}
+use Rattle.std.proofs.Math.Nat.{one-le-pow, mul-le-mul_left, mul-le-mul_right, pow-le-pow_right}
 use Rattle.std.proofs.Math.Nat.{le_of_mul-le-mul_right, lt_of_mul-lt-mul_right, div-eq_of_lt-le}
 use Rattle.std.proofs.lemmas.Nat.{pow-add, mul-mod_first}
 use Rattle.lexical_write_integer.specs.Digits.Carries.{Carries, carried}
@@ -11,8 +11,6 @@ use Rattle.lexical_write_integer.specs.Digits.Carries.{Carries, carried}
 whole_part : (n y p w : ℕ) → 0 < p → n * w ≤ y * p → y * p < (n + 1) * w → y / w ≡ n / p
 whole_part n y p w some low high =
     let q = n / p in
-    let parts = div-add-mod' n p in
-    let rest = mod-lt n some in
     let floor : q * p * w ≤ n * w = mul-le-mul_right w (omega arith) in
     let top : (n + 1) * w ≤ (q + 1) * p * w = mul-le-mul_right w (omega arith) in
     let at_least : q * w ≤ y = le_of_mul-le-mul_right {k = p} (grind arith) some in
@@ -28,7 +26,6 @@ pub Carries-next : {n y k : ℕ} → 1 ≤ k → Carries n y k → Carries (n % 
 Carries-next {n} {y} {k} some carries =
     let p = 100 ^ k in
     let q = n / p in
-    let number : q * p + n % p ≡ n = div-add-mod' n p in
     let first : y / 2 ^ 32 ≡ q = Carries-first carries in
     let fraction : q * 2 ^ 32 + y % 2 ^ 32 ≡ y = omega arith in
     let whole : (q * 2 ^ 32 + y % 2 ^ 32) * p ≡ y * p = ap (λ z. z * p) fraction in

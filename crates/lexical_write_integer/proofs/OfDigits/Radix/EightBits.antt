@@ -21,8 +21,7 @@ IsBlockOf-first r k j m digits two b =
     let long : length first ≡ k = length-take-le k digits (omega (arith, b.counted)) in
     let rest : length last ≡ j = omega (arith, b.counted, long, ap length parts, length-append first last) in
     let below : value_of r last < r ^ j = rw rest at (value_of-lt r last (All-drop (λ d. d < r) k digits b.below_radix)) in
-    let sum : value_of r first * r ^ j + value_of r last ≡ m =
-    rw rest at (sym (value_of-append r first last)) ∙ ap (value_of r) parts ∙ b.value in
+    let sum : value_of r first * r ^ j + value_of r last ≡ m = grind (arith, value_of-append) in
     record {
       counted = long;
       below_radix = All-take (λ d. d < r) k digits b.below_radix;
@@ -42,8 +41,7 @@ WritesBlock-already r k j m {before} {after} two w =
     ∙ ap (λ ds. map digit_char ds ++ rest) (sym (take-append-drop k w.digits))
     ∙ ap (λ cs. cs ++ rest) (map-append digit_char first last)
     ∙ append_assoc (map digit_char first) (map digit_char last) rest in
-    let following : drop k after ≡ map digit_char last ++ rest =
-    ap (drop k) whole ∙ drop_at (map digit_char first) (map digit_char last ++ rest) k long in
+    let following : drop k after ≡ map digit_char last ++ rest = grind (arith, drop_at) in
     let none : 0 + k ≡ k = omega arith in
     record {
       digits = first;

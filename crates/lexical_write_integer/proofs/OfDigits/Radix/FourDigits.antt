@@ -46,18 +46,10 @@ three_of r n two short =
     rw (whole_of r n) at block
 
 two_of : (r n : ℕ) → 2 ≤ r → n < r ^ 2 → IsBlockOf r 2 n (n % (r * r) / r ∷ n % (r * r) % r ∷ [])
-two_of r n two short =
-    let below : n < r * r = rw pow-two at short in
-    let same : n % (r * r) ≡ n = mod-eq_of_lt below in
-    rw same (IsBlockOf-pair r n (omega arith) below)
+two_of r n two short = grind (arith, pow-two, mod-eq_of_lt, IsBlockOf-pair)
 
 one_of : (r n : ℕ) → 2 ≤ r → n < r ^ 1 → IsBlockOf r 1 n (n % (r * r) % r ∷ [])
-one_of r n two short =
-    let below : n < r = rw pow-one at short in
-    let small : n < r * r = omega (arith, below, pow-two r, pow-one r, pow-lt_more r 1 2 two (omega arith)) in
-    let same : n % (r * r) ≡ n = mod-eq_of_lt small in
-    let again : n % r ≡ n = mod-eq_of_lt below in
-    rw (same, again) (IsBlockOf-one r n below)
+one_of r n two short = grind (arith, pow-one, pow-two, pow-lt_more, mod-eq_of_lt, IsBlockOf-one)
 
 -- ---- the characters, each stored at its index or at one that a later store takes
 

@@ -23,10 +23,7 @@ pair_first r k table t small =
     sym (get_or-take (2 * (r * r)) table (2 * k) 0 (omega arith)) ∙ ap (λ list. get_or list (2 * k) 0) t.first ∙ slice_index-pairs_first r k small
 
 pub pair_second : (r k : ℕ) (table : List ℕ) → BeginsWithPairs r table → k < r * r → get_or table (2 * k + 1) 0 ≡ digit_char (k % r)
-pair_second r k table t small =
-    sym (get_or-take (2 * (r * r)) table (2 * k + 1) 0 (omega arith))
-    ∙ ap (λ list. get_or list (2 * k + 1) 0) t.first
-    ∙ slice_index-pairs_second r k small
+pair_second r k table t small = grind (arith, get_or-take, slice_index-pairs_second)
 
 -- two digits, the last one first
 WritesBlock-two : (r n at : ℕ) (list : List ℕ) → 0 < r → n < r * r → at + 2 ≤ length list

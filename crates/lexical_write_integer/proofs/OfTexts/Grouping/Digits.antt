@@ -2,7 +2,7 @@
 use Rattle.std.proofs.Common.{◌≡◌, if◌then◌else◌, ◌==◌, Option, None, Some, ℕ, zero, suc, ◌+◌, ◌-◌, ◌/◌, ◌%◌, ◌<◌, ◌≤◌, List, []}
 use Rattle.std.proofs.Common.{◌∷◌, ◌++◌, length, take, inl, inr, ◌*◌, refl, sym, ap, ◌∙◌, arith, length-append, append_assoc}
 use Rattle.std.proofs.Math.Nat.{mod-eq_of_lt, mod-lt, mod_self, add-mod_right, div-eq_of_lt}
-use Rattle.std.proofs.lemmas.Nat.{div-add-mod', div-mul-add}
+use Rattle.std.proofs.lemmas.Nat.{div-mul-add}
 use Rattle.std.proofs.lemmas.Bool.{cases_eq, cases_lt, cases_order, eq-eqb, ne_eqb, cond-true, cond-false}
 use Rattle.std.proofs.lemmas.List.{append_cancel_left, length-take-le}
 use Rattle.lexical_write_integer.specs.Texts.Groups.{mark_before, in_groups, grouped}
@@ -55,11 +55,9 @@ pub length-mark_before : (grouping : ℕ × ℕ) (right : ℕ)
 length-mark_before grouping right some any =
     let size = grouping.0 in
     let groups = right / size in
-    let split = div-add-mod' right size in
     elim (cases_eq (right % size) 0) [
       | inl whole ↦
-          let more : groups * size ≡ (groups - 1 + 1) * size =
-          ap (λ n. n * size) (let e : groups ≡ groups - 1 + 1 = omega (arith, some_factor groups size right (omega arith) any) in e) in
+          let more : groups * size ≡ (groups - 1 + 1) * size = grind (arith, some_factor) in
           let before : right - 1 ≡ (groups - 1) * size + (size - 1) = omega arith in
           let fewer : (right - 1) / size ≡ groups - 1 = ap (λ n. n / size) before ∙ div-mul-add (groups - 1) size (size - 1) (omega arith) in
           omega (arith, fewer, some_factor groups size right (omega arith) any, ap length (mark_before-whole grouping right whole))
@@ -90,10 +88,7 @@ pub record HasRoomInGroups (grouping : ℕ × ℕ) (count total : ℕ) (before :
 
 pub length-in_groups_taken : {grouping : ℕ × ℕ} {count total : ℕ} {before : List ℕ}
     → HasRoomInGroups grouping count total before → length (in_groups grouping (take count before)) ≡ total
-length-in_groups_taken {grouping} {count} {total} {before} h =
-    length-in_groups grouping (take count before) h.size
-    ∙ ap (λ n. n + (n - 1) / grouping.0) (length-take-le count before (omega (arith, h.total_count, h.room)))
-    ∙ sym h.total_count
+length-in_groups_taken {grouping} {count} {total} {before} h = grind (arith, length-in_groups, length-take-le)
 
 -- ---- digits and their groups
 

@@ -1,5 +1,5 @@
 -- The position of each byte of digits in groups, counted from the right.
-use Rattle.std.proofs.Common.{◌≡◌, ℕ, suc, ◌+◌, ◌-◌, ◌*◌, ◌/◌, ◌%◌, ◌<◌, ◌≤◌, List, [], ◌∷◌, ◌++◌, length, get_or, refl, sym, ap}
+use Rattle.std.proofs.Common.{◌≡◌, ℕ, suc, ◌+◌, ◌-◌, ◌*◌, ◌/◌, ◌%◌, ◌<◌, ◌≤◌, List, [], ◌∷◌, ◌++◌, length, get_or, sym, ap}
 use Rattle.std.proofs.Common.{◌∙◌, inl, inr, arith, length-append}
 use Rattle.std.proofs.Math.Nat.{mul-mod_left, mul-div_cancel, mul-le-mul_left}
 use Rattle.std.proofs.lemmas.Bool.{cases_lt}
@@ -11,10 +11,7 @@ use Rattle.lexical_write_integer.proofs.OfTexts.Grouping.Digits.{length-in_group
 
 -- the end of a longer text has the same bytes at the same positions from the right
 pub from_right-append : (front text : List ℕ) (right : ℕ) → right < length text → from_right (front ++ text) right ≡ from_right text right
-from_right-append front text right inside =
-    let long = length-append front text in
-    get_or-append_right front text (length front) (length (front ++ text) - 1 - right) 0 refl (omega arith)
-    ∙ ap (λ n. get_or text n 0) (let e : length (front ++ text) - 1 - right - length front ≡ length text - 1 - right = omega arith in e)
+from_right-append front text right inside = grind (arith, length-append, get_or-append_right)
 
 -- to the right of a digit are the digits that follow it, and one separator for each whole group of them
 pub digit-from_right : (grouping : ℕ × ℕ) (digits : List ℕ) (right : ℕ)

@@ -69,10 +69,7 @@ IsSpread-digit {grouping} {count} {left = left} {end} {in_group} {before} {betwe
     let digit = get_or between (left - 1) 0 in
     let some = left-some due w in
     let same : left - 1 + (in_group + 1) ≡ left + in_group = omega arith in
-    let last : left - 1 + 1 ≡ left = omega arith in
-    let before_end : left ≤ end = omega (arith, w.place) in
-    let taken : take left between ≡ take (left - 1) between ++ digit ∷ [] =
-    ap (λ n. take n between) (sym last) ∙ take_more between (left - 1) 0 (omega (arith, w.room)) in
+    let taken : take left between ≡ take (left - 1) between ++ digit ∷ [] = grind (arith, take_more) in
     let unmoved = take-set-le (left - 1) between (end - 1) digit (omega arith) in
     record {
       moved = digit ∷ w.moved;
@@ -87,9 +84,7 @@ IsSpread-digit {grouping} {count} {left = left} {end} {in_group} {before} {betwe
       digits = rw unmoved (w.digits ∙ rw taken (append_assoc (take (left - 1) between) (digit ∷ []) w.moved));
       written = written-more end _ between _ due w.room w.written;
       next = λ d more.
-          let inside : length (digit ∷ w.moved) % grouping.0 ≡ in_group + 1 =
-          ap (λ n. n % grouping.0) (let e : length (digit ∷ w.moved) ≡ w.groups * grouping.0 + (in_group + 1) = omega (arith, w.many) in e)
-          ∙ mod-mul-add w.groups grouping.0 (in_group + 1) more in
+          let inside : length (digit ∷ w.moved) % grouping.0 ≡ in_group + 1 = grind (arith, mod-mul-add) in
           rw (mark_before-part grouping (length (digit ∷ w.moved)) (λ e. omega (arith, inside))) (ap (λ xs. d ∷ xs) (w.next digit part));
       whole = λ _. w.next digit part;
     }

@@ -1,6 +1,6 @@
 -- The loops that divide a number by a power of the radix: their invariant, and the quotients that they record.
-use Rattle.std.proofs.Common.{◌≡◌, ℕ, zero, suc, ◌+◌, ◌-◌, ◌*◌, ◌/◌, ◌^◌, ◌<◌, ◌≤◌, List, [], ◌∷◌, ◌++◌, length, refl, sym, ap, ◌∙◌, arith, append_assoc}
-use Rattle.std.proofs.Math.Nat.{pow-zero, div-lt_self, div-one, mul-div-le}
+use Rattle.std.proofs.Common.{◌≡◌, ℕ, zero, suc, ◌+◌, ◌*◌, ◌/◌, ◌^◌, ◌<◌, ◌≤◌, List, [], ◌∷◌, ◌++◌, length, refl, sym, ap, ◌∙◌, arith, append_assoc}
+use Rattle.std.proofs.Math.Nat.{pow-zero, div-lt_self, div-one}
 use Rattle.std.proofs.lemmas.List.{append-nil}
 use Rattle.std.proofs.lemmas.List.FromFn.{map-range_with_len_more, length-map-range_with_len}
 use Rattle.std.proofs.lemmas.Nat.{div-mul-add}
@@ -88,10 +88,7 @@ pub TakesDigits-end : {r n step taken left : ℕ} {before after : List ℕ}
 TakesDigits-end {r} {n} {step} {taken} {left} two stepped d short =
     let few = digit_count-le r left step (step-pos step stepped) short in
     let counts = digit_count-left r n taken left two d.fewer d.rest in
-    let order : d.turns * step ≡ step * d.turns = grind arith in
-    let parts : digits_after_first r n ≡ d.turns * step + (digits_after_first r n - taken) = omega (arith, d.by_turns, d.fewer) in
-    let turns : digits_after_first r n / step ≡ d.turns =
-    ap (λ k. k / step) parts ∙ div-mul-add d.turns step (digits_after_first r n - taken) (omega (arith, d.fewer)) in
+    let turns : digits_after_first r n / step ≡ d.turns = grind (arith, div-mul-add) in
     record { count = rw turns d.by_turns; rest = d.rest; notes = rw turns d.notes }
 
 -- a loop that is not entered
@@ -109,5 +106,4 @@ left-smaller {r} {step} {left} two stepped long e =
 pub TakesDigits-counts : {r n step taken left : ℕ} {before after : List ℕ}
     → 2 ≤ r → TakesDigits r n step taken left before after → digit_count r left + taken ≡ digit_count r n
 TakesDigits-counts {r} {n} {step} {taken} {left} two t =
-    let fewer = mul-div-le (digits_after_first r n) step in
-    digit_count-left r n taken left two (omega (arith, t.count, fewer, digit_count-pos r n)) t.rest
+    digit_count-left r n taken left two (omega (arith, t.count, digit_count-pos r n)) t.rest

@@ -1,5 +1,5 @@
 -- The quotients that the loops record, and how many of them there are.
-use Rattle.std.proofs.Common.{◌≡◌, ◌≢◌, ℕ, ◌+◌, ◌-◌, ◌*◌, ◌/◌, ◌%◌, ◌^◌, ◌<◌, ◌≤◌, Bool, true, false, cond, ltb, eqb, List, []}
+use Rattle.std.proofs.Common.{◌≡◌, ◌≢◌, ℕ, ◌+◌, ◌*◌, ◌/◌, ◌%◌, ◌^◌, ◌<◌, ◌≤◌, Bool, true, false, cond, ltb, eqb, List, []}
 use Rattle.std.proofs.Common.{◌∷◌, ◌++◌, length, refl, sym, ap, ◌∙◌, inl, inr, arith, append_assoc, length-append}
 use Rattle.std.proofs.Math.Nat.{pow-le-pow_left, pow-le-pow_right, div-one}
 use Rattle.std.proofs.lemmas.Nat.{div_below, pow-add}
@@ -92,12 +92,7 @@ slow_notes-are {r} {n} {a = a} two t u v =
 
 loop_notes-short : (r n : ℕ) → 2 ≤ r → n < r ^ 2 → loop_notes r n ≡ []
 unfolding loop_notes quotients
-loop_notes-short r n two short =
-    let few = digit_count-le r n 2 (omega arith) short in
-    elim (cases_eq (digit_count r n) 1) [
-      | inl one ↦ rw one refl
-      | inr more ↦ let both : digit_count r n ≡ 2 = omega (arith, digit_count-pos r n) in rw both refl
-    ]
+loop_notes-short r n two short = grind (arith, digit_count-le, cases_eq, digit_count-pos)
 
 -- with one or two digits, the loops before the last of the count record nothing
 pub loop_notes-none : (r n : ℕ) (notes : List ℕ) → 2 ≤ r → n < r ^ 2 → notes ≡ notes ++ loop_notes r n
@@ -155,10 +150,7 @@ loop_notes-first r n two long =
 
 pub slow_notes-first : (r n : ℕ) → 2 ≤ r → r ^ 4 ≤ n → slow_notes r n ≡ n / r ^ 4 ∷ slow_notes r (n / r ^ 4)
 unfolding slow_notes
-slow_notes-first r n two long =
-    let split = digit_count-split r 4 n two long in
-    let even : (digit_count r (n / r ^ 4) + 4) % 2 ≡ digit_count r (n / r ^ 4) % 2 = omega arith in
-    rw (loop_notes-first r n two long, after_four r n two long, split, even, ← div-pow_more) refl
+slow_notes-first r n two long = grind (arith, digit_count-split, loop_notes-first, after_four, div-pow_more)
 
 -- ---- one digit per iteration
 
@@ -240,17 +232,11 @@ length-compact_notes r n = length-quotients r n 1 (digits_after_first r n)
 -- ---- the largest number of iterations of the table writer
 
 loop_turns-le : (digits most : ℕ) → digits ≤ 4 * most + 1 → loop_turns digits ≤ most
-loop_turns-le digits most few =
-    cond_both (ltb ((digits - 1) % 4) 2) 0 1 (λ k. (digits - 1) / 4 + k ≤ most)
-    (λ _. omega arith)
-    (λ more. omega (arith, ltb-false ((digits - 1) % 4) 2 more))
+loop_turns-le digits most few = grind (arith, cond_both, ltb-false)
 
 -- the loops of the count and of the writer, and one iteration more if the number of digits is even
 twice_turns-le : (digits : ℕ) → digits ≤ 41 → slow_turns digits + loop_turns digits ≤ 21
-twice_turns-le digits few =
-    cond_both (eqb (digits % 2) 0) 1 0 (λ k. loop_turns digits + k + loop_turns digits ≤ 21)
-    (λ _. omega (arith, loop_turns-le digits 10 few))
-    (λ _. omega (arith, loop_turns-le digits 10 few))
+twice_turns-le digits few = grind (arith, cond_both, loop_turns-le)
 
 count_turns-le : (r digits : ℕ) → count_turns r digits ≤ slow_turns digits
 count_turns-le r digits = cond_both (is_counted_at_once r) 0 (slow_turns digits) (λ k. k ≤ slow_turns digits) (λ _. omega arith) (λ _. omega arith)

@@ -1,5 +1,5 @@
 -- Numbers of one to four digits, which are written without a loop.
-use Rattle.std.proofs.Common.{◌≡◌, ℕ, ◌+◌, ◌*◌, ◌/◌, ◌^◌, ◌<◌, ◌≤◌, List, drop, inl, inr, arith}
+use Rattle.std.proofs.Common.{◌≡◌, ℕ, ◌+◌, ◌*◌, ◌/◌, ◌^◌, ◌<◌, ◌≤◌, List, drop, arith}
 use Rattle.std.proofs.Math.Nat.{div-eq_of_lt, pow-le-pow_right}
 use Rattle.std.proofs.lemmas.Bool.{cases_lt}
 use Rattle.std.proofs.lemmas.Nat.{pow-add, le-div}
@@ -11,16 +11,10 @@ use Rattle.lexical_write_integer.proofs.OfDigits.Count.DigitCounts.{digit_count-
 
 -- a quotient is 0 if and only if the number is smaller than the divisor
 pub quotient-some : (k n : ℕ) → 0 < n / k → k ≤ n
-quotient-some k n some = elim (cases_lt n k) [
-  | inl less ↦ absurd (omega (arith, div-eq_of_lt less))
-  | inr more ↦ more
-]
+quotient-some k n some = grind (arith, cases_lt, div-eq_of_lt)
 
 pub quotient-none : (k n : ℕ) → 0 < k → n / k ≤ 0 → n < k
-quotient-none k n pos none = elim (cases_lt n k) [
-  | inl less ↦ less
-  | inr more ↦ absurd (omega (arith, le-div 1 n k pos (omega arith)))
-]
+quotient-none k n pos none = grind (arith, cases_lt, le-div)
 
 -- digits that were written before are written over
 pub WritesBlock-over : {r count n : ℕ} {before between after : List ℕ}
@@ -39,10 +33,7 @@ fits-within r n k two few =
     omega (arith, digit_count-fits r n two, pow-le-pow_right {n = r} (omega arith) {i = digit_count r n} {j = k} few)
 
 pub longer-than : (r n k : ℕ) → 1 ≤ k → k < digit_count r n → r ^ k ≤ n
-longer-than r n k some more = elim (cases_lt n (r ^ k)) [
-  | inl less ↦ absurd (omega (arith, digit_count-le r n k some less))
-  | inr long ↦ long
-]
+longer-than r n k some more = grind (arith, cases_lt, digit_count-le)
 
 -- a number of more than eight digits, and its first quotient, have more than four digits
 pub record HasEight (r n : ℕ) : Type 0 where
