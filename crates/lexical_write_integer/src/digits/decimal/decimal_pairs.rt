@@ -18,7 +18,15 @@ pub(crate) fn write_one_or_two(pair: u32, buffer: &mut [u8]) -> usize
     ensures digits { WritesDigits 10 pair buffer.old buffer.new result }
     ensures few { (1 ≤ result) × (result ≤ 2) }
 {
-    RadixTable::<10>::new().write_one_or_two(pair, pair >= 10, buffer)
+    // A single digit is the second of its pair. It is written twice to the same byte, to avoid a branch.
+    let is_pair = pair >= 10;
+    let table = RadixTable::<10>::new().pairs;
+    let index = 2 * pair as usize;
+    let first = table[index + 1 - is_pair as usize];
+    let second = table[index + 1];
+    buffer[is_pair as usize] = second;
+    buffer[0] = first;
+    1 + is_pair as usize
 }
 
 /// Writes the digits of the number that a fraction carries to the start of the buffer, and returns how

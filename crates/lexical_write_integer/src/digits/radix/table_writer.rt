@@ -119,26 +119,37 @@ pub(super) fn write_after_count<const R: u32>(
     count
 }
 
-// Counts the one or two digits of a number by a division, and writes them.
-fn count_and_write_one_or_two<const R: u32>(
-    number: u32,
-    table: RadixTable<'_, R>,
-    buffer: &mut [u8],
-    counted: &mut Turns,
-) -> usize
-    requires short { number < R ^ 2 }
-    requires room { digit_count R number ≤ length buffer.old }
-    ensures digits { WritesDigits R number buffer.old buffer.new result }
-    ensures counted { counted.new ≡ counted.old ++ slow_notes R number }
+// Returns how many digits a number of one or two digits has, by a division.
+fn count_one_or_two(number: u32, radix: u32, counted: &mut Turns) -> usize
+    requires radix { IsRadix radix }
+    requires short { number < radix ^ 2 }
+    ensures count { result ≡ digit_count radix number }
+    ensures counted { counted.new ≡ counted.old ++ slow_notes radix number }
 {
-    let left = number / R;
-    if left > 0 {
-        counted.tick(u64::from(left));
+    let left = number / radix;
+    if left == 0 {
+        return 1;
     }
-    table.write_one_or_two(number, left > 0, buffer)
+    counted.tick(u64::from(left));
+    2
 }
 
-// Counts up to four digits by division, and writes them.
+// Returns how many digits a number of up to four digits has, by division.
+fn count_up_to_four<const R: u32>(number: u32, counted: &mut Turns) -> usize
+    requires radix { IsRadix R }
+    requires short { number < R ^ 4 }
+    ensures count { result ≡ digit_count R number }
+    ensures counted { counted.new ≡ counted.old ++ slow_notes R number }
+{
+    let left = number / (R * R);
+    if left == 0 {
+        return count_one_or_two(number, R, counted);
+    }
+    counted.tick(u64::from(left));
+    2 + count_one_or_two(left, R, counted)
+}
+
+// Counts the one to four digits of a number by division, and writes them.
 fn count_and_write_up_to_four<const R: u32>(
     number: u32,
     table: RadixTable<'_, R>,
@@ -152,14 +163,9 @@ fn count_and_write_up_to_four<const R: u32>(
     ensures counted { counted.new ≡ counted.old ++ slow_notes R number }
     ensures written { written.new ≡ written.old ++ loop_notes R number }
 {
-    let left = first_pair::<R>(number, written);
-    if left == 0 {
-        return count_and_write_one_or_two(number, table, buffer, counted);
-    }
-    counted.tick(u64::from(left));
-    let head = count_and_write_one_or_two(left, table, buffer, counted);
-    table.write(number % (R * R), buffer, head);
-    head + 2
+    let count = count_up_to_four::<R>(number, counted);
+    write_up_to_four(number, count, table, buffer, written);
+    count
 }
 
 // Counts up to eight digits by division, and writes them.

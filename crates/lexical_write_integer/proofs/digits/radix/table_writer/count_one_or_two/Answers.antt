@@ -1,0 +1,32 @@
+use Rattle.std.proofs.Common.{◌≡◌, ◌/◌, ◌<◌, sym, arith}
+use Rattle.std.proofs.lemmas.List.{append-nil}
+use Rattle.lexical_write_integer.proofs.OfDigits.Count.DigitCounts.{digit_count-one, digit_count-two}
+use Rattle.lexical_write_integer.proofs.OfDigits.Radix.Loops.Records.{slow_notes-one, slow_notes-two}
+use Rattle.lexical_write_integer.proofs.OfDigits.Radix.Loops.ShortNumbers.{quotient-some, quotient-none}
+use Rattle.lexical_write_integer.proofs.digits.radix.table_writer.count_one_or_two.Goals as goal
+use Rattle.lexical_write_integer.proofs.digits.radix.table_writer.count_one_or_two.Goals.{Start}
+
+-- the quotient is recorded if it is not 0
+single : (c : Start) → c.args.number / c.args.radix ≡ 0 → c.args.number < c.args.radix
+single c none = quotient-none c.args.radix c.args.number (omega (arith, c.requires.radix.at_least_two)) (omega (arith, none))
+
+pub returns-then-left-eq0-clause-count : goal.returns-then-left-eq0-clause-count
+returns-then-left-eq0-clause-count c =
+    sym (digit_count-one c.args.radix c.args.number c.requires.radix.at_least_two
+    (single (goal.at.returns-then-left-eq0-clause-count c).Start c.if-left-eq0.true))
+
+pub returns-then-left-eq0-clause-counted : goal.returns-then-left-eq0-clause-counted
+returns-then-left-eq0-clause-counted c =
+    let short = single (goal.at.returns-then-left-eq0-clause-counted c).Start c.if-left-eq0.true in
+    rw (slow_notes-one c.args.radix c.args.number c.requires.radix.at_least_two short) (sym (append-nil c.args.counted.now))
+
+pub returns-clause-count : goal.returns-clause-count
+returns-clause-count c =
+    let long = quotient-some c.args.radix c.args.number (omega (arith, c.if-left-eq0.false)) in
+    sym (digit_count-two c.args.radix c.args.number c.requires.radix.at_least_two long c.requires.short)
+
+pub returns-clause-counted : goal.returns-clause-counted
+returns-clause-counted c =
+    let long = quotient-some c.args.radix c.args.number (omega (arith, c.if-left-eq0.false)) in
+    let last = slow_notes-two c.args.radix c.args.number c.requires.radix.at_least_two long c.requires.short in
+    rw (last, ← c.from.ensures) c.tick.ensures
