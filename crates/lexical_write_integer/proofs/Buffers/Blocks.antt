@@ -2,16 +2,18 @@
 use Rattle.std.proofs.Common.{◌≡◌, ℕ, ◌+◌, ◌-◌, ◌*◌, ◌/◌, ◌%◌, ◌^◌, ◌<◌, ◌≤◌, List, [], ◌∷◌, ◌++◌, length, take, drop, set, map, refl}
 use Rattle.std.proofs.Common.{sym, ap, subst, ◌∙◌, arith, add-zero, add_assoc, append_assoc, take-take}
 use Rattle.std.proofs.Math.Nat.{pow-zero, one-le-pow, mod-one, mod-lt, div-one, div-add-mod', add-mul, mul_assoc}
-use Rattle.std.proofs.lemmas.List.{map-append, append-nil, drop_all, drop-set, take-set}
+use Rattle.std.proofs.lemmas.List.{map-append, append-nil, drop_all, drop-set, take-set, length-take-le, take_at, drop_at, drop-drop}
 use Rattle.std.proofs.lemmas.List.Elements.{All-nil}
 use Rattle.std.proofs.lemmas.Nat.{pow-add, mul-add-lt, mod-mul-add}
 use Rattle.lexical_num.specs.Digit.{digit_char}
 use Rattle.lexical_write_integer.specs.Buffer.{WritesBlock}
 use Rattle.lexical_write_integer.specs.Digits.DigitCount.{digit_count}
+use Rattle.lexical_write_integer.specs.Digits.Numeral.{IsBlockOf}
 use Rattle.lexical_write_integer.specs.Texts.Text.{IsDigits}
 use Rattle.lexical_write_integer.proofs.OfDigits.Count.DigitCounts.{digit_count-pos, digit_count-left, digit_count-more}
 use Rattle.lexical_write_integer.proofs.OfDigits.Powers.{div-pow_more}
 use Rattle.lexical_write_integer.proofs.OfDigits.Numerals.{IsBlockOf-one, IsBlockOf-append, IsNumeralOf-block}
+use borrow.Rule.Slice.PartMut.{put_mid}
 
 -- no digit
 pub WritesBlock-none : (n : ℕ) {r at : ℕ} {list : List ℕ} → WritesBlock r 0 (n % r ^ 0) at list list
@@ -30,6 +32,24 @@ WritesBlock-one r d at list small room = record {
   written = drop-set list at (digit_char d) room;
   kept = take-set list at (digit_char d);
 }
+
+-- the characters of a block, copied to index `at_index`
+pub WritesBlock-copied : (at_index : ℕ) {r count n : ℕ} {digits before characters : List ℕ}
+    → IsBlockOf r count n digits → characters ≡ map digit_char digits → at_index + count ≤ length before
+    → WritesBlock r count n at_index before (put_mid at_index (at_index + count - at_index) before characters)
+WritesBlock-copied at_index {count = count} {digits = digits} {before} {characters} block are room =
+    let kept = take at_index before in
+    let rest = drop (at_index + count - at_index) (drop at_index before) in
+    let long = length-take-le at_index before (omega arith) in
+    let end : at_index + (at_index + count - at_index) ≡ at_index + count = omega arith in
+    record {
+      digits = digits;
+      block = block;
+      written = drop_at kept (characters ++ rest) at_index long
+          ∙ ap (λ cs. cs ++ rest) are
+          ∙ ap (λ ys. map digit_char digits ++ ys) (drop-drop (at_index + count - at_index) at_index before ∙ ap (λ e. drop e before) end);
+      kept = take_at kept (characters ++ rest) at_index long;
+    }
 
 -- a block before one that is written
 pub WritesBlock-front : {r i j m n at : ℕ} {before between after : List ℕ}

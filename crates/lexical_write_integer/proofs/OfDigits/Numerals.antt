@@ -2,17 +2,18 @@
 use Rattle.std.proofs.Common.{◌≡◌, ℕ, zero, suc, ◌+◌, ◌-◌, ◌*◌, ◌/◌, ◌%◌, ◌^◌, ◌<◌, ◌≤◌, List, [], ◌∷◌, ◌++◌, length, get_or, map}
 use Rattle.std.proofs.Common.{refl, sym, ap, ◌∙◌, inl, inr, arith, length-append}
 use Rattle.std.specs.Int.Digits.{digits_of, number_from_digits_after}
-use Rattle.std.proofs.Math.Nat.{pow-zero, pow-suc, one-le-pow, div-add-mod'}
+use Rattle.std.proofs.Math.Nat.{pow-zero, pow-suc, one-le-pow, mod-lt, div-add-mod'}
 use Rattle.std.proofs.lemmas.Int.Digits.{number_digits_of, all_below_base_digits_of, first_digits_of, length-digits_of_step}
 use Rattle.std.proofs.lemmas.Bool.{cases_lt}
 use Rattle.std.proofs.lemmas.List.{get_or_append_left, length-map}
 use Rattle.std.proofs.lemmas.List.Elements.{All-nil, All-cons, All-head, All-append, All-from_recursion}
-use Rattle.std.proofs.lemmas.Nat.{le-div}
+use Rattle.std.proofs.lemmas.Nat.{le-div, div_below}
 use Rattle.lexical_num.specs.Digit.{digit_char}
 use Rattle.lexical_write_integer.specs.Digits.DigitCount.{digit_count}
 use Rattle.lexical_write_integer.specs.Digits.Numeral.{IsNumeral, IsNumeralOf, IsBlockOf, value_of}
 use Rattle.lexical_write_integer.specs.Texts.Text.{IsDigits}
 use Rattle.lexical_write_integer.proofs.OfDigits.Count.DigitCounts.{digit_count-is}
+use Rattle.lexical_write_integer.proofs.OfDigits.Powers.{pow-one}
 use Rattle.lexical_write_integer.proofs.OfDigits.DigitValues.{value_of-append, value_of-one, value_of-lt, value_of-ge, same_digits}
 
 -- ---- one numeral at most
@@ -62,6 +63,11 @@ IsBlockOf-append {r} {i} {j} {m} {n} {xs} {ys} p q = record {
   below_radix = All-append (λ d. d < r) xs ys p.below_radix q.below_radix;
   value = rw (value_of-append, p.value, q.value, q.counted);
 }
+
+pub IsBlockOf-pair : (r n : ℕ) → 0 < r → n < r * r → IsBlockOf r 2 n (n / r ∷ n % r ∷ [])
+IsBlockOf-pair r n some small =
+    let whole : n / r * r ^ 1 + n % r ≡ n = rw pow-one (div-add-mod' n r) in
+    rw whole at (IsBlockOf-append (IsBlockOf-one r (n / r) (div_below n r r some small)) (IsBlockOf-one r (n % r) (mod-lt n some)))
 
 IsNumeralOf-zero : (r : ℕ) → 0 < r → IsNumeralOf r 0 (0 ∷ [])
 IsNumeralOf-zero r some = record {

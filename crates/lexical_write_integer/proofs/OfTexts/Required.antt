@@ -2,7 +2,6 @@
 use Rattle.std.proofs.Common.{◌≡◌, Option, None, Some, ℕ, ◌+◌, ◌^◌, ◌<◌, ◌≤◌, ◌≤ℤ◌, ◌==◌, List, length, refl}
 use Rattle.std.proofs.Common.{arith, ℤ, unsigned_abs, length-append}
 use Rattle.std.specs.Option.{ForSome}
-use Rattle.std.specs.Prelude.{Bool, true, false, if◌then◌else◌}
 use Rattle.std.proofs.lemmas.Bool.{cond_both, eqb-true}
 use Rattle.lexical_num.specs.DecimalWidth.{IsDecimalWidth}
 use Rattle.lexical_num.specs.Format.{Format, IsGrouping, grouped_length}
@@ -51,9 +50,5 @@ grouped_length-ge None n = omega arith
 grouped_length-ge (Some grouping) n = omega arith
 
 -- a text has at least one byte
-one_of : (b : Bool) (m n : ℕ) → 1 ≤ m → 1 ≤ n → 1 ≤ (if b then m else n)
-one_of true m n first second = first
-one_of false m n first second = second
-
 pub need-pos : (x : ℤ) (width : ℕ) (format : Format) → 1 ≤ width → 1 ≤ need x width format
 need-pos x width format some = grind (arith, digit_count-pos, grouped_length-ge)

@@ -34,10 +34,7 @@ impl<const R: u32> RadixTable<'_, R> {
         ensures { WritesBlock R 2 number at buffer.old buffer.new }
     {
         let index = 2 * number as usize;
-        // Both are read first, so the compiler moves them as one number of two bytes.
-        let first = self.pairs[index];
-        let second = self.pairs[index + 1];
-        buffer[at + 1] = second;
-        buffer[at] = first;
+        let pair = &self.pairs[index..index + 2];
+        buffer[at..at + 2].copy_from_slice(pair);
     }
 }

@@ -1,15 +1,14 @@
 -- The binary digits of a number, as the bytes of a word.
-use Rattle.std.proofs.Common.{◌≡◌, ℕ, zero, suc, ◌+◌, ◌-◌, ◌*◌, ◌/◌, ◌%◌, ◌^◌, ◌<◌, ◌≤◌, Bool, true, false, ◌&&◌, eqb, List, [], ◌∷◌, ◌++◌}
-use Rattle.std.proofs.Common.{length, take, drop, map, bit_and, bit_or, w32, w64, refl, sym, ap, subst, ◌∙◌, arith, inl, inr}
+use Rattle.std.proofs.Common.{◌≡◌, ℕ, zero, suc, ◌+◌, ◌-◌, ◌*◌, ◌/◌, ◌%◌, ◌^◌, ◌<◌, ◌≤◌, Bool, true, false, ◌&&◌, eqb, List, [], ◌∷◌}
+use Rattle.std.proofs.Common.{length, map, bit_and, bit_or, w32, w64, refl, sym, ap, subst, ◌∙◌, arith, inl, inr}
 use Rattle.std.proofs.lemmas.Bool.{cases_lt, and_parts, eqb-true}
-use Rattle.std.proofs.lemmas.List.{length-take-le, take_at, drop_at, drop-drop}
 use Rattle.std.proofs.lemmas.List.Elements.{All-nil}
 use Rattle.std.proofs.Math.Nat.{pow-zero, mod-one, mod-lt, mod-eq_of_lt}
 use Rattle.std.specs.Int.{to_le_bytes}
 use Rattle.lexical_num.specs.Digit.{digit_char}
 use Rattle.lexical_write_integer.specs.Buffer.{WritesBlock}
 use Rattle.lexical_write_integer.specs.Digits.Numeral.{IsBlockOf}
-use Rattle.lexical_write_integer.proofs.Buffers.Blocks.{mod-pow_split}
+use Rattle.lexical_write_integer.proofs.Buffers.Blocks.{mod-pow_split, WritesBlock-copied}
 use Rattle.lexical_write_integer.proofs.OfDigits.Numerals.{IsBlockOf-one, IsBlockOf-append}
 use borrow.Rule.Slice.PartMut.{put_mid}
 
@@ -35,18 +34,7 @@ pub WritesBlock-bits : (count n at : ℕ) (before characters : List ℕ)
     → n < 2 ^ count → characters ≡ map digit_char (bits count n) → at + count ≤ length before
     → WritesBlock 2 count n at before (put_mid at (at + count - at) before characters)
 WritesBlock-bits count n at_index before characters short are room =
-    let kept = take at_index before in
-    let rest = characters ++ drop (at_index + count - at_index) (drop at_index before) in
-    let long = length-take-le at_index before (omega arith) in
-    let end : at_index + (at_index + count - at_index) ≡ at_index + count = omega arith in
-    record {
-      digits = bits count n;
-      block = rw (mod-eq_of_lt short) at (IsBlockOf-bits count n);
-      written = drop_at kept rest at_index long
-          ∙ ap (λ cs. cs ++ drop (at_index + count - at_index) (drop at_index before)) are
-          ∙ ap (λ ys. map digit_char (bits count n) ++ ys) (drop-drop (at_index + count - at_index) at_index before ∙ ap (λ e. drop e before) end);
-      kept = take_at kept rest at_index long;
-    }
+    WritesBlock-copied at_index (rw (mod-eq_of_lt short) at (IsBlockOf-bits count n)) are room
 
 -- ---- the words, which are compared for each number
 

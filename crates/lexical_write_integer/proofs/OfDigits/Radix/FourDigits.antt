@@ -10,15 +10,10 @@ use Rattle.lexical_write_integer.specs.Digits.LoopTurns.{takes_two}
 use Rattle.lexical_write_integer.specs.Digits.Numeral.{IsBlockOf}
 use Rattle.lexical_write_integer.proofs.OfDigits.Count.DigitCounts.{digit_count-fits, digit_count-le, digit_count-pos}
 use Rattle.lexical_write_integer.proofs.OfDigits.Count.RadixPowers.{power-gt_one}
-use Rattle.lexical_write_integer.proofs.OfDigits.Numerals.{IsBlockOf-one, IsBlockOf-append}
+use Rattle.lexical_write_integer.proofs.OfDigits.Numerals.{IsBlockOf-one, IsBlockOf-pair, IsBlockOf-append}
 use Rattle.lexical_write_integer.proofs.OfDigits.Powers.{pow-one, pow-two, pow-four, pow-lt_more}
 
 -- ---- the digits
-
-IsBlockOf-pair : (r n : ℕ) → 0 < r → n < r * r → IsBlockOf r 2 n (n / r ∷ n % r ∷ [])
-IsBlockOf-pair r n some small =
-    let whole : n / r * r ^ 1 + n % r ≡ n = rw pow-one (div-add-mod' n r) in
-    rw whole at (IsBlockOf-append (IsBlockOf-one r (n / r) (div_below n r r some small)) (IsBlockOf-one r (n % r) (mod-lt n some)))
 
 -- the numbers of the two pairs
 square-pos : (r : ℕ) → 2 ≤ r → 0 < r * r

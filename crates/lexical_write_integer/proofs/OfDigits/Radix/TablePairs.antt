@@ -1,14 +1,15 @@
 -- Pairs of digits, which are read from a table that begins with the pairs of the radix.
-use Rattle.std.proofs.Common.{◌≡◌, ℕ, ◌+◌, ◌*◌, ◌/◌, ◌%◌, ◌^◌, ◌<◌, ◌≤◌, List, length, get_or, set, sym, ap, subst, ◌∙◌, arith, length-take, length-set}
-use Rattle.std.proofs.Math.Nat.{mod-lt, div-add-mod'}
+use Rattle.std.proofs.Common.{◌≡◌, ℕ, suc, ◌+◌, ◌-◌, ◌*◌, ◌/◌, ◌%◌, ◌^◌, ◌<◌, ◌≤◌, List, [], ◌∷◌, length, get_or, take, drop, map, set, refl, sym, ap, subst, ◌∙◌, arith, length-take}
+use Rattle.std.proofs.Math.Nat.{div-add-mod'}
+use Rattle.std.proofs.Math.Seq.{drop-cons}
 use Rattle.std.proofs.lemmas.List.{get_or-take}
-use Rattle.std.proofs.lemmas.Nat.{div_below}
 use Rattle.lexical_num.specs.Digit.{digit_char}
 use Rattle.lexical_tables.proofs.Pairs.{length-pairs, slice_index-pairs_first, slice_index-pairs_second}
 use Rattle.lexical_write_integer.specs.Buffer.{WritesBlock}
 use Rattle.lexical_write_integer.specs.Digits.Table.{BeginsWithPairs}
-use Rattle.lexical_write_integer.proofs.Buffers.Blocks.{WritesBlock-one, WritesBlock-front}
-use Rattle.lexical_write_integer.proofs.OfDigits.Powers.{pow-two, pow-one}
+use Rattle.lexical_write_integer.proofs.Buffers.Blocks.{WritesBlock-front}
+use Rattle.lexical_write_integer.proofs.OfDigits.Numerals.{IsBlockOf-pair}
+use Rattle.lexical_write_integer.proofs.OfDigits.Powers.{pow-two}
 
 -- a radix that equals another has its table
 pub begins_in_arm : {radix r : ℕ} {table : List ℕ} → BeginsWithPairs radix table → radix ≡ r → BeginsWithPairs r table
@@ -25,22 +26,23 @@ pair_first r k table t small =
 pub pair_second : (r k : ℕ) (table : List ℕ) → BeginsWithPairs r table → k < r * r → get_or table (2 * k + 1) 0 ≡ digit_char (k % r)
 pair_second r k table t small = grind (arith, get_or-take, slice_index-pairs_second)
 
--- two digits, the last one first
-WritesBlock-two : (r n at : ℕ) (list : List ℕ) → 0 < r → n < r * r → at + 2 ≤ length list
-    → WritesBlock r 2 n at list (set (set list (at + 1) (digit_char (n % r))) at (digit_char (n / r)))
-WritesBlock-two r n at list some small room =
-    let between = set list (at + 1) (digit_char (n % r)) in
-    let whole : n / r * r ^ 1 + n % r ≡ n = rw pow-one (div-add-mod' n r) in
-    let last = WritesBlock-one r (n % r) (at + 1) list (mod-lt n some) (omega arith) in
-    let same = length-set list (at + 1) (digit_char (n % r)) in
-    let first = WritesBlock-one r (n / r) at between (div_below n r r some small) (omega (arith, same)) in
-    rw whole at (WritesBlock-front last first)
+-- both, as they are copied from the table
+pub characters-pair : (r k : ℕ) (table : List ℕ) → BeginsWithPairs r table → k < r * r
+    → take (2 * k + 2 - 2 * k) (drop (2 * k) table) ≡ map digit_char (k / r ∷ k % r ∷ [])
+characters-pair r k table t small =
+    let long = length-table r table t in
+    let count : 2 * k + 2 - 2 * k ≡ 2 = omega arith in
+    let next : suc (2 * k) ≡ 2 * k + 1 = omega arith in
+    rw (count, drop-cons table (2 * k) 0 (omega arith), drop-cons table (suc (2 * k)) 0 (omega arith), next, pair_first r k table t small, pair_second r k table t small) refl
 
--- a pair from the table
-pub WritesBlock-pair : (r k at : ℕ) (table list : List ℕ) → 0 < r → BeginsWithPairs r table → k < r * r → at + 2 ≤ length list
-    → WritesBlock r 2 k at list (set (set list (at + 1) (get_or table (2 * k + 1) 0)) at (get_or table (2 * k) 0))
-WritesBlock-pair r k at table list some t small room =
-    rw (pair_first r k table t small, pair_second r k table t small) (WritesBlock-two r k at list some small room)
+-- the second is stored at index 1, and then the first at index 0
+pub WritesBlock-pair : (r k : ℕ) (table list : List ℕ) → 0 < r → BeginsWithPairs r table → k < r * r → 2 ≤ length list
+    → WritesBlock r 2 k 0 list (set (set list 1 (get_or table (2 * k + 1) 0)) 0 (get_or table (2 * k) 0))
+WritesBlock-pair r k table [] some t small room = absurd (omega arith)
+WritesBlock-pair r k table (x ∷ []) some t small room = absurd (omega arith)
+WritesBlock-pair r k table (x ∷ (y ∷ list)) some t small room =
+    rw (pair_first r k table t small, pair_second r k table t small)
+    (record { digits = _; block = IsBlockOf-pair r k some small; written = refl; kept = refl })
 
 -- the two pairs of four digits, the last pair first
 pub WritesBlock-pairs : (r n square : ℕ) {at : ℕ} {before between after : List ℕ}

@@ -1,7 +1,7 @@
 -- Digits in groups: how long they are, and the last group after the others.
-use Rattle.std.proofs.Common.{◌≡◌, if◌then◌else◌, ◌==◌, Option, None, Some, ℕ, zero, suc, ◌+◌, ◌-◌, ◌/◌, ◌%◌, ◌<◌, ◌≤◌, List, []}
-use Rattle.std.proofs.Common.{◌∷◌, ◌++◌, length, take, inl, inr, ◌*◌, refl, sym, ap, ◌∙◌, arith, length-append, append_assoc}
-use Rattle.std.proofs.Math.Nat.{mod-eq_of_lt, mod-lt, mod_self, add-mod_right, div-eq_of_lt}
+use Rattle.std.proofs.Common.{◌≡◌, Option, None, Some, ℕ, zero, suc, ◌+◌, ◌-◌, ◌/◌, ◌%◌, ◌<◌, ◌≤◌, List, []}
+use Rattle.std.proofs.Common.{◌∷◌, ◌++◌, length, take, inl, inr, ◌*◌, refl, sym, ap, ◌∙◌, arith, length-append}
+use Rattle.std.proofs.Math.Nat.{mod-eq_of_lt, mod-lt, div-eq_of_lt}
 use Rattle.std.proofs.lemmas.Nat.{div-mul-add}
 use Rattle.std.proofs.lemmas.Bool.{cases_eq, cases_lt, cases_order, eq-eqb, ne_eqb, cond-true, cond-false}
 use Rattle.std.proofs.lemmas.List.{append_cancel_left, length-take-le}
@@ -26,24 +26,6 @@ in_groups-one grouping (digit ∷ next ∷ digits) few =
     let right : length (next ∷ digits) % grouping.0 ≡ length (next ∷ digits) = mod-eq_of_lt (omega arith) in
     let part = mark_before-part grouping (length (next ∷ digits)) (λ e. omega arith) in
     rw part (ap (λ rest. digit ∷ rest) (in_groups-one grouping (next ∷ digits) (omega arith)))
-
--- a last group that follows other digits has a separator before it
-pub in_groups-append : (grouping : ℕ × ℕ) (digits group : List ℕ)
-    → 0 < grouping.0 → 0 < length digits → length group ≡ grouping.0
-    → in_groups grouping (digits ++ group) ≡ in_groups grouping digits ++ grouping.1 ∷ group
-in_groups-append grouping [] group some any whole = absurd (omega arith)
-in_groups-append grouping (digit ∷ []) [] some any whole = absurd (omega arith)
-in_groups-append grouping (digit ∷ []) (next ∷ group) some any whole =
-    let right : length (next ∷ group) % grouping.0 ≡ 0 = ap (λ n. n % grouping.0) whole ∙ mod_self grouping.0 in
-    rw (mark_before-whole grouping (length (next ∷ group)) right) (ap (λ rest. digit ∷ grouping.1 ∷ rest) (in_groups-one grouping (next ∷ group) (omega arith)))
-in_groups-append grouping (digit ∷ next ∷ digits) group some any whole =
-    let right : length ((next ∷ digits) ++ group) % grouping.0 ≡ length (next ∷ digits) % grouping.0 =
-    ap (λ n. n % grouping.0) (length-append (next ∷ digits) group ∙ ap (λ n. length (next ∷ digits) + n) whole)
-    ∙ add-mod_right (length (next ∷ digits)) grouping.0 in
-    let mark : mark_before grouping (length ((next ∷ digits) ++ group)) ≡ mark_before grouping (length (next ∷ digits)) =
-    ap (λ n. (if n == 0 then grouping.1 ∷ [] else [])) right in
-    let rest = in_groups-append grouping (next ∷ digits) group some (omega arith) whole in
-    ap (λ rest. digit ∷ rest) ((λ i. mark i ++ rest i) ∙ sym (append_assoc (mark_before grouping (length (next ∷ digits))) _ _))
 
 pub some_factor : (m n product : ℕ) → m * n ≡ product → 0 < product → 0 < m
 some_factor zero n product is some = absurd (omega arith)

@@ -24,7 +24,7 @@ digits : (pair : ℕ) (is_pair : Bool) (list table : List ℕ) → BeginsWithPai
 digits pair true list table t small room e =
     let place : 2 * pair + 1 - 1 ≡ 2 * pair = omega arith in
     let two = sym (counted pair true small e) in
-    WritesDigits-block (omega arith) two (omega arith) (rw place (WritesBlock-pair 10 pair 0 table list (omega arith) t small (omega arith)))
+    WritesDigits-block (omega arith) two (omega arith) (rw place (WritesBlock-pair 10 pair table list (omega arith) t small (omega arith)))
 digits pair false list table t small room e =
     let short = leb-false 10 pair e in
     let place : 2 * pair + 1 - 0 ≡ 2 * pair + 1 = omega arith in
