@@ -35,6 +35,10 @@ impl<const R: u32> RadixTable<'_, R> {
     {
         let index = 2 * number as usize;
         let pair = &self.pairs[index..index + 2];
-        buffer[at..at + 2].copy_from_slice(pair);
+        // Both are read first, so the compiler moves them as one number of two bytes.
+        let (first, second) = (pair[0], pair[1]);
+        let written = &mut buffer[at..at + 2];
+        written[1] = second;
+        written[0] = first;
     }
 }

@@ -1,7 +1,8 @@
-use Rattle.std.proofs.Common.{◌∙◌, arith}
+use Rattle.std.proofs.Common.{◌≡◌, ◌+◌, ◌-◌, length, take, drop, ◌∙◌, arith, length-drop}
+use Rattle.std.proofs.lemmas.List.{length-take-le}
 use Rattle.lexical_write_integer.proofs.Buffers.Blocks.{WritesBlock-copied}
 use Rattle.lexical_write_integer.proofs.OfDigits.Numerals.{IsBlockOf-pair}
-use Rattle.lexical_write_integer.proofs.OfDigits.Radix.TablePairs.{length-table, characters-pair}
+use Rattle.lexical_write_integer.proofs.OfDigits.Radix.TablePairs.{length-table, characters-pair, set-pair}
 use Rattle.lexical_write_integer.proofs.digits.pairs.RadixTable.write.Goals as goal
 
 -- the check finds this proof by itself, but with an answer the refusal of a mistake says what is wrong
@@ -13,5 +14,10 @@ slice_bounds-pair-end g c = omega (arith, c.requires.number, length-table g.row.
 
 pub returns : goal.returns
 returns g c =
-    let characters = c.copy_from_slice.ensures.after ∙ characters-pair g.row.R c.args.number c.args.self.pairs.now c.args.self.begins c.requires.number in
-    WritesBlock-copied c.args.at (IsBlockOf-pair g.row.R c.args.number (omega (arith, c.args.self.is_radix)) c.requires.number) characters c.requires.room
+    let n = c.args.number in
+    let count : c.args.at + 2 - c.args.at ≡ 2 = omega arith in
+    let part = take (c.args.at + 2 - c.args.at) (drop c.args.at c.args.buffer.now) in
+    let long = length-take-le (c.args.at + 2 - c.args.at) (drop c.args.at c.args.buffer.now) (omega (arith, length-drop c.args.at c.args.buffer.now)) in
+    let pair = characters-pair g.row.R n c.args.self.pairs.now c.args.self.begins c.requires.number in
+    WritesBlock-copied c.args.at (IsBlockOf-pair g.row.R n (omega (arith, c.args.self.is_radix)) c.requires.number)
+    (rw pair (set-pair part _ _ (long ∙ count))) c.requires.room
