@@ -1,10 +1,11 @@
+use std::env;
 use strip::Additions;
 
 fn main() {
     // What chooses a writer, the decimal writer, and the writer of a number whose digits are counted at once. If the
     // format is constant in a caller, so is the choice. The others would make the code of a caller long if its radix is
     // known only at run time.
-    let always_inlined = &[
+    let inlined: &'static [&'static str] = &[
         "buffer.rt",
         "texts/api.rt",
         "texts/integers.rt",
@@ -23,7 +24,11 @@ fn main() {
         "first_pair",
         "remove_four",
         "fourth_power",
+        // This only by a feature: for a library that calls each writer once, as the one for C.
+        "count_and_write_up_to_eight",
     ];
+    let count = inlined.len() - usize::from(env::var_os("CARGO_FEATURE_INLINE_MORE").is_none());
+    let always_inlined = &inlined[..count];
     // Only proofs need the laws and the counters.
     let hidden = &[
         "laws",

@@ -35,7 +35,7 @@ impl<const R: u32> RadixTable<'_, R> {
     {
         let index = 2 * number as usize;
         let pair = &self.pairs[index..index + 2];
-        // Both are read first, so the compiler moves them as one number of two bytes.
+        // rustc tests the end of each slice once. Both bytes are read first, so a compiler moves them as one number.
         let (first, second) = (pair[0], pair[1]);
         let written = &mut buffer[at..at + 2];
         written[1] = second;
