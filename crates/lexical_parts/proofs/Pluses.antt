@@ -1,6 +1,5 @@
 -- A sign and digits, which are a text with a required sign.
 use Rattle.std.proofs.Common.{ℕ, List, true, ℤ, unsigned_abs}
-use Rattle.lexical_num.specs.Format.{IsValid, standard}
 use Rattle.lexical_num.specs.Sign.{sign_of}
 use Rattle.lexical_write_integer.specs.Buffer.{Writes}
 use Rattle.lexical_write_integer.specs.Sequence.{IsExactly}
@@ -17,7 +16,3 @@ written_plus w = record {
   front = w.front;
   count = w.count;
 }
-
--- a required sign needs nothing of a format
-pub plus_is_valid : IsValid standard → IsValid (record standard { required_mantissa_sign = true })
-plus_is_valid valid = record { mantissa = valid.mantissa; exponent = valid.exponent; groups = valid.groups }

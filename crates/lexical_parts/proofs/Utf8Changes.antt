@@ -62,9 +62,11 @@ lower_scalars [] = refl
 lower_scalars (c ∷ cs) = rw (lower_scalar c, lower_scalars cs) refl
 
 pub lower_is_utf8 : {Is : List ℕ → Type 0} → AreUtf8 Is → AreUtf8 (IsLowercase Is)
-lower_is_utf8 each text is =
-    let u = each is.original is.is in
-    rw is.whole (map to_ascii_lowercase u.0, (lower_scalars u.0 ∙ u.1.0, lower_encodes u.0 ∙ ap (map to_ascii_lowercase) u.1.1))
+lower_is_utf8 texts = record {
+  each = λ text is.
+      let u = texts.each is.original is.is in
+      rw is.whole (map to_ascii_lowercase u.0, (lower_scalars u.0 ∙ u.1.0, lower_encodes u.0 ∙ ap (map to_ascii_lowercase) u.1.1));
+}
 
 -- a character ends after a sign
 sign_ends : (text : List ℕ) → IsUtf8 text → IsCharBoundary text (sign_length text)
@@ -76,10 +78,14 @@ sign_ends (byte ∷ text) u = by_test (byte == 45 || byte == 43) refl
     by_test false sign = IsCharBoundary-start (byte ∷ text) u
 
 pub zero_padded_is_utf8 : {Is : List ℕ → Type 0} (width : ℕ) → AreUtf8 Is → AreUtf8 (IsZeroPadded width Is)
-zero_padded_is_utf8 width each text is =
-    let u = each is.number is.is in
-    let cut = sign_ends is.number u in
-    let zeros : List ℕ = replicate (width - length is.number) 48 in
-    rw is.whole (IsUtf8-append (take (sign_length is.number) is.number) (zeros ++ drop (sign_length is.number) is.number)
-    (IsUtf8-take is.number (sign_length is.number) u cut) (IsUtf8-append zeros (drop (sign_length is.number) is.number)
-    (fill_is_utf8 48 (width - length is.number) (omega arith)) (IsUtf8-drop is.number (sign_length is.number) u cut)))
+zero_padded_is_utf8 width texts = record {
+  each = λ text is.
+      let u = texts.each is.number is.is in
+      let cut = sign_ends is.number u in
+      let zeros : List ℕ = replicate (width - length is.number) 48 in
+      rw is.whole (IsUtf8-append (take (sign_length is.number) is.number) (zeros ++ drop (sign_length is.number) is.number)
+      (IsUtf8-take is.number (sign_length is.number) u cut) (IsUtf8-append zeros (drop (sign_length is.number) is.number)
+      (fill_is_utf8 48 (width - length is.number) (omega arith)) (IsUtf8-drop is.number (sign_length is.number) u cut)));
+}
+
+pub ruleset changes = (lower_is_utf8, zero_padded_is_utf8)

@@ -1,49 +1,58 @@
 -- The texts of parts are UTF-8.
-use Rattle.std.proofs.Common.{Bool, true, ℕ, zero, suc, ◌-◌, ◌/◌, ◌%◌, ◌^◌, ◌<◌, ◌≤◌, List, [], ◌∷◌, ◌++◌, false, length, replicate, arith, ℤ, pos, negsuc, unsigned_abs}
+use Rattle.std.proofs.Common.{Bool, true, ℕ, zero, suc, ◌-◌, ◌/◌, ◌<◌, ◌≤◌, List, [], ◌∷◌, ◌++◌, false, length, replicate, arith, rules, ℤ, pos, negsuc}
 use Rattle.std.specs.List.{All}
+use Rattle.std.specs.Option.{ForSome}
 use Rattle.std.specs.Str.{IsUtf8}
 use Rattle.std.proofs.lemmas.List.Elements.{All-nil, All-cons, All-head, All-tail, All-replicate}
 use Rattle.std.proofs.lemmas.Str.{IsUtf8-nil, IsUtf8-from_ascii, IsUtf8-append}
 use Rattle.std.proofs.lemmas.Str.Ascii.{IsAscii-from_all}
-use Rattle.lexical_num.specs.Format.{Format, IsValid, standard}
+use Rattle.lexical_num.specs.Format.{Format, IsGrouping, standard}
 use Rattle.lexical_num.specs.Sign.{sign_of}
 use Rattle.lexical_write_integer.specs.Padded.{IsPadded}
 use Rattle.lexical_write_integer.specs.Sequence.{IsExactly, Then, AreJoined}
 use Rattle.lexical_write_integer.specs.Text.{IsDigits, IsText}
 use Rattle.lexical_write_integer.proofs.OfTexts.Ascii.{IsAscii-IsText, IsAscii-digit_chars}
 use Rattle.lexical_parts.specs.Column.{IsAtLeft, IsAtRight, IsCentered}
-use Rattle.lexical_parts.specs.Fixed.{IsFixed, IsFraction, IsGroupedFixed, IsUnits}
-use Rattle.lexical_parts.specs.Scientific.{IsScientific, IsScientificUnsigned}
+use Rattle.lexical_parts.specs.Fixed.{IsFraction}
+use Rattle.lexical_parts.specs.Scientific.{IsScientificUnsigned}
 use Rattle.lexical_parts.specs.Utf8.{AreUtf8}
 
 -- a byte below 128
 pub one_is_utf8 : (byte : ℕ) → byte < 128 → AreUtf8 (IsExactly (byte ∷ []))
-one_is_utf8 byte small text is =
+one_is_utf8 byte small =
     let all = All-cons (λ b. b < 128) byte [] small (All-nil (λ b. b < 128)) in
-    rw is (IsUtf8-from_ascii (byte ∷ []) (IsAscii-from_all (byte ∷ []) all))
+    record { each = λ text is. rw is (IsUtf8-from_ascii (byte ∷ []) (IsAscii-from_all (byte ∷ []) all)) }
 
 pub digits_are_utf8 : (r number : ℕ) → r ≤ 36 → AreUtf8 (IsDigits r number)
-digits_are_utf8 r number few text is =
-    rw is.characters (IsUtf8-from_ascii _ (IsAscii-digit_chars r is.digits few is.numeral.numeral.below_radix))
+digits_are_utf8 r number few = record {
+  each = λ text is. rw is.characters (IsUtf8-from_ascii _ (IsAscii-digit_chars r is.digits few is.numeral.numeral.below_radix));
+}
 
 pub padded_is_utf8 : (r width number : ℕ) → r ≤ 36 → AreUtf8 (IsPadded r width number)
-padded_is_utf8 r width number few text is =
-    rw is.characters (IsUtf8-from_ascii _ (IsAscii-digit_chars r is.digits few is.block.below_radix))
+padded_is_utf8 r width number few = record {
+  each = λ text is. rw is.characters (IsUtf8-from_ascii _ (IsAscii-digit_chars r is.digits few is.block.below_radix));
+}
 
-pub text_is_utf8 : (number : ℤ) (format : Format) → IsValid format → AreUtf8 (IsText number format)
-text_is_utf8 number format valid text is = IsUtf8-from_ascii text (IsAscii-IsText number format text valid.mantissa.at_most_36 valid.groups is)
+pub text_is_utf8 : (number : ℤ) (format : Format) → format.mantissa_radix ≤ 36 → ForSome format.digit_grouping IsGrouping → AreUtf8 (IsText number format)
+text_is_utf8 number format few groups = record { each = λ text is. IsUtf8-from_ascii text (IsAscii-IsText number format text few groups is) }
+
+-- without groups, whether or not a sign is required
+pub decimal_is_utf8 : (number : ℤ) (required : Bool) → AreUtf8 (IsText number (record standard { required_mantissa_sign = required }))
+decimal_is_utf8 number required = text_is_utf8 number _ (omega arith) (λ grouping none. search rules)
 
 pub then_is_utf8 : {First Second : List ℕ → Type 0} → AreUtf8 First → AreUtf8 Second → AreUtf8 (Then First Second)
-then_is_utf8 first second text is = rw is.whole (IsUtf8-append is.first is.second (first is.first is.is_first) (second is.second is.is_second))
+then_is_utf8 first second = record {
+  each = λ text is. rw is.whole (IsUtf8-append is.first is.second (first.each is.first is.is_first) (second.each is.second is.is_second));
+}
 
 pub joined_is_utf8 : {A : Type 0} (IsOf : A → List ℕ → Type 0) (separator : List ℕ) (xs : List A) →
-    All (λ x. AreUtf8 (IsOf x)) xs → IsUtf8 separator → AreUtf8 (AreJoined IsOf separator xs)
-joined_is_utf8 IsOf separator [] each between text is = rw is IsUtf8-nil
-joined_is_utf8 IsOf separator (x ∷ []) each between text is = All-head (λ y. AreUtf8 (IsOf y)) x [] each text is
-joined_is_utf8 IsOf separator (x ∷ y ∷ xs) each between text is =
+    All (λ x. AreUtf8 (IsOf x)) xs → AreUtf8 (IsExactly separator) → AreUtf8 (AreJoined IsOf separator xs)
+joined_is_utf8 IsOf separator [] each between = record { each = λ text is. rw is IsUtf8-nil }
+joined_is_utf8 IsOf separator (x ∷ []) each between = All-head (λ y. AreUtf8 (IsOf y)) x [] each
+joined_is_utf8 IsOf separator (x ∷ y ∷ xs) each between =
     let first = All-head (λ y. AreUtf8 (IsOf y)) x (y ∷ xs) each in
     let rest = joined_is_utf8 IsOf separator (y ∷ xs) (All-tail (λ y. AreUtf8 (IsOf y)) x (y ∷ xs) each) between in
-    then_is_utf8 first (then_is_utf8 (λ mark same. rw same between) rest) text is
+    then_is_utf8 first (then_is_utf8 between rest)
 
 -- copies of a byte below 128
 pub fill_is_utf8 : (fill count : ℕ) → fill < 128 → IsUtf8 (replicate count fill)
@@ -51,49 +60,54 @@ fill_is_utf8 fill count small =
     IsUtf8-from_ascii (replicate count fill) (IsAscii-from_all (replicate count fill) (All-replicate (λ b. b < 128) count fill small))
 
 pub at_left_is_utf8 : {Is : List ℕ → Type 0} (width fill : ℕ) → fill < 128 → AreUtf8 Is → AreUtf8 (IsAtLeft width fill Is)
-at_left_is_utf8 width fill small cells text is =
-    rw is.whole (IsUtf8-append is.cell (replicate (width - length is.cell) fill) (cells is.cell is.is) (fill_is_utf8 fill (width - length is.cell) small))
+at_left_is_utf8 width fill small cells = record {
+  each = λ text is.
+      rw is.whole (IsUtf8-append is.cell (replicate (width - length is.cell) fill) (cells.each is.cell is.is) (fill_is_utf8 fill (width - length is.cell) small));
+}
 
 pub at_right_is_utf8 : {Is : List ℕ → Type 0} (width fill : ℕ) → fill < 128 → AreUtf8 Is → AreUtf8 (IsAtRight width fill Is)
-at_right_is_utf8 width fill small cells text is =
-    rw is.whole (IsUtf8-append (replicate (width - length is.cell) fill) is.cell (fill_is_utf8 fill (width - length is.cell) small) (cells is.cell is.is))
+at_right_is_utf8 width fill small cells = record {
+  each = λ text is.
+      rw is.whole (IsUtf8-append (replicate (width - length is.cell) fill) is.cell (fill_is_utf8 fill (width - length is.cell) small) (cells.each is.cell is.is));
+}
 
 pub centered_is_utf8 : {Is : List ℕ → Type 0} (width fill : ℕ) → fill < 128 → AreUtf8 Is → AreUtf8 (IsCentered width fill Is)
-centered_is_utf8 width fill small cells text is =
-    let added = width - length is.cell in
-    let before = IsUtf8-append (replicate (added / 2) fill) is.cell (fill_is_utf8 fill (added / 2) small) (cells is.cell is.is) in
-    let after = fill_is_utf8 fill (added - added / 2) small in
-    rw is.whole (IsUtf8-append (replicate (added / 2) fill ++ is.cell) (replicate (added - added / 2) fill) before after)
+centered_is_utf8 width fill small cells = record {
+  each = λ text is.
+      let added = width - length is.cell in
+      let before = IsUtf8-append (replicate (added / 2) fill) is.cell (fill_is_utf8 fill (added / 2) small) (cells.each is.cell is.is) in
+      let after = fill_is_utf8 fill (added - added / 2) small in
+      rw is.whole (IsUtf8-append (replicate (added / 2) fill ++ is.cell) (replicate (added - added / 2) fill) before after);
+}
 
 pub sign_is_utf8 : (number : ℤ) (required : Bool) → AreUtf8 (IsExactly (sign_of number required))
-sign_is_utf8 (pos n) false text is = rw is IsUtf8-nil
-sign_is_utf8 (pos n) true text is = one_is_utf8 43 (omega arith) text is
-sign_is_utf8 (negsuc n) required text is = one_is_utf8 45 (omega arith) text is
+sign_is_utf8 (pos n) false = record { each = λ text is. rw is IsUtf8-nil }
+sign_is_utf8 (pos n) true = one_is_utf8 43 (omega arith)
+sign_is_utf8 (negsuc n) required = one_is_utf8 45 (omega arith)
 
-fraction_is_utf8 : (decimals units : ℕ) → AreUtf8 (IsFraction decimals units)
-fraction_is_utf8 zero units text is = rw is IsUtf8-nil
-fraction_is_utf8 (suc decimals) units text is =
-    then_is_utf8 (one_is_utf8 46 (omega arith)) (padded_is_utf8 10 (suc decimals) units (omega arith)) text is
+pub fraction_is_utf8 : (decimals units : ℕ) → AreUtf8 (IsFraction decimals units)
+fraction_is_utf8 zero units = record { each = λ text is. rw is IsUtf8-nil }
+fraction_is_utf8 (suc decimals) units = then_is_utf8 (one_is_utf8 46 (omega arith)) (padded_is_utf8 10 (suc decimals) units (omega arith))
 
-units_are_utf8 : (decimals units : ℕ) → AreUtf8 (IsUnits decimals units)
-units_are_utf8 decimals units text is =
-    then_is_utf8 (digits_are_utf8 10 (units / 10 ^ decimals) (omega arith)) (fraction_is_utf8 decimals (units % 10 ^ decimals)) text is
+pub scientific_is_utf8 : (number : ℕ) (exponent : ℤ) → AreUtf8 (IsScientificUnsigned number exponent)
+scientific_is_utf8 number exponent = record {
+  each = λ text is.
+      let units = then_is_utf8 (digits_are_utf8 10 _ (omega arith)) (fraction_is_utf8 _ _) in
+      (then_is_utf8 units (then_is_utf8 (one_is_utf8 101 (omega arith)) (decimal_is_utf8 _ false))).each text is.is;
+}
 
-pub fixed_is_utf8 : (decimals : ℕ) (number : ℤ) → AreUtf8 (IsFixed decimals number)
-fixed_is_utf8 decimals number text is = then_is_utf8 (sign_is_utf8 number false) (units_are_utf8 decimals (unsigned_abs number)) text is
-
-pub grouped_fixed_is_utf8 : (format : Format) (decimals : ℕ) (number : ℤ) → IsValid standard → IsValid format
-    → AreUtf8 (IsGroupedFixed format.digit_grouping decimals number)
-grouped_fixed_is_utf8 format decimals number plain valid text is =
-    let groups : IsValid (record standard { digit_grouping = format.digit_grouping }) =
-    record { mantissa = plain.mantissa; exponent = plain.exponent; groups = valid.groups } in
-    then_is_utf8 (sign_is_utf8 number false)
-    (then_is_utf8 (text_is_utf8 _ (record standard { digit_grouping = format.digit_grouping }) groups) (fraction_is_utf8 decimals _)) text is
-
-unsigned_is_utf8 : (number : ℕ) (exponent : ℤ) → IsValid standard → AreUtf8 (IsScientificUnsigned number exponent)
-unsigned_is_utf8 number exponent valid text is =
-    then_is_utf8 (units_are_utf8 _ is.units) (then_is_utf8 (one_is_utf8 101 (omega arith)) (text_is_utf8 _ standard valid)) text is.is
-
-pub scientific_is_utf8 : (number exponent : ℤ) → IsValid standard → AreUtf8 (IsScientific number exponent)
-scientific_is_utf8 number exponent valid text is =
-    then_is_utf8 (sign_is_utf8 number false) (unsigned_is_utf8 (unsigned_abs number) exponent valid) text is
+-- what the check uses for the texts of parts
+pub ruleset kinds = (
+  one_is_utf8,
+  digits_are_utf8,
+  padded_is_utf8,
+  text_is_utf8,
+  decimal_is_utf8,
+  then_is_utf8,
+  at_left_is_utf8,
+  at_right_is_utf8,
+  centered_is_utf8,
+  sign_is_utf8,
+  fraction_is_utf8,
+  scientific_is_utf8,
+)

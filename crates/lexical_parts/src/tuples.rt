@@ -122,13 +122,13 @@ impl<A: Part, B: Part, C: Part, D: Part, E: Part, F: Part, G: Part, H: Part> Par
         + (F.room p.5 + (G.room p.6 + H.room p.7)))))) };
 
     fn room(self) -> usize {
-        let rest = (self.1, self.2, self.3, self.4, self.5, self.6, self.7);
-        (self.0, rest).room()
+        let (a, b, c, d, e, f, g, h) = self;
+        (a, (b, c, d, e, f, g, h)).room()
     }
 
     fn write_to(self, buffer: &mut [u8]) -> usize {
-        let rest = (self.1, self.2, self.3, self.4, self.5, self.6, self.7);
-        (self.0, rest).write_to(buffer)
+        let (a, b, c, d, e, f, g, h) = self;
+        (a, (b, c, d, e, f, g, h)).write_to(buffer)
     }
 }
 
@@ -146,17 +146,13 @@ impl<A: Part, B: Part, C: Part, D: Part, E: Part, F: Part, G: Part, H: Part, I: 
         + (F.room p.5 + (G.room p.6 + (H.room p.7 + I.room p.8))))))) };
 
     fn room(self) -> usize {
-        let rest = (
-            self.1, self.2, self.3, self.4, self.5, self.6, self.7, self.8,
-        );
-        (self.0, rest).room()
+        let (a, b, c, d, e, f, g, h, i) = self;
+        (a, (b, c, d, e, f, g, h, i)).room()
     }
 
     fn write_to(self, buffer: &mut [u8]) -> usize {
-        let rest = (
-            self.1, self.2, self.3, self.4, self.5, self.6, self.7, self.8,
-        );
-        (self.0, rest).write_to(buffer)
+        let (a, b, c, d, e, f, g, h, i) = self;
+        (a, (b, c, d, e, f, g, h, i)).write_to(buffer)
     }
 }
 
@@ -174,17 +170,13 @@ impl<A: Part, B: Part, C: Part, D: Part, E: Part, F: Part, G: Part, H: Part, I: 
         + (F.room p.5 + (G.room p.6 + (H.room p.7 + (I.room p.8 + J.room p.9)))))))) };
 
     fn room(self) -> usize {
-        let rest = (
-            self.1, self.2, self.3, self.4, self.5, self.6, self.7, self.8, self.9,
-        );
-        (self.0, rest).room()
+        let (a, b, c, d, e, f, g, h, i, j) = self;
+        (a, (b, c, d, e, f, g, h, i, j)).room()
     }
 
     fn write_to(self, buffer: &mut [u8]) -> usize {
-        let rest = (
-            self.1, self.2, self.3, self.4, self.5, self.6, self.7, self.8, self.9,
-        );
-        (self.0, rest).write_to(buffer)
+        let (a, b, c, d, e, f, g, h, i, j) = self;
+        (a, (b, c, d, e, f, g, h, i, j)).write_to(buffer)
     }
 }
 
@@ -214,17 +206,13 @@ impl<
         + K.room p.10))))))))) };
 
     fn room(self) -> usize {
-        let rest = (
-            self.1, self.2, self.3, self.4, self.5, self.6, self.7, self.8, self.9, self.10,
-        );
-        (self.0, rest).room()
+        let (a, b, c, d, e, f, g, h, i, j, k) = self;
+        (a, (b, c, d, e, f, g, h, i, j, k)).room()
     }
 
     fn write_to(self, buffer: &mut [u8]) -> usize {
-        let rest = (
-            self.1, self.2, self.3, self.4, self.5, self.6, self.7, self.8, self.9, self.10,
-        );
-        (self.0, rest).write_to(buffer)
+        let (a, b, c, d, e, f, g, h, i, j, k) = self;
+        (a, (b, c, d, e, f, g, h, i, j, k)).write_to(buffer)
     }
 }
 
@@ -255,18 +243,12 @@ impl<
         + L.room p.11)))))))))) };
 
     fn room(self) -> usize {
-        let rest = (
-            self.1, self.2, self.3, self.4, self.5, self.6, self.7, self.8, self.9, self.10,
-            self.11,
-        );
-        (self.0, rest).room()
+        let (a, b, c, d, e, f, g, h, i, j, k, l) = self;
+        (a, (b, c, d, e, f, g, h, i, j, k, l)).room()
     }
 
     fn write_to(self, buffer: &mut [u8]) -> usize {
-        let rest = (
-            self.1, self.2, self.3, self.4, self.5, self.6, self.7, self.8, self.9, self.10,
-            self.11,
-        );
-        (self.0, rest).write_to(buffer)
+        let (a, b, c, d, e, f, g, h, i, j, k, l) = self;
+        (a, (b, c, d, e, f, g, h, i, j, k, l)).write_to(buffer)
     }
 }

@@ -1,4 +1,5 @@
 //! Parts whose text is UTF-8, and their text as a `&str`.
+#![tactic(auto, using(crate::proofs::Utf8Texts::kinds, crate::proofs::Utf8Changes::changes))]
 
 ghost use Rattle.std.specs.Prelude.{◌↔◌, ◌<◌, ◌≤◌, All, IfSome, IsSome, length, ⊤};
 ghost use Rattle.lexical_parts.specs.Optional.{IsValidOptional};
@@ -23,7 +24,6 @@ use crate::zero_padded::ZeroPadded;
 use lexical_num::num::LexicalInteger;
 use lexical_write_integer::ToLexicalWithOptions;
 use lexical_write_integer::digit_count::DigitCount;
-use lexical_write_integer::format::STANDARD;
 use lexical_write_integer::radix::Radix;
 use std::str::from_utf8;
 
@@ -85,15 +85,11 @@ impl Utf8Part for Byte {
 }
 
 impl<T: ToLexicalWithOptions> Utf8Part for Decimal<T> {
-    fn text_is_utf8(self) {
-        STANDARD.in_range();
-    }
+    fn text_is_utf8(self) {}
 }
 
 impl<T: ToLexicalWithOptions> Utf8Part for Plus<T> {
-    fn text_is_utf8(self) {
-        STANDARD.in_range();
-    }
+    fn text_is_utf8(self) {}
 }
 
 impl<T: LexicalInteger> Utf8Part for Sign<T> {
@@ -138,15 +134,12 @@ impl<T: ToLexicalWithOptions> Utf8Part for Fixed<T> {
 
 impl<T: ToLexicalWithOptions> Utf8Part for GroupedFixed<'_, T> {
     fn text_is_utf8(self) {
-        STANDARD.in_range();
         self.2.in_range();
     }
 }
 
 impl<T: ToLexicalWithOptions> Utf8Part for Scientific<T> {
-    fn text_is_utf8(self) {
-        STANDARD.in_range();
-    }
+    fn text_is_utf8(self) {}
 }
 
 impl<P: Utf8Part> Utf8Part for Joined<'_, P> {

@@ -77,8 +77,8 @@ impl<
         × (E.is_utf8 p.4 × (F.is_utf8 p.5 × (G.is_utf8 p.6 × H.is_utf8 p.7)))))) };
 
     fn text_is_utf8(self) {
-        let rest = (self.1, self.2, self.3, self.4, self.5, self.6, self.7);
-        (self.0, rest).text_is_utf8();
+        let (a, b, c, d, e, f, g, h) = self;
+        (a, (b, c, d, e, f, g, h)).text_is_utf8();
     }
 }
 
@@ -98,10 +98,8 @@ impl<
         × I.is_utf8 p.8))))))) };
 
     fn text_is_utf8(self) {
-        let rest = (
-            self.1, self.2, self.3, self.4, self.5, self.6, self.7, self.8,
-        );
-        (self.0, rest).text_is_utf8();
+        let (a, b, c, d, e, f, g, h, i) = self;
+        (a, (b, c, d, e, f, g, h, i)).text_is_utf8();
     }
 }
 
@@ -122,10 +120,8 @@ impl<
         × J.is_utf8 p.9)))))))) };
 
     fn text_is_utf8(self) {
-        let rest = (
-            self.1, self.2, self.3, self.4, self.5, self.6, self.7, self.8, self.9,
-        );
-        (self.0, rest).text_is_utf8();
+        let (a, b, c, d, e, f, g, h, i, j) = self;
+        (a, (b, c, d, e, f, g, h, i, j)).text_is_utf8();
     }
 }
 
@@ -147,10 +143,8 @@ impl<
         × (J.is_utf8 p.9 × K.is_utf8 p.10))))))))) };
 
     fn text_is_utf8(self) {
-        let rest = (
-            self.1, self.2, self.3, self.4, self.5, self.6, self.7, self.8, self.9, self.10,
-        );
-        (self.0, rest).text_is_utf8();
+        let (a, b, c, d, e, f, g, h, i, j, k) = self;
+        (a, (b, c, d, e, f, g, h, i, j, k)).text_is_utf8();
     }
 }
 
@@ -173,10 +167,7 @@ impl<
         × (J.is_utf8 p.9 × (K.is_utf8 p.10 × L.is_utf8 p.11)))))))))) };
 
     fn text_is_utf8(self) {
-        let rest = (
-            self.1, self.2, self.3, self.4, self.5, self.6, self.7, self.8, self.9, self.10,
-            self.11,
-        );
-        (self.0, rest).text_is_utf8();
+        let (a, b, c, d, e, f, g, h, i, j, k, l) = self;
+        (a, (b, c, d, e, f, g, h, i, j, k, l)).text_is_utf8();
     }
 }

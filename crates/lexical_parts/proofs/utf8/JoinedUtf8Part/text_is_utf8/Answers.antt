@@ -1,4 +1,4 @@
-use Rattle.std.proofs.Common.{refl, arith}
+use Rattle.std.proofs.Common.{arith}
 use Rattle.std.proofs.lemmas.List.{take_all}
 use Rattle.std.proofs.lemmas.Grind.{common_steps}
 use Rattle.lexical_parts.proofs.Utf8Texts.{joined_is_utf8}
@@ -11,7 +11,7 @@ offset_bounds-part-items-part-index g c = omega arith
 pub returns : goal.returns
 returns g c =
     let each = rw (take_all c.loop-part.part-index c.args.self.0.now c.loop-part-test.false) at c.loop-part.invariant in
-    joined_is_utf8 g.P.Part.is_text _ _ each (c.text_is_utf8.ensures _ refl)
+    joined_is_utf8 g.P.Part.is_text _ _ each c.text_is_utf8.ensures
 
 -- the check finds this proof by itself, but close to its limits
 pub loop-part-preserved : goal.loop-part-preserved

@@ -1,5 +1,0 @@
-use Rattle.lexical_parts.proofs.Utf8Texts.{text_is_utf8}
-use Rattle.lexical_parts.proofs.utf8.DecimalUtf8Part.text_is_utf8.Goals as goal
-
-pub returns : goal.returns
-returns g c = text_is_utf8 _ _ c.in_range.ensures
