@@ -10,6 +10,8 @@ pub mod Utf8Texts
 pub mod Utf8Changes
 -- texts that are equal to bytes, for a caller whose contract is an equation of bytes
 pub mod Equations
+-- texts of one kind that are also of another kind
+pub mod Conversions
 -- how many digits a number of a type has
 pub mod Widths
 -- the room of a number in a format
@@ -20,9 +22,7 @@ pub mod Inserts
 pub mod Points
 -- zeros after a sign
 pub mod ZeroPaddings
--- numbers with a sign in each case
-pub mod Pluses
 -- digits without the zeros at their end, and an exponent
 pub mod Scientifics
--- whole parts in groups
+-- numbers of units, with whole parts in groups
 pub mod GroupedUnits

@@ -1,20 +1,20 @@
--- The digits of a number of units, into which a point is inserted.
-use Rattle.std.proofs.Common.{◌≡◌, ℕ, zero, suc, ◌+◌, ◌-◌, ◌*◌, ◌/◌, ◌%◌, ◌^◌, ◌<◌, ◌≤◌, List, [], ◌∷◌, ◌++◌, length, length-append, take, drop, replicate}
+-- The digits of a number of units, before the point and after it.
+use Rattle.std.proofs.Common.{◌≡◌, ℕ, zero, suc, ◌+◌, ◌-◌, ◌*◌, ◌/◌, ◌%◌, ◌^◌, ◌<◌, ◌≤◌, List, ◌++◌, length, take, drop, replicate}
 use Rattle.std.proofs.Common.{refl, sym, ap, ◌∙◌, inl, inr, arith}
 use Rattle.std.proofs.Math.Nat.{one-le-pow, pow-le-pow_right, div-lt_iff_lt-mul}
 use Rattle.std.proofs.lemmas.Bool.{cases_lt}
-use Rattle.std.proofs.lemmas.List.{drop-map, length-drop, length-replicate, length-take, length-take-le, take-append-drop, take-map}
+use Rattle.std.proofs.lemmas.List.{drop-map, length-drop, length-take-le, take-append-drop, take-map}
 use Rattle.std.proofs.lemmas.List.Elements.{All-drop, All-take}
 use Rattle.std.proofs.lemmas.Nat.{div-mul-add, mod-mul-add}
 use Rattle.lexical_num.specs.Digit.{digit_char}
-use Rattle.lexical_write_integer.specs.Buffer.{Front, Writes}
 use Rattle.lexical_write_integer.specs.DigitCount.{digit_count}
 use Rattle.lexical_write_integer.specs.Numeral.{IsBlockOf, value_of}
 use Rattle.lexical_write_integer.specs.Padded.{IsPadded}
+use Rattle.lexical_write_integer.specs.Sequence.{IsExactly}
 use Rattle.lexical_write_integer.specs.Text.{IsDigits}
-use Rattle.lexical_parts.specs.Fixed.{IsUnits}
-use Rattle.lexical_parts.proofs.Inserts.{Front-inserted, Front-over}
-use Rattle.lexical_write_integer.proofs.Buffers.Prefixes.{take-Writes}
+use Rattle.lexical_parts.specs.Fixed.{IsFraction}
+use Rattle.lexical_parts.specs.Sequence.{◌then◌, IsStr}
+use Rattle.lexical_parts.proofs.Conversions.{then_as}
 use Rattle.lexical_write_integer.proofs.OfDigits.Count.DigitCounts.{digit_count-fits, digit_count-left, digit_count-one}
 use Rattle.lexical_write_integer.proofs.OfDigits.DigitValues.{value_of-append, value_of-lt}
 use Rattle.lexical_write_integer.proofs.OfDigits.Numerals.{IsNumeralOf-block, length-IsDigits}
@@ -81,38 +81,10 @@ digits_around_point n decimals added count whole text is counted is_zeros is_who
       },
     )
 
--- ---- the point in the buffer
+-- ---- the point
 
--- the point and the digits after it are a fraction, if there are such digits
-pub IsUnits-point : (decimals units : ℕ) (front back : List ℕ) → 1 ≤ decimals → IsDigits 10 (units / 10 ^ decimals) front
-    → IsPadded 10 decimals (units % 10 ^ decimals) back → IsUnits decimals units (front ++ 46 ∷ back)
-IsUnits-point zero units front back some whole rest = absurd (omega arith)
-IsUnits-point (suc decimals) units front back some whole rest = record {
-  first = front;
-  second = 46 ∷ back;
-  is_first = whole;
-  is_second = record { first = 46 ∷ []; second = back; is_first = refl; is_second = rest; whole = refl };
-  whole = refl;
-}
-
--- zeros are inserted before the digits, and a point after the whole part
-pub written_point : {n decimals added count : ℕ} {before digits padded part : List ℕ} (whole room : ℕ) → 1 ≤ decimals
-    → Writes (IsDigits 10 n) before digits count → Front digits padded (replicate added 48 ++ take count digits)
-    → Front (take room (drop whole padded)) part (46 ∷ take decimals (take room (drop whole padded)))
-    → added ≡ (decimals + 1) - count → whole + decimals ≡ added + count
-    → Writes (IsUnits decimals n) before (take whole padded ++ (part ++ drop room (drop whole padded))) (whole + 1 + decimals)
-written_point {n} {decimals} {added} {count} {before} {digits} {padded} {part} whole room some a b c is_zeros is_whole =
-    let text : List ℕ = replicate added 48 ++ a.text in
-    let written : Front digits padded text = rw (take-Writes before digits count a) at b in
-    let long : length text ≡ added + count = omega (arith, length-append (replicate added 48) a.text, length-replicate {A = ℕ} added 48, a.count) in
-    let front : Front before padded text = Front-over a.front written (omega (arith, long, a.count)) in
-    let both = digits_around_point n decimals added count whole a.text a.is a.count is_zeros is_whole in
-    let room_for : decimals ≤ length (take room (drop whole padded)) = omega (arith, c.fits, length-take decimals (take room (drop whole padded))) in
-    let total : length (take whole text ++ 46 ∷ drop whole text) ≡ whole + 1 + decimals =
-    omega (arith, length-append (take whole text) (46 ∷ drop whole text), length-take-le whole text (omega arith), length-drop whole text, long) in
-    record {
-      text = take whole text ++ 46 ∷ drop whole text;
-      is = IsUnits-point decimals n (take whole text) (drop whole text) some both.0 both.1;
-      front = Front-inserted (46 ∷ []) whole room front (omega arith) c room_for;
-      count = sym total;
-    }
+-- a point and digits after it are a fraction, if there are such digits
+pub IsFraction-point : (decimals units : ℕ) (digits : List ℕ) → 1 ≤ decimals → IsPadded 10 decimals units digits
+    → (text : List ℕ) → (IsStr "." then IsExactly digits) text → IsFraction decimals units text
+IsFraction-point zero units digits some padded text is = absurd (omega arith)
+IsFraction-point (suc decimals) units digits some padded text is = then_as (λ point same. same) (λ rest same. rw same padded) text is

@@ -1,5 +1,5 @@
 -- Digits without the zeros at their end, with a point after the first, and the exponent of the first.
-use Rattle.std.proofs.Common.{◌≡◌, ◌≢◌, ℕ, suc, ◌+◌, ◌-◌, ◌*◌, ◌/◌, ◌%◌, ◌^◌, ◌<◌, ◌≤◌, List, [], ◌∷◌, ◌++◌, length, take, drop, drop-cons, get_or, replicate}
+use Rattle.std.proofs.Common.{◌≡◌, ◌≢◌, ℕ, suc, ◌+◌, ◌-◌, ◌*◌, ◌/◌, ◌%◌, ◌^◌, ◌<◌, ◌≤◌, List, [], ◌∷◌, length, take, drop, drop-cons, get_or, replicate}
 use Rattle.std.proofs.Common.{refl, sym, ap, ◌∙◌, inl, inr, arith, ℤ, pos}
 use Rattle.std.specs.Prelude.{◌+ℤ◌}
 use Rattle.std.proofs.Math.Nat.{div-add-mod'}
@@ -19,7 +19,8 @@ use Rattle.lexical_write_integer.proofs.OfTexts.Orders.{equal_from_IsPadded}
 use Rattle.lexical_parts.specs.Fixed.{IsUnits}
 use Rattle.lexical_parts.specs.Scientific.{IsScientificUnsigned, exponent_of_first}
 use Rattle.lexical_parts.specs.Sequence.{◌then◌, IsStr, IsDecimal}
-use Rattle.lexical_parts.proofs.Points.{IsUnits-point, digits_around_point}
+use Rattle.lexical_parts.proofs.Conversions.{then_as, written_as}
+use Rattle.lexical_parts.proofs.Points.{IsFraction-point, digits_around_point}
 
 -- ---- zeros at the end
 
@@ -83,19 +84,14 @@ zeros_left_out number count text is some within ends last =
 
 -- ---- the point
 
-pub with_point : (units : ℕ) (text : List ℕ) → IsDigits 10 units text → 2 ≤ length text
-    → IsUnits (length text - 1) units (take 1 text ++ 46 ∷ drop 1 text)
-with_point units text is more =
-    let both = digits_around_point units (length text - 1) 0 (length text) 1 text is refl (omega arith) (omega arith) in
-    IsUnits-point (length text - 1) units _ _ (omega arith) both.0 both.1
-
 -- a tuple of the first digit, a point and the others
-pub pointed : (units : ℕ) (text whole : List ℕ) → IsDigits 10 units text → 2 ≤ length text
-    → (IsExactly (take 1 text) then IsExactly (46 ∷ []) then IsExactly (take (length text - 1) (drop 1 text))) whole → IsUnits (length text - 1) units whole
-pointed units text whole is more parts =
-    let rest : parts.is_second.second ≡ drop 1 text =
-    parts.is_second.is_second ∙ take_all (length text - 1) (drop 1 text) (omega (arith, length-drop 1 text)) in
-    rw (parts.whole, parts.is_first, parts.is_second.whole, parts.is_second.is_first, rest) (with_point units text is more)
+pub pointed : (units : ℕ) (digits : List ℕ) → IsDigits 10 units digits → 2 ≤ length digits → (text : List ℕ)
+    → (IsExactly (take 1 digits) then IsStr "." then IsExactly (take (length digits - 1) (drop 1 digits))) text
+    → IsUnits (length digits - 1) units text
+pointed units digits is more =
+    let both = digits_around_point units (length digits - 1) 0 (length digits) 1 digits is refl (omega arith) (omega arith) in
+    let all : take (length digits - 1) (drop 1 digits) ≡ drop 1 digits = take_all _ _ (omega (arith, length-drop 1 digits)) in
+    then_as (λ first same. rw same both.0) (IsFraction-point _ _ _ (omega arith) (rw all both.1))
 
 -- ---- the exponent
 
@@ -112,10 +108,6 @@ exponent_of_digits number exponent text is other =
     ]
 
 -- ---- the whole text
-
-pub written_as : {A B : List ℕ → Type 0} {before after : List ℕ} {count : ℕ} → ((text : List ℕ) → A text → B text)
-    → Writes A before after count → Writes B before after count
-written_as change w = record { text = w.text; is = change w.text w.is; front = w.front; count = w.count }
 
 pub written_scientific : {number : ℕ} {exponent first : ℤ} {kept total : ℕ} {digits before after : List ℕ}
     → IsDigits 10 number digits → 1 ≤ kept → kept ≤ length digits

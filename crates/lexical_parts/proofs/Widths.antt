@@ -1,11 +1,15 @@
 -- How many digits a number of a type has.
-use Rattle.std.proofs.Common.{ℕ, ◌-◌, ◌/◌, ◌^◌, ◌<◌, ◌≤◌, inl, inr, arith, ℤ, unsigned_abs}
+use Rattle.std.proofs.Common.{ℕ, ◌-◌, ◌/◌, ◌^◌, ◌<◌, ◌≤◌, inl, inr, arith, ℤ, ◌≤ℤ◌, unsigned_abs}
 use Rattle.std.proofs.Math.Nat.{pow-le-pow_right}
 use Rattle.std.proofs.lemmas.Bool.{cases_lt}
 use Rattle.lexical_num.specs.BitWidth.{IsBitWidth, is_8, is_16, is_32, is_64}
 use Rattle.lexical_num.specs.DecimalWidth.{IsDecimalWidth}
 use Rattle.lexical_num.specs.Range.{IsRange, unsigned, signed}
 use Rattle.lexical_write_integer.specs.DigitCount.{digit_count, digit_count-le}
+
+pub few_digits : {width : ℕ} {least greatest x : ℤ} → IsDecimalWidth least greatest width → least ≤ℤ x → x ≤ℤ greatest
+    → digit_count 10 (unsigned_abs x) ≤ width
+few_digits decimal low high = digit_count-le 10 _ _ decimal.some (decimal.enough _ low high)
 
 pub hex_digits : (bits n : ℕ) → IsBitWidth bits → n < 2 ^ bits → digit_count 16 n ≤ bits / 4
 hex_digits _ n is_8 fits = digit_count-le 16 n 2 (omega arith) fits

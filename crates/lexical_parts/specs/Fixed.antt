@@ -1,5 +1,5 @@
 -- Numbers of units of a power of ten, with a decimal point.
-use Rattle.std.specs.Prelude.{ℕ, zero, suc, ◌+◌, ◌-◌, ◌/◌, ◌%◌, ◌^◌, max, min, ℤ, pos, unsigned_abs, false, List, []}
+use Rattle.std.specs.Prelude.{ℕ, zero, suc, ◌+◌, ◌-◌, ◌/◌, ◌%◌, ◌^◌, ◌<◌, ◌≤◌, max, min, length, take, drop, ℤ, pos, unsigned_abs, false, List, []}
 use Rattle.std.specs.Prelude.{Option}
 use Rattle.lexical_num.specs.Format.{grouped_length, standard}
 use Rattle.lexical_num.specs.Sign.{sign_of}
@@ -23,13 +23,10 @@ abbrev pub IsFixed : ℕ → ℤ → List ℕ → Type 0
 IsFixed decimals number =
     IsExactly (sign_of number false) then IsUnits decimals (unsigned_abs number)
 
--- the bytes for the digits and the point, for a type whose numbers have at most `width` digits
-abbrev pub units_room : ℕ → ℕ → ℕ
-units_room width decimals = max width (decimals + 1) + min decimals 1
-
--- the bytes for the sign too, for a type whose numbers need at most `size` bytes in decimal
+-- the bytes for the sign, the digits and the point, for a type whose numbers need at most `size` bytes in decimal, with at
+-- most `width` digits
 abbrev pub fixed_room : ℕ → ℕ → ℕ → ℕ
-fixed_room width size decimals = (size - width) + units_room width decimals
+fixed_room width size decimals = (size - width) + (max width (decimals + 1) + min decimals 1)
 
 -- the same without its sign, with the whole part in groups
 abbrev pub IsGroupedUnits : Option (ℕ × ℕ) → ℕ → ℕ → List ℕ → Type 0
@@ -46,3 +43,11 @@ IsGroupedFixed grouping decimals number =
 abbrev pub grouped_units_room : Option (ℕ × ℕ) → ℕ → ℕ → ℕ
 grouped_units_room grouping width decimals =
     grouped_length grouping (max width (decimals + 1) - decimals) + (decimals + min decimals 1)
+
+-- the digits of a number of units, for a type whose numbers have at most `width` digits: zeros before them make at least
+-- one digit for the whole part
+pub record AreUnits (decimals units width : ℕ) (digits : List ℕ) : Type 0 where
+  pub more : decimals < length digits
+  pub few : length digits ≤ max width (decimals + 1)
+  pub whole : IsDigits 10 (units / 10 ^ decimals) (take (length digits - decimals) digits)
+  pub rest : IsPadded 10 decimals (units % 10 ^ decimals) (drop (length digits - decimals) digits)

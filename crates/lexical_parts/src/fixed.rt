@@ -1,40 +1,40 @@
 //! Numbers with a fixed number of decimals.
 
-ghost use Rattle.std.specs.Prelude.{◌≡◌, ◌+◌, ◌-◌, ◌≤◌, false, length, unsigned_abs};
-ghost use Rattle.lexical_num.specs.Sign.{sign_of};
+ghost use Rattle.std.specs.Prelude.{◌≡◌, ◌+◌, ◌-◌, ◌≤◌, length, take, drop, replicate, unsigned_abs};
 ghost use Rattle.lexical_write_integer.specs.Buffer.{Writes};
-ghost use Rattle.lexical_parts.specs.Fixed.{IsFixed, IsUnits, fixed_room, units_room};
-ghost use Rattle.lexical_parts.specs.Fixed.{IsGroupedFixed, IsGroupedUnits, grouped_units_room};
+ghost use Rattle.lexical_parts.specs.Fixed.{AreUnits, IsFixed, IsGroupedFixed, IsGroupedUnits};
+ghost use Rattle.lexical_parts.specs.Fixed.{fixed_room, grouped_units_room};
 
-use crate::fill::insert_fill;
 use crate::part::Part;
 use crate::sign::Sign;
+use crate::text::Bytes;
 use lexical_write_integer::buffer::copy_to_front;
 use lexical_write_integer::format::STANDARD;
 use lexical_write_integer::laws::size_suffices;
 use lexical_write_integer::{NumberFormat, ToLexicalWithOptions, group_digits};
 
-// Writes the absolute value of a number of units of 10^-`decimals` to the start of the buffer, and returns the
-// number of bytes written. If the number has too few digits, zeros are inserted before them.
-fn write_units<T: ToLexicalWithOptions>(number: T, decimals: usize, buffer: &mut [u8]) -> usize
+// Writes the digits of a number to an array of zeros, after the first 20 of them. Returns where the digits of as many units
+// begin and end: a short number takes zeros from those before its digits, so that no digit is moved for them.
+fn write_units<T: ToLexicalWithOptions>(
+    number: T,
+    decimals: usize,
+    array: &mut [u8],
+) -> (usize, usize)
     requires decimals { decimals ≤ 19 }
-    requires room { units_room T.DECIMAL_WIDTH decimals ≤ length buffer.old }
-    ensures text { Writes (IsUnits decimals (unsigned_abs (T.number number))) buffer.old buffer.new result }
-    ensures short { result ≤ units_room T.DECIMAL_WIDTH decimals }
+    requires zeros { array.old ≡ replicate 40 48 }
+    ensures order { result.0 ≤ result.1 }
+    ensures within { result.1 ≤ length array.new }
+    ensures units { AreUnits decimals (unsigned_abs (T.number number)) T.DECIMAL_WIDTH
+        (take (result.1 - result.0) (drop result.0 array.new)) }
 {
     number.in_range();
-    let count = number.write_magnitude(&STANDARD, buffer);
-    if decimals == 0 {
-        return count;
-    }
+    let count = number.write_magnitude(&STANDARD, &mut array[20..]);
     let zeros = (decimals + 1).saturating_sub(count);
-    insert_fill(b'0', zeros, count, buffer);
-    let whole = zeros + count - decimals;
-    insert_fill(b'.', 1, decimals, &mut buffer[whole..]);
-    whole + 1 + decimals
+    (20 - zeros, 20 + count)
 }
 
-// Writes what `write_units` writes, with the whole part in the groups of the format.
+// Writes the absolute value of a number of units of 10^-`decimals` to the start of the buffer, with its whole part in the
+// groups of the format, and returns the number of bytes written.
 fn write_grouped_units<T: ToLexicalWithOptions>(
     number: T,
     decimals: usize,
@@ -47,21 +47,18 @@ fn write_grouped_units<T: ToLexicalWithOptions>(
         buffer.old buffer.new result }
     ensures short { result ≤ grouped_units_room format.now.digit_grouping T.DECIMAL_WIDTH decimals }
 {
-    number.in_range();
     if decimals == 0 {
+        number.in_range();
         let count = number.write_magnitude(&STANDARD, buffer);
         return group_digits(count, format, buffer);
     }
-    // A short number takes zeros from those before its digits, so that no digit is moved for them.
-    let mut digits = [b'0'; 40];
-    let count = number.write_magnitude(&STANDARD, &mut digits[20..]);
-    let zeros = (decimals + 1).saturating_sub(count);
-    let units = &digits[20 - zeros..20 + count];
+    let mut array = [b'0'; 40];
+    let (start, end) = write_units(number, decimals, &mut array);
+    let units = &array[start..end];
     let whole = units.len() - decimals;
     copy_to_front(&units[..whole], buffer);
-    let end = group_digits(whole, format, buffer);
-    buffer[end] = b'.';
-    end + 1 + copy_to_front(&units[whole..], &mut buffer[end + 1..])
+    let point = group_digits(whole, format, buffer);
+    point + (".", Bytes(&units[whole..])).write_to(&mut buffer[point..])
 }
 
 /// A number of units of 10^-`decimals`, such as an amount in cents: `Fixed(-5i64, 2)` writes `-0.05`,
@@ -78,15 +75,11 @@ impl<T: ToLexicalWithOptions> Part for Fixed<T> {
     ghost room = { λ part. fixed_room T.DECIMAL_WIDTH T.FORMATTED_SIZE_DECIMAL part.1 };
 
     fn room(self) -> usize {
-        size_suffices(self.0, &STANDARD);
-        let digits = T::DECIMAL_WIDTH.max(self.1 + 1);
-        (T::FORMATTED_SIZE_DECIMAL - T::DECIMAL_WIDTH) + digits + self.1.min(1)
+        GroupedFixed(self.0, self.1, &STANDARD).room()
     }
 
     fn write_to(self, buffer: &mut [u8]) -> usize {
-        size_suffices(self.0, &STANDARD);
-        let start = Sign(self.0, false).write_to(buffer);
-        start + write_units(self.0, self.1, &mut buffer[start..])
+        GroupedFixed(self.0, self.1, &STANDARD).write_to(buffer)
     }
 }
 

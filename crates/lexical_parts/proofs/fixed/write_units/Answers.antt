@@ -1,44 +1,17 @@
-use Rattle.std.proofs.Common.{ℕ, arith}
+use Rattle.std.proofs.Common.{ℕ, ap, length, arith}
 use Rattle.std.proofs.lemmas.List.{length-drop, length-take}
-use Rattle.std.proofs.lemmas.Grind.{common_steps}
-use Rattle.lexical_write_integer.specs.DigitCount.{digit_count-le}
-use Rattle.lexical_parts.proofs.Points.{written_point}
+use Rattle.lexical_parts.proofs.GroupedUnits.{units_after_zeros}
+use Rattle.lexical_parts.proofs.Widths.{decimal_width-le_20, few_digits}
 use Rattle.lexical_parts.proofs.fixed.write_units.Goals as goal
 
-pub returns-then-decimals-eq0-clause-short : goal.returns-then-decimals-eq0-clause-short
-returns-then-decimals-eq0-clause-short g c =
-    let width = g.met.T.LexicalInteger.decimal_width in
-    let few = digit_count-le 10 _ _ width.some (width.enough _ c.in_range.ensures.at_least c.in_range.ensures.at_most) in
-    omega (arith, few, c.write_magnitude-count.ensures.digits.count)
+pub write_magnitude-count-requires : goal.write_magnitude-count-requires
+write_magnitude-count-requires g c =
+    let width = decimal_width-le_20 _ _ _ _ g.met.T.LexicalInteger.range_of_bits g.met.T.LexicalInteger.decimal_width in
+    omega (arith, width, ap length c.requires.zeros, length-take {A = ℕ}, length-drop {A = ℕ})
 
-pub insert_fill-requires-2 : goal.insert_fill-requires-2
-insert_fill-requires-2 g c =
-    let width = g.met.T.LexicalInteger.decimal_width in
-    let few = digit_count-le 10 _ _ width.some (width.enough _ c.in_range.ensures.at_least c.in_range.ensures.at_most) in
-    omega (
-      arith,
-      few,
-      c.write_magnitude-count.ensures.digits.count,
-      c.saturating_sub-zeros.ensures,
-      c.if-decimals-eq0.false,
-      c.insert_fill.auto.buffer,
-      c.write_magnitude-count.auto.buffer,
-      c.requires.room,
-      length-take {A = ℕ},
-      length-drop {A = ℕ},
-    )
-
-pub returns-clause-short : goal.returns-clause-short
-returns-clause-short g c =
-    let width = g.met.T.LexicalInteger.decimal_width in
-    let few = digit_count-le 10 _ _ width.some (width.enough _ c.in_range.ensures.at_least c.in_range.ensures.at_most) in
-    omega (arith, few, c.write_magnitude-count.ensures.digits.count, c.saturating_sub-zeros.ensures, c.if-decimals-eq0.false)
-
-pub returns-clause-text : goal.returns-clause-text
-returns-clause-text g c =
-    written_point _ _ (omega (arith, c.if-decimals-eq0.false)) c.write_magnitude-count.ensures.digits.writes c.insert_fill.ensures c.insert_fill-2.ensures
-    c.saturating_sub-zeros.ensures (omega (arith, c.saturating_sub-zeros.ensures))
-
--- the check finds this proof by itself, but close to its limits
-pub returns-then-decimals-eq0-clause-text : goal.returns-then-decimals-eq0-clause-text
-returns-then-decimals-eq0-clause-text g c = grind (arith, common_steps)
+pub returns-clause-units : goal.returns-clause-units
+returns-clause-units g c =
+    let few = few_digits g.met.T.LexicalInteger.decimal_width c.in_range.ensures.at_least c.in_range.ensures.at_most in
+    let digits = c.write_magnitude-count.ensures.digits in
+    let zeros = c.saturating_sub-zeros.ensures in
+    units_after_zeros c.requires.zeros (omega (arith, zeros, c.requires.decimals)) (omega (arith, few, digits.count)) digits.writes zeros

@@ -1,11 +1,10 @@
 use Rattle.std.proofs.Common.{ℕ, ◌≤◌, arith, rules, w32, w64}
 use Rattle.std.proofs.lemmas.Int.{to_z-of_z}
 use Rattle.std.proofs.lemmas.List.{length-drop, length-take}
-use Rattle.lexical_write_integer.specs.DigitCount.{digit_count-le}
 use Rattle.lexical_write_integer.proofs.Buffers.Prefixes.{Writes-is}
 use Rattle.lexical_write_integer.proofs.OfTexts.Sequences.{written_then}
 use Rattle.lexical_parts.proofs.Scientifics.{written_scientific}
-use Rattle.lexical_parts.proofs.Widths.{decimal_width-le_20}
+use Rattle.lexical_parts.proofs.Widths.{decimal_width-le_20, few_digits}
 use Rattle.lexical_parts.proofs.scientific.write_magnitude.Goals as goal
 use Rattle.lexical_parts.proofs.scientific.write_magnitude.Goals.{After-count_without_zeros-kept}
 
@@ -15,8 +14,7 @@ write_magnitude-count-requires g c = decimal_width-le_20 _ _ _ _ g.met.T.Lexical
 -- no more digits are left than a number of the type has
 kept_few : (g : _) (c : After-count_without_zeros-kept g) → c.count_without_zeros-kept.result ≤ g.T.LexicalInteger.DECIMAL_WIDTH
 kept_few g c =
-    let width = g.met.T.LexicalInteger.decimal_width in
-    let few = digit_count-le 10 _ _ width.some (width.enough _ c.in_range.ensures.at_least c.in_range.ensures.at_most) in
+    let few = few_digits g.met.T.LexicalInteger.decimal_width c.in_range.ensures.at_least c.in_range.ensures.at_most in
     omega (arith, few, c.write_magnitude-count.ensures.digits.count, c.count_without_zeros-kept.ensures.within, length-take {A = ℕ})
 
 pub write_with_point-end-requires-clause-room : goal.write_with_point-end-requires-clause-room

@@ -1,5 +1,6 @@
-use Rattle.lexical_write_integer.proofs.OfTexts.Sequences.{written_then}
+use Rattle.lexical_parts.proofs.Conversions.{IsDigits-from_text, then_as, written_as}
 use Rattle.lexical_parts.proofs.fixed.FixedPart.write_to.Goals as goal
 
 pub returns-clause-text : goal.returns-clause-text
-returns-clause-text g c = written_then _ _ _ _ _ _ _ _ c.write_to-start.ensures.text c.write_units.ensures.text
+returns-clause-text g c =
+    written_as (then_as (λ sign is. is) (then_as IsDigits-from_text (λ fraction is. is))) c.write_to.ensures.text
