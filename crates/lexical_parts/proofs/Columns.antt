@@ -44,5 +44,4 @@ pub written_center : {Is : List ℕ → Type 0} {width fill added : ℕ} {before
 written_center {width = width} {fill} {added} {before} {moved = moved} {part} {count} {more} room a is_added b c =
     let low = written_before {IsWhole = IsExactly (replicate (added / 2) fill ++ a.text)} fill (added / 2) a b refl in
     let whole = ap (λ n. (replicate (n / 2) fill ++ a.text) ++ replicate (n - n / 2) fill) (is_added ∙ ap (λ n. width - n) a.count) in
-    Writes-after low.text before moved part (added / 2 + count) room more low.count low.front
-    (λ high is. record { cell = a.text; is = a.is; whole = rw low.is (ap (λ k. (replicate (added / 2) fill ++ a.text) ++ k) is ∙ whole) }) c
+    grind (arith, Writes-after)

@@ -1,5 +1,5 @@
 -- The room of a number in a format is enough for each number of the type.
-use Rattle.std.proofs.Common.{◌≡◌, ℕ, zero, suc, ◌+◌, ◌-◌, ◌/◌, ◌^◌, ◌<◌, ◌≤◌, ◌==◌, max, length, refl, inl, inr, arith, ℤ, pos, negsuc, ◌≤ℤ◌, unsigned_abs}
+use Rattle.std.proofs.Common.{◌≡◌, ℕ, zero, suc, ◌+◌, ◌-◌, ◌/◌, ◌^◌, ◌<◌, ◌≤◌, max, length, refl, inl, inr, arith, ℤ, pos, negsuc, ◌≤ℤ◌, unsigned_abs}
 use Rattle.std.specs.Prelude.{Bool, true, false}
 use mir.Val.{bool_byte}
 use Rattle.std.proofs.Math.Nat.{pow-le-pow_right}
@@ -12,7 +12,7 @@ use Rattle.lexical_num.specs.Range.{IsRange, unsigned, signed}
 use Rattle.lexical_num.specs.Sign.{sign_of}
 use Rattle.lexical_write_integer.specs.Computed.{digits_text}
 use Rattle.lexical_write_integer.specs.DigitCount.{digit_count}
-use Rattle.lexical_write_integer.specs.SizeBound.{grouped_length-le, grouped_length-more}
+use Rattle.lexical_write_integer.specs.SizeBound.{grouped_length-more}
 use Rattle.lexical_write_integer.specs.Text.{digits_need, need}
 use Rattle.lexical_write_integer.proofs.OfDigits.Count.DigitCounts.{digit_count-fits, digit_count-le_64, digit_count-monotone}
 use Rattle.lexical_write_integer.proofs.OfDigits.Numerals.{length-IsDigits}
@@ -83,10 +83,7 @@ width-le width n some full =
 
 digits_need-le : (r n width largest : ℕ) → 2 ≤ r → n ≤ largest → 1 ≤ width → 10 ^ (width - 1) ≤ largest
     → digits_need r n width ≤ digit_count r largest
-digits_need-le r n width largest two less some full =
-    cond_both (r == 10) width (digit_count r n) (λ k. k ≤ digit_count r largest)
-    (λ e. rw (eqb-true r 10 e) (width-le width largest some full))
-    (λ _. digit_count-monotone r n largest two less)
+digits_need-le r n width largest two less some full = grind (arith, cond_both, eqb-true, width-le, digit_count-monotone)
 
 -- ---- the room
 
@@ -104,9 +101,4 @@ need-le_room {bits} {width} {least} {greatest} x format range decimal two low hi
 
 pub room-le : {bits : ℕ} {least greatest : ℤ} (format : Format) → IsRange bits least greatest → 2 ≤ format.mantissa_radix
     → formatted_room least greatest format ≤ 128
-room-le {bits} {least} {greatest} format range two =
-    let largest = max (unsigned_abs least) (unsigned_abs greatest) in
-    let counted = count_in-is format.mantissa_radix largest two (largest-small range) in
-    let few = digit_count-le_64 format.mantissa_radix largest 64 two is_64 (largest-small range) in
-    let length = grouped_length-le format.digit_grouping (count_in format.mantissa_radix largest) 64 (omega (arith, counted, few)) (omega arith) in
-    omega (arith, length, sign-le_one least format.required_mantissa_sign)
+room-le {bits} {least} {greatest} format range two = grind (arith, count_in-is, largest-small, digit_count-le_64, sign-le_one)

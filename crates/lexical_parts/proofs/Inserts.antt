@@ -33,9 +33,6 @@ Front-inserted {before} {between} {part} {text} {count} bytes at room front spli
     sym (take-append-le count lent (drop room (drop at between)) room_for) ∙ ap (take count) (take-append-drop room (drop at between) ∙ after)
     ∙ take_at back rest count back_long in
     let second : Front lent part (bytes ++ back) = rw back_is at inserted in
-    let kept : Front between between first = record {
-      fits = omega (arith, first_long, front.fits, ap length front.written, length-append text rest);
-      written = sym (take-append-drop at between) ∙ ap (λ xs. xs ++ drop at between) first_is ∙ ap (λ k. first ++ drop k between) (sym first_long);
-    } in
+    let kept : Front between between first = grind (arith, length-append, take-append-drop) in
     Front-over front (Front-after between between part first (bytes ++ back) at room (sym first_long) kept second)
     (omega (arith, length-append first (bytes ++ back), length-append bytes back, first_long, back_long))

@@ -1,7 +1,7 @@
 -- The digits of a number of units, before the point and after it.
 use Rattle.std.proofs.Common.{◌≡◌, ℕ, zero, suc, ◌+◌, ◌-◌, ◌*◌, ◌/◌, ◌%◌, ◌^◌, ◌<◌, ◌≤◌, List, ◌++◌, length, take, drop, replicate}
 use Rattle.std.proofs.Common.{refl, sym, ap, ◌∙◌, inl, inr, arith}
-use Rattle.std.proofs.Math.Nat.{one-le-pow, pow-le-pow_right, div-lt_iff_lt-mul}
+use Rattle.std.proofs.Math.Nat.{pow-le-pow_right, div-lt_iff_lt-mul}
 use Rattle.std.proofs.lemmas.Bool.{cases_lt}
 use Rattle.std.proofs.lemmas.List.{drop-map, length-drop, length-take-le, take-append-drop, take-map}
 use Rattle.std.proofs.lemmas.List.Elements.{All-drop, All-take}
@@ -51,7 +51,6 @@ whole_count n decimals added count whole counted is_zeros is_whole =
     elim (cases_lt decimals count) [
       | inl more ↦ omega (arith, digit_count-left 10 n decimals (n / 10 ^ decimals) (omega arith) (omega arith) refl)
       | inr few ↦
-          let some = one-le-pow decimals 10 (omega arith) in
           let power = pow-le-pow_right {n = 10} (omega arith) {i = count} {j = decimals} (omega arith) in
           let below : n < 10 ^ count = rw counted (digit_count-fits 10 n (omega arith)) in
           let small : n / 10 ^ decimals < 10 = (div-lt_iff_lt-mul {k = 10 ^ decimals} {x = n} {y = 10} (omega arith)).1 (omega (arith, below, power)) in

@@ -25,19 +25,12 @@ leads_at separator (suc index) = record { at_first = λ none. absurd (omega arit
 pub joined_room-more : {A : Type 0} (room : A → ℕ) (separator lead : List ℕ) (xs : List A) {i : ℕ} {x : A} → i < length xs → x ≡ get_or xs i x
     → Leads separator i lead
     → joined_room room (length separator) (take (i + 1) xs) ≡ joined_room room (length separator) (take i xs) + (length lead + room x)
-joined_room-more room separator lead xs {i} {x} inside is leads =
-    let before : length (take i xs) ≡ i = length-take-le i xs (omega arith) in
-    let after : length (take (i + 1) xs) ≡ i + 1 = length-take-le (i + 1) xs (omega arith) in
-    let sum = sum_by_more room xs i x inside in
-    rw (before, after) (omega (arith, sum, ap room is, separators_more separator lead i leads))
+joined_room-more room separator lead xs {i} {x} inside is leads = grind (arith, length-take-le, sum_by_more, separators_more)
 
 -- the first elements need at most the room of all
 pub joined_room-take-le : {A : Type 0} (room : A → ℕ) (separator : ℕ) (xs : List A) (i : ℕ) → i ≤ length xs
     → joined_room room separator (take i xs) ≤ joined_room room separator xs
-joined_room-take-le room separator xs i inside =
-    let long : length (take i xs) ≡ i = length-take-le i xs inside in
-    let fewer : i - 1 ≤ length xs - 1 = omega arith in
-    rw long (omega (arith, sum_by-take-le room xs i, mul-le-mul_right separator fewer))
+joined_room-take-le room separator xs i inside = grind (arith, length-take-le, sum_by-take-le, mul-le-mul_right)
 
 -- elements that each need two bytes
 pub two_each : {A : Type 0} (xs : List A) → sum_by {X = A} (λ _. 2) xs ≡ 2 * length xs

@@ -1,5 +1,5 @@
 -- Digits without the zeros at their end, with a point after the first, and the exponent of the first.
-use Rattle.std.proofs.Common.{◌≡◌, ◌≢◌, ℕ, suc, ◌+◌, ◌-◌, ◌*◌, ◌/◌, ◌%◌, ◌^◌, ◌<◌, ◌≤◌, List, [], ◌∷◌, length, take, drop, drop-cons, get_or, replicate}
+use Rattle.std.proofs.Common.{◌≡◌, ◌≢◌, ℕ, ◌+◌, ◌-◌, ◌*◌, ◌/◌, ◌%◌, ◌^◌, ◌<◌, ◌≤◌, List, [], ◌∷◌, length, take, drop, drop-cons, get_or, replicate}
 use Rattle.std.proofs.Common.{refl, sym, ap, ◌∙◌, inl, inr, arith, ℤ, pos}
 use Rattle.std.specs.Prelude.{◌+ℤ◌}
 use Rattle.std.proofs.Math.Nat.{div-add-mod'}
@@ -27,11 +27,7 @@ use Rattle.lexical_parts.proofs.Points.{IsFraction-point, digits_around_point}
 -- a further zero
 pub zeros_more : (digits : List ℕ) (count : ℕ) → 1 ≤ count → count ≤ length digits → get_or digits (count - 1) 0 ≡ 48
     → drop count digits ≡ replicate (length digits - count) 48 → drop (count - 1) digits ≡ replicate (length digits - (count - 1)) 48
-zeros_more digits count some within byte ends =
-    let inside : count - 1 < length digits = omega arith in
-    let next : suc (count - 1) ≡ count = omega arith in
-    let longer : length digits - (count - 1) ≡ suc (length digits - count) = omega arith in
-    rw (drop-cons digits (count - 1) 0, byte, next, ends, longer) refl
+zeros_more digits count some within byte ends = grind (arith, drop-cons)
 
 -- the digits that are left without `zeros` zeros at the end
 pub record AreLeft (number zeros : ℕ) (text : List ℕ) : Type 0 where
@@ -100,12 +96,7 @@ zero_digits = (digits_computed 10 0 (48 ∷ []) (omega arith) (omega arith)).1 r
 
 pub exponent_of_digits : (number : ℕ) (exponent : ℤ) (text : List ℕ) → IsDigits 10 number text → (text ≡ 48 ∷ [] → ⊥)
     → exponent_of_first number exponent ≡ exponent +ℤ pos (length text - 1)
-exponent_of_digits number exponent text is other =
-    let long : length text ≡ digit_count 10 number = length-IsDigits 10 number text (omega arith) is in
-    elim (eqb_tells number 0) [
-      | inl none ↦ absurd (other (digits_unique 10 number text (48 ∷ []) (omega arith) is (rw none.1 zero_digits)))
-      | inr some ↦ rw (some.0, long) refl
-    ]
+exponent_of_digits number exponent text is other = grind (arith, length-IsDigits, eqb_tells, digits_unique, zero_digits)
 
 -- ---- the whole text
 

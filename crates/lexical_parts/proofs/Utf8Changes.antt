@@ -1,7 +1,7 @@
 -- Texts in lowercase, and texts with zeros after the sign, are UTF-8.
-use Rattle.std.proofs.Common.{◌≡◌, ℕ, ◌≤◌, ◌+◌, ◌-◌, ◌/◌, ◌%◌, inl, inr, cond, List, [], ◌∷◌, ◌++◌, length, map, take, drop, replicate, refl, sym, ap, ◌∙◌}
+use Rattle.std.proofs.Common.{◌≡◌, ℕ, ◌≤◌, ◌+◌, ◌-◌, ◌%◌, cond, List, [], ◌∷◌, ◌++◌, length, map, take, drop, replicate, refl, sym, ap, ◌∙◌}
 use Rattle.std.proofs.Common.{arith}
-use Rattle.std.specs.Prelude.{nat_lt, true, false, Bool, ◌||◌, ◌==◌, if◌then◌else◌}
+use Rattle.std.specs.Prelude.{true, false, Bool, ◌||◌, ◌==◌, if◌then◌else◌}
 use Rattle.std.specs.Char.{to_ascii_lowercase}
 use Rattle.std.specs.Str.{IsUtf8, IsCharBoundary}
 use Rattle.std.proofs.Math.Utf8.{scalar, scalars, encode, encodes, low_scalar}
@@ -33,17 +33,11 @@ kept_either false a b = b
 kept_encode : (c : ℕ) → 128 ≤ c → Kept (encode c)
 unfolding encode
 kept_encode c high =
-    let last : (a : ℕ) → 128 ≤ a → Kept (a ∷ (128 + c % 64) ∷ []) =
-    λ a high. kept_cons a _ high (kept_cons (128 + c % 64) [] (omega arith) refl) in
-    kept_either (nat_lt c 128) (kept_cons c [] high refl) (kept_either (nat_lt c 2048) (last (192 + c / 64) (omega arith))
-    (kept_either (nat_lt c 65536) (kept_cons (224 + c / 4096) _ (omega arith) (last (128 + c / 64 % 64) (omega arith)))
-    (kept_cons (240 + c / 262144) _ (omega arith) (kept_cons (128 + c / 4096 % 64) _ (omega arith) (last (128 + c / 64 % 64) (omega arith))))))
+    let last : (a : ℕ) → 128 ≤ a → Kept (a ∷ (128 + c % 64) ∷ []) = grind (arith, kept_cons) in
+    grind (arith, kept_either, kept_cons)
 
 lower_encode : (c : ℕ) → encode (to_ascii_lowercase c) ≡ map to_ascii_lowercase (encode c)
-lower_encode c = elim (cases_lt c 128) [
-  | inl small ↦ encode_ascii (to_ascii_lowercase c) (lowercase_ascii c small) ∙ sym (ap (map to_ascii_lowercase) (encode_ascii c small))
-  | inr high ↦ ap encode (kept c high) ∙ sym (kept_encode c high)
-]
+lower_encode c = grind (arith, cases_lt, encode_ascii, lowercase_ascii, kept, kept_encode)
 
 lower_encodes : (cs : List ℕ) → encodes (map to_ascii_lowercase cs) ≡ map to_ascii_lowercase (encodes cs)
 lower_encodes [] = refl
@@ -52,10 +46,7 @@ lower_encodes (c ∷ cs) =
     ∙ ap (λ rest. map to_ascii_lowercase (encode c) ++ rest) (lower_encodes cs) ∙ sym (map-append to_ascii_lowercase (encode c) (encodes cs))
 
 lower_scalar : (c : ℕ) → scalar (to_ascii_lowercase c) ≡ scalar c
-lower_scalar c = elim (cases_lt c 128) [
-  | inl small ↦ low_scalar (to_ascii_lowercase c) (omega (arith, lowercase_ascii c small)) ∙ sym (low_scalar c (omega arith))
-  | inr high ↦ ap scalar (kept c high)
-]
+lower_scalar c = grind (arith, cases_lt, low_scalar, lowercase_ascii, kept)
 
 lower_scalars : (cs : List ℕ) → scalars (map to_ascii_lowercase cs) ≡ scalars cs
 lower_scalars [] = refl

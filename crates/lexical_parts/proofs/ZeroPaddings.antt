@@ -17,16 +17,7 @@ written_zero_padded {Is} {width} {count} {sign} {added} {before} {between} {part
     let within' : sign ≤ length a.text = rw number at within in
     let is_added' : added ≡ width - length a.text = is_added ∙ ap (λ n. width - n) a.count in
     let whole : List ℕ = take sign a.text ++ (replicate added 48 ++ drop sign a.text) in
-    let long : length whole ≡ added + count =
-    omega (
-      arith,
-      length-append (take sign a.text) (replicate added 48 ++ drop sign a.text),
-      length-append (replicate added 48) (drop sign a.text),
-      length-replicate {A = ℕ} added 48,
-      length-take-le sign a.text within',
-      length-drop sign a.text,
-      a.count,
-    ) in
+    let long : length whole ≡ added + count = grind (arith, length-append, length-replicate, length-take-le, length-drop) in
     record {
       text = whole;
       is = record {

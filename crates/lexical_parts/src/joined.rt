@@ -7,23 +7,9 @@ ghost use Rattle.lexical_parts.specs.Joined.{joined_room, lead};
 ghost use Rattle.lexical_parts.specs.Sequence.{◌then◌};
 
 use crate::part::Part;
-use lexical_write_integer::buffer::copy_to_front;
 
-// Writes what precedes the part at the index: nothing before the first part, and otherwise the separator. Returns
-// its length.
-fn write_lead(index: usize, separator: &str, buffer: &mut [u8]) -> usize
-    requires { length (lead index separator.now) ≤ length buffer.old }
-    ensures text { Writes (IsExactly (lead index separator.now)) buffer.old buffer.new result }
-    ensures count { result ≡ length (lead index separator.now) }
-{
-    if index == 0 {
-        copy_to_front(b"", buffer)
-    } else {
-        copy_to_front(separator.as_bytes(), buffer)
-    }
-}
-
-// Writes what precedes the part at the index, and then the part. Returns their length.
+// Writes what precedes the part at the index, which is nothing before the first part and otherwise the separator, and
+// then the part. Returns their length.
 pub(crate) fn write_next<P: Part>(
     index: usize,
     separator: &str,
@@ -36,8 +22,8 @@ pub(crate) fn write_next<P: Part>(
         buffer.old buffer.new result }
     ensures short { result ≤ length (lead index separator.now) + P.room part }
 {
-    let start = write_lead(index, separator, buffer);
-    start + part.write_to(&mut buffer[start..])
+    let lead = if index == 0 { "" } else { separator };
+    (lead, part).write_to(buffer)
 }
 
 /// The parts of a slice, with the separator between adjacent parts: `Joined(&[-1, 20], ", ")` writes

@@ -5,7 +5,6 @@ ghost use Rattle.std.specs.Prelude.{◌↔◌, ◌<◌, ◌≤◌, All, IfSome, 
 ghost use Rattle.lexical_parts.specs.Optional.{IsValidOptional};
 ghost use Rattle.lexical_parts.specs.Utf8.{AreUtf8};
 
-mod integers;
 mod tuples;
 
 use crate::column::{Center, Left, Right};
@@ -81,6 +80,46 @@ impl Utf8Part for &str {
 impl Utf8Part for Byte {
     ghost is_utf8 = { λ part. part.0 < 128 };
 
+    fn text_is_utf8(self) {}
+}
+
+impl Utf8Part for u8 {
+    fn text_is_utf8(self) {}
+}
+
+impl Utf8Part for u16 {
+    fn text_is_utf8(self) {}
+}
+
+impl Utf8Part for u32 {
+    fn text_is_utf8(self) {}
+}
+
+impl Utf8Part for u64 {
+    fn text_is_utf8(self) {}
+}
+
+impl Utf8Part for usize {
+    fn text_is_utf8(self) {}
+}
+
+impl Utf8Part for i8 {
+    fn text_is_utf8(self) {}
+}
+
+impl Utf8Part for i16 {
+    fn text_is_utf8(self) {}
+}
+
+impl Utf8Part for i32 {
+    fn text_is_utf8(self) {}
+}
+
+impl Utf8Part for i64 {
+    fn text_is_utf8(self) {}
+}
+
+impl Utf8Part for isize {
     fn text_is_utf8(self) {}
 }
 

@@ -72,10 +72,11 @@ pub returns-clause-text : goal.returns-clause-text
 returns-clause-text g c =
     let are = c.write_units-start.ensures.units in
     let moved = c.group_digits-point.ensures in
+    let some : 1 ≤ c.args.decimals = omega (arith, c.if-decimals-eq0.false) in
     let long = length-take-le _ _ (omega (arith, are.more)) in
     let whole = written_in_groups are.whole long c.copy_to_front.ensures.front moved.groups moved.count moved.total in
     let text = written_then _ _ _ _ _ _ _ _ whole c.write_to.ensures.text in
-    written_as (then_as (λ text is. is) (IsFraction-point c.args.decimals _ _ (omega (arith, c.if-decimals-eq0.false)) (rw (take_rest {X = ℕ}) are.rest))) text
+    written_as (then_as (λ text is. is) (IsFraction-point c.args.decimals _ _ some (rw (take_rest {X = ℕ}) are.rest))) text
 
 pub returns-clause-short : goal.returns-clause-short
 returns-clause-short g c =
