@@ -1,5 +1,5 @@
 -- Texts in lowercase: those of radix 10 and below have no letters, and the letters of the others differ in a bit.
-use Rattle.std.proofs.Common.{◌≡◌, None, Bool, true, false, ℕ, ◌+◌, ◌%◌, ◌<◌, ◌≤◌, List, [], ◌∷◌, ◌++◌, map, refl, sym, arith, inl, inr, ◌-◌, ◌*◌, ◌/◌, ℤ, pos, negsuc}
+use Rattle.std.proofs.Common.{◌≡◌, None, Bool, true, false, ℕ, ◌+◌, ◌%◌, ◌<◌, ◌≤◌, List, [], ◌∷◌, map, refl, arith, ◌-◌, ◌*◌, ◌/◌, ℤ, pos, negsuc}
 use Rattle.std.specs.List.{All}
 use Rattle.std.specs.Char.{to_ascii_lowercase}
 use Rattle.std.proofs.lemmas.Bool.Decides.{nat_tests}
@@ -41,11 +41,7 @@ lowercase-unlettered (b ∷ text) all =
 -- a text without groups in radix 10 or below is the same in lowercase
 pub lowercase-IsText : (x : ℤ) (format : Format) (text : List ℕ) → format.mantissa_radix ≤ 10 → format.digit_grouping ≡ None →
     IsText x format text → text ≡ map to_ascii_lowercase text
-lowercase-IsText x format text few none is =
-    let digits : Unlettered is.digits =
-    rw is.magnitude.characters (Unlettered-digit_chars format.mantissa_radix is.magnitude.digits few is.magnitude.numeral.numeral.below_radix) in
-    let whole = All-append (λ b. b < 65) (sign_of x format.required_mantissa_sign) is.digits (Unlettered-sign x format.required_mantissa_sign) digits in
-    sym (lowercase-unlettered text (rw (is.whole, none) whole))
+lowercase-IsText x format text few none is = grind (arith, Unlettered-digit_chars, All-append, Unlettered-sign, lowercase-unlettered)
 
 -- ---- texts whose letters are changed by setting a bit
 
@@ -58,14 +54,7 @@ pub lowered_twice : (c : ℕ) → bit_or (bit_or c 32) 32 ≡ bit_or c 32
 lowered_twice c = omega (arith, or_32 c, or_32 (bit_or c 32))
 
 digit_char-lowered : (d : ℕ) → d < 36 → bit_or (digit_char d) 32 ≡ to_ascii_lowercase (digit_char d)
-digit_char-lowered d small = elim (cases_lt d 10) [
-  | inl decimal ↦
-      let char : digit_char d ≡ 48 + d = grind (arith, nat_tests) in
-      rw char (omega (arith, or_32 (48 + d), (lowercase_is (48 + d)).1 (omega arith)))
-  | inr letter ↦
-      let char : digit_char d ≡ 55 + d = grind (arith, nat_tests) in
-      rw char (omega (arith, or_32 (55 + d), (lowercase_is (55 + d)).0 (omega arith, omega arith)))
-]
+digit_char-lowered d small = grind (arith, cases_lt, nat_tests, or_32, lowercase_is)
 
 -- the bit is all that distinguishes the letters of the text from lowercase letters
 abbrev Lowered : List ℕ → Type 0
@@ -84,15 +73,4 @@ Lowered-sign (pos n) false = refl
 -- the letters of a text without groups are changed to lowercase by setting the bit
 pub lowered-IsText : (x : ℤ) (format : Format) (text : List ℕ) → format.mantissa_radix ≤ 36 → format.digit_grouping ≡ None →
     IsText x format text → map (λ byte. bit_or byte 32) text ≡ map to_ascii_lowercase text
-lowered-IsText x format text few none is =
-    let sign = sign_of x format.required_mantissa_sign in
-    let digits = is.magnitude.digits in
-    let below : All (λ d. d < 36) digits = λ k d less. omega (arith, is.magnitude.numeral.numeral.below_radix k d less) in
-    let whole : text ≡ sign ++ map digit_char digits = rw (none, is.magnitude.characters) at is.whole in
-    rw (
-      whole,
-      map-append (λ byte. bit_or byte 32) sign (map digit_char digits),
-      map-append to_ascii_lowercase sign (map digit_char digits),
-      Lowered-sign x format.required_mantissa_sign,
-      Lowered-digit_chars digits below,
-    ) refl
+lowered-IsText x format text few none is = grind (arith, map-append, Lowered-sign, Lowered-digit_chars)

@@ -70,20 +70,6 @@ refused x format Is buffer cannot = record {
   refused = λ _. refl;
 }
 
--- without lowercase, the text is in the requested case
-pub in_uppercase : (x : ℤ) (format : CFormat) (before after : List ℕ) (count : ℕ) → format.lowercase ≡ 0 →
-    WritesIf x format (IsText x (format_of format)) before after count → WritesOrRefuses x format before after count
-in_uppercase x format before after count none w = record {
-  accepts = w.accepts;
-  text = λ some. let t = w.text some in record {
-    text = t.text;
-    is = record { upper = λ _. t.is; lower = λ other. absurd (other none) };
-    front = t.front;
-    count = t.count;
-  };
-  refused = w.refused;
-}
-
 -- without groups, in radix 10 or below if lowercase is requested, the text is in the requested case
 pub in_either_case : (x : ℤ) (format : CFormat) (before after : List ℕ) (count : ℕ) → format.group_size ≡ 0 →
     (format.lowercase ≢ 0 → format.radix ≤ 10) → WritesIf x format (IsText x (format_of format)) before after count →

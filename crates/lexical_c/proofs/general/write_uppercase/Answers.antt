@@ -9,9 +9,6 @@ use Rattle.lexical_c.proofs.general.write_uppercase.Goals as goal
 pub returns-in_default : goal.returns-in_default
 returns-in_default g c = refused _ _ _ _ (λ writable. false≢true (c.in_default.ensures.valid.1 writable.accepted))
 
-pub write_text-requires : goal.write_text-requires
-write_text-requires g c = omega (arith, c.size_suffices.ensures.size, c.buffer_size.ensures)
-
 pub returns-then-buffer-buffer_size : goal.returns-then-buffer-buffer_size
 returns-then-buffer-buffer_size g c =
     let accepted = c.in-Some.ensures.valid.0 refl in
@@ -19,17 +16,11 @@ returns-then-buffer-buffer_size g c =
     let small = IsRange-small _ _ _ _ g.met.T.LexicalInteger.range_of_bits range.at_least range.at_most in
     written _ c.args.format.now _ _ _ accepted small (rw c.in-Some.ensures.format at c.write_text.ensures.text)
 
-pub write_text-count-requires : goal.write_text-count-requires
-write_text-count-requires g c = omega (arith, c.size_suffices.ensures.size, c.size_suffices.ensures.buffer)
-
 pub slice_bounds-copy_to_front-end : goal.slice_bounds-copy_to_front-end
 slice_bounds-copy_to_front-end g c = count-length _ _ _ c.write_text-count.ensures.text
 
 pub slice_bounds-text-end : goal.slice_bounds-text-end
 slice_bounds-text-end g c = count-le _ _ _ c.write_text-count.ensures.text
-
-pub copy_to_front-requires : goal.copy_to_front-requires
-copy_to_front-requires g c = omega (arith, count-length _ _ _ c.write_text-count.ensures.text)
 
 pub returns-then-count-buffer : goal.returns-then-count-buffer
 returns-then-count-buffer g c =

@@ -1,4 +1,4 @@
-use Rattle.std.proofs.Common.{refl, sym, ◌∙◌, arith, rules}
+use Rattle.std.proofs.Common.{sym, ◌∙◌, rules}
 use Rattle.std.proofs.Math.Facts.{to_z-of_z}
 use Rattle.lexical_write_integer.proofs.OfTexts.PrintedTexts.{IsRange-small}
 use Rattle.lexical_c.proofs.PlainTexts.{only_radix, accepted}
@@ -6,12 +6,6 @@ use Rattle.lexical_c.proofs.WrittenTexts.{written, in_either_case}
 use mir.Syntax.{w64}
 use mir.Val.{SFits}
 use Rattle.lexical_c.proofs.write.write_signed_digits.Goals as goal
-
-pub write_sign_and_digits-requires-clause-groups : goal.write_sign_and_digits-requires-clause-groups
-write_sign_and_digits-requires-clause-groups g c = rw c.in-Some.ensures.format refl
-
-pub write_sign_and_digits-requires-clause-room : goal.write_sign_and_digits-requires-clause-room
-write_sign_and_digits-requires-clause-room g c = omega (arith, c.size_suffices.ensures.size, c.in-Some.ensures.room)
 
 pub returns-in-Some : goal.returns-in-Some
 returns-in-Some g c =

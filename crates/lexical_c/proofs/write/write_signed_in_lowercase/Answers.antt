@@ -9,12 +9,6 @@ use mir.Syntax.{w64}
 use mir.Val.{SFits}
 use Rattle.lexical_c.proofs.write.write_signed_in_lowercase.Goals as goal
 
-pub write_sign_and_digits-count-requires-clause-groups : goal.write_sign_and_digits-count-requires-clause-groups
-write_sign_and_digits-count-requires-clause-groups g c = rw c.in-Some.ensures.format refl
-
-pub write_sign_and_digits-count-requires-clause-room : goal.write_sign_and_digits-count-requires-clause-room
-write_sign_and_digits-count-requires-clause-room g c = omega (arith, c.size_suffices.ensures.size, c.in-Some.ensures.room)
-
 pub set_lowercase_bit-requires : goal.set_lowercase_bit-requires
 set_lowercase_bit-requires g c =
     let only = c.requires.only in

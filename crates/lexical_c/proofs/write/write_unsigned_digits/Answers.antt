@@ -1,17 +1,8 @@
-use Rattle.std.proofs.Common.{refl, pos, sym, ap, ◌∙◌, arith}
+use Rattle.std.proofs.Common.{pos, sym, ap, ◌∙◌}
 use Rattle.lexical_write_integer.proofs.OfTexts.PrintedTexts.{IsRange-small}
 use Rattle.lexical_c.proofs.PlainTexts.{only_radix, accepted}
 use Rattle.lexical_c.proofs.WrittenTexts.{written, in_either_case}
 use Rattle.lexical_c.proofs.write.write_unsigned_digits.Goals as goal
-
-pub write_plain_digits-requires-clause-sign : goal.write_plain_digits-requires-clause-sign
-write_plain_digits-requires-clause-sign g c = rw c.in-Some.ensures.format refl
-
-pub write_plain_digits-requires-clause-groups : goal.write_plain_digits-requires-clause-groups
-write_plain_digits-requires-clause-groups g c = rw c.in-Some.ensures.format refl
-
-pub write_plain_digits-requires-clause-room : goal.write_plain_digits-requires-clause-room
-write_plain_digits-requires-clause-room g c = omega (arith, c.size_suffices.ensures.size, c.in-Some.ensures.room)
 
 pub returns-in-Some : goal.returns-in-Some
 returns-in-Some g c =

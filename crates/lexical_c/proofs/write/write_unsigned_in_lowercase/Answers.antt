@@ -6,15 +6,6 @@ use Rattle.lexical_c.proofs.PlainTexts.{only_radix, accepted}
 use Rattle.lexical_c.proofs.WrittenTexts.{count-length, some-written, written, in_lowercase}
 use Rattle.lexical_c.proofs.write.write_unsigned_in_lowercase.Goals as goal
 
-pub write_plain_digits-count-requires-clause-sign : goal.write_plain_digits-count-requires-clause-sign
-write_plain_digits-count-requires-clause-sign g c = rw c.in-Some.ensures.format refl
-
-pub write_plain_digits-count-requires-clause-groups : goal.write_plain_digits-count-requires-clause-groups
-write_plain_digits-count-requires-clause-groups g c = rw c.in-Some.ensures.format refl
-
-pub write_plain_digits-count-requires-clause-room : goal.write_plain_digits-count-requires-clause-room
-write_plain_digits-count-requires-clause-room g c = omega (arith, c.size_suffices.ensures.size, c.in-Some.ensures.room)
-
 pub set_lowercase_bit-requires : goal.set_lowercase_bit-requires
 set_lowercase_bit-requires g c =
     let only = c.requires.only in
