@@ -62,13 +62,15 @@ fill_is_utf8 fill count small =
 pub at_left_is_utf8 : {Is : List ℕ → Type 0} (width fill : ℕ) → fill < 128 → AreUtf8 Is → AreUtf8 (IsAtLeft width fill Is)
 at_left_is_utf8 width fill small cells = record {
   each = λ text is.
-      rw is.whole (IsUtf8-append is.cell (replicate (width - length is.cell) fill) (cells.each is.cell is.is) (fill_is_utf8 fill (width - length is.cell) small));
+      let after = fill_is_utf8 fill (width - length is.cell) small in
+      rw is.whole (IsUtf8-append is.cell (replicate (width - length is.cell) fill) (cells.each is.cell is.is) after);
 }
 
 pub at_right_is_utf8 : {Is : List ℕ → Type 0} (width fill : ℕ) → fill < 128 → AreUtf8 Is → AreUtf8 (IsAtRight width fill Is)
 at_right_is_utf8 width fill small cells = record {
   each = λ text is.
-      rw is.whole (IsUtf8-append (replicate (width - length is.cell) fill) is.cell (fill_is_utf8 fill (width - length is.cell) small) (cells.each is.cell is.is));
+      let before = fill_is_utf8 fill (width - length is.cell) small in
+      rw is.whole (IsUtf8-append (replicate (width - length is.cell) fill) is.cell before (cells.each is.cell is.is));
 }
 
 pub centered_is_utf8 : {Is : List ℕ → Type 0} (width fill : ℕ) → fill < 128 → AreUtf8 Is → AreUtf8 (IsCentered width fill Is)

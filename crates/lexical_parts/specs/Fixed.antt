@@ -23,8 +23,8 @@ abbrev pub IsFixed : ℕ → ℤ → List ℕ → Type 0
 IsFixed decimals number =
     IsExactly (sign_of number false) then IsUnits decimals (unsigned_abs number)
 
--- the bytes for the sign, the digits and the point, for a type whose numbers need at most `size` bytes in decimal, with at
--- most `width` digits
+-- the bytes for the sign, the digits and the point, for a type whose numbers have at most `width` digits, and need at
+-- most `size` bytes in decimal
 abbrev pub fixed_room : ℕ → ℕ → ℕ → ℕ
 fixed_room width size decimals = (size - width) + (max width (decimals + 1) + min decimals 1)
 
@@ -44,8 +44,8 @@ abbrev pub grouped_units_room : Option (ℕ × ℕ) → ℕ → ℕ → ℕ
 grouped_units_room grouping width decimals =
     grouped_length grouping (max width (decimals + 1) - decimals) + (decimals + min decimals 1)
 
--- the digits of a number of units, for a type whose numbers have at most `width` digits: zeros before them make at least
--- one digit for the whole part
+-- the digits of a number of units, for a type whose numbers have at most `width` digits: zeros before them make at
+-- least one digit for the whole part
 pub record AreUnits (decimals units width : ℕ) (digits : List ℕ) : Type 0 where
   pub more : decimals < length digits
   pub few : length digits ≤ max width (decimals + 1)

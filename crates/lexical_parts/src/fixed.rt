@@ -13,8 +13,8 @@ use lexical_write_integer::format::STANDARD;
 use lexical_write_integer::laws::size_suffices;
 use lexical_write_integer::{NumberFormat, ToLexicalWithOptions, group_digits};
 
-// Writes the digits of a number to an array of zeros, after the first 20 of them. Returns where the digits of as many units
-// begin and end: a short number takes zeros from those before its digits, so that no digit is moved for them.
+// Writes the digits of a number after the first 20 of 40 zeros. Returns where they begin and end, with the zeros before
+// them that a digit before the point requires, so that no digit is moved for these.
 fn write_units<T: ToLexicalWithOptions>(
     number: T,
     decimals: usize,
@@ -33,8 +33,8 @@ fn write_units<T: ToLexicalWithOptions>(
     (20 - zeros, 20 + count)
 }
 
-// Writes the absolute value of a number of units of 10^-`decimals` to the start of the buffer, with its whole part in the
-// groups of the format, and returns the number of bytes written.
+// Writes the absolute value of a number of units of 10^-`decimals` to the start of the buffer, with its whole part in
+// the groups of the format, and returns the number of bytes written.
 fn write_grouped_units<T: ToLexicalWithOptions>(
     number: T,
     decimals: usize,

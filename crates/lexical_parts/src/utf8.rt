@@ -7,19 +7,10 @@ ghost use Rattle.lexical_parts.specs.Utf8.{AreUtf8};
 
 mod tuples;
 
-use crate::column::{Center, Left, Right};
-use crate::fixed::{Fixed, GroupedFixed};
-use crate::joined::Joined;
-use crate::lower::Lower;
-use crate::number::{Decimal, Digits, Formatted};
-use crate::padded::{Padded, PaddedDigits};
-use crate::part::Part;
-use crate::plus::Plus;
-use crate::powers_of_two::{Binary, Hex, HexBytes};
-use crate::scientific::Scientific;
-use crate::sign::Sign;
-use crate::text::Byte;
-use crate::zero_padded::ZeroPadded;
+use crate::{
+    Binary, Byte, Center, Decimal, Digits, Fixed, Formatted, GroupedFixed, Hex, HexBytes, Joined,
+    Left, Lower, Padded, PaddedDigits, Part, Plus, Right, Scientific, Sign, ZeroPadded,
+};
 use lexical_num::num::LexicalInteger;
 use lexical_write_integer::ToLexicalWithOptions;
 use lexical_write_integer::digit_count::DigitCount;

@@ -60,6 +60,7 @@ impl Part for DateTime {
     }
 }
 
+#[tactic(auto, using(lexical_parts::proofs::Utf8Texts::kinds))]
 impl Utf8Part for DateTime {
     ghost is_utf8 = { λ _. ⊤ };
 

@@ -20,7 +20,8 @@ digits_within g c =
     let few = few_digits g.met.T.LexicalInteger.decimal_width c.in_range.ensures.at_least c.in_range.ensures.at_most in
     let count = c.write_magnitude-count.ensures.digits.count in
     let most = max g.T.LexicalInteger.DECIMAL_WIDTH (c.args.decimals + 1) - c.args.decimals in
-    omega (arith, grouped_length-more c.args.format.now.digit_grouping c.write_magnitude-count.result most 0 (omega (arith, few, count, c.if-decimals-eq0.true)))
+    let within : c.write_magnitude-count.result + 0 ≤ most = omega (arith, few, count, c.if-decimals-eq0.true) in
+    omega (arith, grouped_length-more c.args.format.now.digit_grouping c.write_magnitude-count.result most 0 within)
 
 pub group_digits-requires-clause-room : goal.group_digits-requires-clause-room
 group_digits-requires-clause-room g c =
@@ -82,4 +83,5 @@ pub returns-clause-short : goal.returns-clause-short
 returns-clause-short g c =
     let are = c.write_units-start.ensures.units in
     let within = grouped_units-le c.args.format.now.digit_grouping are in
-    omega (arith, within, are.more, c.group_digits-point.ensures.total, c.if-decimals-eq0.false, c.write_to.ensures.short, length-take {A = ℕ}, length-drop {A = ℕ})
+    let total = c.group_digits-point.ensures.total in
+    omega (arith, within, are.more, total, c.if-decimals-eq0.false, c.write_to.ensures.short, length-take {A = ℕ}, length-drop {A = ℕ})
