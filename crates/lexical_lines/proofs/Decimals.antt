@@ -9,58 +9,7 @@ use Rattle.lexical_write_integer.specs.Numeral.{value_of}
 use Rattle.lexical_write_integer.specs.Text.{IsDigits}
 use Rattle.lexical_write_integer.proofs.OfDigits.DigitValues.{value_of-append, value_of-one}
 pub use Rattle.lexical_write_integer.proofs.OfTexts.PrintedTexts.{digit_char-decimal}
-use Rattle.lexical_lines.specs.Decimal.{IsDecimalNumeral}
-
-pub record IsDigitByte (byte : ℕ) : Type 0 where
-  pub at_least : 48 ≤ byte
-  pub at_most : byte ≤ 57
-
--- the digits that these bytes represent
-abbrev pub digits_in : List ℕ → List ℕ
-digits_in text = map (λ byte. byte - 48) text
-
-byte_of_digit : (d : ℕ) → d < 10 → IsDigitByte (digit_char d)
-byte_of_digit d h = let e = digit_char-decimal d h in record { at_least = omega arith; at_most = omega arith }
-
-pub bytes_of_digits : (digits : List ℕ) → All (λ d. d < 10) digits → All IsDigitByte (map digit_char digits)
-bytes_of_digits digits h = All-map IsDigitByte digit_char digits (All-weaker (λ d. d < 10) (λ d. IsDigitByte (digit_char d)) byte_of_digit digits h)
-
-pub digits_below_ten : (text : List ℕ) → All IsDigitByte text → All (λ d. d < 10) (digits_in text)
-digits_below_ten text h = All-map (λ d. d < 10) (λ byte. byte - 48) text (All-weaker IsDigitByte (λ byte. byte - 48 < 10) (λ byte b. omega arith) text h)
-
-pub digit_char-digits_in : (text : List ℕ) → All IsDigitByte text → map digit_char (digits_in text) ≡ text
-digit_char-digits_in [] h = refl
-digit_char-digits_in (byte ∷ text) h =
-    let b = All-head IsDigitByte byte text h in
-    let first : digit_char (byte - 48) ≡ byte = digit_char-decimal (byte - 48) (omega arith) ∙ omega arith in
-    let rest = digit_char-digits_in text (All-tail IsDigitByte byte text h) in
-    cc
-
-pub digits_in-digit_char : (digits : List ℕ) → All (λ d. d < 10) digits → digits_in (map digit_char digits) ≡ digits
-digits_in-digit_char [] h = refl
-digits_in-digit_char (d ∷ digits) h =
-    let e = digit_char-decimal d (All-head (λ d. d < 10) d digits h) in
-    let first : digit_char d - 48 ≡ d = omega arith in
-    let rest = digits_in-digit_char digits (All-tail (λ d. d < 10) d digits h) in
-    cc
-
-pub IsDecimalNumeral-from : (n : ℕ) (text : List ℕ) → 0 < length text → All IsDigitByte text → n ≡ value_of 10 (digits_in text) → IsDecimalNumeral n text
-IsDecimalNumeral-from n text some bytes value = record {
-  digits = digits_in text;
-  nonempty = rw length-map some;
-  below_ten = digits_below_ten text bytes;
-  value = sym value;
-  characters = sym (digit_char-digits_in text bytes);
-}
-
-pub IsDecimalNumeral-bytes : (n : ℕ) (text : List ℕ) → IsDecimalNumeral n text → All IsDigitByte text
-IsDecimalNumeral-bytes n text h = rw h.characters (bytes_of_digits h.digits h.below_ten)
-
-pub IsDecimalNumeral-value : (n : ℕ) (text : List ℕ) → IsDecimalNumeral n text → value_of 10 (digits_in text) ≡ n
-IsDecimalNumeral-value n text h = rw (h.characters, digits_in-digit_char h.digits h.below_ten) h.value
-
-pub IsDecimalNumeral-some : (n : ℕ) (text : List ℕ) → IsDecimalNumeral n text → 0 < length text
-IsDecimalNumeral-some n text h = rw (h.characters, length-map) h.nonempty
+use Rattle.lexical_lines.specs.Decimal.{IsDecimalNumeral, IsDigitByte, digits_in}
 
 -- ---- the digits read so far
 
@@ -87,20 +36,31 @@ value_of-more text i h =
 
 -- each byte of a decimal number is a digit
 pub IsDecimalNumeral-byte : (n : ℕ) (text : List ℕ) (i : ℕ) → i < length text → IsDecimalNumeral n text → IsDigitByte (get_or text i 0)
-IsDecimalNumeral-byte n text i h d = All-get_or IsDigitByte text i 0 h (IsDecimalNumeral-bytes n text d)
+IsDecimalNumeral-byte n text i h d = All-get_or IsDigitByte text i 0 h d.bytes
 
 -- the value of the first bytes is at most the number
 pub IsDecimalNumeral-at_least : (n : ℕ) (text : List ℕ) (i : ℕ) → i < length text → IsDecimalNumeral n text
     → value_of 10 (digits_in (take i text)) * 10 + (get_or text i 0 - 48) ≤ n
-IsDecimalNumeral-at_least n text i h d = omega (arith, value_of-more text i h, value_of-front text (i + 1), IsDecimalNumeral-value n text d)
+IsDecimalNumeral-at_least n text i h d = omega (arith, value_of-more text i h, value_of-front text (i + 1), d.value)
 
 -- ---- digits without leading zeros
 
+byte_of_digit : (d : ℕ) → d < 10 → IsDigitByte (digit_char d)
+byte_of_digit d h = let e = digit_char-decimal d h in record { at_least = omega arith; at_most = omega arith }
+
+digits_in-digit_char : (digits : List ℕ) → All (λ d. d < 10) digits → digits_in (map digit_char digits) ≡ digits
+digits_in-digit_char [] h = refl
+digits_in-digit_char (d ∷ digits) h =
+    let e = digit_char-decimal d (All-head (λ d. d < 10) d digits h) in
+    let first : digit_char d - 48 ≡ d = omega arith in
+    let rest = digits_in-digit_char digits (All-tail (λ d. d < 10) d digits h) in
+    cc
+
 pub IsDecimalNumeral-from_digits : (n : ℕ) (text : List ℕ) → IsDigits 10 n text → IsDecimalNumeral n text
-IsDecimalNumeral-from_digits n text h = record {
-  digits = h.digits;
-  nonempty = h.numeral.numeral.nonempty;
-  below_ten = h.numeral.numeral.below_radix;
-  value = h.numeral.value;
-  characters = h.characters;
-}
+IsDecimalNumeral-from_digits n text h =
+    let below = h.numeral.numeral.below_radix in
+    record {
+      nonempty = rw (h.characters, length-map) h.numeral.numeral.nonempty;
+      bytes = rw h.characters (All-map IsDigitByte digit_char h.digits (All-weaker (λ d. d < 10) (λ d. IsDigitByte (digit_char d)) byte_of_digit h.digits below));
+      value = rw (h.characters, digits_in-digit_char h.digits below) h.numeral.value;
+    }

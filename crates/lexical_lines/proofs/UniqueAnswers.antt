@@ -15,31 +15,25 @@ use Rattle.lexical_lines.specs.Request.{IsRequest, IsValue}
 use Rattle.lexical_lines.specs.RunOutcome.{BreaksOff}
 use Rattle.lexical_lines.specs.Sink.{IsBeginning}
 use Rattle.lexical_lines.proofs.Lines.{AreLines-append, AreLines-exist, AreLines-longer, AreLines-unique}
-use Rattle.lexical_lines.proofs.Decimals.{IsDecimalNumeral-bytes, IsDecimalNumeral-value, IsDecimalNumeral-from_digits}
-use Rattle.lexical_lines.proofs.Requests.{IsRequest-name, IsRequest-parts, no_space-name, no_space-signed, radix_bytes, whole_as}
-use Rattle.lexical_lines.proofs.Signs.{signs_unique}
+use Rattle.lexical_lines.proofs.Requests.{IsRequest-name, IsRequest-signed, IsRequest-value, IsValue-parts, radix_decimal, radix-stripped, value-stripped}
 
 -- a text is the value of one number only
 IsValue-number : {kind other : IntegerType} {number second : ℤ} {text : List ℕ} → IsValue kind number text → IsValue other second text → number ≡ second
 IsValue-number h k =
-    let parts = signs_unique 45 h.minus k.minus h.digits k.digits (omega arith) (sym h.whole ∙ k.whole)
-    (IsDecimalNumeral-bytes h.magnitude h.digits h.decimal) (IsDecimalNumeral-bytes k.magnitude k.digits k.decimal) in
-    let same : h.magnitude ≡ k.magnitude =
-    sym (IsDecimalNumeral-value h.magnitude h.digits h.decimal) ∙ IsDecimalNumeral-value k.magnitude h.digits (rw parts.1 k.decimal) in
+    let parts = IsValue-parts k h.digits h.minus h.whole (value-stripped h) in
+    let same : h.magnitude ≡ k.magnitude = sym h.decimal.value ∙ rw (sym parts.1) at k.decimal.value in
     h.value ∙ ap (λ minus. with_sign minus h.magnitude) parts.0 ∙ ap (with_sign k.minus) same ∙ sym k.value
 
 -- a line makes one request only
 IsRequest-unique : {kind other : IntegerType} {plus add : Bool} {radix base : ℕ} {number second : ℤ} {line : List ℕ}
     → IsRequest kind plus radix number line → IsRequest other add base second line
     → (plus ≡ add) × (radix ≡ base) × (number ≡ second)
-IsRequest-unique {kind = kind} {other = other} {plus = plus} {add = add} {radix = radix} {base = base} {second = second} h k =
-    let first = IsRequest-name k _ _ (whole_as h) (no_space-name kind) in
-    let parts = IsRequest-parts k _ _ h.value_text first.1 refl (no_space-signed plus h.radix_text (radix_bytes h)) in
-    let signs = signs_unique 43 plus add h.radix_text k.radix_text (omega arith) parts.0 (radix_bytes h) (radix_bytes k) in
-    let same : radix ≡ base =
-    sym (IsDecimalNumeral-value radix h.radix_text (IsDecimalNumeral-from_digits radix h.radix_text h.radix_digits))
-    ∙ IsDecimalNumeral-value base h.radix_text (rw signs.1 (IsDecimalNumeral-from_digits base k.radix_text k.radix_digits)) in
-    (signs.0, same, IsValue-number h.value (let value : IsValue other second h.value_text = rw parts.1 k.value in value))
+IsRequest-unique {kind = kind} {plus = plus} {radix = radix} {base = base} h k =
+    let name = IsRequest-name k kind _ h.whole in
+    let signs = IsRequest-signed k _ _ plus name.1 refl (radix-stripped h) in
+    let parts = IsRequest-value k h.radix_text h.value_text (sym signs.1) (radix_decimal h).bytes in
+    let same : radix ≡ base = sym (radix_decimal h).value ∙ rw (sym parts.0) at (radix_decimal k).value in
+    (signs.0, same, IsValue-number h.value (rw (sym parts.1) at k.value))
 
 IsText-unique : (number : ℤ) (radix : ℕ) (plus : Bool) (a b : List ℕ) → 2 ≤ radix → IsText number (requested_format radix plus) a
     → IsText number (requested_format radix plus) b → a ≡ b

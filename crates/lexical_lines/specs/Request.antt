@@ -28,7 +28,7 @@ pub record IsRequest (kind : IntegerType) (plus : Bool) (radix : ℕ) (number : 
   pub radix_digits : IsDigits 10 radix radix_text
   pub value : IsValue kind number value_text
   pub short : length line ≤ 64
-  pub whole : line ≡ name_of kind ++ 32 ∷ optional_sign plus 43 ++ radix_text ++ 32 ∷ value_text
+  pub whole : line ≡ name_of kind ++ 32 ∷ (optional_sign plus 43 ++ (radix_text ++ 32 ∷ value_text))
 
 -- the line is valid
 abbrev pub IsValidLine : List ℕ → Type 0

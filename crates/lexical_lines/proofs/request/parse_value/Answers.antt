@@ -1,7 +1,6 @@
 use Rattle.std.proofs.Common.{◌≡◌, ◌∙◌, sym}
 use Rattle.lexical_lines.specs.Decimal.{IsDecimalNumeral}
 use Rattle.lexical_lines.specs.IntegerType.{Holds}
-use Rattle.lexical_lines.proofs.Decimals.{IsDecimalNumeral-value}
 use Rattle.lexical_lines.proofs.IntegerTypes.{Holds-lt}
 use Rattle.lexical_lines.proofs.Requests.{IsValue-parts}
 use Rattle.lexical_lines.proofs.request.parse_value.Goals as goal
@@ -17,8 +16,7 @@ returns-then-not-holds-clause-none c = λ number value.
     let digits = c.strip_sign-minus.result.1.now in
     let parts = IsValue-parts value digits c.strip_sign-minus.result.0 c.strip_sign-minus.ensures.whole c.strip_sign-minus.ensures.stripped in
     let same : c.in_ok-magnitude.magnitude ≡ value.magnitude =
-    sym (IsDecimalNumeral-value c.in_ok-magnitude.magnitude digits c.in_ok-magnitude.ensures.found)
-    ∙ IsDecimalNumeral-value value.magnitude digits (rw parts.1 value.decimal) in
+    sym c.in_ok-magnitude.ensures.found.value ∙ rw (sym parts.1) at value.decimal.value in
     let holds : Holds c.args.kind c.strip_sign-minus.result.0 c.in_ok-magnitude.magnitude = rw (parts.0, same) value.holds in
     let wrong = c.holds.ensures.1 holds in
     cc

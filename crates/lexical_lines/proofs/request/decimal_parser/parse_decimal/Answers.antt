@@ -1,7 +1,8 @@
-use Rattle.std.proofs.Common.{get_or, arith}
+use Rattle.std.proofs.Common.{get_or, arith, sym}
 use Rattle.std.proofs.lemmas.List.{take_all}
 use Rattle.std.proofs.lemmas.List.Elements.{All-more}
-use Rattle.lexical_lines.proofs.Decimals.{IsDigitByte, IsDecimalNumeral-byte, IsDecimalNumeral-at_least, IsDecimalNumeral-from, value_of-more}
+use Rattle.lexical_lines.specs.Decimal.{IsDigitByte}
+use Rattle.lexical_lines.proofs.Decimals.{IsDecimalNumeral-byte, IsDecimalNumeral-at_least, value_of-more}
 use Rattle.lexical_lines.proofs.request.decimal_parser.parse_decimal.Goals as goal
 
 pub returns-then-not-is_ascii_digit-clause-none : goal.returns-then-not-is_ascii_digit-clause-none
@@ -40,7 +41,9 @@ loop-byte-preserved c =
 
 pub returns-clause-found : goal.returns-clause-found
 returns-clause-found c =
-    let text = c.args.text.now in
-    let whole = take_all c.loop-byte.byte-index text c.loop-byte-test.false in
-    IsDecimalNumeral-from c.loop-byte.number text (grind (arith, c.if-is_empty.ensures)) (rw whole at c.loop-byte.invariant.digits)
-    (rw whole at c.loop-byte.invariant.value)
+    let whole = take_all c.loop-byte.byte-index c.args.text.now c.loop-byte-test.false in
+    record {
+      nonempty = grind (arith, c.if-is_empty.ensures);
+      bytes = rw whole at c.loop-byte.invariant.digits;
+      value = sym (rw whole at c.loop-byte.invariant.value);
+    }

@@ -1,7 +1,7 @@
 use Rattle.std.proofs.Common.{◌≡◌, take}
 use Rattle.std.specs.List.{All}
 use Rattle.lexical_write_integer.specs.Numeral.{value_of}
-use Rattle.lexical_lines.proofs.Decimals.{IsDigitByte, digits_in}
+use Rattle.lexical_lines.specs.Decimal.{IsDigitByte, digits_in}
 use Rattle.lexical_lines.proofs.request.decimal_parser.parse_decimal.Given as goal
 
 abbrev pub invariant-loop-byte : goal.invariant-loop-byte
