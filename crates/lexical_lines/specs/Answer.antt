@@ -1,15 +1,9 @@
 -- The answer to a line, and the answers to all lines of an input.
 use Rattle.std.specs.Prelude.{◌≡◌, ◌⊎◌, ℕ, ◌+◌, ◌-◌, ◌^◌, min, Bool, List, [], ◌∷◌, ◌++◌, ℤ, codes}
-use Rattle.lexical_num.specs.Format.{Format, standard}
 use Rattle.lexical_write_integer.specs.Text.{IsDigits, IsText}
 use Rattle.lexical_lines.specs.declared.request.integer_type.IntegerType.{IntegerType}
 use Rattle.lexical_lines.specs.Lines.{IsCut, AreLines}
-use Rattle.lexical_lines.specs.Request.{IsValidLine, IsRequest}
-
--- the standard format with this mantissa and exponent radix, and with the sign `+` required or not
-abbrev pub requested_format : ℕ → Bool → Format
-requested_format radix plus =
-    record standard { mantissa_radix = radix; exponent_radix = radix; required_mantissa_sign = plus }
+use Rattle.lexical_lines.specs.Request.{IsValidLine, IsRequest, requested_format}
 
 -- the line is a text of this kind followed by a newline
 abbrev pub WithNewline : (List ℕ → Type 0) → List ℕ → Type 0

@@ -1,11 +1,10 @@
 -- The request that a valid line makes.
 use Rattle.std.specs.Prelude.{◌≡◌, ℕ, ◌≤◌, Bool, List, ◌∷◌, ◌++◌, length, ℤ, pos}
-use Rattle.lexical_num.specs.Format.{IsRadix}
+use Rattle.lexical_num.specs.Format.{Format, IsRadix, standard}
 use Rattle.lexical_write_integer.specs.Text.{IsDigits}
 use Rattle.lexical_lines.specs.declared.request.integer_type.IntegerType.{IntegerType}
 use Rattle.lexical_lines.specs.declared.request.Number.{Number}
 use Rattle.lexical_lines.specs.declared.request.Number.TheVariants.{Unsigned, Signed}
-use Rattle.lexical_lines.specs.declared.request.Request.{Request}
 use Rattle.lexical_lines.specs.Decimal.{IsDecimalNumeral}
 use Rattle.lexical_lines.specs.IntegerType.{name_of, with_sign, Holds}
 use Rattle.lexical_lines.specs.Split.{optional_sign}
@@ -40,6 +39,15 @@ abbrev pub number_of : Number → ℤ
 number_of (Unsigned magnitude) = pos magnitude
 number_of (Signed number) = number
 
--- the line is valid, and this is its request
-abbrev pub Asks : List ℕ → Request → Type 0
-Asks line request = (kind : IntegerType) × IsRequest kind request.plus request.radix (number_of request.number) line
+-- the standard format with this mantissa and exponent radix, and with the sign `+` required or not
+abbrev pub requested_format : ℕ → Bool → Format
+requested_format radix plus =
+    record standard { mantissa_radix = radix; exponent_radix = radix; required_mantissa_sign = plus }
+
+-- the line is valid, and requests the number in the format
+pub record Requests (line : List ℕ) (number : Number) (format : Format) : Type 0 where
+  pub kind : IntegerType
+  pub plus : Bool
+  pub radix : ℕ
+  pub is : IsRequest kind plus radix (number_of number) line
+  pub format_is : format ≡ requested_format radix plus

@@ -1,13 +1,12 @@
 // The answer to a line.
 
-ghost use Rattle.std.specs.Prelude.{◌≡◌, ℕ, ◌+◌, ◌<◌, ◌≤◌, List, ◌↔◌, length, IsTrue, IfSome, IfNone};
-ghost use Rattle.lexical_num.specs.Format.{IsRadix};
+ghost use Rattle.std.specs.Prelude.{◌≡◌, ℕ, ◌+◌, ◌<◌, ◌≤◌, List, ◌↔◌, length, IsTrue, IfSome};
 ghost use Rattle.lexical_num.specs.declared.constants.TheConstants.{BUFFER_SIZE};
 ghost use Rattle.lexical_write_integer.specs.Buffer.{Writes};
 ghost use Rattle.lexical_write_integer.specs.Text.{IsText};
-ghost use Rattle.lexical_lines.specs.Answer.{IsAnswer, WithNewline, IsBadLine, requested_format};
+ghost use Rattle.lexical_lines.specs.Answer.{IsAnswer, WithNewline, IsBadLine};
 ghost use Rattle.lexical_lines.specs.Line.{short_line, bytes_of};
-ghost use Rattle.lexical_lines.specs.Request.{IsValidLine, Asks, number_of};
+ghost use Rattle.lexical_lines.specs.Request.{IsValidLine};
 
 // Answers to the lines of bytes that arrive in chunks, and of a whole source.
 pub mod answerer;
@@ -16,14 +15,12 @@ pub mod line_loop;
 // The exit status that tells how a run ended.
 pub mod exit_status;
 
-use crate::request::{Number, Request, parse};
+use crate::request::{Number, parse};
 use lexical_num::constants::BUFFER_SIZE;
 use lexical_num::format::{NumberFormat, STANDARD};
-use lexical_num::format_builder::NumberFormatBuilder;
-use lexical_num::options::Options;
-use lexical_write_integer::ToLexicalWithOptions;
 use lexical_write_integer::buffer::copy_to_front;
 use lexical_write_integer::laws::size_suffices;
+use lexical_write_integer::{ToLexical, ToLexicalWithOptions};
 
 /// The length of a buffer that is long enough for every answer: `bad line `, the text of a number,
 /// and a newline.
@@ -41,37 +38,10 @@ pub fn write_answer(line: Option<&[u8]>, line_number: u64, buffer: &mut [u8]) ->
         → IsTrue result.1 ↔ IsValidLine bytes }
 {
     match parse(line) {
-        Some(request) => (write_requested(&request, buffer), true),
+        // The text does not depend on the type, so the two widest types are enough.
+        Some((Number::Unsigned(number), format)) => (write_line(number, buffer, &format), true),
+        Some((Number::Signed(number), format)) => (write_line(number, buffer, &format), true),
         None => (write_bad_line(line_number, buffer), false),
-    }
-}
-
-// Returns the format of a radix, with a `+` before each number that is not negative if `plus` is true.
-fn format_for(radix: u8, plus: bool) -> NumberFormat
-    requires { IsRadix radix }
-    ensures { result ≡ requested_format radix plus }
-{
-    NumberFormatBuilder::new()
-        .mantissa_radix(radix)
-        .exponent_radix(radix)
-        .required_mantissa_sign(plus)
-        .build_strict()
-}
-
-// Writes the requested text and a newline, and returns their length.
-fn write_requested(request: &Request, buffer: &mut [u8]) -> usize
-    requires radix { IsRadix request.now.radix }
-    requires room { BUFFER_SIZE + 2 ≤ length buffer.old }
-    ensures { Writes
-        (WithNewline (IsText (number_of request.now.number)
-        (requested_format request.now.radix request.now.plus)))
-        buffer.old buffer.new result }
-{
-    let format = format_for(request.radix, request.plus);
-    // The text does not depend on the type, so the two widest types are enough.
-    match request.number {
-        Number::Unsigned(number) => write_line(number, buffer, &format, &Options::new()),
-        Number::Signed(number) => write_line(number, buffer, &format, &Options::new()),
     }
 }
 
@@ -81,28 +51,17 @@ fn write_bad_line(line_number: u64, buffer: &mut [u8]) -> usize
     ensures { Writes (WithNewline (IsBadLine line_number)) buffer.old buffer.new result }
 {
     let start = copy_to_front(b"bad line ", buffer);
-    start
-        + write_line(
-            line_number,
-            &mut buffer[start..],
-            &STANDARD,
-            &Options::new(),
-        )
+    start + write_line(line_number, &mut buffer[start..], &STANDARD)
 }
 
 // Writes the text of a number of any type and a newline, and returns their length.
-fn write_line<T: ToLexicalWithOptions>(
-    number: T,
-    buffer: &mut [u8],
-    format: &NumberFormat,
-    options: &T::Options,
-) -> usize
+fn write_line<T: ToLexicalWithOptions>(number: T, buffer: &mut [u8], format: &NumberFormat) -> usize
     requires { BUFFER_SIZE + 1 ≤ length buffer.old }
     ensures { Writes (WithNewline (IsText (T.number number) format.now)) buffer.old buffer.new result }
 {
     size_suffices(number, format);
     let room = &mut buffer[..BUFFER_SIZE];
-    let end = number.write_lexical_with_options(room, format, options);
+    let end = number.write_text(room, format);
     buffer[end] = b'\n';
     end + 1
 }

@@ -3,7 +3,7 @@
 ghost use Rattle.std.specs.Prelude.{◌≡◌, ◌^◌, ℕ, List, ◌++◌, ℤ, pos, neg_ℤ, ◌≤◌, length, IfSome, IfNone};
 ghost use Rattle.lexical_num.specs.Format.{IsRadix};
 ghost use Rattle.lexical_lines.specs.Line.{short_line, bytes_of};
-ghost use Rattle.lexical_lines.specs.Request.{IsValue, IsValidLine, Asks, number_of};
+ghost use Rattle.lexical_lines.specs.Request.{IsValue, IsValidLine, Requests, number_of, requested_format};
 
 // The line that is being read.
 pub mod line;
@@ -16,6 +16,8 @@ pub mod sign;
 use crate::request::decimal_parser::{parse_decimal, split_radix};
 use crate::request::integer_type::IntegerType;
 use crate::request::sign::strip_sign;
+use lexical_num::format::NumberFormat;
+use lexical_num::format_builder::NumberFormatBuilder;
 
 /// A number of any of the ten types, as a number of one of the two widest types.
 #[derive(Clone, Copy)]
@@ -26,21 +28,12 @@ pub enum Number {
     Signed(i64),
 }
 
-/// A parsed line: the number to write, the radix, and whether a number that is not negative gets a
-/// `+`.
-#[derive(Clone, Copy)]
-pub struct Request {
-    pub plus: bool,
-    pub radix: u8,
-    pub number: Number,
-}
-
-/// Parses a line, which is `None` if it is longer than 64 bytes. Returns `None` if the line is not valid.
-pub fn parse(line: Option<&[u8]>) -> Option<Request>
+/// Parses a line, which is `None` if it is longer than 64 bytes. Returns the number to write and the
+/// format of its text, or `None` if the line is not valid.
+pub fn parse(line: Option<&[u8]>) -> Option<(Number, NumberFormat)>
     requires { IfSome line (λ bytes. length bytes.now ≤ 64) }
-    ensures radix { IfSome result (λ request. IsRadix request.radix) }
     ensures found { IfSome result (λ request. (bytes : List ℕ) → bytes_of line.entry ≡ short_line bytes
-        → Asks bytes request) }
+        → Requests bytes request.0 request.1) }
     ensures none { IfNone result ((bytes : List ℕ) → bytes_of line.entry ≡ short_line bytes
         → IsValidLine bytes → ⊥) }
 {
@@ -49,11 +42,19 @@ pub fn parse(line: Option<&[u8]>) -> Option<Request>
     let (plus, radix_value) = strip_sign(b'+', rest);
     let (radix, value) = split_radix(radix_value)?;
     let number = parse_value(kind, value)?;
-    Some(Request {
-        plus,
-        radix,
-        number,
-    })
+    Some((number, format_for(radix, plus)))
+}
+
+// Returns the format of a radix, with a `+` before each number that is not negative if `plus` is true.
+fn format_for(radix: u8, plus: bool) -> NumberFormat
+    requires { IsRadix radix }
+    ensures { result ≡ requested_format radix plus }
+{
+    NumberFormatBuilder::new()
+        .mantissa_radix(radix)
+        .exponent_radix(radix)
+        .required_mantissa_sign(plus)
+        .build_strict()
 }
 
 // Parses a number of this type: an optional `-`, and decimal digits.

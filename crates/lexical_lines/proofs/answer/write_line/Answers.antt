@@ -7,18 +7,18 @@ use Rattle.lexical_lines.proofs.answer.write_line.Goals as goal
 pub slice_bounds-room-end-2 : goal.slice_bounds-room-end-2
 slice_bounds-room-end-2 g c = sym (length-take-le 128 c.args.buffer.now (omega (arith, c.requires)))
 
-pub write_lexical_with_options-end-requires : goal.write_lexical_with_options-end-requires
-write_lexical_with_options-end-requires g c =
+pub write_text-end-requires : goal.write_text-end-requires
+write_text-end-requires g c =
     omega (arith, c.size_suffices.ensures.size, c.size_suffices.ensures.buffer, length-take-le 128 c.args.buffer.now (omega (arith, c.requires)))
 
 pub returns : goal.returns
 returns g c =
-    let written = Writes-front 128 c.args.buffer.now c.write_lexical_with_options-end.new.buffer _ c.write_lexical_with_options-end.ensures.text in
+    let written = Writes-front 128 c.args.buffer.now c.write_text-end.new.buffer _ c.write_text-end.ensures.text in
     Writes-newline _ _ _ written
     (omega (
       arith,
       written.count,
-      c.write_lexical_with_options-end.ensures.text.front.fits,
+      c.write_text-end.ensures.text.front.fits,
       length-take-le 128 c.args.buffer.now (omega (arith, c.requires)),
       c.requires,
     ))
