@@ -122,10 +122,21 @@ cuts_unique (line ∷ ended) (first ∷ other) rest last each_ended each_other i
     let more = cuts_unique ended other rest last (All-tail NoNewline line ended each_ended) (All-tail NoNewline first other each_other) inside within both.1 in
     (cc (both.0, more.0), more.1)
 
+pub IsCut-unique : {bytes : List ℕ} {ended other : List (List ℕ)} {rest last : List ℕ} → IsCut bytes ended rest → IsCut bytes other last
+    → (ended ≡ other) × (rest ≡ last)
+IsCut-unique p q = cuts_unique _ _ _ _ p.each q.each p.rest_inside q.rest_inside (sym p.whole ∙ q.whole)
+
 pub AreLines-unique : (bytes : List ℕ) (all other : List (List ℕ)) → AreLines bytes all → AreLines bytes other → all ≡ other
 AreLines-unique bytes all other p q =
-    let same = cuts_unique p.ended q.ended p.rest q.rest p.cut.each q.cut.each p.cut.rest_inside q.cut.rest_inside (sym p.cut.whole ∙ q.cut.whole) in
+    let same = IsCut-unique p.cut q.cut in
     p.are ∙ ap (λ ended. ended ++ rest_line p.rest) same.0 ∙ ap (λ rest. q.ended ++ rest_line rest) same.1 ∙ sym q.are
+
+-- if the last byte is a newline, it ends the last line
+pub AreLines-newline : (bytes : List ℕ) {ended : List (List ℕ)} {rest : List ℕ} → IsCut (bytes ++ 10 ∷ []) ended rest
+    → AreLines (bytes ++ 10 ∷ []) ended
+AreLines-newline bytes cut =
+    let (lines, last, front) = IsCut-exists bytes in
+    AreLines-ended cut (IsCut-unique cut (IsCut-newline front)).1
 
 -- ---- an input after another that ends with a newline
 

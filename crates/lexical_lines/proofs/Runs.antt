@@ -13,7 +13,7 @@ use Rattle.lexical_lines.specs.RunOutcome.{added, BreaksOff}
 use Rattle.lexical_lines.specs.Sink.{IsBeginning}
 use Rattle.lexical_lines.proofs.Added.{added-is}
 use Rattle.lexical_lines.proofs.Requests.{short_line-is}
-use Rattle.lexical_lines.proofs.Lines.{IsCut-more, IsCut-newline, AreLines-ended, AreLines-rest}
+use Rattle.lexical_lines.proofs.Lines.{IsCut-more, IsCut-newline, AreLines-ended, AreLines-newline, AreLines-rest, AreLines-unique}
 use Rattle.std.proofs.lemmas.List.{append-nil}
 
 -- ---- the answer to the next line
@@ -52,6 +52,23 @@ All-push_iff P (y ∷ xs) x h =
 and_iff : (a b : Bool) (P Q : Type 0) → (IsTrue a ↔ P) → (IsTrue b ↔ Q) → IsTrue (a && b) ↔ P × Q
 and_iff true b P Q p q = (λ e. (p.0 refl, q.0 e), λ both. q.1 both.1)
 and_iff false b P Q p q = (λ e. cc, λ both. p.1 both.0)
+
+-- a run that broke off after some bytes also broke off after others that have the same lines
+BreaksOff-as : {was is : Bool} {bytes read put : List ℕ} → IsTrue is ⊎ EndsLine read → ((all : List (List ℕ)) → AreLines bytes all → AreLines read all)
+    → BreaksOff was bytes put → BreaksOff is read put
+BreaksOff-as line_end same h = record {
+  line_end = line_end;
+  front = h.front;
+  last = h.last;
+  answers = h.answers;
+  part = h.part;
+  answer = h.answer;
+  cut = same _ h.cut;
+  answered = h.answered;
+  last_answer = h.last_answer;
+  beginning = h.beginning;
+  whole = h.whole;
+}
 
 module _ {before bytes taken : List ℕ} {answerer : Answerer} (h : HasAnswered before bytes taken answerer) where
   pub answers_after : (answer : List ℕ) → IsAnswer answerer.line_number h.rest answer → AreAnswers (h.ended ++ h.rest ∷ []) (h.answers ++ answer)
@@ -114,55 +131,37 @@ module _ {before bytes taken : List ℕ} {answerer : Answerer} (h : HasAnswered 
   pub answers_at_newline : answerer.line ≡ short_line [] → AnswersAll bytes (added before taken)
   answers_at_newline none = (h.ended, AreLines-ended h.cut (short_line-is (sym none ∙ h.last)), rw (sym answers_are) at h.answered)
 
-  -- if the answerer keeps bytes, they are the last line
-  pub lines_at_rest : (answerer.line ≡ short_line [] → ⊥) → AreLines bytes (h.ended ++ h.rest ∷ [])
-  lines_at_rest some = AreLines-rest h.cut (λ empty. some (h.last ∙ ap short_line empty))
-
-  pub lines_at_newline : AreLines (bytes ++ 10 ∷ []) (h.ended ++ h.rest ∷ [])
-  lines_at_newline = AreLines-ended (IsCut-newline h.cut) refl
-
-  -- all lines are answered
-  pub answers_at_rest : (put answer : List ℕ) → (answerer.line ≡ short_line [] → ⊥) → IsAnswer answerer.line_number h.rest answer
-      → put ≡ taken ++ answer → AnswersAll bytes (added before put)
-  answers_at_rest put answer some is e =
-      let put_is : h.answers ++ answer ≡ added before put = sym (added-is before put (h.answers ++ answer) (taken_after put answer e)) in
-      let answered = answers_after answer is in
-      (h.ended ++ h.rest ∷ [], lines_at_rest some, rw put_is at answered)
-
-  -- the sink failed during the answer to the last line
-  pub BreaksOff-from : (is_ended : Bool) (read put : List ℕ) → IsTrue is_ended ⊎ EndsLine read
-      → AreLines read (h.ended ++ h.rest ∷ []) → (answer : List ℕ) (part : List ℕ) → IsAnswer answerer.line_number h.rest answer
-      → IsBeginning part answer → put ≡ taken ++ part
-      → BreaksOff is_ended read (added before put)
-  BreaksOff-from is_ended read put line_end cut answer part is begins e = record {
-    line_end = line_end;
+  -- the sink failed during the answer to the line that a newline ends
+  pub BreaksOff-line : (put answer part : List ℕ) → IsAnswer answerer.line_number h.rest answer → IsBeginning part answer → put ≡ taken ++ part
+      → BreaksOff false (bytes ++ 10 ∷ []) (added before put)
+  BreaksOff-line put answer part is begins e = record {
+    line_end = inr (bytes, refl);
     front = h.ended;
     last = h.rest;
     answers = h.answers;
     part = part;
     answer = answer;
-    cut = cut;
+    cut = AreLines-ended (IsCut-newline h.cut) refl;
     answered = h.answered;
     last_answer = IsAnswer-counted (length h.ended + 1) answerer.line_number h.rest answer h.number is;
     beginning = begins;
     whole = added-is before put (h.answers ++ part) (taken_after put part e);
   }
 
+  -- ---- bytes after the last newline, whose answer is that to the line that a newline would end
+
+  pub lines_at_rest : {all : List (List ℕ)} → (answerer.line ≡ short_line [] → ⊥) → AreLines (bytes ++ 10 ∷ []) all → AreLines bytes all
+  lines_at_rest some are = rw (AreLines-unique _ _ _ are (AreLines-ended (IsCut-newline h.cut) refl))
+      (AreLines-rest h.cut (λ empty. some (h.last ∙ ap short_line empty)))
+
+  pub answers_at_rest : {put : List ℕ} {next : Answerer} → (answerer.line ≡ short_line [] → ⊥) → HasAnswered before (bytes ++ 10 ∷ []) put next
+      → AnswersAll bytes (added before put)
+  answers_at_rest some k =
+      (k.ended, lines_at_rest some (AreLines-newline bytes k.cut), rw (sym (added-is _ _ k.answers k.whole)) at k.answered)
+
+  pub BreaksOff-rest : {put : List ℕ} → (answerer.line ≡ short_line [] → ⊥) → BreaksOff false (bytes ++ 10 ∷ []) put → BreaksOff true bytes put
+  BreaksOff-rest some broke = BreaksOff-as (inl refl) (λ all. lines_at_rest some) broke
+
 -- a run that broke off after a newline also broke off if the input has ended
 pub BreaksOff-open : (is_ended : Bool) {bytes put : List ℕ} → BreaksOff false bytes put → BreaksOff is_ended bytes put
-BreaksOff-open is_ended h = record {
-  line_end = elim h.line_end [
-    | inl ended ↦ absurd (cc ended)
-    | inr newline ↦ inr newline
-  ];
-  front = h.front;
-  last = h.last;
-  answers = h.answers;
-  part = h.part;
-  answer = h.answer;
-  cut = h.cut;
-  answered = h.answered;
-  last_answer = h.last_answer;
-  beginning = h.beginning;
-  whole = h.whole;
-}
+BreaksOff-open is_ended h = BreaksOff-as (elim h.line_end [ inl ended ↦ absurd (cc ended) | inr newline ↦ inr newline ]) (λ all are. are) h

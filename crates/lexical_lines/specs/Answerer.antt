@@ -1,13 +1,11 @@
 -- The state of an answerer, and what its calls do to a sink.
-use Rattle.std.specs.Prelude.{◌≡◌, ℕ, ◌+◌, ◌-◌, ◌^◌, min, Bool, List, ◌++◌, length, Result, OnOk, OnErr, IfOk, ◌↔◌}
-use Rattle.std.specs.Prelude.{IsTrue, All}
+use Rattle.std.specs.Prelude.{◌≡◌, ℕ, ◌+◌, ◌-◌, ◌^◌, min, List, ◌++◌, length, Result, ◌↔◌, IsTrue, All}
 use Rattle.lexical_lines.specs.declared.answer.answerer.Answerer.{Answerer}
-use Rattle.lexical_lines.specs.Answer.{IsAnswer, AreAnswers}
+use Rattle.lexical_lines.specs.Answer.{AreAnswers}
 use Rattle.lexical_lines.specs.Line.{short_line}
 use Rattle.lexical_lines.specs.Lines.{IsCut}
 use Rattle.lexical_lines.specs.Request.{IsValidLine}
 use Rattle.lexical_lines.specs.RunOutcome.{added}
-use Rattle.lexical_lines.specs.Sink.{IsBeginning}
 use Rattle.lexical_lines.specs.Source.{failures_of}
 
 -- the answerer has received `bytes`. Its sink had taken `before` at the start. It has since taken the answers to the
@@ -29,11 +27,3 @@ pub record PutsMore {K A E : Type 0} (taken : K → List ℕ) (failure_count : K
   pub longer : taken new ≡ taken old ++ added (taken old) (taken new)
   pub failures : failure_count new ≡ failure_count old + failures_of result
   pub kept : keeps old new
-
--- the call writes the answer to a line, and returns whether the line is valid. If it returns an `Err`, it has written a
--- proper prefix of the answer
-pub record PutsAnswer {E : Type 0} (line_number : ℕ) (line old new : List ℕ) (result : Result Bool E) : Type 0 where
-  pub whole : OnOk result ((answer : List ℕ) × IsAnswer line_number line answer × (new ≡ old ++ answer))
-  pub valid : IfOk result (λ valid. IsTrue valid ↔ IsValidLine line)
-  pub broken : OnErr result ((answer : List ℕ) × (part : List ℕ) × IsAnswer line_number line answer
-      × IsBeginning part answer × (new ≡ old ++ part))

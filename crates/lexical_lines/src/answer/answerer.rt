@@ -1,12 +1,10 @@
 //! Answers lines whose bytes arrive in chunks.
 
-ghost use Rattle.std.specs.Prelude.{◌≡◌, ◌≤◌, length, IfSome, ℕ, ◌+◌, List, [], ◌∷◌, ◌++◌, false, true, IfOk};
+ghost use Rattle.std.specs.Prelude.{◌≡◌, ℕ, List, [], ◌∷◌, ◌++◌, false, true, IfOk, IfSome};
 ghost use Rattle.std.specs.Prelude.{OnOk, OnErr, IfNone};
 ghost use Rattle.std.specs.Io.{StartsWith};
-ghost use Rattle.lexical_num.specs.declared.constants.TheConstants.{BUFFER_SIZE};
 ghost use Rattle.lexical_lines.specs.Answer.{AnswersAll};
-ghost use Rattle.lexical_lines.specs.Answerer.{HasAnswered, PutsMore, PutsAnswer};
-ghost use Rattle.lexical_lines.specs.Line.{short_line, bytes_of};
+ghost use Rattle.lexical_lines.specs.Answerer.{HasAnswered, PutsMore};
 ghost use Rattle.lexical_lines.specs.Lines.{NoNewline};
 ghost use Rattle.lexical_lines.specs.RunOutcome.{added, ReportsAllValid, BreaksOff};
 
@@ -60,7 +58,7 @@ impl Answerer {
         if byte == NEWLINE {
             self.end_line(&[], sink)
         } else {
-            self.line.push(byte);
+            self.line.push_all(&[byte]);
             Ok(())
         }
     }
@@ -98,7 +96,9 @@ impl Answerer {
         ensures puts { PutsMore K.taken K.failures K.keeps sink.old sink.new result }
     {
         let line = self.line.ended(end);
-        let is_valid = put_answer(line, self.line_number, &mut self.answer, sink)?;
+        let (count, is_valid) = write_answer(line, self.line_number, &mut self.answer);
+        let (_, put) = put_all(sink, &self.answer[..count]);
+        put?;
         self.line.clear();
         self.line_number = self.line_number.saturating_add(1);
         self.all_valid &= is_valid;
@@ -121,30 +121,9 @@ impl Answerer {
         if self.line.is_empty() {
             return Ok(self.all_valid);
         }
-        let line = self.line.as_slice();
-        let is_valid = put_answer(line, self.line_number, &mut self.answer, sink)?;
-        Ok(self.all_valid & is_valid)
+        self.end_line(&[], sink)?;
+        Ok(self.all_valid)
     }
-}
-
-// Writes the answer to a line into `buffer`, and from there to the sink. Returns whether the line is
-// valid. `line` is `None` if the line is too long.
-fn put_answer<K: ByteSink>(
-    line: Option<&[u8]>,
-    line_number: u64,
-    buffer: &mut [u8],
-    sink: &mut K,
-) -> io::Result<bool>
-    requires short { IfSome line (λ bytes. length bytes.now ≤ 64) }
-    requires room { BUFFER_SIZE + 11 ≤ length buffer.old }
-    ensures answer { (bytes : List ℕ) → bytes_of line.entry ≡ short_line bytes
-        → PutsAnswer line_number bytes (K.taken sink.old) (K.taken sink.new) result }
-    ensures puts { PutsMore K.taken K.failures K.keeps sink.old sink.new result }
-{
-    let (count, is_valid) = write_answer(line, line_number, buffer);
-    let (_, put) = put_all(sink, &buffer[..count]);
-    put?;
-    Ok(is_valid)
 }
 
 // Returns the bytes before the first newline and the bytes after it, or `None` if there is no newline.

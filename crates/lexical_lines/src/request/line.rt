@@ -1,6 +1,6 @@
 // A buffer for the line that is being read.
 
-ghost use Rattle.std.specs.Prelude.{◌≡◌, ℕ, ◌≤◌, List, [], ◌∷◌, ◌++◌, ◌↔◌, take, Option, Some, None, IsTrue};
+ghost use Rattle.std.specs.Prelude.{◌≡◌, ℕ, ◌≤◌, List, [], ◌++◌, ◌↔◌, take, Option, Some, None, IsTrue};
 ghost use Rattle.std.specs.Prelude.{if◌then◌else◌, nat_le, IfSome, length};
 ghost use Rattle.lexical_lines.specs.Line.{short_line, bytes_of};
 
@@ -43,18 +43,6 @@ impl Line {
         self.count = 0;
     }
 
-    /// Appends a byte to the line.
-    pub fn push(&mut self, byte: u8)
-        ensures { (line : List ℕ) → self.old ≡ short_line line → self.new ≡ short_line (line ++ byte ∷ []) }
-    {
-        if self.count < MAX_LENGTH {
-            self.bytes[self.count] = byte;
-        }
-        if self.count <= MAX_LENGTH {
-            self.count += 1;
-        }
-    }
-
     /// Appends bytes to the line.
     pub fn push_all(&mut self, bytes: &[u8])
         ensures { (line : List ℕ) → self.old ≡ short_line line → self.new ≡ short_line (line ++ bytes.now) }
@@ -90,8 +78,8 @@ impl Line {
         self.as_slice()
     }
 
-    /// Returns the bytes of the line, or `None` if the line is longer than 64 bytes.
-    pub fn as_slice(&self) -> Option<&[u8]>
+    // Returns the bytes of the line, or `None` if the line is longer than 64 bytes.
+    fn as_slice(&self) -> Option<&[u8]>
         ensures value { bytes_of result ≡ self.now }
         ensures short { IfSome result (λ bytes. length bytes.now ≤ 64) }
     {

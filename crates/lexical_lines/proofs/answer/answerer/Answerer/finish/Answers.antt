@@ -1,24 +1,22 @@
-use Rattle.std.proofs.Common.{[], ◌∷◌, ◌++◌, true, refl, inl, ◌∙◌, arith}
+use Rattle.std.proofs.Common.{arith}
 use Rattle.std.proofs.lemmas.Result.{err_from_is_err_and}
 use Rattle.std.proofs.lemmas.Grind.{common_steps}
-use Rattle.lexical_lines.proofs.Runs.{answers_at_newline, answers_at_rest, lines_at_rest, valid_after, BreaksOff-from}
+use Rattle.lexical_lines.proofs.Lines.{AreLines-newline}
+use Rattle.lexical_lines.proofs.Runs.{answers_at_newline, answers_at_rest, lines_at_rest, BreaksOff-rest}
 use Rattle.lexical_lines.proofs.answer.answerer.Answerer.finish.Goals as goal
 
-pub returns-in_err-is_valid-clause-err : goal.returns-in_err-is_valid-clause-err
-returns-in_err-is_valid-clause-err g c = rw (err_from_is_err_and c.from_residual.result c.from_residual.ensures.1).1 (λ before read h.
-    let broke = (c.in_err-is_valid.ensures.answer h.rest (c.as_slice-line.ensures.value ∙ h.last)).broken in
-    BreaksOff-from h true read (g.K.ByteSink.taken c.put_answer.new.sink) (inl refl)
-    (lines_at_rest h (λ e. let wrong = c.if-is_empty.ensures.1 e in cc)) broke.0 broke.1 broke.2 broke.3 broke.4)
+pub returns-in_err-end_line-clause-err : goal.returns-in_err-end_line-clause-err
+returns-in_err-end_line-clause-err g c = rw (err_from_is_err_and c.from_residual.result c.from_residual.ensures.1).1 (λ before read h.
+    BreaksOff-rest h (λ e. let wrong = c.if-is_empty.ensures.1 e in cc) (c.in_err-end_line.ensures.err before read h))
 
 pub returns-clause-ok : goal.returns-clause-ok
 returns-clause-ok g c = λ before read h.
-    let put = (c.in_ok-is_valid.ensures.answer h.rest (c.as_slice-line.ensures.value ∙ h.last)).whole in
-    answers_at_rest h (g.K.ByteSink.taken c.put_answer.new.sink) put.0 (λ e. let wrong = c.if-is_empty.ensures.1 e in cc) put.1 put.2
+    answers_at_rest h (λ e. let wrong = c.if-is_empty.ensures.1 e in cc) (c.in_ok-end_line.ensures.ok before read h)
 
 pub returns-clause-valid : goal.returns-clause-valid
 returns-clause-valid g c = λ before read h.
-    let put = c.in_ok-is_valid.ensures.answer h.rest (c.as_slice-line.ensures.value ∙ h.last) in
-    (h.ended ++ h.rest ∷ [], lines_at_rest h (λ e. let wrong = c.if-is_empty.ensures.1 e in cc), valid_after h c.in_ok-is_valid.is_valid put.valid)
+    let whole = c.in_ok-end_line.ensures.ok before read h in
+    (whole.ended, lines_at_rest h (λ e. let wrong = c.if-is_empty.ensures.1 e in cc) (AreLines-newline read whole.cut), whole.valid)
 
 -- the check finds this proof by itself, but with an answer the refusal of a mistake says what is wrong
 pub returns-then-is_empty-clause-ok : goal.returns-then-is_empty-clause-ok
