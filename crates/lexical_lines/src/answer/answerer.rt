@@ -1,11 +1,12 @@
 //! Answers lines whose bytes arrive in chunks.
 
-ghost use Rattle.std.specs.Prelude.{◌≡◌, ℕ, List, [], ◌∷◌, ◌++◌, false, true, IfOk, IfSome};
+ghost use Rattle.std.specs.Prelude.{◌≡◌, ◌≤◌, ℕ, List, [], ◌∷◌, ◌++◌, take, false, true, IfOk, IfSome};
 ghost use Rattle.std.specs.Prelude.{OnOk, OnErr, IfNone};
 ghost use Rattle.std.specs.Io.{StartsWith};
 ghost use Rattle.lexical_lines.specs.Answer.{AnswersAll};
 ghost use Rattle.lexical_lines.specs.Answerer.{HasAnswered, PutsMore};
 ghost use Rattle.lexical_lines.specs.Lines.{NoNewline};
+ghost use Rattle.lexical_lines.specs.Sink.{IsBeginning};
 ghost use Rattle.lexical_lines.specs.RunOutcome.{added, ReportsAllValid, BreaksOff};
 
 use crate::answer::{MAX_ANSWER, write_answer};
@@ -95,14 +96,29 @@ impl Answerer {
             → BreaksOff false (read ++ (end.now ++ 10 ∷ [])) (added before (K.taken sink.new))) }
         ensures puts { PutsMore K.taken K.failures K.keeps sink.old sink.new result }
     {
-        let line = self.line.ended(end);
-        let (count, is_valid) = write_answer(line, self.line_number, &mut self.answer);
+        let count = self.answer_line(end);
         let (_, put) = put_all(sink, &self.answer[..count]);
         put?;
+        Ok(())
+    }
+
+    // Takes `end`, the last bytes of a line, and the newline after them. Writes the answer to the line to
+    // the start of its buffer, and returns its length.
+    fn answer_line(&mut self, end: &[u8]) -> usize
+        requires { NoNewline end.now }
+        ensures within { result ≤ MAX_ANSWER }
+        ensures whole { (before read taken : List ℕ) → HasAnswered before read taken self.old
+            → HasAnswered before (read ++ (end.now ++ 10 ∷ [])) (taken ++ take result self.new.answer) self.new }
+        ensures part { (before read taken part : List ℕ) → HasAnswered before read taken self.old
+            → IsBeginning part (take result self.new.answer)
+            → BreaksOff false (read ++ (end.now ++ 10 ∷ [])) (added before (taken ++ part)) }
+    {
+        let line = self.line.ended(end);
+        let (count, is_valid) = write_answer(line, self.line_number, &mut self.answer);
         self.line.clear();
         self.line_number = self.line_number.saturating_add(1);
         self.all_valid &= is_valid;
-        Ok(())
+        count
     }
 
     /// Ends the input, and returns whether all lines are valid. If there are bytes after the last

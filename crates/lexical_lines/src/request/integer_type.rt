@@ -83,6 +83,6 @@ impl IntegerType {
     {
         // The magnitude of the smallest number of a signed type is the largest number plus 1.
         let over = magnitude.saturating_sub(u64::from(minus));
-        (self.is_signed || !minus) && over <= self.largest()
+        (!minus || self.is_signed) && over <= self.largest()
     }
 }

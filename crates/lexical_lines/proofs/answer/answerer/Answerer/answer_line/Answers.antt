@@ -1,0 +1,23 @@
+use Rattle.std.proofs.Common.{[], ◌∷◌, ◌++◌, false, refl, sym, ap, subst, append_assoc}
+use Rattle.lexical_write_integer.proofs.Buffers.Prefixes.{take-Writes}
+use Rattle.lexical_lines.specs.Line.{short_line}
+use Rattle.lexical_lines.specs.RunOutcome.{added, BreaksOff}
+use Rattle.lexical_lines.proofs.Runs.{HasAnswered-more, HasAnswered-line, BreaksOff-line}
+use Rattle.lexical_lines.proofs.answer.answerer.Answerer.answer_line.Goals as goal
+
+pub returns-clause-whole : goal.returns-clause-whole
+returns-clause-whole c = λ before read taken h.
+    let end = c.args.end.now in
+    let whole = HasAnswered-more h end (record c.args.self.now { line = short_line (h.rest ++ end) }) c.requires refl refl refl in
+    let line = c.ended-line.ensures.value h.rest h.last in
+    let written = c.write_answer-count.ensures.answer (h.rest ++ end) line in
+    rw (sym (append_assoc read end (10 ∷ []))) (HasAnswered-line whole _ written.text _ _ (ap (λ text. taken ++ text) (take-Writes _ _ _ written))
+    written.is (c.write_answer-count.ensures.valid (h.rest ++ end) line) c.clear.ensures c.saturating_add-self.ensures refl)
+
+pub returns-clause-part : goal.returns-clause-part
+returns-clause-part c = λ before read taken part h begins.
+    let end = c.args.end.now in
+    let whole = HasAnswered-more h end (record c.args.self.now { line = short_line (h.rest ++ end) }) c.requires refl refl refl in
+    let written = c.write_answer-count.ensures.answer (h.rest ++ end) (c.ended-line.ensures.value h.rest h.last) in
+    subst (λ bytes. BreaksOff false bytes (added before (taken ++ part))) (append_assoc read end (10 ∷ []))
+    (BreaksOff-line whole _ written.text part written.is (rw (take-Writes _ _ _ written) at begins) refl)
