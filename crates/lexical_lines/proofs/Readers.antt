@@ -44,7 +44,7 @@ empty-right [] ys e = e
 empty-right (x ∷ xs) ys e = absurd (cc e)
 
 -- a reader that was at its end still is
-still-at_end : (before after : Option (List ℕ)) (more : List ℕ) → Consumes before after more → IsSome before → IsAtEnd before → IsAtEnd after
+pub still-at_end : (before after : Option (List ℕ)) (more : List ℕ) → Consumes before after more → IsSome before → IsAtEnd before → IsAtEnd after
 still-at_end None after more gave told ended = absurd (cc told)
 still-at_end (Some xs) None more gave told ended = absurd gave
 still-at_end (Some xs) (Some ys) more gave told ended = empty-right more ys (sym gave ∙ ended)

@@ -109,15 +109,14 @@ fn answer_blocks<S: BlockSource, K: BlockSink, const SIZE: usize>(
 {
     let mut block = [0u8; READ_BLOCK];
     let mut answerer = Answerer::new();
-    writer.flush()?;
     loop {
-        // A read may wait for input. Here all lines that have ended are answered, and the writer is flushed.
+        // A read may wait for input. Here all lines that have ended are answered.
+        writer.flush()?;
         let count = source.read_block(&mut block)?;
         if count == 0 {
             break;
         }
         answerer.push_all(&block[..count], writer)?;
-        writer.flush()?;
     }
     let all_valid = answerer.finish(writer)?;
     writer.flush()?;

@@ -1,127 +1,145 @@
-use Rattle.std.proofs.Common.{arith, rules, ◌∙◌, append-nil}
+use Rattle.std.proofs.Common.{◌≡◌, [], true, inl, inr, refl, sym, arith, rules, ◌∙◌, append-nil}
 use Rattle.std.proofs.Math.Bool.{or-true}
+use Rattle.std.proofs.KnownBytes.{Consumes-all}
 use Rattle.std.proofs.lemmas.Result.{err_from_is_err_and}
 use Rattle.std.specs.contracts.io.Error.{the_row}
-use Rattle.lexical_lines.specs.BlockWriter.{KeepsBytes-transitive}
-use Rattle.lexical_streams.proofs.Steps.{IsUnderWay-start, Yields-more, not_ended, read-ended, flush-failed, IsUnderWay-flushed, read-failed, push-failed}
-use Rattle.lexical_streams.proofs.Steps.{IsUnderWay-next, IsUnderWay-ended, finish-failed, last-failed, all-answered}
+use Rattle.lexical_lines.specs.BlockWriter.{KeepsBytes-reflexive, KeepsBytes-transitive}
+use Rattle.lexical_lines.proofs.Runs.{answers_ended}
+use Rattle.lexical_streams.proofs.Begun.{begins-ended, begins-broken, begins-last, begins-all}
+use Rattle.lexical_streams.proofs.Steps.{IsUnderWay-flushed, Yields-more, handed-all, not_ended, read-ended}
 use Rattle.lexical_streams.proofs.stream_answers.answer_blocks.Goals as goal
+
+pub loop-source-init : goal.loop-source-init
+loop-source-init g c = record {
+  read = search rules;
+  under_way = record {
+    no_failure = c.requires.no_failure;
+    written = KeepsBytes-reflexive _;
+    answered = rw c.requires.fresh (c.new-answerer.ensures _);
+  };
+}
+
+pub returns-in_err-flush-clause-err : goal.returns-in_err-flush-clause-err
+returns-in_err-flush-clause-err g c =
+    let h = c.loop-source.invariant.under_way in
+    let flush = c.in_err-flush.ensures in
+    rw (err_from_is_err_and c.from_residual.result c.from_residual.ensures.1).1 (inr (record {
+      failure = (h.no_failure.0, omega (arith, flush.failures, h.no_failure.1));
+      begins = begins-ended _ _ _ (rw flush.taken (answers_ended h.answered));
+    }))
+
+pub returns-in_err-flush-clause-written : goal.returns-in_err-flush-clause-written
+returns-in_err-flush-clause-written g c = KeepsBytes-transitive _ _ _ c.loop-source.invariant.under_way.written c.flush.ensures.kept
 
 pub returns-in_err-count-clause-err : goal.returns-in_err-count-clause-err
 returns-in_err-count-clause-err g c =
-    let loop = c.loop-count.invariant in
+    let flush = c.in_ok-flush.ensures in
     let read = c.in_err-count.ensures in
-    rw (err_from_is_err_and c.from_residual-in_err-count.result c.from_residual-in_err-count.ensures.1).1
-    (read-failed loop.under_way _ _ _ loop.flushed (read.yielded ∙ append-nil _) read.failures)
+    let h = IsUnderWay-flushed c.loop-source.invariant.under_way c.flush.new.self flush.taken flush.kept (omega (arith, flush.failures)) in
+    rw (err_from_is_err_and c.from_residual-in_err-count.result c.from_residual-in_err-count.ensures.1).1 (inl (record {
+      failure = (omega (arith, read.failures, h.no_failure.0), h.no_failure.1);
+      answers = rw (read.yielded ∙ append-nil _) (answers_ended h.answered);
+      handed = handed-all _ _ h.written flush.ok;
+    }))
+
+pub returns-in_err-count-clause-written : goal.returns-in_err-count-clause-written
+returns-in_err-count-clause-written g c = KeepsBytes-transitive _ _ _ c.loop-source.invariant.under_way.written c.flush.ensures.kept
 
 pub returns-in_err-push_all-clause-err : goal.returns-in_err-push_all-clause-err
 returns-in_err-push_all-clause-err g c =
-    let loop = c.loop-count.invariant in
+    let flush = c.in_ok-flush.ensures in
     let read = c.in_ok-count.ensures in
     let push = c.in_err-push_all.ensures in
-    let (front, starts, broke) = push.err _ _ loop.under_way.answered in
-    rw (err_from_is_err_and c.from_residual-in_err-push_all.result c.from_residual-in_err-push_all.ensures.1).1
-    (push-failed loop.under_way _ _ _ read.yielded (omega (arith, read.failures)) _ c.push_all.new.sink front starts broke push.puts.failures)
+    let h = IsUnderWay-flushed c.loop-source.invariant.under_way c.flush.new.self flush.taken flush.kept (omega (arith, flush.failures)) in
+    let (front, starts, broke) = push.err _ _ h.answered in
+    rw (err_from_is_err_and c.from_residual-in_err-push_all.result c.from_residual-in_err-push_all.ensures.1).1 (inr (record {
+      failure = (omega (arith, read.failures, h.no_failure.0), omega (arith, push.puts.failures, h.no_failure.1));
+      begins = rw read.yielded (begins-broken _ _ _ front _ starts broke);
+    }))
 
 pub returns-in_err-push_all-clause-read : goal.returns-in_err-push_all-clause-read
 returns-in_err-push_all-clause-read g c =
     let read = c.in_ok-count.ensures in
-    Yields-more _ _ _ _ _ _ _ _ _ c.requires.fresh c.loop-count.invariant.read read.within read.yielded read.remaining
+    Yields-more _ _ _ _ _ _ _ _ _ c.requires.fresh c.loop-source.invariant.read read.within read.yielded read.remaining
     (read.ended ∙ not_ended the_row.Denot _ c.in_ok-count.count c.if-count-eq0.false) read.bytes.0
 
 pub returns-in_err-push_all-clause-written : goal.returns-in_err-push_all-clause-written
-returns-in_err-push_all-clause-written g c =
-    KeepsBytes-transitive _ _ _ c.loop-count.invariant.under_way.written c.push_all.ensures.puts.kept
+returns-in_err-push_all-clause-written g c = KeepsBytes-transitive _ _ _ c.loop-source.invariant.under_way.written
+    (KeepsBytes-transitive _ _ _ c.flush.ensures.kept c.push_all.ensures.puts.kept)
 
-pub loop-count-preserved : goal.loop-count-preserved
-loop-count-preserved g c =
-    let loop = c.loop-count.invariant in
+pub loop-source-preserved : goal.loop-source-preserved
+loop-source-preserved g c =
+    let flush = c.in_ok-flush.ensures in
     let read = c.in_ok-count.ensures in
     let push = c.in_ok-push_all.ensures in
-    let flush = c.in_ok-flush-2.ensures in
-    let answered = IsUnderWay-next loop.under_way _ _ _ read.yielded (omega (arith, read.failures)) c.push_all.new.sink c.push_all.new.self
-    (push.ok _ _ loop.under_way.answered) push.puts.kept (omega (arith, push.puts.failures)) in
+    let h = IsUnderWay-flushed c.loop-source.invariant.under_way c.flush.new.self flush.taken flush.kept (omega (arith, flush.failures)) in
     record {
-      read = Yields-more _ _ _ _ _ _ _ _ _ c.requires.fresh loop.read read.within read.yielded read.remaining
+      read = Yields-more _ _ _ _ _ _ _ _ _ c.requires.fresh c.loop-source.invariant.read read.within read.yielded read.remaining
           (read.ended ∙ not_ended the_row.Denot _ c.in_ok-count.count c.if-count-eq0.false) read.bytes.0;
-      under_way = IsUnderWay-flushed answered c.flush-in-loop-count.new.self flush.taken flush.kept (omega (arith, flush.failures));
-      flushed = flush.ok;
+      under_way = record {
+        no_failure = (omega (arith, read.failures, h.no_failure.0), omega (arith, push.puts.failures, h.no_failure.1));
+        written = KeepsBytes-transitive _ _ _ h.written push.puts.kept;
+        answered = rw read.yielded (push.ok _ _ h.answered);
+      };
     }
-
-pub returns-in_err-flush-2-clause-err : goal.returns-in_err-flush-2-clause-err
-returns-in_err-flush-2-clause-err g c =
-    let loop = c.loop-count.invariant in
-    let read = c.in_ok-count.ensures in
-    let push = c.in_ok-push_all.ensures in
-    let flush = c.in_err-flush-2.ensures in
-    let answered = IsUnderWay-next loop.under_way _ _ _ read.yielded (omega (arith, read.failures)) c.push_all.new.sink c.push_all.new.self
-    (push.ok _ _ loop.under_way.answered) push.puts.kept (omega (arith, push.puts.failures)) in
-    rw (err_from_is_err_and c.from_residual-in_err-flush-2.result c.from_residual-in_err-flush-2.ensures.1).1
-    (flush-failed answered _ c.flush-in-loop-count.new.self flush.taken flush.failures)
-
-pub returns-in_err-flush-2-clause-read : goal.returns-in_err-flush-2-clause-read
-returns-in_err-flush-2-clause-read g c =
-    let read = c.in_ok-count.ensures in
-    Yields-more _ _ _ _ _ _ _ _ _ c.requires.fresh c.loop-count.invariant.read read.within read.yielded read.remaining
-    (read.ended ∙ not_ended the_row.Denot _ c.in_ok-count.count c.if-count-eq0.false) read.bytes.0
-
-pub returns-in_err-flush-2-clause-written : goal.returns-in_err-flush-2-clause-written
-returns-in_err-flush-2-clause-written g c = KeepsBytes-transitive _ _ _ c.loop-count.invariant.under_way.written
-    (KeepsBytes-transitive _ _ _ c.push_all.ensures.puts.kept c.flush-in-loop-count.ensures.kept)
 
 -- ---- the end of the input
 
 pub returns-in_err-all_valid-clause-err : goal.returns-in_err-all_valid-clause-err
 returns-in_err-all_valid-clause-err g c =
+    let flush = c.in_ok-flush.ensures in
     let read = c.in_ok-count.ensures in
     let finish = c.in_err-all_valid.ensures in
-    let h = IsUnderWay-ended c.loop-count.invariant.under_way (g.S.ByteSource.failures c.read_block.new.self) _ _ _ read.yielded
-    c.if-count-eq0.true (omega (arith, read.failures)) in
-    rw (err_from_is_err_and c.from_residual-in_err-all_valid.result c.from_residual-in_err-all_valid.ensures.1).1
-    (finish-failed h _ c.finish.new.sink ((rw c.if-count-eq0.true at read.ended) ∙ or-true _) (finish.err _ _ h.answered) finish.puts.failures)
+    let h = IsUnderWay-flushed c.loop-source.invariant.under_way c.flush.new.self flush.taken flush.kept (omega (arith, flush.failures)) in
+    let ended = (rw c.if-count-eq0.true at read.ended) ∙ or-true _ in
+    rw (err_from_is_err_and c.from_residual-in_err-all_valid.result c.from_residual-in_err-all_valid.ensures.1).1 (inr (record {
+      failure = (omega (arith, read.failures, h.no_failure.0), omega (arith, finish.puts.failures, h.no_failure.1));
+      begins = rw ((rw c.if-count-eq0.true at read.yielded) ∙ append-nil _) (begins-last _ _ _ ended (finish.err _ _ h.answered));
+    }))
 
 pub returns-in_err-all_valid-clause-written : goal.returns-in_err-all_valid-clause-written
-returns-in_err-all_valid-clause-written g c = KeepsBytes-transitive _ _ _ c.loop-count.invariant.under_way.written c.finish.ensures.puts.kept
+returns-in_err-all_valid-clause-written g c = KeepsBytes-transitive _ _ _ c.loop-source.invariant.under_way.written
+    (KeepsBytes-transitive _ _ _ c.flush.ensures.kept c.finish.ensures.puts.kept)
 
-pub returns-in_err-flush-3-clause-err : goal.returns-in_err-flush-3-clause-err
-returns-in_err-flush-3-clause-err g c =
+pub returns-in_err-flush-2-clause-err : goal.returns-in_err-flush-2-clause-err
+returns-in_err-flush-2-clause-err g c =
+    let flush = c.in_ok-flush.ensures in
     let read = c.in_ok-count.ensures in
     let finish = c.in_ok-all_valid.ensures in
-    let h = IsUnderWay-ended c.loop-count.invariant.under_way (g.S.ByteSource.failures c.read_block.new.self) _ _ _ read.yielded
-    c.if-count-eq0.true (omega (arith, read.failures)) in
-    rw (err_from_is_err_and c.from_residual-in_err-flush-3.result c.from_residual-in_err-flush-3.ensures.1).1
-    (last-failed h _ c.finish.new.sink c.flush-2.new.self ((rw c.if-count-eq0.true at read.ended) ∙ or-true _) (finish.ok _ _ h.answered)
-    (omega (arith, finish.puts.failures)) c.in_err-flush-3.ensures.taken c.in_err-flush-3.ensures.failures)
+    let last = c.in_err-flush-2.ensures in
+    let h = IsUnderWay-flushed c.loop-source.invariant.under_way c.flush.new.self flush.taken flush.kept (omega (arith, flush.failures)) in
+    let ended = (rw c.if-count-eq0.true at read.ended) ∙ or-true _ in
+    rw (err_from_is_err_and c.from_residual-in_err-flush-2.result c.from_residual-in_err-flush-2.ensures.1).1 (inr (record {
+      failure = (omega (arith, read.failures, h.no_failure.0), omega (arith, last.failures, finish.puts.failures, h.no_failure.1));
+      begins = rw ((rw c.if-count-eq0.true at read.yielded) ∙ append-nil _, last.taken) (begins-all _ _ _ ended (finish.ok _ _ h.answered));
+    }))
 
-pub returns-in_err-flush-3-clause-written : goal.returns-in_err-flush-3-clause-written
-returns-in_err-flush-3-clause-written g c = KeepsBytes-transitive _ _ _ c.loop-count.invariant.under_way.written
-    (KeepsBytes-transitive _ _ _ c.finish.ensures.puts.kept c.flush-2.ensures.kept)
+pub returns-in_err-flush-2-clause-written : goal.returns-in_err-flush-2-clause-written
+returns-in_err-flush-2-clause-written g c = KeepsBytes-transitive _ _ _ c.loop-source.invariant.under_way.written
+    (KeepsBytes-transitive _ _ _ c.flush.ensures.kept (KeepsBytes-transitive _ _ _ c.finish.ensures.puts.kept c.flush-2.ensures.kept))
 
 pub returns-clause-ok : goal.returns-clause-ok
 returns-clause-ok g c =
-    let loop = c.loop-count.invariant in
+    let loop = c.loop-source.invariant in
+    let flush = c.in_ok-flush.ensures in
     let read = c.in_ok-count.ensures in
     let finish = c.in_ok-all_valid.ensures in
-    let last = c.in_ok-flush-3.ensures in
-    let h = IsUnderWay-ended loop.under_way (g.S.ByteSource.failures c.read_block.new.self) _ _ _ read.yielded
-    c.if-count-eq0.true (omega (arith, read.failures)) in
+    let last = c.in_ok-flush-2.ensures in
+    let h = IsUnderWay-flushed loop.under_way c.flush.new.self flush.taken flush.kept (omega (arith, flush.failures)) in
     let (known, used_up) = read-ended _ _ _ _ _ _ _ loop.read.known read.bytes c.if-count-eq0.true (search rules) read.yielded in
-    all-answered h _ _ _ c.finish.new.sink c.flush-2.new.self ((rw c.if-count-eq0.true at read.ended) ∙ or-true _) known used_up
-    (finish.ok _ _ h.answered) (omega (arith, finish.puts.failures)) finish.puts.kept last.taken (omega (arith, last.failures)) last.kept last.ok
+    record {
+      no_failure = (omega (arith, read.failures, h.no_failure.0), omega (arith, last.failures, finish.puts.failures, h.no_failure.1));
+      ended = (rw c.if-count-eq0.true at read.ended) ∙ or-true _;
+      all = Consumes-all _ _ _ [] _ known used_up refl;
+      answers = rw ((rw c.if-count-eq0.true at read.yielded) ∙ append-nil _, last.taken) (finish.ok _ _ h.answered);
+      handed = handed-all _ _ (KeepsBytes-transitive _ _ _ h.written (KeepsBytes-transitive _ _ _ finish.puts.kept last.kept)) last.ok;
+    }
 
 pub returns-clause-valid : goal.returns-clause-valid
 returns-clause-valid g c =
-    let read = c.in_ok-count.ensures in
-    let h = IsUnderWay-ended c.loop-count.invariant.under_way (g.S.ByteSource.failures c.read_block.new.self) _ _ _ read.yielded
-    c.if-count-eq0.true (omega (arith, read.failures)) in
-    c.in_ok-all_valid.ensures.valid _ _ h.answered
+    let answered = rw (sym c.in_ok-flush.ensures.taken) at c.loop-source.invariant.under_way.answered in
+    rw ((rw c.if-count-eq0.true at c.in_ok-count.ensures.yielded) ∙ append-nil _) (c.in_ok-all_valid.ensures.valid _ _ answered)
 
 pub returns-clause-written : goal.returns-clause-written
-returns-clause-written g c = KeepsBytes-transitive _ _ _ c.loop-count.invariant.under_way.written
-    (KeepsBytes-transitive _ _ _ c.finish.ensures.puts.kept c.flush-2.ensures.kept)
-
-pub returns-in_err-flush-clause-err : goal.returns-in_err-flush-clause-err
-returns-in_err-flush-clause-err g c =
-    let flush = c.in_err-flush.ensures in
-    let start = IsUnderWay-start _ _ _ c.new-answerer.result c.requires.no_failure c.requires.fresh (c.new-answerer.ensures _) in
-    rw (err_from_is_err_and c.from_residual.result c.from_residual.ensures.1).1 (flush-failed start _ c.flush.new.self flush.taken flush.failures)
+returns-clause-written g c = KeepsBytes-transitive _ _ _ c.loop-source.invariant.under_way.written
+    (KeepsBytes-transitive _ _ _ c.flush.ensures.kept (KeepsBytes-transitive _ _ _ c.finish.ensures.puts.kept c.flush-2.ensures.kept))
