@@ -64,12 +64,12 @@ fn parse_value(kind: IntegerType, text: &[u8]) -> Option<Number>
 {
     let (minus, digits) = strip_sign(b'-', text);
     let magnitude = parse_decimal(digits)?;
-    if !kind.holds(minus, magnitude) {
-        None
-    } else if minus {
+    if minus && kind.holds(true, magnitude) {
         Some(Number::Signed(negated(magnitude)))
-    } else {
+    } else if !minus && kind.holds(false, magnitude) {
         Some(Number::Unsigned(magnitude))
+    } else {
+        None
     }
 }
 

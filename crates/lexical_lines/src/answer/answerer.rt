@@ -1,6 +1,6 @@
 //! Answers lines whose bytes arrive in chunks.
 
-ghost use Rattle.std.specs.Prelude.{◌≡◌, ◌≤◌, ℕ, List, [], ◌∷◌, ◌++◌, take, false, true, IfOk, IfSome};
+ghost use Rattle.std.specs.Prelude.{◌≡◌, ◌≤◌, ℕ, List, [], ◌∷◌, ◌++◌, ◌<◌, length, take, false, true, IfOk, IfSome};
 ghost use Rattle.std.specs.Prelude.{OnOk, OnErr, IfNone};
 ghost use Rattle.std.specs.Io.{StartsWith};
 ghost use Rattle.lexical_lines.specs.Answer.{AnswersAll};
@@ -56,12 +56,7 @@ impl Answerer {
             → BreaksOff false (read ++ byte ∷ []) (added before (K.taken sink.new))) }
         ensures puts { PutsMore K.taken K.failures K.keeps sink.old sink.new result }
     {
-        if byte == NEWLINE {
-            self.end_line(&[], sink)
-        } else {
-            self.line.push_all(&[byte]);
-            Ok(())
-        }
+        self.push_all(&[byte], sink)
     }
 
     /// Takes the next bytes, as a call of `push` for each of them would, and stops at the first error,
@@ -72,33 +67,18 @@ impl Answerer {
             → HasAnswered before (read ++ bytes.now) (K.taken sink.new) self.new) }
         ensures err { OnErr result ((before read : List ℕ)
             → HasAnswered before read (K.taken sink.old) self.old
-            → (front : List ℕ) × StartsWith bytes.now front
+            → (front : List ℕ) × (0 < length front) × StartsWith bytes.now front
             × BreaksOff false (read ++ front) (added before (K.taken sink.new))) }
         ensures puts { PutsMore K.taken K.failures K.keeps sink.old sink.new result }
     {
         let mut rest = bytes;
         while let Some((end, more)) = split_line(rest) {
-            self.end_line(end, sink)?;
+            let count = self.answer_line(end);
+            let (_, put) = put_all(sink, &self.answer[..count]);
+            put?;
             rest = more;
         }
         self.line.push_all(rest);
-        Ok(())
-    }
-
-    // Takes `end`, the last bytes of a line, and the newline after them, and writes the answer to the line.
-    fn end_line<K: ByteSink>(&mut self, end: &[u8], sink: &mut K) -> io::Result<()>
-        requires { NoNewline end.now }
-        ensures ok { OnOk result ((before read : List ℕ)
-            → HasAnswered before read (K.taken sink.old) self.old
-            → HasAnswered before (read ++ (end.now ++ 10 ∷ [])) (K.taken sink.new) self.new) }
-        ensures err { OnErr result ((before read : List ℕ)
-            → HasAnswered before read (K.taken sink.old) self.old
-            → BreaksOff false (read ++ (end.now ++ 10 ∷ [])) (added before (K.taken sink.new))) }
-        ensures puts { PutsMore K.taken K.failures K.keeps sink.old sink.new result }
-    {
-        let count = self.answer_line(end);
-        let (_, put) = put_all(sink, &self.answer[..count]);
-        put?;
         Ok(())
     }
 
@@ -137,7 +117,7 @@ impl Answerer {
         if self.line.is_empty() {
             return Ok(self.all_valid);
         }
-        self.end_line(&[], sink)?;
+        self.push(NEWLINE, sink)?;
         Ok(self.all_valid)
     }
 }

@@ -51,7 +51,7 @@ returns-in_err-push_all-clause-err g c =
     let read = c.in_ok-count.ensures in
     let push = c.in_err-push_all.ensures in
     let h = IsUnderWay-flushed c.loop-source.invariant.under_way c.flush.new.self flush.taken flush.kept (omega (arith, flush.failures)) in
-    let (front, starts, broke) = push.err _ _ h.answered in
+    let (front, some, starts, broke) = push.err _ _ h.answered in
     rw (err_from_is_err_and c.from_residual-in_err-push_all.result c.from_residual-in_err-push_all.ensures.1).1 (inr (record {
       failure = (omega (arith, read.failures, h.no_failure.0), omega (arith, push.puts.failures, h.no_failure.1));
       begins = rw read.yielded (begins-broken _ _ _ front _ starts broke);

@@ -5,17 +5,17 @@ use Rattle.lexical_lines.proofs.Lines.{AreLines-newline}
 use Rattle.lexical_lines.proofs.Runs.{answers_at_newline, answers_at_rest, lines_at_rest, BreaksOff-rest}
 use Rattle.lexical_lines.proofs.answer.answerer.Answerer.finish.Goals as goal
 
-pub returns-in_err-end_line-clause-err : goal.returns-in_err-end_line-clause-err
-returns-in_err-end_line-clause-err g c = rw (err_from_is_err_and c.from_residual.result c.from_residual.ensures.1).1 (λ before read h.
-    BreaksOff-rest h (λ e. let wrong = c.if-is_empty.ensures.1 e in cc) (c.in_err-end_line.ensures.err before read h))
+pub returns-in_err-push-clause-err : goal.returns-in_err-push-clause-err
+returns-in_err-push-clause-err g c = rw (err_from_is_err_and c.from_residual.result c.from_residual.ensures.1).1 (λ before read h.
+    BreaksOff-rest h (λ e. let wrong = c.if-is_empty.ensures.1 e in cc) (c.in_err-push.ensures.err before read h))
 
 pub returns-clause-ok : goal.returns-clause-ok
 returns-clause-ok g c = λ before read h.
-    answers_at_rest h (λ e. let wrong = c.if-is_empty.ensures.1 e in cc) (c.in_ok-end_line.ensures.ok before read h)
+    answers_at_rest h (λ e. let wrong = c.if-is_empty.ensures.1 e in cc) (c.in_ok-push.ensures.ok before read h)
 
 pub returns-clause-valid : goal.returns-clause-valid
 returns-clause-valid g c = λ before read h.
-    let whole = c.in_ok-end_line.ensures.ok before read h in
+    let whole = c.in_ok-push.ensures.ok before read h in
     (whole.ended, lines_at_rest h (λ e. let wrong = c.if-is_empty.ensures.1 e in cc) (AreLines-newline read whole.cut), whole.valid)
 
 -- the check finds this proof by itself, but with an answer the refusal of a mistake says what is wrong

@@ -1,8 +1,9 @@
-use Rattle.std.proofs.Common.{arith, ◌≡◌, ℕ, List, [], ◌∷◌, ◌++◌, false, refl, sym, ap, subst, ◌∙◌, append_assoc}
+use Rattle.std.proofs.Common.{arith, ◌≡◌, ◌<◌, ℕ, List, [], ◌∷◌, ◌++◌, length, take, drop, refl, sym, ap, ◌∙◌, append_assoc, length-append, length-drop}
+use Rattle.std.proofs.Common.{take-append-drop}
+use Rattle.std.proofs.lemmas.List.{take_all}
 use Rattle.std.proofs.lemmas.Result.{err_from_is_err_and}
 use Rattle.std.proofs.Transfers.{starts_with_of_append}
-use Rattle.lexical_lines.specs.Answerer.{HasAnswered}
-use Rattle.lexical_lines.specs.RunOutcome.{added, BreaksOff}
+use Rattle.lexical_lines.specs.Sink.{IsBeginning}
 use Rattle.lexical_lines.proofs.Added.{grown}
 use Rattle.lexical_lines.proofs.Runs.{HasAnswered-more}
 use Rattle.lexical_lines.proofs.answer.answerer.Answerer.push_all.Goals as goal
@@ -14,32 +15,42 @@ line_more bytes front rest end more e f = e ∙ ap (λ xs. front ++ xs) f ∙ re
     regroup : front ++ (end ++ 10 ∷ more) ≡ (front ++ (end ++ 10 ∷ [])) ++ more
     regroup = simp append_assoc
 
+-- fewer bytes than all are a proper prefix
+beginning : (count : ℕ) (bytes : List ℕ) → count < length bytes → IsBeginning (take count bytes) bytes
+beginning count bytes less = (drop count bytes, omega (arith, less, length-drop count bytes), sym (take-append-drop count bytes))
+
 pub loop-end-preserved : goal.loop-end-preserved
 loop-end-preserved g c =
     let (front, whole, reads) = c.loop-end.invariant.read in
     let line = c.in-Some.end.now ++ 10 ∷ [] in
+    let put = c.put_all-put.ensures in
+    let answer = take c.answer_line-count.result c.answer_line-count.new.self.answer in
+    let all = take_all c.put_all-put.result.0 answer (omega (arith, rw c.in_ok-put.was at put.ok)) in
     record {
       read = (
         front ++ line,
         line_more _ front _ c.in-Some.end.now c.in-Some.more.now whole c.in-Some.ensures.found,
-        λ before read h. subst (λ bytes. HasAnswered before bytes (g.K.ByteSink.taken c.end_line.new.sink) c.end_line.new.self)
-            (append_assoc read front line) (c.in_ok-end_line.ensures.ok before (read ++ front) (reads before read h)),
+        λ before read h. rw (put.taken, all, sym (append_assoc read front line))
+            (c.answer_line-count.ensures.whole before (read ++ front) _ (reads before read h)),
       );
-      taken = grown _ _ _ _ _ c.loop-end.invariant.taken c.end_line.ensures.puts.longer;
-      failures = omega (arith, c.in_ok-end_line.ensures.puts.failures, c.loop-end.invariant.failures);
-      kept = g.met.K.ByteSink.keeps_transitive _ _ _ c.loop-end.invariant.kept c.end_line.ensures.puts.kept;
+      taken = grown _ _ _ _ _ c.loop-end.invariant.taken put.taken;
+      failures = omega (arith, rw c.in_ok-put.was at put.failures, c.loop-end.invariant.failures);
+      kept = g.met.K.ByteSink.keeps_transitive _ _ _ c.loop-end.invariant.kept put.kept;
     }
 
-pub returns-in_err-end_line-clause-err : goal.returns-in_err-end_line-clause-err
-returns-in_err-end_line-clause-err g c =
+pub returns-in_err-put-clause-err : goal.returns-in_err-put-clause-err
+returns-in_err-put-clause-err g c =
     let (front, whole, reads) = c.loop-end.invariant.read in
     let line = c.in-Some.end.now ++ 10 ∷ [] in
+    let put = c.put_all-put.ensures in
+    let less = rw c.in_err-put.was at put.err in
     rw (err_from_is_err_and c.from_residual.result c.from_residual.ensures.1).1 (λ before read h. (
       front ++ line,
+      simp (length-append) (omega arith),
       starts_with_of_append c.args.bytes.now (front ++ line) c.in-Some.more.now
           (line_more _ front _ c.in-Some.end.now c.in-Some.more.now whole c.in-Some.ensures.found),
-      subst (λ bytes. BreaksOff false bytes (added before (g.K.ByteSink.taken c.end_line.new.sink))) (append_assoc read front line)
-          (c.in_err-end_line.ensures.err before (read ++ front) (reads before read h)),
+      rw (put.taken, sym (append_assoc read front line))
+          (c.answer_line-count.ensures.part before (read ++ front) _ _ (reads before read h) (beginning _ _ less)),
     ))
 
 pub returns-clause-ok : goal.returns-clause-ok
