@@ -59,43 +59,27 @@ AreLines-rest {ended = ended} {rest = rest} cut some = record {
 
 -- ---- every input has a cut
 
-onto_cut : (byte : ℕ) (bytes : List ℕ) → IsInside byte → ((ended : List (List ℕ)) × (rest : List ℕ) × IsCut bytes ended rest)
-    → (ended : List (List ℕ)) × (rest : List ℕ) × IsCut (byte ∷ bytes) ended rest
-onto_cut byte bytes inside ([], rest, h) = (
-  [],
-  byte ∷ rest,
-  record {
-    whole = ap (λ xs. byte ∷ xs) h.whole;
-    each = h.each;
-    rest_inside = All-cons IsInside byte rest inside h.rest_inside;
-  },
-)
-onto_cut byte bytes inside (line ∷ ended, rest, h) = (
-  (byte ∷ line) ∷ ended,
-  rest,
-  record {
-    whole = ap (λ xs. byte ∷ xs) h.whole;
-    each = All-cons NoNewline (byte ∷ line) ended (All-cons IsInside byte line inside (All-head NoNewline line ended h.each))
-        (All-tail NoNewline line ended h.each);
-    rest_inside = h.rest_inside;
-  },
-)
+-- the lines that ended are the first lines of a longer input
+IsCut-longer : {bytes : List ℕ} {ended : List (List ℕ)} {rest : List ℕ} (more : List ℕ) → IsCut bytes ended rest
+    → (others : List (List ℕ)) × (last : List ℕ) × IsCut (bytes ++ more) (ended ++ others) last
+IsCut-longer {bytes} {ended} {rest} [] h = ([], rest, rw (append-nil bytes, append-nil ended) h)
+IsCut-longer {bytes} {ended} {rest} (byte ∷ more) h = elim (cases_eq byte 10) [
+  | inl newline ↦
+      let (others, last, cut) = IsCut-longer more (IsCut-newline h) in
+      (rest ∷ others, last, rw (newline, sym (append_assoc bytes (10 ∷ []) more), sym (append_assoc ended (rest ∷ []) others)) cut)
+  | inr inside ↦
+      let (others, last, cut) = IsCut-longer more (IsCut-more (byte ∷ []) (All-cons IsInside byte [] inside (All-nil IsInside)) h) in
+      (others, last, rw (sym (append_assoc bytes (byte ∷ []) more)) cut)
+]
 
 IsCut-exists : (bytes : List ℕ) → (ended : List (List ℕ)) × (rest : List ℕ) × IsCut bytes ended rest
-IsCut-exists [] = ([], [], IsCut-none)
-IsCut-exists (byte ∷ bytes) = elim (cases_eq byte 10) [
-  | inl newline ↦
-      let (ended, rest, h) = IsCut-exists bytes in (
-        [] ∷ ended,
-        rest,
-        record {
-          whole = cc (newline, h.whole);
-          each = All-cons NoNewline [] ended (All-nil IsInside) h.each;
-          rest_inside = h.rest_inside;
-        },
-      )
-  | inr inside ↦ onto_cut byte bytes inside (IsCut-exists bytes)
-]
+IsCut-exists bytes = IsCut-longer bytes IsCut-none
+
+pub AreLines-longer : {bytes : List ℕ} {ended : List (List ℕ)} {rest : List ℕ} (more : List ℕ) → IsCut bytes ended rest
+    → (others : List (List ℕ)) × AreLines (bytes ++ more) (ended ++ others)
+AreLines-longer {ended = ended} more cut =
+    let (others, last, longer) = IsCut-longer more cut in
+    (others ++ rest_line last, record { ended = ended ++ others; rest = last; cut = longer; are = sym (append_assoc ended others (rest_line last)) })
 
 pub AreLines-exist : (bytes : List ℕ) → (all : List (List ℕ)) × AreLines bytes all
 AreLines-exist bytes =
@@ -138,40 +122,10 @@ AreLines-newline bytes cut =
     let (lines, last, front) = IsCut-exists bytes in
     AreLines-ended cut (IsCut-unique cut (IsCut-newline front)).1
 
--- ---- an input after another that ends with a newline
-
-IsCut-append : {bytes more : List ℕ} {ended others : List (List ℕ)} {rest : List ℕ} → IsCut bytes ended [] → IsCut more others rest
-    → IsCut (bytes ++ more) (ended ++ others) rest
-IsCut-append {ended = ended} {others = others} {rest = rest} p q = record {
-  whole = (λ i. p.whole i ++ q.whole i) ∙ simp (flat_map-append, append_assoc, append-nil);
-  each = All-append NoNewline ended others p.each q.each;
-  rest_inside = q.rest_inside;
-}
-
-pub AreLines-append : (bytes more : List ℕ) (all others : List (List ℕ)) → EndsLine bytes → AreLines bytes all
-    → AreLines more others → AreLines (bytes ++ more) (all ++ others)
-AreLines-append bytes more all others (front, ends) p q =
-    let (ended, rest, cut) = IsCut-exists front in
-    let newline = IsCut-newline {bytes = front} {ended = ended} {rest = rest} cut in
-    let first : IsCut bytes (ended ++ rest ∷ []) [] = rw (sym ends) at newline in
-    let same = AreLines-unique bytes all (ended ++ rest ∷ []) p (AreLines-ended first refl) in
-    record {
-      ended = (ended ++ rest ∷ []) ++ q.ended;
-      rest = q.rest;
-      cut = IsCut-append first q.cut;
-      are = (λ i. same i ++ q.are i) ∙ sym (append_assoc (ended ++ rest ∷ []) q.ended (rest_line q.rest));
-    }
-
--- the lines that ended are the first lines of a longer input
-pub AreLines-longer : {bytes : List ℕ} {ended : List (List ℕ)} {rest : List ℕ} (more : List ℕ) → IsCut bytes ended rest
-    → (others : List (List ℕ)) × AreLines (bytes ++ more) (ended ++ others)
-AreLines-longer {bytes = bytes} {ended = ended} {rest = rest} more cut =
-    let (others, last, further) = IsCut-exists (rest ++ more) in
-    let front : IsCut (with_newlines ended) ended [] =
-    record { whole = sym (append-nil (with_newlines ended)); each = cut.each; rest_inside = All-nil IsInside } in
-    let same : with_newlines ended ++ (rest ++ more) ≡ bytes ++ more = sym (append_assoc (with_newlines ended) rest more)
-    ∙ ap (λ xs. xs ++ more) (sym cut.whole) in
-    let both = IsCut-append front further in (
-      others ++ rest_line last,
-      record { ended = ended ++ others; rest = last; cut = rw same at both; are = sym (append_assoc ended others (rest_line last)) },
-    )
+-- the lines of an input that ends with a newline are the first lines of a longer input
+pub AreLines-more : (bytes more : List ℕ) (all : List (List ℕ)) → EndsLine bytes → AreLines bytes all
+    → (others : List (List ℕ)) × AreLines (bytes ++ more) (all ++ others)
+AreLines-more bytes more all (front, ends) are =
+    let (lines, last, cut) = IsCut-exists front in
+    let whole : IsCut bytes (lines ++ last ∷ []) [] = rw ends (IsCut-newline cut) in
+    rw (AreLines-unique bytes all (lines ++ last ∷ []) are (AreLines-ended whole refl)) (AreLines-longer more whole)

@@ -14,7 +14,7 @@ use Rattle.std.proofs.lemmas.List.{append-nil}
 use Rattle.lexical_lines.specs.Request.{IsRequest, IsValue, requested_format}
 use Rattle.lexical_lines.specs.RunOutcome.{BreaksOff}
 use Rattle.lexical_lines.specs.Sink.{IsBeginning}
-use Rattle.lexical_lines.proofs.Lines.{AreLines-append, AreLines-exist, AreLines-longer, AreLines-unique}
+use Rattle.lexical_lines.proofs.Lines.{AreLines-longer, AreLines-more, AreLines-unique}
 use Rattle.lexical_lines.proofs.Requests.{IsRequest-name, IsRequest-signed, IsRequest-value, IsValue-parts, radix_decimal, radix-stripped, value-stripped}
 
 -- a text is the value of one number only
@@ -85,8 +85,8 @@ lines_before is_ended bytes left all lines none (inl ended) p q =
     let same : bytes ++ left ≡ bytes = ap (λ rest. bytes ++ rest) (none ended) ∙ append-nil bytes in
     ([], AreLines-unique bytes all lines (rw same at q) p ∙ sym (append-nil lines))
 lines_before is_ended bytes left all lines none (inr ends) p q =
-    let (others, rest) = AreLines-exist left in
-    (others, AreLines-unique (bytes ++ left) all (lines ++ others) q (AreLines-append bytes left lines others ends p rest))
+    let (others, longer) = AreLines-more bytes left lines ends p in
+    (others, AreLines-unique (bytes ++ left) all (lines ++ others) q longer)
 
 pub BreaksOff-begins : (is_ended : Bool) (bytes left put text : List ℕ) → (IsTrue is_ended → left ≡ [])
     → BreaksOff is_ended bytes put → AnswersAll (bytes ++ left) text → IsBeginning put text
