@@ -1,6 +1,7 @@
 -- The source and the sink over slices, after a run.
 use Rattle.std.proofs.Common.{Bool, ◌≡◌, ℕ, ◌+◌, ◌-◌, ◌≤◌, false, IsTrue, List, [], ◌++◌, length, take, drop, sym, ap, ◌∙◌, arith, length-append}
 use Rattle.std.proofs.lemmas.List.{append-nil, take-append-drop, drop-drop, length-take-le}
+use Rattle.std.proofs.Math.Seq.{drop-append_seam}
 use Rattle.std.proofs.lemmas.Slice.{take-put_mid, drop-put_mid}
 use borrow.Rule.Slice.PartMut.{put_mid}
 use Rattle.lexical_write_integer.specs.Buffer.{Writes}
@@ -23,17 +24,15 @@ pub Writes-sink : {Is : List ℕ → Type 0} {a b : SliceSink} {before after : L
     → rest_in a ≡ before → KeepsBuffer a b → Is (taken_in b) → count ≡ length (taken_in b) → b.buffer.now ≡ after
     → Writes Is before after count
 Writes-sink {a = a} {b = b} none all kept is counted final =
-    let start = ap length none in
-    let room = ap length all in
-    let skipped : length (taken_in b) - length (taken_in a) ≡ length (taken_in b) = omega arith in
+    let whole = sym all ∙ kept.rest in
+    let count : length kept.over ≡ length (taken_in b) = omega (arith, kept.longer, ap length none) in
     record {
       text = taken_in b;
       is = is;
       front = record {
-        fits = omega (arith, kept.whole);
+        fits = omega (arith, ap length whole, length-append kept.over (rest_in b), count);
         written = sym final ∙ sym (take-append-drop b.count b.buffer.now)
-            ∙ ap (λ rest. taken_in b ++ rest) (kept.rest ∙ ap (λ n. drop n (rest_in a)) skipped
-            ∙ ap (drop (length (taken_in b))) all);
+            ∙ ap (λ rest. taken_in b ++ rest) (sym (drop-append_seam kept.over (rest_in b)) ∙ (λ i. drop (count i) (sym whole i)));
       };
       count = counted;
     }

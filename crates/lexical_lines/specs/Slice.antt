@@ -1,8 +1,6 @@
 -- The states of `SliceSource` and `SliceSink` in contracts.
-use Rattle.std.specs.Prelude.{◌≡◌, ◌⊎◌, ℕ, ◌+◌, ◌-◌, ◌≤◌, Bool, true, List, [], ◌++◌, length, take, drop, refl}
-use Rattle.std.proofs.Common.{arith, sym, ap, ◌∙◌, inl, inr}
-use Rattle.std.proofs.lemmas.List.{drop-drop}
-use Rattle.std.proofs.Math.Seq.{drop-nil}
+use Rattle.std.specs.Prelude.{◌≡◌, ◌⊎◌, ℕ, ◌+◌, Bool, true, List, [], ◌∷◌, ◌++◌, length, take, drop, refl}
+use Rattle.std.proofs.Common.{arith, sym, ap, ◌∙◌, inl, inr, append_assoc, length-append}
 use base.Fml.{GName}
 use Rattle.lexical_lines.specs.declared.devices.slice.SliceSink.{SliceSink}
 
@@ -37,12 +35,13 @@ loan_in sink = sink.buffer.ghost_name
 abbrev pub failures_in : SliceSink → ℕ
 failures_in sink = sink.trace.failures
 
--- the loan and the bytes after those that were taken are unchanged, and if the sink failed, its buffer is full
+-- the loan is unchanged. The first bytes of the rest were written over, and the others are unchanged. If the sink failed,
+-- its buffer is full
 pub record KeepsBuffer (a b : SliceSink) : Type 0 where
   pub loan : loan_in b ≡ loan_in a
-  pub longer : length (taken_in a) ≤ length (taken_in b)
-  pub whole : length (taken_in b) + length (rest_in b) ≡ length (taken_in a) + length (rest_in a)
-  pub rest : rest_in b ≡ drop (length (taken_in b) - length (taken_in a)) (rest_in a)
+  pub over : List ℕ
+  pub rest : rest_in a ≡ over ++ rest_in b
+  pub longer : length (taken_in b) ≡ length (taken_in a) + length over
   pub full : (failures_in b ≡ failures_in a) ⊎ (rest_in b ≡ [])
 
 -- ---- proofs that ghost members cite
@@ -54,36 +53,23 @@ pub KeepsSlice-transitive : (a b c : SliceReading) → KeepsSlice a b → KeepsS
 KeepsSlice-transitive a b c p q = record { whole = q.whole ∙ p.whole; at_end = λ none. q.at_end (p.at_end none) }
 
 pub KeepsBuffer-reflexive : (a : SliceSink) → KeepsBuffer a a
-KeepsBuffer-reflexive a =
-    let none : length (taken_in a) - length (taken_in a) ≡ 0 = omega arith in
-    record {
-      loan = refl;
-      longer = omega arith;
-      whole = refl;
-      rest = ap (λ n. drop n (rest_in a)) (sym none);
-      full = inl refl;
-    }
+KeepsBuffer-reflexive a = record { loan = refl; over = []; rest = refl; longer = omega arith; full = inl refl }
 
-full-transitive : (a b c : SliceSink) → KeepsBuffer a b → KeepsBuffer b c
-    → (failures_in c ≡ failures_in a) ⊎ (rest_in c ≡ [])
-full-transitive a b c p q = elim q.full [
-  | inr full ↦ inr full
-  | inl same ↦ elim p.full [
-    | inl before ↦ inl (same ∙ before)
-    | inr full ↦ inr (q.rest ∙ ap (drop (length (taken_in c) - length (taken_in b))) full
-        ∙ drop-nil (length (taken_in c) - length (taken_in b)))
-  ]
-]
+nothing-after : (xs ys : List ℕ) → xs ++ ys ≡ [] → ys ≡ []
+nothing-after [] ys none = none
+nothing-after (x ∷ xs) ys none = absurd (cc none)
 
 pub KeepsBuffer-transitive : (a b c : SliceSink) → KeepsBuffer a b → KeepsBuffer b c → KeepsBuffer a c
-KeepsBuffer-transitive a b c p q =
-    let first = length (taken_in b) - length (taken_in a) in
-    let second = length (taken_in c) - length (taken_in b) in
-    let both : first + second ≡ length (taken_in c) - length (taken_in a) = omega (arith, p.longer, q.longer) in
-    record {
-      loan = q.loan ∙ p.loan;
-      longer = omega (arith, p.longer, q.longer);
-      whole = q.whole ∙ p.whole;
-      rest = q.rest ∙ ap (drop second) p.rest ∙ drop-drop second first (rest_in a) ∙ ap (λ n. drop n (rest_in a)) both;
-      full = full-transitive a b c p q;
-    }
+KeepsBuffer-transitive a b c p q = record {
+  loan = q.loan ∙ p.loan;
+  over = p.over ++ q.over;
+  rest = p.rest ∙ ap (λ rest. p.over ++ rest) q.rest ∙ sym (append_assoc p.over q.over (rest_in c));
+  longer = omega (arith, p.longer, q.longer, length-append p.over q.over);
+  full = elim q.full [
+    | inr full ↦ inr full
+    | inl same ↦ elim p.full [
+      | inl before ↦ inl (same ∙ before)
+      | inr full ↦ inr (nothing-after q.over (rest_in c) (sym q.rest ∙ full))
+    ]
+  ];
+}

@@ -1,4 +1,4 @@
-use Rattle.std.proofs.Common.{Ok, ◌≡◌, ℕ, ◌+◌, ◌≤◌, length, drop, ap, arith, rules, inl, inr, length-take, length-drop, ◌∙◌}
+use Rattle.std.proofs.Common.{Ok, ◌≡◌, ℕ, ◌+◌, ◌≤◌, ◌++◌, length, take, drop, sym, ap, arith, rules, inl, inr, length-take, length-drop, take-append-drop, ◌∙◌}
 use Rattle.std.proofs.lemmas.List.{drop_all, length-take-le}
 use Rattle.lexical_lines.proofs.Slices.{put-taken, put-rest}
 use Rattle.lexical_lines.proofs.devices.slice.SliceSinkByteSink.put.Goals as goal
@@ -26,22 +26,11 @@ returns-clause-kept c =
     let rest = put-rest sink.count count sink.buffer.now new room written ∙ ap (λ bytes. drop count (drop sink.count bytes)) buffer
     ∙ ap (λ at. drop count (drop at old.buffer.now)) place in
     let was = length-take-le old.count old.buffer.now old.in_range in
-    let left = ap length rest in
     record {
       loan = search rules;
-      longer = omega (arith, taken, was, place);
-      whole = omega (
-        arith,
-        taken,
-        left,
-        was,
-        place,
-        room,
-        ap length buffer,
-        length-drop old.count old.buffer.now,
-        length-drop count (drop old.count old.buffer.now),
-      );
-      rest = rest ∙ ap (λ n. drop n (drop old.count old.buffer.now)) (omega (arith, taken, was, place));
+      over = take count (drop old.count old.buffer.now);
+      rest = sym (take-append-drop count (drop old.count old.buffer.now)) ∙ ap (λ bytes. take count (drop old.count old.buffer.now) ++ bytes) (sym rest);
+      longer = omega (arith, taken, was, place, c.min-count.ensures, length-take count (drop old.count old.buffer.now), length-drop old.count old.buffer.now);
       full = elim c.if-count-eq0.branch [
         | then-count-eq0+then-not-is_empty w ↦
             inr (rest ∙ drop_all count (drop old.count old.buffer.now)
