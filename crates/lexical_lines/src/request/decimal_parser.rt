@@ -36,6 +36,7 @@ pub fn split_radix(text: &[u8]) -> Option<(u8, &[u8])>
         → text.now ≢ digits ++ 32 ∷ rest) }
 {
     match text {
+        [ones, b' ', rest @ ..] if (b'2'..=b'9').contains(ones) => Some((*ones - b'0', rest)),
         [tens @ b'1'..=b'3', ones @ b'0'..=b'9', b' ', rest @ ..] => {
             let radix = (*tens - b'0') * 10 + (*ones - b'0');
             if is_radix(u64::from(radix)) {
@@ -44,7 +45,6 @@ pub fn split_radix(text: &[u8]) -> Option<(u8, &[u8])>
                 None
             }
         }
-        [ones @ b'2'..=b'9', b' ', rest @ ..] => Some((*ones - b'0', rest)),
         _ => None,
     }
 }

@@ -44,8 +44,10 @@ by_digits r digits rest text valid is e = elim (cases_lt r 10) [
   | inr many ↦ inr (many, rw (digits_unique 10 r _ _ (omega arith) is (two r many (omega (arith, valid.at_most_36)))) at e)
 ]
 
-pub returns-in-50-to-57-clause-found : goal.returns-in-50-to-57-clause-found
-returns-in-50-to-57-clause-found c = after_one c.args.text.now (grind arith) (grind arith) (grind arith)
+pub returns-in-32-clause-found : goal.returns-in-32-clause-found
+returns-in-32-clause-found c =
+    let within = c.if-contains.ensures.cases in
+    after_one c.args.text.now (grind (arith, within, c.new.ensures)) (grind (arith, within, c.new.ensures)) (grind arith)
 
 pub returns-then-is_radix-clause-found : goal.returns-then-is_radix-clause-found
 returns-then-is_radix-clause-found c =
