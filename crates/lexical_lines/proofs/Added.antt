@@ -12,8 +12,5 @@ grown a b c x y e f =
     let whole = f ∙ ap (λ front. front ++ y) e ∙ append_assoc a x y in
     whole ∙ ap (λ more. a ++ more) (sym (added-is a c (x ++ y) whole))
 
-pub grown-once : (a b x : List ℕ) → b ≡ a ++ x → b ≡ a ++ added a b
-grown-once a b x e = e ∙ ap (λ more. a ++ more) (sym (added-is a b x e))
-
 pub added-more : (a b c x : List ℕ) → b ≡ a ++ added a b → c ≡ b ++ x → added a c ≡ added a b ++ x
 added-more a b c x e f = added-is a c (added a b ++ x) (f ∙ ap (λ front. front ++ x) e ∙ append_assoc a (added a b) x)

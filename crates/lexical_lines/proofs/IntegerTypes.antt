@@ -1,5 +1,5 @@
 -- The ranges and the names of the integer types.
-use Rattle.std.proofs.Common.{◌≡◌, ℕ, ◌-◌, ◌/◌, ◌^◌, ◌<◌, ◌≤◌, zero, suc, Bool, true, false, List, ◌∷◌, ◌++◌, IsTrue, arith, refl, sym, ap, ◌∙◌, cond, eqb}
+use Rattle.std.proofs.Common.{◌≡◌, ℕ, ◌-◌, ◌/◌, ◌^◌, ◌<◌, ◌≤◌, zero, suc, Bool, true, false, List, ◌∷◌, ◌++◌, IsTrue, arith, refl, ap, cond, eqb}
 use Rattle.std.proofs.Common.{get_or, negsuc}
 use mir.Val.{bool_byte}
 use Rattle.std.proofs.lemmas.Int.{ints}
@@ -71,7 +71,6 @@ pub name_unique : (kind other : IntegerType) (rest more : List ℕ) → name_of 
 name_unique kind other rest more e =
     let letter = letter_unique kind.is_signed other.is_signed (ap (λ text. get_or text 0 0) e) in
     let tail : width_name kind.width ++ 32 ∷ rest ≡ width_name other.width ++ 32 ∷ more = cc in
-    let width : kind.width ≡ other.width = sym (width_at-name kind.width (32 ∷ rest)) ∙ ap (λ text. width_at (get_or text 0 0)) tail
-    ∙ width_at-name other.width (32 ∷ more) in
+    let width : kind.width ≡ other.width = grind (arith, width_at-name) in
     let after = append_cancel_left (width_name other.width) (32 ∷ rest) (32 ∷ more) (rw width at tail) in
     ((λ i. record { is_signed = letter i; width = width i }), cc (after))

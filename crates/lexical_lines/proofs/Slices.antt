@@ -12,9 +12,7 @@ use Rattle.lexical_lines.specs.Slice.{KeepsSlice, SliceReading, KeepsBuffer, res
 -- a source that has reported its end has yielded all its bytes
 pub yielded-ended : {a b : SliceReading} (bytes : List ℕ) → a.yielded ≡ [] → a.left ≡ bytes → a.is_ended ≡ false → KeepsSlice a b
     → IsTrue b.is_ended → b.yielded ≡ bytes
-yielded-ended {a} {b} bytes none all unended kept ended =
-    let left : b.left ≡ [] = kept.at_end (λ e. cc (e, unended)) ended in
-    sym (append-nil b.yielded) ∙ ap (λ rest. b.yielded ++ rest) (sym left) ∙ kept.whole ∙ ap (λ front. front ++ a.left) none ∙ all
+yielded-ended bytes none all unended kept ended = grind (arith, append-nil)
 
 pub yielded-part : {a b : SliceReading} (bytes : List ℕ) → a.yielded ≡ [] → a.left ≡ bytes → KeepsSlice a b → bytes ≡ b.yielded ++ b.left
 yielded-part {a} {b} bytes none all kept = sym (kept.whole ∙ ap (λ front. front ++ a.left) none ∙ all)
@@ -48,9 +46,7 @@ BreaksOff-full b full broke final =
 
 pub put-taken : (at count : ℕ) (buffer new : List ℕ) → at + count ≤ length buffer → length new ≡ count
     → length (take (at + count) (put_mid at (at + count - at) buffer new)) ≡ at + count
-put-taken at count buffer new room long =
-    ap length (take-put_mid at (at + count - at) buffer new (at + count) (omega arith) (omega arith))
-    ∙ omega (arith, length-append (take at buffer) new, length-take-le at buffer (omega arith))
+put-taken at count buffer new room long = grind (arith, take-put_mid, length-append, length-take-le)
 
 pub put-rest : (at count : ℕ) (buffer new : List ℕ) → at + count ≤ length buffer → length new ≡ count
     → drop (at + count) (put_mid at (at + count - at) buffer new) ≡ drop count (drop at buffer)

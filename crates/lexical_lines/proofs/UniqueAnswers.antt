@@ -19,10 +19,7 @@ use Rattle.lexical_lines.proofs.Requests.{IsRequest-name, IsRequest-signed, IsRe
 
 -- a text is the value of one number only
 IsValue-number : {kind other : IntegerType} {number second : ℤ} {text : List ℕ} → IsValue kind number text → IsValue other second text → number ≡ second
-IsValue-number h k =
-    let parts = IsValue-parts k h.digits h.minus h.whole (value-stripped h) in
-    let same : h.magnitude ≡ k.magnitude = sym h.decimal.value ∙ rw (sym parts.1) at k.decimal.value in
-    h.value ∙ ap (λ minus. with_sign minus h.magnitude) parts.0 ∙ ap (with_sign k.minus) same ∙ sym k.value
+IsValue-number h k = grind (arith, IsValue-parts, value-stripped)
 
 -- a line makes one request only
 IsRequest-unique : {kind other : IntegerType} {plus add : Bool} {radix base : ℕ} {number second : ℤ} {line : List ℕ}

@@ -8,13 +8,14 @@ use Rattle.lexical_lines.specs.Sink.{taken_by}
 use Rattle.lexical_lines.proofs.Added.{added-is}
 use Rattle.lexical_lines.specs.Stream.{StreamWriting, KeepsWriter}
 
-some_same : (a b : List ℕ) → Some a ≡ Some b → a ≡ b
-some_same a b e = cc
-
-known-appends : (old new : Option (List ℕ)) (bytes more : List ℕ) → old ≡ Some bytes → Appends old new more → new ≡ Some (bytes ++ more)
-known-appends None new bytes more known appends = absurd (cc known)
-known-appends (Some xs) None bytes more known appends = absurd appends
-known-appends (Some xs) (Some ys) bytes more known appends = ap Some (appends ∙ ap (λ front. front ++ more) (some_same xs bytes known))
+-- a sink that was empty contains what it has taken
+pub contents-known : (old new : Option (List ℕ)) (more items : List ℕ) → old ≡ Some [] → new ≡ Some items → Appends old new more → items ≡ more
+contents-known None new more items none some appends = absurd (cc none)
+contents-known (Some xs) None more items none some appends = absurd appends
+contents-known (Some xs) (Some ys) more items none some appends =
+    let same : items ≡ ys = cc in
+    let empty : xs ≡ [] = cc in
+    same ∙ appends ∙ ap (λ front. front ++ more) empty
 
 -- a write appends the bytes that it took
 pub appends-taken : {E : Type 0} (old new : Option (List ℕ)) (outcome : Result ℕ E) (bytes : List ℕ) → WriteAppends old new outcome bytes
@@ -27,6 +28,5 @@ pub answers_held : {W : Type 0} (contents : W → Option (List ℕ)) {bytes item
     → AnswersAll bytes (added a.taken b.taken) → KeepsWriter contents a b → contents a.writer ≡ Some [] → contents b.writer ≡ Some items
     → AnswersAll bytes items
 answers_held contents {bytes = bytes} {items = items} {a = a} {b = b} answers kept empty full =
-    let all : contents b.writer ≡ Some kept.more = known-appends _ _ [] _ empty kept.contents in
-    let same : items ≡ added a.taken b.taken = some_same items kept.more (sym full ∙ all) ∙ sym (added-is _ _ _ kept.taken) in
+    let same = contents-known _ _ kept.more items empty full kept.contents ∙ sym (added-is _ _ _ kept.taken) in
     subst (λ text. AnswersAll bytes text) (sym same) answers

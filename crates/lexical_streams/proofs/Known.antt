@@ -7,6 +7,7 @@ use Rattle.std.specs.Io.KnownBytes.{Appends, Consumes}
 use Rattle.lexical_lines.specs.Answer.{AnswersAll}
 use Rattle.lexical_lines.specs.BlockWriter.{BlockWriting}
 use Rattle.lexical_lines.specs.RunOutcome.{ReportsAllValid}
+pub use Rattle.lexical_lines.proofs.Writers.{contents-known}
 use Rattle.lexical_streams.specs.StreamAnswers.{AllAnswered, bytes_put}
 
 answers-limited : (limit : ℕ) (known : Option (List ℕ)) (read text : List ℕ) → IfSome (option_map (take limit) known) (λ bytes. read ≡ bytes)
@@ -34,12 +35,3 @@ pub begins-known : (limit : ℕ) (known new : Option (List ℕ)) (read : List �
 begins-known limit None new read h = tt
 begins-known limit (Some bytes) None read h = absurd h
 begins-known limit (Some bytes) (Some rest) read h = starts_with_of_append (take limit bytes) read rest h
-
--- a sink that was empty contains what it has taken
-pub contents-known : (old new : Option (List ℕ)) (more items : List ℕ) → old ≡ Some [] → new ≡ Some items → Appends old new more → items ≡ more
-contents-known None new more items none some appends = absurd (cc none)
-contents-known (Some xs) None more items none some appends = absurd appends
-contents-known (Some xs) (Some ys) more items none some appends = same_items items ys (sym some) ∙ appends ∙ ap (λ front. front ++ more) (same_items xs [] none)
-  where
-    same_items : (a b : List ℕ) → Some a ≡ Some b → a ≡ b
-    same_items a b e = cc

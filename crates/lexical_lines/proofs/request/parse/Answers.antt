@@ -1,4 +1,4 @@
-use Rattle.std.proofs.Common.{◌≡◌, sym, ◌∙◌}
+use Rattle.std.proofs.Common.{sym, ◌∙◌}
 use Rattle.lexical_lines.proofs.Decimals.{IsDecimalNumeral-from_digits}
 use Rattle.lexical_lines.proofs.Requests.{short_line-is, IsRequest-name, IsRequest-signed, IsRequest-value}
 use Rattle.lexical_lines.proofs.request.parse.Goals as goal

@@ -1,6 +1,4 @@
-use Rattle.std.proofs.Common.{◌≡◌, ◌∙◌, sym}
 use Rattle.lexical_lines.specs.Decimal.{IsDecimalNumeral}
-use Rattle.lexical_lines.specs.IntegerType.{Holds}
 use Rattle.lexical_lines.proofs.IntegerTypes.{Holds-lt}
 use Rattle.lexical_lines.proofs.Requests.{IsValue-parts}
 use Rattle.lexical_lines.proofs.request.parse_value.Goals as goal
