@@ -14,7 +14,7 @@ pub record PutsOnly {K : Type 0} (taken_bytes unflushed_bytes : K → List ℕ) 
   pub contents : Appends (known a) (known b) more
   pub flushes : counted b ≡ counted a
 
-module _ {K : Type 0} (taken_bytes unflushed_bytes : K → List ℕ) (known : K → Option (List ℕ)) (counted : K → ℕ) where
+module _ {K : Type 0} {taken_bytes unflushed_bytes : K → List ℕ} {known : K → Option (List ℕ)} {counted : K → ℕ} where
   pub PutsOnly-reflexive : (a : K) → PutsOnly taken_bytes unflushed_bytes known counted a a
   PutsOnly-reflexive a = record {
     more = [];

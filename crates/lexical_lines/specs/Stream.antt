@@ -7,7 +7,7 @@ use Rattle.std.proofs.Common.{◌∙◌, refl, sym, subst}
 use Rattle.std.proofs.KnownBytes.{Consumes-nil, Consumes-more}
 use Rattle.std.proofs.Math.Seq.{take-length, drop-length}
 use Rattle.std.proofs.Transfers.{starts_with_trans}
-use Rattle.lexical_lines.specs.Puts.{PutsOnly, PutsOnly-reflexive, PutsOnly-transitive}
+use Rattle.lexical_lines.specs.Puts.{PutsOnly}
 use Rattle.lexical_lines.specs.RunOutcome.{added}
 
 -- a source that reads from a reader: the reader, the number of bytes that it may still yield, whether it has reported
@@ -85,13 +85,3 @@ KeepsReader-transitive remaining a b c p q = record {
   bytes = Consumes-more _ _ _ a.yielded b.yielded c.yielded p.longer q.longer p.bytes q.bytes;
   at_end = λ told used. q.at_end (still-told _ _ _ p.bytes told) (p.at_end told used);
 }
-
-pub KeepsWriter-reflexive : {W : Type 0} (contents : W → Option (List ℕ)) (a : StreamWriting W)
-    → KeepsWriter contents a a
-KeepsWriter-reflexive contents =
-    PutsOnly-reflexive (λ s. s.taken) (λ s. s.unflushed) (λ s. contents s.writer) (λ s. s.flushes)
-
-pub KeepsWriter-transitive : {W : Type 0} (contents : W → Option (List ℕ)) (a b c : StreamWriting W)
-    → KeepsWriter contents a b → KeepsWriter contents b c → KeepsWriter contents a c
-KeepsWriter-transitive contents =
-    PutsOnly-transitive (λ s. s.taken) (λ s. s.unflushed) (λ s. contents s.writer) (λ s. s.flushes)

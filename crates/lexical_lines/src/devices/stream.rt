@@ -189,7 +189,8 @@ impl<W: Write> Writing<W> {
 }
 
 impl<W: Write> ByteSink for Writing<W> {
-    ghost use Rattle.lexical_lines.specs.Stream.{KeepsWriter, KeepsWriter-reflexive, KeepsWriter-transitive};
+    ghost use Rattle.lexical_lines.specs.Puts.{PutsOnly-reflexive, PutsOnly-transitive};
+    ghost use Rattle.lexical_lines.specs.Stream.{KeepsWriter};
 
     ghost taken = { λ s. s.taken };
 
@@ -197,9 +198,9 @@ impl<W: Write> ByteSink for Writing<W> {
 
     ghost keeps = { KeepsWriter W.contents };
 
-    ghost keeps_reflexive = { KeepsWriter-reflexive W.contents };
+    ghost keeps_reflexive = { PutsOnly-reflexive };
 
-    ghost keeps_transitive = { KeepsWriter-transitive W.contents };
+    ghost keeps_transitive = { PutsOnly-transitive };
 
     /// Passes `bytes` to the writer, and returns how many of them the writer has written.
     fn put(&mut self, bytes: &[u8]) -> io::Result<usize>
