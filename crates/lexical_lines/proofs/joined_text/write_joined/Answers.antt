@@ -17,13 +17,9 @@ loop-index-preserved g c =
     let x = c.index-values-index.result in
     let IsOf = λ (y : g.row.T.Denot). IsText (g.T.LexicalInteger.number y) format in
     let inside : index < length values = omega (arith, c.loop-index-test.true) in
+    let size = size_in g.T.FormattedSize.FORMATTED_SIZE g.T.FormattedSize.FORMATTED_SIZE_DECIMAL format in
     let room : c.loop-index.count < length c.args.buffer.now =
-    omega (
-      arith,
-      c.requires,
-      c.loop-index.invariant.within,
-      mul-le-mul_right (size_in g.T.FormattedSize.FORMATTED_SIZE g.T.FormattedSize.FORMATTED_SIZE_DECIMAL format + 1) inside,
-    ) in
+    omega (arith, c.requires, c.loop-index.invariant.within, mul-le-mul_right (size + 1) inside) in
     let before = take index values in
     let many : length before ≡ index = length-take-le index values (omega arith) in
     let next : take (index + 1) values ≡ before ++ x ∷ [] = take_more values index x inside ∙ ap (λ y. before ++ y ∷ []) (sym c.index-values-index.is) in
@@ -37,12 +33,9 @@ loop-index-preserved g c =
           rw (w.buffer-is, w.count-is) (Ready-one IsOf c.args.separator before x c.args.buffer.now c.loop-index.buffer
           c.loop-index.count (omega (arith, many, w.if-index-gt0.false)) was)
     ] in
-    let size = size_in g.T.FormattedSize.FORMATTED_SIZE g.T.FormattedSize.FORMATTED_SIZE_DECIMAL format in
     let within : c.if-index-gt0.count ≤ index * (size + 1) =
     elim c.if-index-gt0.branch [
-      | then-index-gt0 w ↦
-          let some : 1 ≤ index = omega (arith, w.if-index-gt0.true) in
-          omega (arith, w.count-is, c.loop-index.invariant.within, mul-le-mul_right (size + 1) some)
+      | then-index-gt0 w ↦ omega (arith, w.count-is, c.loop-index.invariant.within, mul-le-mul_right (size + 1) w.if-index-gt0.true)
       | else-index-gt0 w ↦ omega (arith, w.count-is, c.loop-index.invariant.within, mul-le-mul_right (size + 1) w.if-index-gt0.false)
     ] in
     let text = c.write_lexical_with_options-count.ensures.text in
