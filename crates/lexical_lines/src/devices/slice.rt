@@ -8,7 +8,7 @@ ghost use Rattle.lexical_lines.specs.Source.{yielded_by, reports_end, failures_o
 ghost use Rattle.lexical_write_integer.specs.Buffer.{Writes};
 
 use crate::answer::line_loop::run;
-use crate::devices::sink::ByteSink;
+use crate::devices::sink::{ByteSink, note_put};
 use crate::devices::source::ByteSource;
 use crate::devices::trace::Trace;
 use std::io;
@@ -150,13 +150,12 @@ impl ByteSink for SliceSink<'_> {
         ensures exact { result ≡ Ok (min (length bytes.now) (length (rest_in self.old))) }
     {
         let count = bytes.len().min(self.buffer.len() - self.count);
-        if count == 0 && !bytes.is_empty() {
-            self.trace.fault();
-        }
         let end = self.count + count;
         self.buffer[self.count..end].copy_from_slice(&bytes[..count]);
         self.count = end;
-        Ok(count)
+        let outcome = Ok(count);
+        note_put(&mut self.trace, bytes, &outcome);
+        outcome
     }
 }
 
