@@ -10,7 +10,6 @@ pub mod Signs
 pub mod Requests
 -- runs: what was appended to a list, and what an answerer has done
 pub mod Added
-pub mod Results
 pub mod Runs
 -- devices: sources and sinks over slices, readers and writers
 pub mod Slices

@@ -51,13 +51,6 @@ module _ {S : Type 0} (yielded : S → List ℕ) (remaining : S → ℕ) (unread
     at_end = λ told start now. still-at_end _ _ _ known (still-told _ _ _ p.known told) (p.at_end told start (sym same ∙ now));
   }
 
--- a read that yielded no bytes
-pub read-ended : (start old new : Option (List ℕ)) (before more block : List ℕ) (count : ℕ) → Consumes start old before
-    → Consumes old new (take count block) × (count ≡ 0 → 0 < length block → IsAtEnd new) → count ≡ 0 → 0 < length block
-    → more ≡ before ++ take count block → Consumes start new more × IsAtEnd new
-read-ended start old new before more block count p q none room is =
-    (subst (Consumes start new) (sym is) (Consumes-trans start old new before (take count block) p q.0), q.1 none room)
-
 -- a flush succeeded
 pub IsUnderWay-flushed : {failures : ℕ} {read : List ℕ} {c d : BlockWriting} {answerer : Answerer} → IsUnderWay failures read c d answerer
     → (e : BlockWriting) → taken e ≡ taken d → KeepsBytes d e → e.failures ≡ d.failures → IsUnderWay failures read c e answerer

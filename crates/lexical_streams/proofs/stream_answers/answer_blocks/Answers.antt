@@ -1,12 +1,12 @@
 use Rattle.std.proofs.Common.{◌≡◌, [], true, inl, inr, refl, sym, arith, rules, ◌∙◌, append-nil}
 use Rattle.std.proofs.Math.Bool.{or-true}
-use Rattle.std.proofs.KnownBytes.{Consumes-all}
+use Rattle.std.proofs.KnownBytes.{Consumes-all, Consumes-trans}
 use Rattle.std.proofs.lemmas.Result.{err_from_is_err_and}
 use Rattle.std.specs.contracts.io.Error.{the_row}
 use Rattle.lexical_lines.specs.BlockWriter.{KeepsBytes-reflexive, KeepsBytes-transitive}
 use Rattle.lexical_lines.proofs.Runs.{answers_ended}
 use Rattle.lexical_streams.proofs.Begun.{begins-ended, begins-broken, begins-last, begins-all}
-use Rattle.lexical_streams.proofs.Steps.{IsUnderWay-flushed, Yields-more, handed-all, not_ended, read-ended}
+use Rattle.lexical_streams.proofs.Steps.{IsUnderWay-flushed, Yields-more, handed-all, not_ended}
 use Rattle.lexical_streams.proofs.stream_answers.answer_blocks.Goals as goal
 
 pub loop-source-init : goal.loop-source-init
@@ -126,11 +126,11 @@ returns-clause-ok g c =
     let finish = c.in_ok-all_valid.ensures in
     let last = c.in_ok-flush-2.ensures in
     let h = IsUnderWay-flushed loop.under_way c.flush.new.self flush.taken flush.kept (omega (arith, flush.failures)) in
-    let (known, used_up) = read-ended _ _ _ _ _ _ _ loop.read.known read.bytes c.if-count-eq0.true (search rules) read.yielded in
+    let known = Consumes-trans _ _ _ _ _ loop.read.known read.bytes.0 in
     record {
       no_failure = (omega (arith, read.failures, h.no_failure.0), omega (arith, last.failures, finish.puts.failures, h.no_failure.1));
       ended = (rw c.if-count-eq0.true at read.ended) ∙ or-true _;
-      all = Consumes-all _ _ _ [] _ known used_up refl;
+      all = Consumes-all _ _ _ [] _ (rw read.yielded known) (read.bytes.1 c.if-count-eq0.true (search rules)) refl;
       answers = rw ((rw c.if-count-eq0.true at read.yielded) ∙ append-nil _, last.taken) (finish.ok _ _ h.answered);
       handed = handed-all _ _ (KeepsBytes-transitive _ _ _ h.written (KeepsBytes-transitive _ _ _ finish.puts.kept last.kept)) last.ok;
     }

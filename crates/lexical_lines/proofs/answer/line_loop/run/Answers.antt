@@ -1,12 +1,24 @@
-use Rattle.std.proofs.Common.{◌∙◌, ap, inr, true, ◌≡◌, ◌+◌, arith}
+use Rattle.std.proofs.Common.{◌∙◌, ap, inr, true, ◌≡◌, ◌+◌, ℕ, Result, Ok, Err, OnOk, OnErr, IfOk, arith}
 use Rattle.std.proofs.Math.Bool.{or-true}
 use Rattle.std.proofs.lemmas.List.{append-nil}
 use Rattle.std.proofs.lemmas.Result.{err_from_is_err_and}
 use Rattle.std.proofs.lemmas.Grind.{common_steps}
 use Rattle.lexical_lines.proofs.Added.{added-more, grown}
-use Rattle.lexical_lines.proofs.Results.{IfOk-no_failure, OnErr-one_failure}
+use Rattle.lexical_lines.specs.Source.{failures_of}
 use Rattle.lexical_lines.proofs.Runs.{BreaksOff-open}
 use Rattle.lexical_lines.proofs.answer.line_loop.run.Goals as goal
+
+-- a call that succeeded had no failure
+IfOk-no_failure : {A E P : Type 0} {Q R : A → Type 0} (before after : ℕ) (result : Result A E) → after ≡ before + failures_of result
+    → OnOk result P → IfOk result Q → ((a : A) → after ≡ before → P → Q a → R a) → IfOk result R
+IfOk-no_failure before after (Ok a) failures p q then = then a (omega (arith, failures)) p q
+IfOk-no_failure before after (Err e) failures p q then = tt
+
+-- a call that failed had one failure
+OnErr-one_failure : {A E P Q : Type 0} (before after : ℕ) (result : Result A E) → after ≡ before + failures_of result
+    → (after ≡ before + 1 → P → Q) → OnErr result P → OnErr result Q
+OnErr-one_failure before after (Ok a) failures then p = tt
+OnErr-one_failure before after (Err e) failures then p = then failures p
 
 pub loop-byte-preserved : goal.loop-byte-preserved
 loop-byte-preserved g c =

@@ -1,10 +1,8 @@
-use Rattle.std.proofs.Common.{rules, ◌≡◌, ◌<◌, ◌∙◌, ℕ, List, Some, None}
-use Rattle.std.specs.Prelude.{nat_le, if◌then◌else◌}
+use Rattle.std.proofs.Common.{refl, sym}
+use Rattle.std.proofs.lemmas.Bool.{lt-leb}
 use Rattle.lexical_lines.proofs.request.line.Line.as_slice.Goals as goal
-
-too_long : (count : ℕ) (bytes : List ℕ) → 64 < count → None ≡ (if nat_le count 64 then Some bytes else None)
-too_long count bytes long = search (rules, long)
 
 -- the check finds this proof by itself, but with an answer the refusal of a mistake says what is wrong
 pub returns-else-self-le-MAX_LENGTH-clause-value : goal.returns-else-self-le-MAX_LENGTH-clause-value
-returns-else-self-le-MAX_LENGTH-clause-value c = too_long c.self.inside.count _ c.if-self-le-MAX_LENGTH.false ∙ c.self.view_is
+returns-else-self-le-MAX_LENGTH-clause-value c =
+    rw (sym c.self.view_is, lt-leb c.self.inside.count 64 c.if-self-le-MAX_LENGTH.false) refl
