@@ -2,7 +2,7 @@
 use Rattle.std.proofs.Common.{◌≡◌, ℕ, ◌+◌, ◌-◌, ◌*◌, ◌^◌, ◌<◌, ◌≤◌, List, [], ◌∷◌, ◌++◌, length, get_or, map, take, drop, refl, sym, ap, ◌∙◌, arith}
 use Rattle.std.specs.List.{All}
 use Rattle.std.proofs.lemmas.List.{take_more, take-append-drop, length-map, map-append}
-use Rattle.std.proofs.lemmas.List.Elements.{All-head, All-tail, All-map, All-weaker, All-get_or}
+use Rattle.std.proofs.lemmas.List.Elements.{All-head, All-tail, All-map, All-weaker}
 use Rattle.std.proofs.Math.Nat.{one-le-pow, mul-le-mul_left}
 use Rattle.lexical_num.specs.Digit.{digit_char}
 use Rattle.lexical_write_integer.specs.Numeral.{value_of}
@@ -33,10 +33,6 @@ value_of-more text i h =
     ∙ ap (value_of 10) (map-append (λ byte. byte - 48) (take i text) (get_or text i 0 ∷ []))
     ∙ value_of-append 10 (digits_in (take i text)) ((get_or text i 0 - 48) ∷ [])
     ∙ omega (arith, value_of-one 10 (get_or text i 0 - 48))
-
--- each byte of a decimal number is a digit
-pub IsDecimalNumeral-byte : (n : ℕ) (text : List ℕ) (i : ℕ) → i < length text → IsDecimalNumeral n text → IsDigitByte (get_or text i 0)
-IsDecimalNumeral-byte n text i h d = All-get_or IsDigitByte text i 0 h d.bytes
 
 -- the value of the first bytes is at most the number
 pub IsDecimalNumeral-at_least : (n : ℕ) (text : List ℕ) (i : ℕ) → i < length text → IsDecimalNumeral n text

@@ -1,15 +1,8 @@
-use Rattle.std.proofs.Common.{get_or, arith, sym}
-use Rattle.std.proofs.lemmas.List.{take_all}
+use Rattle.std.proofs.Common.{get_or, arith}
 use Rattle.std.proofs.lemmas.List.Elements.{All-more}
 use Rattle.lexical_lines.specs.Decimal.{IsDigitByte}
-use Rattle.lexical_lines.proofs.Decimals.{IsDecimalNumeral-byte, IsDecimalNumeral-at_least, value_of-more}
+use Rattle.lexical_lines.proofs.Decimals.{IsDecimalNumeral-at_least, value_of-more}
 use Rattle.lexical_lines.proofs.request.decimal_parser.parse_decimal.Goals as goal
-
-pub returns-then-not-is_ascii_digit-clause-none : goal.returns-then-not-is_ascii_digit-clause-none
-returns-then-not-is_ascii_digit-clause-none c = λ number small spelled.
-    let digit = IsDecimalNumeral-byte number c.args.text.now c.loop-byte.byte-index c.loop-byte-test.true spelled in
-    let other = c.if-not-is_ascii_digit.ensures.cases in
-    grind (arith, digit.at_least, digit.at_most, other)
 
 pub returns-in_err-checked_mul-clause-none : goal.returns-in_err-checked_mul-clause-none
 returns-in_err-checked_mul-clause-none c = rw c.from_residual.ensures (λ number small spelled.
@@ -37,13 +30,4 @@ loop-byte-preserved c =
         c.in_ok-checked_mul.ensures,
         c.from-digit.ensures,
       );
-    }
-
-pub returns-clause-found : goal.returns-clause-found
-returns-clause-found c =
-    let whole = take_all c.loop-byte.byte-index c.args.text.now c.loop-byte-test.false in
-    record {
-      nonempty = grind (arith, c.if-is_empty.ensures);
-      bytes = rw whole at c.loop-byte.invariant.digits;
-      value = sym (rw whole at c.loop-byte.invariant.value);
     }
