@@ -57,6 +57,7 @@ IsDecimalNumeral-from_digits n text h =
     let below = h.numeral.numeral.below_radix in
     record {
       nonempty = rw (h.characters, length-map) h.numeral.numeral.nonempty;
-      bytes = rw h.characters (All-map IsDigitByte digit_char h.digits (All-weaker (λ d. d < 10) (λ d. IsDigitByte (digit_char d)) byte_of_digit h.digits below));
+      bytes = rw h.characters (All-map IsDigitByte digit_char h.digits
+          (All-weaker (λ d. d < 10) (λ d. IsDigitByte (digit_char d)) byte_of_digit h.digits below));
       value = rw (h.characters, digits_in-digit_char h.digits below) h.numeral.value;
     }

@@ -132,9 +132,9 @@ module _ {before bytes taken : List ℕ} {answerer : Answerer} (h : HasAnswered 
   answers_at_newline none = (h.ended, AreLines-ended h.cut (short_line-is (sym none ∙ h.last)), rw (sym answers_are) at h.answered)
 
   -- the sink failed during the answer to the line that a newline ends
-  pub BreaksOff-line : (put answer part : List ℕ) → IsAnswer answerer.line_number h.rest answer → IsBeginning part answer → put ≡ taken ++ part
-      → BreaksOff false (bytes ++ 10 ∷ []) (added before put)
-  BreaksOff-line put answer part is begins e = record {
+  pub BreaksOff-line : (answer part : List ℕ) → IsAnswer answerer.line_number h.rest answer → IsBeginning part answer
+      → BreaksOff false (bytes ++ 10 ∷ []) (added before (taken ++ part))
+  BreaksOff-line answer part is begins = record {
     line_end = inr (bytes, refl);
     front = h.ended;
     last = h.rest;
@@ -145,7 +145,7 @@ module _ {before bytes taken : List ℕ} {answerer : Answerer} (h : HasAnswered 
     answered = h.answered;
     last_answer = IsAnswer-counted (length h.ended + 1) answerer.line_number h.rest answer h.number is;
     beginning = begins;
-    whole = added-is before put (h.answers ++ part) (taken_after put part e);
+    whole = added-is before (taken ++ part) (h.answers ++ part) (taken_after (taken ++ part) part refl);
   }
 
   -- ---- bytes after the last newline, whose answer is that to the line that a newline would end

@@ -20,4 +20,4 @@ returns-clause-part c = λ before read taken part h begins.
     let whole = HasAnswered-more h end (record c.args.self.now { line = short_line (h.rest ++ end) }) c.requires refl refl refl in
     let written = c.write_answer-count.ensures.answer (h.rest ++ end) (c.ended-line.ensures.value h.rest h.last) in
     subst (λ bytes. BreaksOff false bytes (added before (taken ++ part))) (append_assoc read end (10 ∷ []))
-    (BreaksOff-line whole _ written.text part written.is (rw (take-Writes _ _ _ written) at begins) refl)
+    (BreaksOff-line whole written.text part written.is (rw (take-Writes _ _ _ written) at begins))

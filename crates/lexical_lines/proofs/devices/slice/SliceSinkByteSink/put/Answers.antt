@@ -19,7 +19,8 @@ returns-clause-kept c =
     let new = c.copy_from_slice.new.self in
     let left = drop old.count old.buffer.now in
     let room : old.count + count ≤ length old.buffer.now = omega (arith, c.min-count.ensures, old.in_range) in
-    let written : length new ≡ count = omega (arith, c.copy_from_slice.ensures.len, c.min-count.ensures, old.in_range, length-take {A = ℕ}, length-drop {A = ℕ}) in
+    let written : length new ≡ count =
+    omega (arith, c.copy_from_slice.ensures.len, c.min-count.ensures, old.in_range, length-take {A = ℕ}, length-drop {A = ℕ}) in
     let taken = put-taken old.count count old.buffer.now new room written in
     let rest = put-rest old.count count old.buffer.now new room written in
     let was = length-take-le old.count old.buffer.now old.in_range in
