@@ -36,8 +36,4 @@ returns-in-10-clause-at_most_64 g c =
     omega (arith, c.decimal_count.ensures, digit_count-le_64 10 _ _ (omega arith) g.met.T.UnsignedInteger.range.width c.fits_bits.ensures)
 
 pub returns-in_default-clause-notes : goal.returns-in_default-clause-notes
-returns-in_default-clause-notes g c =
-    slow_noted _ _ _ _
-    (not_at_once c.args.radix (λ e. absurd (omega arith)) (λ e. absurd (omega arith)) (λ e. absurd (omega arith))
-    (λ e. absurd (omega arith)) (λ e. absurd (omega arith))
-    (λ e. absurd (omega arith))) c.slow_digit_count_counted.ensures.notes
+returns-in_default-clause-notes g c = grind (arith, slow_noted, not_at_once)

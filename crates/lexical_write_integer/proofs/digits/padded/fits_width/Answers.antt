@@ -19,7 +19,4 @@ returns-then-number-eq0 c =
     (λ _. rw c.if-number-eq0.true (omega (arith, one-le-pow c.args.width c.args.radix (omega (arith, c.requires.at_least_two)))), λ _. grind (arith, nat_tests))
 
 pub returns-else-number-eq0 : goal.returns-else-number-eq0
-returns-else-number-eq0 c = (
-  λ test. below c.args.radix c.args.number c.args.width c.requires.at_least_two (grind (arith, nat_tests, c.digit_count.ensures.count)),
-  λ fits. let within = few c.args.radix c.args.number c.args.width (omega arith) fits in grind (arith, nat_tests, within, c.digit_count.ensures.count),
-)
+returns-else-number-eq0 c = grind (arith, below, nat_tests, few)

@@ -20,16 +20,10 @@ pub overflow_sub-zeros : goal.overflow_sub-zeros
 overflow_sub-zeros g c = few _ _ (length c.args.buffer.now) _ (grind (arith, nat_tests)) c.requires.fits c.digit_count.ensures.count
 
 pub radix-requires-clause-room : goal.radix-requires-clause-room
-radix-requires-clause-room g c =
-    let room = few _ _ (length c.args.buffer.now) _ (grind (arith, nat_tests)) c.requires.fits c.digit_count.ensures.count in
-    let long =
-    ap length (zeros_are _ c.args.buffer.now _ (omega arith) c.write_zeros.ensures)
-    ∙ length-replicate (length c.args.buffer.now - c.digit_count.result) 48 in
-    omega (arith, room, c.digit_count.ensures.count, long, length-take {A = ℕ}, length-drop {A = ℕ}, length-append {A = ℕ})
+radix-requires-clause-room g c = grind (arith, few, nat_tests, zeros_are, length-replicate, length-take, length-drop, length-append)
 
 pub returns-clause-digits : goal.returns-clause-digits
 returns-clause-digits g c =
-    let room = few _ _ (length c.args.buffer.now) _ (grind (arith, nat_tests)) c.requires.fits c.digit_count.ensures.count in
     let zeros = length c.args.buffer.now - c.digit_count.result in
     let long = length-replicate zeros 48 in
     let front : Front c.args.buffer.now (c.write_zeros.new.buffer ++ drop zeros c.args.buffer.now) (replicate zeros 48) = record {
@@ -37,7 +31,7 @@ returns-clause-digits g c =
       written = rw (zeros_are zeros c.args.buffer.now _ (omega arith) c.write_zeros.ensures, long) refl;
     } in
     let width : zeros + digit_count c.args.radix (g.T.UnsignedInteger.magnitude c.args.value) ≡ length c.args.buffer.now =
-    omega (arith, room, c.digit_count.ensures.count) in
+    omega (arith, c.digit_count.ensures.count) in
     Writes-after (replicate zeros 48) c.args.buffer.now _ _ zeros _ _ (sym long) front
     (λ text. IsPadded-digits c.args.radix (g.T.UnsignedInteger.magnitude c.args.value) zeros
     (length c.args.buffer.now) text c.requires.radix.at_least_two width)

@@ -41,11 +41,4 @@ returns-then-at-eq1 c =
     (WritesBlock-whole {n = n} l.invariant.rest last (rw (digit_char-decimal l.left small) at first))
 
 pub returns-else-at-eq1 : goal.returns-else-at-eq1
-returns-else-at-eq1 c =
-    let l = c.loop-at in
-    let n = c.args.number in
-    let none : l.at ≡ 0 = omega (arith, c.loop-at-test.false, c.if-at-eq1.false) in
-    let all : length c.args.buffer.now - l.at ≡ length c.args.buffer.now = omega (arith, none) in
-    let block = subst (λ k. WritesBlock 10 k (n % 10 ^ k) l.at c.args.buffer.now l.buffer) all l.invariant.block in
-    subst (λ k. WritesBlock 10 (length c.args.buffer.now) k 0 c.args.buffer.now l.buffer) (mod-eq_of_lt c.requires)
-    (subst (λ k. WritesBlock 10 (length c.args.buffer.now) (n % 10 ^ length c.args.buffer.now) k c.args.buffer.now l.buffer) none block)
+returns-else-at-eq1 c = grind (arith, mod-eq_of_lt)

@@ -1,4 +1,4 @@
-use Rattle.std.proofs.Common.{◌≡◌, ◌+◌, ◌-◌, length, take, drop, ◌∙◌, arith, length-drop}
+use Rattle.std.proofs.Common.{◌≡◌, ◌+◌, ◌-◌, take, drop, ◌∙◌, arith, length-drop}
 use Rattle.std.proofs.lemmas.List.{length-take-le}
 use Rattle.lexical_write_integer.proofs.Buffers.Blocks.{WritesBlock-copied}
 use Rattle.lexical_write_integer.proofs.OfDigits.Numerals.{IsBlockOf-pair}

@@ -23,11 +23,7 @@ room g c = IsDivided-room c.requires.radix.at_least_two c.loop-left.invariant.di
 block : (g : _) (c : In-loop-left g)
     → WritesBlock g.row.RADIX 1 (c.loop-left.left % g.row.RADIX ^ 1) (c.loop-left.index - 1) c.loop-left.buffer
     (set c.loop-left.buffer (c.loop-left.index - 1) (digit_char (c.loop-left.left % c.from-radix.result)))
-block g c =
-    let some : 0 < g.row.RADIX = omega arith in
-    rw (pow-one, c.from-radix.ensures)
-    (WritesBlock-one g.row.RADIX (c.loop-left.left % g.row.RADIX) (c.loop-left.index - 1) c.loop-left.buffer
-    (mod-lt c.loop-left.left some) (omega (arith, room g c)))
+block g c = grind (arith, pow-one, WritesBlock-one, mod-lt, room)
 
 pub loop-left-init : goal.loop-left-init
 loop-left-init g c = record {

@@ -1,6 +1,6 @@
 use Rattle.std.proofs.Common.{◌≡◌, ◌+◌, ◌/◌, ◌^◌, ◌++◌, ◌∙◌, arith}
 use Rattle.lexical_write_integer.specs.Buffer.{WritesDigits}
-use Rattle.lexical_write_integer.specs.Digits.LoopTurns.{loop_notes, slow_notes}
+use Rattle.lexical_write_integer.specs.Digits.LoopTurns.{loop_notes}
 use Rattle.lexical_write_integer.proofs.Buffers.BlocksAfter.{WritesDigits-after}
 use Rattle.lexical_write_integer.proofs.OfDigits.Radix.Loops.Records.{slow_notes-after}
 use Rattle.lexical_write_integer.proofs.OfDigits.Radix.Loops.ShortNumbers.{HasEight-of}
@@ -35,21 +35,7 @@ returns-clause-digits g t c =
     rw total at (WritesDigits-after n two both.value c.requires.room four c.write_last_four-2.ensures)
 
 pub returns-clause-counted : goal.returns-clause-counted
-returns-clause-counted g t c =
-    let two = c.args.table.is_radix.at_least_two in
-    let r = g.row.R in
-    let n = c.args.value in
-    let first = c.remove_four-first.ensures.left in
-    let both = HasEight-of two c.requires.long in
-    let counted = c.if-second-eighth_power.counted in
-    let before : counted ≡ c.tick-2.new.self ++ slow_notes r c.remove_four-second.result =
-    elim c.if-second-eighth_power.branch [
-      | then-second-eighth_power w ↦ rw w.counted-is w.count_and_write_up_to_eight-head.ensures.counted
-      | else-second-eighth_power w ↦ rw w.counted-is w.count_and_write_more-head.ensures.counted
-    ] in
-    slow_notes-after r n c.args.counted.now c.tick.new.self counted two both.value (rw first at c.tick.ensures)
-    (slow_notes-after r (n / r ^ 4) c.tick.new.self c.tick-2.new.self counted two both.first
-    (rw (c.remove_four-second.ensures.left, first) at c.tick-2.ensures) (rw (c.remove_four-second.ensures.left, first) at before))
+returns-clause-counted g t c = grind (arith, HasEight-of, slow_notes-after)
 
 -- the check finds this proof by itself, but with an answer the refusal of a mistake says what is wrong
 pub returns-clause-written : goal.returns-clause-written

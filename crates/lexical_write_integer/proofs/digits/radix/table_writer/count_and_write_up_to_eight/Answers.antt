@@ -37,24 +37,11 @@ count_and_write_up_to_four-head-requires g c =
     let c' = (goal.at.count_and_write_up_to_four-head-requires g c).After-remove_four-left in
     (lit< tt, (left_short g c', omega (arith, c.remove_four-left.ensures.digits, c.requires.room)))
 
-pub write_last_four-requires : goal.write_last_four-requires
-write_last_four-requires g c =
-    let c' = (goal.at.write_last_four-requires g c).After-remove_four-left in
-    let head = c.count_and_write_up_to_four-head in
-    (lit< tt, (c.remove_four-left.ensures.left, omega (arith, head.ensures.digits.count, c.remove_four-left.ensures.digits, c.requires.room, head.auto.buffer)))
-
 pub returns-clause-digits : goal.returns-clause-digits
-returns-clause-digits g c =
-    let c' = (goal.at.returns-clause-digits g c).After-remove_four-left in
-    WritesDigits-after c.args.value c.args.table.is_radix.at_least_two (long g c') c.requires.room
-    (rw c.remove_four-left.ensures.left at c.count_and_write_up_to_four-head.ensures.digits) c.write_last_four.ensures
+returns-clause-digits g c = grind (arith, WritesDigits-after, long)
 
 pub returns-clause-counted : goal.returns-clause-counted
-returns-clause-counted g c =
-    let c' = (goal.at.returns-clause-counted g c).After-remove_four-left in
-    let left = c.remove_four-left.ensures.left in
-    slow_notes-after g.row.R c.args.value c.args.counted.now c.tick.new.self c.count_and_write_up_to_four-head.new.counted
-    c.args.table.is_radix.at_least_two (long g c') (rw left at c.tick.ensures) (rw left at c.count_and_write_up_to_four-head.ensures.counted)
+returns-clause-counted g c = grind (arith, slow_notes-after, long)
 
 -- the check finds this proof by itself, but with an answer the refusal of a mistake says what is wrong
 pub returns-clause-written : goal.returns-clause-written

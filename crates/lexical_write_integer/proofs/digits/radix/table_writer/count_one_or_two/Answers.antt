@@ -26,7 +26,4 @@ returns-clause-count c =
     sym (digit_count-two c.args.radix c.args.number c.requires.radix.at_least_two long c.requires.short)
 
 pub returns-clause-counted : goal.returns-clause-counted
-returns-clause-counted c =
-    let long = quotient-some c.args.radix c.args.number (omega (arith, c.if-left-eq0.false)) in
-    let last = slow_notes-two c.args.radix c.args.number c.requires.radix.at_least_two long c.requires.short in
-    rw (last, ← c.from.ensures) c.tick.ensures
+returns-clause-counted c = grind (arith, quotient-some, slow_notes-two)

@@ -33,10 +33,4 @@ returns-clause-count g c =
     omega (arith, rw (← pow-two) at c.count_one_or_two-2.ensures.count, split)
 
 pub returns-clause-counted : goal.returns-clause-counted
-returns-clause-counted g c =
-    let r = g.row.R in
-    let more = long g (goal.at.returns-clause-counted g c).After-tick in
-    let pair = slow_notes-pair r c.args.number c.requires.radix.at_least_two more c.requires.short in
-    rw (pair, pow-two)
-    (after_first c.args.counted.now c.tick.new.self c.count_one_or_two-2.new.counted _ _ (rw c.from.ensures at c.tick.ensures)
-    c.count_one_or_two-2.ensures.counted)
+returns-clause-counted g c = grind (arith, long, slow_notes-pair, pow-two, after_first)

@@ -4,10 +4,7 @@ use Rattle.lexical_write_integer.proofs.OfDigits.Powers.{pow-eight}
 use Rattle.lexical_write_integer.proofs.digits.radix.table_writer.eighth_power.Goals as goal
 
 pub overflow_mul-result : goal.overflow_mul-result
-overflow_mul-result c =
-    let power = c.fourth_power.ensures.power in
-    rw (power, c.fourth_power-2.ensures.power, ← pow-eight)
-    (omega (arith, pow-le-pow_left {n = c.args.radix} {m = 36} c.requires.at_most_36 8))
+overflow_mul-result c = grind (arith, pow-eight, pow-le-pow_left)
 
 pub returns : goal.returns
 returns c = rw (c.fourth_power.ensures.power, c.fourth_power-2.ensures.power) (sym (pow-eight c.args.radix))

@@ -1,7 +1,7 @@
-use Rattle.std.proofs.Common.{◌≡◌, ◌+◌, ◌*◌, ◌-◌, ◌%◌, ◌^◌, ◌<◌, refl, lit<, arith}
+use Rattle.std.proofs.Common.{◌≡◌, ◌+◌, ◌*◌, ◌-◌, ◌%◌, ◌^◌, ◌<◌, refl, arith}
 use Rattle.std.proofs.Math.Nat.{mod-lt, div-add-mod'}
 use Rattle.std.proofs.lemmas.Nat.{div_below}
-use Rattle.lexical_write_integer.specs.Digits.LoopTurns.{takes_two, takes_four}
+use Rattle.lexical_write_integer.specs.Digits.LoopTurns.{takes_four}
 use Rattle.lexical_write_integer.proofs.OfDigits.Count.RadixPowers.{power-gt_one, power-small}
 use Rattle.lexical_write_integer.proofs.OfDigits.Powers.{pow-two, pow-four}
 use Rattle.lexical_write_integer.proofs.OfDigits.Radix.TablePairs.{WritesBlock-pairs}
@@ -25,12 +25,7 @@ overflow_cast-digits g c =
     )
 
 pub write-requires-2 : goal.write-requires-2
-write-requires-2 g c =
-    let square = g.row.R * g.row.R in
-    let some : 0 < square = omega (arith, pow-two g.row.R, power-gt_one g.row.R 2 c.args.table.is_radix.at_least_two takes_two) in
-    let number = c.args.number - c.args.left * c.fourth_power.result in
-    let below : number < square * square = rw pow-four at (small g (goal.at.write-requires-2 g c).After-fourth_power) in
-    (lit< tt, (div_below number square square some below, omega (arith, c.requires.room, c.write.auto.buffer)))
+write-requires-2 g c = grind (arith, pow-two, power-gt_one, pow-four, small, div_below)
 
 pub returns : goal.returns
 returns g c =

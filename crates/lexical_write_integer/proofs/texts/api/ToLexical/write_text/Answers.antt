@@ -9,10 +9,7 @@ use Rattle.lexical_write_integer.proofs.OfTexts.SignedTexts.{WritesText-over}
 use Rattle.lexical_write_integer.proofs.texts.api.ToLexical.write_text.Goals as goal
 
 pub write_sign-sign-requires : goal.write_sign-sign-requires
-write_sign-sign-requires g c =
-    let number = g.Self.LexicalInteger.number c.args.self in
-    let width = g.Self.LexicalInteger.DECIMAL_WIDTH in
-    omega (arith, c.requires, need-pos number width c.args.format.now g.met.Self.LexicalInteger.decimal_width.some)
+write_sign-sign-requires g c = grind (arith, need-pos)
 
 pub group_digits-requires-clause-room : goal.group_digits-requires-clause-room
 group_digits-requires-clause-room g c =
