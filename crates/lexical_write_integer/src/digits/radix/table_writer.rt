@@ -1,6 +1,6 @@
 // Writing the digits of a number, four at a time, from a table of the digit pairs of the radix. `written` is the counter
 // of the writer's loop. A writer that counts the digits by division records those quotients in a second counter,
-// `counted`.
+// `turns`.
 
 ghost use Rattle.std.specs.Prelude.{◌≡◌, ◌+◌, ◌*◌, ◌/◌, ◌%◌, ◌^◌, ◌<◌, ◌≤◌, ◌++◌, length};
 ghost use Rattle.lexical_num.specs.Format.{IsRadix};
@@ -98,15 +98,15 @@ pub(super) fn write_after_count<const R: u32>(
     value: u64,
     table: RadixTable<'_, R>,
     buffer: &mut [u8],
-    counted: &mut Turns,
+    turns: &mut Turns,
     written: &mut Turns,
 ) -> usize
     requires room { digit_count R value ≤ length buffer.old }
     ensures digits { WritesDigits R value buffer.old buffer.new result }
-    ensures counted { counted.new ≡ counted.old ++ count_notes R value }
+    ensures turns { turns.new ≡ turns.old ++ count_notes R value }
     ensures written { written.new ≡ written.old ++ loop_notes R value }
 {
-    let count = digit_count_counted(value, R, counted);
+    let count = digit_count_counted(value, R, turns);
     let mut left = value;
     let mut at = count;
     while at > 4 {
@@ -120,33 +120,33 @@ pub(super) fn write_after_count<const R: u32>(
 }
 
 // Returns how many digits a number of one or two digits has, by a division.
-fn count_one_or_two(number: u32, radix: u32, counted: &mut Turns) -> usize
+fn count_one_or_two(number: u32, radix: u32, turns: &mut Turns) -> usize
     requires radix { IsRadix radix }
     requires short { number < radix ^ 2 }
     ensures count { result ≡ digit_count radix number }
-    ensures counted { counted.new ≡ counted.old ++ slow_notes radix number }
+    ensures turns { turns.new ≡ turns.old ++ slow_notes radix number }
 {
     let left = number / radix;
     if left == 0 {
         return 1;
     }
-    counted.tick(u64::from(left));
+    turns.tick(u64::from(left));
     2
 }
 
 // Returns how many digits a number of up to four digits has, by division.
-fn count_up_to_four<const R: u32>(number: u32, counted: &mut Turns) -> usize
+fn count_up_to_four<const R: u32>(number: u32, turns: &mut Turns) -> usize
     requires radix { IsRadix R }
     requires short { number < R ^ 4 }
     ensures count { result ≡ digit_count R number }
-    ensures counted { counted.new ≡ counted.old ++ slow_notes R number }
+    ensures turns { turns.new ≡ turns.old ++ slow_notes R number }
 {
     let left = number / (R * R);
     if left == 0 {
-        return count_one_or_two(number, R, counted);
+        return count_one_or_two(number, R, turns);
     }
-    counted.tick(u64::from(left));
-    2 + count_one_or_two(left, R, counted)
+    turns.tick(u64::from(left));
+    2 + count_one_or_two(left, R, turns)
 }
 
 // Counts the one to four digits of a number by division, and writes them.
@@ -154,16 +154,16 @@ fn count_and_write_up_to_four<const R: u32>(
     number: u32,
     table: RadixTable<'_, R>,
     buffer: &mut [u8],
-    counted: &mut Turns,
+    turns: &mut Turns,
     written: &mut Turns,
 ) -> usize
     requires short { number < R ^ 4 }
     requires room { digit_count R number ≤ length buffer.old }
     ensures digits { WritesDigits R number buffer.old buffer.new result }
-    ensures counted { counted.new ≡ counted.old ++ slow_notes R number }
+    ensures turns { turns.new ≡ turns.old ++ slow_notes R number }
     ensures written { written.new ≡ written.old ++ loop_notes R number }
 {
-    let count = count_up_to_four::<R>(number, counted);
+    let count = count_up_to_four::<R>(number, turns);
     write_up_to_four(number, count, table, buffer, written);
     count
 }
@@ -173,21 +173,21 @@ pub(super) fn count_and_write_up_to_eight<const R: u32>(
     value: u64,
     table: RadixTable<'_, R>,
     buffer: &mut [u8],
-    counted: &mut Turns,
+    turns: &mut Turns,
     written: &mut Turns,
 ) -> usize
     requires short { value < R ^ 8 }
     requires room { digit_count R value ≤ length buffer.old }
     ensures digits { WritesDigits R value buffer.old buffer.new result }
-    ensures counted { counted.new ≡ counted.old ++ slow_notes R value }
+    ensures turns { turns.new ≡ turns.old ++ slow_notes R value }
     ensures written { written.new ≡ written.old ++ loop_notes R value }
 {
     if value < fourth_power(R) {
-        return count_and_write_up_to_four(value as u32, table, buffer, counted, written);
+        return count_and_write_up_to_four(value as u32, table, buffer, turns, written);
     }
     let left = remove_four::<R>(value, written);
-    counted.tick(left);
-    let head = count_and_write_up_to_four(left as u32, table, buffer, counted, written);
+    turns.tick(left);
+    let head = count_and_write_up_to_four(left as u32, table, buffer, turns, written);
     write_last_four(value, left, table, buffer, head);
     head + 4
 }
@@ -206,23 +206,23 @@ pub(super) fn count_and_write_more<const R: u32>(
     value: u64,
     table: RadixTable<'_, R>,
     buffer: &mut [u8],
-    counted: &mut Turns,
+    turns: &mut Turns,
     written: &mut Turns,
 ) -> usize
     requires long { R ^ 8 ≤ value }
     requires room { digit_count R value ≤ length buffer.old }
     ensures digits { WritesDigits R value buffer.old buffer.new result }
-    ensures counted { counted.new ≡ counted.old ++ slow_notes R value }
+    ensures turns { turns.new ≡ turns.old ++ slow_notes R value }
     ensures written { written.new ≡ written.old ++ loop_notes R value }
 {
     let first = remove_four::<R>(value, written);
     let second = remove_four::<R>(first, written);
-    counted.tick(first);
-    counted.tick(second);
+    turns.tick(first);
+    turns.tick(second);
     let head = if second < eighth_power(R) {
-        count_and_write_up_to_eight(second, table, buffer, counted, written)
+        count_and_write_up_to_eight(second, table, buffer, turns, written)
     } else {
-        count_and_write_more(second, table, buffer, counted, written)
+        count_and_write_more(second, table, buffer, turns, written)
     };
     write_last_four(first, second, table, buffer, head);
     write_last_four(value, first, table, buffer, head + 4);

@@ -17,17 +17,17 @@ returns g c =
     let all = elim after.branch as (λ _. WritesDigits r n c.args.buffer.now after.buffer after.count × (turns ≡ old ++ count_notes r n) × (after.written ≡ loop_notes r n)) [
       | then-counts_at_once w ↦
           let all = w.write_after_count-count.ensures in
-          (rw (w.buffer-is, w.count-is) all.digits, rw w.turns-is all.counted, rw w.written-is (rw none at all.written))
+          (rw (w.buffer-is, w.count-is) all.digits, rw w.turns-is all.turns, rw w.written-is (rw none at all.written))
       | else-counts_at_once+then-number-eighth_power w ↦
           let all = w.count_and_write_up_to_eight.ensures in (
             rw (w.buffer-is, w.count-is) all.digits,
-            rw w.turns-is (slow_noted r n old _ (sym w.if-counts_at_once.ensures) all.counted),
+            rw w.turns-is (slow_noted r n old _ (sym w.if-counts_at_once.ensures) all.turns),
             rw w.written-is (rw none at all.written),
           )
       | else-counts_at_once+else-number-eighth_power w ↦
           let all = w.count_and_write_more.ensures in (
             rw (w.buffer-is, w.count-is) all.digits,
-            rw w.turns-is (slow_noted r n old _ (sym w.if-counts_at_once.ensures) all.counted),
+            rw w.turns-is (slow_noted r n old _ (sym w.if-counts_at_once.ensures) all.turns),
             rw w.written-is (rw none at all.written),
           )
     ] in

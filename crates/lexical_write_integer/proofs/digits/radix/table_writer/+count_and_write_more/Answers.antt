@@ -34,8 +34,8 @@ returns-clause-digits g t c =
     (rw (second.left, first.left) at before) (rw first.left at c.write_last_four.ensures) in
     rw total at (WritesDigits-after n two both.value c.requires.room four c.write_last_four-2.ensures)
 
-pub returns-clause-counted : goal.returns-clause-counted
-returns-clause-counted g t c = grind (arith, HasEight-of, slow_notes-after)
+pub returns-clause-turns : goal.returns-clause-turns
+returns-clause-turns g t c = grind (arith, HasEight-of, slow_notes-after)
 
 -- the check finds this proof by itself, but with an answer the refusal of a mistake says what is wrong
 pub returns-clause-written : goal.returns-clause-written

@@ -40,8 +40,8 @@ count_and_write_up_to_four-head-requires g c =
 pub returns-clause-digits : goal.returns-clause-digits
 returns-clause-digits g c = grind (arith, WritesDigits-after, long)
 
-pub returns-clause-counted : goal.returns-clause-counted
-returns-clause-counted g c = grind (arith, slow_notes-after, long)
+pub returns-clause-turns : goal.returns-clause-turns
+returns-clause-turns g c = grind (arith, slow_notes-after, long)
 
 -- the check finds this proof by itself, but with an answer the refusal of a mistake says what is wrong
 pub returns-clause-written : goal.returns-clause-written

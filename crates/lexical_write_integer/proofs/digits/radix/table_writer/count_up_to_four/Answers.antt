@@ -32,5 +32,5 @@ returns-clause-count g c =
     let split = digit_count-split g.row.R 2 c.args.number c.requires.radix.at_least_two (long g (goal.at.returns-clause-count g c).After-tick) in
     omega (arith, rw (← pow-two) at c.count_one_or_two-2.ensures.count, split)
 
-pub returns-clause-counted : goal.returns-clause-counted
-returns-clause-counted g c = grind (arith, long, slow_notes-pair, pow-two, after_first)
+pub returns-clause-turns : goal.returns-clause-turns
+returns-clause-turns g c = grind (arith, long, slow_notes-pair, pow-two, after_first)
