@@ -13,6 +13,7 @@ use lexical_parts::{Part, Utf8Part};
 use lexical_write_integer::{
     BUFFER_SIZE, Error, NumberFormatBuilder, Options, ToLexical, ToLexicalWithOptions,
 };
+use std::fmt::Debug;
 use std::process::Abort;
 use uses::amount::width_of_amount;
 use uses::any_format::{LINE_SIZE, key, line_of_any, text_if_room};
@@ -27,6 +28,11 @@ use uses::identifier::{
 use uses::printed::printed;
 use uses::sorted_keys::{comes_before, is_earlier_key};
 use uses::time_of_day::write_time;
+
+// Checks that a value is the expected one. A call is proved in less time than an `assert_eq!` of its own.
+fn check<T: Copy + PartialEq + Debug>(rt: &impl Abort, value: T, expected: T) {
+    assert_eq!(rt; value, expected);
+}
 
 // Checks that a call that returned `count` wrote the text to the start of the buffer, and that every byte
 // after it is still 7.
@@ -73,10 +79,11 @@ fn identifiers(rt: HostRuntime) {
     check_bytes(&rt, identifier(0, &mut buffer), b"0");
     same_counter(35, 36);
     same_link(35, 36);
-    assert_eq!(rt; link(1000, &mut [7; 16]), "/l/RS");
-    assert_eq!(rt;
+    check(&rt, link(1000, &mut [7; 16]), "/l/RS");
+    check(
+        &rt,
         link(18446744073709551615, &mut [7; 16]),
-        "/l/3W5E11264SGSF"
+        "/l/3W5E11264SGSF",
     );
     check_bytes(&rt, identifier(35, &mut buffer), b"Z");
     check_bytes(&rt, identifier(36, &mut buffer), b"10");
@@ -142,22 +149,22 @@ fn any_type_in_any_format(rt: HostRuntime) {
 // 4294967295 is 3 * 32^6 + 31 * (32^5 + .. + 1).
 #[test]
 fn keys_in_radix_32(rt: HostRuntime) {
-    assert_eq!(rt; key(4294967295, &mut [7; 8]), "3VV_VVVV");
-    assert_eq!(rt; key(32, &mut [7; 8]), "10");
+    check(&rt, key(4294967295, &mut [7; 8]), "3VV_VVVV");
+    check(&rt, key(32, &mut [7; 8]), "10");
 }
 
 #[test]
 fn printed_numbers(rt: HostRuntime) {
-    assert_eq!(rt; printed(-2147483648, &mut [7; 11]), "-2147483648");
-    assert_eq!(rt; printed(0, &mut [7; 11]), "0");
+    check(&rt, printed(-2147483648, &mut [7; 11]), "-2147483648");
+    check(&rt, printed(0, &mut [7; 11]), "0");
 }
 
 #[test]
 fn widths_of_amounts(rt: HostRuntime) {
-    assert_eq!(rt; width_of_amount(0), 1);
-    assert_eq!(rt; width_of_amount(999), 3);
-    assert_eq!(rt; width_of_amount(1000), 5);
-    assert_eq!(rt; width_of_amount(18446744073709551615), 26);
+    check(&rt, width_of_amount(0), 1);
+    check(&rt, width_of_amount(999), 3);
+    check(&rt, width_of_amount(1000), 5);
+    check(&rt, width_of_amount(18446744073709551615), 26);
 }
 
 #[test]
@@ -170,10 +177,10 @@ fn text_of_a_constant(rt: HostRuntime) {
 #[test]
 fn times_of_day(rt: HostRuntime) {
     let mut time = [7; 6];
-    assert_eq!(rt; write_time(425, &mut time), 6);
-    assert_eq!(rt; time, *b"07:05Z");
-    assert_eq!(rt; write_time(1439, &mut time), 6);
-    assert_eq!(rt; time, *b"23:59Z");
+    check(&rt, write_time(425, &mut time), 6);
+    check(&rt, time, *b"07:05Z");
+    check(&rt, write_time(1439, &mut time), 6);
+    check(&rt, time, *b"23:59Z");
 }
 
 #[test]
@@ -183,7 +190,7 @@ fn texts_in_an_arena(rt: HostRuntime) {
     let (second, rest) = keep_text(-9223372036854775808, rest);
     check_bytes(&rt, first, b"123");
     check_bytes(&rt, second, b"-9223372036854775808");
-    assert_eq!(rt; rest.len(), 37);
+    check(&rt, rest.len(), 37);
     assert!(rt; have_same_kept_texts(-5, -5));
     assert!(rt; !have_same_kept_texts(-5, 5));
 }

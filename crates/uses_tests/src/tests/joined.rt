@@ -1,6 +1,6 @@
 // Tests of parts that are joined, and of callers that join parts.
 
-use super::{check_buffer, check_part, check_room, check_str};
+use super::{check, check_buffer, check_part, check_room, check_str};
 use lexical_parts::{Fixed, HexBytes, Joined, Left, Padded, Part, Right};
 use uses::csv_row::{Row, try_write_rows};
 use uses::digest::write_digest;
@@ -123,9 +123,9 @@ fn digests(rt: HostRuntime) {
 
 #[test]
 fn digits_of_a_byte(rt: HostRuntime) {
-    assert_eq!(rt; digit_pair(0), *b"00");
-    assert_eq!(rt; digit_pair(0x9F), *b"9F");
-    assert_eq!(rt; digit_pair(255), *b"FF");
+    check(&rt, digit_pair(0), *b"00");
+    check(&rt, digit_pair(0x9F), *b"9F");
+    check(&rt, digit_pair(255), *b"FF");
 }
 
 #[test]
@@ -146,7 +146,7 @@ fn lines_of_a_dump(rt: HostRuntime) {
 fn rows_of_rows(rt: HostRuntime) {
     let mut buffer = [7; 64];
     let rows = [Row(&[1, -2]), Row(&[]), Row(&[3])];
-    assert_eq!(rt; try_write_rows(&rows, &mut buffer), Some(8));
+    check(&rt, try_write_rows(&rows, &mut buffer), Some(8));
     check_buffer(&rt, &buffer, 8, b"1,-2\n\n3\n");
-    assert_eq!(rt; try_write_rows(&rows, &mut buffer[..63]), None);
+    check(&rt, try_write_rows(&rows, &mut [7; 63]), None);
 }

@@ -1,6 +1,6 @@
 // Tests of the callers of `lexical_parts`.
 
-use super::{check_buffer, check_bytes, check_part, check_room, check_str};
+use super::{check, check_buffer, check_bytes, check_part, check_room, check_str};
 use lexical_parts::{
     Byte, Bytes, Decimal, Digits, Formatted, Hex, Joined, Left, Lower, Padded, PaddedDigits, Part,
     Right, Utf8Part, ZeroPadded,
@@ -35,9 +35,9 @@ fn readings(rt: HostRuntime) {
 fn timestamps(rt: HostRuntime) {
     let mut buffer = [7; 29];
     let east = MORNING.timestamp(42, 60, &mut buffer);
-    assert_eq!(rt; east, "2026-11-23T07:05:09.042+01:00");
+    check(&rt, east, "2026-11-23T07:05:09.042+01:00");
     let west = MORNING.timestamp(0, -1439, &mut buffer);
-    assert_eq!(rt; west, "2026-11-23T07:05:09.000-23:59");
+    check(&rt, west, "2026-11-23T07:05:09.000-23:59");
 }
 
 #[test]
@@ -99,8 +99,8 @@ fn numbers_in_a_format(rt: HostRuntime) {
 fn a_name_as_str(rt: HostRuntime) {
     let mut buffer = [7; 40];
     let name = (Padded(7u8, 3), "é");
-    assert_eq!(rt; name.try_to_str(&mut buffer[..5]), Some("007é"));
-    assert_eq!(rt; name.try_to_str(&mut buffer[..4]), None);
+    check(&rt, name.try_to_str(&mut buffer[..5]), Some("007é"));
+    check(&rt, name.try_to_str(&mut buffer[..4]), None);
 }
 
 // Every byte after a text is unchanged, and the whole buffer if it is shorter than the room of the part, which is
@@ -113,7 +113,7 @@ fn bytes_after_a_text(rt: HostRuntime) {
     check_bytes(&rt, part.to_text(&mut buffer), text.as_bytes());
     check_buffer(&rt, &buffer, 6, text.as_bytes());
     let mut buffer = [7; 12];
-    assert_eq!(rt; part.try_write_to(&mut buffer), Some(6));
+    check(&rt, part.try_write_to(&mut buffer), Some(6));
     check_buffer(&rt, &buffer, 6, text.as_bytes());
 }
 
@@ -122,10 +122,10 @@ fn bytes_after_a_str(rt: HostRuntime) {
     let part = (Decimal(-5i8), " °C");
     let text = "-5 °C";
     let mut buffer = [7; 12];
-    assert_eq!(rt; part.to_str(&mut buffer), text);
+    check(&rt, part.to_str(&mut buffer), text);
     check_buffer(&rt, &buffer, 6, text.as_bytes());
     let mut buffer = [7; 12];
-    assert_eq!(rt; part.try_to_str(&mut buffer), Some(text));
+    check(&rt, part.try_to_str(&mut buffer), Some(text));
     check_buffer(&rt, &buffer, 6, text.as_bytes());
 }
 
@@ -133,8 +133,8 @@ fn bytes_after_a_str(rt: HostRuntime) {
 fn short_buffers(rt: HostRuntime) {
     let part = (Decimal(-5i8), " °C");
     let mut short = [7; 7];
-    assert_eq!(rt; part.try_write_to(&mut short), None);
-    assert_eq!(rt; part.try_to_str(&mut short), None);
+    check(&rt, part.try_write_to(&mut short), None);
+    check(&rt, part.try_to_str(&mut short), None);
     check_buffer(&rt, &short, 0, b"");
 }
 
@@ -152,10 +152,10 @@ fn rows_of_numbers(rt: HostRuntime) {
 fn lists_of_numbers(rt: HostRuntime) {
     let mut buffer = [7; 45];
     let count = try_write_list(&[-1, 20], &mut buffer[..44]);
-    assert_eq!(rt; count, Some(8));
+    check(&rt, count, Some(8));
     check_buffer(&rt, &buffer, 8, b"[-1, 20]");
-    assert_eq!(rt; try_write_list(&[-1, 20], &mut [7; 43]), None);
-    assert_eq!(rt; try_write_list(&[], &mut [7; 2]), Some(2));
+    check(&rt, try_write_list(&[-1, 20], &mut [7; 43]), None);
+    check(&rt, try_write_list(&[], &mut [7; 2]), Some(2));
     let mut buffer = [7; 45];
     let count = write_entries(&[5, -6], &mut buffer);
     check_buffer(&rt, &buffer, count, b"5;-6;");
@@ -165,13 +165,17 @@ fn lists_of_numbers(rt: HostRuntime) {
 fn settings(rt: HostRuntime) {
     let mut buffer = [7; 30];
     let limit = Some(Decimal(-40i64));
-    assert_eq!(rt; try_write_setting(b"limit", limit, &mut buffer), Some(10));
+    check(
+        &rt,
+        try_write_setting(b"limit", limit, &mut buffer),
+        Some(10),
+    );
     check_buffer(&rt, &buffer, 10, b"limit=-40\n");
     let mut buffer = [7; 10];
     let none = None::<Decimal<u8>>;
-    assert_eq!(rt; try_write_setting(b"limit", none, &mut buffer), Some(7));
+    check(&rt, try_write_setting(b"limit", none, &mut buffer), Some(7));
     check_buffer(&rt, &buffer, 7, b"limit=\n");
-    assert_eq!(rt; try_write_setting(b"limit", limit, &mut buffer), None);
+    check(&rt, try_write_setting(b"limit", limit, &mut buffer), None);
     check_buffer(&rt, &buffer, 7, b"limit=\n");
 }
 

@@ -1,6 +1,6 @@
 // Tests of single parts, and of callers that show one part each.
 
-use super::{check_buffer, check_part, check_room, check_str};
+use super::{check, check_buffer, check_part, check_room, check_str};
 use lexical_parts::{
     Binary, Center, Decimal, Fixed, Formatted, GroupedFixed, Hex, Left, Lower, PaddedDigits, Part,
     Plus, Right, Sign, ZeroPadded,
@@ -17,21 +17,19 @@ fn parts_in_lowercase(rt: HostRuntime) {
     let mut buffer = [b'Z'; 20];
     let digits = PaddedDigits(16, 0xBEEFu16, 6);
     let count = (Lower(("@AZ[`az{", digits)), "K").write_to(&mut buffer);
-    assert_eq!(rt; count, 15);
-    assert_eq!(rt; buffer, *b"@az[`az{00beefKZZZZZ");
+    check(&rt, count, 15);
+    check(&rt, buffer, *b"@az[`az{00beefKZZZZZ");
     check_room(&rt, Lower(Decimal(-5i8)), 4);
 }
 
 #[test]
 fn uuids(rt: HostRuntime) {
-    assert_eq!(rt;
-        uuid(0xF81D_4FAE_7DEC_11D0, 0xA765_00A0_C91E_6BF6, &mut [7; 36]),
-        "f81d4fae-7dec-11d0-a765-00a0c91e6bf6"
-    );
-    assert_eq!(rt;
-        uuid(0, 0, &mut [7; 36]),
-        "00000000-0000-0000-0000-000000000000"
-    );
+    let mut buffer = [7; 36];
+    let text = uuid(0xF81D_4FAE_7DEC_11D0, 0xA765_00A0_C91E_6BF6, &mut buffer);
+    check(&rt, text, "f81d4fae-7dec-11d0-a765-00a0c91e6bf6");
+    let mut buffer = [7; 36];
+    let nil = uuid(0, 0, &mut buffer);
+    check(&rt, nil, "00000000-0000-0000-0000-000000000000");
 }
 
 #[test]
@@ -57,9 +55,9 @@ fn numbers_with_decimals(rt: HostRuntime) {
     check_part(&rt, Fixed(u64::MAX, 19), b"1.8446744073709551615");
     check_part(&rt, Fixed(i64::MIN, 19), b"-0.9223372036854775808");
     let mut exact = [7; 5];
-    assert_eq!(rt; Fixed(255u8, 2).write_to(&mut exact[..4]), 4);
-    assert_eq!(rt; Fixed(i8::MIN, 2).write_to(&mut exact), 5);
-    assert_eq!(rt; exact, *b"-1.28");
+    check(&rt, Fixed(255u8, 2).write_to(&mut exact[..4]), 4);
+    check(&rt, Fixed(i8::MIN, 2).write_to(&mut exact), 5);
+    check(&rt, exact, *b"-1.28");
 }
 
 #[test]
@@ -130,8 +128,12 @@ fn columns_as_in_rust(rt: HostRuntime) {
 #[test]
 fn rows_in_columns(rt: HostRuntime) {
     let mut row = [7; 36];
-    assert_eq!(rt; write_table_row("total", -2147483648, -1234, &mut row), 36);
-    assert_eq!(rt; row, *b"---total---- -2147483648......-1234\n");
+    check(
+        &rt,
+        write_table_row("total", -2147483648, -1234, &mut row),
+        36,
+    );
+    check(&rt, row, *b"---total---- -2147483648......-1234\n");
 }
 
 // Checks the room of a `Formatted` of each type but `usize` and `isize`, which have 64 bits.

@@ -2,7 +2,7 @@
 
 ghost use Rattle.std.specs.Prelude.{◌<◌, ◌≤◌};
 
-use super::{check_part, check_room, check_str};
+use super::{check, check_part, check_room, check_str};
 use lexical_parts::{Part, Scientific};
 use uses::float_parts::write_float;
 
@@ -82,8 +82,8 @@ fn scientific_notation(rt: HostRuntime) {
 
 #[test]
 fn floats(rt: HostRuntime) {
-    assert_eq!(rt; write_float(-1, 1234, -59, &mut [7; 34]), "-1.234e-56");
-    assert_eq!(rt; write_float(1, 5, 0, &mut [7; 34]), "5e0");
+    check(&rt, write_float(-1, 1234, -59, &mut [7; 34]), "-1.234e-56");
+    check(&rt, write_float(1, 5, 0, &mut [7; 34]), "5e0");
 }
 
 // The Rust program `tests/scientific.rs` makes the same 30,000 numbers and printed these sums of the texts that `{:e}`
@@ -103,7 +103,7 @@ fn numbers_as_rust_writes_them(rt: HostRuntime) {
             Scientific(numbers.number() % 1_000_000_000_000_000, exponent),
         );
     }
-    assert_eq!(rt; unsigned, 17568205989486067703);
-    assert_eq!(rt; signed, 10332201674773152855);
-    assert_eq!(rt; floats, 12453350763887842918);
+    check(&rt, unsigned, 17568205989486067703);
+    check(&rt, signed, 10332201674773152855);
+    check(&rt, floats, 12453350763887842918);
 }

@@ -1,5 +1,6 @@
 // Parts in format strings, and texts in a `Vec` and a `String`.
 
+use super::check;
 use lexical_parts::{Binary, Decimal, Formatted, Hex, Plus};
 use lexical_write_integer::NumberFormatBuilder;
 use std::alloc::Alloc;
@@ -20,7 +21,7 @@ fn parts_in_format_strings(rt: HostRuntime) -> Result<(), Fail> {
         Decimal(-12),
         Binary(5u8)
     )?;
-    assert_eq!(rt; text.as_str(), "FF|      FF|**-12**|101 |");
+    check(&rt, text.as_str(), "FF|      FF|**-12**|101 |");
     Ok(())
 }
 
@@ -32,9 +33,9 @@ fn numbers_in_format_strings(rt: HostRuntime) -> Result<(), Fail> {
         .build_strict();
     let number = Formatted(-1234567, &thousands);
     let text = format!(in alloc; "{:12}|{:.3}", number, Decimal(98765u64))?;
-    assert_eq!(rt; text.as_str(), "-1,234,567  |987");
+    check(&rt, text.as_str(), "-1,234,567  |987");
     let text = format!(in alloc; "{}|{:>6}|{}", Plus(42u8), Plus(0i16), Plus(-42))?;
-    assert_eq!(rt; text.as_str(), "+42|    +0|-42");
+    check(&rt, text.as_str(), "+42|    +0|-42");
     Ok(())
 }
 
@@ -49,12 +50,13 @@ fn longest_texts_in_format_strings(rt: HostRuntime) -> Result<(), Fail> {
         .build_strict();
     let largest = Binary(18446744073709551615u64);
     let text = format!(in alloc; "{}|{}", largest, Hex(18446744073709551615u64))?;
-    assert_eq!(rt;
+    check(
+        &rt,
         text.as_str(),
-        "1111111111111111111111111111111111111111111111111111111111111111|FFFFFFFFFFFFFFFF"
+        "1111111111111111111111111111111111111111111111111111111111111111|FFFFFFFFFFFFFFFF",
     );
     let text = format!(in alloc; "{}", Formatted(-9223372036854775808i64, &ones))?;
-    assert_eq!(rt; text.len(), 128);
+    check(&rt, text.len(), 128);
     assert!(rt; text.starts_with("-1.0.0.0.") && text.ends_with(".0.0.0"));
     Ok(())
 }
@@ -63,19 +65,19 @@ fn longest_texts_in_format_strings(rt: HostRuntime) -> Result<(), Fail> {
 fn styles_of_text(rt: HostRuntime) -> Result<(), Fail> {
     let alloc = rt.alloc();
     let text = format!(in alloc; "{:08}|{:+}|{:#}", Decimal(5u8), Decimal(5u8), Hex(5u8))?;
-    assert_eq!(rt; text.as_str(), "5       |5|5");
+    check(&rt, text.as_str(), "5       |5|5");
     Ok(())
 }
 
 #[test]
 fn strings_of_parts(rt: HostRuntime) -> Result<(), Fail> {
     let alloc = rt.alloc();
-    assert_eq!(rt; flags_in_column(alloc, 0xBEEF)?.as_str(), "0x****BEEF");
+    check(&rt, flags_in_column(alloc, 0xBEEF)?.as_str(), "0x****BEEF");
     let thousands = NumberFormatBuilder::new()
         .digit_grouping(3, b',')
         .build_strict();
     let amount = amount_string(alloc, -1234567, &thousands)?;
-    assert_eq!(rt; amount.as_str(), "-1,234,567");
+    check(&rt, amount.as_str(), "-1,234,567");
     println!(rt; "{}", Hex(0xC0DEu32))?;
     Ok(())
 }
@@ -86,9 +88,10 @@ fn lines_of_a_log(rt: HostRuntime) -> Result<(), Fail> {
     push_line(&mut log, 4294967295, 65535)?;
     push_line(&mut log, 0, 0)?;
     write_line(&mut log, 12, 255)?;
-    assert_eq!(rt;
+    check(
+        &rt,
         log.as_slice(),
-        b"4294967295 0xFFFF\n0 0x0\n12 0xFF\n".as_slice()
+        b"4294967295 0xFFFF\n0 0x0\n12 0xFF\n".as_slice(),
     );
     Ok(())
 }
@@ -99,9 +102,10 @@ fn entries_in_a_vector(rt: HostRuntime) -> Result<(), Fail> {
     push_entries(&mut entries, &[])?;
     push_entries(&mut entries, &[5, -6])?;
     push_entries(&mut entries, &[-9223372036854775808])?;
-    assert_eq!(rt;
+    check(
+        &rt,
         entries.as_slice(),
-        b"5;-6;-9223372036854775808;".as_slice()
+        b"5;-6;-9223372036854775808;".as_slice(),
     );
     Ok(())
 }
@@ -111,6 +115,6 @@ fn lines_in_a_string(rt: HostRuntime) -> Result<(), Fail> {
     let mut log = String::new(rt.alloc());
     push_str_line(&mut log, 12, 255)?;
     push_str_line(&mut log, 7, 16)?;
-    assert_eq!(rt; log.as_str(), "12 0xFF\n7 0x10\n");
+    check(&rt, log.as_str(), "12 0xFF\n7 0x10\n");
     Ok(())
 }

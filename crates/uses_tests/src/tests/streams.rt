@@ -3,6 +3,7 @@
 ghost use Rattle.std.specs.Prelude.{◌-◌, ◌^◌, ◌≤◌, take};
 ghost use Rattle.lexical_lines.specs.Answer.{AnswersAll};
 
+use super::check;
 use lexical_lines::{BlockWriter, Writing};
 use lexical_streams::answer_reader;
 use std::alloc::Global;
@@ -19,6 +20,6 @@ fn answered(alloc: Global, bytes: &[u8]) -> (u8, Vec<u8>)
 #[test]
 fn answers_go_into_a_vector(rt: HostRuntime) {
     let (status, answers) = answered(rt.alloc(), b"u8 10 5\nu8 2 256\ni8 16 -128");
-    assert_eq!(rt; status, 1);
-    assert_eq!(rt; answers.as_slice(), b"5\nbad line 2\n-80\n".as_slice());
+    check(&rt, status, 1);
+    check(&rt, answers.as_slice(), b"5\nbad line 2\n-80\n".as_slice());
 }
