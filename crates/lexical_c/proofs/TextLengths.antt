@@ -1,16 +1,17 @@
 -- The lengths of texts, and the buffers that are long enough for them.
 use Rattle.std.proofs.Common.{◌≡◌, ℕ, ℤ, ◌+◌, ◌^◌, ◌<◌, ◌≤◌, length, unsigned_abs, refl, arith}
-use Rattle.std.specs.Prelude.{◌≤ℤ◌}
+use Rattle.std.specs.Prelude.{Bool, ◌≤ℤ◌}
+use Rattle.lexical_num.specs.BitWidth.{IsBitWidth}
 use Rattle.lexical_num.specs.DecimalWidth.{IsDecimalWidth}
 use Rattle.lexical_num.specs.Format.{Format, IsValid, grouped_length}
-use Rattle.lexical_num.specs.Range.{IsRange}
+use Rattle.lexical_num.specs.Range.{greatest_of, least_of}
 use Rattle.lexical_num.specs.Sign.{sign_of}
+use Rattle.lexical_num.proofs.Magnitudes.{magnitude-small}
 use Rattle.lexical_write_integer.specs.Computed.{text_of}
 use Rattle.lexical_write_integer.specs.DigitCount.{digit_count}
 use Rattle.lexical_write_integer.specs.Text.{need}
 use Rattle.lexical_write_integer.proofs.OfTexts.ComputedTexts.{text_computed}
 use Rattle.lexical_write_integer.proofs.OfTexts.Required.{length-IsText, grouped_length-le_need}
-use Rattle.lexical_write_integer.proofs.OfTexts.PrintedTexts.{IsRange-small}
 
 -- the text of a number consists of its sign, its digits, and the separators between them
 pub length-text_of : (x : ℤ) (format : Format) → IsValid format → unsigned_abs x < 2 ^ 64 →
@@ -21,11 +22,11 @@ length-text_of x format valid small =
     length-IsText x format (text_of x format) two valid.groups ((text_computed x format (text_of x format) two small).1 refl)
 
 -- the text of a number fits a buffer of the length that its writer requires
-pub text_of-le_need : (x least greatest : ℤ) (bits width : ℕ) (format : Format) → IsValid format →
-    IsDecimalWidth least greatest width → IsRange bits least greatest → least ≤ℤ x → x ≤ℤ greatest →
-    length (text_of x format) ≤ need x width format
-text_of-le_need x least greatest bits width format valid decimal range at_least at_most =
-    let small = IsRange-small _ _ _ x range at_least at_most in
+pub text_of-le_need : {bits width : ℕ} (is_signed : Bool) (x : ℤ) (format : Format) → IsValid format → IsBitWidth bits →
+    IsDecimalWidth (least_of bits is_signed) (greatest_of bits is_signed) width →
+    least_of bits is_signed ≤ℤ x → x ≤ℤ greatest_of bits is_signed → length (text_of x format) ≤ need x width format
+text_of-le_need is_signed x format valid of_type decimal at_least at_most =
+    let small = magnitude-small is_signed of_type x at_least at_most in
     let count = digit_count format.mantissa_radix (unsigned_abs x) in
     let fewer = grouped_length-le_need format {count = count} decimal at_least at_most refl in
     omega (arith, length-text_of x format valid small, fewer)

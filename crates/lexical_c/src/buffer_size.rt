@@ -1,6 +1,7 @@
 //! The sizes of buffers that are enough for every number of a type.
 
 ghost use Rattle.std.specs.Prelude.{◌-◌, ◌^◌, pos, negsuc};
+ghost use Rattle.lexical_num.specs.Range.{greatest_of, least_of};
 ghost use Rattle.lexical_c.specs.BufferSize.{IsBufferSize};
 
 use crate::format::{CFormat, number_format};
@@ -9,8 +10,8 @@ use lexical_write_integer::{Options, ToLexicalWithOptions, WriteOptions};
 // Returns a buffer size that is enough for every number of the type in the format, or 0 if the format
 // is invalid.
 fn buffer_size<T: ToLexicalWithOptions>(format: &CFormat) -> usize
-    ensures { IsBufferSize T.least T.greatest T.FORMATTED_SIZE T.FORMATTED_SIZE_DECIMAL
-        format.now result }
+    ensures { IsBufferSize (least_of T.BITS T.IS_SIGNED) (greatest_of T.BITS T.IS_SIGNED)
+        T.FORMATTED_SIZE T.FORMATTED_SIZE_DECIMAL format.now result }
 {
     match number_format(format) {
         Some(format) => Options::new().buffer_size::<T>(&format),

@@ -14,8 +14,8 @@
 mod buffer_size;
 mod format;
 mod general;
+mod integer;
 mod length;
 mod plain;
-mod signed;
 mod version;
 mod write;

@@ -12,7 +12,6 @@ ghost use Rattle.lexical_c.specs.Format.{HasOnlyRadix, HasOnlyRadixAndCase};
 use crate::format::CFormat;
 use lexical_num::format::STANDARD;
 use lexical_num::limits::is_radix;
-use lexical_write_integer::write::WriteInteger;
 use lexical_write_integer::{
     FormattedSize, NumberFormat, NumberFormatBuilder, ToLexical, write_sign,
 };
@@ -107,34 +106,18 @@ pub fn set_lowercase_bit(text: &mut [u8]) -> usize
     text.len()
 }
 
-/// Writes a number of an unsigned type, whose text is its digits, to the start of the buffer, and
-/// returns the length of the text. The format must have no required sign and no groups, and the buffer
-/// must have the length that the writer of the number requires.
-pub fn write_plain_digits<T: WriteInteger>(
-    value: T,
-    format: &NumberFormat,
-    buffer: &mut [u8],
-) -> usize
+/// Writes a number to the start of the buffer, and returns the length of the text. The format must have
+/// no required sign and no groups, and the buffer must have the length that the writer of the number requires.
+pub fn write_plain<T: ToLexical>(value: T, format: &NumberFormat, buffer: &mut [u8]) -> usize
     requires sign { format.now.required_mantissa_sign ≡ false }
     requires groups { format.now.digit_grouping ≡ None }
     requires room { need (T.number value) T.DECIMAL_WIDTH format.now ≤ length buffer.old }
     ensures { WritesText (T.number value) format.now buffer.old buffer.new result }
 {
-    value.write_mantissa(format, buffer)
-}
-
-/// Writes a number to the start of the buffer, and returns the length of the text. The format must have
-/// no groups, and the buffer must have the length that the writer of the number requires.
-pub fn write_sign_and_digits<T: ToLexical>(
-    value: T,
-    format: &NumberFormat,
-    buffer: &mut [u8],
-) -> usize
-    requires groups { format.now.digit_grouping ≡ None }
-    requires room { need (T.number value) T.DECIMAL_WIDTH format.now ≤ length buffer.old }
-    ensures { WritesText (T.number value) format.now buffer.old buffer.new result }
-{
     value.in_range();
+    if !T::IS_SIGNED {
+        return value.write_magnitude(format, buffer);
+    }
     let sign = write_sign(value, buffer, format);
     sign + value.write_magnitude(format, &mut buffer[sign..])
 }

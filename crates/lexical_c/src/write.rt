@@ -6,59 +6,45 @@ ghost use Rattle.lexical_c.specs.Buffer.{WritesOrRefuses};
 ghost use Rattle.lexical_c.specs.Format.{HasOnlyRadix, HasOnlyRadixAndCase};
 
 use crate::format::CFormat;
-use crate::general::write_if_it_fits;
+use crate::integer::CInteger;
 use crate::plain::{
     fitting_format, has_letters, has_only_radix, has_only_radix_and_case, set_lowercase_bit,
-    write_plain_digits, write_sign_and_digits,
+    write_plain,
 };
-use crate::signed::SignedInteger;
-use lexical_write_integer::ToLexicalWithOptions;
 use lexical_write_integer::laws::size_suffices;
-use lexical_write_integer::write::WriteInteger;
 
-// Writes a number of an unsigned type to the buffer, and returns the length of its text, or 0 if it
-// is refused.
-fn write_unsigned<T: WriteInteger + ToLexicalWithOptions>(
-    value: T,
-    format: &CFormat,
-    buffer: &mut [u8],
-) -> usize
+// Writes a number to the buffer, and returns the length of its text, or 0 if it is refused.
+fn write<T: CInteger>(value: T, format: &CFormat, buffer: &mut [u8]) -> usize
     ensures { WritesOrRefuses (T.number value) format.now buffer.old buffer.new result }
 {
     if has_only_radix(format) {
-        write_unsigned_digits(value, format, buffer)
+        write_uppercase(value, format, buffer)
     } else {
-        write_other_unsigned(value, format, buffer)
+        write_other(value, format, buffer)
     }
 }
 
-// Does what `write_unsigned` does in any other format. It is cold, and so not inlined: otherwise a call in
-// uppercase would save registers that only this needs.
+// Does what `write` does in any other format. It is cold, and so not inlined: otherwise a call in uppercase
+// would save registers that only this needs.
 #[cold]
-fn write_other_unsigned<T: WriteInteger + ToLexicalWithOptions>(
-    value: T,
-    format: &CFormat,
-    buffer: &mut [u8],
-) -> usize
+fn write_other<T: CInteger>(value: T, format: &CFormat, buffer: &mut [u8]) -> usize
     requires { ¬ HasOnlyRadix format.now }
     ensures { WritesOrRefuses (T.number value) format.now buffer.old buffer.new result }
 {
     if !has_only_radix_and_case(format) {
-        write_if_it_fits(value.as_usize(), format, buffer)
+        value.write_if_it_fits(format, buffer)
     } else if !has_letters(format) {
-        write_unsigned_digits(value, format, buffer)
+        write_uppercase(value, format, buffer)
+    } else if T::IS_SIGNED {
+        write_signed_lowercase(value, format, buffer)
     } else {
-        write_unsigned_in_lowercase(value, format, buffer)
+        write_lowercase(value, format, buffer)
     }
 }
 
-// Does what `write_unsigned` does in a format that has only a radix, or at most 10 as the radix and a case: then
-// the text is the same in lowercase.
-fn write_unsigned_digits<T: WriteInteger + ToLexicalWithOptions>(
-    value: T,
-    format: &CFormat,
-    buffer: &mut [u8],
-) -> usize
+// Does what `write` does in a format that has only a radix, or at most 10 as the radix and a case: then the
+// text is the same in lowercase.
+fn write_uppercase<T: CInteger>(value: T, format: &CFormat, buffer: &mut [u8]) -> usize
     requires only { HasOnlyRadixAndCase format.now }
     requires case { format.now.lowercase ≢ 0 → format.now.radix ≤ 10 }
     ensures { WritesOrRefuses (T.number value) format.now buffer.old buffer.new result }
@@ -67,18 +53,14 @@ fn write_unsigned_digits<T: WriteInteger + ToLexicalWithOptions>(
     match fitting_format::<T, false>(format.radix, buffer.len()) {
         Some(plain) => {
             size_suffices(value, &plain);
-            write_plain_digits(value, &plain, buffer)
+            write_plain(value, &plain, buffer)
         }
-        None => write_if_it_fits(value.as_usize(), format, buffer),
+        None => value.write_if_it_fits(format, buffer),
     }
 }
 
-// Does what `write_unsigned` does in a format that has only a radix and lowercase.
-fn write_unsigned_in_lowercase<T: WriteInteger + ToLexicalWithOptions>(
-    value: T,
-    format: &CFormat,
-    buffer: &mut [u8],
-) -> usize
+// Does what `write` does in a format that has only a radix and lowercase.
+fn write_lowercase<T: CInteger>(value: T, format: &CFormat, buffer: &mut [u8]) -> usize
     requires only { HasOnlyRadixAndCase format.now }
     requires lowercase { format.now.lowercase ≢ 0 }
     ensures { WritesOrRefuses (T.number value) format.now buffer.old buffer.new result }
@@ -87,79 +69,21 @@ fn write_unsigned_in_lowercase<T: WriteInteger + ToLexicalWithOptions>(
     match fitting_format::<T, true>(format.radix, buffer.len()) {
         Some(plain) => {
             size_suffices(value, &plain);
-            let count = write_plain_digits(value, &plain, buffer);
+            let count = write_plain(value, &plain, buffer);
             set_lowercase_bit(&mut buffer[..count])
         }
-        None => write_if_it_fits(value.as_usize(), format, buffer),
+        None => value.write_if_it_fits(format, buffer),
     }
 }
 
-// Writes a number of a signed type to the buffer, and returns the length of its text, or 0 if it is
-// refused.
-fn write_signed<T: SignedInteger>(value: T, format: &CFormat, buffer: &mut [u8]) -> usize
-    ensures { WritesOrRefuses (T.number value) format.now buffer.old buffer.new result }
-{
-    if has_only_radix(format) {
-        write_signed_digits(value, format, buffer)
-    } else {
-        write_other_signed(value, format, buffer)
-    }
-}
-
-// Does what `write_signed` does in any other format. It is cold, and so not inlined: otherwise a call in
-// uppercase would save registers that only this needs.
+// This is cold too: with the code for the sign, the calls without letters would save registers for it.
 #[cold]
-fn write_other_signed<T: SignedInteger>(value: T, format: &CFormat, buffer: &mut [u8]) -> usize
-    requires { ¬ HasOnlyRadix format.now }
-    ensures { WritesOrRefuses (T.number value) format.now buffer.old buffer.new result }
-{
-    if !has_only_radix_and_case(format) {
-        write_if_it_fits(value.as_isize(), format, buffer)
-    } else if !has_letters(format) {
-        write_signed_digits(value, format, buffer)
-    } else {
-        write_signed_in_lowercase(value, format, buffer)
-    }
-}
-
-// Does what `write_signed` does in a format that has only a radix, or at most 10 as the radix and a case: then
-// the text is the same in lowercase.
-fn write_signed_digits<T: SignedInteger>(value: T, format: &CFormat, buffer: &mut [u8]) -> usize
-    requires only { HasOnlyRadixAndCase format.now }
-    requires case { format.now.lowercase ≢ 0 → format.now.radix ≤ 10 }
-    ensures { WritesOrRefuses (T.number value) format.now buffer.old buffer.new result }
-{
-    value.in_range();
-    match fitting_format::<T, false>(format.radix, buffer.len()) {
-        Some(plain) => {
-            size_suffices(value, &plain);
-            write_sign_and_digits(value, &plain, buffer)
-        }
-        None => write_if_it_fits(value.as_isize(), format, buffer),
-    }
-}
-
-// Does what `write_signed` does in a format that has only a radix and lowercase. This is cold too: with the code for
-// the sign, the calls without letters would save registers for it.
-#[cold]
-fn write_signed_in_lowercase<T: SignedInteger>(
-    value: T,
-    format: &CFormat,
-    buffer: &mut [u8],
-) -> usize
+fn write_signed_lowercase<T: CInteger>(value: T, format: &CFormat, buffer: &mut [u8]) -> usize
     requires only { HasOnlyRadixAndCase format.now }
     requires lowercase { format.now.lowercase ≢ 0 }
     ensures { WritesOrRefuses (T.number value) format.now buffer.old buffer.new result }
 {
-    value.in_range();
-    match fitting_format::<T, true>(format.radix, buffer.len()) {
-        Some(plain) => {
-            size_suffices(value, &plain);
-            let count = write_sign_and_digits(value, &plain, buffer);
-            set_lowercase_bit(&mut buffer[..count])
-        }
-        None => write_if_it_fits(value.as_isize(), format, buffer),
-    }
+    write_lowercase(value, format, buffer)
 }
 
 /// Writes a `uint8_t` to the buffer, and returns the length of its text, or 0 if it is refused.
@@ -167,7 +91,7 @@ fn write_signed_in_lowercase<T: SignedInteger>(
 pub extern "C" fn lexical_write_u8(value: u8, format: &CFormat, buffer: &mut [u8]) -> usize
     ensures { WritesOrRefuses (pos value) format.now buffer.old buffer.new result }
 {
-    write_unsigned::<u8>(value, format, buffer)
+    write::<u8>(value, format, buffer)
 }
 
 /// Writes a `uint16_t` to the buffer, and returns the length of its text, or 0 if it is refused.
@@ -175,7 +99,7 @@ pub extern "C" fn lexical_write_u8(value: u8, format: &CFormat, buffer: &mut [u8
 pub extern "C" fn lexical_write_u16(value: u16, format: &CFormat, buffer: &mut [u8]) -> usize
     ensures { WritesOrRefuses (pos value) format.now buffer.old buffer.new result }
 {
-    write_unsigned::<u16>(value, format, buffer)
+    write::<u16>(value, format, buffer)
 }
 
 /// Writes a `uint32_t` to the buffer, and returns the length of its text, or 0 if it is refused.
@@ -183,7 +107,7 @@ pub extern "C" fn lexical_write_u16(value: u16, format: &CFormat, buffer: &mut [
 pub extern "C" fn lexical_write_u32(value: u32, format: &CFormat, buffer: &mut [u8]) -> usize
     ensures { WritesOrRefuses (pos value) format.now buffer.old buffer.new result }
 {
-    write_unsigned::<u32>(value, format, buffer)
+    write::<u32>(value, format, buffer)
 }
 
 /// Writes a `uint64_t` to the buffer, and returns the length of its text, or 0 if it is refused.
@@ -191,7 +115,7 @@ pub extern "C" fn lexical_write_u32(value: u32, format: &CFormat, buffer: &mut [
 pub extern "C" fn lexical_write_u64(value: u64, format: &CFormat, buffer: &mut [u8]) -> usize
     ensures { WritesOrRefuses (pos value) format.now buffer.old buffer.new result }
 {
-    write_unsigned::<u64>(value, format, buffer)
+    write::<u64>(value, format, buffer)
 }
 
 /// Writes a `size_t` to the buffer, and returns the length of its text, or 0 if it is refused.
@@ -199,7 +123,7 @@ pub extern "C" fn lexical_write_u64(value: u64, format: &CFormat, buffer: &mut [
 pub extern "C" fn lexical_write_size(value: usize, format: &CFormat, buffer: &mut [u8]) -> usize
     ensures { WritesOrRefuses (pos value) format.now buffer.old buffer.new result }
 {
-    write_unsigned::<usize>(value, format, buffer)
+    write::<usize>(value, format, buffer)
 }
 
 /// Writes an `int8_t` to the buffer, and returns the length of its text, or 0 if it is refused.
@@ -207,7 +131,7 @@ pub extern "C" fn lexical_write_size(value: usize, format: &CFormat, buffer: &mu
 pub extern "C" fn lexical_write_i8(value: i8, format: &CFormat, buffer: &mut [u8]) -> usize
     ensures { WritesOrRefuses value format.now buffer.old buffer.new result }
 {
-    write_signed::<i8>(value, format, buffer)
+    write::<i8>(value, format, buffer)
 }
 
 /// Writes an `int16_t` to the buffer, and returns the length of its text, or 0 if it is refused.
@@ -215,7 +139,7 @@ pub extern "C" fn lexical_write_i8(value: i8, format: &CFormat, buffer: &mut [u8
 pub extern "C" fn lexical_write_i16(value: i16, format: &CFormat, buffer: &mut [u8]) -> usize
     ensures { WritesOrRefuses value format.now buffer.old buffer.new result }
 {
-    write_signed::<i16>(value, format, buffer)
+    write::<i16>(value, format, buffer)
 }
 
 /// Writes an `int32_t` to the buffer, and returns the length of its text, or 0 if it is refused.
@@ -223,7 +147,7 @@ pub extern "C" fn lexical_write_i16(value: i16, format: &CFormat, buffer: &mut [
 pub extern "C" fn lexical_write_i32(value: i32, format: &CFormat, buffer: &mut [u8]) -> usize
     ensures { WritesOrRefuses value format.now buffer.old buffer.new result }
 {
-    write_signed::<i32>(value, format, buffer)
+    write::<i32>(value, format, buffer)
 }
 
 /// Writes an `int64_t` to the buffer, and returns the length of its text, or 0 if it is refused.
@@ -231,5 +155,5 @@ pub extern "C" fn lexical_write_i32(value: i32, format: &CFormat, buffer: &mut [
 pub extern "C" fn lexical_write_i64(value: i64, format: &CFormat, buffer: &mut [u8]) -> usize
     ensures { WritesOrRefuses value format.now buffer.old buffer.new result }
 {
-    write_signed::<i64>(value, format, buffer)
+    write::<i64>(value, format, buffer)
 }

@@ -1,11 +1,16 @@
 -- The smallest and the largest number of each integer type.
-use Rattle.std.specs.Prelude.{◌≡◌, ℕ, ◌-◌, ◌^◌, ℤ, pos, negsuc}
+use Rattle.std.specs.Prelude.{◌≡◌, ℕ, ◌-◌, ◌^◌, Bool, true, false, ℤ, pos, negsuc}
 use Rattle.lexical_num.specs.BitWidth.{IsBitWidth}
 
--- the smallest and the largest number of an unsigned or a signed type with this number of bits
-pub data IsRange : ℕ → ℤ → ℤ → Type 0 where
-  unsigned : (bits : ℕ) → IsBitWidth bits → IsRange bits (pos 0) (pos (2 ^ bits - 1))
-  signed : (bits : ℕ) → IsBitWidth bits → IsRange bits (negsuc (2 ^ (bits - 1) - 1)) (pos (2 ^ (bits - 1) - 1))
+-- the smallest number of an unsigned or a signed type with this number of bits
+abbrev pub least_of : ℕ → Bool → ℤ
+least_of bits false = pos 0
+least_of bits true = negsuc (2 ^ (bits - 1) - 1)
+
+-- the largest number of such a type
+abbrev pub greatest_of : ℕ → Bool → ℤ
+greatest_of bits false = pos (2 ^ bits - 1)
+greatest_of bits true = pos (2 ^ (bits - 1) - 1)
 
 -- the smallest and the largest number of an unsigned type
 pub record IsUnsigned (bits : ℕ) (least greatest : ℤ) : Type 0 where

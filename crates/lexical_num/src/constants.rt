@@ -1,16 +1,18 @@
 //! Buffer lengths that are enough for the text of a number.
 
-ghost use Rattle.std.specs.Prelude.{ℕ};
+ghost use Rattle.std.specs.Prelude.{ℕ, refl};
 ghost use Rattle.std.proofs.Common.{lit≤};
 ghost use Rattle.lexical_num.specs.declared.constants.TheConstants.{BUFFER_SIZE};
-ghost use Rattle.lexical_num.specs.Size.{IsWithin};
+ghost use Rattle.lexical_num.specs.Size.{AreSizes, are_sizes};
+
+use crate::num::LexicalInteger;
 
 /// The length of a buffer that is long enough for every number of every type in every format.
 pub const BUFFER_SIZE: usize = 128;
 
 /// An integer type with two buffer lengths, between which `buffer_size` of the options chooses. That the length is
-/// enough for each number of the type is a law of `ToLexicalWithOptions` in `lexical_write_integer`.
-pub trait FormattedSize {
+/// enough for each number of the type is the law `size_suffices` of `lexical_write_integer`.
+pub trait FormattedSize: LexicalInteger {
     /// The buffer length in a radix other than 10, with a sign and with groups.
     const FORMATTED_SIZE: usize;
 
@@ -21,7 +23,7 @@ pub trait FormattedSize {
 
     ghost FORMATTED_SIZE_DECIMAL: { ℕ };
 
-    ghost within_buffer: { IsWithin BUFFER_SIZE FORMATTED_SIZE FORMATTED_SIZE_DECIMAL };
+    ghost sizes: { AreSizes BUFFER_SIZE Self.BITS Self.IS_SIGNED Self.DECIMAL_WIDTH FORMATTED_SIZE FORMATTED_SIZE_DECIMAL };
 }
 
 impl FormattedSize for u8 {
@@ -33,7 +35,7 @@ impl FormattedSize for u8 {
 
     ghost FORMATTED_SIZE_DECIMAL = { 3 };
 
-    ghost within_buffer = { record { some = lit≤ tt; fits = lit≤ tt; some_decimal = lit≤ tt; fits_decimal = lit≤ tt } };
+    ghost sizes = { are_sizes refl refl (lit≤ tt) (lit≤ tt) (lit≤ tt) (lit≤ tt) };
 }
 
 impl FormattedSize for u16 {
@@ -45,7 +47,7 @@ impl FormattedSize for u16 {
 
     ghost FORMATTED_SIZE_DECIMAL = { 5 };
 
-    ghost within_buffer = { record { some = lit≤ tt; fits = lit≤ tt; some_decimal = lit≤ tt; fits_decimal = lit≤ tt } };
+    ghost sizes = { are_sizes refl refl (lit≤ tt) (lit≤ tt) (lit≤ tt) (lit≤ tt) };
 }
 
 impl FormattedSize for u32 {
@@ -57,7 +59,7 @@ impl FormattedSize for u32 {
 
     ghost FORMATTED_SIZE_DECIMAL = { 10 };
 
-    ghost within_buffer = { record { some = lit≤ tt; fits = lit≤ tt; some_decimal = lit≤ tt; fits_decimal = lit≤ tt } };
+    ghost sizes = { are_sizes refl refl (lit≤ tt) (lit≤ tt) (lit≤ tt) (lit≤ tt) };
 }
 
 impl FormattedSize for u64 {
@@ -69,7 +71,7 @@ impl FormattedSize for u64 {
 
     ghost FORMATTED_SIZE_DECIMAL = { 20 };
 
-    ghost within_buffer = { record { some = lit≤ tt; fits = lit≤ tt; some_decimal = lit≤ tt; fits_decimal = lit≤ tt } };
+    ghost sizes = { are_sizes refl refl (lit≤ tt) (lit≤ tt) (lit≤ tt) (lit≤ tt) };
 }
 
 impl FormattedSize for usize {
@@ -81,7 +83,7 @@ impl FormattedSize for usize {
 
     ghost FORMATTED_SIZE_DECIMAL = { 20 };
 
-    ghost within_buffer = { record { some = lit≤ tt; fits = lit≤ tt; some_decimal = lit≤ tt; fits_decimal = lit≤ tt } };
+    ghost sizes = { are_sizes refl refl (lit≤ tt) (lit≤ tt) (lit≤ tt) (lit≤ tt) };
 }
 
 impl FormattedSize for i8 {
@@ -93,7 +95,7 @@ impl FormattedSize for i8 {
 
     ghost FORMATTED_SIZE_DECIMAL = { 4 };
 
-    ghost within_buffer = { record { some = lit≤ tt; fits = lit≤ tt; some_decimal = lit≤ tt; fits_decimal = lit≤ tt } };
+    ghost sizes = { are_sizes refl refl (lit≤ tt) (lit≤ tt) (lit≤ tt) (lit≤ tt) };
 }
 
 impl FormattedSize for i16 {
@@ -105,7 +107,7 @@ impl FormattedSize for i16 {
 
     ghost FORMATTED_SIZE_DECIMAL = { 6 };
 
-    ghost within_buffer = { record { some = lit≤ tt; fits = lit≤ tt; some_decimal = lit≤ tt; fits_decimal = lit≤ tt } };
+    ghost sizes = { are_sizes refl refl (lit≤ tt) (lit≤ tt) (lit≤ tt) (lit≤ tt) };
 }
 
 impl FormattedSize for i32 {
@@ -117,7 +119,7 @@ impl FormattedSize for i32 {
 
     ghost FORMATTED_SIZE_DECIMAL = { 11 };
 
-    ghost within_buffer = { record { some = lit≤ tt; fits = lit≤ tt; some_decimal = lit≤ tt; fits_decimal = lit≤ tt } };
+    ghost sizes = { are_sizes refl refl (lit≤ tt) (lit≤ tt) (lit≤ tt) (lit≤ tt) };
 }
 
 impl FormattedSize for i64 {
@@ -129,7 +131,7 @@ impl FormattedSize for i64 {
 
     ghost FORMATTED_SIZE_DECIMAL = { 20 };
 
-    ghost within_buffer = { record { some = lit≤ tt; fits = lit≤ tt; some_decimal = lit≤ tt; fits_decimal = lit≤ tt } };
+    ghost sizes = { are_sizes refl refl (lit≤ tt) (lit≤ tt) (lit≤ tt) (lit≤ tt) };
 }
 
 impl FormattedSize for isize {
@@ -141,5 +143,5 @@ impl FormattedSize for isize {
 
     ghost FORMATTED_SIZE_DECIMAL = { 20 };
 
-    ghost within_buffer = { record { some = lit≤ tt; fits = lit≤ tt; some_decimal = lit≤ tt; fits_decimal = lit≤ tt } };
+    ghost sizes = { are_sizes refl refl (lit≤ tt) (lit≤ tt) (lit≤ tt) (lit≤ tt) };
 }

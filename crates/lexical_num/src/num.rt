@@ -2,11 +2,11 @@
 #![tactic(auto, using(crate::proofs::LeadingZeros::leading_zeros))]
 
 ghost use Rattle.std.specs.Prelude.{◌≡◌, ℕ, ◌-◌, ◌/◌, ◌%◌, ◌^◌, ◌<◌, ◌≤◌, ◌↔◌, IsTrue, refl};
-ghost use Rattle.std.specs.Prelude.{ℤ, pos, negsuc, ◌≤ℤ◌, ◌<ℤ◌};
+ghost use Rattle.std.specs.Prelude.{Bool, true, false, ℤ, pos, ◌≤ℤ◌, ◌<ℤ◌};
 ghost use Rattle.std.proofs.Common.{rules, lit≤};
 ghost use Rattle.lexical_num.specs.DecimalWidth.{IsDecimalWidth, is_decimal_width};
-ghost use Rattle.lexical_num.specs.Range.{IsRange, IsUnsigned, unsigned, signed};
-ghost use Rattle.lexical_num.specs.BitWidth.{is_8, is_16, is_32, is_64};
+ghost use Rattle.lexical_num.specs.Range.{IsUnsigned, greatest_of, least_of};
+ghost use Rattle.lexical_num.specs.BitWidth.{IsBitWidth, is_8, is_16, is_32, is_64};
 
 /// An integer type whose numbers can be written.
 pub trait LexicalInteger: Copy {
@@ -16,31 +16,31 @@ pub trait LexicalInteger: Copy {
     /// The largest number of decimal digits of a number of the type.
     const DECIMAL_WIDTH: usize;
 
+    /// Whether the type has numbers below 0.
+    const IS_SIGNED: bool;
+
     ghost BITS: { ℕ };
 
     ghost DECIMAL_WIDTH: { ℕ };
 
+    ghost IS_SIGNED: { Bool };
+
     // The value as an integer without a range.
     ghost number: { Self → ℤ };
-
-    // The smallest and the largest number of the type.
-    ghost least: { ℤ };
-
-    ghost greatest: { ℤ };
 
     /// A law: the number is in the range of its type. Generic code obtains the law by this call, which
     /// does nothing at run time.
     fn in_range(self)
-        ensures at_least { least ≤ℤ number self }
-        ensures at_most { number self ≤ℤ greatest };
+        ensures at_least { least_of BITS IS_SIGNED ≤ℤ number self }
+        ensures at_most { number self ≤ℤ greatest_of BITS IS_SIGNED };
 
     /// Returns whether the number is below 0.
     fn is_negative(self) -> bool
         ensures { IsTrue result ↔ number self <ℤ pos 0 };
 
-    ghost decimal_width: { IsDecimalWidth least greatest DECIMAL_WIDTH };
+    ghost decimal_width: { IsDecimalWidth (least_of BITS IS_SIGNED) (greatest_of BITS IS_SIGNED) DECIMAL_WIDTH };
 
-    ghost range_of_bits: { IsRange BITS least greatest };
+    ghost bit_width: { IsBitWidth BITS };
 }
 
 impl LexicalInteger for u8 {
@@ -48,19 +48,19 @@ impl LexicalInteger for u8 {
 
     const DECIMAL_WIDTH: usize = 3;
 
+    const IS_SIGNED: bool = false;
+
     ghost BITS = { 8 };
 
     ghost DECIMAL_WIDTH = { 3 };
 
+    ghost IS_SIGNED = { false };
+
     ghost number = { pos };
-
-    ghost least = { pos 0 };
-
-    ghost greatest = { pos (2 ^ 8 - 1) };
 
     ghost decimal_width = { is_decimal_width (lit≤ tt) (lit≤ tt) (lit≤ tt) (lit≤ tt) };
 
-    ghost range_of_bits = { unsigned 8 is_8 };
+    ghost bit_width = { is_8 };
 
     fn in_range(self) {}
 
@@ -74,19 +74,19 @@ impl LexicalInteger for u16 {
 
     const DECIMAL_WIDTH: usize = 5;
 
+    const IS_SIGNED: bool = false;
+
     ghost BITS = { 16 };
 
     ghost DECIMAL_WIDTH = { 5 };
 
+    ghost IS_SIGNED = { false };
+
     ghost number = { pos };
-
-    ghost least = { pos 0 };
-
-    ghost greatest = { pos (2 ^ 16 - 1) };
 
     ghost decimal_width = { is_decimal_width (lit≤ tt) (lit≤ tt) (lit≤ tt) (lit≤ tt) };
 
-    ghost range_of_bits = { unsigned 16 is_16 };
+    ghost bit_width = { is_16 };
 
     fn in_range(self) {}
 
@@ -100,19 +100,19 @@ impl LexicalInteger for u32 {
 
     const DECIMAL_WIDTH: usize = 10;
 
+    const IS_SIGNED: bool = false;
+
     ghost BITS = { 32 };
 
     ghost DECIMAL_WIDTH = { 10 };
 
+    ghost IS_SIGNED = { false };
+
     ghost number = { pos };
-
-    ghost least = { pos 0 };
-
-    ghost greatest = { pos (2 ^ 32 - 1) };
 
     ghost decimal_width = { is_decimal_width (lit≤ tt) (lit≤ tt) (lit≤ tt) (lit≤ tt) };
 
-    ghost range_of_bits = { unsigned 32 is_32 };
+    ghost bit_width = { is_32 };
 
     fn in_range(self) {}
 
@@ -126,19 +126,19 @@ impl LexicalInteger for u64 {
 
     const DECIMAL_WIDTH: usize = 20;
 
+    const IS_SIGNED: bool = false;
+
     ghost BITS = { 64 };
 
     ghost DECIMAL_WIDTH = { 20 };
 
+    ghost IS_SIGNED = { false };
+
     ghost number = { pos };
-
-    ghost least = { pos 0 };
-
-    ghost greatest = { pos (2 ^ 64 - 1) };
 
     ghost decimal_width = { is_decimal_width (lit≤ tt) (lit≤ tt) (lit≤ tt) (lit≤ tt) };
 
-    ghost range_of_bits = { unsigned 64 is_64 };
+    ghost bit_width = { is_64 };
 
     fn in_range(self) {}
 
@@ -152,19 +152,19 @@ impl LexicalInteger for usize {
 
     const DECIMAL_WIDTH: usize = 20;
 
+    const IS_SIGNED: bool = false;
+
     ghost BITS = { 64 };
 
     ghost DECIMAL_WIDTH = { 20 };
 
+    ghost IS_SIGNED = { false };
+
     ghost number = { pos };
-
-    ghost least = { pos 0 };
-
-    ghost greatest = { pos (2 ^ 64 - 1) };
 
     ghost decimal_width = { is_decimal_width (lit≤ tt) (lit≤ tt) (lit≤ tt) (lit≤ tt) };
 
-    ghost range_of_bits = { unsigned 64 is_64 };
+    ghost bit_width = { is_64 };
 
     fn in_range(self) {}
 
@@ -178,19 +178,19 @@ impl LexicalInteger for i8 {
 
     const DECIMAL_WIDTH: usize = 3;
 
+    const IS_SIGNED: bool = true;
+
     ghost BITS = { 8 };
 
     ghost DECIMAL_WIDTH = { 3 };
 
+    ghost IS_SIGNED = { true };
+
     ghost number = { λ n. n };
-
-    ghost least = { negsuc (2 ^ 7 - 1) };
-
-    ghost greatest = { pos (2 ^ 7 - 1) };
 
     ghost decimal_width = { is_decimal_width (lit≤ tt) (lit≤ tt) (lit≤ tt) (lit≤ tt) };
 
-    ghost range_of_bits = { signed 8 is_8 };
+    ghost bit_width = { is_8 };
 
     fn in_range(self) {}
 
@@ -205,19 +205,19 @@ impl LexicalInteger for i16 {
 
     const DECIMAL_WIDTH: usize = 5;
 
+    const IS_SIGNED: bool = true;
+
     ghost BITS = { 16 };
 
     ghost DECIMAL_WIDTH = { 5 };
 
+    ghost IS_SIGNED = { true };
+
     ghost number = { λ n. n };
-
-    ghost least = { negsuc (2 ^ 15 - 1) };
-
-    ghost greatest = { pos (2 ^ 15 - 1) };
 
     ghost decimal_width = { is_decimal_width (lit≤ tt) (lit≤ tt) (lit≤ tt) (lit≤ tt) };
 
-    ghost range_of_bits = { signed 16 is_16 };
+    ghost bit_width = { is_16 };
 
     fn in_range(self) {}
 
@@ -231,19 +231,19 @@ impl LexicalInteger for i32 {
 
     const DECIMAL_WIDTH: usize = 10;
 
+    const IS_SIGNED: bool = true;
+
     ghost BITS = { 32 };
 
     ghost DECIMAL_WIDTH = { 10 };
 
+    ghost IS_SIGNED = { true };
+
     ghost number = { λ n. n };
-
-    ghost least = { negsuc (2 ^ 31 - 1) };
-
-    ghost greatest = { pos (2 ^ 31 - 1) };
 
     ghost decimal_width = { is_decimal_width (lit≤ tt) (lit≤ tt) (lit≤ tt) (lit≤ tt) };
 
-    ghost range_of_bits = { signed 32 is_32 };
+    ghost bit_width = { is_32 };
 
     fn in_range(self) {}
 
@@ -257,19 +257,19 @@ impl LexicalInteger for i64 {
 
     const DECIMAL_WIDTH: usize = 19;
 
+    const IS_SIGNED: bool = true;
+
     ghost BITS = { 64 };
 
     ghost DECIMAL_WIDTH = { 19 };
 
+    ghost IS_SIGNED = { true };
+
     ghost number = { λ n. n };
-
-    ghost least = { negsuc (2 ^ 63 - 1) };
-
-    ghost greatest = { pos (2 ^ 63 - 1) };
 
     ghost decimal_width = { is_decimal_width (lit≤ tt) (lit≤ tt) (lit≤ tt) (lit≤ tt) };
 
-    ghost range_of_bits = { signed 64 is_64 };
+    ghost bit_width = { is_64 };
 
     fn in_range(self) {}
 
@@ -283,19 +283,19 @@ impl LexicalInteger for isize {
 
     const DECIMAL_WIDTH: usize = 19;
 
+    const IS_SIGNED: bool = true;
+
     ghost BITS = { 64 };
 
     ghost DECIMAL_WIDTH = { 19 };
 
+    ghost IS_SIGNED = { true };
+
     ghost number = { λ n. n };
-
-    ghost least = { negsuc (2 ^ 63 - 1) };
-
-    ghost greatest = { pos (2 ^ 63 - 1) };
 
     ghost decimal_width = { is_decimal_width (lit≤ tt) (lit≤ tt) (lit≤ tt) (lit≤ tt) };
 
-    ghost range_of_bits = { signed 64 is_64 };
+    ghost bit_width = { is_64 };
 
     fn in_range(self) {}
 
@@ -351,7 +351,7 @@ pub trait UnsignedInteger: LexicalInteger {
 
     ghost number_is_magnitude: { (x : Self) → Self.number x ≡ pos (magnitude x) };
 
-    ghost range: { IsUnsigned Self.BITS Self.least Self.greatest };
+    ghost range: { IsUnsigned Self.BITS (least_of Self.BITS Self.IS_SIGNED) (greatest_of Self.BITS Self.IS_SIGNED) };
 
     ghost equal_by_number: { (x y : Self) → Self.number x ≡ Self.number y → x ≡ y };
 

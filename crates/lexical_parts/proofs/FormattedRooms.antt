@@ -5,31 +5,31 @@ use mir.Val.{bool_byte}
 use Rattle.std.proofs.Math.Nat.{pow-le-pow_right}
 use Rattle.std.proofs.lemmas.Bool.{cases_lt, cond_both, eqb-true}
 use Rattle.std.proofs.lemmas.Int.{ints}
-use Rattle.lexical_num.specs.BitWidth.{is_8, is_16, is_32, is_64}
+use Rattle.lexical_num.specs.BitWidth.{IsBitWidth, is_8, is_16, is_32, is_64}
 use Rattle.lexical_num.specs.DecimalWidth.{IsDecimalWidth}
 use Rattle.lexical_num.specs.Format.{Format}
-use Rattle.lexical_num.specs.Range.{IsRange, unsigned, signed}
+use Rattle.lexical_num.specs.Range.{greatest_of, least_of}
 use Rattle.lexical_num.specs.Sign.{sign_of}
 use Rattle.lexical_write_integer.specs.Computed.{digits_text}
 use Rattle.lexical_write_integer.specs.DigitCount.{digit_count}
-use Rattle.lexical_write_integer.specs.SizeBound.{grouped_length-more}
+use Rattle.lexical_write_integer.proofs.OfTexts.SizeBounds.{grouped_length-more, sign-le_one}
 use Rattle.lexical_write_integer.specs.Text.{digits_need, need}
 use Rattle.lexical_write_integer.proofs.OfDigits.Count.DigitCounts.{digit_count-fits, digit_count-le_64, digit_count-monotone}
 use Rattle.lexical_write_integer.proofs.OfDigits.Numerals.{length-IsDigits}
 use Rattle.lexical_write_integer.proofs.OfTexts.ComputedTexts.{digits_computed}
-use Rattle.lexical_parts.specs.Formatted.{count_in, formatted_room}
+use Rattle.lexical_parts.specs.Formatted.{count_in, formatted_room, largest_magnitude}
 
 -- ---- the largest magnitude
 
-pub largest-small : {bits : ℕ} {least greatest : ℤ} → IsRange bits least greatest → max (unsigned_abs least) (unsigned_abs greatest) < 2 ^ 64
-largest-small (unsigned _ is_8) = omega arith
-largest-small (unsigned _ is_16) = omega arith
-largest-small (unsigned _ is_32) = omega arith
-largest-small (unsigned _ is_64) = omega arith
-largest-small (signed _ is_8) = omega arith
-largest-small (signed _ is_16) = omega arith
-largest-small (signed _ is_32) = omega arith
-largest-small (signed _ is_64) = omega arith
+pub largest-small : {bits : ℕ} (is_signed : Bool) → IsBitWidth bits → largest_magnitude bits is_signed < 2 ^ 64
+largest-small false is_8 = omega arith
+largest-small false is_16 = omega arith
+largest-small false is_32 = omega arith
+largest-small false is_64 = omega arith
+largest-small true is_8 = omega arith
+largest-small true is_16 = omega arith
+largest-small true is_32 = omega arith
+largest-small true is_64 = omega arith
 
 largest-le : {least greatest : ℤ} (x : ℤ) → least ≤ℤ x → x ≤ℤ greatest → unsigned_abs x ≤ max (unsigned_abs least) (unsigned_abs greatest)
 largest-le {least = pos m} {greatest = pos n} (pos x) low high = omega (arith, ints)
@@ -39,13 +39,17 @@ largest-le {least = pos m} (negsuc x) low high = absurd (omega (arith, ints))
 largest-le {least = negsuc m} (negsuc x) low high = omega (arith, ints)
 
 -- half of the bits of a signed type, and one more
-pub signed-largest : {bits : ℕ} {least greatest : ℤ} → IsRange bits least greatest → 0 < length (sign_of least false)
-    → (2 ^ 64 - 1) / 2 ^ (64 - bits) / 2 + 1 ≡ max (unsigned_abs least) (unsigned_abs greatest)
-signed-largest (unsigned _ _) negative = absurd (omega arith)
-signed-largest (signed _ is_8) negative = refl
-signed-largest (signed _ is_16) negative = refl
-signed-largest (signed _ is_32) negative = refl
-signed-largest (signed _ is_64) negative = refl
+pub signed-largest : {bits : ℕ} → IsBitWidth bits → (2 ^ 64 - 1) / 2 ^ (64 - bits) / 2 + 1 ≡ largest_magnitude bits true
+signed-largest is_8 = refl
+signed-largest is_16 = refl
+signed-largest is_32 = refl
+signed-largest is_64 = refl
+
+pub unsigned-largest : {bits : ℕ} → IsBitWidth bits → (2 ^ 64 - 1) / 2 ^ (64 - bits) ≡ largest_magnitude bits false
+unsigned-largest is_8 = refl
+unsigned-largest is_16 = refl
+unsigned-largest is_32 = refl
+unsigned-largest is_64 = refl
 
 -- ---- the sign and the digits
 
@@ -56,16 +60,14 @@ sign-le (negsuc m) (pos n) false low = omega arith
 sign-le (pos m) (negsuc n) required low = absurd (omega (arith, ints))
 sign-le (negsuc m) (negsuc n) required low = omega arith
 
-sign-le_one : (least : ℤ) (required : Bool) → length (sign_of least required) ≤ 1
-sign-le_one (pos m) true = omega arith
-sign-le_one (pos m) false = omega arith
-sign-le_one (negsuc m) required = omega arith
+pub sign-signed : (bits : ℕ) {is_signed : Bool} (required : Bool) → is_signed ≡ true
+    → length (sign_of (least_of bits is_signed) required) ≡ 1
+sign-signed bits required signed = rw signed refl
 
-pub sign-is : (least : ℤ) (required : Bool) → length (sign_of least required) ≡ max (length (sign_of least false)) (bool_byte required)
-sign-is (pos m) true = refl
-sign-is (pos m) false = refl
-sign-is (negsuc m) true = refl
-sign-is (negsuc m) false = refl
+pub sign-unsigned : (bits : ℕ) {is_signed : Bool} (required : Bool) → is_signed ≡ false
+    → length (sign_of (least_of bits is_signed) required) ≡ bool_byte required
+sign-unsigned bits true unsigned = rw unsigned refl
+sign-unsigned bits false unsigned = rw unsigned refl
 
 pub count_in-is : (r n : ℕ) → 2 ≤ r → n < 2 ^ 64 → count_in r n ≡ digit_count r n
 count_in-is zero n two small = absurd (omega arith)
@@ -87,18 +89,19 @@ digits_need-le r n width largest two less some full = grind (arith, cond_both, e
 
 -- ---- the room
 
-pub need-le_room : {bits width : ℕ} {least greatest : ℤ} (x : ℤ) (format : Format) → IsRange bits least greatest → IsDecimalWidth least greatest width
-    → 2 ≤ format.mantissa_radix → least ≤ℤ x → x ≤ℤ greatest → need x width format ≤ formatted_room least greatest format
-need-le_room {bits} {width} {least} {greatest} x format range decimal two low high =
-    let largest = max (unsigned_abs least) (unsigned_abs greatest) in
-    let counted = count_in-is format.mantissa_radix largest two (largest-small range) in
+pub need-le_room : {bits width : ℕ} (is_signed : Bool) (x : ℤ) (format : Format) → IsBitWidth bits
+    → IsDecimalWidth (least_of bits is_signed) (greatest_of bits is_signed) width → 2 ≤ format.mantissa_radix
+    → least_of bits is_signed ≤ℤ x → x ≤ℤ greatest_of bits is_signed → need x width format ≤ formatted_room bits is_signed format
+need-le_room {bits} {width} is_signed x format of_type decimal two low high =
+    let largest = largest_magnitude bits is_signed in
+    let counted = count_in-is format.mantissa_radix largest two (largest-small is_signed of_type) in
     let digits =
     digits_need-le format.mantissa_radix (unsigned_abs x) width largest two (largest-le x low high) decimal.some (omega (arith, decimal.needed)) in
     let more =
     grouped_length-more format.digit_grouping (digits_need format.mantissa_radix (unsigned_abs x) width) (count_in format.mantissa_radix largest) 0
     (omega (arith, digits, counted)) in
-    omega (arith, more, sign-le least x format.required_mantissa_sign low)
+    omega (arith, more, sign-le (least_of bits is_signed) x format.required_mantissa_sign low)
 
-pub room-le : {bits : ℕ} {least greatest : ℤ} (format : Format) → IsRange bits least greatest → 2 ≤ format.mantissa_radix
-    → formatted_room least greatest format ≤ 128
-room-le {bits} {least} {greatest} format range two = grind (arith, count_in-is, largest-small, digit_count-le_64, sign-le_one)
+pub room-le : {bits : ℕ} (is_signed : Bool) (format : Format) → IsBitWidth bits → 2 ≤ format.mantissa_radix
+    → formatted_room bits is_signed format ≤ 128
+room-le {bits} is_signed format of_type two = grind (arith, count_in-is, largest-small, digit_count-le_64, sign-le_one)

@@ -7,7 +7,7 @@ use Rattle.std.proofs.lemmas.List.{append-nil, drop-append-le, drop-replicate, l
 use Rattle.lexical_num.specs.Format.{grouped_length, standard}
 use Rattle.lexical_write_integer.specs.Buffer.{Front, Writes}
 use Rattle.lexical_write_integer.specs.Groups.{grouped}
-use Rattle.lexical_write_integer.specs.SizeBound.{grouped_length-more}
+use Rattle.lexical_write_integer.proofs.OfTexts.SizeBounds.{grouped_length-more}
 use Rattle.lexical_write_integer.specs.Text.{IsDigits, IsText}
 use Rattle.lexical_write_integer.proofs.Buffers.Prefixes.{take-Writes}
 use borrow.Rule.Slice.PartMut.{put_mid}

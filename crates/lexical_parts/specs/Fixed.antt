@@ -1,6 +1,6 @@
 -- Numbers of units of a power of ten, with a decimal point.
 use Rattle.std.specs.Prelude.{ℕ, zero, suc, ◌+◌, ◌-◌, ◌/◌, ◌%◌, ◌^◌, ◌<◌, ◌≤◌, max, min, length, take, drop, ℤ, pos, unsigned_abs, false, List, []}
-use Rattle.std.specs.Prelude.{Option}
+use Rattle.std.specs.Prelude.{Bool, Option, if◌then◌else◌}
 use Rattle.lexical_num.specs.Format.{grouped_length, standard}
 use Rattle.lexical_num.specs.Sign.{sign_of}
 use Rattle.lexical_write_integer.specs.Padded.{IsPadded}
@@ -23,10 +23,9 @@ abbrev pub IsFixed : ℕ → ℤ → List ℕ → Type 0
 IsFixed decimals number =
     IsExactly (sign_of number false) then IsUnits decimals (unsigned_abs number)
 
--- the bytes for the sign, the digits and the point, for a type whose numbers have at most `width` digits, and need at
--- most `size` bytes in decimal
-abbrev pub fixed_room : ℕ → ℕ → ℕ → ℕ
-fixed_room width size decimals = (size - width) + (max width (decimals + 1) + min decimals 1)
+-- the bytes for the sign, the digits and the point, for a type whose numbers have at most `width` digits
+abbrev pub fixed_room : Bool → ℕ → ℕ → ℕ
+fixed_room is_signed width decimals = (if is_signed then 1 else 0) + (max width (decimals + 1) + min decimals 1)
 
 -- the same without its sign, with the whole part in groups
 abbrev pub IsGroupedUnits : Option (ℕ × ℕ) → ℕ → ℕ → List ℕ → Type 0

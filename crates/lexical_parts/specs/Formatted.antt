@@ -1,6 +1,7 @@
 -- The room of a number in a format.
-use Rattle.std.specs.Prelude.{ℕ, zero, suc, ◌+◌, max, length, ℤ, unsigned_abs}
+use Rattle.std.specs.Prelude.{ℕ, zero, suc, ◌+◌, max, length, Bool, unsigned_abs}
 use Rattle.lexical_num.specs.Format.{Format, grouped_length}
+use Rattle.lexical_num.specs.Range.{greatest_of, least_of}
 use Rattle.lexical_num.specs.Sign.{sign_of}
 use Rattle.lexical_write_integer.specs.Computed.{digits_text}
 
@@ -10,13 +11,13 @@ abbrev pub count_in : ℕ → ℕ → ℕ
 count_in zero number = 0
 count_in (suc r) number = length (digits_text (suc r) number)
 
--- the largest magnitude of the numbers from `least` to `greatest`, if these are not on the same side of 0
-abbrev pub largest_magnitude : ℤ → ℤ → ℕ
-largest_magnitude least greatest = max (unsigned_abs least) (unsigned_abs greatest)
+-- the largest magnitude of the numbers of an unsigned or a signed type with this number of bits
+abbrev pub largest_magnitude : ℕ → Bool → ℕ
+largest_magnitude bits is_signed = max (unsigned_abs (least_of bits is_signed)) (unsigned_abs (greatest_of bits is_signed))
 
--- the length of the longest text in the format of a number from `least`, which is not above 0, to `greatest`: one sign,
--- the digits of the largest magnitude, and the separators between their groups
-abbrev pub formatted_room : ℤ → ℤ → Format → ℕ
-formatted_room least greatest format =
-    length (sign_of least format.required_mantissa_sign)
-    + grouped_length format.digit_grouping (count_in format.mantissa_radix (largest_magnitude least greatest))
+-- the length of the longest text of a number of the type in the format: one sign, the digits of the largest magnitude,
+-- and the separators between their groups
+abbrev pub formatted_room : ℕ → Bool → Format → ℕ
+formatted_room bits is_signed format =
+    length (sign_of (least_of bits is_signed) format.required_mantissa_sign)
+    + grouped_length format.digit_grouping (count_in format.mantissa_radix (largest_magnitude bits is_signed))

@@ -1,6 +1,6 @@
 //! Numbers with a fixed number of decimals.
 
-ghost use Rattle.std.specs.Prelude.{◌≡◌, ◌+◌, ◌-◌, ◌≤◌, length, take, drop, replicate, unsigned_abs};
+ghost use Rattle.std.specs.Prelude.{◌≡◌, ◌+◌, ◌-◌, ◌≤◌, length, take, drop, replicate, unsigned_abs, if◌then◌else◌};
 ghost use Rattle.lexical_write_integer.specs.Buffer.{Writes};
 ghost use Rattle.lexical_parts.specs.Fixed.{AreUnits, IsFixed, IsGroupedFixed, IsGroupedUnits};
 ghost use Rattle.lexical_parts.specs.Fixed.{fixed_room, grouped_units_room};
@@ -72,7 +72,7 @@ impl<T: ToLexicalWithOptions> Part for Fixed<T> {
 
     ghost is_valid = { λ part. part.1 ≤ 19 };
 
-    ghost room = { λ part. fixed_room T.DECIMAL_WIDTH T.FORMATTED_SIZE_DECIMAL part.1 };
+    ghost room = { λ part. fixed_room T.IS_SIGNED T.DECIMAL_WIDTH part.1 };
 
     fn room(self) -> usize {
         GroupedFixed(self.0, self.1, &STANDARD).room()
@@ -93,16 +93,13 @@ impl<T: ToLexicalWithOptions> Part for GroupedFixed<'_, T> {
 
     ghost is_valid = { λ part. part.1 ≤ 19 };
 
-    ghost room = { λ part. (T.FORMATTED_SIZE_DECIMAL - T.DECIMAL_WIDTH)
+    ghost room = { λ part. (if T.IS_SIGNED then 1 else 0)
         + grouped_units_room part.2.now.digit_grouping T.DECIMAL_WIDTH part.1 };
 
     fn room(self) -> usize {
         size_suffices(self.0, &STANDARD);
         let whole = T::DECIMAL_WIDTH.max(self.1 + 1) - self.1;
-        (T::FORMATTED_SIZE_DECIMAL - T::DECIMAL_WIDTH)
-            + self.2.grouped_len(whole)
-            + self.1
-            + self.1.min(1)
+        usize::from(T::IS_SIGNED) + self.2.grouped_len(whole) + self.1 + self.1.min(1)
     }
 
     fn write_to(self, buffer: &mut [u8]) -> usize {

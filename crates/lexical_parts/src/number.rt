@@ -56,21 +56,21 @@ impl<T: Radix + DigitCount> Part for Digits<T> {
 
 // Returns the largest absolute value of a number of the type.
 fn largest_magnitude<T: ToLexicalWithOptions>() -> u64
-    ensures { result ≡ largest_magnitude T.least T.greatest }
+    ensures { result ≡ largest_magnitude T.BITS T.IS_SIGNED }
 {
     let all_bits = u64::MAX >> (64 - T::BITS);
-    if T::FORMATTED_SIZE_DECIMAL == T::DECIMAL_WIDTH {
-        all_bits
-    } else {
+    if T::IS_SIGNED {
         all_bits / 2 + 1
+    } else {
+        all_bits
     }
 }
 
 /// A law: the room of a `Formatted` is enough for the number, and it is at most `BUFFER_SIZE`.
 pub fn formatted_room_suffices<T: ToLexicalWithOptions>(number: T, format: &NumberFormat)
     ensures need { need (T.number number) T.DECIMAL_WIDTH format.now
-        ≤ formatted_room T.least T.greatest format.now }
-    ensures buffer { formatted_room T.least T.greatest format.now ≤ BUFFER_SIZE }
+        ≤ formatted_room T.BITS T.IS_SIGNED format.now }
+    ensures buffer { formatted_room T.BITS T.IS_SIGNED format.now ≤ BUFFER_SIZE }
 {
     number.in_range();
     format.in_range();
@@ -84,12 +84,11 @@ pub struct Formatted<'a, T>(pub T, pub &'a NumberFormat);
 impl<T: ToLexicalWithOptions> Part for Formatted<'_, T> {
     ghost is_text = { λ part. IsText (T.number part.0) part.1.now };
 
-    ghost room = { λ part. formatted_room T.least T.greatest part.1.now };
+    ghost room = { λ part. formatted_room T.BITS T.IS_SIGNED part.1.now };
 
     fn room(self) -> usize {
         self.1.in_range();
-        let minus = T::FORMATTED_SIZE_DECIMAL - T::DECIMAL_WIDTH;
-        let sign = minus.max(usize::from(self.1.required_mantissa_sign()));
+        let sign = usize::from(T::IS_SIGNED || self.1.required_mantissa_sign());
         let digits = largest_magnitude::<T>().digit_count(self.1.mantissa_radix());
         sign + self.1.grouped_len(digits)
     }

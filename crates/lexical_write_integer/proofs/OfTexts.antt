@@ -2,6 +2,7 @@
 pub mod Signs
 pub mod SignedTexts
 pub mod Required
+pub mod SizeBounds
 pub mod Grouping
 pub mod Ascii
 pub mod Orders

@@ -18,5 +18,4 @@ pub use Rattle.lexical_write_integer.specs.Texts.Groups
 pub use Rattle.lexical_write_integer.specs.Texts.Lowercase
 pub use Rattle.lexical_write_integer.specs.Texts.Order
 pub use Rattle.lexical_write_integer.specs.Texts.Sequence
-pub use Rattle.lexical_write_integer.specs.Texts.SizeBound
 pub use Rattle.lexical_write_integer.specs.Texts.Text

@@ -1,7 +1,6 @@
 -- The texts of numbers: a sign, and then the digits in the groups of the format.
 pub mod Groups
 pub mod Text
-pub mod SizeBound
 pub mod Computed
 pub mod Lowercase
 pub mod Order

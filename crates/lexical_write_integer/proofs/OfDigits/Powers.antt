@@ -3,7 +3,7 @@ use Rattle.std.proofs.Common.{◌≡◌, ℕ, zero, suc, ◌+◌, ◌*◌, ◌/�
 use Rattle.std.proofs.Math.Nat.{pow-zero, pow-suc, pow-le-pow_right, one-le-pow, mul-le-mul_left, mul_comm}
 use Rattle.std.proofs.Math.Nat.{div-div-eq-div-mul}
 use Rattle.std.proofs.lemmas.Nat.{pow-add}
-pub use Rattle.lexical_write_integer.specs.Texts.SizeBound.{div-monotone}
+pub use Rattle.lexical_write_integer.proofs.OfTexts.SizeBounds.{div-monotone}
 
 pub pow-one : (r : ℕ) → r ^ 1 ≡ r
 pow-one r = rw (pow-suc r 0, pow-zero) (omega arith)

@@ -8,7 +8,7 @@ use Rattle.lexical_num.specs.Format.{Format, IsGrouping, grouped_length}
 use Rattle.lexical_num.specs.Sign.{sign_of}
 use Rattle.lexical_write_integer.specs.Digits.DigitCount.{digit_count-le, digit_count}
 use Rattle.lexical_write_integer.specs.Texts.Groups.{grouped}
-use Rattle.lexical_write_integer.specs.Texts.SizeBound.{grouped_length-more}
+use Rattle.lexical_write_integer.proofs.OfTexts.SizeBounds.{grouped_length-more}
 use Rattle.lexical_write_integer.specs.Texts.Text.{IsText, digits_need, need}
 use Rattle.lexical_write_integer.proofs.OfDigits.Count.DigitCounts.{digit_count-pos}
 use Rattle.lexical_write_integer.proofs.OfTexts.Grouping.Digits.{length-in_groups}

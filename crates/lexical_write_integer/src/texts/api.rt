@@ -1,11 +1,10 @@
 //! The traits that write a number of any integer type.
 
-ghost use Rattle.std.specs.Prelude.{◌≡◌, ◌+◌, ◌≤◌, ℤ, ◌≤ℤ◌, false, length, take, drop, unsigned_abs};
+ghost use Rattle.std.specs.Prelude.{◌≡◌, ◌+◌, ◌≤◌, length, take, drop, unsigned_abs};
 ghost use Rattle.std.specs.Borrow.{sem};
-ghost use Rattle.lexical_num.specs.Format.{Format, IsRadix, standard, without_groups};
+ghost use Rattle.lexical_num.specs.Format.{IsRadix, standard, without_groups};
 ghost use Rattle.lexical_num.specs.Sign.{sign_of};
 ghost use Rattle.lexical_num.specs.declared.constants.TheConstants.{BUFFER_SIZE};
-ghost use Rattle.lexical_num.specs.Size.{size_in};
 ghost use Rattle.lexical_write_integer.specs.Buffer.{WritesDigits, WritesText};
 ghost use Rattle.lexical_write_integer.specs.Digits.DigitCount.{digit_count};
 ghost use Rattle.lexical_write_integer.specs.Texts.Groups.{without_marks};
@@ -14,6 +13,7 @@ ghost use Rattle.lexical_write_integer.specs.Texts.Text.{IsText, digits_need, ne
 
 use super::groups::group_digits;
 use crate::buffer::front_mut;
+use crate::laws::size_suffices;
 use lexical_num::constants::FormattedSize;
 use lexical_num::format::{NumberFormat, STANDARD};
 use lexical_num::num::LexicalInteger;
@@ -115,7 +115,7 @@ pub trait ToLexicalWithOptions: ToLexical {
         ensures need { result ≡ need (Self.number self) Self.DECIMAL_WIDTH format.now }
         ensures short { result ≤ BUFFER_SIZE }
     {
-        self.in_range();
+        size_suffices(self, format);
         let radix = format.mantissa_radix();
         let digits = if radix == 10 {
             Self::DECIMAL_WIDTH
@@ -125,15 +125,6 @@ pub trait ToLexicalWithOptions: ToLexical {
         let sign = usize::from(self.is_negative() || format.required_mantissa_sign());
         sign + format.grouped_len(digits)
     }
-
-    // The size of the type in a format is at least the required length of each number of the type.
-    ghost size_suffices: { (x : ℤ) (format : Format) → IsRadix format.mantissa_radix
-        → Self.least ≤ℤ x → x ≤ℤ Self.greatest
-        → need x Self.DECIMAL_WIDTH format ≤ size_in Self.FORMATTED_SIZE Self.FORMATTED_SIZE_DECIMAL format };
-
-    // The decimal size of the type is its decimal width, and a byte for the `-` of a type with negative numbers.
-    ghost decimal_size: { Self.FORMATTED_SIZE_DECIMAL
-        ≡ Self.DECIMAL_WIDTH + length (sign_of Self.least false) };
 
     /// Writes the number as `write_lexical_with_options` does, under the same condition, and returns
     /// its text: a mutable slice of the first bytes of the buffer. What the caller then writes to the

@@ -1,5 +1,6 @@
 use Rattle.std.proofs.Common.{refl, arith, rules}
 use Rattle.std.proofs.lemmas.Bool.{false≢true}
+use Rattle.lexical_write_integer.proofs.OfTexts.SizeBounds.{need-le_size}
 use Rattle.lexical_c.specs.Format.{format_of}
 use Rattle.lexical_c.proofs.TextLengths.{text_of-le_need}
 use Rattle.lexical_c.proofs.buffer_size.buffer_size.Goals as goal
@@ -13,9 +14,10 @@ returns-in-Some g c =
       accepts = (λ _. accepted, λ _. search rules);
       size = λ _. size;
       enough = λ _ x at_least at_most.
-          let fits = text_of-le_need x _ _ _ _ (format_of c.args.format.now) valid
-          g.met.T.LexicalInteger.decimal_width g.met.T.LexicalInteger.range_of_bits at_least at_most in
-          let needs = g.met.T.ToLexicalWithOptions.size_suffices x (format_of c.args.format.now) valid.mantissa at_least at_most in
+          let integer = g.met.T.LexicalInteger in
+          let fits = text_of-le_need _ x (format_of c.args.format.now) valid integer.bit_width integer.decimal_width at_least at_most in
+          let needs =
+          need-le_size _ integer.bit_width g.met.T.FormattedSize.sizes x (format_of c.args.format.now) valid.mantissa at_least at_most in
           omega (arith, size, fits, needs);
       within = search rules;
     }

@@ -3,9 +3,9 @@ use Rattle.lexical_num.specs.Format.{grouped_length}
 use Rattle.lexical_num.specs.Sign.{sign_of}
 use Rattle.lexical_write_integer.specs.DigitCount.{digit_count}
 use Rattle.lexical_write_integer.proofs.OfDigits.Count.DigitCounts.{digit_count-pos, digit_count-le_bits}
-use Rattle.lexical_write_integer.proofs.OfTexts.PrintedTexts.{IsRange-small}
+use Rattle.lexical_num.proofs.Magnitudes.{magnitude-small}
 use Rattle.lexical_write_integer.proofs.OfTexts.Signs.{sign_of-below, sign_of-other, length-plus}
-use Rattle.lexical_write_integer.specs.SizeBound.{grouped_length-le}
+use Rattle.lexical_write_integer.proofs.OfTexts.SizeBounds.{grouped_length-le}
 use Rattle.lexical_c.specs.Format.{format_of}
 use Rattle.lexical_c.proofs.TextLengths.{length-text_of}
 use Rattle.lexical_c.proofs.WrittenTexts.{grouped_length-pos}
@@ -35,7 +35,7 @@ count_is : (g : _) (c : After-from-sign g)
 count_is g c = rw c.mantissa_radix.ensures.value at c.magnitude_digits-digits.ensures
 
 small : (g : _) (c : After-from-sign g) → unsigned_abs (g.T.LexicalInteger.number c.args.value) < 2 ^ 64
-small g c = IsRange-small _ _ _ _ g.met.T.LexicalInteger.range_of_bits c.in_range.ensures.at_least c.in_range.ensures.at_most
+small g c = magnitude-small _ g.met.T.LexicalInteger.bit_width _ c.in_range.ensures.at_least c.in_range.ensures.at_most
 
 few : (g : _) (c : After-from-sign g) → c.magnitude_digits-digits.result ≤ 64
 few g c =

@@ -1,7 +1,7 @@
 use Rattle.std.proofs.Common.{ℕ, ◌≤◌, ◌+◌, ◌-◌, max, refl, sym, arith}
 use Rattle.std.proofs.lemmas.List.{length-drop, length-take, length-take-le, take_rest}
 use Rattle.lexical_num.specs.Format.{grouped_length}
-use Rattle.lexical_write_integer.specs.SizeBound.{grouped_length-more}
+use Rattle.lexical_write_integer.proofs.OfTexts.SizeBounds.{grouped_length-more}
 use Rattle.lexical_write_integer.proofs.OfTexts.Sequences.{written_then}
 use Rattle.lexical_parts.specs.Fixed.{grouped_units_room}
 use Rattle.lexical_parts.proofs.GroupedUnits.{IsGroupedUnits-whole, grouped_units-le, written_in_groups}

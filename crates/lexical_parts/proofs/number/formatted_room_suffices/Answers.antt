@@ -5,7 +5,7 @@ pub returns-clause-need : goal.returns-clause-need
 returns-clause-need g c =
     let law = g.met.T.LexicalInteger in
     let number = c.in_range.ensures in
-    need-le_room _ c.args.format.now law.range_of_bits law.decimal_width c.in_range-2.ensures.mantissa.at_least_two number.at_least number.at_most
+    need-le_room _ _ c.args.format.now law.bit_width law.decimal_width c.in_range-2.ensures.mantissa.at_least_two number.at_least number.at_most
 
 pub returns-clause-buffer : goal.returns-clause-buffer
-returns-clause-buffer g c = room-le c.args.format.now g.met.T.LexicalInteger.range_of_bits c.in_range-2.ensures.mantissa.at_least_two
+returns-clause-buffer g c = room-le _ c.args.format.now g.met.T.LexicalInteger.bit_width c.in_range-2.ensures.mantissa.at_least_two

@@ -1,11 +1,11 @@
-use Rattle.std.proofs.Common.{arith}
-use Rattle.lexical_parts.proofs.FormattedRooms.{signed-largest}
+use Rattle.std.proofs.Common.{sym}
+use Rattle.lexical_parts.proofs.FormattedRooms.{signed-largest, unsigned-largest}
 use Rattle.lexical_parts.proofs.number.largest_magnitude.Goals as goal
 
--- the check finds this proof by itself, but with an answer the refusal of a mistake says what is wrong
-pub returns-else-FORMATTED_SIZE_DECIMAL-DECIMAL_WIDTH : goal.returns-else-FORMATTED_SIZE_DECIMAL-DECIMAL_WIDTH
-returns-else-FORMATTED_SIZE_DECIMAL-DECIMAL_WIDTH g c =
-    let size = g.met.T.ToLexicalWithOptions.decimal_size in
-    rw c.BITS.ensures
-    (signed-largest g.met.T.LexicalInteger.range_of_bits
-    (omega (arith, size, c.FORMATTED_SIZE_DECIMAL.ensures, c.DECIMAL_WIDTH.ensures, c.if-FORMATTED_SIZE_DECIMAL-DECIMAL_WIDTH.false)))
+pub returns-then-IS_SIGNED : goal.returns-then-IS_SIGNED
+returns-then-IS_SIGNED g c =
+    rw (c.BITS.ensures, sym c.IS_SIGNED.ensures, c.if-IS_SIGNED.true) (signed-largest g.met.T.LexicalInteger.bit_width)
+
+pub returns-else-IS_SIGNED : goal.returns-else-IS_SIGNED
+returns-else-IS_SIGNED g c =
+    rw (c.BITS.ensures, sym c.IS_SIGNED.ensures, c.if-IS_SIGNED.false) (unsigned-largest g.met.T.LexicalInteger.bit_width)

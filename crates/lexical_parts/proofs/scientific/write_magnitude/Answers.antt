@@ -4,12 +4,13 @@ use Rattle.std.proofs.lemmas.List.{length-drop, length-take}
 use Rattle.lexical_write_integer.proofs.Buffers.Prefixes.{Writes-is}
 use Rattle.lexical_write_integer.proofs.OfTexts.Sequences.{written_then}
 use Rattle.lexical_parts.proofs.Scientifics.{written_scientific}
-use Rattle.lexical_parts.proofs.Widths.{decimal_width-le_20, few_digits}
+use Rattle.lexical_num.proofs.Magnitudes.{decimal_width-le_20}
+use Rattle.lexical_parts.proofs.Widths.{few_digits}
 use Rattle.lexical_parts.proofs.scientific.write_magnitude.Goals as goal
 use Rattle.lexical_parts.proofs.scientific.write_magnitude.Goals.{After-count_without_zeros-kept}
 
 pub write_magnitude-count-requires : goal.write_magnitude-count-requires
-write_magnitude-count-requires g c = decimal_width-le_20 _ _ _ _ g.met.T.LexicalInteger.range_of_bits g.met.T.LexicalInteger.decimal_width
+write_magnitude-count-requires g c = decimal_width-le_20 _ g.met.T.LexicalInteger.bit_width g.met.T.LexicalInteger.decimal_width
 
 -- no more digits are left than a number of the type has
 kept_few : (g : _) (c : After-count_without_zeros-kept g) → c.count_without_zeros-kept.result ≤ g.T.LexicalInteger.DECIMAL_WIDTH

@@ -101,35 +101,15 @@ pub fn fallback_digit_count<T: UnsignedInteger>(x: T, table: &[T]) -> usize
 pub trait DecimalCount: UnsignedInteger {
     /// Returns how many decimal digits the number has.
     fn decimal_count(self) -> usize
-        ensures { result ≡ digit_count 10 (Self.magnitude self) };
-}
-
-impl DecimalCount for u8 {
-    fn decimal_count(self) -> usize {
-        fast_digit_count(u32::from(self))
+        ensures { result ≡ digit_count 10 (Self.magnitude self) }
+    {
+        self.fits_bits();
+        if Self::BITS == 64 {
+            fallback_digit_count(self.as_usize() as u64, &POWERS_OF_TEN)
+        } else {
+            fast_digit_count(self.as_u32())
+        }
     }
 }
 
-impl DecimalCount for u16 {
-    fn decimal_count(self) -> usize {
-        fast_digit_count(u32::from(self))
-    }
-}
-
-impl DecimalCount for u32 {
-    fn decimal_count(self) -> usize {
-        fast_digit_count(self)
-    }
-}
-
-impl DecimalCount for u64 {
-    fn decimal_count(self) -> usize {
-        fallback_digit_count(self, &POWERS_OF_TEN)
-    }
-}
-
-impl DecimalCount for usize {
-    fn decimal_count(self) -> usize {
-        (self as u64).decimal_count()
-    }
-}
+impl<T: UnsignedInteger> DecimalCount for T {}

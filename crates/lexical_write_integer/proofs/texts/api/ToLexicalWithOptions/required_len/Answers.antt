@@ -1,6 +1,5 @@
 use Rattle.std.proofs.Common.{◌≡◌, ◌+◌, length, unsigned_abs, refl, sym, ◌∙◌, arith}
 use Rattle.std.proofs.lemmas.Bool.{cond-true, cond-false, eq-eqb, ne_eqb}
-use Rattle.std.proofs.lemmas.Grind.{common_steps}
 use Rattle.lexical_num.specs.Sign.{sign_of}
 use Rattle.lexical_write_integer.specs.Texts.Text.{digits_need, need}
 use Rattle.lexical_write_integer.proofs.OfTexts.Signs.{sign_of-below, sign_of-other, length-plus}
@@ -39,6 +38,5 @@ need_is g c =
 pub returns-clause-need : goal.returns-clause-need
 returns-clause-need g c = need_is g c
 
--- the check finds this proof by itself, but close to its limits
 pub returns-clause-short : goal.returns-clause-short
-returns-clause-short g c = grind (arith, common_steps)
+returns-clause-short g c = omega (arith, need_is g c, c.size_suffices.ensures)

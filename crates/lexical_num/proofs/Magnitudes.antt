@@ -1,0 +1,43 @@
+-- The magnitudes of the numbers of a type, and how many decimal digits they have.
+use Rattle.std.proofs.Common.{◌≡◌, ℕ, ◌-◌, ◌*◌, ◌^◌, ◌<◌, ◌≤◌, arith, inl, inr, lit≤, ℤ, pos, negsuc, ◌≤ℤ◌, unsigned_abs, Bool, true, false, refl}
+use Rattle.std.proofs.Math.Nat.{pow-le-pow_right}
+use Rattle.std.proofs.lemmas.Bool.{cases_lt}
+use Rattle.std.proofs.lemmas.Int.{ints}
+use Rattle.lexical_num.specs.BitWidth.{IsBitWidth, is_8, is_16, is_32, is_64}
+use Rattle.lexical_num.specs.DecimalWidth.{IsDecimalWidth}
+use Rattle.lexical_num.specs.Range.{greatest_of, least_of}
+
+-- a power of two is twice the one before it, and some number is below each of the two
+halves : {bits : ℕ} → IsBitWidth bits → (2 ^ bits ≡ 2 * 2 ^ (bits - 1)) × (0 < 2 ^ (bits - 1)) × (2 ^ bits ≤ 2 ^ 64)
+halves is_8 = (refl, lit≤ tt, lit≤ tt)
+halves is_16 = (refl, lit≤ tt, lit≤ tt)
+halves is_32 = (refl, lit≤ tt, lit≤ tt)
+halves is_64 = (refl, lit≤ tt, lit≤ tt)
+
+-- a magnitude has no more bits than the type
+pub magnitude-below : {bits : ℕ} (is_signed : Bool) → IsBitWidth bits → (x : ℤ) → least_of bits is_signed ≤ℤ x
+    → x ≤ℤ greatest_of bits is_signed → unsigned_abs x < 2 ^ bits
+magnitude-below false width (pos n) low high = omega (arith, ints, halves width)
+magnitude-below false width (negsuc n) low high = absurd (omega (arith, ints))
+magnitude-below true width (pos n) low high = omega (arith, ints, halves width)
+magnitude-below true width (negsuc n) low high = omega (arith, ints, halves width)
+
+-- so it fits in 64 bits
+pub magnitude-small : {bits : ℕ} (is_signed : Bool) → IsBitWidth bits → (x : ℤ) → least_of bits is_signed ≤ℤ x
+    → x ≤ℤ greatest_of bits is_signed → unsigned_abs x < 2 ^ 64
+magnitude-small is_signed width x low high = omega (arith, halves width, magnitude-below is_signed width x low high)
+
+-- no type has numbers of more than 20 decimal digits
+pub decimal_width-le_20 : {bits width : ℕ} (is_signed : Bool) → IsBitWidth bits
+    → IsDecimalWidth (least_of bits is_signed) (greatest_of bits is_signed) width → width ≤ 20
+decimal_width-le_20 {bits} {width} is_signed of_type is =
+    elim (cases_lt 20 width) [
+      | inr few ↦ few
+      | inl more ↦
+          let power = pow-le-pow_right {n = 10} (omega arith) {i = 20} {j = width - 1} (omega arith) in
+          absurd (omega (arith, power, is.needed, greatest-below is_signed of_type))
+    ]
+  where
+    greatest-below : {bits : ℕ} (is_signed : Bool) → IsBitWidth bits → unsigned_abs (greatest_of bits is_signed) < 10 ^ 20
+    greatest-below false width = omega (arith, halves width)
+    greatest-below true width = omega (arith, halves width)
