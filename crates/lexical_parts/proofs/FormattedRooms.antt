@@ -45,12 +45,6 @@ signed-largest is_16 = refl
 signed-largest is_32 = refl
 signed-largest is_64 = refl
 
-pub unsigned-largest : {bits : ℕ} → IsBitWidth bits → (2 ^ 64 - 1) / 2 ^ (64 - bits) ≡ largest_magnitude bits false
-unsigned-largest is_8 = refl
-unsigned-largest is_16 = refl
-unsigned-largest is_32 = refl
-unsigned-largest is_64 = refl
-
 -- ---- the sign and the digits
 
 sign-le : (least x : ℤ) (required : Bool) → least ≤ℤ x → length (sign_of x required) ≤ length (sign_of least required)

@@ -1,11 +1,7 @@
 use Rattle.std.proofs.Common.{sym}
-use Rattle.lexical_parts.proofs.FormattedRooms.{signed-largest, unsigned-largest}
+use Rattle.lexical_parts.proofs.FormattedRooms.{signed-largest}
 use Rattle.lexical_parts.proofs.number.largest_magnitude.Goals as goal
 
 pub returns-then-IS_SIGNED : goal.returns-then-IS_SIGNED
 returns-then-IS_SIGNED g c =
     rw (c.BITS.ensures, sym c.IS_SIGNED.ensures, c.if-IS_SIGNED.true) (signed-largest g.met.T.LexicalInteger.bit_width)
-
-pub returns-else-IS_SIGNED : goal.returns-else-IS_SIGNED
-returns-else-IS_SIGNED g c =
-    rw (c.BITS.ensures, sym c.IS_SIGNED.ensures, c.if-IS_SIGNED.false) (unsigned-largest g.met.T.LexicalInteger.bit_width)
