@@ -1,7 +1,7 @@
 //! The tests of the repository without the runtime of Rattle.
 
 /// What is written in Rattle, and what is written in its place. What is not known here, rustc refuses.
-const RULES: [(&str, &str); 25] = [
+const RULES: [(&str, &str); 24] = [
     ("println!(rt;", "uses::println_in!("),
     ("format!(in alloc;", "uses::format_in!("),
     ("!(rt;", "!("),
@@ -9,7 +9,6 @@ const RULES: [(&str, &str); 25] = [
     ("(rt: HostRuntime) -> Result<(), Fail> {", "() -> Result<(), Fail> { let rt = uses::runtime::HostRuntime;"),
     ("rt: HostRuntime) ->", "rt: uses::runtime::HostRuntime) ->"),
     ("use std::process::Abort;", "use uses::runtime::Abort;"),
-    ("use std::alloc::Alloc;", ""),
     ("use std::alloc::", "use uses::runtime::"),
     ("use std::fmt::InlineText;", "use uses::runtime::InlineText;"),
     ("use std::test::Fail;", "use uses::runtime::Fail;"),

@@ -34,17 +34,21 @@ fn check<T: Copy + PartialEq + Debug>(rt: &impl Abort, value: T, expected: T) {
     assert_eq!(rt; value, expected);
 }
 
+// What the buffers of the tests contain before a call. No buffer is longer.
+const UNCHANGED: [u8; 168] = [7; 168];
+
 // Checks that a call that returned `count` wrote the text to the start of the buffer, and that every byte
 // after it is still 7.
 fn check_buffer(rt: &impl Abort, buffer: &[u8], count: usize, text: &[u8]) {
-    assert_eq!(rt; count, text.len());
-    assert!(rt; buffer.starts_with(text));
-    assert!(rt; buffer[count..].iter().all(|byte| *byte == 7));
+    check(rt, count, text.len());
+    let (written, rest) = buffer.split_at(count.min(buffer.len()));
+    check_bytes(rt, written, text);
+    check(rt, UNCHANGED.ends_with(rest), true);
 }
 
 // Checks that the bytes are the text.
 fn check_bytes(rt: &impl Abort, bytes: &[u8], text: &[u8]) {
-    assert_eq!(rt; bytes, text);
+    check(rt, bytes, text);
 }
 
 // Checks that the part writes the text to the start of the buffer, and returns it as a `&str`.
@@ -53,14 +57,14 @@ fn check_str<P: Utf8Part>(rt: &impl Abort, part: P, buffer: &mut [u8], text: &st
     requires utf8 { P.is_utf8 part }
     requires room { P.room part ≤ length buffer.old }
 {
-    assert_eq!(rt; part.to_str(buffer), text);
+    check(rt, part.to_str(buffer), text);
 }
 
 // Checks the room of a part.
 fn check_room<P: Part>(rt: &impl Abort, part: P, room: usize)
     requires { P.is_valid part }
 {
-    assert_eq!(rt; part.room(), room);
+    check(rt, part.room(), room);
 }
 
 // Checks that the part writes the text, and no other byte.
@@ -89,8 +93,8 @@ fn identifiers(rt: HostRuntime) {
     check_bytes(&rt, identifier(36, &mut buffer), b"10");
     let largest = identifier(18446744073709551615, &mut buffer);
     check_bytes(&rt, largest, b"3W5E11264SGSF");
-    assert!(rt; have_same_identifier(71, 71));
-    assert!(rt; !have_same_identifier(71, 72));
+    check(&rt, have_same_identifier(71, 71), true);
+    check(&rt, have_same_identifier(71, 72), false);
 }
 
 #[test]
@@ -98,15 +102,23 @@ fn sorted_identifiers(rt: HostRuntime) {
     let mut buffer = [7; 8];
     check_bytes(&rt, sorted_identifier(35, &mut buffer), b"0000000Z");
     check_bytes(&rt, sorted_identifier(36, &mut buffer), b"00000010");
-    assert!(rt; is_sorted_before(35, 36));
-    assert!(rt; !is_sorted_before(36, 36));
-    assert!(rt; !is_sorted_before(2821109907455, 35));
+    check(&rt, is_sorted_before(35, 36), true);
+    check(&rt, is_sorted_before(36, 36), false);
+    check(&rt, is_sorted_before(2821109907455, 35), false);
 }
 
 #[test]
 fn floats_in_two_radices(rt: HostRuntime) {
-    assert!(rt; matches!(float_format(37, 2), Err(Error::InvalidMantissaRadix(37))));
-    assert!(rt; matches!(float_format(36, 1), Err(Error::InvalidExponentRadix(1))));
+    check(
+        &rt,
+        matches!(float_format(37, 2), Err(Error::InvalidMantissaRadix(37))),
+        true,
+    );
+    check(
+        &rt,
+        matches!(float_format(36, 1), Err(Error::InvalidExponentRadix(1))),
+        true,
+    );
     let mut buffer = [7; BUFFER_SIZE];
     let format = float_format(16, 2).unwrap();
     let count = write_parts(10, b'^', 10, &format, &mut buffer);
@@ -120,12 +132,12 @@ fn floats_in_two_radices(rt: HostRuntime) {
 
 #[test]
 fn keys_in_the_order_of_the_numbers(rt: HostRuntime) {
-    assert!(rt; comes_before(9, 10));
-    assert!(rt; !comes_before(10, 9));
-    assert!(rt; !comes_before(10, 10));
-    assert!(rt; comes_before(99, 18446744073709551615));
-    assert!(rt; is_earlier_key(b"19", b"20"));
-    assert!(rt; !is_earlier_key(b"20", b"20"));
+    check(&rt, comes_before(9, 10), true);
+    check(&rt, comes_before(10, 9), false);
+    check(&rt, comes_before(10, 10), false);
+    check(&rt, comes_before(99, 18446744073709551615), true);
+    check(&rt, is_earlier_key(b"19", b"20"), true);
+    check(&rt, is_earlier_key(b"20", b"20"), false);
 }
 
 #[test]
@@ -142,8 +154,16 @@ fn any_type_in_any_format(rt: HostRuntime) {
     let mut buffer = [7; LINE_SIZE];
     check_bytes(&rt, line_of_any(-5i64, &binary, &mut buffer), b"-101\n");
     check_bytes(&rt, line_of_any(6u8, &binary, &mut buffer), b"110\n");
-    assert!(rt; text_if_room(6u8, &binary, &Options::new(), &mut [7; 15]).is_none());
-    assert!(rt; text_if_room(6u8, &binary, &Options::new(), &mut [7; 16]).is_some());
+    check(
+        &rt,
+        text_if_room(6u8, &binary, &Options::new(), &mut [7; 15]).is_none(),
+        true,
+    );
+    check(
+        &rt,
+        text_if_room(6u8, &binary, &Options::new(), &mut [7; 16]).is_some(),
+        true,
+    );
 }
 
 // 4294967295 is 3 * 32^6 + 31 * (32^5 + .. + 1).
@@ -191,8 +211,8 @@ fn texts_in_an_arena(rt: HostRuntime) {
     check_bytes(&rt, first, b"123");
     check_bytes(&rt, second, b"-9223372036854775808");
     check(&rt, rest.len(), 37);
-    assert!(rt; have_same_kept_texts(-5, -5));
-    assert!(rt; !have_same_kept_texts(-5, 5));
+    check(&rt, have_same_kept_texts(-5, -5), true);
+    check(&rt, have_same_kept_texts(-5, 5), false);
 }
 
 // The first example of the page of lexical_write_integer.

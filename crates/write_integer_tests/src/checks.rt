@@ -58,3 +58,8 @@ pub(crate) fn check_written<R: Copy + Debug + Drop>(
     check_equal(rt, row, length, text.len());
     check_buffer(rt, row, buffer, text);
 }
+
+// Does the same, with the text as the row.
+pub(crate) fn check_text(rt: &impl Abort, length: usize, buffer: &[u8], text: &[u8]) {
+    check_written(rt, text, length, buffer, text);
+}

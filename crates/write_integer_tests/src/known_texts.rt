@@ -1,6 +1,6 @@
 // Tests of single calls with known numbers and buffers of known lengths.
 
-use crate::checks::{check_equal, check_written};
+use crate::checks::{check_equal, check_text};
 use lexical_write_integer::format::STANDARD;
 use lexical_write_integer::{BUFFER_SIZE, NumberFormatBuilder, ToLexical};
 
@@ -8,7 +8,7 @@ use lexical_write_integer::{BUFFER_SIZE, NumberFormatBuilder, ToLexical};
 fn length_of_a_text(rt: HostRuntime) {
     let mut three = [7; 3];
     let length = 255u8.write_lexical(&mut three);
-    check_written(&rt, "write_lexical of 255u8", length, &three, b"255");
+    check_text(&rt, length, &three, b"255");
 }
 
 #[test]
@@ -17,7 +17,7 @@ fn changes_to_the_text_are_changes_to_the_buffer(rt: HostRuntime) {
     let text = 1234u64.to_lexical(&mut buffer);
     check_equal(&rt, "the text of 1234", &*text, b"1234");
     text[0] = 57;
-    check_written(&rt, "9 in place of 1", 4, &buffer, b"9234");
+    check_text(&rt, 4, &buffer, b"9234");
 }
 
 #[test]

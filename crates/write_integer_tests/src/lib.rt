@@ -4,14 +4,15 @@
 // The first test of the project.
 #[test]
 fn the_first_test(rt: HostRuntime) {
+    use checks::check_equal;
     use lexical_write_integer::ToLexical;
     let mut three = [7, 7, 7];
     let text = 0u8.to_lexical(&mut three);
-    assert_eq!(rt; &*text, b"0".as_slice());
-    assert_eq!(rt; three, [48, 7, 7]);
+    check_equal(&rt, "the text of 0", &*text, b"0");
+    check_equal(&rt, "its buffer", three, [48, 7, 7]);
     let mut twenty = [7; 20];
     let text = 1234u64.to_lexical(&mut twenty);
-    assert_eq!(rt; &*text, b"1234".as_slice());
+    check_equal(&rt, "the text of 1234", &*text, b"1234");
 }
 
 #[cfg(test)]

@@ -4,7 +4,7 @@ mod groups;
 mod radices;
 mod signs;
 
-ghost use Rattle.std.specs.Prelude.{◌≤◌};
+ghost use Rattle.std.specs.Prelude.{◌≡◌, ◌≤◌};
 ghost use Rattle.lexical_num.specs.Format.{standard};
 ghost use Rattle.lexical_write_integer.specs.Text.{need};
 
@@ -63,6 +63,15 @@ pub(crate) fn check_required<T: ToLexicalWithOptions + Debug + Drop>(
     check_in(rt, value, format, options, count + 3, text);
 }
 
+// Returns the size, which has to be at most 128.
+fn at_most_128(rt: &impl Abort, size: usize) -> usize
+    ensures same { result ≡ size }
+    ensures most { result ≤ 128 }
+{
+    assert!(rt; size <= 128);
+    size
+}
+
 // Checks the text in a format, written to buffers of the required length, of the size of the type in the
 // format, and of 128 bytes.
 fn check<T: ToLexicalWithOptions + Debug + Drop>(
@@ -76,8 +85,7 @@ fn check<T: ToLexicalWithOptions + Debug + Drop>(
     value.in_range();
     format.in_range();
     let size = options.buffer_size::<T>(format);
-    assert!(rt; size <= 128, "the size of the type of {value:?} is {size}");
-    check_in(rt, value, format, options, size, text);
+    check_in(rt, value, format, options, at_most_128(rt, size), text);
     check_in(rt, value, format, options, 128, text);
 }
 

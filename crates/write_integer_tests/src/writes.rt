@@ -1,6 +1,6 @@
 // Tests of the methods of `WriteInteger`, other than `write_integer`, with buffers of exactly the required length.
 
-use crate::checks::{check_written, valid};
+use crate::checks::{check_text, valid};
 use lexical_write_integer::NumberFormatBuilder;
 use lexical_write_integer::format::STANDARD;
 use lexical_write_integer::laws::digit_count_at_most;
@@ -10,10 +10,10 @@ use lexical_write_integer::write::WriteInteger;
 fn signed_types_in_radix_10(rt: HostRuntime) {
     let mut nineteen = [7; 19];
     let length = 5u64.write_integer_signed(10, &mut nineteen);
-    check_written(&rt, "5u64", length, &nineteen, b"5");
+    check_text(&rt, length, &nineteen, b"5");
     let mut three = [7; 3];
     let length = 128u8.write_mantissa_signed(&STANDARD, &mut three);
-    check_written(&rt, "the signed mantissa 128", length, &three, b"128");
+    check_text(&rt, length, &three, b"128");
 }
 
 // A mantissa is written without the sign and the groups of the format.
@@ -23,7 +23,7 @@ fn mantissas(rt: HostRuntime) {
     let format = valid(&rt, builder.required_mantissa_sign(true));
     let mut ten = [7; 10];
     let length = 1234567u32.write_mantissa(&format, &mut ten);
-    check_written(&rt, "the mantissa 1234567", length, &ten, b"1234567");
+    check_text(&rt, length, &ten, b"1234567");
 }
 
 // Each call uses its own radix of the format, and writes no sign.
@@ -35,11 +35,11 @@ fn mantissas_and_exponents_in_two_radices(rt: HostRuntime) {
     digit_count_at_most(2, 10, 4);
     let mut one = [7; 1];
     let length = 10u8.write_mantissa(&format, &mut one);
-    check_written(&rt, "the mantissa 10", length, &one, b"A");
+    check_text(&rt, length, &one, b"A");
     let mut four = [7; 4];
     let length = 10u8.write_exponent(&format, &mut four);
-    check_written(&rt, "the exponent 10", length, &four, b"1010");
+    check_text(&rt, length, &four, b"1010");
     let mut four = [7; 4];
     let length = 10u8.write_exponent_signed(&format, &mut four);
-    check_written(&rt, "the signed exponent 10", length, &four, b"1010");
+    check_text(&rt, length, &four, b"1010");
 }

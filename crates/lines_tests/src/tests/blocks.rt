@@ -3,7 +3,7 @@ mod std_devices;
 
 ghost use Rattle.std.specs.Prelude.{◌≤◌, length, IfOk};
 
-use crate::tests::checks::check_equal;
+use crate::tests::checks::{check_equal, kind_of};
 use crate::tests::devices::Taker;
 use lexical_lines::{BlockWriter, ByteSink, Writing};
 use std::cell::Cell;
@@ -14,22 +14,23 @@ const TEXT: &[u8] = b"0123456789abcdef";
 
 // Puts the bytes, and returns how many were taken. If there are none, flushes and returns 0.
 fn put_or_flush(
-    writer: &mut BlockWriter<Writing<&mut Taker<'_>>, 7>,
+    writer: &mut BlockWriter<Writing<Taker<'_>>, 7>,
     bytes: &[u8],
 ) -> Result<usize, ErrorKind>
     ensures { IfOk result (λ count. count ≤ length bytes.now) }
 {
-    let outcome = if bytes.is_empty() {
-        writer.flush().map(|()| 0)
-    } else {
-        writer.put(bytes)
-    };
-    outcome.map_err(|error| error.kind())
+    if !bytes.is_empty() {
+        return kind_of(writer.put(bytes));
+    }
+    match writer.flush() {
+        Ok(()) => Ok(0),
+        Err(error) => Err(error.kind()),
+    }
 }
 
 // Writes the text, at most `size` bytes at a time, and flushes. Repeats a step that fails, up to 40 steps,
-// and returns the number of failures, each of which must be of the kind of the writer.
-fn write_through(rt: &impl Abort, taker: &mut Taker<'_>, size: usize) -> u32 {
+// and returns the number of failures, each of which must be of the kind of the writer, and the writer.
+fn write_through<'a>(rt: &impl Abort, taker: Taker<'a>, size: usize) -> (u32, Taker<'a>) {
     let kind = taker.kind;
     let mut writer = BlockWriter::<_, 7>::new(Writing::new(taker));
     let mut errors = 0u32;
@@ -44,7 +45,7 @@ fn write_through(rt: &impl Abort, taker: &mut Taker<'_>, size: usize) -> u32 {
             }
         }
     }
-    errors
+    (errors, writer.into_inner().into_inner())
 }
 
 // Puts one byte at a time, and checks how often the writer is called.
@@ -52,7 +53,7 @@ fn check_calls(rt: &impl Abort, piece: usize, writes: usize) {
     let flushed = Cell::new(0);
     let mut taker = Taker::new(&flushed);
     taker.piece = piece;
-    let errors = write_through(rt, &mut taker, 1);
+    let (errors, taker) = write_through(rt, taker, 1);
     check_equal(rt, piece, (errors, taker.writes), (0, writes));
     check_equal(rt, piece, taker.taken(), Some(TEXT));
 }
@@ -72,7 +73,7 @@ fn check_fault(rt: &impl Abort, kind: ErrorKind, is_for_good: bool, bad_byte: us
     taker.bad_byte = bad_byte;
     taker.is_for_good = is_for_good;
     taker.kind = kind;
-    let errors = write_through(rt, &mut taker, 16);
+    let (errors, taker) = write_through(rt, taker, 16);
     let row = (kind, is_for_good, bad_byte);
     check_equal(rt, row, errors.min(2), if is_for_good { 2 } else { 1 });
     check_equal(rt, row, taker.taken(), Some(text));

@@ -1,8 +1,11 @@
 // The assertions of all tests. Each failure shows the row of the test, which has its inputs.
 
-ghost use Rattle.std.specs.Prelude.{◌≤◌};
+ghost use Rattle.std.specs.Prelude.{◌≡◌, ◌≤◌, IfOk, Ok};
 
-use lexical_lines::{ByteSource, SliceSink, SliceSource, answer_slice, run, status};
+use crate::tests::devices::Taker;
+use lexical_lines::{
+    ByteSink, ByteSource, SliceSink, SliceSource, Writing, answer_slice, run, status,
+};
 use std::fmt::Debug;
 use std::io;
 use std::io::ErrorKind;
@@ -23,6 +26,16 @@ pub fn check_equal<R: Debug + Drop, T: PartialEq + Debug + Drop>(
 ) {
     if value != expected {
         panic!(rt; "in the row {row:?}: {value:?} in place of {expected:?}");
+    }
+}
+
+/// Returns the value, or the kind of the error.
+pub fn kind_of(outcome: io::Result<usize>) -> Result<usize, ErrorKind>
+    ensures { IfOk result (λ value. outcome ≡ Ok value) }
+{
+    match outcome {
+        Ok(value) => Ok(value),
+        Err(error) => Err(error.kind()),
     }
 }
 
@@ -106,4 +119,21 @@ pub fn check_slice<R: Copy + Debug + Drop>(
     };
     check_equal(rt, row, count, wanted);
     check_buffer(rt, row, &buffer, output);
+}
+
+/// Checks what a call of the sink returns.
+pub fn check_put(
+    rt: &impl Abort,
+    sink: &mut Writing<Taker<'_>>,
+    bytes: &[u8],
+    expected: Result<usize, ErrorKind>,
+) {
+    check_equal(rt, bytes, kind_of(sink.put(bytes)), expected);
+}
+
+/// Checks how often a writer was called, and what it has taken.
+pub fn check_taker(rt: &impl Abort, taker: &Taker<'_>, writes: usize, flushes: usize, text: &[u8]) {
+    check_equal(rt, "writes", taker.writes, writes);
+    check_equal(rt, "flushes", taker.flushes, flushes);
+    check_equal(rt, "the text", taker.taken(), Some(text));
 }

@@ -53,6 +53,14 @@ fn answered(newlines: &[(usize, &'static str)], yielded: usize) -> &'static str 
     output
 }
 
+// Returns the error that is expected, or another one.
+fn kind_in(expected: Outcome) -> ErrorKind {
+    match expected {
+        Ok(_) => ErrorKind::Other,
+        Err(kind) => kind,
+    }
+}
+
 // The source yields up to `limit` bytes, and the read `bad_read` fails with the expected error.
 fn check_source(
     rt: &impl Abort,
@@ -65,9 +73,7 @@ fn check_source(
     let flushed = Cell::new(0);
     let mut reader = Giver::new(input.as_bytes(), &flushed);
     reader.bad_read = bad_read;
-    if let Err(kind) = expected {
-        reader.kind = kind;
-    }
+    reader.kind = kind_in(expected);
     let mut source = Reading::new(reader, limit);
     let row = (input, limit, bad_read, expected);
     check_run(rt, row, &mut source, 256, output.as_bytes(), expected);
@@ -118,15 +124,12 @@ fn check_sink(rt: &impl Abort, input: &str, piece: usize, output: &[u8], expecte
     let mut writer = Taker::new(&flushed);
     writer.piece = piece;
     writer.bad_byte = output.len();
-    if let Err(kind) = expected {
-        writer.kind = kind;
-    }
+    writer.kind = kind_in(expected);
     let mut sink = Writing::new(writer);
     let ran = run(&mut Reading::new(input.as_bytes(), 1000), &mut sink);
     let row = (input, piece, output.len(), expected);
     check_outcome(rt, row, ran, expected);
     check_equal(rt, row, sink.into_inner().taken(), Some(output));
-    check_failing_sink(rt, input, piece, output, expected);
 }
 
 // The same with a sink without a writer.
@@ -137,14 +140,18 @@ fn check_failing_sink(
     output: &[u8],
     expected: Outcome,
 ) {
-    let kind = expected.err().unwrap_or(ErrorKind::Other);
     let mut buffer = UNCHANGED;
-    let mut sink = FailingSink::new(&mut buffer, piece, output.len(), kind);
+    let mut sink = FailingSink::new(&mut buffer, piece, output.len(), kind_in(expected));
     let ran = run(&mut SliceSource::new(input.as_bytes()), &mut sink);
     let row = (input, piece, output.len(), expected);
     check_outcome(rt, row, ran, expected);
     check_equal(rt, row, sink.len(), output.len());
     check_buffer(rt, row, &buffer, output);
+}
+
+fn check_both_sinks(rt: &impl Abort, input: &str, piece: usize, output: &[u8], expected: Outcome) {
+    check_sink(rt, input, piece, output, expected);
+    check_failing_sink(rt, input, piece, output, expected);
 }
 
 // The sink takes all bytes at once, or one byte in each call. It fails after each number of bytes below the
@@ -153,10 +160,10 @@ fn check_sinks(rt: &impl Abort, case: Case, kind: ErrorKind) {
     let (input, output, all_valid, _) = case;
     let output = output.as_bytes();
     for position in 0..output.len() {
-        check_sink(rt, input, 64, &output[..position], Err(kind));
-        check_sink(rt, input, 1, &output[..position], Err(kind));
+        check_both_sinks(rt, input, 64, &output[..position], Err(kind));
+        check_both_sinks(rt, input, 1, &output[..position], Err(kind));
     }
-    check_sink(rt, input, 1, output, Ok(all_valid));
+    check_both_sinks(rt, input, 1, output, Ok(all_valid));
 }
 
 // With `WriteZero` the sink takes no bytes in place of an error.

@@ -3,70 +3,97 @@
 use super::check;
 use lexical_parts::{Binary, Decimal, Formatted, Hex, Plus};
 use lexical_write_integer::NumberFormatBuilder;
-use std::alloc::Alloc;
+use std::alloc::{Alloc, Global};
+use std::fmt::Display;
 use std::io::{self, Write};
+use std::process::Abort;
 use std::test::Fail;
 use uses::csv_row::push_entries;
 use uses::log_lines::{push_line, push_str_line, write_line};
 use uses::printed::{amount_string, flags_in_column};
 
+// Checks what a format string with its parts, which `format_args!` joins, prints.
+fn check_shown<D: Display + Drop>(rt: &impl Abort, alloc: Global, shown: D, text: &str) {
+    let printed = format!(in alloc; "{}", shown).expect(rt, text);
+    check(rt, printed.as_str(), text);
+}
+
 // What Rust writes of the same texts: `format!("{:>8}", "FF")`, and so on.
 #[test]
-fn parts_in_format_strings(rt: HostRuntime) -> Result<(), Fail> {
-    let alloc = rt.alloc();
-    let text = format!(in alloc;
-        "{}|{:>8}|{:*^7}|{:<4}|",
-        Hex(255u32),
-        Hex(255u32),
-        Decimal(-12),
-        Binary(5u8)
-    )?;
-    check(&rt, text.as_str(), "FF|      FF|**-12**|101 |");
-    Ok(())
+fn parts_in_format_strings(rt: HostRuntime) {
+    check_shown(
+        &rt,
+        rt.alloc(),
+        format_args!(
+            "{}|{:>8}|{:*^7}|{:<4}|",
+            Hex(255u32),
+            Hex(255u32),
+            Decimal(-12),
+            Binary(5u8)
+        ),
+        "FF|      FF|**-12**|101 |",
+    );
 }
 
 #[test]
-fn numbers_in_format_strings(rt: HostRuntime) -> Result<(), Fail> {
-    let alloc = rt.alloc();
+fn numbers_in_format_strings(rt: HostRuntime) {
     let thousands = NumberFormatBuilder::new()
         .digit_grouping(3, b',')
         .build_strict();
     let number = Formatted(-1234567, &thousands);
-    let text = format!(in alloc; "{:12}|{:.3}", number, Decimal(98765u64))?;
-    check(&rt, text.as_str(), "-1,234,567  |987");
-    let text = format!(in alloc; "{}|{:>6}|{}", Plus(42u8), Plus(0i16), Plus(-42))?;
-    check(&rt, text.as_str(), "+42|    +0|-42");
-    Ok(())
+    check_shown(
+        &rt,
+        rt.alloc(),
+        format_args!("{:12}|{:.3}", number, Decimal(98765u64)),
+        "-1,234,567  |987",
+    );
+}
+
+#[test]
+fn signs_in_format_strings(rt: HostRuntime) {
+    check_shown(
+        &rt,
+        rt.alloc(),
+        format_args!("{}|{:>6}|{}", Plus(42u8), Plus(0i16), Plus(-42)),
+        "+42|    +0|-42",
+    );
 }
 
 // The longest texts, of which no clause says that `fmt` has room for them.
 #[test]
-fn longest_texts_in_format_strings(rt: HostRuntime) -> Result<(), Fail> {
+fn longest_texts_in_format_strings(rt: HostRuntime) {
+    let largest = Binary(18446744073709551615u64);
+    check_shown(
+        &rt,
+        rt.alloc(),
+        format_args!("{}|{}", largest, Hex(18446744073709551615u64)),
+        "1111111111111111111111111111111111111111111111111111111111111111|FFFFFFFFFFFFFFFF",
+    );
+}
+
+#[test]
+fn longest_text_of_a_format(rt: HostRuntime) -> Result<(), Fail> {
     let alloc = rt.alloc();
     let ones = NumberFormatBuilder::new()
         .mantissa_radix(2)
         .required_mantissa_sign(true)
         .digit_grouping(1, b'.')
         .build_strict();
-    let largest = Binary(18446744073709551615u64);
-    let text = format!(in alloc; "{}|{}", largest, Hex(18446744073709551615u64))?;
-    check(
-        &rt,
-        text.as_str(),
-        "1111111111111111111111111111111111111111111111111111111111111111|FFFFFFFFFFFFFFFF",
-    );
     let text = format!(in alloc; "{}", Formatted(-9223372036854775808i64, &ones))?;
     check(&rt, text.len(), 128);
-    assert!(rt; text.starts_with("-1.0.0.0.") && text.ends_with(".0.0.0"));
+    check(&rt, text.as_bytes().starts_with(b"-1.0.0.0."), true);
+    check(&rt, text.as_bytes().ends_with(b".0.0.0"), true);
     Ok(())
 }
 
 #[test]
-fn styles_of_text(rt: HostRuntime) -> Result<(), Fail> {
-    let alloc = rt.alloc();
-    let text = format!(in alloc; "{:08}|{:+}|{:#}", Decimal(5u8), Decimal(5u8), Hex(5u8))?;
-    check(&rt, text.as_str(), "5       |5|5");
-    Ok(())
+fn styles_of_text(rt: HostRuntime) {
+    check_shown(
+        &rt,
+        rt.alloc(),
+        format_args!("{:08}|{:+}|{:#}", Decimal(5u8), Decimal(5u8), Hex(5u8)),
+        "5       |5|5",
+    );
 }
 
 #[test]

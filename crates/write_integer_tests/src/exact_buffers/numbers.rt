@@ -16,6 +16,8 @@ where
         return None;
     }
     let expected = Expected::new(is_negative, magnitude, &STANDARD);
-    let text = str::from_utf8(expected.text()).ok()?;
+    let Ok(text) = str::from_utf8(expected.text()) else {
+        return None;
+    };
     text.parse().ok()
 }

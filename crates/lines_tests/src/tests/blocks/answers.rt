@@ -68,16 +68,20 @@ fn check_row(rt: &impl Abort, row: Row) {
     writer.bad_byte = bad_byte;
     writer.bad_flush = bad_flush;
     writer.is_for_good = is_for_good;
-    check_equal(rt, row, answer(&mut reader, &mut writer).0, wanted);
+    check_equal(rt, row, status_of(&mut reader, &mut writer), wanted);
     check_equal(rt, row, writer.taken(), Some(output));
+}
+
+// Answers the lines, and returns the exit status.
+fn status_of(reader: &mut Giver<'_>, writer: &mut Taker<'_>) -> u8 {
+    let mut output = BlockWriter::<_, 16_384>::new(Writing::new(writer));
+    answer_stream(&mut Reading::whole(reader), &mut output)
 }
 
 // Answers the lines, and returns the exit status, how often the devices were called, and the number of bytes
 // taken.
 fn answer(reader: &mut Giver<'_>, writer: &mut Taker<'_>) -> (u8, [usize; 4]) {
-    let mut input = Reading::whole(&mut *reader);
-    let mut output = BlockWriter::<_, 16_384>::new(Writing::new(&mut *writer));
-    let status = answer_stream(&mut input, &mut output);
+    let status = status_of(reader, writer);
     let calls = [reader.reads, writer.writes, writer.flushes, writer.count];
     (status, calls)
 }
