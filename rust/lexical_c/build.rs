@@ -15,5 +15,5 @@ fn changed(text: String) -> String {
     // A slice has no C ABI in rustc. So `src/lib.rs` exports functions with the names of the writers, which call these.
     let text = text.replace("#[unsafe(no_mangle)]\npub extern \"C\" fn lexical_write_", "pub fn lexical_write_");
     // If rustc inlined this, the calls without letters would save registers for it.
-    text.replace("#[inline] fn write_lowercase", "#[cold] fn write_lowercase")
+    text.replace("#[inline] fn write_in_lowercase", "#[cold] fn write_in_lowercase")
 }

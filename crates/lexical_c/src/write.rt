@@ -18,7 +18,7 @@ fn write<T: CInteger>(value: T, format: &CFormat, buffer: &mut [u8]) -> usize
     ensures { WritesOrRefuses (T.number value) format.now buffer.old buffer.new result }
 {
     if has_only_radix(format) {
-        write_uppercase(value, format, buffer)
+        write_digits(value, format, buffer)
     } else {
         write_other(value, format, buffer)
     }
@@ -34,17 +34,17 @@ fn write_other<T: CInteger>(value: T, format: &CFormat, buffer: &mut [u8]) -> us
     if !has_only_radix_and_case(format) {
         value.write_if_it_fits(format, buffer)
     } else if !has_letters(format) {
-        write_uppercase(value, format, buffer)
+        write_digits(value, format, buffer)
     } else if T::IS_SIGNED {
-        write_signed_lowercase(value, format, buffer)
+        write_signed_in_lowercase(value, format, buffer)
     } else {
-        write_lowercase(value, format, buffer)
+        write_in_lowercase(value, format, buffer)
     }
 }
 
 // Does what `write` does in a format that has only a radix, or at most 10 as the radix and a case: then the
 // text is the same in lowercase.
-fn write_uppercase<T: CInteger>(value: T, format: &CFormat, buffer: &mut [u8]) -> usize
+fn write_digits<T: CInteger>(value: T, format: &CFormat, buffer: &mut [u8]) -> usize
     requires only { HasOnlyRadixAndCase format.now }
     requires case { format.now.lowercase ≢ 0 → format.now.radix ≤ 10 }
     ensures { WritesOrRefuses (T.number value) format.now buffer.old buffer.new result }
@@ -60,7 +60,7 @@ fn write_uppercase<T: CInteger>(value: T, format: &CFormat, buffer: &mut [u8]) -
 }
 
 // Does what `write` does in a format that has only a radix and lowercase.
-fn write_lowercase<T: CInteger>(value: T, format: &CFormat, buffer: &mut [u8]) -> usize
+fn write_in_lowercase<T: CInteger>(value: T, format: &CFormat, buffer: &mut [u8]) -> usize
     requires only { HasOnlyRadixAndCase format.now }
     requires lowercase { format.now.lowercase ≢ 0 }
     ensures { WritesOrRefuses (T.number value) format.now buffer.old buffer.new result }
@@ -76,14 +76,15 @@ fn write_lowercase<T: CInteger>(value: T, format: &CFormat, buffer: &mut [u8]) -
     }
 }
 
-// This is cold too: with the code for the sign, the calls without letters would save registers for it.
+// Does what `write_in_lowercase` does. It is cold too: with the code for the sign, the calls without letters
+// would save registers for it.
 #[cold]
-fn write_signed_lowercase<T: CInteger>(value: T, format: &CFormat, buffer: &mut [u8]) -> usize
+fn write_signed_in_lowercase<T: CInteger>(value: T, format: &CFormat, buffer: &mut [u8]) -> usize
     requires only { HasOnlyRadixAndCase format.now }
     requires lowercase { format.now.lowercase ≢ 0 }
     ensures { WritesOrRefuses (T.number value) format.now buffer.old buffer.new result }
 {
-    write_lowercase(value, format, buffer)
+    write_in_lowercase(value, format, buffer)
 }
 
 /// Writes a `uint8_t` to the buffer, and returns the length of its text, or 0 if it is refused.

@@ -11,9 +11,9 @@ ghost use Rattle.lexical_write_integer.specs.Text.{need};
 use crate::checks::{ROOM, check_buffer, check_equal, valid};
 use crate::lines::read;
 use crate::numbers::NUMBERS;
-use lexical_num::num::LexicalInteger;
 use lexical_num::options::{Options, WriteOptions};
 use lexical_write_integer::format::STANDARD;
+use lexical_write_integer::laws::size_suffices;
 use lexical_write_integer::{NumberFormat, NumberFormatBuilder, ToLexical, ToLexicalWithOptions};
 use std::fmt::Debug;
 use std::process::Abort;
@@ -82,8 +82,7 @@ fn check<T: ToLexicalWithOptions + Debug + Drop>(
     text: &[u8],
 ) {
     check_required(rt, value, format, options, text);
-    value.in_range();
-    format.in_range();
+    size_suffices(value, format);
     let size = options.buffer_size::<T>(format);
     check_in(rt, value, format, options, at_most_128(rt, size), text);
     check_in(rt, value, format, options, 128, text);

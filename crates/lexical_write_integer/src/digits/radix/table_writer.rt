@@ -36,23 +36,24 @@ pub(super) fn remove_four<const R: u32>(value: u64, written: &mut Turns) -> u64
     left
 }
 
-// Writes the last four digits of a number at index `at`, as two pairs. `left` is the number without those
-// digits.
-fn write_last_four<const R: u32>(
-    number: u64,
-    left: u64,
-    table: RadixTable<'_, R>,
-    buffer: &mut [u8],
-    at: usize,
-)
-    requires left { left ≡ number / R ^ 4 }
+// Returns the last four digits of a number, as a number.
+fn last_four<const R: u32>(value: u64) -> u32
+    requires { IsRadix R }
+    ensures digits { result ≡ value % R ^ 4 }
+    ensures short { result < R ^ 4 }
+{
+    (value % fourth_power(R)) as u32
+}
+
+// Writes a number of up to four digits at index `at`, with leading zeros, as two pairs.
+fn write_four<const R: u32>(number: u32, table: RadixTable<'_, R>, buffer: &mut [u8], at: usize)
+    requires short { number < R ^ 4 }
     requires room { at + 4 ≤ length buffer.old }
-    ensures { WritesBlock R 4 (number % R ^ 4) at buffer.old buffer.new }
+    ensures { WritesBlock R 4 number at buffer.old buffer.new }
 {
     let square = R * R;
-    let digits = (number - left * fourth_power(R)) as u32;
-    table.write(digits % square, buffer, at + 2);
-    table.write(digits / square, buffer, at);
+    table.write(number % square, buffer, at + 2);
+    table.write(number / square, buffer, at);
 }
 
 // Returns the digits before the last two of a number of up to four digits, and records them if there are any.
@@ -110,10 +111,9 @@ pub(super) fn write_after_count<const R: u32>(
     let mut left = value;
     let mut at = count;
     while at > 4 {
-        let next = remove_four::<R>(left, written);
         at -= 4;
-        write_last_four(left, next, table, buffer, at);
-        left = next;
+        write_four(last_four::<R>(left), table, buffer, at);
+        left = remove_four::<R>(left, written);
     }
     write_up_to_four(left as u32, at, table, buffer, written);
     count
@@ -188,7 +188,9 @@ pub(super) fn count_and_write_up_to_eight<const R: u32>(
     let left = remove_four::<R>(value, written);
     turns.tick(left);
     let head = count_and_write_up_to_four(left as u32, table, buffer, turns, written);
-    write_last_four(value, left, table, buffer, head);
+    // Not by `last_four`, which would divide once more.
+    let last = value - left * fourth_power(R);
+    write_four(last as u32, table, buffer, head);
     head + 4
 }
 
@@ -224,7 +226,7 @@ pub(super) fn count_and_write_more<const R: u32>(
     } else {
         count_and_write_more(second, table, buffer, turns, written)
     };
-    write_last_four(first, second, table, buffer, head);
-    write_last_four(value, first, table, buffer, head + 4);
+    write_four(last_four::<R>(first), table, buffer, head);
+    write_four(last_four::<R>(value), table, buffer, head + 4);
     head + 8
 }

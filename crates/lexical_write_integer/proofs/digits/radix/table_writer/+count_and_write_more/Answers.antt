@@ -31,8 +31,8 @@ returns-clause-digits g t c =
     let total : head + 4 + 4 ≡ head + 8 = omega arith in
     let four =
     WritesDigits-after (n / r ^ 4) two both.first (omega (arith, rw first.left at first.digits, c.requires.room))
-    (rw (second.left, first.left) at before) (rw first.left at c.write_last_four.ensures) in
-    rw total at (WritesDigits-after n two both.value c.requires.room four c.write_last_four-2.ensures)
+    (rw (second.left, first.left) at before) (rw (c.last_four.ensures.digits, first.left) at c.write_four.ensures) in
+    rw total at (WritesDigits-after n two both.value c.requires.room four (rw c.last_four-2.ensures.digits at c.write_four-2.ensures))
 
 pub returns-clause-turns : goal.returns-clause-turns
 returns-clause-turns g t c = grind (arith, HasEight-of, slow_notes-after)

@@ -17,8 +17,8 @@ long g c =
     c.loop-at.invariant.written in
     longer-than g.row.R c.loop-at.left 4 (omega arith) (omega (arith, counts, c.loop-at-test.true))
 
-pub remove_four-next-requires-clause-long : goal.remove_four-next-requires-clause-long
-remove_four-next-requires-clause-long g c = long g (goal.at.remove_four-next-requires-clause-long g c).In-loop-at
+pub remove_four-left-requires-clause-long : goal.remove_four-left-requires-clause-long
+remove_four-left-requires-clause-long g c = long g (goal.at.remove_four-left-requires-clause-long g c).In-loop-at
 
 pub loop-at-preserved : goal.loop-at-preserved
 loop-at-preserved g c =
@@ -28,11 +28,11 @@ loop-at-preserved g c =
     let order : 4 + (count - at) ≡ count - (at - 4) = omega (arith, c.loop-at-test.true, c.loop-at.invariant.within) in
     let place : at ≡ at - 4 + 4 = omega (arith, c.loop-at-test.true) in
     record {
-      noted = c.remove_four-next.ensures.written ∙ c.loop-at.invariant.noted;
-      written = rw order at (IsWrittenBack-more c.args.table.is_radix.at_least_two (long g c') c.remove_four-next.ensures.left
-          (IsWrittenBack-at place c.loop-at.invariant.written) c.write_last_four.ensures);
+      noted = c.remove_four-left.ensures.written ∙ c.loop-at.invariant.noted;
+      written = rw order at (IsWrittenBack-more c.args.table.is_radix.at_least_two (long g c') c.remove_four-left.ensures.left
+          (IsWrittenBack-at place c.loop-at.invariant.written) (rw c.last_four.ensures.digits at c.write_four.ensures));
       within = omega (arith, c.loop-at.invariant.within);
-      room = c.write_last_four.auto.buffer ∙ c.loop-at.invariant.room;
+      room = c.write_four.auto.buffer ∙ c.loop-at.invariant.room;
     }
 
 -- the remaining digits, at most four

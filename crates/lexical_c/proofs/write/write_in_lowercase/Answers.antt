@@ -4,7 +4,7 @@ use Rattle.lexical_write_integer.proofs.Buffers.Prefixes.{Writes-is}
 use Rattle.lexical_c.proofs.Letters.{lowered-IsText}
 use Rattle.lexical_c.proofs.PlainTexts.{only_radix, accepted}
 use Rattle.lexical_c.proofs.WrittenTexts.{count-length, some-written, written, in_lowercase}
-use Rattle.lexical_c.proofs.write.write_lowercase.Goals as goal
+use Rattle.lexical_c.proofs.write.write_in_lowercase.Goals as goal
 
 pub set_lowercase_bit-requires : goal.set_lowercase_bit-requires
 set_lowercase_bit-requires g c =
