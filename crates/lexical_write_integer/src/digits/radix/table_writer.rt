@@ -188,7 +188,7 @@ pub(super) fn count_and_write_up_to_eight<const R: u32>(
     let left = remove_four::<R>(value, written);
     turns.tick(left);
     let head = count_and_write_up_to_four(left as u32, table, buffer, turns, written);
-    // Not by `last_four`, which would divide once more.
+    // With `last_four` LLVM would not inline this function for numbers of 8 bits.
     let last = value - left * fourth_power(R);
     write_four(last as u32, table, buffer, head);
     head + 4
