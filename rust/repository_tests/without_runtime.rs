@@ -1,7 +1,7 @@
 //! The tests of the repository without the runtime of Rattle.
 
 /// What is written in Rattle, and what is written in its place. What is not known here, rustc refuses.
-const RULES: [(&str, &str); 24] = [
+const RULES: [(&str, &str); 25] = [
     ("println!(rt;", "uses::println_in!("),
     ("format!(in alloc;", "uses::format_in!("),
     ("!(rt;", "!("),
@@ -16,6 +16,7 @@ const RULES: [(&str, &str); 24] = [
     (".expect(rt, ", ".expect("),
     // In Rattle what allocates takes an allocator and returns a `Result`.
     (".clone().expect(\"clone\")", ".clone()"),
+    ("pub mod clones;", ""),
     ("Vec::new(alloc)", "Vec::new()"),
     ("Vec::new(rt.alloc())", "Vec::new()"),
     ("String::new(rt.alloc())", "String::new()"),

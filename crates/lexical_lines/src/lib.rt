@@ -38,8 +38,8 @@
 //! `write_joined` writes several numbers, and `join` returns their text.
 #![tactic(auto)]
 
-// The lines above are in `crates/lines_tests/src/tests/answers.rt`, and `length_of_joined_texts` in
-// `crates/refused_calls/src/texts.rt` calls `join`.
+// The lines above are in `crates/library_tests/src/line_answers/answers.rt`, and `length_of_joined_texts` in
+// `crates/uses/src/refused_calls/texts.rt` calls `join`.
 
 // Several numbers with a separator between them.
 mod joined_text;

@@ -1,5 +1,5 @@
 //! Examples of callers. Each module writes something that a program may need, and is proved from
-//! nothing but the contracts of the functions that it calls. The crate `refused_calls` has calls whose
+//! nothing but the contracts of the functions that it calls. The module `refused_calls` has calls whose
 //! conditions only just hold.
 #![tactic(auto)]
 
@@ -22,6 +22,7 @@ pub mod key_value;
 pub mod log_lines;
 pub mod printed;
 pub mod reading;
+pub mod refused_calls;
 pub mod sorted_keys;
 pub mod table_row;
 pub mod time_of_day;

@@ -1,7 +1,7 @@
 //! The table writer, which writes four digits per iteration from a table of the digit pairs of the radix, or in
 //! radix 2 eight, which it computes.
 //!
-//! `crates/write_integer_tests/src/tables.rt` has examples.
+//! `crates/library_tests/src/tables.rt` has examples.
 
 ghost use Rattle.std.specs.Prelude.{◌≡◌, ◌+◌, ◌≤◌, ◌++◌, IsTrue, length};
 ghost use Rattle.lexical_num.specs.Format.{IsRadix};

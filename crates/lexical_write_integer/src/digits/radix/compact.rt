@@ -1,6 +1,6 @@
 //! The compact writer, which writes one digit per iteration.
 //!
-//! `crates/write_integer_tests/src/tables.rt` has examples.
+//! `crates/library_tests/src/tables.rt` has examples.
 
 ghost use Rattle.std.specs.Prelude.{◌≡◌, ◌+◌, ◌/◌, ◌%◌, ◌<◌, ◌≤◌, ◌++◌, [], ◌∷◌, length, drop};
 ghost use Rattle.lexical_num.specs.Digit.{digit_char};
