@@ -44,7 +44,7 @@ pub trait LexicalInteger: Copy {
 }
 
 impl LexicalInteger for u8 {
-    const BITS: usize = 8;
+    const BITS: usize = u8::BITS as usize;
 
     const DECIMAL_WIDTH: usize = 3;
 
@@ -70,7 +70,7 @@ impl LexicalInteger for u8 {
 }
 
 impl LexicalInteger for u16 {
-    const BITS: usize = 16;
+    const BITS: usize = u16::BITS as usize;
 
     const DECIMAL_WIDTH: usize = 5;
 
@@ -96,7 +96,7 @@ impl LexicalInteger for u16 {
 }
 
 impl LexicalInteger for u32 {
-    const BITS: usize = 32;
+    const BITS: usize = u32::BITS as usize;
 
     const DECIMAL_WIDTH: usize = 10;
 
@@ -122,7 +122,7 @@ impl LexicalInteger for u32 {
 }
 
 impl LexicalInteger for u64 {
-    const BITS: usize = 64;
+    const BITS: usize = u64::BITS as usize;
 
     const DECIMAL_WIDTH: usize = 20;
 
@@ -148,7 +148,7 @@ impl LexicalInteger for u64 {
 }
 
 impl LexicalInteger for usize {
-    const BITS: usize = 64;
+    const BITS: usize = usize::BITS as usize;
 
     const DECIMAL_WIDTH: usize = 20;
 
@@ -174,7 +174,7 @@ impl LexicalInteger for usize {
 }
 
 impl LexicalInteger for i8 {
-    const BITS: usize = 8;
+    const BITS: usize = i8::BITS as usize;
 
     const DECIMAL_WIDTH: usize = 3;
 
@@ -201,7 +201,7 @@ impl LexicalInteger for i8 {
 }
 
 impl LexicalInteger for i16 {
-    const BITS: usize = 16;
+    const BITS: usize = i16::BITS as usize;
 
     const DECIMAL_WIDTH: usize = 5;
 
@@ -227,7 +227,7 @@ impl LexicalInteger for i16 {
 }
 
 impl LexicalInteger for i32 {
-    const BITS: usize = 32;
+    const BITS: usize = i32::BITS as usize;
 
     const DECIMAL_WIDTH: usize = 10;
 
@@ -253,7 +253,7 @@ impl LexicalInteger for i32 {
 }
 
 impl LexicalInteger for i64 {
-    const BITS: usize = 64;
+    const BITS: usize = i64::BITS as usize;
 
     const DECIMAL_WIDTH: usize = 19;
 
@@ -279,7 +279,7 @@ impl LexicalInteger for i64 {
 }
 
 impl LexicalInteger for isize {
-    const BITS: usize = 64;
+    const BITS: usize = isize::BITS as usize;
 
     const DECIMAL_WIDTH: usize = 19;
 
