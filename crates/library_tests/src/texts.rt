@@ -68,7 +68,7 @@ fn at_most_128(rt: &impl Abort, size: usize) -> usize
     ensures same { result ≡ size }
     ensures most { result ≤ 128 }
 {
-    assert!(rt; size <= 128);
+    assert!(rt; size <= 128, "the size {size}");
     size
 }
 
