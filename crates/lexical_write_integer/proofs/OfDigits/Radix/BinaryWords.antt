@@ -66,7 +66,7 @@ all_below-at test (suc n) k h less =
     ]
 
 abbrev pub word : ℕ → ℕ
-word b = bit_or (bit_and (b * 9241421688590303745 % 2 ^ 64 / 2 ^ 7) 72340172838076673) 3472328296227680304
+word b = bit_or (bit_and ((bit_and (b * 72340172838076673) 72624976668147840 + 9187201950435737471) / 2 ^ 7) 72340172838076673) 3472328296227680304
 
 pub word-bits : (b : ℕ) → b < 256 → to_le_bytes w64 (word b) ≡ map digit_char (bits 8 b)
 word-bits b short =

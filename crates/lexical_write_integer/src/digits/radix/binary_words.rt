@@ -11,15 +11,16 @@ use crate::digits::count::digit_count_counted;
 use crate::digits::pairs::RadixTable;
 use crate::turns::Turns;
 
-// Writes the eight binary digits of a number below 256 at index `at`. The product has the number eight times, nine
-// bits apart, so that bit 7 of each of its bytes is another bit of the number.
+// Writes the eight binary digits of a number below 256 at index `at`. Each byte of the product is the number, of which
+// the mask keeps another bit. The sum carries a bit that is set to bit 7 of its byte, and no further.
 fn write_eight_bits(bits: u64, buffer: &mut [u8], at: usize)
     requires short { bits < 256 }
     requires room { at + 8 ≤ length buffer.old }
     ensures { WritesBlock 2 8 bits at buffer.old buffer.new }
 {
-    let copies = bits.wrapping_mul(0x8040_2010_0804_0201);
-    let characters = (copies >> 7 & 0x0101_0101_0101_0101 | 0x3030_3030_3030_3030).to_le_bytes();
+    let kept = (bits * 0x0101_0101_0101_0101) & 0x0102_0408_1020_4080;
+    let carried = kept + 0x7f7f_7f7f_7f7f_7f7f;
+    let characters = (carried >> 7 & 0x0101_0101_0101_0101 | 0x3030_3030_3030_3030).to_le_bytes();
     buffer[at..at + 8].copy_from_slice(&characters);
 }
 
