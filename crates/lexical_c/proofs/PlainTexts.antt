@@ -1,6 +1,5 @@
 -- Texts in formats without groups and required signs.
-use Rattle.std.proofs.Common.{◌≡◌, None, ℕ, ◌-◌, ◌+◌, ◌≤◌, ℤ, pos, unsigned_abs, List, ◌++◌, length, take, drop, refl, sym, ap, ◌∙◌, arith, rules}
-use Rattle.std.specs.Prelude.{false}
+use Rattle.std.proofs.Common.{◌≡◌, None, ℕ, ◌-◌, ◌+◌, ◌≤◌, ℤ, unsigned_abs, List, ◌++◌, length, take, drop, refl, sym, ap, ◌∙◌, arith, rules}
 use Rattle.std.proofs.lemmas.List.{length-take, take-append-drop}
 use Rattle.lexical_num.specs.Format.{Format, IsRadix, standard}
 use Rattle.lexical_num.specs.Sign.{sign_of}
@@ -23,17 +22,6 @@ accepted format only radix = record {
     groups = rw only.groups (λ grouping none. search rules);
   };
   unreserved = only.unreserved;
-}
-
--- the digits of a number that is not negative are its text
-pub digits_are_text : (format : Format) (magnitude : ℕ) (before after : List ℕ) (count : ℕ) →
-    format.required_mantissa_sign ≡ false → format.digit_grouping ≡ None →
-    WritesDigits format.mantissa_radix magnitude before after count → WritesText (pos magnitude) format before after count
-digits_are_text format magnitude before after count none plain w = record {
-  text = w.writes.text;
-  is = record { digits = w.writes.text; magnitude = w.writes.is; whole = rw (none, plain) refl };
-  front = w.writes.front;
-  count = w.writes.count;
 }
 
 -- a buffer that begins with written bytes is unchanged if the same bytes are written again

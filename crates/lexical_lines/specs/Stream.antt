@@ -11,19 +11,18 @@ use Rattle.lexical_lines.specs.Puts.{PutsOnly}
 use Rattle.lexical_lines.specs.RunOutcome.{added}
 
 -- a source that reads from a reader: the reader, the number of bytes that it may still yield, whether it has reported
--- its end, the bytes that it has yielded, and the numbers of calls and of failures
+-- its end, the bytes that it has yielded, and the number of failures
 pub record StreamReading (R : Type 0) : Type 0 where
   pub reader : R
   pub left : ℕ
   pub is_ended : Bool
   pub yielded : List ℕ
-  pub calls : ℕ
   pub failures : ℕ
 
 -- a source that has yielded nothing
 abbrev pub new_reading : {R : Type 0} → R → ℕ → StreamReading R
 new_reading reader limit =
-    record { reader = reader; left = limit; is_ended = false; yielded = []; calls = 0; failures = 0 }
+    record { reader = reader; left = limit; is_ended = false; yielded = []; failures = 0 }
 
 -- a sink that writes to a writer: the writer, the bytes that were taken, those of them that are not flushed, and the
 -- numbers of flushes that succeeded and of failures

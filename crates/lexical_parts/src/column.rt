@@ -1,6 +1,7 @@
 //! Parts that are padded to the width of a column.
+#![tactic(auto, using(crate::proofs::Utf8Texts::kinds, crate::proofs::Utf8Changes::changes))]
 
-ghost use Rattle.std.specs.Prelude.{max};
+ghost use Rattle.std.specs.Prelude.{max, ◌<◌};
 ghost use Rattle.lexical_parts.specs.Column.{IsAtLeft, IsAtRight, IsCentered};
 
 use crate::fill::{insert_fill, write_fill};
@@ -19,6 +20,8 @@ impl<P: Part> Part for Left<P> {
 
     ghost room = { λ part. max (P.room part.0) part.1 };
 
+    ghost is_utf8 = { λ part. (part.2 < 128) × P.is_utf8 part.0 };
+
     fn room(self) -> usize {
         self.0.room().max(self.1)
     }
@@ -26,6 +29,10 @@ impl<P: Part> Part for Left<P> {
     fn write_to(self, buffer: &mut [u8]) -> usize {
         let count = self.0.write_to(buffer);
         count + write_fill(self.2, self.1.saturating_sub(count), &mut buffer[count..])
+    }
+
+    fn text_is_utf8(self) {
+        self.0.text_is_utf8();
     }
 }
 
@@ -42,6 +49,8 @@ impl<P: Part> Part for Right<P> {
 
     ghost room = { λ part. max (P.room part.0) part.1 };
 
+    ghost is_utf8 = { λ part. (part.2 < 128) × P.is_utf8 part.0 };
+
     fn room(self) -> usize {
         self.0.room().max(self.1)
     }
@@ -51,6 +60,10 @@ impl<P: Part> Part for Right<P> {
         let added = self.1.saturating_sub(count);
         insert_fill(self.2, added, count, buffer);
         added + count
+    }
+
+    fn text_is_utf8(self) {
+        self.0.text_is_utf8();
     }
 }
 
@@ -67,6 +80,8 @@ impl<P: Part> Part for Center<P> {
 
     ghost room = { λ part. max (P.room part.0) part.1 };
 
+    ghost is_utf8 = { λ part. (part.2 < 128) × P.is_utf8 part.0 };
+
     fn room(self) -> usize {
         self.0.room().max(self.1)
     }
@@ -78,5 +93,9 @@ impl<P: Part> Part for Center<P> {
         insert_fill(self.2, before, count, buffer);
         let end = before + count;
         end + write_fill(self.2, added - before, &mut buffer[end..])
+    }
+
+    fn text_is_utf8(self) {
+        self.0.text_is_utf8();
     }
 }

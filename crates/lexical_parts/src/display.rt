@@ -6,9 +6,9 @@ ghost use Rattle.lexical_num.specs.Format.{standard};
 ghost use Rattle.lexical_write_integer.specs.Computed.{digits_text, text_of};
 
 use crate::number::{Decimal, Formatted, formatted_room_suffices};
+use crate::part::Part;
 use crate::plus::Plus;
 use crate::powers_of_two::{Binary, Hex};
-use crate::utf8::Utf8Part;
 use lexical_write_integer::format::STANDARD;
 use lexical_write_integer::laws::{digits_computed, text_computed};
 use lexical_write_integer::radix::Radix;

@@ -1,4 +1,5 @@
 //! The integer types, which are parts: the text of a number is the number in decimal.
+#![tactic(auto, using(crate::proofs::Utf8Texts::kinds, crate::proofs::Utf8Changes::changes))]
 
 ghost use Rattle.std.specs.Prelude.{pos};
 ghost use Rattle.lexical_parts.specs.Sequence.{IsDecimal};
@@ -18,6 +19,8 @@ impl Part for u8 {
     fn write_to(self, buffer: &mut [u8]) -> usize {
         Decimal(self).write_to(buffer)
     }
+
+    fn text_is_utf8(self) {}
 }
 
 impl Part for u16 {
@@ -32,6 +35,8 @@ impl Part for u16 {
     fn write_to(self, buffer: &mut [u8]) -> usize {
         Decimal(self).write_to(buffer)
     }
+
+    fn text_is_utf8(self) {}
 }
 
 impl Part for u32 {
@@ -46,6 +51,8 @@ impl Part for u32 {
     fn write_to(self, buffer: &mut [u8]) -> usize {
         Decimal(self).write_to(buffer)
     }
+
+    fn text_is_utf8(self) {}
 }
 
 impl Part for u64 {
@@ -60,6 +67,8 @@ impl Part for u64 {
     fn write_to(self, buffer: &mut [u8]) -> usize {
         Decimal(self).write_to(buffer)
     }
+
+    fn text_is_utf8(self) {}
 }
 
 impl Part for usize {
@@ -74,6 +83,8 @@ impl Part for usize {
     fn write_to(self, buffer: &mut [u8]) -> usize {
         Decimal(self).write_to(buffer)
     }
+
+    fn text_is_utf8(self) {}
 }
 
 impl Part for i8 {
@@ -88,6 +99,8 @@ impl Part for i8 {
     fn write_to(self, buffer: &mut [u8]) -> usize {
         Decimal(self).write_to(buffer)
     }
+
+    fn text_is_utf8(self) {}
 }
 
 impl Part for i16 {
@@ -102,6 +115,8 @@ impl Part for i16 {
     fn write_to(self, buffer: &mut [u8]) -> usize {
         Decimal(self).write_to(buffer)
     }
+
+    fn text_is_utf8(self) {}
 }
 
 impl Part for i32 {
@@ -116,6 +131,8 @@ impl Part for i32 {
     fn write_to(self, buffer: &mut [u8]) -> usize {
         Decimal(self).write_to(buffer)
     }
+
+    fn text_is_utf8(self) {}
 }
 
 impl Part for i64 {
@@ -130,6 +147,8 @@ impl Part for i64 {
     fn write_to(self, buffer: &mut [u8]) -> usize {
         Decimal(self).write_to(buffer)
     }
+
+    fn text_is_utf8(self) {}
 }
 
 impl Part for isize {
@@ -144,4 +163,6 @@ impl Part for isize {
     fn write_to(self, buffer: &mut [u8]) -> usize {
         Decimal(self).write_to(buffer)
     }
+
+    fn text_is_utf8(self) {}
 }

@@ -1,4 +1,5 @@
 //! The parts of a slice, with a separator between adjacent parts.
+#![tactic(auto, using(crate::proofs::Utf8Texts::kinds, crate::proofs::Utf8Changes::changes))]
 
 ghost use Rattle.std.specs.Prelude.{◌≡◌, ◌+◌, ◌*◌, ◌≤◌, All, length, sum_by};
 ghost use Rattle.lexical_write_integer.specs.Buffer.{Writes};
@@ -39,6 +40,8 @@ impl<P: Part> Part for Joined<'_, P> {
 
     ghost room = { λ part. joined_room P.room (length part.1.now) part.0.now };
 
+    ghost is_utf8 = { λ part. All P.is_utf8 part.0.now };
+
     fn room(self) -> usize {
         let separators = self.0.len().saturating_sub(1);
         let mut room = separators.saturating_mul(self.1.len());
@@ -54,6 +57,13 @@ impl<P: Part> Part for Joined<'_, P> {
             count += write_next(index, self.1, *part, &mut buffer[count..]);
         }
         count
+    }
+
+    fn text_is_utf8(self) {
+        self.1.text_is_utf8();
+        for part in self.0 {
+            part.text_is_utf8();
+        }
     }
 }
 

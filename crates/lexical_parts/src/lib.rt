@@ -17,8 +17,7 @@
 //! assert_eq!(rt; &*text, b"2026-11-03 -12 kg 0xFF;".as_slice());
 //! ```
 //!
-//! The calls that write are the methods of [`Part`], and those that return a `&str` are the methods of
-//! [`Utf8Part`]. The other types of this crate are parts, and so are the integer types.
+//! The calls are the methods of [`Part`]. The other types of this crate are parts, and so are the integer types.
 #![tactic(auto)]
 
 // The example is from the test `texts_for_writing` in `crates/uses_tests/src/tests/lines.rt`.
@@ -41,7 +40,6 @@ mod scientific;
 mod sign;
 mod text;
 mod tuples;
-mod utf8;
 mod zero_padded;
 
 pub use column::{Center, Left, Right};
@@ -57,5 +55,4 @@ pub use powers_of_two::{Binary, Hex, HexBytes};
 pub use scientific::Scientific;
 pub use sign::Sign;
 pub use text::{Byte, Bytes};
-pub use utf8::Utf8Part;
 pub use zero_padded::ZeroPadded;

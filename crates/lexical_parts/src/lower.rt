@@ -1,4 +1,5 @@
 //! Parts in lowercase.
+#![tactic(auto, using(crate::proofs::Utf8Texts::kinds, crate::proofs::Utf8Changes::changes))]
 
 ghost use Rattle.lexical_write_integer.specs.Lowercase.{IsLowercase};
 
@@ -16,6 +17,8 @@ impl<P: Part> Part for Lower<P> {
 
     ghost room = { λ part. P.room part.0 };
 
+    ghost is_utf8 = { λ part. P.is_utf8 part.0 };
+
     fn room(self) -> usize {
         self.0.room()
     }
@@ -24,5 +27,9 @@ impl<P: Part> Part for Lower<P> {
         let count = self.0.write_to(buffer);
         buffer[..count].make_ascii_lowercase();
         count
+    }
+
+    fn text_is_utf8(self) {
+        self.0.text_is_utf8();
     }
 }

@@ -1,4 +1,5 @@
 //! Parts that may be absent: the text of `Some(part)` is that of the part, and `None` has no bytes.
+#![tactic(auto, using(crate::proofs::Utf8Texts::kinds, crate::proofs::Utf8Changes::changes))]
 
 ghost use Rattle.lexical_parts.specs.Optional.{IsOptional, IsValidOptional, optional_room};
 
@@ -12,6 +13,8 @@ impl<P: Part> Part for Option<P> {
 
     ghost room = { optional_room P.room };
 
+    ghost is_utf8 = { IsValidOptional P.is_utf8 };
+
     fn room(self) -> usize {
         match self {
             Some(part) => part.room(),
@@ -23,6 +26,12 @@ impl<P: Part> Part for Option<P> {
         match self {
             Some(part) => part.write_to(buffer),
             None => copy_to_front(b"", buffer),
+        }
+    }
+
+    fn text_is_utf8(self) {
+        if let Some(part) = self {
+            part.text_is_utf8();
         }
     }
 }

@@ -4,8 +4,10 @@ ghost use Rattle.std.specs.Prelude.{◌≡◌, ◌↔◌, ◌≤◌, List, ℕ, 
 ghost use Rattle.std.specs.Borrow.{sem};
 ghost use Rattle.lexical_write_integer.specs.Buffer.{Writes};
 ghost use Rattle.lexical_write_integer.specs.Lending.{LendsFront};
+ghost use Rattle.lexical_parts.specs.Utf8.{AreUtf8};
 
 use lexical_write_integer::buffer::front_mut;
+use std::str::from_utf8;
 
 /// A value that has a text, such as a number or a `&str`. A tuple of parts is also a part, and its
 /// text consists of the texts of its elements, in order: `(250, " g")` writes `250 g`.
@@ -23,6 +25,9 @@ pub trait Part: Copy {
     // A number of bytes that is enough for the text.
     ghost room: { Self → ℕ };
 
+    // The condition under which the text is UTF-8: that each byte that the part names is below 128.
+    ghost is_utf8: { Self → Type 0 } = { λ _. ⊤ };
+
     /// Returns a number of bytes that is enough for the text, or `usize::MAX` if that number does not
     /// fit in a `usize`. The part must be valid.
     fn room(self) -> usize
@@ -36,6 +41,12 @@ pub trait Part: Copy {
         requires room { room self ≤ length buffer.old }
         ensures text { Writes (is_text self) buffer.old buffer.new result }
         ensures short { result ≤ room self };
+
+    /// A law: the text of the part is UTF-8.
+    fn text_is_utf8(self)
+        requires valid { is_valid self }
+        requires utf8 { is_utf8 self }
+        ensures { AreUtf8 (is_text self) };
 
     /// Writes the text to the start of the buffer, and returns those bytes of the buffer, which the
     /// caller may read and change. Every byte after the text is unchanged. The part must be valid,
@@ -65,5 +76,38 @@ pub trait Part: Copy {
             return None;
         }
         Some(self.write_to(buffer))
+    }
+
+    /// Writes the text into the buffer, and returns it as a `&str`, which borrows the buffer. What the buffer holds
+    /// afterwards is not promised. The part must be valid, each `Byte` in it and each byte of a column must be below
+    /// 128, each `Bytes` in it must be UTF-8, and the buffer must have `room` bytes or more.
+    ///
+    /// At run time this is `to_text` and then a call of `std::str::from_utf8`, which reads the text
+    /// once and cannot fail. The standard library has no call that returns a `&mut str`.
+    final fn to_str(self, buffer: &mut [u8]) -> &str
+        requires valid { is_valid self }
+        requires utf8 { is_utf8 self }
+        requires room { room self ≤ length buffer.old }
+        ensures text { is_text self result.now }
+        ensures short { length result.now ≤ room self }
+    {
+        self.text_is_utf8();
+        from_utf8(self.to_text(buffer)).unwrap()
+    }
+
+    /// If the buffer has `room` bytes or more, returns the text as `to_str` does, at the same cost.
+    /// Otherwise returns `None`. Only the room is tested: the part must be valid, and each `Byte` in it and
+    /// each byte of a column must be below 128.
+    final fn try_to_str(self, buffer: &mut [u8]) -> Option<&str>
+        requires valid { is_valid self }
+        requires utf8 { is_utf8 self }
+        ensures fits { IsSome result ↔ (room self ≤ length buffer.old) }
+        ensures text { IfSome result (λ text. is_text self text.now) }
+        ensures short { IfSome result (λ text. length text.now ≤ room self) }
+    {
+        if buffer.len() < self.room() {
+            return None;
+        }
+        Some(self.to_str(buffer))
     }
 }

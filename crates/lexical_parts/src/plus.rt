@@ -1,4 +1,5 @@
 //! Numbers with a sign in each case.
+#![tactic(auto, using(crate::proofs::Utf8Texts::kinds, crate::proofs::Utf8Changes::changes))]
 
 ghost use Rattle.std.specs.Prelude.{◌+◌};
 ghost use Rattle.lexical_parts.specs.Plus.{IsPlus};
@@ -29,4 +30,6 @@ impl<T: ToLexicalWithOptions> Part for Plus<T> {
         let start = Sign(self.0, true).write_to(buffer);
         start + self.0.write_magnitude(&STANDARD, &mut buffer[start..])
     }
+
+    fn text_is_utf8(self) {}
 }

@@ -1,4 +1,5 @@
 //! Unsigned numbers in radix 16 and in radix 2, in the room of their type, and bytes in radix 16.
+#![tactic(auto, using(crate::proofs::Utf8Texts::kinds, crate::proofs::Utf8Changes::changes))]
 
 ghost use Rattle.std.specs.Prelude.{◌+◌, ◌-◌, ◌*◌, ◌/◌, length};
 ghost use Rattle.lexical_write_integer.specs.Padded.{IsPadded};
@@ -29,6 +30,8 @@ impl<T: Radix> Part for Hex<T> {
         self.0.fits_bits();
         self.0.radix(16, buffer)
     }
+
+    fn text_is_utf8(self) {}
 }
 
 /// The digits of an unsigned number in radix 2, without a prefix: `Binary(5u8)` writes `101`. Its room
@@ -49,6 +52,8 @@ impl<T: Radix> Part for Binary<T> {
         digit_count_within_bits(2, self.0);
         self.0.radix(2, buffer)
     }
+
+    fn text_is_utf8(self) {}
 }
 
 // The two digits of a byte in radix 16.
@@ -71,6 +76,8 @@ impl Part for HexByte {
         buffer[1] = table[index + 1];
         2
     }
+
+    fn text_is_utf8(self) {}
 }
 
 /// The bytes of a slice in radix 16, each in two digits, with a separator between adjacent bytes:
@@ -95,5 +102,9 @@ impl Part for HexBytes<'_> {
             count += write_next(index, self.1, HexByte(*byte), &mut buffer[count..]);
         }
         count
+    }
+
+    fn text_is_utf8(self) {
+        self.1.text_is_utf8();
     }
 }

@@ -1,4 +1,5 @@
 //! The sign of a number, as a part of its own.
+#![tactic(auto, using(crate::proofs::Utf8Texts::kinds, crate::proofs::Utf8Changes::changes))]
 
 ghost use Rattle.lexical_num.specs.Sign.{sign_of};
 ghost use Rattle.lexical_write_integer.specs.Sequence.{IsExactly};
@@ -30,4 +31,6 @@ impl<T: LexicalInteger> Part for Sign<T> {
             0
         }
     }
+
+    fn text_is_utf8(self) {}
 }

@@ -1,6 +1,8 @@
 //! Parts that are strings or bytes, whose text is the same bytes.
+#![tactic(auto, using(crate::proofs::Utf8Texts::kinds, crate::proofs::Utf8Changes::changes))]
 
-ghost use Rattle.std.specs.Prelude.{ℕ, [], ◌∷◌, length};
+ghost use Rattle.std.specs.Prelude.{ℕ, [], ◌∷◌, ◌<◌, length};
+ghost use Rattle.std.specs.Str.{IsUtf8};
 ghost use Rattle.lexical_write_integer.specs.Sequence.{IsExactly};
 
 use crate::part::Part;
@@ -18,6 +20,8 @@ impl Part for &str {
     fn write_to(self, buffer: &mut [u8]) -> usize {
         copy_to_front(self.as_bytes(), buffer)
     }
+
+    fn text_is_utf8(self) {}
 }
 
 /// A part whose text is the bytes of a slice.
@@ -29,6 +33,8 @@ impl Part for Bytes<'_> {
 
     ghost room = { λ part. length part.0.now };
 
+    ghost is_utf8 = { λ part. IsUtf8 part.0.now };
+
     fn room(self) -> usize {
         self.0.len()
     }
@@ -36,6 +42,8 @@ impl Part for Bytes<'_> {
     fn write_to(self, buffer: &mut [u8]) -> usize {
         copy_to_front(self.0, buffer)
     }
+
+    fn text_is_utf8(self) {}
 }
 
 /// A part whose text is one byte.
@@ -47,6 +55,8 @@ impl Part for Byte {
 
     ghost room = { λ _. 1 };
 
+    ghost is_utf8 = { λ part. part.0 < 128 };
+
     fn room(self) -> usize {
         1
     }
@@ -54,4 +64,6 @@ impl Part for Byte {
     fn write_to(self, buffer: &mut [u8]) -> usize {
         copy_to_front(&[self.0], buffer)
     }
+
+    fn text_is_utf8(self) {}
 }

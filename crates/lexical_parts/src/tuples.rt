@@ -1,4 +1,5 @@
 //! Tuples of two to twelve parts, whose text is the texts of their members in order.
+#![tactic(auto, using(crate::proofs::Utf8Texts::kinds, crate::proofs::Utf8Changes::changes))]
 
 ghost use Rattle.std.specs.Prelude.{◌+◌};
 ghost use Rattle.lexical_parts.specs.Sequence.{◌then◌};
@@ -12,6 +13,8 @@ impl<A: Part, B: Part> Part for (A, B) {
 
     ghost room = { λ p. A.room p.0 + B.room p.1 };
 
+    ghost is_utf8 = { λ p. A.is_utf8 p.0 × B.is_utf8 p.1 };
+
     fn room(self) -> usize {
         self.0.room().saturating_add(self.1.room())
     }
@@ -19,6 +22,11 @@ impl<A: Part, B: Part> Part for (A, B) {
     fn write_to(self, buffer: &mut [u8]) -> usize {
         let first = self.0.write_to(buffer);
         first + self.1.write_to(&mut buffer[first..])
+    }
+
+    fn text_is_utf8(self) {
+        self.0.text_is_utf8();
+        self.1.text_is_utf8();
     }
 }
 
@@ -29,12 +37,18 @@ impl<A: Part, B: Part, C: Part> Part for (A, B, C) {
 
     ghost room = { λ p. A.room p.0 + (B.room p.1 + C.room p.2) };
 
+    ghost is_utf8 = { λ p. A.is_utf8 p.0 × (B.is_utf8 p.1 × C.is_utf8 p.2) };
+
     fn room(self) -> usize {
         (self.0, (self.1, self.2)).room()
     }
 
     fn write_to(self, buffer: &mut [u8]) -> usize {
         (self.0, (self.1, self.2)).write_to(buffer)
+    }
+
+    fn text_is_utf8(self) {
+        (self.0, (self.1, self.2)).text_is_utf8();
     }
 }
 
@@ -45,12 +59,18 @@ impl<A: Part, B: Part, C: Part, D: Part> Part for (A, B, C, D) {
 
     ghost room = { λ p. A.room p.0 + (B.room p.1 + (C.room p.2 + D.room p.3)) };
 
+    ghost is_utf8 = { λ p. A.is_utf8 p.0 × (B.is_utf8 p.1 × (C.is_utf8 p.2 × D.is_utf8 p.3)) };
+
     fn room(self) -> usize {
         (self.0, (self.1, self.2, self.3)).room()
     }
 
     fn write_to(self, buffer: &mut [u8]) -> usize {
         (self.0, (self.1, self.2, self.3)).write_to(buffer)
+    }
+
+    fn text_is_utf8(self) {
+        (self.0, (self.1, self.2, self.3)).text_is_utf8();
     }
 }
 
@@ -63,12 +83,19 @@ impl<A: Part, B: Part, C: Part, D: Part, E: Part> Part for (A, B, C, D, E) {
 
     ghost room = { λ p. A.room p.0 + (B.room p.1 + (C.room p.2 + (D.room p.3 + E.room p.4))) };
 
+    ghost is_utf8 = { λ p. A.is_utf8 p.0 × (B.is_utf8 p.1 × (C.is_utf8 p.2 × (D.is_utf8 p.3
+        × E.is_utf8 p.4))) };
+
     fn room(self) -> usize {
         (self.0, (self.1, self.2, self.3, self.4)).room()
     }
 
     fn write_to(self, buffer: &mut [u8]) -> usize {
         (self.0, (self.1, self.2, self.3, self.4)).write_to(buffer)
+    }
+
+    fn text_is_utf8(self) {
+        (self.0, (self.1, self.2, self.3, self.4)).text_is_utf8();
     }
 }
 
@@ -82,12 +109,19 @@ impl<A: Part, B: Part, C: Part, D: Part, E: Part, F: Part> Part for (A, B, C, D,
     ghost room = { λ p. A.room p.0 + (B.room p.1 + (C.room p.2 + (D.room p.3 + (E.room p.4
         + F.room p.5)))) };
 
+    ghost is_utf8 = { λ p. A.is_utf8 p.0 × (B.is_utf8 p.1 × (C.is_utf8 p.2 × (D.is_utf8 p.3
+        × (E.is_utf8 p.4 × F.is_utf8 p.5)))) };
+
     fn room(self) -> usize {
         (self.0, (self.1, self.2, self.3, self.4, self.5)).room()
     }
 
     fn write_to(self, buffer: &mut [u8]) -> usize {
         (self.0, (self.1, self.2, self.3, self.4, self.5)).write_to(buffer)
+    }
+
+    fn text_is_utf8(self) {
+        (self.0, (self.1, self.2, self.3, self.4, self.5)).text_is_utf8();
     }
 }
 
@@ -101,12 +135,19 @@ impl<A: Part, B: Part, C: Part, D: Part, E: Part, F: Part, G: Part> Part for (A,
     ghost room = { λ p. A.room p.0 + (B.room p.1 + (C.room p.2 + (D.room p.3 + (E.room p.4
         + (F.room p.5 + G.room p.6))))) };
 
+    ghost is_utf8 = { λ p. A.is_utf8 p.0 × (B.is_utf8 p.1 × (C.is_utf8 p.2 × (D.is_utf8 p.3
+        × (E.is_utf8 p.4 × (F.is_utf8 p.5 × G.is_utf8 p.6))))) };
+
     fn room(self) -> usize {
         (self.0, (self.1, self.2, self.3, self.4, self.5, self.6)).room()
     }
 
     fn write_to(self, buffer: &mut [u8]) -> usize {
         (self.0, (self.1, self.2, self.3, self.4, self.5, self.6)).write_to(buffer)
+    }
+
+    fn text_is_utf8(self) {
+        (self.0, (self.1, self.2, self.3, self.4, self.5, self.6)).text_is_utf8();
     }
 }
 
@@ -121,6 +162,9 @@ impl<A: Part, B: Part, C: Part, D: Part, E: Part, F: Part, G: Part, H: Part> Par
     ghost room = { λ p. A.room p.0 + (B.room p.1 + (C.room p.2 + (D.room p.3 + (E.room p.4
         + (F.room p.5 + (G.room p.6 + H.room p.7)))))) };
 
+    ghost is_utf8 = { λ p. A.is_utf8 p.0 × (B.is_utf8 p.1 × (C.is_utf8 p.2 × (D.is_utf8 p.3
+        × (E.is_utf8 p.4 × (F.is_utf8 p.5 × (G.is_utf8 p.6 × H.is_utf8 p.7)))))) };
+
     fn room(self) -> usize {
         let (a, b, c, d, e, f, g, h) = self;
         (a, (b, c, d, e, f, g, h)).room()
@@ -129,6 +173,11 @@ impl<A: Part, B: Part, C: Part, D: Part, E: Part, F: Part, G: Part, H: Part> Par
     fn write_to(self, buffer: &mut [u8]) -> usize {
         let (a, b, c, d, e, f, g, h) = self;
         (a, (b, c, d, e, f, g, h)).write_to(buffer)
+    }
+
+    fn text_is_utf8(self) {
+        let (a, b, c, d, e, f, g, h) = self;
+        (a, (b, c, d, e, f, g, h)).text_is_utf8();
     }
 }
 
@@ -145,6 +194,10 @@ impl<A: Part, B: Part, C: Part, D: Part, E: Part, F: Part, G: Part, H: Part, I: 
     ghost room = { λ p. A.room p.0 + (B.room p.1 + (C.room p.2 + (D.room p.3 + (E.room p.4
         + (F.room p.5 + (G.room p.6 + (H.room p.7 + I.room p.8))))))) };
 
+    ghost is_utf8 = { λ p. A.is_utf8 p.0 × (B.is_utf8 p.1 × (C.is_utf8 p.2 × (D.is_utf8 p.3
+        × (E.is_utf8 p.4 × (F.is_utf8 p.5 × (G.is_utf8 p.6 × (H.is_utf8 p.7
+        × I.is_utf8 p.8))))))) };
+
     fn room(self) -> usize {
         let (a, b, c, d, e, f, g, h, i) = self;
         (a, (b, c, d, e, f, g, h, i)).room()
@@ -153,6 +206,11 @@ impl<A: Part, B: Part, C: Part, D: Part, E: Part, F: Part, G: Part, H: Part, I: 
     fn write_to(self, buffer: &mut [u8]) -> usize {
         let (a, b, c, d, e, f, g, h, i) = self;
         (a, (b, c, d, e, f, g, h, i)).write_to(buffer)
+    }
+
+    fn text_is_utf8(self) {
+        let (a, b, c, d, e, f, g, h, i) = self;
+        (a, (b, c, d, e, f, g, h, i)).text_is_utf8();
     }
 }
 
@@ -169,6 +227,10 @@ impl<A: Part, B: Part, C: Part, D: Part, E: Part, F: Part, G: Part, H: Part, I: 
     ghost room = { λ p. A.room p.0 + (B.room p.1 + (C.room p.2 + (D.room p.3 + (E.room p.4
         + (F.room p.5 + (G.room p.6 + (H.room p.7 + (I.room p.8 + J.room p.9)))))))) };
 
+    ghost is_utf8 = { λ p. A.is_utf8 p.0 × (B.is_utf8 p.1 × (C.is_utf8 p.2 × (D.is_utf8 p.3
+        × (E.is_utf8 p.4 × (F.is_utf8 p.5 × (G.is_utf8 p.6 × (H.is_utf8 p.7 × (I.is_utf8 p.8
+        × J.is_utf8 p.9)))))))) };
+
     fn room(self) -> usize {
         let (a, b, c, d, e, f, g, h, i, j) = self;
         (a, (b, c, d, e, f, g, h, i, j)).room()
@@ -177,6 +239,11 @@ impl<A: Part, B: Part, C: Part, D: Part, E: Part, F: Part, G: Part, H: Part, I: 
     fn write_to(self, buffer: &mut [u8]) -> usize {
         let (a, b, c, d, e, f, g, h, i, j) = self;
         (a, (b, c, d, e, f, g, h, i, j)).write_to(buffer)
+    }
+
+    fn text_is_utf8(self) {
+        let (a, b, c, d, e, f, g, h, i, j) = self;
+        (a, (b, c, d, e, f, g, h, i, j)).text_is_utf8();
     }
 }
 
@@ -205,6 +272,10 @@ impl<
         + (F.room p.5 + (G.room p.6 + (H.room p.7 + (I.room p.8 + (J.room p.9
         + K.room p.10))))))))) };
 
+    ghost is_utf8 = { λ p. A.is_utf8 p.0 × (B.is_utf8 p.1 × (C.is_utf8 p.2 × (D.is_utf8 p.3
+        × (E.is_utf8 p.4 × (F.is_utf8 p.5 × (G.is_utf8 p.6 × (H.is_utf8 p.7 × (I.is_utf8 p.8
+        × (J.is_utf8 p.9 × K.is_utf8 p.10))))))))) };
+
     fn room(self) -> usize {
         let (a, b, c, d, e, f, g, h, i, j, k) = self;
         (a, (b, c, d, e, f, g, h, i, j, k)).room()
@@ -213,6 +284,11 @@ impl<
     fn write_to(self, buffer: &mut [u8]) -> usize {
         let (a, b, c, d, e, f, g, h, i, j, k) = self;
         (a, (b, c, d, e, f, g, h, i, j, k)).write_to(buffer)
+    }
+
+    fn text_is_utf8(self) {
+        let (a, b, c, d, e, f, g, h, i, j, k) = self;
+        (a, (b, c, d, e, f, g, h, i, j, k)).text_is_utf8();
     }
 }
 
@@ -242,6 +318,10 @@ impl<
         + (F.room p.5 + (G.room p.6 + (H.room p.7 + (I.room p.8 + (J.room p.9 + (K.room p.10
         + L.room p.11)))))))))) };
 
+    ghost is_utf8 = { λ p. A.is_utf8 p.0 × (B.is_utf8 p.1 × (C.is_utf8 p.2 × (D.is_utf8 p.3
+        × (E.is_utf8 p.4 × (F.is_utf8 p.5 × (G.is_utf8 p.6 × (H.is_utf8 p.7 × (I.is_utf8 p.8
+        × (J.is_utf8 p.9 × (K.is_utf8 p.10 × L.is_utf8 p.11)))))))))) };
+
     fn room(self) -> usize {
         let (a, b, c, d, e, f, g, h, i, j, k, l) = self;
         (a, (b, c, d, e, f, g, h, i, j, k, l)).room()
@@ -250,5 +330,10 @@ impl<
     fn write_to(self, buffer: &mut [u8]) -> usize {
         let (a, b, c, d, e, f, g, h, i, j, k, l) = self;
         (a, (b, c, d, e, f, g, h, i, j, k, l)).write_to(buffer)
+    }
+
+    fn text_is_utf8(self) {
+        let (a, b, c, d, e, f, g, h, i, j, k, l) = self;
+        (a, (b, c, d, e, f, g, h, i, j, k, l)).text_is_utf8();
     }
 }

@@ -1,4 +1,5 @@
 //! Numbers with leading zeros, up to at least a width.
+#![tactic(auto, using(crate::proofs::Utf8Texts::kinds, crate::proofs::Utf8Changes::changes))]
 
 ghost use Rattle.std.specs.Prelude.{◌≡◌, ◌≤◌, length, max};
 ghost use Rattle.lexical_parts.specs.ZeroPadded.{IsZeroPadded, sign_length};
@@ -30,6 +31,8 @@ impl<P: Part> Part for ZeroPadded<P> {
 
     ghost room = { λ part. max (P.room part.0) part.1 };
 
+    ghost is_utf8 = { λ part. P.is_utf8 part.0 };
+
     fn room(self) -> usize {
         self.0.room().max(self.1)
     }
@@ -40,5 +43,9 @@ impl<P: Part> Part for ZeroPadded<P> {
         let zeros = self.1.saturating_sub(count);
         insert_fill(b'0', zeros, count - sign, &mut buffer[sign..]);
         zeros + count
+    }
+
+    fn text_is_utf8(self) {
+        self.0.text_is_utf8();
     }
 }

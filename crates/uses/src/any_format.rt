@@ -6,7 +6,7 @@ ghost use Rattle.lexical_num.specs.Size.{size_in};
 ghost use Rattle.lexical_write_integer.specs.Text.{IsText};
 ghost use Rattle.lexical_parts.specs.Sequence.{◌then◌, IsStr};
 
-use lexical_parts::{Formatted, Part, Utf8Part, formatted_room_suffices};
+use lexical_parts::{Formatted, Part, formatted_room_suffices};
 use lexical_write_integer::laws::size_suffices;
 use lexical_write_integer::{
     BUFFER_SIZE, NumberFormat, NumberFormatBuilder, ToLexicalWithOptions, WriteOptions,

@@ -4,7 +4,7 @@
 ghost use Rattle.std.specs.Prelude.{◌≡◌, ◌<◌, ◌≤◌, length, true, unsigned_abs, ⊤};
 ghost use Rattle.lexical_num.specs.Sign.{sign_of};
 
-use lexical_parts::{Padded, Part, Sign, Utf8Part};
+use lexical_parts::{Padded, Part, Sign};
 
 /// A date with a time of day, whose text is as in `2026-11-23T07:05:09`.
 #[derive(Clone, Copy, Drop)]
@@ -29,6 +29,7 @@ pub struct DateTime {
     ghost second_fits: { second < 100 },
 }
 
+#[tactic(auto, using(lexical_parts::proofs::Utf8Texts::kinds))]
 impl Part for DateTime {
     ghost use Rattle.uses.specs.DateTime.{IsDateTime};
 
@@ -58,11 +59,6 @@ impl Part for DateTime {
         )
             .write_to(buffer)
     }
-}
-
-#[tactic(auto, using(lexical_parts::proofs::Utf8Texts::kinds))]
-impl Utf8Part for DateTime {
-    ghost is_utf8 = { λ _. ⊤ };
 
     fn text_is_utf8(self) {}
 }

@@ -12,7 +12,7 @@ ghost use Rattle.lexical_parts.specs.Sequence.{◌then◌};
 use lexical_num::error::Result;
 use lexical_num::format::NumberFormat;
 use lexical_num::format_builder::NumberFormatBuilder;
-use lexical_parts::{Scientific, Sign, Utf8Part};
+use lexical_parts::{Part, Scientific, Sign};
 use lexical_write_integer::buffer::copy_to_front;
 use lexical_write_integer::laws::digit_count_within_bits;
 use lexical_write_integer::write::WriteInteger;

@@ -5,7 +5,7 @@ ghost use Rattle.lexical_write_integer.specs.Padded.{IsPadded};
 ghost use Rattle.lexical_write_integer.specs.Text.{IsDigits};
 ghost use Rattle.uses.specs.Link.{IsLink};
 
-use lexical_parts::{Digits, PaddedDigits, Part, Utf8Part, same_rest};
+use lexical_parts::{Digits, PaddedDigits, Part, same_rest};
 use lexical_write_integer::laws::{
     digit_count_at_most, digits_equal_iff, equal_digits, padded_order,
 };

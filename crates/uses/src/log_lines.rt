@@ -6,7 +6,7 @@ ghost use Rattle.lexical_write_integer.specs.Sequence.{IsExactly};
 ghost use Rattle.lexical_parts.specs.Sequence.{◌then◌};
 ghost use Rattle.uses.specs.LogLine.{IsLogLine};
 
-use lexical_parts::{Hex, Part, Utf8Part};
+use lexical_parts::{Hex, Part};
 use std::alloc::AllocError;
 use std::io::{self, Write};
 

@@ -4,7 +4,7 @@ ghost use Rattle.std.specs.Int.{w64, to_be_bytes};
 ghost use Rattle.lexical_write_integer.specs.Lowercase.{IsLowercase};
 ghost use Rattle.uses.specs.Uuid.{IsUuid};
 
-use lexical_parts::{HexBytes, Lower, Utf8Part};
+use lexical_parts::{HexBytes, Lower, Part};
 
 /// Returns the UUID whose first eight bytes are `high` and whose last eight bytes are `low`, such as
 /// `f81d4fae-7dec-11d0-a765-00a0c91e6bf6`, which borrows the array.

@@ -9,7 +9,7 @@ mod scientific;
 mod shown;
 mod streams;
 
-use lexical_parts::{Part, Utf8Part};
+use lexical_parts::Part;
 use lexical_write_integer::{
     BUFFER_SIZE, Error, NumberFormatBuilder, Options, ToLexical, ToLexicalWithOptions,
 };
@@ -52,7 +52,7 @@ fn check_bytes(rt: &impl Abort, bytes: &[u8], text: &[u8]) {
 }
 
 // Checks that the part writes the text to the start of the buffer, and returns it as a `&str`.
-fn check_str<P: Utf8Part>(rt: &impl Abort, part: P, buffer: &mut [u8], text: &str)
+fn check_str<P: Part>(rt: &impl Abort, part: P, buffer: &mut [u8], text: &str)
     requires valid { P.is_valid part }
     requires utf8 { P.is_utf8 part }
     requires room { P.room part ≤ length buffer.old }

@@ -1,4 +1,4 @@
-use lexical_parts::{Decimal, Joined, Part, Utf8Part, ZeroPadded};
+use lexical_parts::{Decimal, Joined, Part, ZeroPadded};
 use lexical_write_integer::{NumberFormat, NumberFormatBuilder, Options, ToLexical, ToLexicalWithOptions};
 use std::io::{self, Write};
 

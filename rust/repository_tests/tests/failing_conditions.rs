@@ -3,7 +3,7 @@
 
 use lexical_lines::join;
 use lexical_num::UnsignedInteger;
-use lexical_parts::{Decimal, Digits, Joined, Padded, PaddedDigits, Part, Utf8Part};
+use lexical_parts::{Decimal, Digits, Joined, Padded, PaddedDigits, Part};
 use lexical_write_integer::algorithm::algorithm;
 use lexical_write_integer::compact::Compact;
 use lexical_write_integer::decimal::Decimal as _;

@@ -39,14 +39,9 @@ pub trait ByteSource {
 }
 
 /// A source that also yields bytes in blocks.
-///
-/// Its contract counts its reads.
 pub trait BlockSource: ByteSource {
     // The bytes that the source will yield, if they are known.
     ghost unread: { Self → Option (List ℕ) };
-
-    // The number of reads so far.
-    ghost calls: { Self → ℕ };
 
     /// Reads bytes to the start of `block`, which must not be empty, and returns their number; only
     /// `Ok(0)` reports the end. An `Err` yields no bytes and is a failure; nothing else is a failure.
@@ -56,7 +51,6 @@ pub trait BlockSource: ByteSource {
         ensures yielded { Self.yielded self.new ≡ Self.yielded self.old ++ take (taken_by result) block.new }
         ensures ended { Self.is_ended self.new ≡ (Self.is_ended self.old || reads_end result) }
         ensures remaining { Self.remaining self.new + taken_by result ≡ Self.remaining self.old }
-        ensures calls { calls self.new ≡ calls self.old + 1 }
         ensures failures { Self.failures self.new ≡ Self.failures self.old + failures_of result }
         ensures kept { Self.keeps self.old self.new }
         ensures bytes { ReadConsumes (unread self.old) (unread self.new) result block.new };

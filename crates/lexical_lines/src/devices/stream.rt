@@ -35,7 +35,6 @@ impl<R> Model for Reading<R> {
       left = s.left;
       is_ended = s.is_ended;
       yielded = s.trace.bytes;
-      calls = s.trace.calls;
       failures = s.trace.failures;
     } };
 }
@@ -109,8 +108,6 @@ impl<R: Read> BlockSource for Reading<R> {
 
     ghost unread = { unread_of R.remaining };
 
-    ghost calls = { λ s. s.calls };
-
     /// Reads at most as many bytes as the limit leaves. At the limit, the reader is not called.
     fn read_block(&mut self, block: &mut [u8]) -> io::Result<usize>
         requires { 1 ≤ length block.old }
@@ -118,14 +115,12 @@ impl<R: Read> BlockSource for Reading<R> {
         ensures yielded { self.new.yielded ≡ self.old.yielded ++ take (taken_by result) block.new }
         ensures ended { self.new.is_ended ≡ (self.old.is_ended || reads_end result) }
         ensures remaining { self.new.left + taken_by result ≡ self.old.left }
-        ensures calls { self.new.calls ≡ self.old.calls + 1 }
         ensures failures { self.new.failures ≡ self.old.failures + failures_of result }
         ensures kept { KeepsReader R.remaining self.old self.new }
         ensures bytes { ReadConsumes (unread_of R.remaining self.old) (unread_of R.remaining self.new)
             result block.new }
         ensures limit { self.old.left ≡ 0 → result ≡ Ok 0 }
     {
-        self.trace.call();
         if self.left == 0 {
             self.is_ended = true;
             return Ok(0);

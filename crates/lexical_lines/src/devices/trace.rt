@@ -7,14 +7,13 @@ use std::marker::Model;
 use std::mem::size_of;
 
 /// A ghost record of the bytes that a device has yielded or taken so far, of those taken since its last
-/// flush, and of the numbers of its calls, its flushes and its failures. Only contracts see it: at run
+/// flush, and of the numbers of its flushes and its failures. Only contracts see it: at run
 /// time a trace has no data, and its methods do nothing.
 #[derive(Drop)]
 pub struct Trace {
     bytes: GhostLog,
     unflushed: GhostLog,
-    // One number for each call, flush or failure. Only their counts are read.
-    calls: GhostLog,
+    // One number for each flush or failure. Only their counts are read.
     flushes: GhostLog,
     failures: GhostLog,
 }
@@ -28,7 +27,6 @@ impl Model for Trace {
     ghost view = { λ t. record {
       bytes = t.bytes;
       unflushed = t.unflushed;
-      calls = length t.calls;
       flushes = length t.flushes;
       failures = length t.failures;
     } };
@@ -37,14 +35,13 @@ impl Model for Trace {
 const _: () = prove!(size_of::<Trace>() == 0);
 
 impl Trace {
-    /// Returns a trace with no bytes, no calls and no failures.
+    /// Returns a trace with no bytes, no flushes and no failures.
     pub fn new() -> Trace
-        ensures { result ≡ record { bytes = []; unflushed = []; calls = 0; flushes = 0; failures = 0 } }
+        ensures { result ≡ record { bytes = []; unflushed = []; flushes = 0; failures = 0 } }
     {
         Trace {
             bytes: GhostLog::new(),
             unflushed: GhostLog::new(),
-            calls: GhostLog::new(),
             flushes: GhostLog::new(),
             failures: GhostLog::new(),
         }
@@ -59,13 +56,6 @@ impl Trace {
     {
         self.bytes.extend(bytes);
         self.unflushed.extend(bytes);
-    }
-
-    /// Adds 1 to the number of calls.
-    pub fn call(&mut self)
-        ensures { self.new ≡ record self.old { calls = self.old.calls + 1 } }
-    {
-        self.calls.tick(0);
     }
 
     /// Adds 1 to the number of flushes: all bytes are flushed.

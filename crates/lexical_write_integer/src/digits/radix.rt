@@ -17,7 +17,7 @@ use crate::digits::count::counts_at_once;
 use crate::digits::decimal::jeaiii::write_decimal;
 use crate::digits::pairs::RadixTable;
 use crate::turns::Turns;
-use binary_words::{write_binary, write_binary_byte};
+use binary_words::write_binary;
 use by_radix::by_radix;
 use lexical_num::num::UnsignedInteger;
 use lexical_tables::get_table;
@@ -41,12 +41,8 @@ fn write_digits<T: UnsignedInteger, const R: u32>(
 {
     value.fits_bits();
     let number = value.as_usize() as u64;
-    if R == 2 {
-        return if number < 256 {
-            write_binary_byte(number as u32, table, buffer, turns)
-        } else {
-            write_binary(number, buffer, turns)
-        };
+    if R == 2 && number >= 256 {
+        return write_binary(number, buffer, turns);
     }
     let table = RadixTable::<R> { pairs: table };
     let mut written = Turns::new();

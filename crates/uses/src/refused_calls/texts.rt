@@ -1,7 +1,7 @@
 //! Calls that write a text, each to a buffer of exactly the required length.
 
 use lexical_lines::join;
-use lexical_parts::{Byte, Utf8Part};
+use lexical_parts::{Byte, Part};
 use lexical_write_integer::format::STANDARD;
 use lexical_write_integer::{NumberFormatBuilder, Options, ToLexical, ToLexicalWithOptions};
 

@@ -1,6 +1,6 @@
 -- The binary digits of a number, as the bytes of a word.
 use Rattle.std.proofs.Common.{◌≡◌, ℕ, zero, suc, ◌+◌, ◌-◌, ◌*◌, ◌/◌, ◌%◌, ◌^◌, ◌<◌, ◌≤◌, Bool, true, false, ◌&&◌, eqb, List, [], ◌∷◌}
-use Rattle.std.proofs.Common.{length, map, bit_and, bit_or, w32, w64, refl, sym, ap, subst, ◌∙◌, arith, inl, inr}
+use Rattle.std.proofs.Common.{length, map, bit_and, bit_or, w64, refl, sym, ap, subst, ◌∙◌, arith, inl, inr}
 use Rattle.std.proofs.lemmas.Bool.{cases_lt, and_parts, eqb-true}
 use Rattle.std.proofs.lemmas.List.Elements.{All-nil}
 use Rattle.std.proofs.Math.Nat.{pow-zero, mod-one, mod-lt, mod-eq_of_lt}
@@ -72,11 +72,3 @@ pub word-bits : (b : ℕ) → b < 256 → to_le_bytes w64 (word b) ≡ map digit
 word-bits b short =
     let test = λ (k : ℕ). same (to_le_bytes w64 (word k)) (map digit_char (bits 8 k)) in
     same-true (to_le_bytes w64 (word b)) (map digit_char (bits 8 b)) (all_below-at test 256 b refl short)
-
-abbrev pub short_word : ℕ → ℕ
-short_word b = bit_or (bit_and (b * 134480385 % 2 ^ 32 / 2 ^ 3) 16843009) 808464432
-
-pub short_word-bits : (b : ℕ) → b < 16 → to_le_bytes w32 (short_word b) ≡ map digit_char (bits 4 b)
-short_word-bits b short =
-    let test = λ (k : ℕ). same (to_le_bytes w32 (short_word k)) (map digit_char (bits 4 k)) in
-    same-true (to_le_bytes w32 (short_word b)) (map digit_char (bits 4 b)) (all_below-at test 16 b refl short)

@@ -3,12 +3,10 @@
 ghost use Rattle.std.specs.Prelude.{◌≡◌, ◌+◌, ◌/◌, ◌<◌, ◌≤◌, ◌++◌, length};
 ghost use Rattle.lexical_write_integer.specs.Buffer.{WritesBlock};
 ghost use Rattle.lexical_write_integer.specs.Digits.DigitCount.{digit_count};
-ghost use Rattle.lexical_write_integer.specs.Digits.Table.{BeginsWithPairs};
 ghost use Rattle.lexical_write_integer.specs.Digits.LoopTurns.{WritesByTable, loop_notes};
 
-use super::table_writer::{first_pair, remove_four, write_up_to_four};
+use super::table_writer::{first_pair, remove_four};
 use crate::digits::count::digit_count_counted;
-use crate::digits::pairs::RadixTable;
 use crate::turns::Turns;
 
 // Writes the eight binary digits of a number below 256 at index `at`. Each byte of the product is the number, of which
@@ -24,17 +22,6 @@ fn write_eight_bits(bits: u64, buffer: &mut [u8], at: usize)
     buffer[at..at + 8].copy_from_slice(&characters);
 }
 
-// Writes the four binary digits of a number below 16 at index `at`, likewise.
-fn write_four_bits(bits: u32, buffer: &mut [u8], at: usize)
-    requires short { bits < 16 }
-    requires room { at + 4 ≤ length buffer.old }
-    ensures { WritesBlock 2 4 bits at buffer.old buffer.new }
-{
-    let copies = bits.wrapping_mul(0x0804_0201);
-    let characters = (copies >> 3 & 0x0101_0101 | 0x3030_3030).to_le_bytes();
-    buffer[at..at + 4].copy_from_slice(&characters);
-}
-
 // Records the quotients of a number of up to eight digits: by 16 if it has more than four, and then by 4 if more than
 // two are left.
 fn record_up_to_eight(number: u32, turns: &mut Turns)
@@ -48,31 +35,6 @@ fn record_up_to_eight(number: u32, turns: &mut Turns)
     let left = number / 16;
     turns.tick(u64::from(left));
     first_pair::<2>(left, turns);
-}
-
-// Writes a number of up to eight binary digits, with a table that begins with their pairs. If there are more than four,
-// the first are written with zeros after them, four characters in total, and then the last four.
-pub(super) fn write_binary_byte(
-    number: u32,
-    table: &[u8],
-    buffer: &mut [u8],
-    turns: &mut Turns,
-) -> usize
-    requires short { number < 256 }
-    requires table { BeginsWithPairs 2 table.now }
-    requires room { digit_count 2 number ≤ length buffer.old }
-    ensures { WritesByTable 2 number buffer.old buffer.new turns.old turns.new result }
-{
-    let count = digit_count_counted(number, 2, turns);
-    if count <= 4 {
-        let table = RadixTable::<2> { pairs: table };
-        write_up_to_four(number, count, table, buffer, turns);
-        return count;
-    }
-    record_up_to_eight(number, turns);
-    write_four_bits((number / 16) << (8 - count), buffer, 0);
-    write_four_bits(number % 16, buffer, count - 4);
-    count
 }
 
 // Writes a number of more than eight binary digits, from the last: eight per iteration while more than 16 are left. Of

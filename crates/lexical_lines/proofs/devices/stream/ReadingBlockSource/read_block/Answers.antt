@@ -20,7 +20,7 @@ pub returns-in-Ok-clause-kept : goal.returns-in-Ok-clause-kept
 returns-in-Ok-clause-kept g c =
     let read = c.in-Ok.ensures in
     let size : length c.read.new.buf ≡ c.min-size.result = omega (arith, c.read.auto.buf, c.min-size.ensures, length-take c.min-size.result c.args.block.now) in
-    let yielded = rw (ap (λ t. t.bytes) c.call.ensures) at (ap (λ t. t.bytes) c.note.ensures) in
+    let yielded = ap (λ t. t.bytes) c.note.ensures in
     rw (sym c.self.view_is) (KeepsReader-read _ _ _ c.read.new.buf _ (omega (arith, size, c.min-size.ensures, c.requires, c.if-self-eq0.false))
     (omega (arith, read.bound)) read.bytes g.R.Read.remaining _ _ refl refl c.if-self-eq0.false
     (omega (arith, size, c.min-size.ensures, read.bound)) yielded refl)
@@ -34,4 +34,4 @@ returns-in-Ok-clause-bytes g c =
 
 pub returns-in-Err-clause-failures : goal.returns-in-Err-clause-failures
 returns-in-Err-clause-failures g c =
-    omega (arith, ap (λ r. r.failures) c.self.view_is, ap (λ t. t.failures) c.call.ensures, ap (λ t. t.failures) c.fault.ensures)
+    omega (arith, ap (λ r. r.failures) c.self.view_is, ap (λ t. t.failures) c.fault.ensures)

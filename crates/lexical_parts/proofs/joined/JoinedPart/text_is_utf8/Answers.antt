@@ -2,7 +2,7 @@ use Rattle.std.proofs.Common.{arith}
 use Rattle.std.proofs.lemmas.List.{take_all}
 use Rattle.std.proofs.lemmas.Grind.{common_steps}
 use Rattle.lexical_parts.proofs.Utf8Texts.{joined_is_utf8}
-use Rattle.lexical_parts.proofs.utf8.JoinedUtf8Part.text_is_utf8.Goals as goal
+use Rattle.lexical_parts.proofs.joined.JoinedPart.text_is_utf8.Goals as goal
 
 -- the check finds this proof by itself, but takes long over it
 pub offset_bounds-part-items-part-index : goal.offset_bounds-part-items-part-index

@@ -1,7 +1,7 @@
 use Rattle.std.proofs.Common.{take}
 use Rattle.std.specs.List.{All}
 use Rattle.lexical_parts.specs.Utf8.{AreUtf8}
-use Rattle.lexical_parts.proofs.utf8.JoinedUtf8Part.text_is_utf8.Given as goal
+use Rattle.lexical_parts.proofs.joined.JoinedPart.text_is_utf8.Given as goal
 
 -- the texts of the parts so far are UTF-8
 abbrev pub invariant-loop-part : goal.invariant-loop-part

@@ -1,6 +1,6 @@
 use Rattle.std.proofs.Common.{arith}
 use Rattle.std.proofs.lemmas.Bool.{false≢true}
-use Rattle.lexical_parts.proofs.utf8.Utf8Part.try_to_str.Goals as goal
+use Rattle.lexical_parts.proofs.part.Part.try_to_str.Goals as goal
 
 -- the check finds this proof by itself, but with an answer the refusal of a mistake says what is wrong
 pub returns-then-buffer-room-clause-fits : goal.returns-then-buffer-room-clause-fits

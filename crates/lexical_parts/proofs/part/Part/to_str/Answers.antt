@@ -1,4 +1,4 @@
-use Rattle.lexical_parts.proofs.utf8.Utf8Part.to_str.Goals as goal
+use Rattle.lexical_parts.proofs.part.Part.to_str.Goals as goal
 
 -- the check finds this proof by itself, but with an answer the refusal of a mistake says what is wrong
 pub returns-clause-text : goal.returns-clause-text

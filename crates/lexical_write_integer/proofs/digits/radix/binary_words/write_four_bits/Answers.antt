@@ -1,8 +1,0 @@
-use Rattle.std.proofs.Common.{◌∙◌}
-use Rattle.lexical_write_integer.proofs.OfDigits.Radix.BinaryWords.{WritesBlock-bits, short_word-bits}
-use Rattle.lexical_write_integer.proofs.digits.radix.binary_words.write_four_bits.Goals as goal
-
-pub returns : goal.returns
-returns c =
-    let characters = c.copy_from_slice.ensures.after ∙ c.to_le_bytes-characters.ensures ∙ short_word-bits c.args.bits c.requires.short in
-    WritesBlock-bits 4 c.args.bits c.args.at c.args.buffer.now c.copy_from_slice.new.self c.requires.short characters c.requires.room
