@@ -60,7 +60,7 @@ pub trait ToLexical: LexicalInteger + FormattedSize {
         // nothing at run time.
         self.in_range();
         format.in_range();
-        let sign = write_sign(self, buffer, format);
+        let sign = write_sign_before_digits(self, buffer, format);
         let digits = &mut buffer[sign..];
         let count = self.write_magnitude(format, digits);
         sign + group_digits(count, format, digits)
@@ -145,6 +145,29 @@ pub trait ToLexicalWithOptions: ToLexical {
         let count = self.write_lexical_with_options(buffer, format, options);
         front_mut(buffer, count)
     }
+}
+
+// Writes the sign as `write_sign` does. If there is no sign, the first byte may change: the first digit is then written
+// to it.
+fn write_sign_before_digits<T: LexicalInteger>(
+    number: T,
+    buffer: &mut [u8],
+    format: &NumberFormat,
+) -> usize
+    requires { 1 ≤ length buffer.old }
+    ensures sign { take result buffer.new ≡ sign_of (T.number number) format.now.required_mantissa_sign }
+    ensures count { result ≡ length (sign_of (T.number number) format.now.required_mantissa_sign) }
+    ensures rest { drop 1 buffer.new ≡ drop 1 buffer.old }
+{
+    number.in_range();
+    let is_negative = number.is_negative();
+    let is_required = format.required_mantissa_sign();
+    let is_plus = is_required && !is_negative;
+    // A signed type has the byte written in any case, since a branch on the sign is often mispredicted.
+    if T::IS_SIGNED || is_required {
+        buffer[0] = if is_plus { b'+' } else { b'-' };
+    }
+    (is_negative | is_required) as usize
 }
 
 /// Writes the sign of the number, if it has one in the format, to the first byte of the buffer, which is

@@ -8,8 +8,8 @@ use Rattle.lexical_write_integer.proofs.OfTexts.Required.{grouped_length-le_need
 use Rattle.lexical_write_integer.proofs.OfTexts.SignedTexts.{WritesText-over}
 use Rattle.lexical_write_integer.proofs.texts.api.ToLexical.write_text.Goals as goal
 
-pub write_sign-sign-requires : goal.write_sign-sign-requires
-write_sign-sign-requires g c = grind (arith, need-pos)
+pub write_sign_before_digits-sign-requires : goal.write_sign_before_digits-sign-requires
+write_sign_before_digits-sign-requires g c = grind (arith, need-pos)
 
 pub group_digits-requires-clause-room : goal.group_digits-requires-clause-room
 group_digits-requires-clause-room g c =
@@ -21,8 +21,8 @@ pub returns-clause-text : goal.returns-clause-text
 returns-clause-text g c =
     let some = digit_count-pos c.args.format.now.mantissa_radix (unsigned_abs (g.Self.LexicalInteger.number c.args.self)) in
     let digits = c.write_magnitude-count.ensures.digits in
-    WritesText-over c.write_sign-sign.ensures.sign c.write_sign-sign.auto.buffer c.write_sign-sign.ensures.rest (omega (arith, digits.count, some)) record {
-      sign_count = c.write_sign-sign.ensures.count;
+    WritesText-over c.write_sign_before_digits-sign.ensures.sign c.write_sign_before_digits-sign.auto.buffer c.write_sign_before_digits-sign.ensures.rest (omega (arith, digits.count, some)) record {
+      sign_count = c.write_sign_before_digits-sign.ensures.count;
       magnitude = digits;
       groups = c.group_digits.ensures.groups;
       total_count = c.group_digits.ensures.count;
@@ -33,7 +33,7 @@ returns-clause-short g c =
     let width = g.met.Self.LexicalInteger.decimal_width in
     let range = c.in_range.ensures in
     let fits = grouped_length-le_need c.args.format.now width range.at_least range.at_most c.write_magnitude-count.ensures.digits.count in
-    omega (arith, c.write_sign-sign.ensures.count, c.group_digits.ensures.total, fits)
+    omega (arith, c.write_sign_before_digits-sign.ensures.count, c.group_digits.ensures.total, fits)
 
 pub returns-clause-plain : goal.returns-clause-plain
 returns-clause-plain g c =
