@@ -54,7 +54,12 @@ fn write_64(n: u64, buffer: &mut [u8], turns: &mut Turns) -> usize
     requires { digit_count 10 n ≤ length buffer.old }
     ensures { WritesDecimal n (decimal_notes_64 n) buffer.old buffer.new turns.old turns.new result }
 {
-    if n < 1_000_000_000 {
+    // The shortest numbers are tested first, as in `write_32`: that mispredicts the fewest branches.
+    if n < 100 {
+        write_one_or_two(n as u32, buffer)
+    } else if n < 10_000 {
+        write_pairs(fixed_2(n as u32), 1, buffer, turns)
+    } else if n < 1_000_000_000 {
         write_32(n as u32, buffer, turns)
     } else if n < 10_000_000_000 {
         write_pairs(fixed_8_wide(n), 4, buffer, turns)
