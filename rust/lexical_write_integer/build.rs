@@ -15,7 +15,10 @@ fn main() {
         "digits/decimal/kernels.rt",
         "digits/decimal/decimal_pairs.rt",
         "digits/pairs.rt",
-        "digits/radix.rt",
+        "write_digits",
+        "write_by_table",
+        "radix_counted",
+        "radix",
         "digit_count_counted",
         "fast_log2",
         "write_after_count",
@@ -25,10 +28,11 @@ fn main() {
         "first_pair",
         "remove_four",
         "fourth_power",
-        // This only by a feature: for a library that calls each writer once, as the one for C.
+        // These two only by a feature: for a library that calls each writer once, as the one for C.
+        "write_in_radix",
         "count_and_write_up_to_eight",
     ];
-    let count = inlined.len() - usize::from(env::var_os("CARGO_FEATURE_INLINE_MORE").is_none());
+    let count = inlined.len() - 2 * usize::from(env::var_os("CARGO_FEATURE_INLINE_MORE").is_none());
     let always_inlined = &inlined[..count];
     // Only proofs need the laws and the counters.
     let hidden = &[

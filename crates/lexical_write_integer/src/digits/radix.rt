@@ -73,7 +73,7 @@ fn write_by_table<T: UnsignedInteger, const R: u32>(
 
 // Writes the digits with the table of the radix, and records its iterations. The radix is looked at only
 // once, since the code of each radix names its table.
-pub(crate) fn radix_counted<T: UnsignedInteger>(
+fn write_in_radix<T: UnsignedInteger>(
     value: T,
     radix: u32,
     buffer: &mut [u8],
@@ -84,6 +84,24 @@ pub(crate) fn radix_counted<T: UnsignedInteger>(
     ensures { WritesByTable radix (T.magnitude value) buffer.old buffer.new turns.old turns.new result }
 {
     by_radix!(radix, write_by_table::<T>(value, buffer, turns))
+}
+
+// Writes the digits as `write_in_radix` does. Radix 16 is apart, since its code is short enough to be in each caller.
+pub(crate) fn radix_counted<T: UnsignedInteger>(
+    value: T,
+    radix: u32,
+    buffer: &mut [u8],
+    turns: &mut Turns,
+) -> usize
+    requires radix { IsRadix radix }
+    requires room { digit_count radix (T.magnitude value) ≤ length buffer.old }
+    ensures { WritesByTable radix (T.magnitude value) buffer.old buffer.new turns.old turns.new result }
+{
+    if radix == 16 {
+        write_by_table::<T, 16>(value, buffer, turns)
+    } else {
+        write_in_radix(value, radix, buffer, turns)
+    }
 }
 
 /// An unsigned integer type whose digits are written in every radix: by the decimal writer in radix 10, and
