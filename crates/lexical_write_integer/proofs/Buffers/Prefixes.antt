@@ -1,5 +1,5 @@
 -- Prefixes of a buffer: one text after another, and what is known of the text that is written there.
-use Rattle.std.proofs.Common.{◌≡◌, ℕ, ◌+◌, ◌≤◌, List, ◌++◌, length, take, drop, sym, ap, subst, ◌∙◌, arith, length-append, append_assoc}
+use Rattle.std.proofs.Common.{◌≡◌, ℕ, ◌+◌, ◌-◌, ◌≤◌, List, ◌++◌, length, take, drop, sym, ap, subst, ◌∙◌, arith, length-append, append_assoc}
 use Rattle.std.proofs.lemmas.List.{drop-drop, take_at, drop_at, length-take, length-drop, drop-append-le, take-append-drop}
 use Rattle.lexical_write_integer.specs.Buffer.{Front, Writes}
 use borrow.Rule.Slice.PartMut.{put_mid}
@@ -59,14 +59,22 @@ pub Writes-short : {Is : List ℕ → Type 0} (room : ℕ) (before after : List 
 Writes-short room before after count w short =
     record { text = w.text; is = (w.is, omega (arith, w.count)); front = w.front; count = w.count }
 
--- a first byte that was written before is written over
-pub Writes-over : {Is : List ℕ → Type 0} {before between after : List ℕ} {count : ℕ}
-    → length between ≡ length before → drop 1 between ≡ drop 1 before → 1 ≤ count → Writes Is between after count → Writes Is before after count
-Writes-over {before = before} {between} long rest some w =
-    let same : drop (length w.text) between ≡ drop (length w.text) before = grind (arith, drop-drop) in
+-- bytes that were written before are written over
+pub Writes-over-all : {Is : List ℕ → Type 0} {before between after : List ℕ} {count : ℕ} (k : ℕ)
+    → length between ≡ length before → drop k between ≡ drop k before → k ≤ count → Writes Is between after count → Writes Is before after count
+Writes-over-all {before = before} {between} {count = count} k long rest some w =
+    let more = length w.text - k in
+    let all : k + more ≡ length w.text = omega (arith, w.count) in
+    let same : drop (length w.text) between ≡ drop (length w.text) before =
+    rw all at (sym (drop-drop more k between) ∙ ap (drop more) rest ∙ drop-drop more k before) in
     record {
       text = w.text;
       is = w.is;
       front = record { fits = omega (arith, w.front.fits); written = w.front.written ∙ ap (λ ys. w.text ++ ys) same };
       count = w.count;
     }
+
+-- a first byte that was written before is written over
+pub Writes-over : {Is : List ℕ → Type 0} {before between after : List ℕ} {count : ℕ}
+    → length between ≡ length before → drop 1 between ≡ drop 1 before → 1 ≤ count → Writes Is between after count → Writes Is before after count
+Writes-over long rest some w = Writes-over-all 1 long rest some w

@@ -8,7 +8,6 @@ use Rattle.lexical_tables.proofs.Pairs.{length-pairs, slice_index-pairs_first, s
 use Rattle.lexical_write_integer.specs.Buffer.{WritesBlock}
 use Rattle.lexical_write_integer.specs.Digits.Table.{BeginsWithPairs}
 use Rattle.lexical_write_integer.proofs.Buffers.Blocks.{WritesBlock-front}
-use Rattle.lexical_write_integer.proofs.OfDigits.Numerals.{IsBlockOf-pair}
 use Rattle.lexical_write_integer.proofs.OfDigits.Powers.{pow-two}
 
 -- a radix that equals another has its table
@@ -35,21 +34,12 @@ characters-pair r k table t small =
     let next : suc (2 * k) ≡ 2 * k + 1 = omega arith in
     rw (count, drop-cons table (2 * k) 0 (omega arith), drop-cons table (suc (2 * k)) 0 (omega arith), next, pair_first r k table t small, pair_second r k table t small) refl
 
--- the second is stored at index 1, and then the first at index 0: in a part of the buffer
+-- the second is stored at index 1 of a part of the buffer, and then the first at index 0
 pub set-pair : (part : List ℕ) (first second : ℕ) → length part ≡ 2 → set (set part 1 second) 0 first ≡ first ∷ second ∷ []
 set-pair [] first second long = absurd (omega arith)
 set-pair (x ∷ []) first second long = absurd (omega arith)
 set-pair (x ∷ y ∷ []) first second long = refl
 set-pair (x ∷ y ∷ (z ∷ part)) first second long = absurd (omega arith)
-
--- and in the whole buffer
-pub WritesBlock-pair : (r k : ℕ) (table list : List ℕ) → 0 < r → BeginsWithPairs r table → k < r * r → 2 ≤ length list
-    → WritesBlock r 2 k 0 list (set (set list 1 (get_or table (2 * k + 1) 0)) 0 (get_or table (2 * k) 0))
-WritesBlock-pair r k table [] some t small room = absurd (omega arith)
-WritesBlock-pair r k table (x ∷ []) some t small room = absurd (omega arith)
-WritesBlock-pair r k table (x ∷ (y ∷ list)) some t small room =
-    rw (pair_first r k table t small, pair_second r k table t small)
-    (record { digits = _; block = IsBlockOf-pair r k some small; written = refl; kept = refl })
 
 -- the two pairs of four digits, the last pair first
 pub WritesBlock-pairs : (r n square : ℕ) {at : ℕ} {before between after : List ℕ}

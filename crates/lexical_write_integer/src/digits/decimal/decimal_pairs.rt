@@ -1,6 +1,7 @@
 // Writing pairs of decimal digits from the table of radix 10.
 
-ghost use Rattle.std.specs.Prelude.{◌≡◌, ◌+◌, ◌-◌, ◌*◌, ◌/◌, ◌%◌, ◌^◌, ◌<◌, ◌≤◌, [], ◌∷◌, ◌++◌, length};
+ghost use Rattle.std.specs.Prelude.{◌≡◌, ◌+◌, ◌-◌, ◌*◌, ◌/◌, ◌%◌, ◌^◌, ◌<◌, ◌≤◌, [], ◌∷◌, ◌++◌, length, drop};
+ghost use Rattle.lexical_num.specs.Digit.{digit_char};
 ghost use Rattle.lexical_write_integer.specs.Buffer.{WritesBlock, WritesDigits};
 ghost use Rattle.lexical_write_integer.specs.Digits.Carries.{carried};
 ghost use Rattle.lexical_write_integer.specs.Digits.DecimalTurns.{WritesDecimal, products, pairs_from_back};
@@ -10,6 +11,29 @@ use super::kernels::next2;
 use crate::digits::pairs::RadixTable;
 use crate::turns::Turns;
 
+// The digits of each number below 100, with a zero after a single one.
+const FIRST_PAIRS: [u8; 200] = *b"\
+    00102030405060708090\
+    10111213141516171819\
+    20212223242526272829\
+    30313233343536373839\
+    40414243444546474849\
+    50515253545556575859\
+    60616263646566676869\
+    70717273747576777879\
+    80818283848586878889\
+    90919293949596979899";
+
+// Returns the digits of a number below 100, and in the place of the second digit a zero if there is only one.
+fn first_pair(pair: u32) -> (u8, u8)
+    requires { pair < 100 }
+    ensures one { pair < 10 → result.0 ≡ digit_char pair }
+    ensures two { 10 ≤ pair → (result.0 ≡ digit_char (pair / 10)) × (result.1 ≡ digit_char (pair % 10)) }
+{
+    let index = 2 * pair as usize;
+    (FIRST_PAIRS[index], FIRST_PAIRS[index + 1])
+}
+
 /// Writes the one or two digits of a number below 100 to the start of the buffer, and returns how many
 /// there are.
 pub(crate) fn write_one_or_two(pair: u32, buffer: &mut [u8]) -> usize
@@ -18,15 +42,27 @@ pub(crate) fn write_one_or_two(pair: u32, buffer: &mut [u8]) -> usize
     ensures digits { WritesDigits 10 pair buffer.old buffer.new result }
     ensures few { (1 ≤ result) × (result ≤ 2) }
 {
-    // A single digit is the second of its pair. It is written twice to the same byte, to avoid a branch.
+    // A single digit is written over the zero after it, to avoid a branch.
     let is_pair = pair >= 10;
-    let table = RadixTable::<10>::new().pairs;
-    let index = 2 * pair as usize;
-    let first = table[index + 1 - is_pair as usize];
-    let second = table[index + 1];
+    let (first, second) = first_pair(pair);
     buffer[is_pair as usize] = second;
     buffer[0] = first;
     1 + is_pair as usize
+}
+
+// Writes the one or two digits of a number below 100 to the start of the buffer, and returns how many there are. After
+// a single digit it writes a zero, which the next digits replace.
+fn write_first(pair: u32, buffer: &mut [u8]) -> usize
+    requires pair { pair < 100 }
+    requires room { 2 ≤ length buffer.old }
+    ensures digits { WritesDigits 10 pair buffer.new buffer.new result }
+    ensures rest { drop 2 buffer.new ≡ drop 2 buffer.old }
+    ensures few { (1 ≤ result) × (result ≤ 2) }
+{
+    let (first, second) = first_pair(pair);
+    buffer[1] = second;
+    buffer[0] = first;
+    1 + (pair >= 10) as usize
 }
 
 /// Writes the digits of the number that a fraction carries to the start of the buffer, and returns how
@@ -39,13 +75,14 @@ pub(crate) fn write_pairs(
     buffer: &mut [u8],
     turns: &mut Turns,
 ) -> usize
+    requires some { 1 ≤ pair_count }
     requires first { 1 ≤ fraction / 2 ^ 32 }
     requires below { fraction / 2 ^ 32 < 100 }
     requires room { digit_count 10 (carried fraction pair_count) ≤ length buffer.old }
     ensures { WritesDecimal (carried fraction pair_count) (products fraction pair_count)
         buffer.old buffer.new turns.old turns.new result }
 {
-    let mut count = write_one_or_two((fraction >> 32) as u32, buffer);
+    let mut count = write_first((fraction >> 32) as u32, buffer);
     let table = RadixTable::<10>::new();
     let mut rest = fraction;
     for _ in 0..pair_count {

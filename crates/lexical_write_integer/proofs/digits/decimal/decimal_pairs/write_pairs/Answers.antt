@@ -1,7 +1,7 @@
-use Rattle.std.proofs.Common.{◌≡◌, ℕ, ◌+◌, ◌*◌, ◌/◌, ◌%◌, ◌^◌, [], ◌∷◌, ◌++◌, length, ap, ◌∙◌, lit<, arith, zero-add, length-append, append_assoc}
+use Rattle.std.proofs.Common.{◌≡◌, ℕ, ◌+◌, ◌*◌, ◌/◌, ◌%◌, ◌^◌, ◌≤◌, [], ◌∷◌, ◌++◌, length, ap, ◌∙◌, lit<, arith, zero-add, length-append, append_assoc}
 use Rattle.std.proofs.lemmas.List.FromFn.{map-range_with_len_more, length-map-range_with_len}
-use Rattle.lexical_write_integer.specs.Digits.Carries.{carried}
 use Rattle.lexical_write_integer.specs.Digits.DecimalTurns.{products}
+use Rattle.lexical_write_integer.proofs.Buffers.Prefixes.{Writes-over-all}
 use Rattle.lexical_write_integer.proofs.OfDigits.Decimal.Fractions.{rest-more}
 use Rattle.lexical_write_integer.proofs.OfDigits.Decimal.PairBlocks.{WritesDigits-pair, digit_count-carried, room_for_carried}
 use Rattle.lexical_write_integer.proofs.digits.decimal.decimal_pairs.write_pairs.Goals as goal
@@ -13,10 +13,10 @@ products-more fraction i = map-range_with_len_more (λ j. fraction * 100 ^ j % 2
 length-products : (fraction pairs : ℕ) → length (products fraction pairs) ≡ pairs
 length-products fraction pairs = length-map-range_with_len (λ j. fraction * 100 ^ j % 2 ^ 32 * 100) 0 pairs
 
-pub write_one_or_two-count-requires-clause-room : goal.write_one_or_two-count-requires-clause-room
-write_one_or_two-count-requires-clause-room c =
-    let start : carried c.args.fraction 0 ≡ c.args.fraction / 2 ^ 32 = omega arith in
-    rw start at (room_for_carried c.args.fraction 0 c.args.pair_count _ (omega arith) c.requires.room)
+pub write_first-count-requires-clause-room : goal.write_first-count-requires-clause-room
+write_first-count-requires-clause-room c =
+    let room = room_for_carried c.args.fraction 1 c.args.pair_count _ c.requires.some c.requires.room in
+    omega (arith, room, digit_count-carried c.args.fraction 0 c.requires.first)
 
 pub write-requires : goal.write-requires
 write-requires c =
@@ -32,7 +32,7 @@ loop-preserved c =
     let room = room_for_carried c.args.fraction (c.loop.counter + 1) c.args.pair_count _ (omega arith) c.requires.room in
     record {
       following = rw c.next2-pair.ensures.product (rest-more c.args.fraction c.loop.counter _ done.following);
-      digits = WritesDigits-pair _ _ c.requires.first room pair done.digits c.write.ensures;
+      digits = WritesDigits-pair _ _ c.requires.first (rw c.write_first-count.auto.buffer room) pair done.digits c.write.ensures;
       notes = let more = products-more c.args.fraction c.loop.counter in grind (arith, append_assoc);
       count = omega arith;
     }
@@ -42,8 +42,10 @@ returns c =
     let all : c.loop.counter ≡ c.args.pair_count = omega arith in
     let longer = ap length c.loop.invariant.notes ∙ length-append c.args.turns.now (products c.args.fraction c.loop.counter) in
     let digits = rw all at c.loop.invariant.digits in
+    let first = c.write_first-count in
+    let several : 2 ≤ c.loop.count = omega (arith, c.loop.invariant.count, first.ensures.few, c.requires.some) in
     record {
-      digits = digits;
+      digits = record { writes = Writes-over-all 2 first.auto.buffer first.ensures.rest several digits.writes; count = digits.count };
       noted = rw all at c.loop.invariant.notes;
       half = omega (arith, length-products c.args.fraction c.loop.counter);
     }

@@ -9,7 +9,7 @@ use Rattle.lexical_write_integer.proofs.digits.decimal.decimal_pairs.write_pairs
 abbrev pub invariant-loop : goal.invariant-loop
 invariant-loop l = record {
   following : l.rest % 2 ^ 32 ≡ l.fraction * 100 ^ l.counter % 2 ^ 32;
-  digits : WritesDigits 10 (carried l.fraction l.counter) l.fn.buffer l.buffer l.count;
+  digits : WritesDigits 10 (carried l.fraction l.counter) l.initial.buffer l.buffer l.count;
   notes : l.turns ≡ l.fn.turns ++ products l.fraction l.counter;
   count : l.count ≡ l.initial.count + 2 * l.counter;
 }
