@@ -1,6 +1,8 @@
 use Rattle.std.proofs.Common.{◌≤◌, arith}
 use Rattle.std.proofs.Math.Nat.{pow-le-pow_right}
+use Rattle.std.proofs.lemmas.List.{length-take-le}
 use Rattle.lexical_write_integer.specs.Digits.DigitCount.{digit_count, digit_count-le}
+use Rattle.lexical_write_integer.proofs.Buffers.Prefixes.{Writes-part}
 use Rattle.lexical_write_integer.proofs.OfDigits.Count.DigitCounts.{width-le, width-le_64}
 use Rattle.lexical_write_integer.proofs.digits.decimal.Decimal.decimal_counted.Goals as goal
 use Rattle.lexical_write_integer.proofs.digits.decimal.Decimal.decimal_counted.Goals.{After-in_range}
@@ -12,7 +14,18 @@ within g c =
     digit_count-le 10 _ _ width.some (rw g.met.Self.UnsignedInteger.number_is_magnitude at fits)
 
 pub write_decimal-requires : goal.write_decimal-requires
-write_decimal-requires g c = omega (arith, within g (goal.at.write_decimal-requires g c).After-in_range, c.requires)
+write_decimal-requires g c =
+    let room = length-take-le c.DECIMAL_WIDTH.result c.args.buffer.now (omega (arith, c.requires)) in
+    omega (arith, within g (goal.at.write_decimal-requires g c).After-in_range, c.requires, room)
+
+pub returns-clause-writes : goal.returns-clause-writes
+returns-clause-writes g c =
+    let written = c.write_decimal.ensures in
+    record {
+      digits = record { writes = Writes-part _ _ _ _ written.digits.writes; count = written.digits.count };
+      noted = written.noted;
+      half = written.half;
+    }
 
 pub returns-clause-short : goal.returns-clause-short
 returns-clause-short g c = omega (arith, within g (goal.at.returns-clause-short g c).After-in_range, c.write_decimal.ensures.digits.count)
