@@ -1,6 +1,6 @@
 -- Blocks of digits in a buffer: how they join, and how the digits of a number are made of them.
 use Rattle.std.proofs.Common.{◌≡◌, ℕ, ◌+◌, ◌-◌, ◌*◌, ◌/◌, ◌%◌, ◌^◌, ◌<◌, ◌≤◌, List, [], ◌∷◌, ◌++◌, length, take, drop, set, map, refl}
-use Rattle.std.proofs.Common.{sym, ap, subst, ◌∙◌, arith, add-zero, add_assoc, append_assoc, take-take}
+use Rattle.std.proofs.Common.{sym, ap, subst, ◌∙◌, arith, add-zero, add_assoc, append_assoc, length-drop, take-take}
 use Rattle.std.proofs.Math.Nat.{pow-zero, one-le-pow, mod-one, mod-lt, div-one, div-add-mod', add-mul, mul_assoc}
 use Rattle.std.proofs.lemmas.List.{map-append, append-nil, drop_all, drop-set, take-set, length-take-le, take_at, drop_at, drop-drop}
 use Rattle.std.proofs.lemmas.List.Elements.{All-nil}
@@ -50,6 +50,16 @@ WritesBlock-copied at_index {count = count} {digits = digits} {before} {characte
           ∙ ap (λ ys. map digit_char digits ++ ys) (drop-drop (at_index + count - at_index) at_index before ∙ ap (λ e. drop e before) end);
       kept = take_at kept (characters ++ rest) at_index long;
     }
+
+-- a block that fills a part of the buffer
+pub WritesBlock-part : (at_index : ℕ) {r count n : ℕ} {before part : List ℕ}
+    → at_index + count ≤ length before → WritesBlock r count n 0 (take (at_index + count - at_index) (drop at_index before)) part
+    → WritesBlock r count n at_index before (put_mid at_index (at_index + count - at_index) before part)
+WritesBlock-part at_index {count = count} {before = before} room b =
+    let lent = take (at_index + count - at_index) (drop at_index before) in
+    let long = length-take-le (at_index + count - at_index) (drop at_index before) (omega (arith, length-drop at_index before)) in
+    let none : drop (0 + count) lent ≡ [] = drop_all (0 + count) lent (omega (arith, long)) in
+    WritesBlock-copied at_index b.block (b.written ∙ ap (λ ys. map digit_char b.digits ++ ys) none ∙ append-nil (map digit_char b.digits)) room
 
 -- a block before one that is written
 pub WritesBlock-front : {r i j m n at : ℕ} {before between after : List ℕ}

@@ -52,8 +52,10 @@ fn write_four<const R: u32>(number: u32, table: RadixTable<'_, R>, buffer: &mut 
     ensures { WritesBlock R 4 number at buffer.old buffer.new }
 {
     let square = R * R;
-    table.write(number % square, buffer, at + 2);
-    table.write(number / square, buffer, at);
+    // rustc tests the end of these bytes once.
+    let four = &mut buffer[at..at + 4];
+    table.write(number % square, four, 2);
+    table.write(number / square, four, 0);
 }
 
 // Returns the digits before the last two of a number of up to four digits, and records them if there are any.
