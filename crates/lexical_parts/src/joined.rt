@@ -23,8 +23,12 @@ pub(crate) fn write_next<P: Part>(
         buffer.old buffer.new result }
     ensures short { result ≤ length (lead index separator.now) + P.room part }
 {
-    let lead = if index == 0 { "" } else { separator };
-    (lead, part).write_to(buffer)
+    // A branch, since a copy of a length that is not known is a call of memcpy.
+    if index == 0 {
+        part.write_to(buffer)
+    } else {
+        (separator, part).write_to(buffer)
+    }
 }
 
 /// The parts of a slice, with the separator between adjacent parts: `Joined(&[-1, 20], ", ")` writes
