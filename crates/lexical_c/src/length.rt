@@ -4,7 +4,7 @@ ghost use Rattle.std.specs.Prelude.{pos};
 ghost use Rattle.lexical_c.specs.Length.{IsLength};
 
 use crate::format::{CFormat, number_format};
-use lexical_write_integer::ToLexical;
+use lexical_write_integer::{ToLexical, sign_len};
 
 // Returns the length of the text of the number, or 0 if the format is invalid.
 fn counted_length<T: ToLexical>(value: T, format: &CFormat) -> usize
@@ -15,8 +15,7 @@ fn counted_length<T: ToLexical>(value: T, format: &CFormat) -> usize
     };
     value.in_range();
     let digits = value.magnitude_digits(format.mantissa_radix());
-    let sign = usize::from(value.is_negative() || format.required_mantissa_sign());
-    sign + format.grouped_len(digits)
+    sign_len(value, &format) + format.grouped_len(digits)
 }
 
 /// Returns the length of the text of a `uint8_t` in the format, or 0 if the format is invalid.

@@ -14,7 +14,7 @@ use lexical_num::num::LexicalInteger;
 use lexical_num::options::WriteOptions;
 use lexical_write_integer::ToLexicalWithOptions;
 use lexical_write_integer::buffer::front_mut;
-use lexical_write_integer::laws::size_suffices;
+use lexical_write_integer::laws::sizes_suffice;
 
 /// Writes the texts of the values, with `separator` between adjacent texts, to the start of `buffer`, and
 /// returns the number of bytes written: 0 if there are no values.
@@ -36,6 +36,7 @@ pub fn write_joined<T: ToLexicalWithOptions>(
     ensures short { result ≤ length values.now
         * (size_in T.FORMATTED_SIZE T.FORMATTED_SIZE_DECIMAL format.now + 1) - 1 }
 {
+    sizes_suffice::<T>(format);
     let size = options.buffer_size::<T>(format);
     let mut count = 0;
     for (index, value) in values.iter().enumerate() {
@@ -44,7 +45,7 @@ pub fn write_joined<T: ToLexicalWithOptions>(
             buffer[count] = separator;
             count += 1;
         }
-        size_suffices(*value, format);
+        value.in_range();
         let room = &mut buffer[count..count + size];
         count += value.write_lexical_with_options(room, format, options);
     }

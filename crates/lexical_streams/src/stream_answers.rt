@@ -9,7 +9,7 @@ ghost use Rattle.lexical_lines.specs.BlockWriter.{KeepsBytes};
 ghost use Rattle.lexical_lines.specs.RunOutcome.{ReportsAllValid};
 ghost use Rattle.lexical_streams.specs.StreamAnswers.{Yields, AllAnswered, ReadFailed, WriteFailed, OneFailed};
 
-use lexical_lines::{Answerer, BlockSink, BlockSource, BlockWriter, Reading, Writing};
+use lexical_lines::{Answerer, BlockSink, BlockSource, BlockWriter, Reading, Writing, status};
 use std::io;
 use std::io::Read;
 
@@ -84,11 +84,8 @@ pub fn answer_stream<S: BlockSource, K: BlockSink, const SIZE: usize>(
         → ReadFailed (S.failures source.new) (S.yielded source.new) writer.old writer.new
         ⊎ WriteFailed (S.failures source.new) (S.is_ended source.new) (S.yielded source.new) writer.old writer.new }
 {
-    match answer_blocks(source, writer) {
-        Ok(true) => 0,
-        Ok(false) => 1,
-        Err(_) => 2,
-    }
+    // `Ok` also says that the last flush succeeded.
+    status(&answer_blocks(source, writer), true)
 }
 
 // Answers all lines of the source, up to the first failure of a device, and flushes the writer before each

@@ -18,7 +18,7 @@ pub use comparison::{digits_equal_iff, padded_equal_iff, padded_order, texts_equ
 pub use groups::text_in_groups;
 use lexical_num::format::NumberFormat;
 use lexical_num::num::{LexicalInteger, UnsignedInteger};
-pub use room::{size_suffices, text_length};
+pub use room::{size_suffices, sizes_suffice, text_length};
 
 /// A law: the digit count of a number is the smallest count, not 0, such that the number is below the
 /// radix to that power. It is at most 64.

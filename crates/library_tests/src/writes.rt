@@ -19,16 +19,33 @@ fn signed_types_in_radix_10(rt: HostRuntime) {
 // A mantissa is written without the sign and the groups of the format.
 #[test]
 fn mantissas(rt: HostRuntime) {
-    let builder = NumberFormatBuilder::new().digit_grouping(3, b',');
-    let format = valid(&rt, builder.required_mantissa_sign(true));
-    let mut ten = [7; 10];
-    let length = 1234567u32.write_mantissa(&format, &mut ten);
-    check_text(&rt, length, &ten, b"1234567");
+    let thousands = NumberFormatBuilder::new().digit_grouping(3, b',');
+    for builder in [thousands, thousands.required_mantissa_sign(true)] {
+        let format = valid(&rt, builder);
+        let mut ten = [7; 10];
+        let length = 1234567u32.write_mantissa(&format, &mut ten);
+        check_text(&rt, length, &ten, b"1234567");
+    }
 }
 
-// Each call uses its own radix of the format, and writes no sign.
+// Each call uses its own radix of the format.
 #[test]
 fn mantissas_and_exponents_in_two_radices(rt: HostRuntime) {
+    let builder = NumberFormatBuilder::new().radix(16).exponent_radix(2);
+    let format = valid(&rt, builder);
+    digit_count_at_most(16, 10, 1);
+    digit_count_at_most(2, 10, 4);
+    let mut buffer = [7; 128];
+    let length = 10u8.write_mantissa(&format, &mut buffer);
+    check_text(&rt, length, &buffer, b"A");
+    let mut buffer = [7; 128];
+    let length = 10u8.write_exponent(&format, &mut buffer);
+    check_text(&rt, length, &buffer, b"1010");
+}
+
+// In the same format with a required sign, and in buffers of exactly the required length.
+#[test]
+fn mantissas_and_exponents_have_no_sign(rt: HostRuntime) {
     let builder = NumberFormatBuilder::new().radix(16).exponent_radix(2);
     let format = valid(&rt, builder.required_mantissa_sign(true));
     digit_count_at_most(16, 10, 1);

@@ -17,6 +17,7 @@ pub mod fixed_text;
 pub mod float_parts;
 pub mod hexadecimal;
 pub mod identifier;
+pub mod integer_types;
 pub mod ipv6;
 pub mod key_value;
 pub mod log_lines;

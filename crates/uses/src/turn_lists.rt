@@ -37,7 +37,7 @@ pub fn turns_of<T: Decimal + DigitCount>(value: T, radix: u32, digits: usize) ->
     requires some { 1 ≤ digits }
     requires enough { T.magnitude value < radix ^ digits }
     requires needed { 1 < digits → radix ^ (digits - 1) ≤ T.magnitude value }
-    requires decimal { T.DECIMAL_WIDTH ≤ 64 }
+    requires decimal { T.DECIMAL_WIDTH ≤ 128 }
     ensures written { result.written ≡ write_notes T.BITS radix (T.magnitude value) }
     ensures table { result.table ≡ table_notes radix (T.magnitude value) }
     ensures slow { result.slow ≡ slow_notes radix (T.magnitude value) }
@@ -47,13 +47,13 @@ pub fn turns_of<T: Decimal + DigitCount>(value: T, radix: u32, digits: usize) ->
 {
     digit_count_is_least(radix, value.as_usize() as u64);
     let mut written = Turns::new();
-    write_integer_counted(value, radix, &mut [0; 64], &mut written);
+    write_integer_counted(value, radix, &mut [0; 128], &mut written);
     let mut table = Turns::new();
-    algorithm_counted(value, radix, get_table(radix), &mut [0; 64], &mut table);
+    algorithm_counted(value, radix, get_table(radix), &mut [0; 128], &mut table);
     let mut slow = Turns::new();
     slow_digit_count_counted(value, radix, &mut slow);
     let mut compact = Turns::new();
-    compact_counted(value, radix, &mut [0; 64], &mut compact);
+    compact_counted(value, radix, &mut [0; 128], &mut compact);
     Recorded {
         written,
         table,
@@ -68,7 +68,7 @@ pub fn notes_of_four_digits() -> Turns
     ensures { result ≡ 146028893000 ∷ [] }
 {
     let mut turns = Turns::new();
-    from_u32_counted(1234, &mut [0; 10], &mut turns);
+    from_u32_counted(1234, &mut [0; 128], &mut turns);
     turns
 }
 
@@ -78,7 +78,7 @@ pub fn notes_of_eleven_digits() -> Turns
     ensures { result ≡ 1 ∷ 89 ∷ 67 ∷ 45 ∷ 23 ∷ [] }
 {
     let mut turns = Turns::new();
-    from_u64_counted(12345678901, &mut [0; 20], &mut turns);
+    from_u64_counted(12345678901, &mut [0; 128], &mut turns);
     turns
 }
 

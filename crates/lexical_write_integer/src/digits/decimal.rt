@@ -48,7 +48,7 @@ pub trait Decimal: DecimalCount {
     {
         let number = self.as_usize() as u64;
         prove!(number < 10_000_000_000_000_000_000);
-        write_decimal(self, &mut buffer[..Self::SIGNED_WIDTH], &mut Turns::new())
+        write_decimal(self, Self::SIGNED_WIDTH, buffer, &mut Turns::new())
     }
 
     /// Writes the digits as `decimal` does, under the same condition, and records its iterations in
@@ -61,8 +61,8 @@ pub trait Decimal: DecimalCount {
         ensures few { length turns.new ≤ length turns.old + 9 }
     {
         self.in_range();
-        // One test of the length takes the place of one at each write.
-        write_decimal(self, &mut buffer[..Self::DECIMAL_WIDTH], turns)
+        self.fits_bits();
+        write_decimal(self, Self::DECIMAL_WIDTH, buffer, turns)
     }
 
     ghost signed_width: { let greatest = 2 ^ (Self.BITS - 1) - 1 in

@@ -14,9 +14,9 @@ pub mod compact;
 mod table_writer;
 
 use crate::digits::count::counts_at_once;
-use crate::digits::decimal::jeaiii::write_decimal;
 use crate::digits::pairs::RadixTable;
 use crate::turns::Turns;
+use algorithm::algorithm;
 use binary_words::write_binary;
 use by_radix::by_radix;
 use lexical_num::num::UnsignedInteger;
@@ -104,8 +104,7 @@ pub(crate) fn radix_counted<T: UnsignedInteger>(
     }
 }
 
-/// An unsigned integer type whose digits are written in every radix: by the decimal writer in radix 10, and
-/// otherwise by the table writer.
+/// An unsigned integer type whose digits are written in every radix by the table writer.
 pub trait Radix: UnsignedInteger {
     /// Writes the digits of the number to the start of the buffer, and returns how many there are. The
     /// radix is from 2 to 36, and the buffer has room for the digits.
@@ -115,12 +114,7 @@ pub trait Radix: UnsignedInteger {
         ensures digits { WritesDigits radix (Self.magnitude self) buffer.old buffer.new result }
         ensures short { result ≤ Self.BITS }
     {
-        self.fits_bits();
-        if radix == 10 {
-            write_decimal(self, buffer, &mut Turns::new())
-        } else {
-            radix_counted(self, radix, buffer, &mut Turns::new())
-        }
+        algorithm(self, radix, get_table(radix), buffer)
     }
 }
 

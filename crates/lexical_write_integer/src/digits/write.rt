@@ -10,10 +10,36 @@ ghost use Rattle.lexical_write_integer.specs.Texts.Text.{digits_need};
 
 use super::count::DigitCount;
 use super::decimal::Decimal;
+use super::decimal::jeaiii::write_decimal;
 use super::radix::{Radix, radix_counted};
 use crate::turns::Turns;
 use lexical_num::format::NumberFormat;
 use lexical_num::num::{LexicalInteger, UnsignedInteger};
+
+// Writes the digits of a number to the start of the buffer, and returns how many there are. In radix 10 they are at most
+// `width`, and the buffer has room for so many.
+fn write_numeral<T: UnsignedInteger>(
+    value: T,
+    radix: u32,
+    width: usize,
+    buffer: &mut [u8],
+    turns: &mut Turns,
+) -> usize
+    requires radix { IsRadix radix }
+    requires width { radix ≡ 10 → digit_count 10 (T.magnitude value) ≤ width }
+    requires room { digits_need radix (T.magnitude value) width ≤ length buffer.old }
+    ensures digits { WritesDigits radix (T.magnitude value) buffer.old buffer.new result }
+    ensures short { result ≤ T.BITS }
+    ensures notes { turns.new ≡ turns.old ++ write_notes T.BITS radix (T.magnitude value) }
+    ensures turns { length turns.new ≡ length turns.old + write_turns radix result }
+{
+    value.fits_bits();
+    if radix == 10 {
+        write_decimal(value, width, buffer, turns)
+    } else {
+        radix_counted(value, radix, buffer, turns)
+    }
+}
 
 /// Writes the digits of the number to the start of the buffer, and returns how many there are. The radix is
 /// from 2 to 36. The buffer has room for `DECIMAL_WIDTH` bytes in radix 10, and for the digits in
@@ -34,12 +60,9 @@ pub fn write_integer_counted<T: Decimal + DigitCount>(
     ensures few_turns { length turns.new ≤ length turns.old + 21 }
     ensures few_decimal_turns { radix ≡ 10 → length turns.new ≤ length turns.old + 9 }
 {
+    value.in_range();
     value.fits_bits();
-    if radix == 10 {
-        value.decimal_counted(buffer, turns)
-    } else {
-        radix_counted(value, radix, buffer, turns)
-    }
+    write_numeral(value, radix, T::DECIMAL_WIDTH, buffer, turns)
 }
 
 /// An unsigned integer type whose numbers are written in every radix.
@@ -69,12 +92,9 @@ pub trait WriteInteger: Decimal + Radix {
         ensures digits { WritesDigits radix (Self.magnitude self) buffer.old buffer.new result }
         ensures short { result ≤ Self.BITS }
     {
-        self.fits_bits();
-        if radix == 10 {
-            self.decimal_signed(buffer)
-        } else {
-            radix_counted(self, radix, buffer, &mut Turns::new())
-        }
+        let number = self.as_usize() as u64;
+        prove!(radix != 10 || number < 10_000_000_000_000_000_000);
+        write_numeral(self, radix, Self::SIGNED_WIDTH, buffer, &mut Turns::new())
     }
 
     /// Writes the digits in the mantissa radix of the format.

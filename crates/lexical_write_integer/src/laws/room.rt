@@ -1,26 +1,37 @@
 //! Laws on the length of a text.
 
-ghost use Rattle.std.specs.Prelude.{◌≡◌, ◌+◌, ◌≤◌, List, ℕ, length, unsigned_abs};
+ghost use Rattle.std.specs.Prelude.{◌≡◌, ◌+◌, ◌≤◌, ℤ, ◌≤ℤ◌, List, ℕ, length, unsigned_abs};
 ghost use Rattle.lexical_num.specs.Format.{grouped_length};
+ghost use Rattle.lexical_num.specs.Range.{greatest_of, least_of};
 ghost use Rattle.lexical_num.specs.Sign.{sign_of};
 ghost use Rattle.lexical_num.specs.Size.{size_in};
 ghost use Rattle.lexical_num.specs.declared.constants.TheConstants.{BUFFER_SIZE};
 ghost use Rattle.lexical_write_integer.specs.Digits.DigitCount.{digit_count};
 ghost use Rattle.lexical_write_integer.specs.Texts.Text.{IsText, need};
 
-use crate::texts::api::ToLexicalWithOptions;
+use lexical_num::constants::FormattedSize;
 use lexical_num::format::NumberFormat;
 use lexical_num::num::LexicalInteger;
 
 /// A law: the size of a type in a format, which `buffer_size` of the options returns, is enough for the
-/// required length of each number of the type. It is at most `BUFFER_SIZE`.
-pub fn size_suffices<T: ToLexicalWithOptions>(value: T, format: &NumberFormat)
+/// required length of each number in the range of the type.
+pub fn sizes_suffice<T: FormattedSize>(format: &NumberFormat)
+    ensures { (number : ℤ) → least_of T.BITS T.IS_SIGNED ≤ℤ number → number ≤ℤ greatest_of T.BITS T.IS_SIGNED
+        → need number T.DECIMAL_WIDTH format.now
+        ≤ size_in T.FORMATTED_SIZE T.FORMATTED_SIZE_DECIMAL format.now }
+{
+    format.in_range();
+}
+
+/// A law: the size of the type of a number in a format is enough for the number's required length. It is at most
+/// `BUFFER_SIZE`.
+pub fn size_suffices<T: FormattedSize>(value: T, format: &NumberFormat)
     ensures size { need (T.number value) T.DECIMAL_WIDTH format.now
         ≤ size_in T.FORMATTED_SIZE T.FORMATTED_SIZE_DECIMAL format.now }
     ensures buffer { size_in T.FORMATTED_SIZE T.FORMATTED_SIZE_DECIMAL format.now ≤ BUFFER_SIZE }
 {
+    sizes_suffice::<T>(format);
     value.in_range();
-    format.in_range();
 }
 
 /// A law: the length of a text is the length of its sign plus what its digits take with the separators

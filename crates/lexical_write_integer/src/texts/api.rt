@@ -1,6 +1,6 @@
 //! The traits that write a number of any integer type.
 
-ghost use Rattle.std.specs.Prelude.{◌≡◌, ◌+◌, ◌≤◌, length, take, drop, unsigned_abs};
+ghost use Rattle.std.specs.Prelude.{◌≡◌, ◌+◌, ◌≤◌, IsTrue, length, take, drop, unsigned_abs};
 ghost use Rattle.std.specs.Borrow.{sem};
 ghost use Rattle.lexical_num.specs.Format.{IsRadix, standard, without_groups};
 ghost use Rattle.lexical_num.specs.Sign.{sign_of};
@@ -122,8 +122,7 @@ pub trait ToLexicalWithOptions: ToLexical {
         } else {
             self.magnitude_digits(radix)
         };
-        let sign = usize::from(self.is_negative() || format.required_mantissa_sign());
-        sign + format.grouped_len(digits)
+        sign_len(self, format) + format.grouped_len(digits)
     }
 
     /// Writes the number as `write_lexical_with_options` does, under the same condition, and returns
@@ -147,6 +146,17 @@ pub trait ToLexicalWithOptions: ToLexical {
     }
 }
 
+// Returns the character of the sign: `-` for a negative number, and `+` for another one if it is required.
+fn sign_character(is_negative: bool, is_required: bool) -> u8
+    ensures minus { IsTrue is_negative → result ≡ 45 }
+    ensures plus { ¬ (IsTrue is_negative) → IsTrue is_required → result ≡ 43 }
+{
+    match (is_required, is_negative) {
+        (true, false) => b'+',
+        _ => b'-',
+    }
+}
+
 // Writes the sign as `write_sign` does. If there is no sign, the first byte may change: the first digit is then written
 // to it.
 fn write_sign_before_digits<T: LexicalInteger>(
@@ -162,12 +172,18 @@ fn write_sign_before_digits<T: LexicalInteger>(
     number.in_range();
     let is_negative = number.is_negative();
     let is_required = format.required_mantissa_sign();
-    let is_plus = is_required && !is_negative;
     // A signed type has the byte written in any case, since a branch on the sign is often mispredicted.
     if T::IS_SIGNED || is_required {
-        buffer[0] = if is_plus { b'+' } else { b'-' };
+        buffer[0] = sign_character(is_negative, is_required);
     }
     (is_negative | is_required) as usize
+}
+
+/// Returns the length of the sign of the number in the format, 0 or 1.
+pub fn sign_len<T: LexicalInteger>(number: T, format: &NumberFormat) -> usize
+    ensures { result ≡ length (sign_of (T.number number) format.now.required_mantissa_sign) }
+{
+    usize::from(number.is_negative() || format.required_mantissa_sign())
 }
 
 /// Writes the sign of the number, if it has one in the format, to the first byte of the buffer, which is

@@ -19,16 +19,31 @@ pub(crate) fn check_error(
     check_equal(rt, row, text.as_str(), message);
 }
 
+// Each line has the two radices and the text of the error, which names the first of them that is not valid.
+const RADIX_ERRORS: &str = "\
+1 10 invalid mantissa radix 1
+10 37 invalid exponent radix 37
+0 0 invalid mantissa radix 0
+37 10 invalid mantissa radix 37
+36 1 invalid exponent radix 1
+255 0 invalid mantissa radix 255
+10 0 invalid exponent radix 0
+";
+
+// Checks the error of a format without groups, and of one with groups.
+fn check_radices(rt: &impl Abort, line: &str) {
+    let (mantissa, rest) = read(rt, line);
+    let (exponent, message) = read(rt, rest);
+    let builder = NumberFormatBuilder::new()
+        .mantissa_radix(mantissa)
+        .exponent_radix(exponent);
+    check_error(rt, line, builder.build(), message);
+    check_error(rt, line, builder.digit_grouping(3, b',').build(), message);
+}
+
 // Each line has the two radices, the group size, the separator, and the text of the error, which names the
 // first of the four that is not valid.
-const ERRORS: &str = "\
-1 10 3 44 invalid mantissa radix 1
-10 37 3 44 invalid exponent radix 37
-0 0 3 44 invalid mantissa radix 0
-37 10 3 44 invalid mantissa radix 37
-36 1 3 44 invalid exponent radix 1
-255 0 3 44 invalid mantissa radix 255
-10 0 3 44 invalid exponent radix 0
+const GROUP_ERRORS: &str = "\
 10 10 0 44 invalid group size 0
 10 10 65 44 invalid group size 65
 10 10 0 65 invalid group size 0
@@ -39,7 +54,7 @@ const ERRORS: &str = "\
 1 10 0 65 invalid mantissa radix 1
 ";
 
-fn check_line(rt: &impl Abort, line: &str) {
+fn check_groups(rt: &impl Abort, line: &str) {
     let (mantissa, rest) = read(rt, line);
     let (exponent, rest) = read(rt, rest);
     let (size, rest) = read(rt, rest);
@@ -54,7 +69,10 @@ fn check_line(rt: &impl Abort, line: &str) {
 
 #[test]
 fn build_returns_the_first_error(rt: HostRuntime) {
-    for line in ERRORS.lines() {
-        check_line(&rt, line);
+    for line in RADIX_ERRORS.lines() {
+        check_radices(&rt, line);
+    }
+    for line in GROUP_ERRORS.lines() {
+        check_groups(&rt, line);
     }
 }

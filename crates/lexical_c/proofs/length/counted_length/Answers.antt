@@ -1,58 +1,40 @@
-use Rattle.std.proofs.Common.{◌≡◌, Bool, true, false, ◌^◌, ◌<◌, ◌≤◌, length, unsigned_abs, refl, ap, ◌∙◌, arith}
+use Rattle.std.proofs.Common.{◌≡◌, ◌^◌, ◌<◌, ◌≤◌, unsigned_abs, refl, ap, ◌∙◌, arith}
 use Rattle.lexical_num.specs.Format.{grouped_length}
-use Rattle.lexical_num.specs.Sign.{sign_of}
 use Rattle.lexical_write_integer.specs.DigitCount.{digit_count}
 use Rattle.lexical_write_integer.proofs.OfDigits.Count.DigitCounts.{digit_count-pos, digit_count-le_bits}
 use Rattle.lexical_num.proofs.Magnitudes.{magnitude-small}
-use Rattle.lexical_write_integer.proofs.OfTexts.Signs.{sign_of-below, sign_of-other, length-plus}
-use Rattle.lexical_write_integer.proofs.OfTexts.SizeBounds.{grouped_length-le}
+use Rattle.lexical_write_integer.proofs.OfTexts.SizeBounds.{grouped_length-le, sign-le_one}
 use Rattle.lexical_c.specs.Format.{format_of}
 use Rattle.lexical_c.proofs.TextLengths.{length-text_of}
 use Rattle.lexical_c.proofs.WrittenTexts.{grouped_length-pos}
 use Rattle.lexical_c.proofs.length.counted_length.Goals as goal
-use Rattle.lexical_c.proofs.length.counted_length.Goals.{After-from-sign, then-is_negative, else-is_negative}
-use mir.Val.{bool_byte}
+use Rattle.lexical_c.proofs.length.counted_length.Goals.{After-sign_len}
 
-sign_is : (g : _) (c : After-from-sign g)
-    → c.from-sign.result ≡ length (sign_of (g.T.LexicalInteger.number c.args.value) c.in-Some.format.required_mantissa_sign)
-sign_is g c =
-    let number = g.T.LexicalInteger.number c.args.value in
-    let required = c.in-Some.format.required_mantissa_sign in
-    let test = c.is_negative.ensures in
-    elim c.if-is_negative.branch [
-      | then-is_negative w ↦ rw (sign_of-below number required test w.if-is_negative.true) (rw (w.from-is, w.if-is_negative.true) at c.from-sign.ensures)
-      | else-is_negative w ↦
-          rw (sign_of-other number required test w.if-is_negative.false, length-plus required)
-          (rw (w.from-is, w.required_mantissa_sign.ensures) at c.from-sign.ensures)
-    ]
-
-bool_byte-le_one : (b : Bool) → bool_byte b ≤ 1
-bool_byte-le_one true = omega arith
-bool_byte-le_one false = omega arith
-
-count_is : (g : _) (c : After-from-sign g)
+count_is : (g : _) (c : After-sign_len g)
     → c.magnitude_digits-digits.result ≡ digit_count c.in-Some.format.mantissa_radix (unsigned_abs (g.T.LexicalInteger.number c.args.value))
 count_is g c = rw c.mantissa_radix.ensures.value at c.magnitude_digits-digits.ensures
 
-small : (g : _) (c : After-from-sign g) → unsigned_abs (g.T.LexicalInteger.number c.args.value) < 2 ^ 64
+small : (g : _) (c : After-sign_len g) → unsigned_abs (g.T.LexicalInteger.number c.args.value) < 2 ^ 64
 small g c = magnitude-small _ g.met.T.LexicalInteger.bit_width _ c.in_range.ensures.at_least c.in_range.ensures.at_most
 
-few : (g : _) (c : After-from-sign g) → c.magnitude_digits-digits.result ≤ 64
+few : (g : _) (c : After-sign_len g) → c.magnitude_digits-digits.result ≤ 64
 few g c =
     let two = (rw c.mantissa_radix.ensures.value at c.mantissa_radix.ensures.radix).at_least_two in
     omega (arith, count_is g c, digit_count-le_bits _ _ 64 two (omega arith) (small g c))
 
 pub grouped_len-requires : goal.grouped_len-requires
-grouped_len-requires g c = omega (arith, few g (goal.at.grouped_len-requires g c).After-from-sign)
+grouped_len-requires g c = omega (arith, few g (goal.at.grouped_len-requires g c).After-sign_len)
 
 pub overflow_add-result : goal.overflow_add-result
 overflow_add-result g c =
-    let fewer = grouped_length-le c.in-Some.format.digit_grouping c.magnitude_digits-digits.result 64 (few g (goal.at.overflow_add-result g c).After-from-sign) (omega arith) in
-    omega (arith, c.from-sign.ensures, bool_byte-le_one c.if-is_negative.from, c.grouped_len.ensures, fewer)
+    let format = c.in-Some.format in
+    let fewer = grouped_length-le format.digit_grouping c.magnitude_digits-digits.result 64 (few g (goal.at.overflow_add-result g c).After-sign_len) (omega arith) in
+    let sign = sign-le_one (g.T.LexicalInteger.number c.args.value) format.required_mantissa_sign in
+    omega (arith, c.sign_len.ensures, sign, c.grouped_len.ensures, fewer)
 
 pub returns : goal.returns
 returns g c =
-    let before = (goal.at.returns g c).After-from-sign in
+    let before = (goal.at.returns g c).After-sign_len in
     let accepted = c.in-Some.ensures.valid.0 refl in
     let number = g.T.LexicalInteger.number c.args.value in
     let text = length-text_of number (format_of c.args.format.now) accepted.valid (small g before) in
@@ -61,5 +43,5 @@ returns g c =
     let some = grouped_length-pos c.in-Some.format.digit_grouping _ digits in
     record {
       accepts = (λ _. accepted, λ _. omega (arith, groups, some));
-      count = λ _. omega (arith, text, rw c.in-Some.ensures.format at groups, rw c.in-Some.ensures.format at (sign_is g before));
+      count = λ _. omega (arith, text, rw c.in-Some.ensures.format at groups, rw c.in-Some.ensures.format at c.sign_len.ensures);
     }

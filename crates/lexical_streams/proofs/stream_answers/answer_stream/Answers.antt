@@ -1,16 +1,45 @@
-use Rattle.std.proofs.Common.{arith}
+-- An answer for each clause, by the cases of what `answer_blocks` returns, with which the writer is flushed.
+use Rattle.std.proofs.Common.{◌≡◌, ℕ, ◌≤◌, Bool, true, false, Result, Ok, Err, arith}
+use Rattle.std.specs.Prelude.{IfOk, OnOk, OnErr}
+use Rattle.lexical_lines.specs.ExitStatus.{status_of}
 use Rattle.lexical_streams.proofs.stream_answers.answer_stream.Goals as goal
 
-pub returns-in-Ok-false-clause-bad : goal.returns-in-Ok-false-clause-bad
-returns-in-Ok-false-clause-bad g c = λ _. rw c.in-Ok-false.field-0-test at c.in-Ok-false.ensures.valid
+if_at_most_1 : {E P : Type 0} (ran : Result Bool E) → OnOk ran P → status_of ran true ≤ 1 → P
+if_at_most_1 (Ok true) ok low = ok
+if_at_most_1 (Ok false) ok low = ok
+if_at_most_1 (Err e) ok low = absurd (omega arith)
 
--- the check finds these proofs by itself, but with an answer the refusal of a mistake says what is wrong
+if_0 : {E : Type 0} (P : Bool → Type 0) (ran : Result Bool E) → IfOk ran P → status_of ran true ≡ 0 → P true
+if_0 P (Ok true) ok is = ok
+if_0 P (Ok false) ok is = absurd (omega arith)
+if_0 P (Err e) ok is = absurd (omega arith)
 
-pub returns-in-Ok-false-clause-valid : goal.returns-in-Ok-false-clause-valid
-returns-in-Ok-false-clause-valid g c = λ wrong. absurd (omega (arith, wrong))
+if_1 : {E : Type 0} (P : Bool → Type 0) (ran : Result Bool E) → IfOk ran P → status_of ran true ≡ 1 → P false
+if_1 P (Ok true) ok is = absurd (omega arith)
+if_1 P (Ok false) ok is = ok
+if_1 P (Err e) ok is = absurd (omega arith)
 
-pub returns-in-Ok-true-clause-failed : goal.returns-in-Ok-true-clause-failed
-returns-in-Ok-true-clause-failed g c = λ wrong. absurd (omega (arith, wrong))
+if_2 : {E P : Type 0} (ran : Result Bool E) → OnErr ran P → status_of ran true ≡ 2 → P
+if_2 (Ok true) err is = absurd (omega arith)
+if_2 (Ok false) err is = absurd (omega arith)
+if_2 (Err e) err is = err
 
-pub returns-in-Err-clause-failed : goal.returns-in-Err-clause-failed
-returns-in-Err-clause-failed g c = λ _. c.in-Err.ensures.err
+at_most_2 : {E : Type 0} (ran : Result Bool E) → status_of ran true ≤ 2
+at_most_2 (Ok true) = omega arith
+at_most_2 (Ok false) = omega arith
+at_most_2 (Err e) = omega arith
+
+pub returns-clause-range : goal.returns-clause-range
+returns-clause-range g c = rw c.status.ensures (at_most_2 c.answer_blocks.result)
+
+pub returns-clause-answered : goal.returns-clause-answered
+returns-clause-answered g c = λ low. if_at_most_1 c.answer_blocks.result c.answer_blocks.ensures.ok (rw c.status.ensures at low)
+
+pub returns-clause-valid : goal.returns-clause-valid
+returns-clause-valid g c = λ is. if_0 _ c.answer_blocks.result c.answer_blocks.ensures.valid (rw c.status.ensures at is)
+
+pub returns-clause-bad : goal.returns-clause-bad
+returns-clause-bad g c = λ is. if_1 _ c.answer_blocks.result c.answer_blocks.ensures.valid (rw c.status.ensures at is)
+
+pub returns-clause-failed : goal.returns-clause-failed
+returns-clause-failed g c = λ is. if_2 c.answer_blocks.result c.answer_blocks.ensures.err (rw c.status.ensures at is)

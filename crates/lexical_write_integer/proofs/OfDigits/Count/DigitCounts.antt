@@ -1,9 +1,10 @@
 -- How many digits a number has: the least exponent, from both sides, and what a division by a power of the radix leaves.
-use Rattle.std.proofs.Common.{◌≡◌, ℕ, zero, suc, ◌+◌, ◌-◌, ◌*◌, ◌/◌, ◌^◌, ◌<◌, ◌≤◌, List, ltb, sym, inl, inr, arith}
+use Rattle.std.proofs.Common.{◌≡◌, ℕ, zero, suc, ◌+◌, ◌-◌, ◌*◌, ◌/◌, ◌^◌, ◌<◌, ◌≤◌, ℤ, pos, ◌≤ℤ◌, List, ltb, sym, inl, inr, arith}
 use Rattle.std.proofs.Math.Nat.{pow-zero, pow-le-pow_right, mul-le-mul_right, one-le-pow, div-lt_iff_lt-mul, div-mul-le_self, div-one}
 use Rattle.std.proofs.lemmas.Bool.{cases_lt, ltb-true, cond_both}
 use Rattle.std.proofs.lemmas.Nat.{pow-add}
 use Rattle.lexical_num.specs.BitWidth.{IsBitWidth, is_8, is_16, is_32, is_64}
+use Rattle.lexical_num.specs.DecimalWidth.{IsDecimalWidth}
 use Rattle.lexical_write_integer.specs.Buffer.{WritesDigits}
 use Rattle.lexical_write_integer.specs.Digits.DigitCount.{digit_count, least_exponent}
 pub use Rattle.lexical_write_integer.specs.Digits.DigitCount.{digit_count-le, digit_count-le_bits}
@@ -50,14 +51,14 @@ digit_count-monotone r m n two less = digit_count-le r m (digit_count r n) (digi
 
 -- a count that both sides allow is the count
 pub digit_count-is : (r number n : ℕ) → 2 ≤ r → 1 ≤ n → number < r ^ n → (1 < n → r ^ (n - 1) ≤ number) → digit_count r number ≡ n
-digit_count-is r number n two pos fits full =
+digit_count-is r number n two some fits full =
     elim (cases_lt (digit_count r number) n) [
       | inl less ↦
           let one = digit_count-pos r number in
           let below = pow-le-pow_right {n = r} (omega arith) {i = digit_count r number} {j = n - 1} (omega arith) in
           let fit = digit_count-fits r number two in
           absurd (omega (arith, full (omega arith)))
-      | inr more ↦ omega (arith, digit_count-le r number n pos fits)
+      | inr more ↦ omega (arith, digit_count-le r number n some fits)
     ]
 
 pub digit_count-one : (r n : ℕ) → 2 ≤ r → n < r → digit_count r n ≡ 1
@@ -129,6 +130,25 @@ WritesDigits-short w two width fits = omega (arith, w.count, digit_count-le_widt
 -- and so at most 64 digits
 pub digit_count-le_64 : (r n bits : ℕ) → 2 ≤ r → IsBitWidth bits → n < 2 ^ bits → digit_count r n ≤ 64
 digit_count-le_64 r n bits two width fits = omega (arith, digit_count-le_width r n bits two width fits, width-le_64 bits width)
+
+-- ---- decimal digits, for the width of a type
+
+pub decimal_digits-le : {least greatest : ℤ} {width : ℕ} → IsDecimalWidth least greatest width
+    → (x : ℤ) (n : ℕ) → x ≡ pos n → least ≤ℤ x → x ≤ℤ greatest → digit_count 10 n ≤ width
+decimal_digits-le {width} of_type x n is low high = digit_count-le 10 n width of_type.some (rw is at (of_type.enough x low high))
+
+-- no number has more than 20
+pub decimal_digits-le_20 : (n bits : ℕ) → IsBitWidth bits → n < 2 ^ bits → digit_count 10 n ≤ 20
+decimal_digits-le_20 n bits width fits =
+    let largest = pow-le-pow_right {n = 2} (omega arith) {i = bits} {j = 64} (width-le_64 bits width) in
+    digit_count-le 10 n 20 (omega arith) (omega (arith, fits, largest))
+
+-- and the absolute value of a number of a signed type has at most 19
+pub signed_below : (n bits width : ℕ) → IsBitWidth bits → 10 ^ (width - 1) ≤ 2 ^ (bits - 1) - 1 → n < 10 ^ width → n < 10 ^ 19
+signed_below n bits width of_type needed fits =
+    let largest = pow-le-pow_right {n = 2} (omega arith) {i = bits - 1} {j = 63} (omega (arith, width-le_64 bits of_type)) in
+    let few = width-le width 19 _ needed (omega (arith, largest)) in
+    omega (arith, fits, pow-le-pow_right {n = 10} (omega arith) {j = 19} few)
 
 -- ---- decimal digits, for each width
 

@@ -95,7 +95,7 @@ pub(crate) fn write_pairs(
 }
 
 // Writes the two digits of a number below 100 at index `at`, and records the number in the counter.
-fn write_and_record_pair(pair: u32, at: usize, buffer: &mut [u8], turns: &mut Turns)
+fn write_and_record_pair(pair: u32, buffer: &mut [u8], at: usize, turns: &mut Turns)
     requires pair { pair < 100 }
     requires room { at + 2 ≤ length buffer.old }
     ensures block { WritesBlock 10 2 pair at buffer.old buffer.new }
@@ -107,28 +107,28 @@ fn write_and_record_pair(pair: u32, at: usize, buffer: &mut [u8], turns: &mut Tu
 
 // Writes a number below 10000 as four digits at index `at`, with leading zeros, and records each of
 // its two pairs in the counter. The last pair is first.
-fn write_four(number: u32, at: usize, buffer: &mut [u8], turns: &mut Turns)
+fn write_and_record_four(number: u32, buffer: &mut [u8], at: usize, turns: &mut Turns)
     requires number { number < 10 ^ 4 }
     requires room { at + 4 ≤ length buffer.old }
     ensures block { WritesBlock 10 4 number at buffer.old buffer.new }
     ensures notes { turns.new ≡ turns.old ++ pairs_from_back number 2 }
 {
-    write_and_record_pair(number % 100, at + 2, buffer, turns);
-    write_and_record_pair(number / 100, at, buffer, turns);
+    write_and_record_pair(number % 100, buffer, at + 2, turns);
+    write_and_record_pair(number / 100, buffer, at, turns);
 }
 
 /// Writes the last ten digits of a number at index `at`, and records each of their five pairs in the
 /// counter. The last pair is first.
-pub(crate) fn write_last_ten(number: u64, at: usize, buffer: &mut [u8], turns: &mut Turns)
+pub(crate) fn write_last_ten(number: u64, buffer: &mut [u8], at: usize, turns: &mut Turns)
     requires { at + 10 ≤ length buffer.old }
     ensures block { WritesBlock 10 10 (number % 10 ^ 10) at buffer.old buffer.new }
     ensures notes { turns.new ≡ turns.old ++ pairs_from_back number 5 }
 {
     let low = number % 10_000_000_000;
     let front = (low / 10_000) as u32;
-    write_four((low % 10_000) as u32, at + 6, buffer, turns);
-    write_four(front % 10_000, at + 2, buffer, turns);
-    write_and_record_pair(front / 10_000, at, buffer, turns);
+    write_and_record_four((low % 10_000) as u32, buffer, at + 6, turns);
+    write_and_record_four(front % 10_000, buffer, at + 2, turns);
+    write_and_record_pair(front / 10_000, buffer, at, turns);
 }
 
 /// Writes the digits of a number with leading zeros over the whole buffer, two at a time and the last ones first. The

@@ -65,26 +65,31 @@ fn write_64(n: u64, buffer: &mut [u8], turns: &mut Turns) -> usize
         write_pairs(fixed_8_wide(n), 4, buffer, turns)
     } else {
         let front = write_32((n / 10_000_000_000) as u32, buffer, turns);
-        write_last_ten(n, front, buffer, turns);
+        write_last_ten(n, buffer, front, turns);
         front + 10
     }
 }
 
-// Writes the digits of a number of any type.
+// Writes the digits of a number of any type, of which there are at most `width`, to the first `width` bytes of the
+// buffer.
 pub(crate) fn write_decimal<T: UnsignedInteger>(
     value: T,
+    width: usize,
     buffer: &mut [u8],
     turns: &mut Turns,
 ) -> usize
-    requires { digit_count 10 (T.magnitude value) ≤ length buffer.old }
+    requires width { digit_count 10 (T.magnitude value) ≤ width }
+    requires room { width ≤ length buffer.old }
     ensures { WritesDecimal (T.magnitude value) (decimal_notes T.BITS (T.magnitude value))
         buffer.old buffer.new turns.old turns.new result }
 {
     value.fits_bits();
+    // One test of the length takes the place of one at each write.
+    let room = &mut buffer[..width];
     if T::BITS == 64 {
-        write_64(value.as_usize() as u64, buffer, turns)
+        write_64(value.as_usize() as u64, room, turns)
     } else {
-        write_32(value.as_u32(), buffer, turns)
+        write_32(value.as_u32(), room, turns)
     }
 }
 

@@ -14,10 +14,11 @@ use super::by_radix::by_radix;
 use super::write_digits;
 use crate::digits::count::DigitCount;
 use crate::turns::Turns;
+use lexical_num::num::UnsignedInteger;
 
 // Calls `write_digits` for a radix that is known only at run time.
-fn write_digits_in(
-    number: u64,
+fn write_digits_in<T: UnsignedInteger>(
+    value: T,
     radix: u32,
     table: &[u8],
     buffer: &mut [u8],
@@ -25,10 +26,10 @@ fn write_digits_in(
 ) -> usize
     requires radix { IsRadix radix }
     requires table { BeginsWithPairs radix table.now }
-    requires room { digit_count radix number ≤ length buffer.old }
-    ensures { WritesByTable radix number buffer.old buffer.new turns.old turns.new result }
+    requires room { digit_count radix (T.magnitude value) ≤ length buffer.old }
+    ensures { WritesByTable radix (T.magnitude value) buffer.old buffer.new turns.old turns.new result }
 {
-    by_radix!(radix, write_digits::<u64>(number, table, buffer, turns))
+    by_radix!(radix, write_digits::<T>(value, table, buffer, turns))
 }
 
 // Returns whether the table is long enough for the radix, and has the pair `10` for the number that is the radix, which
@@ -64,7 +65,7 @@ pub fn algorithm_counted<T: DigitCount>(
 {
     prove!(begins_with_pairs(radix, table));
     value.fits_bits();
-    write_digits_in(value.as_usize() as u64, radix, table, buffer, turns)
+    write_digits_in(value, radix, table, buffer, turns)
 }
 
 /// Writes the digits of the number to the start of the buffer, and returns how many there are. The radix is

@@ -1,15 +1,5 @@
-use Rattle.std.proofs.Common.{arith}
-use Rattle.lexical_write_integer.proofs.OfDigits.Count.DigitCounts.{WritesDigits-short}
 use Rattle.lexical_write_integer.proofs.digits.radix.Radix.radix.Goals as goal
 
-pub returns-then-radix-eq10-clause-short : goal.returns-then-radix-eq10-clause-short
-returns-then-radix-eq10-clause-short g c =
-    WritesDigits-short c.write_decimal.ensures.digits (omega arith) g.met.Self.UnsignedInteger.range.width c.fits_bits.ensures
-
-pub returns-else-radix-eq10-clause-short : goal.returns-else-radix-eq10-clause-short
-returns-else-radix-eq10-clause-short g c =
-    WritesDigits-short c.radix_counted.ensures.digits c.requires.radix.at_least_two g.met.Self.UnsignedInteger.range.width c.fits_bits.ensures
-
 -- the check finds this proof by itself, but with an answer the refusal of a mistake says what is wrong
-pub returns-else-radix-eq10-clause-digits : goal.returns-else-radix-eq10-clause-digits
-returns-else-radix-eq10-clause-digits g c = c.radix_counted.ensures.digits
+pub returns-clause-digits : goal.returns-clause-digits
+returns-clause-digits g c = c.algorithm.ensures.digits
