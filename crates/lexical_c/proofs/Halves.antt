@@ -31,5 +31,6 @@ in_halves f once xs first second size some all is_first is_second =
     take_all (length whole - start) (drop start whole) (omega (arith, length-drop start whole)) in
     let back : second ≡ map f (drop start xs) =
     is_second ∙ ap (map f) rest ∙ sym (drop-map f start whole) ∙ ap (drop start) changed ∙ drop-map f start xs in
-    let none : drop (length whole - start) (drop start whole) ≡ [] = drop_all (length whole - start) (drop start whole) (omega (arith, length-drop start whole)) in
+    let none : drop (length whole - start) (drop start whole) ≡ [] =
+    drop_all (length whole - start) (drop start whole) (omega (arith, length-drop start whole)) in
     rw (front, back, none, append-nil (map f (drop start xs))) (sym (map-append f (take start xs) (drop start xs)) ∙ ap (map f) (take-append-drop start xs))

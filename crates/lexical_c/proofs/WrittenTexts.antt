@@ -1,5 +1,6 @@
 -- What a function that writes promises, from what it knows of the text.
-use Rattle.std.proofs.Common.{◌≡◌, Option, None, Some, ℕ, ◌^◌, ◌<◌, ◌≤◌, ℤ, unsigned_abs, List, ◌++◌, length, map, take, drop, length-append, refl, sym, ap, ◌∙◌, arith}
+use Rattle.std.proofs.Common.{◌≡◌, Option, None, Some, ℕ, ◌^◌, ◌<◌, ◌≤◌, ℤ, unsigned_abs, List, ◌++◌, length, map, take, drop}
+use Rattle.std.proofs.Common.{length-append, refl, sym, ap, ◌∙◌, arith}
 use Rattle.std.specs.Prelude.{◌≢◌}
 use Rattle.std.specs.Char.{to_ascii_lowercase}
 use Rattle.lexical_num.specs.Format.{Format, IsValid, grouped_length}

@@ -76,8 +76,8 @@ fn set_bit(text: &mut [u8])
     }
 }
 
-// Sets the bit in the first `SIZE` bytes of a text and in the last `SIZE`, which together are all bytes. If they overlap,
-// the bit is set twice. A compiler makes one operation of a constant number of bytes.
+// Sets the bit in the first `SIZE` bytes of a text and in the last `SIZE`, which together are all bytes. If they
+// overlap, the bit is set twice. A compiler makes one operation of a constant number of bytes.
 fn set_bit_in_halves<const SIZE: usize>(text: &mut [u8])
     requires ends { SIZE ≤ length text.old }
     requires all { length text.old ≤ 2 * SIZE }

@@ -25,7 +25,7 @@ pub record PassesOn (a b : BlockWriting) (more : List ℕ) : Type 0 where
   pub contents : Appends a.contents b.contents more
 
 -- the writer took the bytes `more`, and the sink took the bytes `sent`
-pub record KeepsBytes (a b : BlockWriting) : Type 0 where
+pub record TakesMore (a b : BlockWriting) : Type 0 where
   pub more : List ℕ
   pub sent : List ℕ
   pub longer : taken b ≡ taken a ++ more
@@ -38,8 +38,8 @@ pub record IsFlushed (w : BlockWriting) : Type 0 where
 
 -- ---- proofs that ghost members cite
 
-pub KeepsBytes-reflexive : (a : BlockWriting) → KeepsBytes a a
-KeepsBytes-reflexive a = record {
+pub TakesMore-reflexive : (a : BlockWriting) → TakesMore a a
+TakesMore-reflexive a = record {
   more = [];
   sent = [];
   longer = sym (append-nil (taken a));
@@ -50,8 +50,8 @@ KeepsBytes-reflexive a = record {
 appended : (a b c x y : List ℕ) → b ≡ a ++ x → c ≡ b ++ y → c ≡ a ++ (x ++ y)
 appended a b c x y e f = f ∙ ap (λ front. front ++ y) e ∙ append_assoc a x y
 
-pub KeepsBytes-transitive : (a b c : BlockWriting) → KeepsBytes a b → KeepsBytes b c → KeepsBytes a c
-KeepsBytes-transitive a b c p q = record {
+pub TakesMore-transitive : (a b c : BlockWriting) → TakesMore a b → TakesMore b c → TakesMore a c
+TakesMore-transitive a b c p q = record {
   more = p.more ++ q.more;
   sent = p.sent ++ q.sent;
   longer = appended _ _ _ p.more q.more p.longer q.longer;

@@ -35,8 +35,8 @@ loan_in sink = sink.buffer.ghost_name
 abbrev pub failures_in : SliceSink → ℕ
 failures_in sink = sink.trace.failures
 
--- the loan is unchanged. The first bytes of the rest were written over, and the others are unchanged. If the sink failed,
--- its buffer is full
+-- the loan is unchanged. The first bytes of the rest were written over, and the others are unchanged. If the sink
+-- failed, its buffer is full
 pub record KeepsBuffer (a b : SliceSink) : Type 0 where
   pub loan : loan_in b ≡ loan_in a
   pub over : List ℕ

@@ -23,7 +23,8 @@ pub trait FormattedSize: LexicalInteger {
 
     ghost FORMATTED_SIZE_DECIMAL: { ℕ };
 
-    ghost sizes: { AreSizes BUFFER_SIZE Self.BITS Self.IS_SIGNED Self.DECIMAL_WIDTH FORMATTED_SIZE FORMATTED_SIZE_DECIMAL };
+    ghost sizes: { AreSizes BUFFER_SIZE Self.BITS Self.IS_SIGNED Self.DECIMAL_WIDTH
+        FORMATTED_SIZE FORMATTED_SIZE_DECIMAL };
 }
 
 impl FormattedSize for u8 {

@@ -1,6 +1,6 @@
 -- Numbers of units of a power of ten, with a decimal point.
-use Rattle.std.specs.Prelude.{ℕ, zero, suc, ◌+◌, ◌-◌, ◌/◌, ◌%◌, ◌^◌, ◌<◌, ◌≤◌, max, min, length, take, drop, ℤ, pos, unsigned_abs, false, List, []}
-use Rattle.std.specs.Prelude.{Bool, Option, if◌then◌else◌}
+use Rattle.std.specs.Prelude.{ℕ, zero, suc, ◌+◌, ◌-◌, ◌/◌, ◌%◌, ◌^◌, ◌<◌, ◌≤◌, max, min, ℤ, pos, unsigned_abs}
+use Rattle.std.specs.Prelude.{List, [], length, take, drop, Bool, false, Option, if◌then◌else◌}
 use Rattle.lexical_num.specs.Format.{grouped_length, standard}
 use Rattle.lexical_num.specs.Sign.{sign_of}
 use Rattle.lexical_write_integer.specs.Padded.{IsPadded}

@@ -13,7 +13,8 @@ count_in (suc r) number = length (digits_text (suc r) number)
 
 -- the largest magnitude of the numbers of an unsigned or a signed type with this number of bits
 abbrev pub largest_magnitude : ℕ → Bool → ℕ
-largest_magnitude bits is_signed = max (unsigned_abs (least_of bits is_signed)) (unsigned_abs (greatest_of bits is_signed))
+largest_magnitude bits is_signed =
+    max (unsigned_abs (least_of bits is_signed)) (unsigned_abs (greatest_of bits is_signed))
 
 -- the length of the longest text of a number of the type in the format: one sign, the digits of the largest magnitude,
 -- and the separators between their groups

@@ -97,8 +97,9 @@ pub trait Part: Copy {
     }
 
     /// If the buffer has `room` bytes or more, returns the text as `to_str` does, at the same cost.
-    /// Otherwise returns `None`. Only the room is tested: the part must be valid, each `Byte` in it and each byte of a
-    /// column must be below 128, and each `Bytes` in it must be UTF-8: otherwise it panics if rustc compiles the caller.
+    /// Otherwise returns `None`. Only the room is tested: the part must be valid, each `Byte` in it and each byte of
+    /// a column must be below 128, and each `Bytes` in it must be UTF-8: otherwise it panics if rustc compiles the
+    /// caller.
     final fn try_to_str(self, buffer: &mut [u8]) -> Option<&str>
         requires valid { is_valid self }
         requires utf8 { is_utf8 self }

@@ -9,7 +9,7 @@ use Rattle.std.proofs.lemmas.List.{append_cancel_left}
 use Rattle.lexical_lines.specs.declared.answer.answerer.Answerer.{Answerer}
 use Rattle.lexical_lines.specs.Answer.{AnswersAll, AnswersEnded}
 use Rattle.lexical_lines.specs.Answerer.{HasAnswered}
-use Rattle.lexical_lines.specs.BlockWriter.{BlockWriting, taken, KeepsBytes, IsFlushed, KeepsBytes-reflexive, KeepsBytes-transitive}
+use Rattle.lexical_lines.specs.BlockWriter.{BlockWriting, taken, TakesMore, IsFlushed, TakesMore-reflexive, TakesMore-transitive}
 use Rattle.lexical_lines.specs.RunOutcome.{added, BreaksOff}
 use Rattle.lexical_lines.specs.Source.{reads_end}
 use Rattle.lexical_lines.specs.Stream.{still-told}
@@ -20,7 +20,7 @@ use Rattle.lexical_streams.specs.StreamAnswers.{Yields, bytes_put, BeginsAnswers
 -- ---- the bytes of the writer
 
 -- if all bytes that the writer has taken are written and flushed, the sink contains them
-pub handed-all : (c d : BlockWriting) → KeepsBytes c d → IsFlushed d → HandedAll c d
+pub handed-all : (c d : BlockWriting) → TakesMore c d → IsFlushed d → HandedAll c d
 handed-all c d kept flushed = record {
   flushed = flushed;
   contents = subst (Appends c.contents d.contents) sent kept.passed.contents;
@@ -53,9 +53,9 @@ module _ {S : Type 0} (yielded : S → List ℕ) (remaining : S → ℕ) (unread
 
 -- a flush succeeded
 pub IsUnderWay-flushed : {failures : ℕ} {read : List ℕ} {c d : BlockWriting} {answerer : Answerer} → IsUnderWay failures read c d answerer
-    → (e : BlockWriting) → taken e ≡ taken d → KeepsBytes d e → e.failures ≡ d.failures → IsUnderWay failures read c e answerer
+    → (e : BlockWriting) → taken e ≡ taken d → TakesMore d e → e.failures ≡ d.failures → IsUnderWay failures read c e answerer
 IsUnderWay-flushed {c = c} h e same kept still = record {
   no_failure = (h.no_failure.0, still ∙ h.no_failure.1);
-  written = KeepsBytes-transitive _ _ _ h.written kept;
+  written = TakesMore-transitive _ _ _ h.written kept;
   answered = rw same h.answered;
 }

@@ -5,7 +5,7 @@ use Rattle.std.specs.Io.KnownBytes.{Appends, Consumes, IsAtEnd}
 use Rattle.lexical_lines.specs.declared.answer.answerer.Answerer.{Answerer}
 use Rattle.lexical_lines.specs.Answer.{AnswersAll, AnswersEnded}
 use Rattle.lexical_lines.specs.Answerer.{HasAnswered}
-use Rattle.lexical_lines.specs.BlockWriter.{BlockWriting, taken, KeepsBytes, IsFlushed}
+use Rattle.lexical_lines.specs.BlockWriter.{BlockWriting, taken, TakesMore, IsFlushed}
 use Rattle.lexical_lines.specs.RunOutcome.{added}
 
 -- from one state of a source to a later one, it yielded these bytes. If the bytes that it will yield are known, it
@@ -61,5 +61,5 @@ OneFailed failures is_ended read c d = ReadFailed failures read c d ⊎ WriteFai
 -- no device has failed, and the answerer has received the bytes that were read
 pub record IsUnderWay (failures : ℕ) (read : List ℕ) (c d : BlockWriting) (answerer : Answerer) : Type 0 where
   pub no_failure : (failures ≡ 0) × (d.failures ≡ 0)
-  pub written : KeepsBytes c d
+  pub written : TakesMore c d
   pub answered : HasAnswered (taken c) read (taken d) answerer

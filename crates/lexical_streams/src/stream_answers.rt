@@ -5,7 +5,7 @@ ghost use Rattle.std.specs.Io.{StartsWith};
 ghost use Rattle.std.specs.Prelude.{IfSome, IfOk, OnOk, OnErr};
 ghost use Rattle.std.specs.Io.KnownBytes.{Appends};
 ghost use Rattle.lexical_lines.specs.Answer.{AnswersAll};
-ghost use Rattle.lexical_lines.specs.BlockWriter.{KeepsBytes};
+ghost use Rattle.lexical_lines.specs.BlockWriter.{TakesMore};
 ghost use Rattle.lexical_lines.specs.RunOutcome.{ReportsAllValid};
 ghost use Rattle.lexical_streams.specs.StreamAnswers.{Yields, AllAnswered, ReadFailed, WriteFailed, OneFailed};
 
@@ -72,7 +72,7 @@ pub fn answer_stream<S: BlockSource, K: BlockSink, const SIZE: usize>(
     // The bytes that `source` yielded were read, in order. The bytes that `writer` took are written to its
     // sink in order, or are still in its block.
     ensures read { Yields S.yielded S.remaining S.unread S.is_ended source.old source.new (S.yielded source.new) }
-    ensures written { KeepsBytes writer.old writer.new }
+    ensures written { TakesMore writer.old writer.new }
     // If the status is 0 or 1, no device failed, and the answers to all lines are written and flushed.
     ensures answered { result ≤ 1 → AllAnswered (S.failures source.new) (S.unread source.old)
         (S.is_ended source.new) (S.yielded source.new) writer.old writer.new }
@@ -102,7 +102,7 @@ fn answer_blocks<S: BlockSource, K: BlockSink, const SIZE: usize>(
     ensures err { OnErr result (OneFailed (S.failures source.new) (S.is_ended source.new) (S.yielded source.new)
         writer.old writer.new) }
     ensures read { Yields S.yielded S.remaining S.unread S.is_ended source.old source.new (S.yielded source.new) }
-    ensures written { KeepsBytes writer.old writer.new }
+    ensures written { TakesMore writer.old writer.new }
 {
     let mut block = [0u8; READ_BLOCK];
     let mut answerer = Answerer::new();

@@ -53,17 +53,13 @@ pub fn get_table(radix: u32) -> &'static [u8]
 {
     prove!(radix >= 2);
     prove!(radix <= 36);
-    if radix <= 18 {
-        table_to_18(radix)
-    } else {
-        table_from_19(radix)
-    }
+    table_of(radix)
 }
 
-// Returns the table of a radix from 2 to 18, which is one of the constants.
-fn table_to_18(radix: u32) -> &'static [u8]
+// Returns the table of the radix, which is one of the constants.
+fn table_of(radix: u32) -> &'static [u8]
     requires at_least_two { 2 ≤ radix }
-    requires at_most_18 { radix ≤ 18 }
+    requires at_most_36 { radix ≤ 36 }
     ensures { result.now ≡ pairs radix }
 {
     match radix {
@@ -84,17 +80,6 @@ fn table_to_18(radix: u32) -> &'static [u8]
         16 => &DIGIT_TO_BASE16_SQUARED,
         17 => &DIGIT_TO_BASE17_SQUARED,
         18 => &DIGIT_TO_BASE18_SQUARED,
-        _ => unreachable!(),
-    }
-}
-
-// Returns the table of a radix from 19 to 36, which is one of the constants.
-fn table_from_19(radix: u32) -> &'static [u8]
-    requires at_least_19 { 19 ≤ radix }
-    requires at_most_36 { radix ≤ 36 }
-    ensures { result.now ≡ pairs radix }
-{
-    match radix {
         19 => &DIGIT_TO_BASE19_SQUARED,
         20 => &DIGIT_TO_BASE20_SQUARED,
         21 => &DIGIT_TO_BASE21_SQUARED,

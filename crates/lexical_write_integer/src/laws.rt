@@ -14,7 +14,10 @@ mod groups;
 mod room;
 
 pub use bytes::{digits_computed, padded_computed, text_computed, text_is_ascii, text_is_decimal};
-pub use comparison::{digits_equal_iff, padded_equal_iff, padded_order, texts_equal_iff};
+pub use comparison::{
+    different_digits, different_padded, different_texts, digits_equal_iff, equal_padded,
+    padded_equal_iff, padded_order, texts_equal_iff,
+};
 pub use groups::text_in_groups;
 use lexical_num::format::NumberFormat;
 use lexical_num::num::{LexicalInteger, UnsignedInteger};

@@ -15,7 +15,9 @@ shown byte = if nat_lt 31 byte then (if nat_lt byte 127 then byte else 46) else 
 
 -- the characters of the bytes
 abbrev pub AreShown : List ℕ → List ℕ → Type 0
-AreShown bytes text = (length text ≡ length bytes) × ((i : ℕ) → i < length bytes → slice_index text i ≡ shown (slice_index bytes i))
+AreShown bytes text =
+    (length text ≡ length bytes)
+    × ((i : ℕ) → i < length bytes → slice_index text i ≡ shown (slice_index bytes i))
 
 -- an offset, sixteen bytes in two groups, and their characters between bars
 abbrev pub IsHexdumpLine : ℕ → List ℕ → List ℕ → List ℕ → Type 0

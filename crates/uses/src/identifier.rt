@@ -1,13 +1,14 @@
 //! Returns a counter as a short identifier, its digits in radix 36, or as one that sorts as its counter does.
 
-ghost use Rattle.std.specs.Prelude.{◌≡◌, ◌^◌, ◌<◌, ◌↔◌, IsTrue, List, ℕ};
+ghost use Rattle.std.specs.Prelude.{◌≡◌, ◌≢◌, ◌^◌, ◌<◌, ◌↔◌, IsTrue, List, ℕ};
 ghost use Rattle.lexical_write_integer.specs.Padded.{IsPadded};
 ghost use Rattle.lexical_write_integer.specs.Text.{IsDigits};
-ghost use Rattle.uses.specs.Link.{IsLink};
+ghost use Rattle.uses.specs.Link.{IsLink, IsUserLink};
 
 use lexical_parts::{Digits, PaddedDigits, Part, same_rest};
 use lexical_write_integer::laws::{
-    digit_count_at_most, digits_equal_iff, equal_digits, padded_order,
+    different_digits, digit_count_at_most, digits_equal_iff, equal_digits, equal_padded,
+    padded_order,
 };
 use lexical_write_integer::radix::Radix;
 use std::cmp::Ordering;
@@ -42,6 +43,21 @@ pub fn same_link(a: u64, b: u64)
 {
     same_rest("/l/", 3, Digits(36, a), Digits(36, b));
     same_counter(a, b);
+}
+
+/// A law: two users with equal links, `/u/` and eight digits in radix 36, are equal.
+pub fn same_user(a: u64, b: u64)
+    ensures { (link : List ℕ) → IsUserLink a link → IsUserLink b link → a ≡ b }
+{
+    same_rest("/u/", 3, PaddedDigits(36, a, 8), PaddedDigits(36, b, 8));
+    equal_padded(36, 8, a, b);
+}
+
+/// A law: two different orders have different codes, which are their digits in radix 32.
+pub fn different_codes(a: u32, b: u32)
+    ensures { a ≢ b → (code : List ℕ) → IsDigits 32 a code → ¬ (IsDigits 32 b code) }
+{
+    different_digits(32, u64::from(a), u64::from(b));
 }
 
 /// Returns whether two counters have the same identifier, which is the case if and only if they are

@@ -72,8 +72,8 @@ impl Answerer {
         ensures puts { PutsMore K.taken K.failures K.keeps sink.old sink.new result }
     {
         let mut rest = bytes;
-        while let Some((end, more)) = split_line(rest) {
-            let count = self.answer_line(end);
+        while let Some((tail, more)) = split_line(rest) {
+            let count = self.answer_line(tail);
             let (_, put) = put_all(sink, &self.answer[..count]);
             put?;
             rest = more;
@@ -82,18 +82,18 @@ impl Answerer {
         Ok(())
     }
 
-    // Takes `end`, the last bytes of a line, and the newline after them. Writes the answer to the line to
+    // Takes `tail`, the last bytes of a line, and the newline after them. Writes the answer to the line to
     // the start of its buffer, and returns its length.
-    fn answer_line(&mut self, end: &[u8]) -> usize
-        requires { NoNewline end.now }
+    fn answer_line(&mut self, tail: &[u8]) -> usize
+        requires { NoNewline tail.now }
         ensures within { result ≤ MAX_ANSWER }
         ensures whole { (before read taken : List ℕ) → HasAnswered before read taken self.old
-            → HasAnswered before (read ++ (end.now ++ 10 ∷ [])) (taken ++ take result self.new.answer) self.new }
+            → HasAnswered before (read ++ (tail.now ++ 10 ∷ [])) (taken ++ take result self.new.answer) self.new }
         ensures part { (before read taken part : List ℕ) → HasAnswered before read taken self.old
             → IsBeginning part (take result self.new.answer)
-            → BreaksOff false (read ++ (end.now ++ 10 ∷ [])) (added before (taken ++ part)) }
+            → BreaksOff false (read ++ (tail.now ++ 10 ∷ [])) (added before (taken ++ part)) }
     {
-        let line = self.line.ended(end);
+        let line = self.line.ended_with(tail);
         let (count, is_valid) = write_answer(line, self.line_number, &mut self.answer);
         self.line.clear();
         self.line_number = self.line_number.saturating_add(1);
@@ -128,6 +128,11 @@ fn split_line(bytes: &[u8]) -> Option<(&[u8], &[u8])>
     ensures first { IfSome result (λ parts. NoNewline parts.0.now) }
     ensures none { IfNone result (NoNewline bytes.now) }
 {
-    let end = bytes.iter().position(|byte| *byte == NEWLINE)?;
-    Some((&bytes[..end], &bytes[end + 1..]))
+    // rustc makes faster code of this loop than of `position`.
+    for (end, byte) in bytes.iter().enumerate() {
+        if *byte == NEWLINE {
+            return Some((&bytes[..end], &bytes[end + 1..]));
+        }
+    }
+    None
 }

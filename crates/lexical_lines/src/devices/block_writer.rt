@@ -3,7 +3,7 @@
 ghost use Rattle.std.specs.Prelude.{◌≡◌, ◌+◌, ◌-◌, ◌<◌, ◌≤◌, min, [], ◌++◌, length, take, Ok, IfOk, OnOk};
 ghost use Rattle.lexical_lines.specs.Sink.{taken_by, put_failures};
 ghost use Rattle.lexical_lines.specs.Source.{failures_of};
-ghost use Rattle.lexical_lines.specs.BlockWriter.{taken, KeepsBytes, IsFlushed};
+ghost use Rattle.lexical_lines.specs.BlockWriter.{taken, TakesMore, IsFlushed};
 
 use crate::devices::sink::{BlockSink, ByteSink, put_all};
 use std::io;
@@ -81,7 +81,7 @@ impl<K: BlockSink, const SIZE: usize> BlockWriter<K, SIZE> {
         ensures ok { OnOk result (IsFlushed self.new) }
         ensures flushes { self.new.flushes + failures_of result ≡ self.old.flushes + 1 }
         ensures taken { taken self.new ≡ taken self.old }
-        ensures kept { KeepsBytes self.old self.new }
+        ensures kept { TakesMore self.old self.new }
         ensures failures { self.new.failures ≡ self.old.failures + failures_of result }
     {
         self.write_block()?;
@@ -94,7 +94,7 @@ impl<K: BlockSink, const SIZE: usize> BlockWriter<K, SIZE> {
         ensures ok { OnOk result (self.new.held ≡ []) }
         ensures flushes { self.new.flushes ≡ self.old.flushes }
         ensures taken { taken self.new ≡ taken self.old }
-        ensures kept { KeepsBytes self.old self.new }
+        ensures kept { TakesMore self.old self.new }
         ensures failures { self.new.failures ≡ self.old.failures + failures_of result }
     {
         let (count, result) = put_all(&mut self.sink, &self.block[..self.end]);
@@ -118,18 +118,18 @@ impl<K: BlockSink, const SIZE: usize> BlockWriter<K, SIZE> {
 }
 
 impl<K: BlockSink, const SIZE: usize> ByteSink for BlockWriter<K, SIZE> {
-    ghost use Rattle.lexical_lines.specs.BlockWriter.{taken, KeepsBytes};
-    ghost use Rattle.lexical_lines.specs.BlockWriter.{KeepsBytes-reflexive, KeepsBytes-transitive};
+    ghost use Rattle.lexical_lines.specs.BlockWriter.{taken, TakesMore};
+    ghost use Rattle.lexical_lines.specs.BlockWriter.{TakesMore-reflexive, TakesMore-transitive};
 
     ghost taken = { taken };
 
     ghost failures = { λ w. w.failures };
 
-    ghost keeps = { KeepsBytes };
+    ghost keeps = { TakesMore };
 
-    ghost keeps_reflexive = { KeepsBytes-reflexive };
+    ghost keeps_reflexive = { TakesMore-reflexive };
 
-    ghost keeps_transitive = { KeepsBytes-transitive };
+    ghost keeps_transitive = { TakesMore-transitive };
 
     /// Takes the prefix of `bytes` that fits into the block, and returns its length. The sink is called
     /// only if the block is full, and is not flushed.
@@ -137,7 +137,7 @@ impl<K: BlockSink, const SIZE: usize> ByteSink for BlockWriter<K, SIZE> {
         ensures within { IfOk result (λ count. count ≤ length bytes.now) }
         ensures taken { taken self.new ≡ taken self.old ++ take (taken_by result) bytes.now }
         ensures failures { self.new.failures ≡ self.old.failures + put_failures result bytes.now }
-        ensures kept { KeepsBytes self.old self.new }
+        ensures kept { TakesMore self.old self.new }
         ensures flushes { self.new.flushes ≡ self.old.flushes }
         ensures count { length self.old.held < SIZE
             → result ≡ Ok (min (length bytes.now) (SIZE - length self.old.held)) }

@@ -96,7 +96,7 @@ pub fn note_put(trace: &mut Trace, bytes: &[u8], outcome: &io::Result<usize>)
 }
 
 /// Records the outcome of a flush in the trace.
-pub fn note_flush(trace: &mut Trace, outcome: &io::Result<()>)
+pub fn record_flush(trace: &mut Trace, outcome: &io::Result<()>)
     ensures ok { OnOk outcome.now (trace.new.unflushed ≡ []) }
     ensures bytes { trace.new.bytes ≡ trace.old.bytes }
     ensures flushes { trace.new.flushes + failures_of outcome.now ≡ trace.old.flushes + 1 }

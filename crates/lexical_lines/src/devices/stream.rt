@@ -6,7 +6,7 @@ ghost use Rattle.std.specs.Io.KnownBytes.{Consumes, IsAtEnd, ReadConsumes, Write
 ghost use Rattle.lexical_lines.specs.Sink.{taken_by, put_failures};
 ghost use Rattle.lexical_lines.specs.Source.{yielded_by, reports_end, reads_end, failures_of};
 
-use crate::devices::sink::{BlockSink, ByteSink, note_flush, note_put};
+use crate::devices::sink::{BlockSink, ByteSink, note_put, record_flush};
 use crate::devices::source::{BlockSource, ByteSource};
 use crate::devices::trace::Trace;
 use std::io;
@@ -224,7 +224,7 @@ impl<W: Write> BlockSink for Writing<W> {
     /// Calls `flush` of the writer.
     fn flush(&mut self) -> io::Result<()> {
         let outcome = self.writer.flush();
-        note_flush(&mut self.trace, &outcome);
+        record_flush(&mut self.trace, &outcome);
         outcome
     }
 }

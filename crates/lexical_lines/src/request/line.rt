@@ -64,17 +64,17 @@ impl Line {
         self.count == 0
     }
 
-    /// Returns the line that ends with these bytes, or `None` if it is longer than 64 bytes. A line that
+    /// Takes the last bytes of the line, and returns the line, or `None` if it is longer than 64 bytes. A line that
     /// arrives whole is not copied.
-    pub fn ended<'a>(&'a mut self, end: &'a [u8]) -> Option<&'a [u8]>
+    pub fn ended_with<'a>(&'a mut self, tail: &'a [u8]) -> Option<&'a [u8]>
         ensures value { (line : List ℕ) → self.old ≡ short_line line
-            → bytes_of result ≡ short_line (line ++ end.now) }
+            → bytes_of result ≡ short_line (line ++ tail.now) }
         ensures short { IfSome result (λ bytes. length bytes.now ≤ 64) }
     {
-        if self.is_empty() && end.len() <= MAX_LENGTH {
-            return Some(end);
+        if self.is_empty() && tail.len() <= MAX_LENGTH {
+            return Some(tail);
         }
-        self.push_all(end);
+        self.push_all(tail);
         self.as_slice()
     }
 

@@ -1,5 +1,6 @@
 -- Prefixes of a buffer: one text after another, and what is known of the text that is written there.
-use Rattle.std.proofs.Common.{◌≡◌, ℕ, ◌+◌, ◌-◌, ◌≤◌, List, [], ◌++◌, length, take, drop, refl, sym, ap, subst, ◌∙◌, arith, zero-add, length-append, append_assoc}
+use Rattle.std.proofs.Common.{◌≡◌, ℕ, ◌+◌, ◌-◌, ◌≤◌, List, [], ◌++◌, length, take, drop, refl, sym, ap, subst, ◌∙◌, arith, zero-add}
+use Rattle.std.proofs.Common.{length-append, append_assoc}
 use Rattle.std.proofs.lemmas.List.{drop-drop, take_at, drop_at, length-take, length-drop, drop-append-le, take-append-drop}
 use Rattle.lexical_write_integer.specs.Buffer.{Front, Writes}
 use borrow.Rule.Slice.PartMut.{put_mid}
@@ -57,7 +58,9 @@ Writes-after text before between after count room more e front whole w =
 pub Writes-part : {Is : List ℕ → Type 0} (before after : List ℕ) (room count : ℕ)
     → Writes Is (take room before) after count → Writes Is before (put_mid 0 room before after) count
 Writes-part {Is} before after room count w =
-    rw zero-add at (Writes-after {IsAfter = Is} {IsWhole = Is} [] before before after 0 room count refl record { fits = omega arith; written = refl } (λ text is. is) w)
+    rw zero-add at
+    (Writes-after {IsAfter = Is} {IsWhole = Is} [] before before after 0 room count refl record { fits = omega arith; written = refl }
+    (λ text is. is) w)
 
 -- a text whose length is at most `room` is one of a kind that says so
 pub Writes-short : {Is : List ℕ → Type 0} (room : ℕ) (before after : List ℕ) (count : ℕ)

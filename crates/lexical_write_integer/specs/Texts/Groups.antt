@@ -20,9 +20,9 @@ grouped None digits = digits
 grouped (Some grouping) digits = in_groups grouping digits
 
 -- a text without the separators between its groups
-abbrev pub without_marks : Option (ℕ × ℕ) → List ℕ → List ℕ
-without_marks None text = text
-without_marks (Some grouping) text = filter (λ byte. not (byte == grouping.1)) text
+abbrev pub without_separators : Option (ℕ × ℕ) → List ℕ → List ℕ
+without_separators None text = text
+without_separators (Some grouping) text = filter (λ byte. not (byte == grouping.1)) text
 
 -- the byte of a text that has this number of bytes to its right
 abbrev pub from_right : List ℕ → ℕ → ℕ

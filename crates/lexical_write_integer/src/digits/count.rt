@@ -85,7 +85,8 @@ pub fn slow_digit_count_counted<T: UnsignedInteger>(x: T, radix: u32, turns: &mu
     1 + by_four + by_two + by_one
 }
 
-// Returns whether `digit_count_counted` counts digits in the radix without division, from the highest set bit or a table.
+// Returns whether `digit_count_counted` counts digits in the radix without division: from the highest set bit or with
+// a table.
 pub(crate) fn counts_at_once(radix: u32) -> bool
     ensures { result ≡ is_counted_at_once radix }
 {

@@ -87,6 +87,8 @@ fn write_in_radix<T: UnsignedInteger>(
 }
 
 // Writes the digits as `write_in_radix` does. Radix 16 is apart, since its code is short enough to be in each caller.
+// It is cold, so its choice of a radix is not made one jump with the test for radix 10 before it.
+#[cold]
 pub(crate) fn radix_counted<T: UnsignedInteger>(
     value: T,
     radix: u32,

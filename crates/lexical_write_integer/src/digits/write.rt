@@ -16,8 +16,8 @@ use crate::turns::Turns;
 use lexical_num::format::NumberFormat;
 use lexical_num::num::{LexicalInteger, UnsignedInteger};
 
-// Writes the digits of a number to the start of the buffer, and returns how many there are. In radix 10 they are at most
-// `width`, and the buffer has room for so many.
+// Writes the digits of a number to the start of the buffer, and returns how many there are. In radix 10 they are at
+// most `width`, and the buffer has room for so many.
 fn write_numeral<T: UnsignedInteger>(
     value: T,
     radix: u32,

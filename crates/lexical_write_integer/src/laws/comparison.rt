@@ -1,6 +1,6 @@
 //! Laws that compare texts.
 
-ghost use Rattle.std.specs.Prelude.{◌≡◌, ◌<◌, ◌↔◌};
+ghost use Rattle.std.specs.Prelude.{◌≡◌, ◌≢◌, ◌<◌, ◌↔◌, List, ℕ};
 ghost use Rattle.lexical_num.specs.Format.{IsRadix};
 ghost use Rattle.lexical_write_integer.specs.Digits.Padded.{IsPadded};
 ghost use Rattle.lexical_write_integer.specs.Texts.Order.{IsEarlier};
@@ -8,6 +8,27 @@ ghost use Rattle.lexical_write_integer.specs.Texts.Text.{IsDigits, IsText};
 
 use lexical_num::format::NumberFormat;
 use lexical_num::num::LexicalInteger;
+
+/// A law: two numbers with the same text of this width in a radix, with leading zeros, are equal.
+pub fn equal_padded(radix: u32, width: usize, a: u64, b: u64)
+    ensures { (text : List ℕ) → IsPadded radix width a text → IsPadded radix width b text → a ≡ b }
+{}
+
+/// A law: different numbers have no digits in common in a radix.
+pub fn different_digits(radix: u32, a: u64, b: u64)
+    ensures { a ≢ b → (digits : List ℕ) → IsDigits radix a digits → ¬ (IsDigits radix b digits) }
+{}
+
+/// A law: different numbers have no text of this width in common in a radix, with leading zeros.
+pub fn different_padded(radix: u32, width: usize, a: u64, b: u64)
+    ensures { a ≢ b → (text : List ℕ) → IsPadded radix width a text → ¬ (IsPadded radix width b text) }
+{}
+
+/// A law: different numbers have no text in common in a format.
+pub fn different_texts<T: LexicalInteger>(a: T, b: T, format: &NumberFormat)
+    ensures { T.number a ≢ T.number b → (text : List ℕ) → IsText (T.number a) format.now text
+        → ¬ (IsText (T.number b) format.now text) }
+{}
 
 /// A law: the digits of two numbers in a radix are equal if and only if the numbers are.
 pub fn digits_equal_iff(radix: u32, a: u64, b: u64, s: &[u8], t: &[u8])

@@ -4,7 +4,7 @@ ghost use Rattle.std.specs.Prelude.{◌≡◌, ℕ, ◌+◌, ◌-◌, ◌*◌, �
 ghost use Rattle.lexical_num.specs.Format.{grouped_length, without_groups};
 ghost use Rattle.lexical_num.specs.Sign.{sign_of};
 ghost use Rattle.lexical_write_integer.specs.Digits.DigitCount.{digit_count};
-ghost use Rattle.lexical_write_integer.specs.Texts.Groups.{without_marks, from_right};
+ghost use Rattle.lexical_write_integer.specs.Texts.Groups.{without_separators, from_right};
 ghost use Rattle.lexical_write_integer.specs.Texts.Text.{IsText};
 
 use lexical_num::format::NumberFormat;

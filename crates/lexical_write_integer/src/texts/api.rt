@@ -7,7 +7,7 @@ ghost use Rattle.lexical_num.specs.Sign.{sign_of};
 ghost use Rattle.lexical_num.specs.declared.constants.TheConstants.{BUFFER_SIZE};
 ghost use Rattle.lexical_write_integer.specs.Buffer.{WritesDigits, WritesText};
 ghost use Rattle.lexical_write_integer.specs.Digits.DigitCount.{digit_count};
-ghost use Rattle.lexical_write_integer.specs.Texts.Groups.{without_marks};
+ghost use Rattle.lexical_write_integer.specs.Texts.Groups.{without_separators};
 ghost use Rattle.lexical_write_integer.specs.Lending.{LendsFront};
 ghost use Rattle.lexical_write_integer.specs.Texts.Text.{IsText, digits_need, need};
 
@@ -54,7 +54,7 @@ pub trait ToLexical: LexicalInteger + FormattedSize {
         ensures text { WritesText (Self.number self) format.now buffer.old buffer.new result }
         ensures short { result ≤ need (Self.number self) Self.DECIMAL_WIDTH format.now }
         ensures plain { IsText (Self.number self) (without_groups format.now)
-            (without_marks format.now.digit_grouping (take result buffer.new)) }
+            (without_separators format.now.digit_grouping (take result buffer.new)) }
     {
         // The proof needs the ranges of the type and of the parts of the format. The calls of these laws do
         // nothing at run time.
@@ -103,7 +103,7 @@ pub trait ToLexicalWithOptions: ToLexical {
         ensures text { WritesText (Self.number self) format.now buffer.old buffer.new result }
         ensures short { result ≤ need (Self.number self) Self.DECIMAL_WIDTH format.now }
         ensures plain { IsText (Self.number self) (without_groups format.now)
-            (without_marks format.now.digit_grouping (take result buffer.new)) }
+            (without_separators format.now.digit_grouping (take result buffer.new)) }
     {
         // The options have no effect.
         self.write_text(buffer, format)
@@ -139,7 +139,7 @@ pub trait ToLexicalWithOptions: ToLexical {
         ensures text { IsText (Self.number self) format.now result.now }
         ensures short { length result.now ≤ need (Self.number self) Self.DECIMAL_WIDTH format.now }
         ensures plain { IsText (Self.number self) (without_groups format.now)
-            (without_marks format.now.digit_grouping result.now) }
+            (without_separators format.now.digit_grouping result.now) }
     {
         let count = self.write_lexical_with_options(buffer, format, options);
         front_mut(buffer, count)
@@ -197,7 +197,7 @@ pub fn write_sign<T: LexicalInteger>(number: T, buffer: &mut [u8], format: &Numb
 {
     let is_negative = number.is_negative();
     let is_required = format.required_mantissa_sign();
-    // If there is no sign, the byte is written back, so the choice needs no branch.
+    // If there is no sign, the byte is written back.
     let first = buffer[0];
     buffer[0] = if is_negative {
         b'-'

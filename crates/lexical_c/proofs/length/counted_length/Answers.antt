@@ -28,7 +28,8 @@ grouped_len-requires g c = omega (arith, few g (goal.at.grouped_len-requires g c
 pub overflow_add-result : goal.overflow_add-result
 overflow_add-result g c =
     let format = c.in-Some.format in
-    let fewer = grouped_length-le format.digit_grouping c.magnitude_digits-digits.result 64 (few g (goal.at.overflow_add-result g c).After-sign_len) (omega arith) in
+    let few = few g (goal.at.overflow_add-result g c).After-sign_len in
+    let fewer = grouped_length-le format.digit_grouping c.magnitude_digits-digits.result 64 few (omega arith) in
     let sign = sign-le_one (g.T.LexicalInteger.number c.args.value) format.required_mantissa_sign in
     omega (arith, c.sign_len.ensures, sign, c.grouped_len.ensures, fewer)
 

@@ -3,7 +3,7 @@ use Rattle.std.proofs.Math.Bool.{or-true}
 use Rattle.std.proofs.KnownBytes.{Consumes-all, Consumes-trans}
 use Rattle.std.proofs.lemmas.Result.{err_from_is_err_and}
 use Rattle.std.specs.contracts.io.Error.{the_row}
-use Rattle.lexical_lines.specs.BlockWriter.{KeepsBytes-reflexive, KeepsBytes-transitive}
+use Rattle.lexical_lines.specs.BlockWriter.{TakesMore-reflexive, TakesMore-transitive}
 use Rattle.lexical_lines.proofs.Runs.{answers_ended}
 use Rattle.lexical_streams.proofs.Begun.{begins-ended, begins-broken, begins-last, begins-all}
 use Rattle.lexical_streams.proofs.Steps.{IsUnderWay-flushed, Yields-more, handed-all, not_ended}
@@ -14,7 +14,7 @@ loop-source-init g c = record {
   read = search rules;
   under_way = record {
     no_failure = c.requires.no_failure;
-    written = KeepsBytes-reflexive _;
+    written = TakesMore-reflexive _;
     answered = rw c.requires.fresh (c.new-answerer.ensures _);
   };
 }
@@ -29,7 +29,7 @@ returns-in_err-flush-clause-err g c =
     }))
 
 pub returns-in_err-flush-clause-written : goal.returns-in_err-flush-clause-written
-returns-in_err-flush-clause-written g c = KeepsBytes-transitive _ _ _ c.loop-source.invariant.under_way.written c.flush.ensures.kept
+returns-in_err-flush-clause-written g c = TakesMore-transitive _ _ _ c.loop-source.invariant.under_way.written c.flush.ensures.kept
 
 pub returns-in_err-count-clause-err : goal.returns-in_err-count-clause-err
 returns-in_err-count-clause-err g c =
@@ -43,7 +43,7 @@ returns-in_err-count-clause-err g c =
     }))
 
 pub returns-in_err-count-clause-written : goal.returns-in_err-count-clause-written
-returns-in_err-count-clause-written g c = KeepsBytes-transitive _ _ _ c.loop-source.invariant.under_way.written c.flush.ensures.kept
+returns-in_err-count-clause-written g c = TakesMore-transitive _ _ _ c.loop-source.invariant.under_way.written c.flush.ensures.kept
 
 pub returns-in_err-push_all-clause-err : goal.returns-in_err-push_all-clause-err
 returns-in_err-push_all-clause-err g c =
@@ -64,8 +64,8 @@ returns-in_err-push_all-clause-read g c =
     (read.ended ∙ not_ended the_row.Denot _ c.in_ok-count.count c.if-count-eq0.false) read.bytes.0
 
 pub returns-in_err-push_all-clause-written : goal.returns-in_err-push_all-clause-written
-returns-in_err-push_all-clause-written g c = KeepsBytes-transitive _ _ _ c.loop-source.invariant.under_way.written
-    (KeepsBytes-transitive _ _ _ c.flush.ensures.kept c.push_all.ensures.puts.kept)
+returns-in_err-push_all-clause-written g c = TakesMore-transitive _ _ _ c.loop-source.invariant.under_way.written
+    (TakesMore-transitive _ _ _ c.flush.ensures.kept c.push_all.ensures.puts.kept)
 
 pub loop-source-preserved : goal.loop-source-preserved
 loop-source-preserved g c =
@@ -78,7 +78,7 @@ loop-source-preserved g c =
           (read.ended ∙ not_ended the_row.Denot _ c.in_ok-count.count c.if-count-eq0.false) read.bytes.0;
       under_way = record {
         no_failure = (omega (arith, read.failures, h.no_failure.0), omega (arith, push.puts.failures, h.no_failure.1));
-        written = KeepsBytes-transitive _ _ _ h.written push.puts.kept;
+        written = TakesMore-transitive _ _ _ h.written push.puts.kept;
         answered = rw read.yielded (push.ok _ _ h.answered);
       };
     }
@@ -98,8 +98,8 @@ returns-in_err-all_valid-clause-err g c =
     }))
 
 pub returns-in_err-all_valid-clause-written : goal.returns-in_err-all_valid-clause-written
-returns-in_err-all_valid-clause-written g c = KeepsBytes-transitive _ _ _ c.loop-source.invariant.under_way.written
-    (KeepsBytes-transitive _ _ _ c.flush.ensures.kept c.finish.ensures.puts.kept)
+returns-in_err-all_valid-clause-written g c = TakesMore-transitive _ _ _ c.loop-source.invariant.under_way.written
+    (TakesMore-transitive _ _ _ c.flush.ensures.kept c.finish.ensures.puts.kept)
 
 pub returns-in_err-flush-2-clause-err : goal.returns-in_err-flush-2-clause-err
 returns-in_err-flush-2-clause-err g c =
@@ -115,8 +115,8 @@ returns-in_err-flush-2-clause-err g c =
     }))
 
 pub returns-in_err-flush-2-clause-written : goal.returns-in_err-flush-2-clause-written
-returns-in_err-flush-2-clause-written g c = KeepsBytes-transitive _ _ _ c.loop-source.invariant.under_way.written
-    (KeepsBytes-transitive _ _ _ c.flush.ensures.kept (KeepsBytes-transitive _ _ _ c.finish.ensures.puts.kept c.flush-2.ensures.kept))
+returns-in_err-flush-2-clause-written g c = TakesMore-transitive _ _ _ c.loop-source.invariant.under_way.written
+    (TakesMore-transitive _ _ _ c.flush.ensures.kept (TakesMore-transitive _ _ _ c.finish.ensures.puts.kept c.flush-2.ensures.kept))
 
 pub returns-clause-ok : goal.returns-clause-ok
 returns-clause-ok g c =
@@ -132,7 +132,7 @@ returns-clause-ok g c =
       ended = (rw c.if-count-eq0.true at read.ended) ∙ or-true _;
       all = Consumes-all _ _ _ [] _ (rw read.yielded known) (read.bytes.1 c.if-count-eq0.true (search rules)) refl;
       answers = rw ((rw c.if-count-eq0.true at read.yielded) ∙ append-nil _, last.taken) (finish.ok _ _ h.answered);
-      handed = handed-all _ _ (KeepsBytes-transitive _ _ _ h.written (KeepsBytes-transitive _ _ _ finish.puts.kept last.kept)) last.ok;
+      handed = handed-all _ _ (TakesMore-transitive _ _ _ h.written (TakesMore-transitive _ _ _ finish.puts.kept last.kept)) last.ok;
     }
 
 pub returns-clause-valid : goal.returns-clause-valid
@@ -141,5 +141,5 @@ returns-clause-valid g c =
     rw ((rw c.if-count-eq0.true at c.in_ok-count.ensures.yielded) ∙ append-nil _) (c.in_ok-all_valid.ensures.valid _ _ answered)
 
 pub returns-clause-written : goal.returns-clause-written
-returns-clause-written g c = KeepsBytes-transitive _ _ _ c.loop-source.invariant.under_way.written
-    (KeepsBytes-transitive _ _ _ c.flush.ensures.kept (KeepsBytes-transitive _ _ _ c.finish.ensures.puts.kept c.flush-2.ensures.kept))
+returns-clause-written g c = TakesMore-transitive _ _ _ c.loop-source.invariant.under_way.written
+    (TakesMore-transitive _ _ _ c.flush.ensures.kept (TakesMore-transitive _ _ _ c.finish.ensures.puts.kept c.flush-2.ensures.kept))

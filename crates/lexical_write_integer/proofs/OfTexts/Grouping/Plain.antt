@@ -8,7 +8,7 @@ use Rattle.std.proofs.lemmas.List.Elements.{All-head, All-tail, All-cons, All-ni
 use Rattle.lexical_num.specs.Digit.{digit_char}
 use Rattle.lexical_num.specs.Format.{Format, IsGrouping, IsMark, without_groups}
 use Rattle.lexical_num.specs.Sign.{sign_of}
-use Rattle.lexical_write_integer.specs.Texts.Groups.{mark_before, in_groups, grouped, without_marks}
+use Rattle.lexical_write_integer.specs.Texts.Groups.{mark_before, in_groups, grouped, without_separators}
 use Rattle.lexical_write_integer.specs.Texts.Text.{IsText}
 
 -- ---- the bytes other than a separator
@@ -59,27 +59,27 @@ others-sign mark (pos n) false bytes is = refl
 
 -- ---- texts
 
-without_marks-grouped : (grouping : Option (ℕ × ℕ)) (r : ℕ) (x : ℤ) (required : Bool) (digits : List ℕ)
+without_separators-grouped : (grouping : Option (ℕ × ℕ)) (r : ℕ) (x : ℤ) (required : Bool) (digits : List ℕ)
     → ForSome grouping IsGrouping → r ≤ 36 → All (λ d. d < r) digits
-    → without_marks grouping (sign_of x required ++ grouped grouping (map digit_char digits)) ≡ sign_of x required ++ map digit_char digits
-without_marks-grouped None r x required digits good few below = refl
-without_marks-grouped (Some grouping) r x required digits good few below =
+    → without_separators grouping (sign_of x required ++ grouped grouping (map digit_char digits)) ≡ sign_of x required ++ map digit_char digits
+without_separators-grouped None r x required digits good few below = refl
+without_separators-grouped (Some grouping) r x required digits good few below =
     let mark = (good grouping refl).mark in
     others-sign grouping.1 x required _ mark
     ∙ ap (λ bytes. sign_of x required ++ bytes) (others-in_groups grouping (map digit_char digits) (digit_chars-mark r grouping.1 digits few mark below))
 
 -- a text without its separators is the text in the same format without groups
-pub IsText-without_marks : (x : ℤ) (format : Format) (text : List ℕ)
+pub IsText-without_separators : (x : ℤ) (format : Format) (text : List ℕ)
     → format.mantissa_radix ≤ 36 → ForSome format.digit_grouping IsGrouping → IsText x format text
-    → IsText x (without_groups format) (without_marks format.digit_grouping text)
-IsText-without_marks x format text few good p =
+    → IsText x (without_groups format) (without_separators format.digit_grouping text)
+IsText-without_separators x format text few good p =
     let chars = p.magnitude.characters in
     let required = format.required_mantissa_sign in
     let grouping = format.digit_grouping in
     record {
       digits = p.digits;
       magnitude = p.magnitude;
-      whole = ap (without_marks grouping) (p.whole ∙ ap (λ digits. sign_of x required ++ grouped grouping digits) chars)
-          ∙ without_marks-grouped grouping format.mantissa_radix x required p.magnitude.digits good few p.magnitude.numeral.numeral.below_radix
+      whole = ap (without_separators grouping) (p.whole ∙ ap (λ digits. sign_of x required ++ grouped grouping digits) chars)
+          ∙ without_separators-grouped grouping format.mantissa_radix x required p.magnitude.digits good few p.magnitude.numeral.numeral.below_radix
           ∙ ap (λ digits. sign_of x required ++ digits) (sym chars);
     }

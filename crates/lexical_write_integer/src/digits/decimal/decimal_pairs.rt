@@ -40,7 +40,8 @@ pub(crate) fn write_one_or_two(pair: u32, buffer: &mut [u8]) -> usize
     requires pair { pair < 100 }
     requires room { digit_count 10 pair ≤ length buffer.old }
     ensures digits { WritesDigits 10 pair buffer.old buffer.new result }
-    ensures few { (1 ≤ result) × (result ≤ 2) }
+    ensures some { 1 ≤ result }
+    ensures few { result ≤ 2 }
 {
     // A single digit is written over the zero after it, to avoid a branch.
     let is_pair = pair >= 10;
@@ -57,7 +58,8 @@ fn write_first(pair: u32, buffer: &mut [u8]) -> usize
     requires room { 2 ≤ length buffer.old }
     ensures digits { WritesDigits 10 pair buffer.new buffer.new result }
     ensures rest { drop 2 buffer.new ≡ drop 2 buffer.old }
-    ensures few { (1 ≤ result) × (result ≤ 2) }
+    ensures some { 1 ≤ result }
+    ensures few { result ≤ 2 }
 {
     let (first, second) = first_pair(pair);
     buffer[1] = second;

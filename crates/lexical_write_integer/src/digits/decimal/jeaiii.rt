@@ -13,7 +13,8 @@
 
 ghost use Rattle.std.specs.Prelude.{◌+◌, ◌-◌, ◌/◌, ◌^◌, ◌<◌, ◌≤◌, length};
 ghost use Rattle.lexical_write_integer.specs.Buffer.{WritesDigits};
-ghost use Rattle.lexical_write_integer.specs.Digits.DecimalTurns.{WritesDecimal, decimal_notes, decimal_notes_32, decimal_notes_64};
+ghost use Rattle.lexical_write_integer.specs.Digits.DecimalTurns.{WritesDecimal, decimal_notes};
+ghost use Rattle.lexical_write_integer.specs.Digits.DecimalTurns.{decimal_notes_32, decimal_notes_64};
 ghost use Rattle.lexical_write_integer.specs.Digits.DigitCount.{digit_count};
 
 use super::decimal_pairs::{write_last_ten, write_one_or_two, write_pairs};
@@ -54,11 +55,13 @@ fn write_64(n: u64, buffer: &mut [u8], turns: &mut Turns) -> usize
     requires { digit_count 10 n ≤ length buffer.old }
     ensures { WritesDecimal n (decimal_notes_64 n) buffer.old buffer.new turns.old turns.new result }
 {
-    // The shortest numbers are tested first, as in `write_32`: that mispredicts the fewest branches.
-    if n < 100 {
-        write_one_or_two(n as u32, buffer)
-    } else if n < 10_000 {
-        write_pairs(fixed_2(n as u32), 1, buffer, turns)
+    // Short numbers are tested first, as in `write_32`: that mispredicts the fewest branches.
+    if n < 10_000 {
+        if n < 100 {
+            write_one_or_two(n as u32, buffer)
+        } else {
+            write_pairs(fixed_2(n as u32), 1, buffer, turns)
+        }
     } else if n < 1_000_000_000 {
         write_32(n as u32, buffer, turns)
     } else if n < 10_000_000_000 {

@@ -8,4 +8,7 @@ pub loop-number-init : goal.loop-number-init
 loop-number-init c = added_none IsEntry _
 
 pub loop-number-preserved : goal.loop-number-preserved
-loop-number-preserved c = rw c.in_ok-extend_from_slice.ensures.items (added_each IsEntry _ _ (pos 0) {text = c.to_text.result.now} (omega arith) c.loop-number.invariant (search rules depth 9))
+loop-number-preserved c =
+    let text = c.to_text.result.now in
+    rw c.in_ok-extend_from_slice.ensures.items
+    (added_each IsEntry _ _ (pos 0) {text = text} (omega arith) c.loop-number.invariant (search rules depth 9))

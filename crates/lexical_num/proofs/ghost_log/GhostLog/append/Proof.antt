@@ -22,7 +22,8 @@ append_spec 𝓤 𝓛 𝓜 𝓡 wired =
     (λ κs qs bounds a _ are.
     let log = a.0 in let longer = log.now ++ a.1.0.now in
     let words : List Val × (List Val × Unit {0}) = (mut_vals log, (shr_vals a.1.0, tt)) in
-    qed 𝓛 (((‵ (flft κs.0 qs.0) ⊛ raw (toks 𝓛 1 κs.1 qs.1)) ⊛ (‵ (Log κs.0 log) ⊛ ‵ (owns (ShrRef (named 1) κs.1.0 T.the_row ∷ []) a.1 words.1))) ∷ ‵ ftrue ∷ []) ∵
+    let passed = owns (ShrRef (named 1) κs.1.0 T.the_row ∷ []) a.1 words.1 in
+    qed 𝓛 (((‵ (flft κs.0 qs.0) ⊛ raw (toks 𝓛 1 κs.1 qs.1)) ⊛ (‵ (Log κs.0 log) ⊛ ‵ passed)) ∷ ‵ ftrue ∷ []) ∵
     split ! $ split ! $ move ! (2 ∷ []) $ split ! $ keep ! (0 ∷ 2 ∷ 3 ∷ []) $
     -- [the log; the token of κ; the other token]
     enter ! _ _ _ _ _ $ alloc_all ! (λ l. pass_all ! refl ((tt, tt), ((tt, tt), tt)) $

@@ -14,7 +14,8 @@ returns g c =
     let after = c.if-counts_at_once in
     let turns = after.turns in
     let none = c.new-written.ensures in
-    let all = elim after.branch as (λ _. WritesDigits r n c.args.buffer.now after.buffer after.count × (turns ≡ old ++ count_notes r n) × (after.written ≡ loop_notes r n)) [
+    let all : WritesDigits r n c.args.buffer.now after.buffer after.count × (turns ≡ old ++ count_notes r n) × (after.written ≡ loop_notes r n) =
+    elim after.branch [
       | then-counts_at_once w ↦
           let all = w.write_after_count-count.ensures in
           (rw (w.buffer-is, w.count-is) all.digits, rw w.turns-is all.turns, rw w.written-is (rw none at all.written))

@@ -7,17 +7,17 @@ use Rattle.lexical_lines.proofs.answer.answerer.Answerer.answer_line.Goals as go
 
 pub returns-clause-whole : goal.returns-clause-whole
 returns-clause-whole c = λ before read taken h.
-    let end = c.args.end.now in
-    let whole = HasAnswered-more h end (record c.args.self.now { line = short_line (h.rest ++ end) }) c.requires refl refl refl in
-    let line = c.ended-line.ensures.value h.rest h.last in
-    let written = c.write_answer-count.ensures.answer (h.rest ++ end) line in
-    rw (sym (append_assoc read end (10 ∷ []))) (HasAnswered-line whole _ written.text _ _ (ap (λ text. taken ++ text) (take-Writes _ _ _ written))
-    written.is (c.write_answer-count.ensures.valid (h.rest ++ end) line) c.clear.ensures c.saturating_add-self.ensures refl)
+    let tail = c.args.tail.now in
+    let whole = HasAnswered-more h tail (record c.args.self.now { line = short_line (h.rest ++ tail) }) c.requires refl refl refl in
+    let line = c.ended_with-line.ensures.value h.rest h.last in
+    let written = c.write_answer-count.ensures.answer (h.rest ++ tail) line in
+    rw (sym (append_assoc read tail (10 ∷ []))) (HasAnswered-line whole _ written.text _ _ (ap (λ text. taken ++ text) (take-Writes _ _ _ written))
+    written.is (c.write_answer-count.ensures.valid (h.rest ++ tail) line) c.clear.ensures c.saturating_add-self.ensures refl)
 
 pub returns-clause-part : goal.returns-clause-part
 returns-clause-part c = λ before read taken part h begins.
-    let end = c.args.end.now in
-    let whole = HasAnswered-more h end (record c.args.self.now { line = short_line (h.rest ++ end) }) c.requires refl refl refl in
-    let written = c.write_answer-count.ensures.answer (h.rest ++ end) (c.ended-line.ensures.value h.rest h.last) in
-    subst (λ bytes. BreaksOff false bytes (added before (taken ++ part))) (append_assoc read end (10 ∷ []))
+    let tail = c.args.tail.now in
+    let whole = HasAnswered-more h tail (record c.args.self.now { line = short_line (h.rest ++ tail) }) c.requires refl refl refl in
+    let written = c.write_answer-count.ensures.answer (h.rest ++ tail) (c.ended_with-line.ensures.value h.rest h.last) in
+    subst (λ bytes. BreaksOff false bytes (added before (taken ++ part))) (append_assoc read tail (10 ∷ []))
     (BreaksOff-line whole written.text part written.is (rw (take-Writes _ _ _ written) at begins))

@@ -19,44 +19,44 @@ line_more bytes front rest end more e f = e ∙ ap (λ xs. front ++ xs) f ∙ re
 beginning : (count : ℕ) (bytes : List ℕ) → count < length bytes → IsBeginning (take count bytes) bytes
 beginning count bytes less = (drop count bytes, omega (arith, less, length-drop count bytes), sym (take-append-drop count bytes))
 
-pub loop-end-preserved : goal.loop-end-preserved
-loop-end-preserved g c =
-    let (front, whole, reads) = c.loop-end.invariant.read in
-    let line = c.in-Some.end.now ++ 10 ∷ [] in
+pub loop-tail-preserved : goal.loop-tail-preserved
+loop-tail-preserved g c =
+    let (front, whole, reads) = c.loop-tail.invariant.read in
+    let line = c.in-Some.tail.now ++ 10 ∷ [] in
     let put = c.put_all-put.ensures in
     let answer = take c.answer_line-count.result c.answer_line-count.new.self.answer in
     let all = take_all c.put_all-put.result.0 answer (omega (arith, rw c.in_ok-put.was at put.ok)) in
     record {
       read = (
         front ++ line,
-        line_more _ front _ c.in-Some.end.now c.in-Some.more.now whole c.in-Some.ensures.found,
+        line_more _ front _ c.in-Some.tail.now c.in-Some.more.now whole c.in-Some.ensures.found,
         λ before read h. rw (put.taken, all, sym (append_assoc read front line))
             (c.answer_line-count.ensures.whole before (read ++ front) _ (reads before read h)),
       );
-      taken = grown _ _ _ _ _ c.loop-end.invariant.taken put.taken;
-      failures = omega (arith, rw c.in_ok-put.was at put.failures, c.loop-end.invariant.failures);
-      kept = g.met.K.ByteSink.keeps_transitive _ _ _ c.loop-end.invariant.kept put.kept;
+      taken = grown _ _ _ _ _ c.loop-tail.invariant.taken put.taken;
+      failures = omega (arith, rw c.in_ok-put.was at put.failures, c.loop-tail.invariant.failures);
+      kept = g.met.K.ByteSink.keeps_transitive _ _ _ c.loop-tail.invariant.kept put.kept;
     }
 
 pub returns-in_err-put-clause-err : goal.returns-in_err-put-clause-err
 returns-in_err-put-clause-err g c =
-    let (front, whole, reads) = c.loop-end.invariant.read in
-    let line = c.in-Some.end.now ++ 10 ∷ [] in
+    let (front, whole, reads) = c.loop-tail.invariant.read in
+    let line = c.in-Some.tail.now ++ 10 ∷ [] in
     let put = c.put_all-put.ensures in
     let less = rw c.in_err-put.was at put.err in
     rw (err_from_is_err_and c.from_residual.result c.from_residual.ensures.1).1 (λ before read h. (
       front ++ line,
       simp (length-append) (omega arith),
       starts_with_of_append c.args.bytes.now (front ++ line) c.in-Some.more.now
-          (line_more _ front _ c.in-Some.end.now c.in-Some.more.now whole c.in-Some.ensures.found),
+          (line_more _ front _ c.in-Some.tail.now c.in-Some.more.now whole c.in-Some.ensures.found),
       rw (put.taken, sym (append_assoc read front line))
           (c.answer_line-count.ensures.part before (read ++ front) _ _ (reads before read h) (beginning _ _ less)),
     ))
 
 pub returns-clause-ok : goal.returns-clause-ok
 returns-clause-ok g c = λ before read h.
-    let (front, whole, reads) = c.loop-end.invariant.read in
+    let (front, whole, reads) = c.loop-tail.invariant.read in
     let so_far = reads before read h in
-    let parts : read ++ c.args.bytes.now ≡ (read ++ front) ++ c.loop-end.rest.now = ap (λ bytes. read ++ bytes) whole
-    ∙ sym (append_assoc read front c.loop-end.rest.now) in
-    rw parts (HasAnswered-more so_far c.loop-end.rest.now _ c.in_default.ensures.none (c.push_all.ensures so_far.rest so_far.last) refl refl)
+    let parts : read ++ c.args.bytes.now ≡ (read ++ front) ++ c.loop-tail.rest.now = ap (λ bytes. read ++ bytes) whole
+    ∙ sym (append_assoc read front c.loop-tail.rest.now) in
+    rw parts (HasAnswered-more so_far c.loop-tail.rest.now _ c.in_default.ensures.none (c.push_all.ensures so_far.rest so_far.last) refl refl)

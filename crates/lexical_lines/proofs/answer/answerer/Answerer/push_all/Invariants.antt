@@ -3,8 +3,8 @@ use Rattle.lexical_lines.specs.Answerer.{HasAnswered}
 use Rattle.lexical_lines.specs.RunOutcome.{added}
 use Rattle.lexical_lines.proofs.answer.answerer.Answerer.push_all.Given as goal
 
-abbrev pub invariant-loop-end : goal.invariant-loop-end
-invariant-loop-end g l =
+abbrev pub invariant-loop-tail : goal.invariant-loop-tail
+invariant-loop-tail g l =
     let sink = g.K.ByteSink in
     record {
       read : (front : List ℕ) × (l.bytes ≡ front ++ l.rest) × ((before read : List ℕ)
@@ -15,5 +15,5 @@ invariant-loop-end g l =
       kept : sink.keeps l.fn.sink l.sink;
     }
 
-abbrev pub decreases-loop-end : goal.decreases-loop-end
-decreases-loop-end g l = length l.rest
+abbrev pub decreases-loop-tail : goal.decreases-loop-tail
+decreases-loop-tail g l = length l.rest

@@ -1,12 +1,12 @@
 use Rattle.std.proofs.Common.{◌≡◌, ℕ, List, [], ◌++◌, arith, length, length-take, sym, subst, ap, ◌∙◌, append_assoc}
 use Rattle.std.proofs.KnownBytes.{Appends-nil}
 use Rattle.std.proofs.lemmas.List.{append-nil}
-use Rattle.lexical_lines.specs.BlockWriter.{BlockWriting, taken, KeepsBytes, KeepsBytes-transitive}
+use Rattle.lexical_lines.specs.BlockWriter.{BlockWriting, taken, TakesMore, TakesMore-transitive}
 use Rattle.lexical_lines.proofs.devices.block_writer.BlockWriterByteSink.put.Goals.{then-self+in_ok-write_block, else-self}
 use Rattle.lexical_lines.proofs.devices.block_writer.BlockWriterByteSink.put.Goals as goal
 
 -- more bytes are in the block
-held_more : (a b : BlockWriting) (more : List ℕ) → b ≡ record a { held = a.held ++ more } → KeepsBytes a b
+held_more : (a b : BlockWriting) (more : List ℕ) → b ≡ record a { held = a.held ++ more } → TakesMore a b
 held_more a b more is = record {
   more = more;
   sent = [];
@@ -19,8 +19,8 @@ returns-clause-kept g c =
     let filled = held_more c.if-self.self c.fill_block.new.self _ c.fill_block.ensures.held in
     elim c.if-self.branch [
       | then-self+in_ok-write_block w ↦
-          KeepsBytes-transitive _ _ _ (subst (KeepsBytes c.args.self.now) (sym w.self-is) w.write_block.ensures.kept) filled
-      | else-self w ↦ subst (λ a. KeepsBytes a c.fill_block.new.self) w.self-is filled
+          TakesMore-transitive _ _ _ (subst (TakesMore c.args.self.now) (sym w.self-is) w.write_block.ensures.kept) filled
+      | else-self w ↦ subst (λ a. TakesMore a c.fill_block.new.self) w.self-is filled
     ]
 
 -- the check finds these proofs by itself, but with an answer the refusal of a mistake says what is wrong

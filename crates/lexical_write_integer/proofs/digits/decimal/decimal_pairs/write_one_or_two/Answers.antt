@@ -23,4 +23,5 @@ bounds-buffer-0 c = omega (arith, digit_count-pos 10 c.args.pair, length-set {A 
 
 pub returns-clause-digits : goal.returns-clause-digits
 returns-clause-digits c =
-    digits c.args.pair _ _ _ c.args.buffer.now record { one = c.first_pair-first.ensures.one; two = c.first_pair-first.ensures.two } c.requires.pair c.requires.room refl
+    let first = c.first_pair-first.ensures in
+    digits c.args.pair _ _ _ c.args.buffer.now record { one = first.one; two = first.two } c.requires.pair c.requires.room refl

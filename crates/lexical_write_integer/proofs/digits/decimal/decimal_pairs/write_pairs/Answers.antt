@@ -43,7 +43,7 @@ returns c =
     let longer = ap length c.loop.invariant.notes ∙ length-append c.args.turns.now (products c.args.fraction c.loop.counter) in
     let digits = rw all at c.loop.invariant.digits in
     let first = c.write_first-count in
-    let several : 2 ≤ c.loop.count = omega (arith, c.loop.invariant.count, first.ensures.few, c.requires.some) in
+    let several : 2 ≤ c.loop.count = omega (arith, c.loop.invariant.count, first.ensures.some, c.requires.some) in
     record {
       digits = record { writes = Writes-over-all 2 first.auto.buffer first.ensures.rest several digits.writes; count = digits.count };
       noted = rw all at c.loop.invariant.notes;

@@ -19,12 +19,12 @@ returns-then-n-lt100 c =
     rw (lt-ltb c.args.n (10 ^ 9) (omega arith), lt-ltb c.args.n 100 (omega arith)) record {
       digits = c.write_one_or_two.ensures.digits;
       noted = sym (append-nil c.args.turns.now);
-      half = omega (arith, c.write_one_or_two.ensures.few);
+      half = omega (arith, c.write_one_or_two.ensures.few, c.write_one_or_two.ensures.some);
     }
 
-pub returns-then-n-lt10000 : goal.returns-then-n-lt10000
+pub returns-else-n-lt100 : goal.returns-else-n-lt100
 unfolding decimal_notes_64 decimal_notes_32
-returns-then-n-lt10000 c =
+returns-else-n-lt100 c =
     let n = c.args.n in
     let whole : carried c.fixed_2.result 1 ≡ n = omega (arith, c.fixed_2.ensures.carries) in
     rw (lt-ltb n (10 ^ 9) (omega arith), le-ltb n 100 (omega arith), lt-ltb n (10 ^ 4) (omega arith))

@@ -10,4 +10,5 @@ returns-clause-turns g c =
 
 pub returns-clause-short : goal.returns-clause-short
 returns-clause-short g c =
-    WritesDigits-short (rw c.as_usize.ensures at c.write_in-count.ensures.digits) c.requires.radix.at_least_two g.met.T.UnsignedInteger.range.width c.fits_bits.ensures
+    let digits = rw c.as_usize.ensures at c.write_in-count.ensures.digits in
+    WritesDigits-short digits c.requires.radix.at_least_two g.met.T.UnsignedInteger.range.width c.fits_bits.ensures

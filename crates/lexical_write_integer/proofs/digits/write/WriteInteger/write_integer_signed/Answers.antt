@@ -10,7 +10,8 @@ prove-unreachable-requires g c =
     elim c.if-radix-ne10.branch [
       | then-radix-ne10 w ↦ grind (arith, nat_tests, w.prove-is, c.if-prove.true)
       | else-radix-ne10 w ↦
-          let below = signed_below _ _ _ g.met.Self.UnsignedInteger.range.width g.met.Self.Decimal.signed_width.needed (c.requires.number w.if-radix-ne10.false) in
+          let number = c.requires.number w.if-radix-ne10.false in
+          let below = signed_below _ _ _ g.met.Self.UnsignedInteger.range.width g.met.Self.Decimal.signed_width.needed number in
           grind (arith, nat_tests, w.prove-is, c.if-prove.true, below)
     ]
 

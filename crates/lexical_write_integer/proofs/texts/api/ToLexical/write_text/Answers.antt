@@ -3,7 +3,7 @@ use Rattle.std.specs.Prelude.{unsigned_abs}
 use Rattle.lexical_write_integer.specs.Texts.Text.{IsText}
 use Rattle.lexical_write_integer.proofs.Buffers.Prefixes.{Writes-is}
 use Rattle.lexical_write_integer.proofs.OfDigits.Count.DigitCounts.{digit_count-pos}
-use Rattle.lexical_write_integer.proofs.OfTexts.Grouping.Plain.{IsText-without_marks}
+use Rattle.lexical_write_integer.proofs.OfTexts.Grouping.Plain.{IsText-without_separators}
 use Rattle.lexical_write_integer.proofs.OfTexts.Required.{grouped_length-le_need, need-pos}
 use Rattle.lexical_write_integer.proofs.OfTexts.SignedTexts.{WritesText-over}
 use Rattle.lexical_write_integer.proofs.texts.api.ToLexical.write_text.Goals as goal
@@ -21,7 +21,8 @@ pub returns-clause-text : goal.returns-clause-text
 returns-clause-text g c =
     let some = digit_count-pos c.args.format.now.mantissa_radix (unsigned_abs (g.Self.LexicalInteger.number c.args.self)) in
     let digits = c.write_magnitude-count.ensures.digits in
-    WritesText-over c.write_sign_before_digits-sign.ensures.sign c.write_sign_before_digits-sign.auto.buffer c.write_sign_before_digits-sign.ensures.rest (omega (arith, digits.count, some)) record {
+    let sign = c.write_sign_before_digits-sign in
+    WritesText-over sign.ensures.sign sign.auto.buffer sign.ensures.rest (omega (arith, digits.count, some)) record {
       sign_count = c.write_sign_before_digits-sign.ensures.count;
       magnitude = digits;
       groups = c.group_digits.ensures.groups;
@@ -40,4 +41,4 @@ returns-clause-plain g c =
     let x = g.Self.LexicalInteger.number c.args.self in
     let format = c.args.format.now in
     let valid = c.in_range-2.ensures in
-    IsText-without_marks x format _ valid.mantissa.at_most_36 valid.groups (Writes-is {Is = IsText x format} _ _ _ (returns-clause-text g c))
+    IsText-without_separators x format _ valid.mantissa.at_most_36 valid.groups (Writes-is {Is = IsText x format} _ _ _ (returns-clause-text g c))

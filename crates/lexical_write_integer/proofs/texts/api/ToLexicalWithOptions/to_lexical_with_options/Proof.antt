@@ -10,7 +10,7 @@ use Rattle.lexical_num.proofs.Steps.{shr_ref_to, ShrRef, shr_vals, shr_Tells}
 use Rattle.lexical_num.specs.Format.{without_groups}
 use Rattle.lexical_num.specs.contracts.format.NumberFormat.{the_row as NumberFormat}
 use Rattle.lexical_write_integer.specs.Buffer.{Writes as Written}
-use Rattle.lexical_write_integer.specs.Texts.Groups.{without_marks}
+use Rattle.lexical_write_integer.specs.Texts.Groups.{without_separators}
 use Rattle.lexical_write_integer.specs.Texts.Text.{IsText, need}
 use Rattle.lexical_write_integer.proofs.Reborrows.{lends, comes_back}
 use Rattle.lexical_write_integer.proofs.HandedFronts.{calls_front}
@@ -54,7 +54,7 @@ to_lexical_with_options_spec 𝓤 𝓛 𝓜 𝓡 wired X Y L LY C g d gl dl gn d
     -- the length of buffer that the call requires, and what a text of the number is, with its marks and without
     let needed = need (gn.number x) gn.DECIMAL_WIDTH format.now in
     let Text : List ℕ → Type 0 = IsText (gn.number x) format.now in
-    let Plain : List ℕ → Type 0 = λ text. IsText (gn.number x) (without_groups format.now) (without_marks format.now.digit_grouping text) in
+    let Plain : List ℕ → Type 0 = λ text. IsText (gn.number x) (without_groups format.now) (without_separators format.now.digit_grouping text) in
     qed 𝓛 (((‵ (flft κ q) ⊛ raw (toks 𝓛 4 κs.1 qs.1)) ⊛ (‵ (R.own_val x words.0) ⊛ ‵ ((MutSlice (named 0) κ u8).own_val self words.1.0) ⊛
     ‵ (owns (ShrRef (named 1) κs.1.0 NumberFormat ∷ ShrRef (named 2) κs.1.1.0 O ∷ []) a.1.1 words.1.1))) ∷ raw ((c κs a).requires tt) ∷ []) ∵
     split ! $ split ! $ move ! (2 ∷ []) $ split3 ! $
