@@ -1,9 +1,14 @@
-#![doc = include_str!(concat!(env!("OUT_DIR"), "/lexical_c/lib.md"))]
+//! The writers of integers as C functions, which `crates/lexical_c/include/lexical.h` declares and explains.
 #![no_std]
-#![allow(unused_imports, unused_variables, reason = "contracts use them")]
 
-extern crate core as std;
-include!(concat!(env!("OUT_DIR"), "/lexical_c/lib.rs"));
+mod buffer_size;
+mod format;
+mod general;
+mod integer;
+mod length;
+mod plain;
+mod version;
+mod write;
 
 /// Exports the writers, which take a slice, as functions that take a pointer and a length.
 macro_rules! export {

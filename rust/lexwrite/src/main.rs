@@ -1,7 +1,7 @@
 //! Reads lines from standard input, and writes their answers to standard output. The exit status is 0 if all lines are
 //! valid, 1 if a line is invalid, and 2 if the input or the output failed.
 
-use lexical_streams::answer_lines;
+use cojimuran::streams::answer_lines;
 use std::process::ExitCode;
 
 fn main() -> ExitCode {

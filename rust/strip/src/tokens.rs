@@ -87,11 +87,27 @@ impl<'a> Tokens<'a> {
         while !signs.contains(&self.at(i)) {
             i = match self.at(i) {
                 "{" | "(" | "[" => self.group_end(i)?,
-                "}" | ")" | "]" | "" => return Err(self.unknown(index, "an item that does not end")),
+                "}" | ")" | "]" | "" => {
+                    return Err(self.unknown(index, "an item that does not end"));
+                }
                 _ => i + 1,
             };
         }
         Ok(i)
+    }
+
+    /// Returns the index of the name before the parenthesis at this index, also if parameters in `::<` and `>` follow it.
+    pub fn before_parameters(&self, open: usize) -> usize {
+        let last = self.previous(open);
+        if self.at(last) != ">" {
+            return last;
+        }
+        let mut depth = 0;
+        let start = (0..=last).rev().find(|i| {
+            depth += i32::from(self.0[*i] == ">") - i32::from(self.0[*i] == "<");
+            depth == 0
+        });
+        start.map_or(0, |start| self.previous(self.previous(self.previous(start))))
     }
 
     /// Returns the index after the parameters in `<` and `>` at this index, or this index if there are none.
@@ -129,7 +145,7 @@ fn end_of_token(text: &str) -> Option<usize> {
     }
 }
 
-fn is_space(token: &str) -> bool {
+pub(crate) fn is_space(token: &str) -> bool {
     token.starts_with(char::is_whitespace) || token.starts_with("//") || token.starts_with("/*")
 }
 

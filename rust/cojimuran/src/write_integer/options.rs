@@ -1,0 +1,5 @@
+// Made from crates/lexical_write_integer/src/options.rt by `cargo run -p strip`. Change that file, not this one.
+
+//! The options of writing an integer, which have no fields yet.
+
+pub use crate::num::options::{Options, OptionsBuilder, STANDARD, WriteOptions};

@@ -1,0 +1,63 @@
+// Made from crates/library_tests/src/formats/errors.rt by `cargo run -p strip`. Change that file, not this one.
+
+// Tests of the errors of a build.
+
+use crate::checks::check_equal;
+use crate::lines::read;
+use cojimuran::num::error::Error;
+use cojimuran::num::format::NumberFormat;
+use cojimuran::num::format_builder::NumberFormatBuilder;
+use repository_tests::runtime::Abort;
+use repository_tests::runtime::InlineText;
+
+// Checks the text of the error of a build.
+pub(crate) fn check_error(
+    rt: &impl Abort,
+    row: &str,
+    built: Result<NumberFormat, Error>,
+    message: &str,
+) {
+    let text = InlineText::<32>::of(built.err().expect(row));
+    check_equal(rt, row, text.as_str(), message);
+}
+
+// Each line has the two radices, the group size, the separator, and the text of the error, which names the
+// first of the four that is not valid.
+const ERRORS: &str = "\
+1 10 3 44 invalid mantissa radix 1
+10 37 3 44 invalid exponent radix 37
+0 0 3 44 invalid mantissa radix 0
+37 10 3 44 invalid mantissa radix 37
+36 1 3 44 invalid exponent radix 1
+255 0 3 44 invalid mantissa radix 255
+10 0 3 44 invalid exponent radix 0
+10 10 0 44 invalid group size 0
+10 10 65 44 invalid group size 65
+10 10 0 65 invalid group size 0
+10 10 3 43 invalid group mark 43
+10 10 3 45 invalid group mark 45
+10 10 3 65 invalid group mark 65
+10 10 3 127 invalid group mark 127
+1 10 0 65 invalid mantissa radix 1
+";
+
+fn check_line(rt: &impl Abort, line: &str) {
+    let (mantissa, rest) = read(rt, line);
+    let (exponent, rest) = read(rt, rest);
+    let (size, rest) = read(rt, rest);
+    let (mark, message) = read(rt, rest);
+    let built = NumberFormatBuilder::new()
+        .mantissa_radix(mantissa)
+        .exponent_radix(exponent)
+        .digit_grouping(size, mark)
+        .build();
+    check_error(rt, line, built, message);
+}
+
+#[test]
+fn build_returns_the_first_error() {
+    let rt = repository_tests::runtime::HostRuntime;
+    for line in ERRORS.lines() {
+        check_line(&rt, line);
+    }
+}
