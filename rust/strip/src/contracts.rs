@@ -29,8 +29,13 @@ pub(crate) fn without_contracts(text: &str) -> Result<String, Unknown> {
 fn end_of_removed(tokens: &Tokens, index: usize) -> Result<usize, Unknown> {
     let next = tokens.next(index);
     let is_before = |token| tokens.at(next) == token;
-    if tokens.at(index).starts_with("//") && is_clause(tokens.at(next)) {
-        return end_of_clauses(tokens, next);
+    if tokens.at(index).starts_with("//") {
+        let item = tokens.after_visibility(tokens.after_comments(index))?;
+        return match tokens.at(item) {
+            "ghost" => end_of_ghost(tokens, item),
+            _ if is_clause(tokens.at(next)) => end_of_clauses(tokens, next),
+            _ => Ok(index),
+        };
     }
     let after = |list| tokens.after(index, list);
     match tokens.at(index) {

@@ -71,6 +71,10 @@ fn ghost_items() {
         "impl T for u8 {\n    ghost N = { λ n. { n } };\n\n    ghost m: { a } by { b } = { c };\n}",
         "impl T for u8 {}",
     );
+    check(
+        "trait T {\n    // Of a ghost.\n    // So is this.\n    ghost N: { ℕ };\n\n    // Not this.\n\n    ghost M: { ℕ };\n}",
+        "trait T {\n    // Not this.\n}",
+    );
     check("ghost «data»: { ℕ };", "");
 }
 

@@ -48,6 +48,12 @@ impl<'a> Tokens<'a> {
         self.0[..index].iter().rposition(|token| !is_space(token)).unwrap_or(0)
     }
 
+    /// Returns the index after the comments that begin at this index, and are not followed by an empty line.
+    pub fn after_comments(&self, index: usize) -> usize {
+        let is_between = |i: &usize| is_space(self.0[*i]) && self.0[*i].matches('\n').count() < 2;
+        (index..self.0.len()).find(|i| !is_between(i)).unwrap_or(self.0.len())
+    }
+
     /// Returns the index of the word after `pub` or `pub(..)` at this index, or this index if there is neither.
     pub fn after_visibility(&self, index: usize) -> Result<usize, Unknown> {
         match (self.at(index), self.next(index)) {

@@ -13,8 +13,6 @@ pub trait LexicalInteger: Copy {
     /// Whether the type has numbers below 0.
     const IS_SIGNED: bool;
 
-    // The value as an integer without a range.
-
     /// Returns whether the number is below 0.
     #[must_use]
     fn is_negative(self) -> bool;
@@ -154,8 +152,6 @@ impl LexicalInteger for isize {
 /// An unsigned integer type, with the arithmetic that is needed to write digits. The writers of
 /// `write_integer` are generic over it, such as `compact_counted`.
 pub trait UnsignedInteger: LexicalInteger {
-    // The value as a natural number without a range.
-
     /// Returns the number as a value of this type, which it fits.
     ///
     /// # Panics

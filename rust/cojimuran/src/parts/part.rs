@@ -8,18 +8,13 @@ use core::str::from_utf8;
 /// A value that has a text, such as a number or a `&str`. A tuple of parts is also a part, and its
 /// text consists of the texts of its elements, in order: `(250, " g")` writes `250 g`.
 ///
+/// For a `String` or a `&String` write `string.as_str()`, for a `bool` `if flag { "true" } else { "false" }`, and for a
+/// `char` the `&str` that `encode_utf8` returns.
+///
 /// A part is *valid* if it meets the condition of its type: a radix is from 2 to 36, and a padded number
 /// fits in its width. A part that contains parts is valid if they are valid. A part without a condition is
 /// always valid.
 pub trait Part: Copy {
-    // Whether these bytes are the text of the part.
-
-    // Whether the part is valid. A valid part has a text.
-
-    // A number of bytes that is enough for the text.
-
-    // The condition under which the text is UTF-8: that each byte that the part names is below 128.
-
     /// Returns a number of bytes that is enough for the text, or `usize::MAX` if that number does not
     /// fit in a `usize`. The part must be valid.
     ///

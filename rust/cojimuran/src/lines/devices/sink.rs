@@ -6,12 +6,6 @@ use std::io;
 
 /// A device that bytes are written to. A call may take only some of the bytes, and may fail.
 pub trait ByteSink {
-    // The bytes taken so far.
-
-    // The number of failures so far.
-
-    // What calls leave unchanged, as a relation between the states before and after any calls.
-
     /// Takes a prefix of `bytes`, and returns its length. If it returns an `Err`, it took no bytes. An
     /// `Err` is a failure, and so is `Ok(0)` if `bytes` is not empty; nothing else is a failure.
     fn put(&mut self, bytes: &[u8]) -> io::Result<usize>;
@@ -19,17 +13,9 @@ pub trait ByteSink {
 
 /// A sink that can be flushed.
 pub trait BlockSink: ByteSink {
-    // The bytes that the sink contains, if they are known.
-
-    // The bytes taken since the last flush that succeeded.
-
-    // The number of flushes that succeeded.
-
     /// Passes the bytes taken on to where they are read, if the sink has a buffer of its own. An `Err` is
     /// a failure.
     fn flush(&mut self) -> io::Result<()>;
-
-    // What calls of `put` do.
 }
 
 /// Writes all bytes to the sink, and stops at its first failure. Returns how many bytes the sink

@@ -6,16 +6,6 @@ use std::io;
 
 /// A device that bytes are read from, one at a time. A call may fail.
 pub trait ByteSource {
-    // The bytes yielded so far.
-
-    // Whether the source has reported its end.
-
-    // The number of failures so far.
-
-    // The number of bytes that the source may still yield.
-
-    // What calls leave unchanged, as a relation between the states before and after any calls.
-
     /// Returns the next byte, or `None` at the end; only `None` reports the end. An `Err` yields no
     /// byte and is a failure; nothing else is a failure.
     fn next(&mut self) -> io::Result<Option<u8>>;
@@ -23,8 +13,6 @@ pub trait ByteSource {
 
 /// A source that also yields bytes in blocks.
 pub trait BlockSource: ByteSource {
-    // The bytes that the source will yield, if they are known.
-
     /// Reads bytes to the start of `block`, which must not be empty, and returns their number; only
     /// `Ok(0)` reports the end. An `Err` yields no bytes and is a failure; nothing else is a failure.
     fn read_block(&mut self, block: &mut [u8]) -> io::Result<usize>;
