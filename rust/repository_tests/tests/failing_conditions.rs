@@ -8,7 +8,7 @@ use cojimuran::digit_count::DigitCount;
 use cojimuran::lines::join;
 use cojimuran::num::UnsignedInteger;
 use cojimuran::padded::write_padded;
-use cojimuran::parts::{Decimal, Digits, Joined, Padded, PaddedDigits, Part};
+use cojimuran::parts::{Decimal, Digits, Fixed, Joined, Padded, PaddedDigits, Part};
 use cojimuran::radix::Radix;
 use cojimuran::write::WriteInteger;
 use cojimuran::{NumberFormatBuilder, Options, ToLexical, ToLexicalWithOptions};
@@ -150,6 +150,7 @@ fn messages() {
         "is_radix(radix": 255u8.digit_count(u32::MAX), 255u8.slow_digit_count(1), u64::MAX.digit_count(0);
         "the radix is not from 2 to 36": 7u32.write_integer(0, buffer), 7u8.radix(1, buffer), 7u64.compact(37, buffer),
             7u16.write_integer(255, buffer), 7u64.radix(u32::MAX, buffer), Digits(1, 7u8).write_to(buffer);
+        "self.1 <= 19": Fixed(7i64, 20).to_text(buffer), Fixed(7u8, usize::MAX).room(), Fixed(7u8, 90).to_str(buffer);
         "radix <= 36": table(37);
         "radix >= 2": table(1);
         "fits_width(": Padded(2026u16, 2).to_text(buffer), Padded(15u8, 1).try_to_str(buffer),

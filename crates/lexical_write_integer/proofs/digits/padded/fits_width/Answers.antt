@@ -16,9 +16,10 @@ few r n (suc width) some fits = digit_count-le r n (suc width) (omega arith) fit
 
 -- every number of 64 bits is below 10 ^ 20, and so below each larger power
 pub returns-then-width-ge20 : goal.returns-then-width-ge20
-returns-then-width-ge20 c =
-    (λ _. rw c.if-radix-eq10.true (omega (arith, c.ranges.number, pow-le-pow_right {n = 10} (omega arith) c.if-width-ge20.true)),
-     λ _. grind (arith, nat_tests))
+returns-then-width-ge20 c = (
+  λ _. rw c.if-radix-eq10.true (omega (arith, c.ranges.number, pow-le-pow_right {n = 10} (omega arith) c.if-width-ge20.true)),
+  λ _. grind (arith, nat_tests),
+)
 
 pub returns-then-number-eq0 : goal.returns-then-number-eq0
 returns-then-number-eq0 c =
