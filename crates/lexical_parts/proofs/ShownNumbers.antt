@@ -1,11 +1,13 @@
 -- What `pad_integral` writes of a number, with a required sign as the option `+`.
-use Rattle.std.proofs.Common.{◌≡◌, sym, refl, true, false, Bool, [], ◌∷◌, ◌++◌, ℕ, zero, suc, ◌+◌, ◌-◌, ◌==◌, length, replicate, List, arith, ap, if◌then◌else◌, append-nil, append_assoc, None, Some, true≢false}
+use Rattle.std.proofs.Common.{◌≡◌, sym, refl, true, false, Bool, [], ◌∷◌, ◌++◌, ℕ, zero, suc, ◌+◌, ◌-◌, ◌==◌, length, replicate, List, arith, ap, if◌then◌else◌, append-nil, append_assoc, None, Some, true≢false, drop, ℤ, pos, negsuc}
 use Rattle.std.specs.Fmt.{formatter_spec, padded_integral, char_count, sign_text_with, spec_width}
+use Rattle.std.specs.Int.{is_negative}
+use Rattle.lexical_num.specs.Sign.{sign_of}
 use Rattle.std.specs.Option.{unwrap_or}
 use Rattle.std.specs.declared.fmt.Formatter.{Formatter}
 use Rattle.std.specs.Option.{is_some}
 use Rattle.std.proofs.Padding.{cond_same, padding_before_none}
-use Rattle.std.proofs.lemmas.Bool.Decides.{Decides-eqb}
+use Rattle.std.proofs.lemmas.Bool.Decides.{Decides-eqb, Decides-ltb}
 use native.Mathlib.Numerals.{add-one}
 
 one_more : (x k : ℕ) → replicate k x ++ x ∷ [] ≡ replicate (suc k) x
@@ -79,3 +81,17 @@ module _ {W : Type 0} (f : Formatter W) where
   unfolding padded_integral
   negative_sign true digits = refl
   negative_sign false digits = refl
+
+not_negative : (n : ℕ) → is_negative (pos n) ≡ false
+not_negative n = by (is_negative (pos n)) refl
+  where
+    by : (t : Bool) → is_negative (pos n) ≡ t → t ≡ false
+    by true below = absurd (omega (arith, (Decides-ltb n 0).0 below))
+    by false _ = refl
+
+-- the text of a number without its sign
+pub without_sign : (n : ℤ) (required : Bool) (digits : List ℕ)
+    → drop (length (sign_text_with required (is_negative n))) (sign_of n required ++ digits) ≡ digits
+without_sign (pos n) true digits = rw (not_negative n) refl
+without_sign (pos n) false digits = rw (not_negative n) refl
+without_sign (negsuc n) required digits = refl

@@ -54,7 +54,12 @@ impl<T: ToLexicalWithOptions> fmt::Display for Formatted<'_, T> {
     fn fmt(&self, f: &mut fmt::Formatter<'_>) -> fmt::Result {
         let mut buffer = [0; BUFFER_SIZE];
         let text = Formatted(self.0, self.1).to_str(&mut buffer);
-        pad_number(f, self.0.is_negative(), self.1.required_mantissa_sign(), text)
+        pad_number(
+            f,
+            self.0.is_negative(),
+            self.1.required_mantissa_sign(),
+            text,
+        )
     }
 }
 
