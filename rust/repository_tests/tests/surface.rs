@@ -1,6 +1,10 @@
 //! The names of the package, and the traits of its types: a caller that takes one does not compile without it.
 
-#![allow(unused_imports, reason = "a name that is not there is an error")]
+#![allow(
+    unused_imports,
+    clippy::unnecessary_operation,
+    reason = "what is not there is an error"
+)]
 
 use cojimuran::buffer::{copy_to_front, front_mut};
 use cojimuran::decimal::{
