@@ -1,5 +1,6 @@
-//! Writes integers as text, in every radix from 2 to 36, to a buffer that the caller passes. No call allocates memory, and
-//! the code is proved: [when its conditions hold](#conditions), a call writes exactly the right bytes.
+//! Writes integers as text, in every radix from 2 to 36, to a buffer that the caller passes. No call
+//! allocates memory, and the code is proved: [when its conditions hold](#conditions), a call writes
+//! exactly the right bytes.
 //!
 //! # A first program
 //!
@@ -11,20 +12,22 @@
 //!
 //! # What is where
 //!
-//! - [`ToLexical`] and [`ToLexicalWithOptions`] write one number, in decimal or in a [`NumberFormat`]: in another radix,
-//!   with a required `+`, or in groups of digits. The buffer has [`FormattedSize::FORMATTED_SIZE_DECIMAL`] bytes or more,
-//!   or in any format [`BUFFER_SIZE`].
+//! - [`ToLexical`] and [`ToLexicalWithOptions`] write one number, in decimal or in a [`NumberFormat`]:
+//!   in another radix, with a required `+`, or in groups of digits. A buffer of
+//!   [`FormattedSize::FORMATTED_SIZE_DECIMAL`] bytes is enough in decimal, and [`BUFFER_SIZE`] always.
 //! - [`parts`] has tuples of parts that are written as one text, as in a log line.
-//! - `lines` and `streams`, with the feature `std`, answer lines that request numbers, and join numbers. All else needs no
-//!   std.
-//! - [`write_integer`], [`num`] and [`tables`] have what these are made of, such as the writers of digits without a sign.
+//! - `lines` and `streams`, with the feature `std`, answer lines that request numbers, and join
+//!   numbers. All else needs no std.
+//! - [`write_integer`], [`num`] and [`tables`] have what these are made of, such as the writers of
+//!   digits without a sign.
 //!
 //! The names are those of the Rust crate `lexical-write-integer`.
 #![doc = include_str!("../CONDITIONS.md")]
 //!
 //! # Versions
 //!
-//! A version 0.x.0 may change any name or text, which CHANGELOG.md of the repository lists, and 0.x.y changes none.
+//! A version 0.x.0 may change names and conditions, as the changelog of the repository lists, and
+//! 0.x.y changes none.
 #![no_std]
 #![cfg_attr(docsrs, feature(doc_cfg))]
 #![forbid(unsafe_code)]

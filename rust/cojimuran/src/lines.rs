@@ -1,4 +1,4 @@
-// Made from crates/lexical_lines/src/lib.rt by `cargo run -p strip`. Change that file, not this one.
+// Made by `strip` from crates/lexical_lines/src/lib.rt. Edit that file, not this one.
 
 //! Answers lines: each line of an input requests the text of a number in a radix, and gets one line as
 //! its answer. Also writes several numbers with a separator between adjacent ones.

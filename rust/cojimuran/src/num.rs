@@ -1,4 +1,4 @@
-// Made from crates/lexical_num/src/lib.rt by `cargo run -p strip`. Change that file, not this one.
+// Made by `strip` from crates/lexical_num/src/lib.rt. Edit that file, not this one.
 
 //! Integer types, the lengths of buffers for their numbers, and the formats of numbers.
 //!

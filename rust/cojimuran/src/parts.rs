@@ -1,4 +1,4 @@
-// Made from crates/lexical_parts/src/lib.rt by `cargo run -p strip`. Change that file, not this one.
+// Made by `strip` from crates/lexical_parts/src/lib.rt. Edit that file, not this one.
 
 //! Writes texts that consist of several parts, such as a log line or a CSV row. A tuple of parts
 //! says what the text is, and one call writes it to a buffer:

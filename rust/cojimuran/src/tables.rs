@@ -1,4 +1,4 @@
-// Made from crates/lexical_tables/src/lib.rt by `cargo run -p strip`. Change that file, not this one.
+// Made by `strip` from crates/lexical_tables/src/lib.rt. Edit that file, not this one.
 
 //! Tables of digit pairs, one for each radix from 2 to 36.
 //!

@@ -1,4 +1,4 @@
-// Made from crates/lexical_write_integer/src/lib.rt by `cargo run -p strip`. Change that file, not this one.
+// Made by `strip` from crates/lexical_write_integer/src/lib.rt. Edit that file, not this one.
 
 //! Writing integers as text, in every radix from 2 to 36.
 //!

@@ -1,4 +1,4 @@
-// Made from crates/lexical_c/src/buffer_size.rt by `cargo run -p strip`. Change that file, not this one.
+// Made by `strip` from crates/lexical_c/src/buffer_size.rt. Edit that file, not this one.
 
 //! The sizes of buffers that are enough for every number of a type.
 

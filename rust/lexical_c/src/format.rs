@@ -1,4 +1,4 @@
-// Made from crates/lexical_c/src/format.rt by `cargo run -p strip`. Change that file, not this one.
+// Made by `strip` from crates/lexical_c/src/format.rt. Edit that file, not this one.
 
 //! The format that a C caller passes, and the check whether it is valid.
 

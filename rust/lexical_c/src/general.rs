@@ -1,4 +1,4 @@
-// Made from crates/lexical_c/src/general.rt by `cargo run -p strip`. Change that file, not this one.
+// Made by `strip` from crates/lexical_c/src/general.rt. Edit that file, not this one.
 
 //! Writes a number whose text may not fit, or whose format may have groups, a required sign or lowercase.
 

@@ -1,4 +1,4 @@
-// Made from crates/lexical_c/src/integer.rt by `cargo run -p strip`. Change that file, not this one.
+// Made by `strip` from crates/lexical_c/src/integer.rt. Edit that file, not this one.
 
 //! The integer types whose numbers are written.
 

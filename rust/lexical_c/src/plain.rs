@@ -1,4 +1,4 @@
-// Made from crates/lexical_c/src/plain.rt by `cargo run -p strip`. Change that file, not this one.
+// Made by `strip` from crates/lexical_c/src/plain.rt. Edit that file, not this one.
 
 //! Writes a number in a format without groups and required signs, to a buffer that is long enough for
 //! every number of the type.

@@ -1,4 +1,4 @@
-// Made from crates/lexical_c/src/write.rt by `cargo run -p strip`. Change that file, not this one.
+// Made by `strip` from crates/lexical_c/src/write.rt. Edit that file, not this one.
 
 //! The functions that write a number. Each returns the length of the text, or returns 0 and leaves the
 //! buffer unchanged if the format is invalid or the text does not fit.

@@ -103,10 +103,7 @@ fn made_file(
     let is_root_of_tests = source.is_test && name == "lib.rt";
     let allowed = "#![allow(unused, clippy::all, reason = \"these are tests of Rattle\")]\n\n";
     let allowed = if is_root_of_tests { allowed } else { "" };
-    Ok(format!(
-        "// Made from {} by `cargo run -p strip`. Change that file, not this one.\n\n{allowed}{text}",
-        file.display()
-    ))
+    Ok(format!("// Made by `strip` from {}. Edit that file, not this one.\n\n{allowed}{text}", file.display()))
 }
 
 /// Returns the files with this extension in a folder of the repository and in the folders in it.
@@ -133,7 +130,7 @@ fn left_over(top: &Path, made: &Made) -> Result<Vec<PathBuf>, String> {
     left.extend(files(top, Path::new("rust/lexical_c/src"), "rs")?);
     left.extend(files(top, Path::new("rust/repository_tests"), "rs")?);
     left.retain(|path| {
-        !made.contains_key(path) && read(&top.join(path)).is_ok_and(|text| text.starts_with("// Made from "))
+        !made.contains_key(path) && read(&top.join(path)).is_ok_and(|text| text.starts_with("// Made by `strip` from "))
     });
     Ok(left)
 }

@@ -1,4 +1,4 @@
-// Made from crates/lexical_lines/src/devices.rt by `cargo run -p strip`. Change that file, not this one.
+// Made by `strip` from crates/lexical_lines/src/devices.rt. Edit that file, not this one.
 
 //! The devices that lines are read from and their answers are written to.
 

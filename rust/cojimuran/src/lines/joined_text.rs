@@ -1,4 +1,4 @@
-// Made from crates/lexical_lines/src/joined_text.rt by `cargo run -p strip`. Change that file, not this one.
+// Made by `strip` from crates/lexical_lines/src/joined_text.rt. Edit that file, not this one.
 
 //! Writes several numbers with a separator between adjacent ones.
 

@@ -1,4 +1,4 @@
-// Made from crates/lexical_lines/src/request.rt by `cargo run -p strip`. Change that file, not this one.
+// Made by `strip` from crates/lexical_lines/src/request.rt. Edit that file, not this one.
 
 // Parses a line into a request.
 

@@ -1,4 +1,4 @@
-// Made from crates/lexical_num/src/constants.rt by `cargo run -p strip`. Change that file, not this one.
+// Made by `strip` from crates/lexical_num/src/constants.rt. Edit that file, not this one.
 
 //! Buffer lengths that are enough for the text of a number.
 

@@ -1,4 +1,4 @@
-// Made from crates/lexical_num/src/error.rt by `cargo run -p strip`. Change that file, not this one.
+// Made by `strip` from crates/lexical_num/src/error.rt. Edit that file, not this one.
 
 //! The errors of the format builder.
 

@@ -1,4 +1,4 @@
-// Made from crates/lexical_num/src/format.rt by `cargo run -p strip`. Change that file, not this one.
+// Made by `strip` from crates/lexical_num/src/format.rt. Edit that file, not this one.
 
 //! Formats: how a number is written.
 

@@ -1,4 +1,4 @@
-// Made from crates/lexical_num/src/limits.rt by `cargo run -p strip`. Change that file, not this one.
+// Made by `strip` from crates/lexical_num/src/limits.rt. Edit that file, not this one.
 
 //! The limits of a format: which numbers are a radix, a group size or a mark. `NumberFormatBuilder::build`
 //! asks here, and so can a program that reads such a number.

@@ -1,4 +1,4 @@
-// Made from crates/lexical_num/src/num.rt by `cargo run -p strip`. Change that file, not this one.
+// Made by `strip` from crates/lexical_num/src/num.rt. Edit that file, not this one.
 
 //! The traits of the integer types, for generic code.
 

@@ -1,4 +1,4 @@
-// Made from crates/lexical_num/src/options.rt by `cargo run -p strip`. Change that file, not this one.
+// Made by `strip` from crates/lexical_num/src/options.rt. Edit that file, not this one.
 
 //! The options of writing an integer, which have no fields yet.
 

@@ -1,4 +1,4 @@
-// Made from crates/lexical_parts/src/column.rt by `cargo run -p strip`. Change that file, not this one.
+// Made by `strip` from crates/lexical_parts/src/column.rt. Edit that file, not this one.
 
 //! Parts that are padded to the width of a column.
 

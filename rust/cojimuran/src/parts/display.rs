@@ -1,4 +1,4 @@
-// Made from crates/lexical_parts/src/display.rt by `cargo run -p strip`. Change that file, not this one.
+// Made by `strip` from crates/lexical_parts/src/display.rt. Edit that file, not this one.
 
 //! Parts in a format string: `{}` of a part writes its text, with the sign, the width and the fill of the format.
 

@@ -1,4 +1,4 @@
-// Made from crates/lexical_parts/src/fill.rt by `cargo run -p strip`. Change that file, not this one.
+// Made by `strip` from crates/lexical_parts/src/fill.rt. Edit that file, not this one.
 
 //! Runs of one byte, before a text and after it.
 

@@ -1,4 +1,4 @@
-// Made from crates/lexical_parts/src/integers.rt by `cargo run -p strip`. Change that file, not this one.
+// Made by `strip` from crates/lexical_parts/src/integers.rt. Edit that file, not this one.
 
 //! The integer types, which are parts: the text of a number is the number in decimal.
 

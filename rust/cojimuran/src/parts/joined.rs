@@ -1,4 +1,4 @@
-// Made from crates/lexical_parts/src/joined.rt by `cargo run -p strip`. Change that file, not this one.
+// Made by `strip` from crates/lexical_parts/src/joined.rt. Edit that file, not this one.
 
 //! The parts of a slice, with a separator between adjacent parts.
 

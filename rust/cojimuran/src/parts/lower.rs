@@ -1,4 +1,4 @@
-// Made from crates/lexical_parts/src/lower.rt by `cargo run -p strip`. Change that file, not this one.
+// Made by `strip` from crates/lexical_parts/src/lower.rt. Edit that file, not this one.
 
 //! Parts in lowercase.
 

@@ -1,4 +1,4 @@
-// Made from crates/lexical_parts/src/option.rt by `cargo run -p strip`. Change that file, not this one.
+// Made by `strip` from crates/lexical_parts/src/option.rt. Edit that file, not this one.
 
 //! Parts that may be absent: the text of `Some(part)` is that of the part, and `None` has no bytes.
 

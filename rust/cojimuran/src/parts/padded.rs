@@ -1,4 +1,4 @@
-// Made from crates/lexical_parts/src/padded.rt by `cargo run -p strip`. Change that file, not this one.
+// Made by `strip` from crates/lexical_parts/src/padded.rt. Edit that file, not this one.
 
 //! Numbers with leading zeros, up to a fixed width.
 

@@ -1,4 +1,4 @@
-// Made from crates/lexical_parts/src/part.rt by `cargo run -p strip`. Change that file, not this one.
+// Made by `strip` from crates/lexical_parts/src/part.rt. Edit that file, not this one.
 
 //! The trait that each part of a text implements.
 

@@ -1,4 +1,4 @@
-// Made from crates/lexical_parts/src/plus.rt by `cargo run -p strip`. Change that file, not this one.
+// Made by `strip` from crates/lexical_parts/src/plus.rt. Edit that file, not this one.
 
 //! Numbers with a sign in each case.
 

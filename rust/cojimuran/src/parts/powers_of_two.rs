@@ -1,4 +1,4 @@
-// Made from crates/lexical_parts/src/powers_of_two.rt by `cargo run -p strip`. Change that file, not this one.
+// Made by `strip` from crates/lexical_parts/src/powers_of_two.rt. Edit that file, not this one.
 
 //! Unsigned numbers in radix 16 and in radix 2, in the room of their type, and bytes in radix 16.
 

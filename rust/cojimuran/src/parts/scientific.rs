@@ -1,4 +1,4 @@
-// Made from crates/lexical_parts/src/scientific.rt by `cargo run -p strip`. Change that file, not this one.
+// Made by `strip` from crates/lexical_parts/src/scientific.rt. Edit that file, not this one.
 
 //! Numbers in scientific notation.
 

@@ -1,4 +1,4 @@
-// Made from crates/lexical_parts/src/sign.rt by `cargo run -p strip`. Change that file, not this one.
+// Made by `strip` from crates/lexical_parts/src/sign.rt. Edit that file, not this one.
 
 //! The sign of a number, as a part of its own.
 

@@ -1,4 +1,4 @@
-// Made from crates/lexical_parts/src/text.rt by `cargo run -p strip`. Change that file, not this one.
+// Made by `strip` from crates/lexical_parts/src/text.rt. Edit that file, not this one.
 
 //! Parts that are strings or bytes, whose text is the same bytes.
 

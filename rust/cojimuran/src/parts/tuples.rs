@@ -1,4 +1,4 @@
-// Made from crates/lexical_parts/src/tuples.rt by `cargo run -p strip`. Change that file, not this one.
+// Made by `strip` from crates/lexical_parts/src/tuples.rt. Edit that file, not this one.
 
 //! Tuples of two to twelve parts, whose text is the texts of their members in order.
 

@@ -1,4 +1,4 @@
-// Made from crates/lexical_parts/src/zero_padded.rt by `cargo run -p strip`. Change that file, not this one.
+// Made by `strip` from crates/lexical_parts/src/zero_padded.rt. Edit that file, not this one.
 
 //! Numbers with leading zeros, up to at least a width.
 

@@ -1,4 +1,4 @@
-// Made from crates/lexical_streams/src/stream_answers.rt by `cargo run -p strip`. Change that file, not this one.
+// Made by `strip` from crates/lexical_streams/src/stream_answers.rt. Edit that file, not this one.
 
 //! Answers the lines of a source, and writes the answers to a sink.
 

@@ -1,4 +1,4 @@
-// Made from crates/lexical_tables/src/table_binary.rt by `cargo run -p strip`. Change that file, not this one.
+// Made by `strip` from crates/lexical_tables/src/table_binary.rt. Edit that file, not this one.
 
 //! The tables of the radices that are powers of two. The pairs of a row have the same first digit.
 

@@ -1,4 +1,4 @@
-// Made from crates/lexical_tables/src/table_decimal.rt by `cargo run -p strip`. Change that file, not this one.
+// Made by `strip` from crates/lexical_tables/src/table_decimal.rt. Edit that file, not this one.
 
 //! The table of radix 10. The pairs of a row have the same first digit.
 

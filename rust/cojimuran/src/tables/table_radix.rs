@@ -1,4 +1,4 @@
-// Made from crates/lexical_tables/src/table_radix.rt by `cargo run -p strip`. Change that file, not this one.
+// Made by `strip` from crates/lexical_tables/src/table_radix.rt. Edit that file, not this one.
 
 //! The tables of the radices that are neither 10 nor a power of two. The pairs of a row have the same
 //! first digit.

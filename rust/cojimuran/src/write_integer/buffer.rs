@@ -1,4 +1,4 @@
-// Made from crates/lexical_write_integer/src/buffer.rt by `cargo run -p strip`. Change that file, not this one.
+// Made by `strip` from crates/lexical_write_integer/src/buffer.rt. Edit that file, not this one.
 
 //! The first bytes of a buffer.
 

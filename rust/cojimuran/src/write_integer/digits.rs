@@ -1,4 +1,4 @@
-// Made from crates/lexical_write_integer/src/digits.rt by `cargo run -p strip`. Change that file, not this one.
+// Made by `strip` from crates/lexical_write_integer/src/digits.rt. Edit that file, not this one.
 
 //! The digits of a number in any radix, without a sign: how many there are, and the writers.
 

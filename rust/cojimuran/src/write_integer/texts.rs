@@ -1,4 +1,4 @@
-// Made from crates/lexical_write_integer/src/texts.rt by `cargo run -p strip`. Change that file, not this one.
+// Made by `strip` from crates/lexical_write_integer/src/texts.rt. Edit that file, not this one.
 
 //! The texts of numbers: a sign, and then the digits in the groups of the format.
 

@@ -1,4 +1,4 @@
-// Made from crates/uses/src/amount.rt by `cargo run -p strip`. Change that file, not this one.
+// Made by `strip` from crates/uses/src/amount.rt. Edit that file, not this one.
 
 //! Writes amounts of money, with commas between groups of three digits and a point before the cents.
 

@@ -1,4 +1,4 @@
-// Made from crates/uses/src/answers.rt by `cargo run -p strip`. Change that file, not this one.
+// Made by `strip` from crates/uses/src/answers.rt. Edit that file, not this one.
 
 //! Collects the answers to lines in a vector.
 

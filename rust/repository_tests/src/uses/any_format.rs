@@ -1,4 +1,4 @@
-// Made from crates/uses/src/any_format.rt by `cargo run -p strip`. Change that file, not this one.
+// Made by `strip` from crates/uses/src/any_format.rt. Edit that file, not this one.
 
 //! Writes numbers of any type in any format, and numbers of one type in a format of their own.
 

@@ -1,4 +1,4 @@
-// Made from crates/uses/src/arena.rt by `cargo run -p strip`. Change that file, not this one.
+// Made by `strip` from crates/uses/src/arena.rt. Edit that file, not this one.
 
 //! Keeps several texts in one buffer, as slices of it.
 

@@ -1,4 +1,4 @@
-// Made from crates/uses/src/date_time.rt by `cargo run -p strip`. Change that file, not this one.
+// Made by `strip` from crates/uses/src/date_time.rt. Edit that file, not this one.
 
 //! A date with a time of day, as an example of a part of a text that a caller defines, and a timestamp
 //! that contains it.

@@ -1,4 +1,4 @@
-// Made from crates/uses/src/digest.rt by `cargo run -p strip`. Change that file, not this one.
+// Made by `strip` from crates/uses/src/digest.rt. Edit that file, not this one.
 
 //! Writes a digest, such as that of SHA-256.
 

@@ -1,4 +1,4 @@
-// Made from crates/uses/src/digit_pair.rt by `cargo run -p strip`. Change that file, not this one.
+// Made by `strip` from crates/uses/src/digit_pair.rt. Edit that file, not this one.
 
 //! Returns the two hexadecimal digits of a byte.
 

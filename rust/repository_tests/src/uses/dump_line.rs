@@ -1,4 +1,4 @@
-// Made from crates/uses/src/dump_line.rt by `cargo run -p strip`. Change that file, not this one.
+// Made by `strip` from crates/uses/src/dump_line.rt. Edit that file, not this one.
 
 //! Writes a line of a memory dump: an address, and the bytes at that address.
 

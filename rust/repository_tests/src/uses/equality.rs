@@ -1,4 +1,4 @@
-// Made from crates/uses/src/equality.rt by `cargo run -p strip`. Change that file, not this one.
+// Made by `strip` from crates/uses/src/equality.rt. Edit that file, not this one.
 
 //! Compares formats and builders: they are equal if and only if all their parts are.
 

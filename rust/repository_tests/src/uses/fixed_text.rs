@@ -1,4 +1,4 @@
-// Made from crates/uses/src/fixed_text.rt by `cargo run -p strip`. Change that file, not this one.
+// Made by `strip` from crates/uses/src/fixed_text.rt. Edit that file, not this one.
 
 use cojimuran::parts::{Padded, Part};
 use cojimuran::write_integer::{NumberFormatBuilder, Options, ToLexicalWithOptions};

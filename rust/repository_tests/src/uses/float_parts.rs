@@ -1,4 +1,4 @@
-// Made from crates/uses/src/float_parts.rt by `cargo run -p strip`. Change that file, not this one.
+// Made by `strip` from crates/uses/src/float_parts.rt. Edit that file, not this one.
 
 //! Writes floats: in decimal from their digits, and in two radices, whose format it builds.
 

@@ -1,4 +1,4 @@
-// Made from crates/uses/src/hexadecimal.rt by `cargo run -p strip`. Change that file, not this one.
+// Made by `strip` from crates/uses/src/hexadecimal.rt. Edit that file, not this one.
 
 //! Returns a number in hexadecimal after `0x`.
 

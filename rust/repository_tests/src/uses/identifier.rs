@@ -1,4 +1,4 @@
-// Made from crates/uses/src/identifier.rt by `cargo run -p strip`. Change that file, not this one.
+// Made by `strip` from crates/uses/src/identifier.rt. Edit that file, not this one.
 
 use cojimuran::parts::{Digits, PaddedDigits, Part};
 use cojimuran::write_integer::radix::Radix;

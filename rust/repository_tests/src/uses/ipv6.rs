@@ -1,4 +1,4 @@
-// Made from crates/uses/src/ipv6.rt by `cargo run -p strip`. Change that file, not this one.
+// Made by `strip` from crates/uses/src/ipv6.rt. Edit that file, not this one.
 
 //! Writes an IPv6 address.
 

@@ -1,4 +1,4 @@
-// Made from crates/uses/src/key_value.rt by `cargo run -p strip`. Change that file, not this one.
+// Made by `strip` from crates/uses/src/key_value.rt. Edit that file, not this one.
 
 //! Writes a setting: a key, `=` and a number of any type, if there is one.
 

@@ -1,4 +1,4 @@
-// Made from crates/uses/src/log_lines.rt by `cargo run -p strip`. Change that file, not this one.
+// Made by `strip` from crates/uses/src/log_lines.rt. Edit that file, not this one.
 
 //! Adds the text of a line to a `Vec`, to a `String` and to what a writer holds.
 

@@ -1,4 +1,4 @@
-// Made from crates/uses/src/printed.rt by `cargo run -p strip`. Change that file, not this one.
+// Made by `strip` from crates/uses/src/printed.rt. Edit that file, not this one.
 
 //! Returns the text of a number as a `&str`, and as a `String` that a format string makes.
 

@@ -1,4 +1,4 @@
-// Made from crates/uses/src/reading.rt by `cargo run -p strip`. Change that file, not this one.
+// Made by `strip` from crates/uses/src/reading.rt. Edit that file, not this one.
 
 //! Writes a measurement: a date and time, a weight, and flags.
 

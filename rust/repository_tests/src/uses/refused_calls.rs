@@ -1,4 +1,4 @@
-// Made from crates/uses/src/refused_calls.rt by `cargo run -p strip`. Change that file, not this one.
+// Made by `strip` from crates/uses/src/refused_calls.rt. Edit that file, not this one.
 
 //! Calls whose conditions only just hold. With one byte less, with the next number or with another radix, the check
 //! refuses each of these calls, as `mistakes/refused_calls.edit` shows. The functions promise nothing about their results,

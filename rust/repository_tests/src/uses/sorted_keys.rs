@@ -1,4 +1,4 @@
-// Made from crates/uses/src/sorted_keys.rt by `cargo run -p strip`. Change that file, not this one.
+// Made by `strip` from crates/uses/src/sorted_keys.rt. Edit that file, not this one.
 
 //! Compares numbers by their texts, as a store with sorted keys does.
 

@@ -1,4 +1,4 @@
-// Made from crates/uses/src/table_row.rt by `cargo run -p strip`. Change that file, not this one.
+// Made by `strip` from crates/uses/src/table_row.rt. Edit that file, not this one.
 
 //! Writes rows of a table with columns of a fixed width.
 

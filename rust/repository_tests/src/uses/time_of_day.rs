@@ -1,4 +1,4 @@
-// Made from crates/uses/src/time_of_day.rt by `cargo run -p strip`. Change that file, not this one.
+// Made by `strip` from crates/uses/src/time_of_day.rt. Edit that file, not this one.
 
 //! Writes a time of day by calls that each write after the one before.
 

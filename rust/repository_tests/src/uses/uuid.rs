@@ -1,4 +1,4 @@
-// Made from crates/uses/src/uuid.rt by `cargo run -p strip`. Change that file, not this one.
+// Made by `strip` from crates/uses/src/uuid.rt. Edit that file, not this one.
 
 //! Returns a UUID in lowercase as a `&str`.
 

@@ -1,4 +1,4 @@
-// Made from crates/library_tests/src/checks.rt by `cargo run -p strip`. Change that file, not this one.
+// Made by `strip` from crates/library_tests/src/checks.rt. Edit that file, not this one.
 
 //! The assertions of all tests. Each failure shows the row of the test, which has its inputs.
 

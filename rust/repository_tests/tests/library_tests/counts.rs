@@ -1,4 +1,4 @@
-// Made from crates/library_tests/src/counts.rt by `cargo run -p strip`. Change that file, not this one.
+// Made by `strip` from crates/library_tests/src/counts.rt. Edit that file, not this one.
 
 //! Tests of the logarithms, and of the digit counts with a table of powers.
 

@@ -1,4 +1,4 @@
-// Made from crates/library_tests/src/decimal_values.rt by `cargo run -p strip`. Change that file, not this one.
+// Made by `strip` from crates/library_tests/src/decimal_values.rt. Edit that file, not this one.
 
 // Tests of the decimal writer of each type with a buffer of the decimal width, which is the required length.
 

@@ -1,4 +1,4 @@
-// Made from crates/library_tests/src/exact_buffers.rt by `cargo run -p strip`. Change that file, not this one.
+// Made by `strip` from crates/library_tests/src/exact_buffers.rt. Edit that file, not this one.
 
 //! Tests of every writer with buffers of exactly the required length. The numbers are 0, 1, the smallest and
 //! the largest number of the type, and the powers of each radix with the numbers next to them.

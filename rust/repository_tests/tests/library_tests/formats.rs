@@ -1,4 +1,4 @@
-// Made from crates/library_tests/src/formats.rt by `cargo run -p strip`. Change that file, not this one.
+// Made by `strip` from crates/library_tests/src/formats.rt. Edit that file, not this one.
 
 // Tests of the formats and their builder.
 

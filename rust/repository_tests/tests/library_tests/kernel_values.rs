@@ -1,4 +1,4 @@
-// Made from crates/library_tests/src/kernel_values.rt by `cargo run -p strip`. Change that file, not this one.
+// Made by `strip` from crates/library_tests/src/kernel_values.rt. Edit that file, not this one.
 
 // Tests of the decimal kernels with known numbers: the fraction that each returns, and the pairs of digits
 // that `next2` takes from it.

@@ -1,4 +1,4 @@
-// Made from crates/library_tests/src/known_texts.rt by `cargo run -p strip`. Change that file, not this one.
+// Made by `strip` from crates/library_tests/src/known_texts.rt. Edit that file, not this one.
 
 // Tests of single calls with known numbers and buffers of known lengths.
 

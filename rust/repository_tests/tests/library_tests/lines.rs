@@ -1,4 +1,4 @@
-// Made from crates/library_tests/src/lines.rt by `cargo run -p strip`. Change that file, not this one.
+// Made by `strip` from crates/library_tests/src/lines.rt. Edit that file, not this one.
 
 //! Reads the lines of the tables. The fields of a line are separated by a space, and the last is a text.
 

@@ -1,4 +1,4 @@
-// Made from crates/library_tests/src/numbers.rt by `cargo run -p strip`. Change that file, not this one.
+// Made by `strip` from crates/library_tests/src/numbers.rt. Edit that file, not this one.
 
 //! The numbers of the tests in radix 10.
 

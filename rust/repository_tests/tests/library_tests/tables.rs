@@ -1,4 +1,4 @@
-// Made from crates/library_tests/src/tables.rt by `cargo run -p strip`. Change that file, not this one.
+// Made by `strip` from crates/library_tests/src/tables.rt. Edit that file, not this one.
 
 //! Tests of the writers of digits and of the digit counts, in each radix.
 

@@ -1,4 +1,4 @@
-// Made from crates/library_tests/src/writes.rt by `cargo run -p strip`. Change that file, not this one.
+// Made by `strip` from crates/library_tests/src/writes.rt. Edit that file, not this one.
 
 // Tests of the methods of `WriteInteger`, other than `write_integer`, with buffers of exactly the required length.
 

@@ -1,4 +1,4 @@
-// Made from crates/uses_tests/src/lib.rt by `cargo run -p strip`. Change that file, not this one.
+// Made by `strip` from crates/uses_tests/src/lib.rt. Edit that file, not this one.
 
 #![allow(unused, clippy::all, reason = "these are tests of Rattle")]
 

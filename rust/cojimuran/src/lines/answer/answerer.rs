@@ -1,4 +1,4 @@
-// Made from crates/lexical_lines/src/answer/answerer.rt by `cargo run -p strip`. Change that file, not this one.
+// Made by `strip` from crates/lexical_lines/src/answer/answerer.rt. Edit that file, not this one.
 
 //! Answers lines whose bytes arrive in chunks.
 

@@ -1,4 +1,4 @@
-// Made from crates/lexical_lines/src/answer/exit_status.rt by `cargo run -p strip`. Change that file, not this one.
+// Made by `strip` from crates/lexical_lines/src/answer/exit_status.rt. Edit that file, not this one.
 
 // The exit status of the program.
 

@@ -1,4 +1,4 @@
-// Made from crates/lexical_lines/src/answer/line_loop.rt by `cargo run -p strip`. Change that file, not this one.
+// Made by `strip` from crates/lexical_lines/src/answer/line_loop.rt. Edit that file, not this one.
 
 // The loop that reads bytes and answers lines.
 

@@ -1,4 +1,4 @@
-// Made from crates/lexical_lines/src/devices/block_writer.rt by `cargo run -p strip`. Change that file, not this one.
+// Made by `strip` from crates/lexical_lines/src/devices/block_writer.rt. Edit that file, not this one.
 
 // A writer that collects bytes in a block.
 

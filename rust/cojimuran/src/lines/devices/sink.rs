@@ -1,4 +1,4 @@
-// Made from crates/lexical_lines/src/devices/sink.rt by `cargo run -p strip`. Change that file, not this one.
+// Made by `strip` from crates/lexical_lines/src/devices/sink.rt. Edit that file, not this one.
 
 //! Traits for devices that bytes are written to.
 

@@ -1,4 +1,4 @@
-// Made from crates/lexical_lines/src/devices/slice.rt by `cargo run -p strip`. Change that file, not this one.
+// Made by `strip` from crates/lexical_lines/src/devices/slice.rt. Edit that file, not this one.
 
 //! A source that reads a slice, and a sink that fills a buffer.
 

@@ -1,4 +1,4 @@
-// Made from crates/lexical_lines/src/devices/stream.rt by `cargo run -p strip`. Change that file, not this one.
+// Made by `strip` from crates/lexical_lines/src/devices/stream.rt. Edit that file, not this one.
 
 //! A source that reads from a reader, and a sink that writes to a writer.
 

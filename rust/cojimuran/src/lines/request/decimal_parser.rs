@@ -1,4 +1,4 @@
-// Made from crates/lexical_lines/src/request/decimal_parser.rt by `cargo run -p strip`. Change that file, not this one.
+// Made by `strip` from crates/lexical_lines/src/request/decimal_parser.rt. Edit that file, not this one.
 
 // Parses decimal numbers.
 

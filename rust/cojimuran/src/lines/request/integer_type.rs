@@ -1,4 +1,4 @@
-// Made from crates/lexical_lines/src/request/integer_type.rt by `cargo run -p strip`. Change that file, not this one.
+// Made by `strip` from crates/lexical_lines/src/request/integer_type.rt. Edit that file, not this one.
 
 // The ten integer types: their names and their ranges.
 

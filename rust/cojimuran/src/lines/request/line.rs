@@ -1,4 +1,4 @@
-// Made from crates/lexical_lines/src/request/line.rt by `cargo run -p strip`. Change that file, not this one.
+// Made by `strip` from crates/lexical_lines/src/request/line.rt. Edit that file, not this one.
 
 // A buffer for the line that is being read.
 

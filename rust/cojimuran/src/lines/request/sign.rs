@@ -1,4 +1,4 @@
-// Made from crates/lexical_lines/src/request/sign.rt by `cargo run -p strip`. Change that file, not this one.
+// Made by `strip` from crates/lexical_lines/src/request/sign.rt. Edit that file, not this one.
 
 // Removes an optional sign.
 

@@ -1,4 +1,4 @@
-// Made from crates/lexical_write_integer/src/digits/count.rt by `cargo run -p strip`. Change that file, not this one.
+// Made by `strip` from crates/lexical_write_integer/src/digits/count.rt. Edit that file, not this one.
 
 //! Counting the digits of a number in any radix.
 

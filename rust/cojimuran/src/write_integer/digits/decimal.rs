@@ -1,4 +1,4 @@
-// Made from crates/lexical_write_integer/src/digits/decimal.rt by `cargo run -p strip`. Change that file, not this one.
+// Made by `strip` from crates/lexical_write_integer/src/digits/decimal.rt. Edit that file, not this one.
 
 //! Writing decimal digits, two at a time.
 

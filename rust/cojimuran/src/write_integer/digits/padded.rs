@@ -1,4 +1,4 @@
-// Made from crates/lexical_write_integer/src/digits/padded.rt by `cargo run -p strip`. Change that file, not this one.
+// Made by `strip` from crates/lexical_write_integer/src/digits/padded.rt. Edit that file, not this one.
 
 //! Numbers with leading zeros, as in dates and times.
 

@@ -1,4 +1,4 @@
-// Made from crates/lexical_write_integer/src/digits/pairs.rt by `cargo run -p strip`. Change that file, not this one.
+// Made by `strip` from crates/lexical_write_integer/src/digits/pairs.rt. Edit that file, not this one.
 
 // Tables of the pairs of digits of a radix: `00`, `01` and so on.
 

@@ -1,4 +1,4 @@
-// Made from crates/lexical_write_integer/src/digits/radix.rt by `cargo run -p strip`. Change that file, not this one.
+// Made by `strip` from crates/lexical_write_integer/src/digits/radix.rt. Edit that file, not this one.
 
 //! Writing the digits of a number in any radix, from the tables of digit pairs.
 

@@ -1,4 +1,4 @@
-// Made from crates/lexical_write_integer/src/digits/write.rt by `cargo run -p strip`. Change that file, not this one.
+// Made by `strip` from crates/lexical_write_integer/src/digits/write.rt. Edit that file, not this one.
 
 //! Writing the digits of a number in any radix: with the decimal writer in radix 10, and otherwise with
 //! the table writer.

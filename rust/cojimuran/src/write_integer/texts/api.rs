@@ -1,4 +1,4 @@
-// Made from crates/lexical_write_integer/src/texts/api.rt by `cargo run -p strip`. Change that file, not this one.
+// Made by `strip` from crates/lexical_write_integer/src/texts/api.rt. Edit that file, not this one.
 
 //! The traits that write a number of any integer type.
 

@@ -1,4 +1,4 @@
-// Made from crates/lexical_write_integer/src/texts/groups.rt by `cargo run -p strip`. Change that file, not this one.
+// Made by `strip` from crates/lexical_write_integer/src/texts/groups.rt. Edit that file, not this one.
 
 //! Putting digits into groups.
 

@@ -1,4 +1,4 @@
-// Made from crates/lexical_write_integer/src/texts/integers.rt by `cargo run -p strip`. Change that file, not this one.
+// Made by `strip` from crates/lexical_write_integer/src/texts/integers.rt. Edit that file, not this one.
 
 //! The implementations of the writing traits for the ten integer types.
 

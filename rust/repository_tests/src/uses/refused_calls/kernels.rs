@@ -1,4 +1,4 @@
-// Made from crates/uses/src/refused_calls/kernels.rt by `cargo run -p strip`. Change that file, not this one.
+// Made by `strip` from crates/uses/src/refused_calls/kernels.rt. Edit that file, not this one.
 
 //! Calls of the decimal kernels, each with a number at an end of its range.
 

@@ -1,4 +1,4 @@
-// Made from crates/uses/src/refused_calls/tables.rt by `cargo run -p strip`. Change that file, not this one.
+// Made by `strip` from crates/uses/src/refused_calls/tables.rt. Edit that file, not this one.
 
 //! Calls that use a table of digit pairs.
 

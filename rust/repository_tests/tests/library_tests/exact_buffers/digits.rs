@@ -1,4 +1,4 @@
-// Made from crates/library_tests/src/exact_buffers/digits.rt by `cargo run -p strip`. Change that file, not this one.
+// Made by `strip` from crates/library_tests/src/exact_buffers/digits.rt. Edit that file, not this one.
 
 //! Checks each writer of digits, and each digit count, with unsigned numbers.
 

@@ -1,4 +1,4 @@
-// Made from crates/library_tests/src/exact_buffers/expected.rt by `cargo run -p strip`. Change that file, not this one.
+// Made by `strip` from crates/library_tests/src/exact_buffers/expected.rt. Edit that file, not this one.
 
 //! Computes the expected texts by repeated division.
 

@@ -1,4 +1,4 @@
-// Made from crates/library_tests/src/exact_buffers/near_powers.rt by `cargo run -p strip`. Change that file, not this one.
+// Made by `strip` from crates/library_tests/src/exact_buffers/near_powers.rt. Edit that file, not this one.
 
 //! Tries the numbers near the powers of each radix, for each type and format.
 

@@ -1,4 +1,4 @@
-// Made from crates/library_tests/src/exact_buffers/numbers.rt by `cargo run -p strip`. Change that file, not this one.
+// Made by `strip` from crates/library_tests/src/exact_buffers/numbers.rt. Edit that file, not this one.
 
 //! Makes the numbers of each integer type from a sign and a magnitude.
 

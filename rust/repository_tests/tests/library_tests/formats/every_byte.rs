@@ -1,4 +1,4 @@
-// Made from crates/library_tests/src/formats/every_byte.rt by `cargo run -p strip`. Change that file, not this one.
+// Made by `strip` from crates/library_tests/src/formats/every_byte.rt. Edit that file, not this one.
 
 // Tests every pair of bytes as the two radices, and as the group size and the separator.
 

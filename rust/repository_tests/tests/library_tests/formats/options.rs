@@ -1,4 +1,4 @@
-// Made from crates/library_tests/src/formats/options.rt by `cargo run -p strip`. Change that file, not this one.
+// Made by `strip` from crates/library_tests/src/formats/options.rt. Edit that file, not this one.
 
 // Tests of the options and of their builder, which have nothing to set yet.
 

@@ -1,4 +1,4 @@
-// Made from crates/library_tests/src/formats/types.rt by `cargo run -p strip`. Change that file, not this one.
+// Made by `strip` from crates/library_tests/src/formats/types.rt. Edit that file, not this one.
 
 // Tests of the integer types, which each test uses only through the bound of a type parameter.
 

@@ -1,4 +1,4 @@
-// Made from crates/library_tests/src/line_answers/answers.rt by `cargo run -p strip`. Change that file, not this one.
+// Made by `strip` from crates/library_tests/src/line_answers/answers.rt. Edit that file, not this one.
 
 // The answers to known lines.
 

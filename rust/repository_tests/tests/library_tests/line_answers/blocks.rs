@@ -1,4 +1,4 @@
-// Made from crates/library_tests/src/line_answers/blocks.rt by `cargo run -p strip`. Change that file, not this one.
+// Made by `strip` from crates/library_tests/src/line_answers/blocks.rt. Edit that file, not this one.
 
 mod answers;
 mod std_devices;

@@ -1,4 +1,4 @@
-// Made from crates/library_tests/src/line_answers/devices.rt by `cargo run -p strip`. Change that file, not this one.
+// Made by `strip` from crates/library_tests/src/line_answers/devices.rt. Edit that file, not this one.
 
 // A reader and a writer that yield and take little in each call, and fail.
 

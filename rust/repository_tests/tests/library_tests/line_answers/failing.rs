@@ -1,4 +1,4 @@
-// Made from crates/library_tests/src/line_answers/failing.rt by `cargo run -p strip`. Change that file, not this one.
+// Made by `strip` from crates/library_tests/src/line_answers/failing.rt. Edit that file, not this one.
 
 // A source and a sink that fail, with their own implementations of the traits of `lines`.
 

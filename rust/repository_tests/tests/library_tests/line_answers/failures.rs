@@ -1,4 +1,4 @@
-// Made from crates/library_tests/src/line_answers/failures.rt by `cargo run -p strip`. Change that file, not this one.
+// Made by `strip` from crates/library_tests/src/line_answers/failures.rt. Edit that file, not this one.
 
 // Runs over devices that fail after each number of bytes: a run ends at the first failure, and no byte
 // is lost or written twice.

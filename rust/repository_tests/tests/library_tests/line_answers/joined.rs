@@ -1,4 +1,4 @@
-// Made from crates/library_tests/src/line_answers/joined.rt by `cargo run -p strip`. Change that file, not this one.
+// Made by `strip` from crates/library_tests/src/line_answers/joined.rt. Edit that file, not this one.
 
 // Several numbers with a separator between them.
 

@@ -1,4 +1,4 @@
-// Made from crates/library_tests/src/line_answers/laws.rt by `cargo run -p strip`. Change that file, not this one.
+// Made by `strip` from crates/library_tests/src/line_answers/laws.rt. Edit that file, not this one.
 
 // Every input has answers, since a run computes them.
 

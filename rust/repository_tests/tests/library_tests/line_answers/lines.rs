@@ -1,4 +1,4 @@
-// Made from crates/library_tests/src/line_answers/lines.rt by `cargo run -p strip`. Change that file, not this one.
+// Made by `strip` from crates/library_tests/src/line_answers/lines.rt. Edit that file, not this one.
 
 // Hostile lines: single bytes, a valid line with one byte changed, and one with an additional byte.
 

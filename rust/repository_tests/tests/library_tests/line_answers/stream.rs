@@ -1,4 +1,4 @@
-// Made from crates/library_tests/src/line_answers/stream.rt by `cargo run -p strip`. Change that file, not this one.
+// Made by `strip` from crates/library_tests/src/line_answers/stream.rt. Edit that file, not this one.
 
 // A `Reading` and a `Writing` call their reader and their writer once for each call, also after an error.
 

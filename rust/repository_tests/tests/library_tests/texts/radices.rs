@@ -1,4 +1,4 @@
-// Made from crates/library_tests/src/texts/radices.rt by `cargo run -p strip`. Change that file, not this one.
+// Made by `strip` from crates/library_tests/src/texts/radices.rt. Edit that file, not this one.
 
 // Tests of texts in several radices, without groups and required signs.
 // In the lines, the columns are the radix, the number, its required length, the size of its type and its text.

@@ -1,4 +1,4 @@
-// Made from crates/library_tests/src/texts/signs.rt by `cargo run -p strip`. Change that file, not this one.
+// Made by `strip` from crates/library_tests/src/texts/signs.rt. Edit that file, not this one.
 
 // Tests of texts with a required sign.
 // In the lines, the columns are the radix, the number, its required length, the size of its type and its text.

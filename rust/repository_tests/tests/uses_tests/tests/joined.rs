@@ -1,4 +1,4 @@
-// Made from crates/uses_tests/src/tests/joined.rt by `cargo run -p strip`. Change that file, not this one.
+// Made by `strip` from crates/uses_tests/src/tests/joined.rt. Edit that file, not this one.
 
 // Tests of parts that are joined, and of callers that join parts.
 

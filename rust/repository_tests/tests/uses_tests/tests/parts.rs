@@ -1,4 +1,4 @@
-// Made from crates/uses_tests/src/tests/parts.rt by `cargo run -p strip`. Change that file, not this one.
+// Made by `strip` from crates/uses_tests/src/tests/parts.rt. Edit that file, not this one.
 
 // Tests of single parts, and of callers that show one part each.
 

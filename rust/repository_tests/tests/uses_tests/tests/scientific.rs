@@ -1,4 +1,4 @@
-// Made from crates/uses_tests/src/tests/scientific.rt by `cargo run -p strip`. Change that file, not this one.
+// Made by `strip` from crates/uses_tests/src/tests/scientific.rt. Edit that file, not this one.
 
 // Numbers in scientific notation, compared with what Rust writes.
 

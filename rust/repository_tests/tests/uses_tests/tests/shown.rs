@@ -1,4 +1,4 @@
-// Made from crates/uses_tests/src/tests/shown.rt by `cargo run -p strip`. Change that file, not this one.
+// Made by `strip` from crates/uses_tests/src/tests/shown.rt. Edit that file, not this one.
 
 // Parts in format strings, and texts in a `Vec` and a `String`.
 

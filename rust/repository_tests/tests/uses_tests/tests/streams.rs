@@ -1,4 +1,4 @@
-// Made from crates/uses_tests/src/tests/streams.rt by `cargo run -p strip`. Change that file, not this one.
+// Made by `strip` from crates/uses_tests/src/tests/streams.rt. Edit that file, not this one.
 
 // The answers to the lines of a slice, in a vector.
 

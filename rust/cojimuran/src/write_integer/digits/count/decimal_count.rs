@@ -1,4 +1,4 @@
-// Made from crates/lexical_write_integer/src/digits/count/decimal_count.rt by `cargo run -p strip`. Change that file, not this one.
+// Made by `strip` from crates/lexical_write_integer/src/digits/count/decimal_count.rt. Edit that file, not this one.
 
 //! Counting decimal digits without a loop.
 

@@ -1,4 +1,4 @@
-// Made from crates/lexical_write_integer/src/digits/count/logarithm.rt by `cargo run -p strip`. Change that file, not this one.
+// Made by `strip` from crates/lexical_write_integer/src/digits/count/logarithm.rt. Edit that file, not this one.
 
 //! Logarithms, rounded down, from which digits are counted.
 

@@ -1,4 +1,4 @@
-// Made from crates/lexical_write_integer/src/digits/decimal/decimal_pairs.rt by `cargo run -p strip`. Change that file, not this one.
+// Made by `strip` from crates/lexical_write_integer/src/digits/decimal/decimal_pairs.rt. Edit that file, not this one.
 
 // Writing pairs of decimal digits from the table of radix 10.
 

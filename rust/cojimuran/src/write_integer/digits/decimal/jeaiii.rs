@@ -1,4 +1,4 @@
-// Made from crates/lexical_write_integer/src/digits/decimal/jeaiii.rt by `cargo run -p strip`. Change that file, not this one.
+// Made by `strip` from crates/lexical_write_integer/src/digits/decimal/jeaiii.rt. Edit that file, not this one.
 
 //! The decimal writers. A number of 3 to 10 digits is multiplied by the reciprocal of a power of 100,
 //! which makes it a fixed-point fraction. Each multiplication of the fraction by 100 then yields two

@@ -1,4 +1,4 @@
-// Made from crates/lexical_write_integer/src/digits/decimal/kernels.rt by `cargo run -p strip`. Change that file, not this one.
+// Made by `strip` from crates/lexical_write_integer/src/digits/decimal/kernels.rt. Edit that file, not this one.
 
 // Decimal digits without division. A kernel converts a number to a fixed-point fraction with 32 bits
 // after the point. The whole part of the fraction is the first pair of the number's digits. When the

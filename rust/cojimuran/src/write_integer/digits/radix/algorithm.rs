@@ -1,4 +1,4 @@
-// Made from crates/lexical_write_integer/src/digits/radix/algorithm.rt by `cargo run -p strip`. Change that file, not this one.
+// Made by `strip` from crates/lexical_write_integer/src/digits/radix/algorithm.rt. Edit that file, not this one.
 
 //! The table writer, which writes four digits per iteration from a table of the digit pairs of the radix, or in
 //! radix 2 eight, which it computes.

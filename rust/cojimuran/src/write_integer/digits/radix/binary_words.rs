@@ -1,4 +1,4 @@
-// Made from crates/lexical_write_integer/src/digits/radix/binary_words.rt by `cargo run -p strip`. Change that file, not this one.
+// Made by `strip` from crates/lexical_write_integer/src/digits/radix/binary_words.rt. Edit that file, not this one.
 
 // Writing binary digits, eight at a time, as the bytes of a word.
 

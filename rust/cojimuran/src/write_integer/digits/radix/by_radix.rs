@@ -1,4 +1,4 @@
-// Made from crates/lexical_write_integer/src/digits/radix/by_radix.rt by `cargo run -p strip`. Change that file, not this one.
+// Made by `strip` from crates/lexical_write_integer/src/digits/radix/by_radix.rt. Edit that file, not this one.
 
 // Choosing the code of a radix.
 

@@ -1,4 +1,4 @@
-// Made from crates/lexical_write_integer/src/digits/radix/compact.rt by `cargo run -p strip`. Change that file, not this one.
+// Made by `strip` from crates/lexical_write_integer/src/digits/radix/compact.rt. Edit that file, not this one.
 
 //! The compact writer, which writes one digit per iteration.
 

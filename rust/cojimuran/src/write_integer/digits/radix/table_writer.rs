@@ -1,4 +1,4 @@
-// Made from crates/lexical_write_integer/src/digits/radix/table_writer.rt by `cargo run -p strip`. Change that file, not this one.
+// Made by `strip` from crates/lexical_write_integer/src/digits/radix/table_writer.rt. Edit that file, not this one.
 
 // Writing the digits of a number, four at a time, from a table of the digit pairs of the radix.
 

@@ -1,4 +1,4 @@
-// Made from crates/library_tests/src/line_answers/blocks/answers.rt by `cargo run -p strip`. Change that file, not this one.
+// Made by `strip` from crates/library_tests/src/line_answers/blocks/answers.rt. Edit that file, not this one.
 
 // Lines of a reader are answered to a writer, and one of the two may fail at one of its calls.
 
