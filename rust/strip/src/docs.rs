@@ -1,4 +1,5 @@
-//! What a public function of the package says and its crate does not: when it panics, and that its result is to be used.
+//! What a public function of the package says and its crate does not: when it panics, and that its result is to be
+//! used.
 
 use crate::Unknown;
 use crate::comments::wrapped;

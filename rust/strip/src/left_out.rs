@@ -4,7 +4,7 @@
 use crate::Unknown;
 use crate::attributes::Unused;
 use crate::contracts::{REMOVED, without_contracts};
-use crate::packages::{FUNCTIONS, Source, TYPES};
+use crate::packages::{Source, TYPES};
 use crate::tokens::{Tokens, is_space};
 use std::collections::BTreeSet;
 use std::ops::Range;
@@ -14,17 +14,18 @@ pub(crate) struct LeftOut(BTreeSet<String>);
 
 impl LeftOut {
     pub fn new() -> Self {
-        LeftOut(FUNCTIONS.iter().chain(TYPES).map(|name| name.to_string()).collect())
+        LeftOut(TYPES.iter().map(|name| name.to_string()).collect())
     }
 
-    /// Adds the names of the laws of a file: their documentation begins with `A law`.
-    pub fn add_laws(&mut self, text: &str) -> Result<(), Unknown> {
+    /// Adds the names of the functions of a file that have no effect: laws, whose documentation begins with `A law`,
+    /// and those that only record.
+    pub fn add(&mut self, text: &str) -> Result<(), Unknown> {
         let text = without_contracts(text)?;
         let tokens = Tokens::read(&text)?;
         for index in 0..tokens.0.len() {
             let is_law = tokens.at(index).starts_with("/// A law");
             let item = if is_law { item_of(&tokens, index)? } else { index };
-            if is_law && tokens.at(item) == "fn" {
+            if tokens.at(item) == "fn" && (is_law || only_records(&tokens, item)?) {
                 self.0.insert(tokens.at(tokens.next(item)).to_owned());
             }
         }
@@ -47,13 +48,6 @@ impl LeftOut {
                 "" => index,
                 "fn" if self.has(tokens.at(tokens.next(item))) => end_of_item(&tokens, item)?,
                 "mod" if unused.is_module(source, tokens.at(tokens.next(item))) => end_of_item(&tokens, item)?,
-                "use" if index > 0 => {
-                    let end = end_of_item(&tokens, item)?;
-                    let mut is_out = |name: &str| self.has(name) || unused.is_import(source, file, name);
-                    kept += &import(&tokens, index..end, &mut is_out);
-                    index = end;
-                    continue;
-                }
                 _ => match values.end_of_elements(&tokens, index) {
                     Some(end) => end,
                     None => self.end_of_statement(&values, &tokens, index, item)?,
@@ -66,6 +60,21 @@ impl LeftOut {
                 kept += tokens.at(index);
                 index += 1;
             }
+        }
+        self.without_imports(&kept, file, source, unused)
+    }
+
+    /// Returns the text without the imports of what is left out, and of what is then used nowhere.
+    fn without_imports(&self, text: &str, file: &str, source: &Source, unused: &mut Unused) -> Result<String, Unknown> {
+        let tokens = Tokens::read(text)?;
+        let (mut kept, mut index) = (String::with_capacity(text.len()), 0);
+        while index < tokens.0.len() {
+            let is_import = tokens.at(item_of(&tokens, index)?) == "use";
+            let end = if is_import { end_of_item(&tokens, item_of(&tokens, index)?)? } else { index + 1 };
+            let is_once = |name: &str| tokens.0.iter().filter(|token| **token == name).count() == 1;
+            let mut is_out = |name: &str| self.has(name) || unused.is_import(source, file, name) && is_once(name);
+            kept += &if is_import { import(&tokens, index..end, &mut is_out) } else { tokens.at(index).to_owned() };
+            index = end;
         }
         Ok(kept)
     }
@@ -187,6 +196,20 @@ fn is_new(tokens: &Tokens, index: usize) -> Option<usize> {
     let name = tokens.at(index);
     let end = tokens.after(index, &[name, ":", ":", "new", "(", ")"]).filter(|_| TYPES.contains(&name))?;
     Some(tokens.previous(end) + 1)
+}
+
+/// Returns whether a function has no result, and changes nothing but a value that is left out.
+fn only_records(tokens: &Tokens, item: usize) -> Result<bool, Unknown> {
+    let open = tokens.after_parameters(tokens.next(tokens.next(item)));
+    if tokens.at(open) != "(" {
+        return Ok(false);
+    }
+    let close = tokens.group_end(open)?;
+    let is_changed = |index: &usize| tokens.after(*index, &["&", "mut"]).is_some();
+    let mut changed = (open..close).filter(is_changed);
+    let is_only_value =
+        changed.next().is_some_and(|index| type_at(tokens, index).is_some()) && changed.next().is_none();
+    Ok(is_only_value && tokens.after(tokens.next(close - 1), &["-", ">"]).is_none())
 }
 
 /// Returns an import without the names that are left out, or `REMOVED` if it has no others.

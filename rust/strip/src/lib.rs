@@ -1,7 +1,7 @@
 //! Makes the sources of the Rust packages from those of the crates of Rattle.
 //!
-//! What only Rattle reads is removed: ghost items, clauses, models and tactics. What is left is laid out, and its paths are
-//! those of the package. A form that is not known here is an error with its file and its line.
+//! What only Rattle reads is removed: ghost items, clauses, models and tactics. What is left is laid out, and its paths
+//! are those of the package. A form that is not known here is an error with its file and its line.
 
 #![forbid(unsafe_code)]
 
@@ -66,7 +66,7 @@ fn left_out(top: &Path) -> Result<LeftOut, String> {
     let mut left_out = LeftOut::new();
     for source in SOURCES {
         for file in files(top, &Path::new("crates").join(source.name).join("src"), "rt")? {
-            left_out.add_laws(&read(&top.join(&file))?).map_err(|unknown| unknown.in_file(&file))?;
+            left_out.add(&read(&top.join(&file))?).map_err(|unknown| unknown.in_file(&file))?;
         }
     }
     Ok(left_out)

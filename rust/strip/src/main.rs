@@ -1,5 +1,5 @@
-//! Makes the sources of the Rust packages: `cargo run -p strip`. With `-- --check` it changes nothing, and fails with the
-//! file and the line of each one that would be made otherwise.
+//! Makes the sources of the Rust packages: `cargo run -p strip`. With `-- --check` it changes nothing, and fails with
+//! the file and the line of each one that would be made otherwise.
 
 use std::path::Path;
 use std::process::ExitCode;

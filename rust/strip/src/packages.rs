@@ -31,7 +31,8 @@ pub(crate) struct Source {
     pub hidden: &'static [&'static str],
     /// The modules of which nothing is made, as paths in `src`: only proofs need them, or only Rattle has them.
     pub left_out: &'static [&'static str],
-    /// What a file imports that only contracts use, as `FILE: NAME`.
+    /// What a file imports that perhaps only contracts use, as `FILE: NAME`. rustc knows the others, such as a trait of
+    /// which only a method is named.
     pub unused: &'static [&'static str],
     /// What is written in Rattle, and what is written in its place.
     pub replaced: &'static [(&'static str, &'static str)],
@@ -56,11 +57,10 @@ pub(crate) const LIBRARY: Source = Source {
     replaced: &[],
 };
 
-/// The types whose values have no data, and the functions that only record in them: nothing is made of these.
+/// The types whose values have no data: nothing is made of these.
 pub(crate) const TYPES: &[&str] = &["GhostLog", "Trace", "Turns"];
-pub(crate) const FUNCTIONS: &[&str] = &["note_flush", "note_put", "record_up_to_eight"];
 
-/// The crates of which files are made. A file of the package does not say what it was made of in more than its first line.
+/// The crates of which files are made.
 pub(crate) const SOURCES: &[Source] = &[
     Source {
         name: "lexical_num",
@@ -245,8 +245,8 @@ pub(crate) const SOURCES: &[Source] = &[
     Source { name: "library_tests", folder: "repository_tests/tests/library_tests", root: "main", ..TESTS },
 ];
 
-/// What calls the libraries as the repository's tests do, with what `repository_tests/src/runtime.rs` has in place of the
-/// runtime of Rattle.
+/// What calls the libraries as the repository's tests do, with what `repository_tests/src/runtime.rs` has in place of
+/// the runtime of Rattle.
 const TESTS: Source = Source {
     path: "crate",
     library: "cojimuran",

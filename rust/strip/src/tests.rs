@@ -33,7 +33,7 @@ fn check_added(text: &str, source: Source, expected: &str, unused: &str) {
 /// Checks the text of a file `b.rt` without what is left out: the laws of `text`, and what the source names.
 fn check_left_out(text: &str, source: Source, expected: &str) {
     let mut left_out = LeftOut::new();
-    left_out.add_laws(text).unwrap();
+    left_out.add(text).unwrap();
     let made = left_out.without(text, "b.rt", &source, &mut Unused::of(&source));
     let made = made.and_then(|text| layout::laid_out(&text));
     assert_eq!(made.as_deref().map(str::trim_end), Ok(expected), "in {text:?}");
@@ -48,7 +48,7 @@ fn clauses() {
     check("fn f()\n  requires { x' ≡ b' } ensures ℕ' { c' {y'} }\n{}", "fn f() {}");
     check("fn f() ensures { codes \"}{\" '}' } {}", "fn f() {}");
     check(
-        "fn f()\n    // This is of a clause.\n    ensures { a // }\n /* } */ }\n\n    // So is this.\n    ensures { b }\n{}",
+        "fn f()\n    // Of a clause.\n    ensures { a // }\n /* } */ }\n\n    // So is this.\n    ensures { b }\n{}",
         "fn f() {}",
     );
     check("fn f<T>()\nwhere\n    T::Err: Drop,\n    requires { a }\n{}", "fn f<T>() {}");
@@ -72,7 +72,7 @@ fn ghost_items() {
         "impl T for u8 {}",
     );
     check(
-        "trait T {\n    // Of a ghost.\n    // So is this.\n    ghost N: { ℕ };\n\n    // Not this.\n\n    ghost M: { ℕ };\n}",
+        "trait T {\n    // Of it.\n    // So.\n    ghost N: { ℕ };\n\n    // Not this.\n\n    ghost M: { ℕ };\n}",
         "trait T {\n    // Not this.\n}",
     );
     check("ghost «data»: { ℕ };", "");
@@ -155,6 +155,18 @@ fn laws() {
     );
     let arm = "fn f() {\n    match a {\n        A => {\n            l(1);\n            b(2)\n        }\n    }\n}";
     check_left_out(&format!("{law}{arm}"), LIBRARY, "fn f() {\n    match a {\n        A => b(2),\n    }\n}");
+    let records = "fn r(a: u8, turns: &mut Turns) {\n    turns.tick(a);\n}\n\n";
+    let lines = ["let mut all = Turns::new();", "r(1, turns);", "if a {\n        turns.tick(1);\n    }"].join("\n    ");
+    let counted = format!("fn f(a: &mut [u8], turns: &mut Turns) {{\n    {lines}\n    g(a, turns, &mut all);\n}}");
+    check_left_out(&format!("{records}{counted}"), LIBRARY, "fn f(a: &mut [u8]) {\n    g(a);\n}");
+    check_left_out("fn f() {\n    h(&mut Turns::new(), 1);\n}", LIBRARY, "fn f() {\n    h(1);\n}");
+    let traced = "struct S {\n    a: u8,\n    trace: Trace,\n}\nconst A: S = S { trace: Trace::new(), a };";
+    check_left_out(traced, LIBRARY, "struct S {\n    a: u8,\n}\nconst A: S = S { a };");
+    check_left_out(
+        "fn f(turns: &mut Turns) -> u8 {\n    let a = b;\n    turns.tick(a);\n    a\n}",
+        LIBRARY,
+        "fn f() -> u8 {\n    b\n}",
+    );
     let source = Source { left_out: &["m"], unused: &["b.rt: N", "c.rt: O"], ..LIBRARY };
     check_left_out("// For proofs.\npub mod m;\nmod n;\nuse a::{N, O};", source, "mod n;\nuse a::O;");
 }
@@ -190,7 +202,8 @@ fn what_users_are_told() {
     );
     let panics = "///\n/// # Panics\n///\n/// If the radix is not from 2 to 36.\n#[must_use]\n";
     check_told("pub fn f(radix: u32) -> u8;", &format!("{panics}pub fn f(radix: u32) -> u8;"));
-    let short = "///\n/// # Panics\n///\n/// If a is wrong, or if the buffer is too short, except perhaps when the text fits.\n";
+    let short = "If a is wrong, or if the buffer is too short, except perhaps when the text fits.";
+    let short = format!("///\n/// # Panics\n///\n/// {short}\n");
     let source = Source { panics: &[("f", "a is wrong")], ..LIBRARY };
     check_added("pub fn f(a: &mut [u8]) -> usize;", source, &format!("{short}pub fn f(a: &mut [u8]) -> usize;"), "");
     check_added("pub fn g();", source, "pub fn g();", "the crate does not have f");

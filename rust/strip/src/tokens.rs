@@ -102,7 +102,8 @@ impl<'a> Tokens<'a> {
         Ok(i)
     }
 
-    /// Returns the index of the name before the parenthesis at this index, also if parameters in `::<` and `>` follow it.
+    /// Returns the index of the name before the parenthesis at this index, also if parameters in `::<` and `>` follow
+    /// it.
     pub fn before_parameters(&self, open: usize) -> usize {
         let last = self.previous(open);
         if self.at(last) != ">" {
