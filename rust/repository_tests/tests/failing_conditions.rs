@@ -148,7 +148,7 @@ fn messages() {
         "are_valid()": builder.radix(37).build_strict(), builder.exponent_radix(1).build_strict(),
             builder.digit_grouping(0, b',').build_strict(), builder.digit_grouping(3, b'0').build_strict();
         "is_radix(radix": 255u8.digit_count(u32::MAX), 255u8.slow_digit_count(1), u64::MAX.digit_count(0);
-        "the radix is not from 2 to 36": 7u32.write_integer(0, buffer), 7u8.radix(1, buffer), 7u64.compact(37, buffer),
+        "radix": 7u32.write_integer(0, buffer), 7u8.radix(1, buffer), 7u64.compact(37, buffer),
             7u16.write_integer(255, buffer), 7u64.radix(u32::MAX, buffer), Digits(1, 7u8).write_to(buffer);
         "self.1 <= 19": Fixed(7i64, 20).to_text(buffer), Fixed(7u8, usize::MAX).room(), Fixed(7u8, 90).to_str(buffer);
         "radix <= 36": table(37);
