@@ -38,7 +38,7 @@ use std::panic::{RefUnwindSafe, UnwindSafe};
 
 fn value<T: Copy + Debug + Send + Sync + Unpin + UnwindSafe + RefUnwindSafe + 'static>() {}
 fn part<P: Part + Debug + Send + Sync>() {}
-fn shown<P: Part + Display>() {}
+fn shown<P: Part + Debug + Display + Send + Sync>() {}
 fn number<T: ToLexicalWithOptions<Options = Options> + FormattedSize + Part>() {}
 fn unsigned<T: UnsignedInteger + Radix + Compact + DigitCount + WriteInteger + DecimalCount>() {}
 
