@@ -54,7 +54,6 @@ pub extern "C" fn lexical_check_format(format: &CFormat) -> u32 {
 }
 
 /// Returns the format with these fields, which must be valid.
-#[must_use]
 #[inline]
 pub fn valid_format(format: &CFormat) -> NumberFormat {
     let builder = NumberFormatBuilder::new()
@@ -70,7 +69,6 @@ pub fn valid_format(format: &CFormat) -> NumberFormat {
 }
 
 /// Returns the format with these fields, or `None` if they are not valid.
-#[must_use]
 #[inline]
 pub fn number_format(format: &CFormat) -> Option<NumberFormat> {
     if lexical_check_format(format) == 0 {

@@ -10,10 +10,6 @@ use cojimuran::write_integer::{BUFFER_SIZE, Options, ToLexicalWithOptions, Write
 /// leaves the buffer unchanged if the format is invalid or the text does not fit.
 // It is cold, so that the tests before a call of it are separate branches, each of which is one instruction fewer.
 #[cold]
-///
-/// # Panics
-///
-/// If the buffer is too short, except perhaps when the text fits.
 #[inline]
 pub fn write_if_it_fits<T: ToLexicalWithOptions>(
     value: T,

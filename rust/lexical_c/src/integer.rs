@@ -10,10 +10,6 @@ use cojimuran::write_integer::ToLexicalWithOptions;
 pub trait CInteger: ToLexicalWithOptions {
     /// Does what the function `write_if_it_fits` does, as a number of 64 bits, so that only two copies of its code are
     /// made.
-    ///
-    /// # Panics
-    ///
-    /// If the buffer is too short, except perhaps when the text fits.
     fn write_if_it_fits(self, format: &CFormat, buffer: &mut [u8]) -> usize;
 }
 

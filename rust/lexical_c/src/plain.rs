@@ -12,7 +12,6 @@ use cojimuran::write_integer::{
 
 /// Returns whether every field but the radix, the mark and lowercase is 0. No field is tested by itself, so
 /// that one branch is enough.
-#[must_use]
 #[inline(always)]
 pub fn has_only_radix_and_case(format: &CFormat) -> bool {
     (format.required_sign == 0)
@@ -22,14 +21,12 @@ pub fn has_only_radix_and_case(format: &CFormat) -> bool {
 }
 
 /// Returns whether every field but the radix and the mark is 0.
-#[must_use]
 #[inline(always)]
 pub fn has_only_radix(format: &CFormat) -> bool {
     has_only_radix_and_case(format) & (format.lowercase == 0)
 }
 
 /// Returns whether digits of the radix of the format are letters.
-#[must_use]
 #[inline(always)]
 pub fn has_letters(format: &CFormat) -> bool {
     format.radix > 10
@@ -38,11 +35,6 @@ pub fn has_letters(format: &CFormat) -> bool {
 /// Returns the format of this radix without a required sign and groups if the radix is valid, and above 10 if
 /// `LETTERS` is true, and a buffer of `room` bytes is enough for every number of the type. Otherwise returns
 /// `None`.
-///
-/// # Panics
-///
-/// If the radix is not from 2 to 36.
-#[must_use]
 #[inline(always)]
 pub fn fitting_format<T: FormattedSize, const LETTERS: bool>(
     radix: u32,
@@ -82,10 +74,6 @@ fn set_bit_in_halves<const SIZE: usize>(text: &mut [u8]) {
 /// Sets the bit 32 in each byte of a text, and returns its length. Of the bytes of digits and signs only
 /// uppercase letters lack this bit, which is all that distinguishes them from lowercase letters. The text must not
 /// be empty.
-///
-/// # Panics
-///
-/// If the buffer is too short, except perhaps when the text fits.
 #[inline(always)]
 pub fn set_lowercase_bit(text: &mut [u8]) -> usize {
     match text.len() {
@@ -100,10 +88,6 @@ pub fn set_lowercase_bit(text: &mut [u8]) -> usize {
 
 /// Writes a number to the start of the buffer, and returns the length of the text. The format must have
 /// no required sign and no groups, and the buffer must have the length that the writer of the number requires.
-///
-/// # Panics
-///
-/// If the buffer is too short, except perhaps when the text fits.
 #[inline(always)]
 pub fn write_plain<T: ToLexical>(value: T, format: &NumberFormat, buffer: &mut [u8]) -> usize {
     if !T::IS_SIGNED {

@@ -38,7 +38,7 @@ fn write_other<T: CInteger>(value: T, format: &CFormat, buffer: &mut [u8]) -> us
 
 // Does what `write` does in a format that has only a radix, or at most 10 as the radix and a case: then the
 // text is the same in lowercase.
-#[inline]
+#[inline(never)]
 fn write_digits<T: CInteger>(value: T, format: &CFormat, buffer: &mut [u8]) -> usize {
     match fitting_format::<T, false>(format.radix, buffer.len()) {
         Some(plain) => write_plain(value, &plain, buffer),
@@ -67,90 +67,54 @@ fn write_signed_in_lowercase<T: CInteger>(value: T, format: &CFormat, buffer: &m
 }
 
 /// Writes a `uint8_t` to the buffer, and returns the length of its text, or 0 if it is refused.
-///
-/// # Panics
-///
-/// If the buffer is too short, except perhaps when the text fits.
 #[inline]
 pub fn lexical_write_u8(value: u8, format: &CFormat, buffer: &mut [u8]) -> usize {
     write::<u8>(value, format, buffer)
 }
 
 /// Writes a `uint16_t` to the buffer, and returns the length of its text, or 0 if it is refused.
-///
-/// # Panics
-///
-/// If the buffer is too short, except perhaps when the text fits.
 #[inline]
 pub fn lexical_write_u16(value: u16, format: &CFormat, buffer: &mut [u8]) -> usize {
     write::<u16>(value, format, buffer)
 }
 
 /// Writes a `uint32_t` to the buffer, and returns the length of its text, or 0 if it is refused.
-///
-/// # Panics
-///
-/// If the buffer is too short, except perhaps when the text fits.
 #[inline]
 pub fn lexical_write_u32(value: u32, format: &CFormat, buffer: &mut [u8]) -> usize {
     write::<u32>(value, format, buffer)
 }
 
 /// Writes a `uint64_t` to the buffer, and returns the length of its text, or 0 if it is refused.
-///
-/// # Panics
-///
-/// If the buffer is too short, except perhaps when the text fits.
 #[inline]
 pub fn lexical_write_u64(value: u64, format: &CFormat, buffer: &mut [u8]) -> usize {
     write::<u64>(value, format, buffer)
 }
 
 /// Writes a `size_t` to the buffer, and returns the length of its text, or 0 if it is refused.
-///
-/// # Panics
-///
-/// If the buffer is too short, except perhaps when the text fits.
 #[inline]
 pub fn lexical_write_size(value: usize, format: &CFormat, buffer: &mut [u8]) -> usize {
     write::<usize>(value, format, buffer)
 }
 
 /// Writes an `int8_t` to the buffer, and returns the length of its text, or 0 if it is refused.
-///
-/// # Panics
-///
-/// If the buffer is too short, except perhaps when the text fits.
 #[inline]
 pub fn lexical_write_i8(value: i8, format: &CFormat, buffer: &mut [u8]) -> usize {
     write::<i8>(value, format, buffer)
 }
 
 /// Writes an `int16_t` to the buffer, and returns the length of its text, or 0 if it is refused.
-///
-/// # Panics
-///
-/// If the buffer is too short, except perhaps when the text fits.
 #[inline]
 pub fn lexical_write_i16(value: i16, format: &CFormat, buffer: &mut [u8]) -> usize {
     write::<i16>(value, format, buffer)
 }
 
 /// Writes an `int32_t` to the buffer, and returns the length of its text, or 0 if it is refused.
-///
-/// # Panics
-///
-/// If the buffer is too short, except perhaps when the text fits.
 #[inline]
 pub fn lexical_write_i32(value: i32, format: &CFormat, buffer: &mut [u8]) -> usize {
     write::<i32>(value, format, buffer)
 }
 
 /// Writes an `int64_t` to the buffer, and returns the length of its text, or 0 if it is refused.
-///
-/// # Panics
-///
-/// If the buffer is too short, except perhaps when the text fits.
 #[inline]
 pub fn lexical_write_i64(value: i64, format: &CFormat, buffer: &mut [u8]) -> usize {
     write::<i64>(value, format, buffer)

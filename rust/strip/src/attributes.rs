@@ -21,7 +21,7 @@ impl Unused {
         ];
         // The rules for tests are one list for all of them.
         let replaced = source.replaced.iter().filter(|_| !source.is_test).map(|(from, _)| *from);
-        let panics = source.panics.iter().map(|(name, _)| *name);
+        let panics = source.panics.iter().chain(source.attributes).map(|(name, _)| *name);
         Unused(lists.concat().into_iter().chain(replaced).chain(panics).collect())
     }
 
@@ -32,6 +32,13 @@ impl Unused {
             self.0.remove(name);
         }
         is_in
+    }
+
+    /// Returns the attribute of a function that has another one than for inlining.
+    fn own_attribute(&mut self, source: &Source, name: &str) -> Option<&'static [&'static str]> {
+        let (name, attribute) = source.attributes.iter().find(|(listed, _)| *listed == name)?;
+        self.0.remove(name);
+        Some(std::slice::from_ref(attribute))
     }
 
     /// Notes that a function that panics is there.
@@ -87,13 +94,13 @@ pub(crate) fn with_additions(text: &str, file: &str, source: &Source, unused: &m
             let inlined = if has_body(&tokens, item)? && !source.is_test {
                 let is_always = unused.is_in(source.always_inlined, name) || is_file_inlined;
                 let is_more = unused.is_in(source.inlined_more, name);
-                if unused.is_in(source.cold, name) { &["#[cold]"] } else { inlining(is_always, is_more) }
+                unused.own_attribute(source, name).unwrap_or(inlining(is_always, is_more))
             } else {
                 &[]
             };
             let is_public = tokens.at(index) == "pub" && tokens.at(tokens.next(index)) != "(";
             let is_shown = is_public || traits.iter().any(|body| body.contains(&index));
-            if tokens.at(item) == "fn" && is_shown && !source.is_test {
+            if tokens.at(item) == "fn" && is_shown && source.library == "crate" {
                 for line in docs::lines(&tokens, item, name, source)? {
                     unused.is_in_panics(source, name);
                     written += &format!("{line}\n{indent}");

@@ -21,8 +21,8 @@ pub(crate) struct Source {
     pub always_inlined: &'static [&'static str],
     /// The functions that are `#[inline(always)]` only with the feature `inline-more`.
     pub inlined_more: &'static [&'static str],
-    /// The functions that are `#[cold]`.
-    pub cold: &'static [&'static str],
+    /// The functions that have another attribute than for inlining.
+    pub attributes: &'static [(&'static str, &'static str)],
     /// The names of public functions that are `const fn`.
     pub constant: &'static [&'static str],
     /// The public functions with a condition that is neither on a radix nor on a buffer, and when they panic.
@@ -48,7 +48,7 @@ pub(crate) const LIBRARY: Source = Source {
     is_test: false,
     always_inlined: &[],
     inlined_more: &[],
-    cold: &[],
+    attributes: &[],
     constant: &[],
     panics: &[],
     hidden: &[],
@@ -229,8 +229,9 @@ pub(crate) const SOURCES: &[Source] = &[
             // these.
             ("#[unsafe(no_mangle)]\npub extern \"C\" fn lexical_write_", "pub fn lexical_write_"),
         ],
-        // If rustc inlined this, the calls without letters would save registers for it.
-        cold: &["write_in_lowercase"],
+        // If rustc inlined the first, the calls without letters would save registers for it, and the second would be in
+        // the code of each type twice.
+        attributes: &[("write_in_lowercase", "#[cold]"), ("write_digits", "#[inline(never)]")],
         ..LIBRARY
     },
     Source {

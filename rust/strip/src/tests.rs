@@ -184,7 +184,7 @@ fn inlining() {
         check_inline(same, same);
     }
     check_added("fn f() {}", Source { is_test: true, ..LIBRARY }, "fn f() {}", "");
-    let more = Source { inlined_more: &["f"], cold: &["g"], ..LIBRARY };
+    let more = Source { inlined_more: &["f"], attributes: &[("g", "#[cold]")], ..LIBRARY };
     let attributes =
         "#[cfg_attr(feature = \"inline-more\", inline(always))]\n#[cfg_attr(not(feature = \"inline-more\"), inline)]";
     check_added("fn f() {}\nfn g() {}", more, &format!("{attributes}\nfn f() {{}}\n#[cold]\nfn g() {{}}"), "");
