@@ -1,7 +1,10 @@
 // Tests of the callers of `lexical_parts`.
 
 use super::{check, check_buffer, check_bytes, check_part, check_room, check_str};
-use lexical_parts::{Byte, Bytes, Decimal, Digits, Formatted, Hex, Joined, Left, Lower, Padded, PaddedDigits, Part, Right, ZeroPadded};
+use lexical_parts::{
+    Byte, Bytes, Decimal, Digits, Formatted, Hex, Joined, Left, Lower, Padded, PaddedDigits, Part,
+    Right, ZeroPadded,
+};
 use lexical_write_integer::NumberFormatBuilder;
 use lexical_write_integer::laws::digit_count_at_most;
 use uses::csv_row::{try_write_list, write_entries, write_row, write_row_of};

@@ -18,6 +18,12 @@ fn check_shown<D: Display + Drop>(rt: &impl Abort, alloc: Global, shown: D, text
     check(rt, printed.as_str(), text);
 }
 
+#[test]
+#[should_panic(expected = "left: \"FF\"")]
+fn a_wrong_text_in_a_format_string_fails(rt: HostRuntime) {
+    check_shown(&rt, rt.alloc(), Hex(255u8), "FE");
+}
+
 // What Rust writes of the same texts: `format!("{:>8}", "FF")`, and so on.
 #[test]
 fn parts_in_format_strings(rt: HostRuntime) {
