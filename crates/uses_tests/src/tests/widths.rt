@@ -5,7 +5,8 @@ use lexical_parts::{Binary, Decimal, Formatted, Hex, Plus};
 use lexical_write_integer::format::STANDARD;
 use lexical_write_integer::radix::Radix;
 use lexical_write_integer::{NumberFormatBuilder, ToLexicalWithOptions};
-use std::alloc::Global;
+// The second name is that of an allocator which is passed on: without the runtime of Rattle there is no other.
+use std::alloc::{Global, Global as Allocator};
 use std::fmt::Display;
 use std::process::Abort;
 
@@ -25,7 +26,7 @@ fn check_widths<D: Display>(rt: &impl Abort, alloc: Global, part: &D, text: &str
 }
 
 // Does so for a number in decimal, whose text the standard library prints.
-fn check_decimal<T: ToLexicalWithOptions + Display>(rt: &impl Abort, alloc: Global, number: T) {
+fn check_decimal<T: ToLexicalWithOptions + Display>(rt: &impl Abort, alloc: Allocator, number: T) {
     let text = format!(in alloc; "{number}").expect(rt, "a number");
     check_widths(rt, alloc, &Decimal(number), text.as_str());
     check_widths(rt, alloc, &Formatted(number, &STANDARD), text.as_str());
@@ -34,7 +35,7 @@ fn check_decimal<T: ToLexicalWithOptions + Display>(rt: &impl Abort, alloc: Glob
 }
 
 // Does so for a number in the radices 16 and 2, whose value is also passed.
-fn check_digits<T: Radix>(rt: &impl Abort, alloc: Global, number: T, value: u64) {
+fn check_digits<T: Radix>(rt: &impl Abort, alloc: Allocator, number: T, value: u64) {
     let text = format!(in alloc; "{value:X}").expect(rt, "a number in radix 16");
     check_widths(rt, alloc, &Hex(number), text.as_str());
     let text = format!(in alloc; "{value:b}").expect(rt, "a number in radix 2");
