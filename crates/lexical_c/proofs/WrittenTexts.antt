@@ -14,7 +14,9 @@ use Rattle.lexical_write_integer.proofs.OfTexts.Required.{length-IsText}
 use Rattle.lexical_c.specs.Buffer.{IsWritable, WritesIf, WritesOrRefuses}
 use Rattle.lexical_c.specs.Format.{IsAccepted, format_of}
 use Rattle.lexical_c.specs.declared.format.CFormat.{CFormat}
+use Rattle.lexical_c.specs.declared.format.TheConstants.{DECIMAL}
 use Rattle.lexical_c.proofs.Letters.{lowercase-IsText}
+use Rattle.lexical_c.proofs.PlainTexts.{accepted}
 
 -- the length of the written text is that of the computed text
 pub length-written : (x : ℤ) (format : Format) (before after : List ℕ) (count : ℕ) → 2 ≤ format.mantissa_radix →
@@ -91,6 +93,17 @@ in_either_case x format before after count none few w = record {
   };
   refused = w.refused;
 }
+
+-- the standard format is accepted
+pub decimal_accepted : IsAccepted DECIMAL
+decimal_accepted = accepted DECIMAL
+    record { sign = refl; groups = refl; unreserved = record { first = refl; second = refl } }
+    record { at_least_two = omega arith; at_most_36 = omega arith }
+
+-- its text is in the requested case
+pub in_decimal : (x : ℤ) (before after : List ℕ) (count : ℕ) → WritesIf x DECIMAL (IsText x (format_of DECIMAL)) before after count →
+    WritesOrRefuses x DECIMAL before after count
+in_decimal x before after count = in_either_case x DECIMAL before after count refl (λ other. absurd (other refl))
 
 -- with lowercase, the letters of the written text are changed where they are
 pub in_lowercase : (x : ℤ) (format : CFormat) (before between lower : List ℕ) (count : ℕ) → format.lowercase ≢ 0 →

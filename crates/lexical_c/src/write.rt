@@ -6,6 +6,7 @@ ghost use Rattle.lexical_c.specs.Buffer.{WritesOrRefuses};
 ghost use Rattle.lexical_c.specs.Format.{HasOnlyRadix, HasOnlyRadixAndCase};
 
 use crate::format::CFormat;
+use crate::general::write_if_it_fits;
 use crate::integer::CInteger;
 use crate::plain::{
     fitting_format, has_letters, has_only_radix, has_only_radix_and_case, set_lowercase_bit,
@@ -32,7 +33,7 @@ fn write_other<T: CInteger>(value: T, format: &CFormat, buffer: &mut [u8]) -> us
     ensures { WritesOrRefuses (T.number value) format.now buffer.old buffer.new result }
 {
     if !has_only_radix_and_case(format) {
-        value.write_if_it_fits(format, buffer)
+        write_if_it_fits(value.widen(), format, buffer)
     } else if !has_letters(format) {
         write_digits(value, format, buffer)
     } else if T::IS_SIGNED {
@@ -55,7 +56,7 @@ fn write_digits<T: CInteger>(value: T, format: &CFormat, buffer: &mut [u8]) -> u
             size_suffices(value, &plain);
             write_plain(value, &plain, buffer)
         }
-        None => value.write_if_it_fits(format, buffer),
+        None => write_if_it_fits(value.widen(), format, buffer),
     }
 }
 
@@ -72,7 +73,7 @@ fn write_in_lowercase<T: CInteger>(value: T, format: &CFormat, buffer: &mut [u8]
             let count = write_plain(value, &plain, buffer);
             set_lowercase_bit(&mut buffer[..count])
         }
-        None => value.write_if_it_fits(format, buffer),
+        None => write_if_it_fits(value.widen(), format, buffer),
     }
 }
 

@@ -1,5 +1,5 @@
-use Rattle.lexical_c.proofs.integer.UsizeCInteger.write_if_it_fits.Goals as goal
+use Rattle.lexical_c.proofs.decimal.lexical_decimal_size.Goals as goal
 
 -- the check finds this proof by itself, but with an answer the refusal of a mistake says what is wrong
 pub returns : goal.returns
-returns c = c.write_if_it_fits.ensures
+returns c = c.write_decimal.ensures
