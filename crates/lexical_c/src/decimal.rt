@@ -11,8 +11,8 @@ use lexical_write_integer::buffer::copy_to_front;
 use lexical_write_integer::laws::size_suffices;
 use lexical_write_integer::{BUFFER_SIZE, ToLexicalWithOptions};
 
-// Writes a number in decimal to the buffer, and returns the length of its text, or 0 if the text does not fit.
-fn write_decimal<T: CInteger>(value: T, buffer: &mut [u8]) -> usize
+/// Writes a number in decimal to the buffer, and returns the length of its text, or 0 if the text does not fit.
+pub fn write_decimal<T: CInteger>(value: T, buffer: &mut [u8]) -> usize
     ensures { WritesOrRefuses (T.number value) DECIMAL buffer.old buffer.new result }
 {
     value.in_range();

@@ -100,7 +100,7 @@ END
 # has_own_objects COMPILER FLAGS: whether two such libraries, built by a C or C++ compiler with these flags, do so.
 has_own_objects() {
   mkdir -p "$work/other"
-  sed '/^#define LEXICAL_STANDARD_FORMAT/s/{ 10,/{ 16,/' "$crate/include/lexical.h" > "$work/other/lexical.h"
+  sed '/^#define LEXICAL_STANDARD_FORMAT/s/(10)/(16)/' "$crate/include/lexical.h" > "$work/other/lexical.h"
   cat > "$work/radix.c" <<'END'
 #include "lexical.h"
 #ifdef __cplusplus
