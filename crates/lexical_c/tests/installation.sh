@@ -19,7 +19,7 @@ undefined_names() { nm -u "$library" | sed -n 's/^ *U //p' | sort; }
 # exported_names LIBRARY: prints the names that a shared library exports, with their versions.
 exported_names() { nm -D --defined-only --with-symbol-versions "$1" | sed -n 's/^[0-9a-f]* [TDBRVW] //p' | sort; }
 
-# The archive, the shared library and the header have the same names, and the archive uses no others than memcpy and abort.
+# The archive, the shared library and the header have the same names, and the archive uses only memcpy and abort.
 check_names() {
   header_names > "$work/header"
   nm "$library" | sed -n 's/^[0-9a-f]* [TDBRV] //p' | sort > "$work/archive"
@@ -30,10 +30,10 @@ check_names() {
   expect 'the archive uses only memcpy, and abort if it has panics' prints "$imported" undefined_names
 }
 
-# has_links FOLDER: whether the shared library has its two links, which are relative.
+# has_links FOLDER VERSION: whether the shared library of this version has its two links, which are relative.
 has_links() {
-  [ "$(readlink "$1/liblexical_c.so")" = "liblexical_c.so.$major" ] &&
-    [ "$(readlink "$1/liblexical_c.so.$major")" = "liblexical_c.so.$version" ] && [ -f "$1/liblexical_c.so" ]
+  [ "$(readlink "$1/liblexical_c.so")" = "liblexical_c.so.${2%%.*}" ] &&
+    [ "$(readlink "$1/liblexical_c.so.${2%%.*}")" = "liblexical_c.so.$2" ] && [ -f "$1/liblexical_c.so" ]
 }
 
 # is_hardened LIBRARY: whether the dynamic linker resolves all names of it first, and then makes their table read-only.
@@ -138,7 +138,7 @@ END
   expect 'CMake refuses a later version' fails finds_version "$1" 3.999
 }
 
-# finds_version PREFIX VERSION FLAGS..: whether CMake finds a package of this version, or in this range, and its library.
+# finds_version PREFIX VERSION FLAGS..: whether CMake finds a package of this version or range, and its library.
 finds_version() {
   rm -rf "$work/version" && mkdir "$work/version"
   printf 'cmake_minimum_required(VERSION 3.19)\nproject(version NONE)\nfind_package(lexical_c %s REQUIRED)\n' "$2" > "$work/version/CMakeLists.txt"
@@ -189,6 +189,8 @@ check_go() {
 check_installed() {
   version=$(sed -n 's/^#define LEXICAL_VERSION_STRING "\(.*\)"$/\1/p' "$crate/include/lexical.h")
   major=${version%%.*}
+  # A checkout of a later version.
+  later=$work/later/crates/lexical_c
   c_lines='1234567
 -4D2
 18,446,744,073,709,551,615' cpp_line='1,234,567' cpp17_lines='1,234,567
@@ -196,15 +198,19 @@ check_installed() {
   example c > "$work/example.c"
   example cpp > "$work/example.cpp"
   example c++17 > "$work/example17.cpp"
-  printf '#include <lexical.h>\nsize_t inside(char *);\nsize_t inside(char *buffer) { return lexical_decimal_u32(1, buffer, 10); }\n' > "$work/inside.c"
+  cat > "$work/inside.c" <<'END'
+#include <lexical.h>
+size_t inside(char *buffer);
+size_t inside(char *buffer) { return lexical_decimal_u32(1, buffer, 10); }
+END
   prefix=$work/prefix
   expect 'installing' "$crate/install" --from "$library" "$prefix"
   cp "$work/log" "$work/installed"
   expect 'install prints the name of each file' names_each_file "$prefix"
   expect 'install says what a program needs' grep -q "^install: .*run ldconfig.*LD_LIBRARY_PATH=$prefix/lib" "$work/installed"
-  expect 'the links' has_links "$prefix/lib"
+  expect 'the links' has_links "$prefix/lib" "$version"
   if has readelf; then expect 'relro and now' is_hardened "$prefix/lib/liblexical_c.so"; fi
-  if has man; then expect 'man 3 lexical_write' shows_each_function "$prefix"; fi
+  if has_man; then expect 'man 3 lexical_write' shows_each_function "$prefix"; fi
   if has nm; then check_names "$prefix"; fi
   if has pkg-config; then check_pkg_config "$prefix"; fi
   if has cmake && has_cpp; then check_cmake "$prefix"; fi
@@ -216,7 +222,7 @@ check_installed() {
   expect 'a prefix with a space and quotes, another folder and umask 077' installs_for_all "$work/a <user's> prefix" lib/x86_64-linux-gnu
 }
 
-# links_with_pkg_config PREFIX FOLDER: whether the flags of pkg-config link the C example, shared and static, and it runs.
+# links_with_pkg_config PREFIX FOLDER: whether the flags of pkg-config link the C example, shared and static.
 links_with_pkg_config() {
   (
     folder=$1/$2
@@ -232,7 +238,8 @@ links_with_pkg_config() {
   )
 }
 
-# installs_for_all PREFIX FOLDER: whether everyone may read what is installed, pkg-config and CMake find it, and nothing of it is left.
+# installs_for_all PREFIX FOLDER: whether everyone may read what is installed, pkg-config and CMake find it, and nothing
+# is left when it is removed.
 installs_for_all() {
   (umask 077 && "$crate/install" --from="$library" --prefix="$1" --libdir="$1/$2") || return 1
   [ -z "$(find "$1" ! -type l ! -perm -444)" ] && [ -z "$(find "$1" -type d ! -perm -555)" ] || return 1
@@ -247,7 +254,7 @@ installs_for_all() {
 
 # ---- other versions
 
-# later_version VERSION: makes a checkout of a later version in $work/later, of the same files.
+# later_version VERSION: makes the checkout of a later version, of the same files.
 later_version() {
   rm -rf "$work/later"
   mkdir -p "$later/include" "$later/out"
@@ -261,8 +268,8 @@ later_version() {
 # present one, and nothing is left when it is removed.
 upgrades() {
   later_version "$2"
-  "$crate/install" --from "$library" "$1" && "$later/install" "$1" && [ "$(cd "$DESTDIR$1/lib" && echo ./*.so*)" = "$3" ] &&
-    "$later/uninstall" "$1" && [ ! -e "$DESTDIR$1" ]
+  "$crate/install" --from "$library" "$1" && "$later/install" "$1" && has_links "$DESTDIR$1/lib" "$2" &&
+    [ "$(cd "$DESTDIR$1/lib" && echo ./*.so*)" = "$3" ] && "$later/uninstall" "$1" && [ ! -e "$DESTDIR$1" ]
 }
 
 # has_two_majors: whether a program with a library for this major version and one for the next calls each of them.
@@ -272,12 +279,16 @@ has_two_majors() {
     echo 'unsigned lexical_version(void) { return 4000000; }'
     header_names | sed -n 's/^lexical_version$//; s/^lexical_.*/int &(void) { return 0; }/p'
   } > "$work/four.c"
-  echo 'unsigned lexical_version(void); unsigned NAME(void); unsigned NAME(void) { return lexical_version(); }' > "$work/user.c"
-  printf 'unsigned three(void), four(void);\nint main(void) { return three() / 1000000 != 3 || four() != 4000000; }\n' > "$work/both.c"
+  echo 'unsigned lexical_version(void); unsigned NAME(void) { return lexical_version(); }' > "$work/user.c"
+  cat > "$work/both.c" <<'END'
+unsigned three(void), four(void);
+int main(void) { return three() / 1000000 != 3 || four() != 4000000; }
+END
   $CC -fPIC -w -c -o "$work/four.o" "$work/four.c" || return 1
   "$crate/install" --from "$library" "$work/three" && "$later/install" --from "$work/four.o" "$work/four" || return 1
   for user in three four; do
-    $CC -fPIC -shared -DNAME=$user -o "$work/lib$user.so" "$work/user.c" -L"$work/$user/lib" -llexical_c -Wl,-rpath,"$work/$user/lib" || return 1
+    folder=$work/$user/lib
+    $CC -fPIC -shared -DNAME=$user -o "$work/lib$user.so" "$work/user.c" -L"$folder" -llexical_c -Wl,-rpath,"$folder" || return 1
   done
   for users in '-lthree -lfour' '-lfour -lthree'; do
     # shellcheck disable=SC2086
@@ -286,7 +297,6 @@ has_two_majors() {
 }
 
 check_versions() {
-  later=$work/later/crates/lexical_c
   one="./liblexical_c.so ./liblexical_c.so.3 ./liblexical_c.so.3.9.0"
   export DESTDIR=
   expect 'an upgrade of the same soname' upgrades "$work/upgraded" 3.9.0 "$one"
@@ -302,9 +312,15 @@ check_versions() {
 # ---- what is refused, and what is removed
 
 # contents FOLDER: prints what is in a folder, with the contents of the files.
-contents() { (cd "$1" && find . -type d | sort && find . -type f -exec cksum {} + | sort && find . -type l -exec ls -l {} + | sed 's/.* \.\//.\//' | sort); }
+contents() {
+  (
+    cd "$1" && find . -type d | sort && find . -type f -exec cksum {} + | sort &&
+      find . -type l -exec ls -l {} + | sed 's/.* \.\//.\//' | sort
+  )
+}
 
-# refuses_with STATUS WORDS COMMAND..: whether a command ends with this status and says these words, and $work/here is unchanged.
+# refuses_with STATUS WORDS COMMAND..: whether a command ends with this status, says these words, and leaves $work/here
+# unchanged.
 refuses_with() {
   wanted=$1 words=$2; shift 2
   contents "$work/here" > "$work/before"
@@ -318,20 +334,23 @@ refuses_with() {
 refuses_relative_stage() {
   (
     cd "$work/here" && export DESTDIR=stage &&
-      refuses_with 2 'is not an absolute path' "$crate/install" --from "$library" /opt && refuses_with 2 'is not an absolute path' "$crate/uninstall" /opt
+      refuses_with 2 'is not an absolute path' "$crate/install" --from "$library" /opt &&
+      refuses_with 2 'is not an absolute path' "$crate/uninstall" /opt
   )
 }
 
 # refuses_odd_prefixes: whether a prefix with a character that a later tool takes for something else is refused.
 refuses_odd_prefixes() {
   for odd in '"' '$' '#' '(' ')' ';' "\\" '|' ',' ':' "$(printf 'a\nb')"; do
-    refuses_with 2 'a prefix may not have' "$crate/install" --from "$library" "$work/here/x${odd}y" || { echo "not refused: $odd"; return 1; }
+    refuses_with 2 'a prefix may not have' "$crate/install" --from "$library" "$work/here/x${odd}y" ||
+      { echo "not refused: $odd"; return 1; }
   done
 }
 
 # moves_and_copies: whether uninstall removes what is below its prefix, also if that was copied or moved there.
 moves_and_copies() {
-  "$crate/install" --from "$library" "$work/first" && cp -a "$work/first" "$work/copy" && contents "$work/first" > "$work/before" || return 1
+  "$crate/install" --from "$library" "$work/first" && cp -a "$work/first" "$work/copy" || return 1
+  contents "$work/first" > "$work/before"
   "$crate/uninstall" "$work/copy" && [ ! -e "$work/copy" ] && contents "$work/first" | diff "$work/before" - || return 1
   mv "$work/first" "$work/moved" && "$crate/uninstall" "$work/moved" && [ ! -e "$work/moved" ]
 }
@@ -346,7 +365,7 @@ removes_an_early_version() {
 
 check_refusals() {
   mkdir -p "$work/here/lib" "$work/here/include/lexical.h"
-  touch "$work/here/lib/liblexical_c.so.2.9.9" "$work/here/lib/liblexical_c.so.4" "$work/here/lib/liblexical_c.so.backup"
+  for end in 2.9.9 4 backup; do touch "$work/here/lib/liblexical_c.so.$end"; done
   expect '--help' prints 'usage: install [--from ARCHIVE] [--libdir FOLDER] PREFIX' sh -c '"$1" --help | head -n 1' sh "$crate/install"
   expect 'a relative prefix' refuses_with 2 usage "$crate/install" --from "$library" usr
   expect 'an unknown option' refuses_with 2 usage "$crate/install" --form "$library" "$work/here"
@@ -371,10 +390,11 @@ check_refusals() {
 # leaves_others: whether install and uninstall leave what was there.
 leaves_others() {
   contents "$work/here" > "$work/before"
-  "$crate/install" --from "$library" "$work/here" && "$crate/uninstall" "$work/here" && contents "$work/here" | diff "$work/before" -
+  "$crate/install" --from "$library" "$work/here" && "$crate/uninstall" "$work/here" &&
+    contents "$work/here" | diff "$work/before" -
 }
 
-# ---- failures: all of the new version is installed, or everything is as before
+# ---- failures: all of the new version is installed, or nothing is changed
 
 # makes_faulty COMMAND..: makes commands in $work/faulty that count their calls in $work/calls. Call number FAULT_AT
 # fails, and each later one if FAULT is fail_on; or else the signal FAULT ends the install.
@@ -404,7 +424,10 @@ tries() {
 }
 
 # runs_early: whether the program that was linked to the first version runs, if that was installed.
-runs_early() { [ ! -e "$work/state/prefix" ] || prints "$c_lines" env LD_LIBRARY_PATH="$work/tried/prefix/lib" "$work/early_program"; }
+runs_early() {
+  [ ! -e "$work/state/prefix" ] ||
+    prints "$c_lines" env LD_LIBRARY_PATH="$work/tried/prefix/lib" "$work/early_program"
+}
 
 # is_unchanged_at_each_step FAULT: whether an install with this fault at each step in turn, until there is none, leaves
 # what was there before, and an earlier program runs. What was there is $work/state: nothing, or the first version. If
@@ -417,16 +440,18 @@ is_unchanged_at_each_step() {
     tries "$1" "$step"
     status=$?
     runs_early || { echo "step $step: the program does not run"; return 1; }
-    [ "$status" -eq 0 ] || [ "$1" = fail_on ] || contents "$work/tried" | diff "$work/contents" - || { echo "step $step: it is changed"; return 1; }
+    [ "$status" -eq 0 ] || [ "$1" = fail_on ] || contents "$work/tried" | diff "$work/contents" - ||
+      { echo "step $step: it is changed"; return 1; }
     rmdir "$work/temporary" || { echo "step $step: temporary files"; return 1; }
   done
   [ "$step" -gt 12 ] && "$later/uninstall" "$work/tried/prefix" && [ ! -e "$work/tried/prefix" ]
 }
 
-# is_unchanged COMMAND..: whether a command, which does not install below $work/tried/prefix, leaves what was there before.
+# is_unchanged COMMAND..: whether a command that fails to install below $work/tried/prefix leaves what was there before.
 is_unchanged() {
   rm -rf "$work/tried" && cp -a "$work/state" "$work/tried" && mkdir -p "$work/temporary" || return 1
-  fails env TMPDIR="$work/temporary" "$@" "$work/tried/prefix" && contents "$work/tried" | diff "$work/contents" - && runs_early && rmdir "$work/temporary"
+  fails env TMPDIR="$work/temporary" "$@" "$work/tried/prefix" && contents "$work/tried" | diff "$work/contents" - &&
+    runs_early && rmdir "$work/temporary"
 }
 
 # repairs: whether an earlier program runs after an install was killed, a second one completes it, and uninstall then
@@ -445,7 +470,8 @@ check_failures() {
   rm "$work/faulty/cp"
   expect "$1 that is terminated at a step" is_unchanged_at_each_step TERM
   for signal in HUP INT PIPE; do
-    expect "$1 and the signal $signal" is_unchanged env PATH="$work/faulty:$PATH" FAULT=$signal FAULT_AT=5 sh -c "echo 0 > $work/calls && exec \"\$@\"" sh "$later/install"
+    echo 0 > "$work/calls"
+    expect "$1 and the signal $signal" is_unchanged env PATH="$work/faulty:$PATH" FAULT=$signal FAULT_AT=5 "$later/install"
   done
   expect "$1 that is killed" repairs
   expect "$1 without a compiler" is_unchanged env CC=false "$later/install"
@@ -461,8 +487,9 @@ check_all_failures() {
   rm -rf "$work/state" && mkdir "$work/state"
   check_failures 'a first install'
   expect 'installing the first version' "$crate/install" --from "$library" "$work/state/prefix"
+  first=$work/state/prefix
   # shellcheck disable=SC2086
-  expect 'the early program' $CC -o "$work/early_program" -I"$work/state/prefix/include" "$work/example.c" -L"$work/state/prefix/lib" -llexical_c
+  expect 'the early program' $CC -o "$work/early_program" -I"$first/include" "$work/example.c" -L"$first/lib" -llexical_c
   check_failures 'an upgrade'
   expect 'an upgrade that fails from a step on' is_unchanged_at_each_step fail_on
 }
