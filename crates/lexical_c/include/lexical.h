@@ -2,12 +2,15 @@
 /*
  * lexical.h: converts integers to text, in every radix from 2 to 36.
  *
- *     const struct lexical_format format = { .radix = 16 };
  *     char buffer[LEXICAL_BUFFER_SIZE];
- *     size_t count = lexical_write_u32(48879, &format, buffer, sizeof buffer);
+ *     size_t count = lexical_decimal_u32(48879, buffer, sizeof buffer);
  *
- * writes BEEF to the buffer and returns 4. The examples of this file are from
- * tests/header.c, a test of the library.
+ * writes 48879 to the buffer and returns 5, and
+ *
+ *     const struct lexical_format hexadecimal = LEXICAL_RADIX(16);
+ *     count = lexical_write_u32(48879, &hexadecimal, buffer, sizeof buffer);
+ *
+ * writes BEEF and returns 4. A test of the library has the examples.
  *
  * Each function is proved for all arguments that meet the conditions below
  * under "Format" and "Buffer". A function that writes a number writes its text
@@ -32,27 +35,26 @@
  * store it back. It writes nothing outside the buffer, and keeps no pointer to it.
  *
  * Length of the buffer. A call writes if the text fits the buffer, and
- * otherwise returns 0. LEXICAL_BUFFER_SIZE bytes are enough for every number of
- * every type in every format. A call is fastest if the format has no groups and
- * no required sign, and the buffer is long enough for every number of the type
- * (LEXICAL_BUFFER_SIZE_.. below). Lowercase letters take a little longer. In other
- * cases the text may be written to an array on the stack first;
- * LEXICAL_BUFFER_SIZE bytes always avoid that.
+ * otherwise returns 0; lexical_length returns the length that the text has.
+ * LEXICAL_BUFFER_SIZE bytes are enough for every number of every type in every
+ * format. lexical_decimal is the fastest call. lexical_write is fastest if the
+ * format has no groups and no required sign. Both are fastest if the buffer is
+ * long enough for every number of the type (the constants below). In other cases
+ * the text may be written to an array on the stack first; LEXICAL_BUFFER_SIZE
+ * bytes always avoid that.
  *
  * Strings. No terminating 0 is written; the result of the call is the length of
  * the text. For a string, reserve a further byte, which is not part of `length`:
  *
  *     char text[LEXICAL_BUFFER_SIZE_DECIMAL_I32 + 1];
- *     size_t count = lexical_write_i32(-42, &lexical_standard_format,
- *                                      text, sizeof text - 1);
+ *     size_t count = lexical_decimal_i32(-42, text, sizeof text - 1);
  *     text[count] = '\0';
  *
  * Zeros. For a width of 8, write an unsigned number after 8 zeros:
  *
  *     char text[8 + LEXICAL_BUFFER_SIZE_DECIMAL_U32];
  *     memset(text, '0', 8);
- *     size_t count = lexical_write_u32(42, &lexical_standard_format, text + 8,
- *                                      sizeof text - 8);
+ *     size_t count = lexical_decimal_u32(42, text + 8, sizeof text - 8);
  *
  * The 8 bytes at text + count are 00000042.
  *
@@ -92,6 +94,9 @@
 #define LEXICAL_WRITES                                                         \
     LEXICAL_HAS((nothrow, nonnull(2), warn_unused_result))                     \
     LEXICAL_ACCESS((read_only, 2)) LEXICAL_ACCESS((write_only, 3, 4))
+/* For (value, buffer, length): the call writes to the buffer. */
+#define LEXICAL_WRITES_DECIMAL                                                 \
+    LEXICAL_HAS((nothrow, warn_unused_result)) LEXICAL_ACCESS((write_only, 2, 3))
 /* For (value, format) and (format): the call reads the format and writes nothing. */
 #define LEXICAL_READS(n)                                                       \
     LEXICAL_HAS((nothrow, pure, nonnull(n), warn_unused_result))               \
@@ -101,23 +106,67 @@
 extern "C" {
 #endif
 
+/* ---- the version --------------------------------------------------------- */
+
 /*
- * The version of this header: 1000000 times the major number, plus 1000 times
- * the minor number, plus the patch number.
+ * The version of this header, as a string, and as a number: 1000000 times the
+ * major number, plus 1000 times the minor number, plus the patch number. The
+ * major number is also that of the name liblexical_c.so.3.
  */
-#define LEXICAL_VERSION 3000000
-
-/* The major number, which is also that of the name liblexical_c.so.3. */
+#define LEXICAL_VERSION_STRING "3.1.0"
+#define LEXICAL_VERSION 3001000
 #define LEXICAL_VERSION_MAJOR (LEXICAL_VERSION / 1000000)
+#define LEXICAL_VERSION_MINOR (LEXICAL_VERSION / 1000 % 1000)
+#define LEXICAL_VERSION_PATCH (LEXICAL_VERSION % 1000)
 
 /*
- * Returns the version of the library, as a number of the form of LEXICAL_VERSION.
- * A program that was compiled with this header can run with a library for which
+ * lexical_version: returns the version of the library, as a number of the form of
+ * LEXICAL_VERSION. A program that was compiled with this header can run with a
+ * library for which
  *
  *     lexical_version() / 1000000 == LEXICAL_VERSION_MAJOR
  *         && lexical_version() >= LEXICAL_VERSION
  */
 LEXICAL_HAS((nothrow, const)) uint32_t lexical_version(void) LEXICAL_NOEXCEPT;
+
+/* ---- decimal numbers ----------------------------------------------------- */
+
+/* A buffer size that is enough for every number of one type in decimal. */
+#define LEXICAL_BUFFER_SIZE_DECIMAL_U8 3
+#define LEXICAL_BUFFER_SIZE_DECIMAL_U16 5
+#define LEXICAL_BUFFER_SIZE_DECIMAL_U32 10
+#define LEXICAL_BUFFER_SIZE_DECIMAL_U64 20
+#define LEXICAL_BUFFER_SIZE_DECIMAL_SIZE 20
+#define LEXICAL_BUFFER_SIZE_DECIMAL_I8 4
+#define LEXICAL_BUFFER_SIZE_DECIMAL_I16 6
+#define LEXICAL_BUFFER_SIZE_DECIMAL_I32 11
+#define LEXICAL_BUFFER_SIZE_DECIMAL_I64 20
+
+/*
+ * lexical_decimal_T: writes a number in decimal, as lexical_write_T does in the
+ * standard format, to the start of the buffer, and returns the length of the text,
+ * which is never 0. Every byte after the text is unchanged.
+ *
+ * Returns 0 if and only if the text does not fit the buffer, which is then unchanged.
+ */
+LEXICAL_WRITES_DECIMAL
+size_t lexical_decimal_u8(uint8_t value, char *buffer, size_t length) LEXICAL_NOEXCEPT;
+LEXICAL_WRITES_DECIMAL
+size_t lexical_decimal_u16(uint16_t value, char *buffer, size_t length) LEXICAL_NOEXCEPT;
+LEXICAL_WRITES_DECIMAL
+size_t lexical_decimal_u32(uint32_t value, char *buffer, size_t length) LEXICAL_NOEXCEPT;
+LEXICAL_WRITES_DECIMAL
+size_t lexical_decimal_u64(uint64_t value, char *buffer, size_t length) LEXICAL_NOEXCEPT;
+LEXICAL_WRITES_DECIMAL
+size_t lexical_decimal_size(size_t value, char *buffer, size_t length) LEXICAL_NOEXCEPT;
+LEXICAL_WRITES_DECIMAL
+size_t lexical_decimal_i8(int8_t value, char *buffer, size_t length) LEXICAL_NOEXCEPT;
+LEXICAL_WRITES_DECIMAL
+size_t lexical_decimal_i16(int16_t value, char *buffer, size_t length) LEXICAL_NOEXCEPT;
+LEXICAL_WRITES_DECIMAL
+size_t lexical_decimal_i32(int32_t value, char *buffer, size_t length) LEXICAL_NOEXCEPT;
+LEXICAL_WRITES_DECIMAL
+size_t lexical_decimal_i64(int64_t value, char *buffer, size_t length) LEXICAL_NOEXCEPT;
 
 /* ---- formats ------------------------------------------------------------- */
 
@@ -154,13 +203,16 @@ struct lexical_format {
     uint32_t reserved[2] LEXICAL_DEFAULT({}); /* 0, for fields of a later version */
 };
 
+/* The format of a radix, as an initializer: with no '+' and no groups, in uppercase. */
+#define LEXICAL_RADIX(radix) { radix, 0, 0, 0, 0, { 0, 0 } }
+
 /*
  * The standard format, as an initializer and as an object: decimal, with no '+'
  * and no groups. A program has one such object, and so has each shared library, which
  * does not export it: it is `inline constexpr` in C++17 and later, and otherwise a weak
  * symbol, which compilers other than gcc and clang lack.
  */
-#define LEXICAL_STANDARD_FORMAT { 10, 0, 0, 0, 0, { 0, 0 } }
+#define LEXICAL_STANDARD_FORMAT LEXICAL_RADIX(10)
 #if defined(__cplusplus) && __cplusplus >= 201703L
 LEXICAL_HAS((visibility("hidden")))
 inline constexpr lexical_format lexical_standard_format = LEXICAL_STANDARD_FORMAT;
@@ -178,9 +230,9 @@ static const struct lexical_format lexical_standard_format = LEXICAL_STANDARD_FO
 #define LEXICAL_INVALID_RESERVED 4
 
 /*
- * Returns 0 if the format is valid, and otherwise the constant above that names
- * its first invalid field. The radix is checked first, then the group size,
- * then the mark, then the reserved fields.
+ * lexical_check_format: returns 0 if the format is valid, and otherwise the
+ * constant above that names its first invalid field. The radix is checked first,
+ * then the group size, then the mark, then the reserved fields.
  */
 LEXICAL_READS(1)
 uint32_t lexical_check_format(const struct lexical_format *format) LEXICAL_NOEXCEPT;
@@ -201,18 +253,6 @@ uint32_t lexical_check_format(const struct lexical_format *format) LEXICAL_NOEXC
 #define LEXICAL_BUFFER_SIZE_I16 32
 #define LEXICAL_BUFFER_SIZE_I32 64
 #define LEXICAL_BUFFER_SIZE_I64 128
-
-/* A buffer size that is enough for every number of one type in the standard
-   format. */
-#define LEXICAL_BUFFER_SIZE_DECIMAL_U8 3
-#define LEXICAL_BUFFER_SIZE_DECIMAL_U16 5
-#define LEXICAL_BUFFER_SIZE_DECIMAL_U32 10
-#define LEXICAL_BUFFER_SIZE_DECIMAL_U64 20
-#define LEXICAL_BUFFER_SIZE_DECIMAL_SIZE 20
-#define LEXICAL_BUFFER_SIZE_DECIMAL_I8 4
-#define LEXICAL_BUFFER_SIZE_DECIMAL_I16 6
-#define LEXICAL_BUFFER_SIZE_DECIMAL_I32 11
-#define LEXICAL_BUFFER_SIZE_DECIMAL_I64 20
 
 /*
  * lexical_buffer_size_T: returns a buffer size, from 1 to LEXICAL_BUFFER_SIZE,
@@ -318,26 +358,40 @@ size_t lexical_write_i64(int64_t value, const struct lexical_format *format,
 /* ---- the function for a type ------------------------------------------------- */
 
 /*
- * lexical_write and lexical_length, in C11 and later, and in C++: call the function
- * above that the type of the value chooses, as lexical_write_i32 for an int. A
- * char and a bool are refused, and in C++ also wchar_t, char8_t, char16_t and
- * char32_t, which in C are names of integer types: a cast says whether the number
- * or a letter is meant. In C11 a bit-field needs a cast too.
+ * lexical_decimal, lexical_write and lexical_length, in C11 and later, and in C++:
+ * call the function above that the type of the value chooses, as lexical_write_i32
+ * for an int. A char and a bool are refused, and in C++ also wchar_t, char8_t,
+ * char16_t and char32_t, which in C are names of integer types: a cast says whether
+ * the number or a letter is meant. In C11 a bit-field needs a cast too.
+ *
+ * In C++ the format may also be passed as an object, and from C++11 on as an
+ * initializer:
+ *
+ *     count = lexical_write(48879, LEXICAL_RADIX(16), buffer, sizeof buffer);
+ *
+ * In C99 and later a pointer to it is &(const struct lexical_format)LEXICAL_RADIX(16).
  */
 #if defined(__cplusplus)
 extern "C++" {
 #if __cplusplus >= 201103L
 #define LEXICAL_REFUSED(type)                                                  \
+    size_t lexical_decimal(type, char *, size_t) = delete;                     \
     size_t lexical_write(type, const struct lexical_format *, char *, size_t) = delete; \
     size_t lexical_length(type, const struct lexical_format *) = delete;
 #else
 /* A call whose result has an incomplete type does not compile. */
 struct lexical_refused;
 #define LEXICAL_REFUSED(type)                                                  \
+    lexical_refused lexical_decimal(type, char *, size_t);                     \
     lexical_refused lexical_write(type, const lexical_format *, char *, size_t); \
     lexical_refused lexical_length(type, const lexical_format *);
 #endif
 #define LEXICAL_OVERLOAD(name, type)                                           \
+    LEXICAL_WRITES_DECIMAL                                                     \
+    inline size_t lexical_decimal(type value, char *buffer, size_t length) LEXICAL_NOEXCEPT \
+    {                                                                          \
+        return lexical_decimal_##name(value, buffer, length);                  \
+    }                                                                          \
     LEXICAL_WRITES                                                             \
     inline size_t lexical_write(type value, const struct lexical_format *format, \
                                 char *buffer, size_t length) LEXICAL_NOEXCEPT  \
@@ -372,6 +426,19 @@ LEXICAL_REFUSED(char8_t)
 LEXICAL_REFUSED(char16_t)
 LEXICAL_REFUSED(char32_t)
 #endif
+template <typename T>
+LEXICAL_HAS((nothrow, warn_unused_result)) LEXICAL_ACCESS((write_only, 3, 4))
+inline size_t lexical_write(T value, const lexical_format &format, char *buffer,
+                            size_t length) LEXICAL_NOEXCEPT
+{
+    return lexical_write(value, &format, buffer, length);
+}
+template <typename T>
+LEXICAL_HAS((nothrow, pure, warn_unused_result))
+inline size_t lexical_length(T value, const lexical_format &format) LEXICAL_NOEXCEPT
+{
+    return lexical_length(value, &format);
+}
 #undef LEXICAL_OVERLOAD
 #undef LEXICAL_REFUSED
 }
@@ -382,6 +449,8 @@ LEXICAL_REFUSED(char32_t)
              unsigned long long: function##_u64, signed char: function##_i8,   \
              short: function##_i16, int: function##_i32, long: function##_i64, \
              long long: function##_i64)
+#define lexical_decimal(value, buffer, length)                                 \
+    LEXICAL_FOR_TYPE(lexical_decimal, value)(value, buffer, length)
 #define lexical_write(value, format, buffer, length)                           \
     LEXICAL_FOR_TYPE(lexical_write, value)(value, format, buffer, length)
 #define lexical_length(value, format)                                          \
@@ -393,6 +462,7 @@ LEXICAL_REFUSED(char32_t)
 #undef LEXICAL_ACCESS
 #undef LEXICAL_NOEXCEPT
 #undef LEXICAL_WRITES
+#undef LEXICAL_WRITES_DECIMAL
 #undef LEXICAL_READS
 
 #endif

@@ -1,9 +1,9 @@
 -- What a function that writes promises, from what it knows of the text.
 use Rattle.std.proofs.Common.{◌≡◌, Option, None, Some, ℕ, ◌^◌, ◌<◌, ◌≤◌, ℤ, unsigned_abs, List, ◌++◌, length, map, take, drop}
-use Rattle.std.proofs.Common.{length-append, refl, sym, ap, ◌∙◌, arith}
+use Rattle.std.proofs.Common.{length-append, refl, sym, ap, subst, ◌∙◌, arith}
 use Rattle.std.specs.Prelude.{◌≢◌}
 use Rattle.std.specs.Char.{to_ascii_lowercase}
-use Rattle.lexical_num.specs.Format.{Format, IsValid, grouped_length}
+use Rattle.lexical_num.specs.Format.{Format, IsRadix, IsValid, grouped_length, standard}
 use Rattle.lexical_write_integer.specs.Buffer.{Front, Writes, WritesText}
 use Rattle.lexical_write_integer.specs.Computed.{text_of}
 use Rattle.lexical_write_integer.specs.Text.{IsText}
@@ -13,9 +13,11 @@ use Rattle.lexical_write_integer.proofs.OfTexts.ComputedTexts.{text_computed}
 use Rattle.lexical_write_integer.proofs.OfDigits.Count.DigitCounts.{digit_count-pos}
 use Rattle.lexical_write_integer.proofs.OfTexts.Required.{length-IsText}
 use Rattle.lexical_c.specs.Buffer.{IsWritable, WritesIf, WritesOrRefuses}
-use Rattle.lexical_c.specs.Format.{IsAccepted, format_of}
+use Rattle.lexical_c.specs.Format.{HasOnlyRadixAndCase, IsAccepted, format_of}
 use Rattle.lexical_c.specs.declared.format.CFormat.{CFormat}
+use Rattle.lexical_c.specs.declared.format.TheConstants.{DECIMAL}
 use Rattle.lexical_c.proofs.Letters.{lowercase-IsText}
+use Rattle.lexical_c.proofs.PlainTexts.{accepted, only_radix}
 
 -- the length of the written text is that of the computed text
 pub length-written : (x : ℤ) (format : Format) (before after : List ℕ) (count : ℕ) → 2 ≤ format.mantissa_radix →
@@ -92,6 +94,34 @@ in_either_case x format before after count none few w = record {
   };
   refused = w.refused;
 }
+
+-- the standard format is accepted
+pub decimal_accepted : IsAccepted DECIMAL
+decimal_accepted = accepted DECIMAL
+    record { sign = refl; groups = refl; unreserved = record { first = refl; second = refl } }
+    record { at_least_two = omega arith; at_most_36 = omega arith }
+
+-- its text is in the requested case
+pub in_decimal : (x : ℤ) (before after : List ℕ) (count : ℕ) → WritesIf x DECIMAL (IsText x (format_of DECIMAL)) before after count →
+    WritesOrRefuses x DECIMAL before after count
+in_decimal x before after count = in_either_case x DECIMAL before after count refl (λ other. absurd (other refl))
+
+-- in radix 10 a format with only a radix and a case is like the standard format
+pub as_decimal : (x : ℤ) (format : CFormat) (before after : List ℕ) (count : ℕ) → HasOnlyRadixAndCase format → format.radix ≡ 10 →
+    WritesOrRefuses x DECIMAL before after count → WritesOrRefuses x format before after count
+as_decimal x format before after count only ten w =
+    let same : format_of format ≡ standard = only_radix format only ∙ ap (λ r. record standard { mantissa_radix = r }) ten in
+    let long = ap (λ f. length (text_of x f)) same in
+    let radix : IsRadix format.radix = record { at_least_two = omega (arith, ten); at_most_36 = omega (arith, ten) } in
+    in_either_case x format before after count only.groups (λ _. omega (arith, ten)) record {
+      accepts = (
+        λ some. record { accepted = accepted format only radix; fits = omega (arith, long, (w.accepts.0 some).fits) },
+        λ writable. w.accepts.1 (record { accepted = decimal_accepted; fits = omega (arith, long, writable.fits) }),
+      );
+      text = λ some. let t = w.text some in
+          record { text = t.text; is = subst (λ f. IsText x f t.text) (sym same) (t.is.upper refl); front = t.front; count = t.count };
+      refused = w.refused;
+    }
 
 -- with lowercase, the letters of the written text are changed where they are
 pub in_lowercase : (x : ℤ) (format : CFormat) (before between lower : List ℕ) (count : ℕ) → format.lowercase ≢ 0 →

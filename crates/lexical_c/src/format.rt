@@ -22,6 +22,17 @@ pub struct CFormat {
     pub reserved_2: u32,
 }
 
+/// The standard format: decimal, with no `+` and no groups.
+pub const DECIMAL: CFormat = CFormat {
+    radix: 10,
+    required_sign: 0,
+    group_size: 0,
+    mark: 0,
+    lowercase: 0,
+    reserved_1: 0,
+    reserved_2: 0,
+};
+
 /// The error that the radix is not from 2 to 36.
 pub const INVALID_RADIX: u32 = 1;
 /// The error that the group size is above 64.

@@ -10,7 +10,6 @@ ghost use Rattle.lexical_write_integer.specs.Text.{need};
 ghost use Rattle.lexical_c.specs.Format.{HasOnlyRadix, HasOnlyRadixAndCase};
 
 use crate::format::CFormat;
-use lexical_num::format::STANDARD;
 use lexical_num::limits::is_radix;
 use lexical_write_integer::{
     FormattedSize, NumberFormat, NumberFormatBuilder, ToLexical, write_sign,
@@ -41,9 +40,9 @@ pub fn has_letters(format: &CFormat) -> bool
     format.radix > 10
 }
 
-/// Returns the format of this radix without a required sign and groups if the radix is valid, and above 10 if
-/// `LETTERS` is true, and a buffer of `room` bytes is enough for every number of the type. Otherwise returns
-/// `None`.
+/// Returns the format of this radix without a required sign and groups if the radix is valid and not 10, and
+/// above 10 if `LETTERS` is true, and a buffer of `room` bytes is enough for every number of the type. Otherwise
+/// returns `None`.
 pub fn fitting_format<T: FormattedSize, const LETTERS: bool>(
     radix: u32,
     room: usize,
@@ -53,13 +52,8 @@ pub fn fitting_format<T: FormattedSize, const LETTERS: bool>(
     ensures room { IfSome result (λ plain.
         size_in T.FORMATTED_SIZE T.FORMATTED_SIZE_DECIMAL plain ≤ room) }
 {
-    if radix == 10 {
-        if !LETTERS && T::FORMATTED_SIZE_DECIMAL <= room {
-            Some(STANDARD)
-        } else {
-            None
-        }
-    } else if (!LETTERS || radix > 10) && is_radix(u64::from(radix)) && T::FORMATTED_SIZE <= room {
+    let is_wanted = if LETTERS { radix > 10 } else { radix != 10 };
+    if is_wanted && is_radix(u64::from(radix)) && T::FORMATTED_SIZE <= room {
         let builder = NumberFormatBuilder::new().mantissa_radix(radix as u8);
         Some(builder.build_strict())
     } else {

@@ -5,7 +5,9 @@ ghost use Rattle.std.specs.Prelude.{◌≡◌, ◌≢◌, ◌≤◌, pos};
 ghost use Rattle.lexical_c.specs.Buffer.{WritesOrRefuses};
 ghost use Rattle.lexical_c.specs.Format.{HasOnlyRadix, HasOnlyRadixAndCase};
 
+use crate::decimal::write_decimal;
 use crate::format::CFormat;
+use crate::general::write_if_it_fits;
 use crate::integer::CInteger;
 use crate::plain::{
     fitting_format, has_letters, has_only_radix, has_only_radix_and_case, set_lowercase_bit,
@@ -32,7 +34,7 @@ fn write_other<T: CInteger>(value: T, format: &CFormat, buffer: &mut [u8]) -> us
     ensures { WritesOrRefuses (T.number value) format.now buffer.old buffer.new result }
 {
     if !has_only_radix_and_case(format) {
-        value.write_if_it_fits(format, buffer)
+        write_if_it_fits(value.widen(), format, buffer)
     } else if !has_letters(format) {
         write_digits(value, format, buffer)
     } else if T::IS_SIGNED {
@@ -43,8 +45,21 @@ fn write_other<T: CInteger>(value: T, format: &CFormat, buffer: &mut [u8]) -> us
 }
 
 // Does what `write` does in a format that has only a radix, or at most 10 as the radix and a case: then the
-// text is the same in lowercase.
+// text is the same in lowercase. Radix 10 is apart, so a signed number in decimal takes no jump by its radix.
 fn write_digits<T: CInteger>(value: T, format: &CFormat, buffer: &mut [u8]) -> usize
+    requires only { HasOnlyRadixAndCase format.now }
+    requires case { format.now.lowercase ≢ 0 → format.now.radix ≤ 10 }
+    ensures { WritesOrRefuses (T.number value) format.now buffer.old buffer.new result }
+{
+    if format.radix == 10 {
+        write_decimal(value, buffer)
+    } else {
+        write_in_radix(value, format, buffer)
+    }
+}
+
+// Does what `write_digits` does, under the same conditions.
+fn write_in_radix<T: CInteger>(value: T, format: &CFormat, buffer: &mut [u8]) -> usize
     requires only { HasOnlyRadixAndCase format.now }
     requires case { format.now.lowercase ≢ 0 → format.now.radix ≤ 10 }
     ensures { WritesOrRefuses (T.number value) format.now buffer.old buffer.new result }
@@ -55,7 +70,7 @@ fn write_digits<T: CInteger>(value: T, format: &CFormat, buffer: &mut [u8]) -> u
             size_suffices(value, &plain);
             write_plain(value, &plain, buffer)
         }
-        None => value.write_if_it_fits(format, buffer),
+        None => write_if_it_fits(value.widen(), format, buffer),
     }
 }
 
@@ -72,7 +87,7 @@ fn write_in_lowercase<T: CInteger>(value: T, format: &CFormat, buffer: &mut [u8]
             let count = write_plain(value, &plain, buffer);
             set_lowercase_bit(&mut buffer[..count])
         }
-        None => value.write_if_it_fits(format, buffer),
+        None => write_if_it_fits(value.widen(), format, buffer),
     }
 }
 

@@ -1,8 +1,8 @@
 /*
- * Calls lexical_write and lexical_length, which choose the function by the type of
- * the value, for each type of C, and compares texts and lengths. It is compiled as
- * C11 and C++98, and as each later standard. With REFUSED, a char or a bool, or in C++
- * another type of characters, it must not compile.
+ * Calls lexical_decimal, lexical_write and lexical_length, which choose the function by
+ * the type of the value, for each type of C, in several formats and with buffers of each
+ * length, and compares texts and lengths. It is compiled as C11 and C++98, and as each
+ * later standard. With REFUSED, a call that a type does not have, it must not compile.
  */
 #include "lexical.h"
 #include "types.h"
@@ -10,44 +10,83 @@
 #include <stdio.h>
 #include <string.h>
 
-static int is_wrong(size_t count, size_t length, const char *text, const char *wanted)
+/* The buffer, and the number of bytes of it that are passed. */
+static char text[LEXICAL_BUFFER_SIZE];
+static size_t room;
+
+/* Checks the result of a call, and that it left the bytes after its text, or a text that does not fit, unchanged. */
+static int is_wrong(size_t count, const char *wanted)
 {
-    if (count == strlen(wanted) && length == count && memcmp(text, wanted, count) == 0)
-        return 0;
-    printf("failed: %s\n", wanted);
-    return 1;
+    size_t length = strlen(wanted) <= room ? strlen(wanted) : 0;
+    int is_right = count == length && memcmp(text, wanted, length) == 0;
+    size_t i;
+    for (i = length; i < sizeof text; i++)
+        is_right = is_right && text[i] == '#';
+    if (!is_right)
+        printf("failed: %s in %lu bytes\n", wanted, (unsigned long)room);
+    memset(text, '#', sizeof text);
+    return !is_right;
 }
 
-#define TRY(type, value, wanted)                                               \
+static const struct lexical_format HEXADECIMAL = LEXICAL_RADIX(16), BINARY = FORMAT(2, 1, 4, '_');
+
+/* In C++ a format may also be an object. */
+#ifdef __cplusplus
+#define WRITE_IN(number, format) \
+    wrong += is_wrong(lexical_write(number, format, text, room), format##_text); \
+    wrong += lexical_length(number, format) != strlen(format##_text);
+#else
+#define WRITE_IN(number, format)
+#endif
+
+#define CALL_IN(number, format)                                                \
+    wrong += is_wrong(lexical_write(number, &format, text, room), format##_text); \
+    wrong += lexical_length(number, &format) != strlen(format##_text);         \
+    WRITE_IN(number, format)
+
+#define TRY(type, value, decimal, hexadecimal, binary)                         \
     {                                                                          \
+        static const char *const lexical_standard_format_text = decimal;       \
+        static const char *const HEXADECIMAL_text = hexadecimal;               \
+        static const char *const BINARY_text = binary;                         \
         const type number = (type)(value);                                     \
-        char text[LEXICAL_BUFFER_SIZE];                                        \
-        size_t count = lexical_write(number, &lexical_standard_format, text, sizeof text); \
-        size_t length = lexical_length(number, &lexical_standard_format);      \
-        wrong += is_wrong(count, length, text, wanted);                        \
+        for (room = 0; room <= sizeof text; room++) {                          \
+            wrong += is_wrong(lexical_decimal(number, text, room), decimal);   \
+            CALL_IN(number, lexical_standard_format)                           \
+            CALL_IN(number, HEXADECIMAL)                                       \
+            CALL_IN(number, BINARY)                                            \
+        }                                                                      \
     }
+
+#define ONES_8 "1111_1111"
+#define ONES_16 ONES_8 "_" ONES_8
+#define ONES_32 ONES_16 "_" ONES_16
+#define ONES_64 ONES_32 "_" ONES_32
+#define ZEROS_12 "_0000_0000_0000"
 
 int main(void)
 {
     int wrong = 0;
-    TRY(unsigned char, -1, "255")
-    TRY(unsigned short, -1, "65535")
-    TRY(unsigned int, -1, "4294967295")
-    TRY(unsigned long, -1, "18446744073709551615")
-    TRY(signed char, -128, "-128")
-    TRY(short, -32768, "-32768")
-    TRY(int, -2147483647 - 1, "-2147483648")
-    TRY(long, -9223372036854775807L - 1, "-9223372036854775808")
-    TRY(size_t, -1, "18446744073709551615")
-    TRY(ptrdiff_t, -1, "-1")
-    TRY(uint8_t, -1, "255")
-    TRY(int64_t, INT64_MIN, "-9223372036854775808")
+    memset(text, '#', sizeof text);
+    TRY(unsigned char, -1, "255", "FF", "+" ONES_8)
+    TRY(unsigned short, -1, "65535", "FFFF", "+" ONES_16)
+    TRY(unsigned int, -1, "4294967295", "FFFFFFFF", "+" ONES_32)
+    TRY(unsigned long, -1, "18446744073709551615", "FFFFFFFFFFFFFFFF", "+" ONES_64)
+    TRY(signed char, -128, "-128", "-80", "-1000_0000")
+    TRY(short, -32768, "-32768", "-8000", "-1000" ZEROS_12)
+    TRY(int, -2147483647 - 1, "-2147483648", "-80000000", "-1000_0000_0000_0000_0000" ZEROS_12)
+    TRY(long, -4611686018427387904L, "-4611686018427387904", "-4000000000000000",
+        "-100_0000_0000" ZEROS_12 ZEROS_12 ZEROS_12 "_0000_0000_0000_0000")
+    TRY(size_t, -1, "18446744073709551615", "FFFFFFFFFFFFFFFF", "+" ONES_64)
+    TRY(ptrdiff_t, -1, "-1", "-1", "-1")
+    TRY(uint8_t, -1, "255", "FF", "+" ONES_8)
+    TRY(int64_t, 10, "10", "A", "+1010")
 #if !defined(__cplusplus) || __cplusplus >= 201103L
-    TRY(unsigned long long, -1, "18446744073709551615")
-    TRY(long long, -9223372036854775807LL - 1, "-9223372036854775808")
+    TRY(unsigned long long, -1, "18446744073709551615", "FFFFFFFFFFFFFFFF", "+" ONES_64)
+    TRY(long long, -10, "-10", "-A", "-1010")
 #endif
 #ifdef REFUSED
-    TRY(REFUSED, 1, "1")
+    wrong += REFUSED != 0;
 #endif
     return wrong != 0;
 }

@@ -9,6 +9,9 @@
 #include <stdio.h>
 #include <stdlib.h>
 #include <string.h>
+#ifdef __cplusplus
+#include <new>
+#endif
 
 /* Returns 1 and prints what has failed if it is not right, and otherwise 0. */
 static int is_wrong(int is_right, const char *what)
@@ -24,6 +27,8 @@ static uint32_t (*const version)(void) = lexical_version;
 static uint32_t (*const check_format)(format_pointer) = lexical_check_format;
 
 #define FUNCTIONS(NAME, CONSTANT, TYPE)                                        \
+    static size_t (*const decimal_##NAME)(TYPE, char *, size_t)                \
+        = lexical_decimal_##NAME;                                              \
     static size_t (*const write_##NAME)(TYPE, format_pointer, char *, size_t)  \
         = lexical_write_##NAME;                                                \
     static size_t (*const length_##NAME)(TYPE, format_pointer)                 \
@@ -39,6 +44,7 @@ static uint32_t (*const check_format)(format_pointer) = lexical_check_format;
                                     sizeof buffer);                            \
         size_t most = buffer_size_##NAME(&lexical_standard_format);            \
         return is_wrong(count == length_##NAME(value, &lexical_standard_format) \
+                        && count == decimal_##NAME(value, buffer, count)       \
                         && count <= most, "lexical_write_" #NAME);             \
     }
 FOR_EACH_TYPE(FUNCTIONS)
@@ -119,25 +125,29 @@ static int check_zero_format(void)
     return is_wrong(check_format(&format) == LEXICAL_INVALID_RADIX && format.mark == 0, "a format of zeros");
 }
 
-/* The first example of the header. */
-static int check_example(void)
+/* The first two examples of the header, and that of a format as an argument. */
+static int check_examples(void)
 {
-#if !defined(__cplusplus) || __cplusplus >= 202002L
-    const struct lexical_format format = { .radix = 16 };
-#else
-    const struct lexical_format format = FORMAT(16, 0, 0, 0);
-#endif
     char buffer[LEXICAL_BUFFER_SIZE];
-    size_t count = lexical_write_u32(48879, &format, buffer, sizeof buffer);
-    return is_wrong(count == 4 && memcmp(buffer, "BEEF", 4) == 0, "the first example");
+    size_t count = lexical_decimal_u32(48879, buffer, sizeof buffer);
+    int wrong = is_wrong(count == 5 && memcmp(buffer, "48879", 5) == 0, "the first example");
+    const struct lexical_format hexadecimal = LEXICAL_RADIX(16);
+    count = lexical_write_u32(48879, &hexadecimal, buffer, sizeof buffer);
+    wrong += is_wrong(count == 4 && memcmp(buffer, "BEEF", 4) == 0, "the second example");
+    buffer[0] = 0;
+#ifdef __cplusplus
+    count = lexical_write(48879, LEXICAL_RADIX(16), buffer, sizeof buffer);
+#else
+    count = lexical_write_u32(48879, &(const struct lexical_format)LEXICAL_RADIX(16), buffer, sizeof buffer);
+#endif
+    return wrong + is_wrong(count == 4 && memcmp(buffer, "BEEF", 4) == 0, "a format as an argument");
 }
 
 /* The example of a string. */
 static int check_string(void)
 {
     char text[LEXICAL_BUFFER_SIZE_DECIMAL_I32 + 1];
-    size_t count = lexical_write_i32(-42, &lexical_standard_format,
-                                     text, sizeof text - 1);
+    size_t count = lexical_decimal_i32(-42, text, sizeof text - 1);
     text[count] = '\0';
     return is_wrong(strcmp(text, "-42") == 0, "the example of a string");
 }
@@ -147,23 +157,53 @@ static int check_zeros(void)
 {
     char text[8 + LEXICAL_BUFFER_SIZE_DECIMAL_U32];
     memset(text, '0', 8);
-    size_t count = lexical_write_u32(42, &lexical_standard_format, text + 8,
-                                     sizeof text - 8);
+    size_t count = lexical_decimal_u32(42, text + 8, sizeof text - 8);
     return is_wrong(memcmp(text + count, "00000042", 8) == 0, "the example of zeros");
 }
 
-/* The example of the version that is running. */
+/* The example of the version that is running, and the version as a string. */
 static int check_version(void)
 {
+    char text[32];
     int is_as_declared = version() / 1000000 == LEXICAL_VERSION_MAJOR
         && version() >= LEXICAL_VERSION;
+    snprintf(text, sizeof text, "%d.%d.%d", LEXICAL_VERSION_MAJOR, LEXICAL_VERSION_MINOR, LEXICAL_VERSION_PATCH);
     return is_wrong(is_as_declared, "LEXICAL_VERSION_MAJOR")
-        + is_wrong(version() == LEXICAL_VERSION, "LEXICAL_VERSION");
+        + is_wrong(version() == LEXICAL_VERSION, "LEXICAL_VERSION")
+        + is_wrong(strcmp(text, LEXICAL_VERSION_STRING) == 0, "LEXICAL_VERSION_STRING");
+}
+
+/* In C++ no call throws, and from C++14 on fields that an initializer leaves out are 0. */
+static int check_cpp(void)
+{
+    int wrong = 0;
+#if defined(__cplusplus) && __cplusplus >= 201402L
+#define NOEXCEPT(NAME, CONSTANT, TYPE)                                         \
+    static_assert(noexcept(lexical_write_##NAME(0, &format, nullptr, 0))       \
+                  && noexcept(lexical_decimal_##NAME(0, nullptr, 0))           \
+                  && noexcept(lexical_length_##NAME(0, &format))               \
+                  && noexcept(lexical_buffer_size_##NAME(&format))             \
+                  && noexcept(lexical_write(TYPE(0), &format, nullptr, 0))     \
+                  && noexcept(lexical_write(TYPE(0), format, nullptr, 0))      \
+                  && noexcept(lexical_decimal(TYPE(0), nullptr, 0))            \
+                  && noexcept(lexical_length(TYPE(0), &format))                \
+                  && noexcept(lexical_length(TYPE(0), format)), "noexcept");
+    const lexical_format format = { 16 };
+    FOR_EACH_TYPE(NOEXCEPT)
+    static_assert(noexcept(lexical_version()) && noexcept(lexical_check_format(&format)), "noexcept");
+    wrong += is_wrong(format.required_sign == 0 && lexical_check_format(&format) == 0, "a format of one field");
+    alignas(lexical_format) unsigned char memory[sizeof(lexical_format)];
+    memset(memory, 0xff, sizeof memory);
+    lexical_format *made = new (memory) lexical_format;
+    made->radix = 10;
+    wrong += is_wrong(memcmp(made, &lexical_standard_format, sizeof *made) == 0, "a format of no field");
+#endif
+    return wrong;
 }
 
 int main(void)
 {
     int wrong = check_sizes() + check_formats() + check_fields() + check_zero_format();
-    wrong += check_example() + check_string() + check_zeros() + check_version();
+    wrong += check_examples() + check_string() + check_zeros() + check_version() + check_cpp();
     return wrong == 0 ? EXIT_SUCCESS : EXIT_FAILURE;
 }

@@ -36,12 +36,17 @@ struct type {
     unsigned bits;
     size_t size;
     size_t decimal_size;
+    size_t (*decimal)(uint64_t, char *, size_t);
     size_t (*write)(uint64_t, const struct lexical_format *, char *, size_t);
     size_t (*length)(uint64_t, const struct lexical_format *);
     size_t (*buffer_size)(const struct lexical_format *);
 };
 
 #define FUNCTIONS(NAME, CONSTANT, TYPE)                                        \
+    static size_t decimal_##NAME(uint64_t bits, char *buffer, size_t length)   \
+    {                                                                          \
+        return lexical_decimal_##NAME((TYPE)bits, buffer, length);             \
+    }                                                                          \
     static size_t write_##NAME(uint64_t bits, const struct lexical_format *f,  \
                                char *buffer, size_t length)                    \
     {                                                                          \
@@ -54,8 +59,8 @@ struct type {
 FOR_EACH_TYPE(FUNCTIONS)
 
 #define TYPE(NAME, SIGNED, BITS, SIZE, DECIMAL_SIZE)                           \
-    { #NAME, SIGNED, BITS, SIZE, DECIMAL_SIZE, write_##NAME, length_##NAME,    \
-      lexical_buffer_size_##NAME }
+    { #NAME, SIGNED, BITS, SIZE, DECIMAL_SIZE, decimal_##NAME, write_##NAME,   \
+      length_##NAME, lexical_buffer_size_##NAME }
 static const struct type TYPES[] = {
     TYPE(u8, false, 8, 16, 3),     TYPE(u16, false, 16, 32, 5),
     TYPE(u32, false, 32, 64, 10),  TYPE(u64, false, 64, 128, 20),
@@ -147,16 +152,24 @@ static bool all_are(const char *bytes, size_t count, int byte)
     return true;
 }
 
+/* Calls lexical_decimal_T if the format is NULL, and otherwise lexical_write_T. */
+static size_t call_writer(const struct type *type, uint64_t bits,
+                          const struct lexical_format *format, char *buffer, size_t length)
+{
+    return format == NULL ? type->decimal(bits, buffer, length)
+                          : type->write(bits, format, buffer, length);
+}
+
 /*
- * Calls the writer with a buffer of `length` bytes, and checks that the text is
+ * Calls a writer with a buffer of `length` bytes, and checks that the text is
  * at its start and that every other byte is unchanged. If `expected` is NULL, the
  * call must return 0 and leave the buffer unchanged. The buffer and the format
  * are each next to a page that may not be accessed, before or after them; this
  * side and the bytes of the buffer vary from call to call.
  */
-static void check_call(const struct type *type, uint64_t bits,
-                       const struct lexical_format *format, size_t length,
-                       const struct expected *expected)
+static void check_writer(const struct type *type, uint64_t bits,
+                         const struct lexical_format *format, size_t length,
+                         const struct expected *expected)
 {
     static const int BEFORE[] = { 0x5a, 0xff, 0x00, '7' };
     static uint32_t random;
@@ -165,21 +178,35 @@ static void check_call(const struct type *type, uint64_t bits,
     bool at_end = random >> 31 == 1;
     char *buffer = at_end ? buffers.end - length : buffers.start;
     char *guard = at_end ? buffer - GUARD_SIZE : buffer + length;
-    char *copy = at_end ? formats.start : formats.end - sizeof *format;
+    char *copy = format == NULL ? NULL : at_end ? formats.start : formats.end - sizeof *format;
     memset(buffer, before, length);
     memset(guard, GUARD, GUARD_SIZE);
-    memcpy(copy, format, sizeof *format);
-    size_t count = type->write(bits, (const struct lexical_format *)copy, buffer, length);
+    if (format != NULL)
+        memcpy(copy, format, sizeof *format);
+    size_t count = call_writer(type, bits, (const struct lexical_format *)copy, buffer, length);
     size_t wanted = expected == NULL ? 0 : expected->count;
     bool is_good = count == wanted
         && (wanted == 0 || memcmp(buffer, expected->text, wanted) == 0)
         && all_are(buffer + wanted, length - wanted, before)
-        && all_are(guard, GUARD_SIZE, GUARD) && memcmp(copy, format, sizeof *format) == 0;
-    if (!check(is_good, "a writer") && failures < 5)
-        printf("    %s %016" PRIx64 ", radix %u, sign %u, groups of %u by %u, "
-               "lowercase %u, %zu bytes: %zu, %.*s\n", type->name, bits, format->radix,
-               format->required_sign, format->group_size, format->mark, format->lowercase, length,
-               count, (int)(count < length ? count : length), buffer);
+        && all_are(guard, GUARD_SIZE, GUARD)
+        && (format == NULL || memcmp(copy, format, sizeof *format) == 0);
+    if (check(is_good, "a writer") || failures > 5)
+        return;
+    printf("    %s %016" PRIx64 ", %zu bytes: %zu, %.*s\n", type->name, bits, length, count,
+           (int)(count < length ? count : length), buffer);
+    if (format != NULL)
+        printf("    radix %u, sign %u, groups of %u by %u, lowercase %u\n", format->radix,
+               format->required_sign, format->group_size, format->mark, format->lowercase);
+}
+
+/* Calls the writer for the format, and in the standard format also that which takes none. */
+static void check_call(const struct type *type, uint64_t bits,
+                       const struct lexical_format *format, size_t length,
+                       const struct expected *expected)
+{
+    check_writer(type, bits, format, length, expected);
+    if (memcmp(format, &lexical_standard_format, sizeof *format) == 0)
+        check_writer(type, bits, NULL, length, expected);
 }
 
 /*
@@ -311,7 +338,7 @@ static void check_signed_decimals(void)
     for (size_t i = 0; i < sizeof NUMBERS / sizeof NUMBERS[0]; i++) {
         char expected[32], buffer[LEXICAL_BUFFER_SIZE_DECIMAL_I64];
         int wanted = snprintf(expected, sizeof expected, "%" PRId64, NUMBERS[i]);
-        size_t count = lexical_write_i64(NUMBERS[i], &lexical_standard_format, buffer, sizeof buffer);
+        size_t count = lexical_decimal_i64(NUMBERS[i], buffer, sizeof buffer);
         check(count == (size_t)wanted && memcmp(buffer, expected, count) == 0, expected);
     }
 }
@@ -419,6 +446,7 @@ static void check_null(void)
         for (uint32_t radix = 0; radix < 40; radix++) {
             struct lexical_format format = FORMAT(radix, 1, radix % 3, ',');
             check(TYPES[t].write(1, &format, NULL, 0) == 0, "a NULL buffer");
+            check(TYPES[t].decimal(radix, NULL, 0) == 0, "a NULL buffer in decimal");
         }
 }
 

@@ -1,7 +1,7 @@
 /*
- * Calls one writer, the function WRITE, with a mistake that a compiler can see
- * because of the attributes that the header has. MISUSE names the mistake. This
- * program is compiled once for each writer and each mistake, and is not run.
+ * Makes one call, CALL, of a writer with a mistake that a compiler can see because
+ * of the attributes that the header has. MISUSE names the mistake. This program is
+ * compiled once for each writer and each mistake, and is not run.
  */
 #include "lexical.h"
 
@@ -16,9 +16,9 @@ int main(void)
     const size_t length = sizeof buffer + (MISUSE == LENGTH_PAST_THE_ARRAY);
     const struct lexical_format *const format = MISUSE == NO_FORMAT ? NULL : &lexical_standard_format;
 #if MISUSE == UNUSED_RESULT
-    WRITE(1, format, buffer, length);
+    CALL;
     return 0;
 #else
-    return WRITE(1, format, buffer, length) == 0;
+    return CALL == 0 || format == NULL;
 #endif
 }

@@ -9,6 +9,7 @@
 
 #include <stdio.h>
 #include <stdlib.h>
+#include <string.h>
 
 #if defined(__has_feature)
 #if __has_feature(memory_sanitizer)
@@ -34,6 +35,12 @@ static void read_text(char *buffer, size_t count, size_t wanted)
     free(buffer);
 }
 
+static int is_standard(const struct lexical_format *format)
+{
+    return memcmp(format, &lexical_standard_format, sizeof *format) == 0;
+}
+
+/* Writes to buffers of three sizes by lexical_write_T, and in the standard format by lexical_decimal_T. */
 #define PASS(NAME, CONSTANT, TYPE)                                             \
     static void pass_##NAME(uint64_t bits, const struct lexical_format *format) \
     {                                                                          \
@@ -42,12 +49,15 @@ static void read_text(char *buffer, size_t count, size_t wanted)
         sizes[0] = length;                                                     \
         sizes[1] = lexical_buffer_size_##NAME(format);                         \
         sizes[2] = LEXICAL_BUFFER_SIZE;                                        \
-        for (int i = 0; i < 3; i++) {                                          \
-            char *buffer = (char *)malloc(sizes[i]);                           \
+        for (int i = 0; i < (is_standard(format) ? 6 : 3); i++) {              \
+            size_t size = sizes[i % 3];                                        \
+            char *buffer = (char *)malloc(size);                               \
             if (buffer == NULL)                                                \
                 exit(EXIT_FAILURE);                                            \
-            read_text(buffer, lexical_write_##NAME((TYPE)bits, format, buffer, \
-                                                   sizes[i]), length);         \
+            read_text(buffer, i < 3                                            \
+                      ? lexical_write_##NAME((TYPE)bits, format, buffer, size) \
+                      : lexical_decimal_##NAME((TYPE)bits, buffer, size),      \
+                      length);                                                 \
         }                                                                      \
     }
 FOR_EACH_TYPE(PASS)
@@ -58,7 +68,7 @@ int main(void)
 {
     for (uint32_t radix = 2; radix <= 36; radix++)
         for (uint32_t kind = 0; kind < 4; kind++) {
-            struct lexical_format format = FORMAT(radix, kind == 1, kind == 2 ? 3u : 0u, '_');
+            struct lexical_format format = FORMAT(radix, kind == 1, kind == 2 ? 3u : 0u, kind == 2 ? '_' : 0u);
             format.lowercase = kind == 3;
             for (unsigned shift = 0; shift < 64; shift += 9) {
                 uint64_t bits = UINT64_MAX / 3 * 2 >> shift;

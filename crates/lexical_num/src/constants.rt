@@ -10,8 +10,8 @@ use crate::num::LexicalInteger;
 /// The length of a buffer that is long enough for every number of every type in every format.
 pub const BUFFER_SIZE: usize = 128;
 
-/// An integer type with two buffer lengths, between which `buffer_size` of the options chooses. That the length is
-/// enough for each number of the type is the law `size_suffices` of `lexical_write_integer`.
+/// An integer type with two buffer lengths, between which `buffer_size` of the options chooses. The length is
+/// enough for each number of the type, which is the law `size_suffices` of `lexical_write_integer`.
 pub trait FormattedSize: LexicalInteger {
     /// The buffer length in a radix other than 10, with a sign and with groups.
     const FORMATTED_SIZE: usize;

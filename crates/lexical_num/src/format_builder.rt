@@ -52,10 +52,14 @@ impl NumberFormatBuilder {
         ensures { result ≡ record standard { mantissa_radix = radix; exponent_radix = radix } }
     {
         prove!(is_radix(radix as u64));
-        Self::new()
-            .mantissa_radix(radix)
-            .exponent_radix(radix)
-            .build_strict()
+        NumberFormat {
+            parts: Parts {
+                mantissa_radix: radix,
+                exponent_radix: radix,
+                required_mantissa_sign: false,
+                digit_grouping: None,
+            },
+        }
     }
 
     /// Sets the mantissa radix, as `mantissa_radix` does. The exponent radix is unchanged.

@@ -17,7 +17,7 @@ pub trait WriteOptions {
 
     /// Returns the size of the type in the format: in a radix other than 10 `FORMATTED_SIZE`, and in radix 10
     /// what `FORMATTED_SIZE_DECIMAL` digits take in the groups of the format, and one byte for a required sign.
-    /// `laws::size_suffices` of `lexical_write_integer` says that it is enough for every number of the type.
+    /// It is enough for every number of the type, which is the law `size_suffices` of `lexical_write_integer`.
     fn buffer_size<T: FormattedSize>(&self, format: &NumberFormat) -> usize
         ensures { result ≡ size_in T.FORMATTED_SIZE T.FORMATTED_SIZE_DECIMAL format.now };
 }

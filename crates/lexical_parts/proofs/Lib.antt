@@ -26,3 +26,5 @@ pub mod ZeroPaddings
 pub mod Scientifics
 -- numbers of units, with whole parts in groups
 pub mod GroupedUnits
+-- numbers in format strings
+pub mod ShownNumbers

@@ -1,9 +1,11 @@
-//! Parts in a format string: `{}` of a part writes its text, with the width and the fill of the format.
+//! Parts in a format string: `{}` of a part writes its text, with the sign, the width and the fill of the format.
 
-ghost use Rattle.std.specs.Prelude.{Some, true};
-ghost use Rattle.std.specs.Fmt.{padded};
+ghost use Rattle.std.specs.Prelude.{◌≡◌, Some, true, false, [], ◌∷◌, ◌++◌, drop, length, unsigned_abs, if◌then◌else◌};
+ghost use Rattle.std.specs.Fmt.{WritesOnOk, WritesStyledOnOk, formatter_spec, padded_integral, sign_text_with};
+ghost use Rattle.std.specs.Int.{is_negative};
 ghost use Rattle.lexical_num.specs.Format.{standard};
 ghost use Rattle.lexical_write_integer.specs.Computed.{digits_text, text_of};
+ghost use Rattle.lexical_write_integer.specs.Groups.{grouped};
 
 use crate::number::{Decimal, Formatted, formatted_room_suffices};
 use crate::part::Part;
@@ -15,24 +17,80 @@ use lexical_write_integer::radix::Radix;
 use lexical_write_integer::{BUFFER_SIZE, NumberFormatBuilder, ToLexicalWithOptions};
 use std::fmt;
 
+// Writes a text that begins with `+` as the standard library writes an integer with the option `+`.
+fn pad_with_plus<W: fmt::Write>(f: &mut fmt::Formatter<W>, text: &str) -> fmt::Result
+    requires { text.now ≡ 43 ∷ drop 1 text.now }
+    ensures { WritesStyledOnOk W.write_str_gives f.old result
+        (padded_integral (record (formatter_spec f.old) { plus = true }) false [] (drop 1 text.now)) f.new }
+{
+    let digits = &text[1..];
+    if f.sign_plus() {
+        return f.pad_integral(true, "", digits);
+    }
+    if !f.sign_aware_zero_pad() {
+        return f.pad_integral(true, "", text);
+    }
+    f.write_str("+")?;
+    let zeros = f.width().unwrap_or(0).saturating_sub(text.len());
+    for _ in 0..zeros {
+        f.write_str("0")?;
+    }
+    f.write_str(digits)
+}
+
+// Writes a text, which begins with `-` if the number is negative, and otherwise with `+` if it has one, as the standard
+// library writes an integer.
+fn pad_number<W: fmt::Write>(
+    f: &mut fmt::Formatter<W>,
+    is_negative: bool,
+    has_plus: bool,
+    text: &str,
+) -> fmt::Result
+    requires { text.now ≡ sign_text_with has_plus is_negative
+        ++ drop (length (sign_text_with has_plus is_negative)) text.now }
+    ensures writes { WritesOnOk W.write_str_gives f.old result text.now f.new }
+    ensures styled { WritesStyledOnOk W.write_str_gives f.old result
+        (padded_integral (if has_plus then record (formatter_spec f.old) { plus = true } else formatter_spec f.old)
+        is_negative [] (drop (length (sign_text_with has_plus is_negative)) text.now)) f.new }
+{
+    if f.width().is_none() && !f.sign_plus() && !f.alternate() {
+        f.write_str(text)
+    } else if is_negative {
+        f.pad_integral(false, "", &text[1..])
+    } else if has_plus {
+        pad_with_plus(f, text)
+    } else {
+        f.pad_integral(true, "", text)
+    }
+}
+
 impl<T: ToLexicalWithOptions> fmt::Display for Formatted<'_, T> {
     ghost output = { λ part. Some (text_of (T.number part.0) part.1.now) };
 
-    ghost styled_output = { λ part spec. Some (padded spec (text_of (T.number part.0) part.1.now)) };
+    ghost styled_output = { λ part spec. Some (padded_integral
+        (if part.1.now.required_mantissa_sign then record spec { plus = true } else spec)
+        (is_negative (T.number part.0)) [] (grouped part.1.now.digit_grouping
+        (digits_text part.1.now.mantissa_radix (unsigned_abs (T.number part.0))))) };
 
     fn fmt<W: fmt::Write>(&self, f: &mut fmt::Formatter<W>) -> fmt::Result {
         formatted_room_suffices(self.0, self.1);
         let mut buffer = [0; BUFFER_SIZE];
         let text = Formatted(self.0, self.1).to_str(&mut buffer);
         text_computed(self.0, self.1, text.as_bytes());
-        f.pad(text)
+        pad_number(
+            f,
+            self.0.is_negative(),
+            self.1.required_mantissa_sign(),
+            text,
+        )
     }
 }
 
 impl<T: ToLexicalWithOptions> fmt::Display for Decimal<T> {
     ghost output = { λ part. Some (text_of (T.number part.0) standard) };
 
-    ghost styled_output = { λ part spec. Some (padded spec (text_of (T.number part.0) standard)) };
+    ghost styled_output = { λ part spec. Some (padded_integral spec (is_negative (T.number part.0)) []
+        (digits_text 10 (unsigned_abs (T.number part.0)))) };
 
     fn fmt<W: fmt::Write>(&self, f: &mut fmt::Formatter<W>) -> fmt::Result {
         fmt::Display::fmt(&Formatted(self.0, &STANDARD), f)
@@ -42,8 +100,8 @@ impl<T: ToLexicalWithOptions> fmt::Display for Decimal<T> {
 impl<T: ToLexicalWithOptions> fmt::Display for Plus<T> {
     ghost output = { λ part. Some (text_of (T.number part.0) (record standard { required_mantissa_sign = true })) };
 
-    ghost styled_output = { λ part spec. Some (padded spec
-        (text_of (T.number part.0) (record standard { required_mantissa_sign = true }))) };
+    ghost styled_output = { λ part spec. Some (padded_integral (record spec { plus = true })
+        (is_negative (T.number part.0)) [] (digits_text 10 (unsigned_abs (T.number part.0)))) };
 
     fn fmt<W: fmt::Write>(&self, f: &mut fmt::Formatter<W>) -> fmt::Result {
         let format = NumberFormatBuilder::new()
@@ -56,27 +114,27 @@ impl<T: ToLexicalWithOptions> fmt::Display for Plus<T> {
 impl<T: Radix> fmt::Display for Hex<T> {
     ghost output = { λ part. Some (digits_text 16 (T.magnitude part.0)) };
 
-    ghost styled_output = { λ part spec. Some (padded spec (digits_text 16 (T.magnitude part.0))) };
+    ghost styled_output = { λ part spec. Some (padded_integral spec false [] (digits_text 16 (T.magnitude part.0))) };
 
     fn fmt<W: fmt::Write>(&self, f: &mut fmt::Formatter<W>) -> fmt::Result {
         self.0.fits_bits();
         let mut buffer = [0; 16];
         let text = Hex(self.0).to_str(&mut buffer);
         digits_computed(16, self.0.as_usize() as u64, text.as_bytes());
-        f.pad(text)
+        pad_number(f, false, false, text)
     }
 }
 
 impl<T: Radix> fmt::Display for Binary<T> {
     ghost output = { λ part. Some (digits_text 2 (T.magnitude part.0)) };
 
-    ghost styled_output = { λ part spec. Some (padded spec (digits_text 2 (T.magnitude part.0))) };
+    ghost styled_output = { λ part spec. Some (padded_integral spec false [] (digits_text 2 (T.magnitude part.0))) };
 
     fn fmt<W: fmt::Write>(&self, f: &mut fmt::Formatter<W>) -> fmt::Result {
         self.0.fits_bits();
         let mut buffer = [0; 64];
         let text = Binary(self.0).to_str(&mut buffer);
         digits_computed(2, self.0.as_usize() as u64, text.as_bytes());
-        f.pad(text)
+        pad_number(f, false, false, text)
     }
 }

@@ -100,12 +100,14 @@ impl<T: ToLexicalWithOptions> Part for GroupedFixed<'_, T> {
         + grouped_units_room part.2.now.digit_grouping T.DECIMAL_WIDTH part.1 };
 
     fn room(self) -> usize {
+        prove!(self.1 <= 19);
         size_suffices(self.0, &STANDARD);
         let whole = T::DECIMAL_WIDTH.max(self.1 + 1) - self.1;
         usize::from(T::IS_SIGNED) + self.2.grouped_len(whole) + self.1 + self.1.min(1)
     }
 
     fn write_to(self, buffer: &mut [u8]) -> usize {
+        prove!(self.1 <= 19);
         size_suffices(self.0, &STANDARD);
         let start = Sign(self.0, false).write_to(buffer);
         start + write_grouped_units(self.0, self.1, self.2, &mut buffer[start..])

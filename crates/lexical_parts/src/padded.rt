@@ -11,8 +11,7 @@ use lexical_write_integer::padded::write_padded;
 use lexical_write_integer::radix::Radix;
 
 /// The digits of an unsigned number in a radix from 2 to 36, with leading zeros up to the width:
-/// `PaddedDigits(16, 1u8, 2)` writes `01`. The number must be below `radix.pow(width)`. rustc checks this
-/// in a debug build only, and otherwise the text of a larger number is wrong.
+/// `PaddedDigits(16, 1u8, 2)` writes `01`. The number must be below `radix.pow(width)`.
 #[derive(Clone, Copy, Debug, Drop)]
 pub struct PaddedDigits<T>(pub u32, pub T, pub usize);
 
@@ -38,8 +37,8 @@ impl<T: DigitCount + Radix> Part for PaddedDigits<T> {
 }
 
 /// An unsigned number in decimal, with leading zeros up to the width: `Padded(3u8, 2)` writes `03`.
-/// The number must be below `10.pow(width)`. rustc checks this in a debug build only, and otherwise the
-/// text of a larger number is wrong. `ZeroPadded` writes every number: `ZeroPadded(123u8, 2)` writes `123`.
+/// The number must be below `10.pow(width)`. `ZeroPadded` writes every number: `ZeroPadded(123u8, 2)`
+/// writes `123`.
 #[derive(Clone, Copy, Debug, Drop)]
 pub struct Padded<T>(pub T, pub usize);
 

@@ -12,6 +12,9 @@ use std::str::from_utf8;
 /// A value that has a text, such as a number or a `&str`. A tuple of parts is also a part, and its
 /// text consists of the texts of its elements, in order: `(250, " g")` writes `250 g`.
 ///
+/// For a `String` or a `&String` write `string.as_str()`, for a `bool` `if flag { "true" } else { "false" }`, and for a
+/// `char` the `&str` that `encode_utf8` returns.
+///
 /// A part is *valid* if it meets the condition of its type: a radix is from 2 to 36, and a padded number
 /// fits in its width. A part that contains parts is valid if they are valid. A part without a condition is
 /// always valid.
@@ -107,9 +110,10 @@ pub trait Part: Copy {
         ensures text { IfSome result (λ text. is_text self text.now) }
         ensures short { IfSome result (λ text. length text.now ≤ room self) }
     {
-        if buffer.len() < self.room() {
-            return None;
+        if self.room() <= buffer.len() {
+            Some(self.to_str(buffer))
+        } else {
+            None
         }
-        Some(self.to_str(buffer))
     }
 }

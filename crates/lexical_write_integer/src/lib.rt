@@ -26,7 +26,7 @@
 //! ```
 #![tactic(auto)]
 
-// The examples above are from `a_first_use` in `crates/uses_tests/src/tests.rt`. The crate `uses` has others, and the
+// The examples above are from `a_first_use` in `crates/uses_tests/src/tests.rt`. `crates/uses` has others, and the
 // documentation of most calls names one.
 
 // The texts of numbers: the calls that most callers want.

@@ -63,3 +63,29 @@ pub(crate) fn check_written<R: Copy + Debug + Drop>(
 pub(crate) fn check_text(rt: &impl Abort, length: usize, buffer: &[u8], text: &[u8]) {
     check_written(rt, text, length, buffer, text);
 }
+
+// Uses that must fail, since a check that compares nothing would let every test pass.
+
+#[test]
+#[should_panic(expected = "in the row 1: 2 in place of 3")]
+fn a_wrong_value_fails(rt: HostRuntime) {
+    check_equal(&rt, 1, 2, 3);
+}
+
+#[test]
+#[should_panic(expected = "in the row 1: 2 in place of 3")]
+fn a_wrong_length_fails(rt: HostRuntime) {
+    check_written(&rt, 1, 2, b"123\x07", b"123");
+}
+
+#[test]
+#[should_panic(expected = "false in place of true")]
+fn a_wrong_text_fails(rt: HostRuntime) {
+    check_text(&rt, 3, b"124\x07", b"123");
+}
+
+#[test]
+#[should_panic(expected = "false in place of true")]
+fn a_changed_byte_after_the_text_fails(rt: HostRuntime) {
+    check_text(&rt, 3, b"123\x06", b"123");
+}

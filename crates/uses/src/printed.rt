@@ -1,7 +1,7 @@
 //! Returns the text of a number as a `&str`, and as a `String` that a format string makes.
 
-ghost use Rattle.std.specs.Prelude.{◌≡◌, ◌^◌, ◌-◌, ◌++◌, IfOk, codes, string_bytes};
-ghost use Rattle.std.specs.Fmt.{format_spec, padded, signed_decimal};
+ghost use Rattle.std.specs.Prelude.{◌≡◌, ◌^◌, ◌-◌, ◌++◌, IfOk, codes, false, [], string_bytes};
+ghost use Rattle.std.specs.Fmt.{format_spec, padded_integral, signed_decimal};
 ghost use Rattle.lexical_write_integer.specs.Computed.{digits_text, text_of};
 
 use lexical_parts::{Formatted, Hex};
@@ -24,7 +24,7 @@ pub fn printed(number: i32, buffer: &mut [u8; 11]) -> &str
 /// The numbers of `format_spec` are the fill, the alignment to the right, no zeros, the width and no precision.
 pub fn flags_in_column(alloc: Global, flags: u32) -> Result<String, AllocError>
     ensures { IfOk result (λ text. string_bytes text
-        ≡ codes "0x" ++ padded (format_spec 42 3 0 8 (2 ^ 64 - 1)) (digits_text 16 flags)) }
+        ≡ codes "0x" ++ padded_integral (format_spec 42 3 0 8 (2 ^ 64 - 1)) false [] (digits_text 16 flags)) }
 {
     format!(in alloc; "0x{:*>8}", Hex(flags))
 }

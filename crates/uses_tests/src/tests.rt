@@ -8,8 +8,9 @@ mod parts;
 mod scientific;
 mod shown;
 mod streams;
+mod widths;
 
-use lexical_parts::Part;
+use lexical_parts::{Decimal, Part};
 use lexical_write_integer::{
     BUFFER_SIZE, Error, NumberFormatBuilder, Options, ToLexical, ToLexicalWithOptions,
 };
@@ -75,6 +76,44 @@ fn check_part<P: Part>(rt: &impl Abort, part: P, text: &[u8])
     let mut buffer = [7; 70];
     let count = part.write_to(&mut buffer);
     check_buffer(rt, &buffer, count, text);
+}
+
+// Uses that must fail, since a check that compares nothing would let every test pass.
+
+#[test]
+#[should_panic(expected = "left: 1")]
+fn a_wrong_value_fails(rt: HostRuntime) {
+    check(&rt, 1, 2);
+}
+
+#[test]
+#[should_panic(expected = "left: 1")]
+fn a_wrong_length_fails(rt: HostRuntime) {
+    check_buffer(&rt, b"12\x07", 1, b"12");
+}
+
+#[test]
+#[should_panic(expected = "left: [49, 50]")]
+fn a_wrong_text_fails(rt: HostRuntime) {
+    check_part(&rt, Decimal(12), b"13");
+}
+
+#[test]
+#[should_panic(expected = "left: false")]
+fn a_changed_byte_after_the_text_fails(rt: HostRuntime) {
+    check_buffer(&rt, b"12\x06", 2, b"12");
+}
+
+#[test]
+#[should_panic(expected = "left: \"12\"")]
+fn a_wrong_str_fails(rt: HostRuntime) {
+    check_str(&rt, Decimal(12), &mut [7; 11], "13");
+}
+
+#[test]
+#[should_panic(expected = "left: 11")]
+fn a_wrong_room_fails(rt: HostRuntime) {
+    check_room(&rt, Decimal(12), 10);
 }
 
 #[test]

@@ -1,8 +1,6 @@
-//! The callers that the repository proves, `uses`, and what its tests are passed in place of the runtime of Rattle.
-#![allow(unused, clippy::all, reason = "this is a crate of Rattle, for the tests only")]
+//! The callers that the repository proves, and what its tests are passed in place of the runtime of Rattle.
 
-extern crate self as uses;
+extern crate self as repository_tests;
 
 pub mod runtime;
-
-include!(concat!(env!("OUT_DIR"), "/uses/lib.rs"));
+pub mod uses;

@@ -27,7 +27,7 @@ macro_rules! println_in {
     }};
 }
 
-pub fn extend_from_slice(vector: &mut Vec<u8>, bytes: &[u8]) -> Result<(), AllocError> {
+pub fn extend(vector: &mut Vec<u8>, bytes: &[u8]) -> Result<(), AllocError> {
     vector.extend_from_slice(bytes);
     Ok(())
 }

@@ -3,7 +3,10 @@
 use crate::Unknown;
 use crate::tokens::Tokens;
 
-/// Returns the text without its contracts. Each line keeps its number.
+/// What stands in a text for what was removed, until its lines are laid out.
+pub(crate) const REMOVED: char = '\0';
+
+/// Returns the text without its contracts, and with `REMOVED` in place of each.
 pub(crate) fn without_contracts(text: &str) -> Result<String, Unknown> {
     let tokens = Tokens::read(text)?;
     let mut kept = String::with_capacity(text.len());
@@ -11,14 +14,13 @@ pub(crate) fn without_contracts(text: &str) -> Result<String, Unknown> {
     while index < tokens.0.len() {
         let end = end_of_removed(&tokens, index)?;
         if end == index {
-            kept += replaced(&tokens, index);
+            kept += replaced(&tokens, index)?;
             index += 1;
-            continue;
+        } else {
+            // A function that is final for the prover follows at once.
+            kept.extend((tokens.at(index) != "final").then_some(REMOVED));
+            index = end;
         }
-        let breaks = "\n".repeat(tokens.line_breaks(index..end));
-        // An empty line in place of an attribute would part the comment of an item from the item.
-        kept += &if tokens.at(index) == "#" { format!("/*{breaks}*/") } else { breaks };
-        index = end;
     }
     Ok(kept)
 }
@@ -27,16 +29,25 @@ pub(crate) fn without_contracts(text: &str) -> Result<String, Unknown> {
 fn end_of_removed(tokens: &Tokens, index: usize) -> Result<usize, Unknown> {
     let next = tokens.next(index);
     let is_before = |token| tokens.at(next) == token;
+    if tokens.at(index).starts_with("//") {
+        let item = tokens.after_visibility(tokens.after_comments(index))?;
+        return match tokens.at(item) {
+            "ghost" => end_of_ghost(tokens, item),
+            _ if is_clause(tokens.at(next)) => end_of_clauses(tokens, next),
+            _ => Ok(index),
+        };
+    }
     let after = |list| tokens.after(index, list);
     match tokens.at(index) {
         "ghost" => end_of_ghost(tokens, index),
         "pub" if tokens.at(tokens.after_visibility(index)?) == "ghost" => {
             end_of_ghost(tokens, tokens.after_visibility(index)?)
         }
-        "requires" | "ensures" => end_of_clause(tokens, index),
+        word if is_clause(word) => end_of_clauses(tokens, index),
         "final" if is_before("fn") => Ok(next),
         "final" => Err(tokens.unknown(index, "`final` before something other than `fn`")),
         "impl" => end_of_model(tokens, index),
+        "where" => end_of_where(tokens, index),
         "use" if after(&["use", "std", ":", ":", "marker", ":", ":", "Model", ";"]).is_some() => {
             Ok(tokens.first_of(index, &[";"])? + 1)
         }
@@ -52,16 +63,22 @@ fn end_of_removed(tokens: &Tokens, index: usize) -> Result<usize, Unknown> {
 }
 
 /// Returns what is written for a token that is not removed.
-fn replaced<'a>(tokens: &Tokens<'a>, index: usize) -> &'a str {
+fn replaced<'a>(tokens: &Tokens<'a>, index: usize) -> Result<&'a str, Unknown> {
     let before = tokens.previous(index);
-    match tokens.at(index) {
-        // A constant is checked at build, and another assertion in a debug build, since it is to cost nothing.
-        "prove" if tokens.at(before) == "=" => "assert",
-        "prove" => "debug_assert",
+    Ok(match tokens.at(index) {
+        // rustc proves nothing, so it checks.
+        "prove" => "assert",
+        "unreachable" if has_message(tokens, index)? => "panic",
         // The formatter of Rattle has its writer as a parameter.
         "W" if tokens.after(tokens.previous(before), &["Formatter", "<", "W", ">"]).is_some() => "'_",
         token => token,
-    }
+    })
+}
+
+/// Returns whether the last argument of the macro at this index is a string.
+fn has_message(tokens: &Tokens, index: usize) -> Result<bool, Unknown> {
+    let open = tokens.after(index, &[tokens.at(index), "!"]).unwrap_or(index);
+    Ok(tokens.at(tokens.previous(tokens.group_end(open)? - 1)).starts_with('"'))
 }
 
 /// Returns the end of `ghost use ..;` or `ghost name: { .. } by { .. } = { .. };`, also with fewer parts, and with
@@ -79,9 +96,21 @@ fn end_of_ghost(tokens: &Tokens, index: usize) -> Result<usize, Unknown> {
     }
     match tokens.at(end) {
         "," | ";" if tokens.is_word(name) => Ok(end + 1),
-        "}" if tokens.is_word(name) => Ok(end),
+        "}" if tokens.is_word(name) => Ok(tokens.previous(end) + 1),
         _ => Err(tokens.unknown(index, "a ghost item of a form that is not known")),
     }
+}
+
+/// Returns whether a clause begins with this word.
+fn is_clause(word: &str) -> bool {
+    matches!(word, "requires" | "ensures")
+}
+
+/// Returns the end of the clauses of a function, with the comments between them.
+fn end_of_clauses(tokens: &Tokens, index: usize) -> Result<usize, Unknown> {
+    let end = end_of_clause(tokens, index)?;
+    let next = tokens.next(end - 1);
+    if is_clause(tokens.at(next)) { end_of_clauses(tokens, next) } else { Ok(end) }
 }
 
 /// Returns the end of `requires { .. }`, `ensures name { .. }` or `ensures* name { .. }`.
@@ -93,6 +122,15 @@ fn end_of_clause(tokens: &Tokens, index: usize) -> Result<usize, Unknown> {
         "{" => tokens.group_end(group),
         _ => Err(tokens.unknown(index, "a clause without its braces")),
     }
+}
+
+/// Returns the end of `where T: Drop,`, if it has no other bound.
+fn end_of_where(tokens: &Tokens, index: usize) -> Result<usize, Unknown> {
+    let end = tokens.first_of(index, &["{", ";", "requires", "ensures"])?;
+    let comma = tokens.previous(end);
+    let is_bound = tokens.at(comma) == "," && tokens.at(tokens.previous(comma)) == "Drop";
+    let is_only = is_bound && tokens.0[index..end].iter().filter(|token| [",", "+"].contains(token)).count() == 1;
+    Ok(if is_only { tokens.previous(end) + 1 } else { index })
 }
 
 /// Returns the end of `impl Model for Name { .. }`, also with parameters. It contains only ghost items.

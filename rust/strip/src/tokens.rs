@@ -48,6 +48,12 @@ impl<'a> Tokens<'a> {
         self.0[..index].iter().rposition(|token| !is_space(token)).unwrap_or(0)
     }
 
+    /// Returns the index after the comments that begin at this index, and are not followed by an empty line.
+    pub fn after_comments(&self, index: usize) -> usize {
+        let is_between = |i: &usize| is_space(self.0[*i]) && self.0[*i].matches('\n').count() < 2;
+        (index..self.0.len()).find(|i| !is_between(i)).unwrap_or(self.0.len())
+    }
+
     /// Returns the index of the word after `pub` or `pub(..)` at this index, or this index if there is neither.
     pub fn after_visibility(&self, index: usize) -> Result<usize, Unknown> {
         match (self.at(index), self.next(index)) {
@@ -87,11 +93,28 @@ impl<'a> Tokens<'a> {
         while !signs.contains(&self.at(i)) {
             i = match self.at(i) {
                 "{" | "(" | "[" => self.group_end(i)?,
-                "}" | ")" | "]" | "" => return Err(self.unknown(index, "an item that does not end")),
+                "}" | ")" | "]" | "" => {
+                    return Err(self.unknown(index, "an item that does not end"));
+                }
                 _ => i + 1,
             };
         }
         Ok(i)
+    }
+
+    /// Returns the index of the name before the parenthesis at this index, also if parameters in `::<` and `>` follow
+    /// it.
+    pub fn before_parameters(&self, open: usize) -> usize {
+        let last = self.previous(open);
+        if self.at(last) != ">" {
+            return last;
+        }
+        let mut depth = 0;
+        let start = (0..=last).rev().find(|i| {
+            depth += i32::from(self.0[*i] == ">") - i32::from(self.0[*i] == "<");
+            depth == 0
+        });
+        start.map_or(0, |start| self.previous(self.previous(self.previous(start))))
     }
 
     /// Returns the index after the parameters in `<` and `>` at this index, or this index if there are none.
@@ -129,7 +152,7 @@ fn end_of_token(text: &str) -> Option<usize> {
     }
 }
 
-fn is_space(token: &str) -> bool {
+pub(crate) fn is_space(token: &str) -> bool {
     token.starts_with(char::is_whitespace) || token.starts_with("//") || token.starts_with("/*")
 }
 

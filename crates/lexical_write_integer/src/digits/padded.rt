@@ -21,6 +21,10 @@ fn fits_width(number: u64, radix: u32, width: usize) -> bool
     requires { IsRadix radix }
     ensures { IsTrue result ↔ number < radix ^ width }
 {
+    if radix == 10 {
+        // Every number is below 10^20. A constant power costs nothing in rustc.
+        return width >= 20 || number < 10u64.pow(width as u32);
+    }
     number == 0 || number.digit_count(radix) <= width
 }
 

@@ -148,6 +148,18 @@ fn check_rooms(rt: &impl Abort, format: &NumberFormat, rooms: [usize; 8]) {
     check_room(rt, Formatted(0i64, format), rooms[7]);
 }
 
+// Does the same for a `GroupedFixed` with two decimals.
+fn check_grouped_rooms(rt: &impl Abort, format: &NumberFormat, rooms: [usize; 8]) {
+    check_room(rt, GroupedFixed(0u8, 2, format), rooms[0]);
+    check_room(rt, GroupedFixed(0u16, 2, format), rooms[1]);
+    check_room(rt, GroupedFixed(0u32, 2, format), rooms[2]);
+    check_room(rt, GroupedFixed(0u64, 2, format), rooms[3]);
+    check_room(rt, GroupedFixed(0i8, 2, format), rooms[4]);
+    check_room(rt, GroupedFixed(0i16, 2, format), rooms[5]);
+    check_room(rt, GroupedFixed(0i32, 2, format), rooms[6]);
+    check_room(rt, GroupedFixed(0i64, 2, format), rooms[7]);
+}
+
 // The lengths of `255`, `65,535` and so on, of `-128` and so on, and of `+255`, `FFFF_FFFF` and `-1.28`.
 #[test]
 fn rooms_of_formats(rt: HostRuntime) {
@@ -161,12 +173,5 @@ fn rooms_of_formats(rt: HostRuntime) {
     check_rooms(&rt, &thousands, [3, 6, 13, 26, 4, 7, 14, 26]);
     check_rooms(&rt, &signed, [4, 7, 14, 27, 4, 7, 14, 26]);
     check_rooms(&rt, &hexadecimal, [2, 4, 9, 19, 3, 5, 10, 20]);
-    check_room(&rt, GroupedFixed(0u8, 2, &thousands), 4);
-    check_room(&rt, GroupedFixed(0u16, 2, &thousands), 6);
-    check_room(&rt, GroupedFixed(0u32, 2, &thousands), 13);
-    check_room(&rt, GroupedFixed(0u64, 2, &thousands), 26);
-    check_room(&rt, GroupedFixed(0i8, 2, &thousands), 5);
-    check_room(&rt, GroupedFixed(0i16, 2, &thousands), 7);
-    check_room(&rt, GroupedFixed(0i32, 2, &thousands), 14);
-    check_room(&rt, GroupedFixed(0i64, 2, &thousands), 26);
+    check_grouped_rooms(&rt, &thousands, [4, 6, 13, 26, 5, 7, 14, 26]);
 }

@@ -18,6 +18,12 @@ fn check_shown<D: Display + Drop>(rt: &impl Abort, alloc: Global, shown: D, text
     check(rt, printed.as_str(), text);
 }
 
+#[test]
+#[should_panic(expected = "left: \"FF\"")]
+fn a_wrong_text_in_a_format_string_fails(rt: HostRuntime) {
+    check_shown(&rt, rt.alloc(), Hex(255u8), "FE");
+}
+
 // What Rust writes of the same texts: `format!("{:>8}", "FF")`, and so on.
 #[test]
 fn parts_in_format_strings(rt: HostRuntime) {
@@ -45,7 +51,7 @@ fn numbers_in_format_strings(rt: HostRuntime) {
         &rt,
         rt.alloc(),
         format_args!("{:12}|{:.3}", number, Decimal(98765u64)),
-        "-1,234,567  |987",
+        "  -1,234,567|98765",
     );
 }
 
@@ -87,12 +93,18 @@ fn longest_text_of_a_format(rt: HostRuntime) -> Result<(), Fail> {
 }
 
 #[test]
-fn styles_of_text(rt: HostRuntime) {
+fn styles_of_numbers(rt: HostRuntime) {
     check_shown(
         &rt,
         rt.alloc(),
-        format_args!("{:08}|{:+}|{:#}", Decimal(5u8), Decimal(5u8), Hex(5u8)),
-        "5       |5|5",
+        format_args!("{:08}|{:+}|{:#}|", Decimal(-5), Decimal(5u8), Hex(5u8)),
+        "-0000005|+5|5|",
+    );
+    check_shown(
+        &rt,
+        rt.alloc(),
+        format_args!("{:05}|{:<4}|{:+}", Plus(5u8), Plus(5u8), Plus(5u8)),
+        "+0005|+5  |+5",
     );
 }
 

@@ -1,4 +1,4 @@
-// Logarithms, rounded down, from which digits are counted.
+//! Logarithms, rounded down, from which digits are counted.
 
 ghost use Rattle.std.specs.Prelude.{◌<◌};
 ghost use Rattle.lexical_write_integer.specs.Digits.Logarithm.{IsLog2, IsLog10Estimate};

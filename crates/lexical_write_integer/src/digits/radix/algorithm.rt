@@ -45,8 +45,8 @@ fn begins_with_pairs(radix: u32, table: &[u8]) -> bool
 
 /// Writes the digits of the number to the start of the buffer, and returns how many there are. The radix is
 /// from 2 to 36, the table begins with the digit pairs of the radix, and the buffer has room for the
-/// digits. Each iteration of the digit count, which comes first, and of the writer records its quotient
-/// in the counter: at most 21 in total.
+/// digits. The counter records the quotient of each iteration of the digit count, which comes first, and of
+/// the writer: at most 21 in total.
 pub fn algorithm_counted<T: DigitCount>(
     value: T,
     radix: u32,

@@ -6,13 +6,13 @@ macro_rules! by_radix {
     ($($value:literal)*; $radix:expr, $run:ident$arguments:tt) => {
         match $radix {
             $($value => $run::<$value>$arguments,)*
-            _ => unreachable!(),
+            _ => unreachable!("the radix is not from 2 to 36"),
         }
     };
     ($($value:literal)*; $radix:expr, $run:ident::<$argument:tt>$arguments:tt) => {
         match $radix {
             $($value => $run::<$argument, $value>$arguments,)*
-            _ => unreachable!(),
+            _ => unreachable!("the radix is not from 2 to 36"),
         }
     };
     ($radix:expr, $($call:tt)+) => {

@@ -20,6 +20,9 @@ first g c = div_below c.args.number (g.row.R * g.row.R) (g.row.R * g.row.R) (som
 last : (g : _) (c : Start g) → c.args.number % (g.row.R * g.row.R) < g.row.R * g.row.R
 last g c = mod-lt c.args.number (some g c)
 
+pub overflow_mul-last-2 : goal.overflow_mul-last-2
+overflow_mul-last-2 g c = omega (arith, last g (goal.at.overflow_mul-last-2 g c).Start, c.args.table.is_radix)
+
 pub bounds-table-first : goal.bounds-table-first
 bounds-table-first g c =
     omega (arith, first g (goal.at.bounds-table-first g c).Start, length-table g.row.R c.args.table.pairs.now c.args.table.begins)

@@ -1,0 +1,29 @@
+use Rattle.std.proofs.Common.{◌≡◌, ◌∙◌, ap, sym, false, not, ◌∷◌, drop, length, ◌<◌, arith}
+use Rattle.std.specs.Fmt.{formatter_spec}
+use Rattle.std.specs.Option.{is_some}
+use Rattle.std.proofs.lemmas.Str.{IsCharBoundary-after_ascii}
+use Rattle.std.proofs.Output.{has_written_styled_of_eq}
+use Rattle.lexical_parts.proofs.ShownNumbers.{negative_sign, no_width, unpadded}
+use Rattle.lexical_parts.proofs.display.pad_number.Goals as goal
+
+pub range_from-requires : goal.range_from-requires
+range_from-requires g c = λ _.
+    let text = c.args.text.now in
+    let starts : text ≡ 45 ∷ drop 1 text = rw c.if-is_negative.true at c.requires in
+    let some : 0 < length text = rw starts (omega arith) in
+    IsCharBoundary-after_ascii text 0 c.utf8.text some (rw starts (omega arith))
+
+pub returns-then-not-alternate-clause-styled : goal.returns-then-not-alternate-clause-styled
+returns-then-not-alternate-clause-styled g c = λ p ok.
+    let f = c.args.f.now in
+    let none : is_some c.width.result ≡ false = c.is_none.ensures ∙ ap not c.if-is_none.true in
+    let width : (formatter_spec f).width ≡ 0 = no_width f (rw c.width.ensures.value at none) in
+    let no_plus : (formatter_spec f).plus ≡ false = sym c.sign_plus.ensures.value ∙ c.if-not-sign_plus.true in
+    has_written_styled_of_eq _ _ _ _ _ (c.requires ∙ sym (unpadded f c.args.has_plus c.args.is_negative _ width no_plus))
+    (c.write_str.ensures.styled p ok)
+
+pub returns-then-is_negative-clause-styled : goal.returns-then-is_negative-clause-styled
+returns-then-is_negative-clause-styled g c = λ p ok.
+    rw c.if-is_negative.true
+    (has_written_styled_of_eq _ _ _ _ _ (negative_sign c.args.f.now c.args.has_plus (drop 1 c.args.text.now))
+    (rw c.range_from.ensures.value at c.pad_integral.ensures.styled p ok))

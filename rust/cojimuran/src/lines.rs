@@ -1,0 +1,62 @@
+// Made by `strip` from crates/lexical_lines/src/lib.rt. Edit that file, not this one.
+
+//! Answers lines: each line of an input requests the text of a number in a radix, and gets one line as
+//! its answer. Also writes several numbers with a separator between adjacent ones.
+//!
+//! # Examples
+//!
+//! Each line names a type, a radix and a number. The input
+//!
+//! ```text
+//! i8 10 -128
+//! u8 +10 5
+//! u8 10 256
+//! u8 37 5
+//! ```
+//!
+//! has the answers
+//!
+//! ```text
+//! -128
+//! +5
+//! bad line 3
+//! bad line 4
+//! ```
+//!
+//! `run` reads lines from a source and writes their answers to a sink, and returns whether all lines are
+//! valid. Both devices are here over slices:
+//!
+//! ```
+//! use cojimuran::lines::{SliceSink, SliceSource, run};
+//!
+//! let mut buffer = [0; 40];
+//! let mut sink = SliceSink::new(&mut buffer);
+//! let valid = run(&mut SliceSource::new(b"i8 10 -128\nu8 37 5\n"), &mut sink).unwrap_or(false);
+//! let length = sink.len();
+//! assert!(!valid);
+//! assert_eq!(&buffer[..length], b"-128\nbad line 2\n".as_slice());
+//! ```
+//!
+//! `write_joined` writes several numbers, and `join` returns their text.
+
+// Several numbers with a separator between them.
+mod joined_text;
+
+// Answers: of a line, of bytes as they arrive, and of a whole input, and the exit status of the program.
+mod answer;
+
+// The devices that answers are written to and lines are read from.
+mod devices;
+
+// A line, its parts, and what it requests.
+mod request;
+
+pub use answer::answerer::Answerer;
+pub use answer::exit_status::status;
+pub use answer::line_loop::run;
+pub use devices::block_writer::BlockWriter;
+pub use devices::sink::{BlockSink, ByteSink, put_all};
+pub use devices::slice::{SliceSink, SliceSource, answer_slice};
+pub use devices::source::{BlockSource, ByteSource};
+pub use devices::stream::{Reading, Writing};
+pub use joined_text::{join, write_joined};

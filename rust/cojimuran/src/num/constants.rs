@@ -1,0 +1,78 @@
+// Made by `strip` from crates/lexical_num/src/constants.rt. Edit that file, not this one.
+
+//! Buffer lengths that are enough for the text of a number.
+
+use crate::num::num::LexicalInteger;
+
+/// The length of a buffer that is long enough for every number of every type in every format.
+pub const BUFFER_SIZE: usize = 128;
+
+/// An integer type with two buffer lengths, between which `buffer_size` of the options chooses. The
+/// length is enough for each number of the type.
+pub trait FormattedSize: LexicalInteger {
+    /// The buffer length in a radix other than 10, with a sign and with groups.
+    const FORMATTED_SIZE: usize;
+
+    /// The buffer length in decimal, with a `-` but without a `+` and without groups.
+    const FORMATTED_SIZE_DECIMAL: usize;
+}
+
+impl FormattedSize for u8 {
+    const FORMATTED_SIZE: usize = 16;
+
+    const FORMATTED_SIZE_DECIMAL: usize = 3;
+}
+
+impl FormattedSize for u16 {
+    const FORMATTED_SIZE: usize = 32;
+
+    const FORMATTED_SIZE_DECIMAL: usize = 5;
+}
+
+impl FormattedSize for u32 {
+    const FORMATTED_SIZE: usize = 64;
+
+    const FORMATTED_SIZE_DECIMAL: usize = 10;
+}
+
+impl FormattedSize for u64 {
+    const FORMATTED_SIZE: usize = 128;
+
+    const FORMATTED_SIZE_DECIMAL: usize = 20;
+}
+
+impl FormattedSize for usize {
+    const FORMATTED_SIZE: usize = 128;
+
+    const FORMATTED_SIZE_DECIMAL: usize = 20;
+}
+
+impl FormattedSize for i8 {
+    const FORMATTED_SIZE: usize = 16;
+
+    const FORMATTED_SIZE_DECIMAL: usize = 4;
+}
+
+impl FormattedSize for i16 {
+    const FORMATTED_SIZE: usize = 32;
+
+    const FORMATTED_SIZE_DECIMAL: usize = 6;
+}
+
+impl FormattedSize for i32 {
+    const FORMATTED_SIZE: usize = 64;
+
+    const FORMATTED_SIZE_DECIMAL: usize = 11;
+}
+
+impl FormattedSize for i64 {
+    const FORMATTED_SIZE: usize = 128;
+
+    const FORMATTED_SIZE_DECIMAL: usize = 20;
+}
+
+impl FormattedSize for isize {
+    const FORMATTED_SIZE: usize = 128;
+
+    const FORMATTED_SIZE_DECIMAL: usize = 20;
+}

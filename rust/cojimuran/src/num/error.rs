@@ -1,0 +1,36 @@
+// Made by `strip` from crates/lexical_num/src/error.rt. Edit that file, not this one.
+
+//! The errors of the format builder.
+
+use core::fmt;
+
+/// The result of building: the value, or the error.
+pub type Result<T> = core::result::Result<T, Error>;
+
+/// The first part of a format that is invalid, with the invalid byte.
+#[derive(Debug)]
+pub enum Error {
+    /// The mantissa radix is below 2 or above 36.
+    InvalidMantissaRadix(u8),
+    /// The exponent radix is below 2 or above 36.
+    InvalidExponentRadix(u8),
+    /// The number of digits of a group is 0 or above 64.
+    InvalidGroupSize(u8),
+    /// The mark, which is the separator between two groups, is not from 32 to 126, or it is a
+    /// letter, a digit, `+` or `-`.
+    InvalidGroupMark(u8),
+}
+
+impl fmt::Display for Error {
+    #[inline]
+    fn fmt(&self, f: &mut fmt::Formatter<'_>) -> fmt::Result {
+        match self {
+            Error::InvalidMantissaRadix(radix) => write!(f, "invalid mantissa radix {radix}"),
+            Error::InvalidExponentRadix(radix) => write!(f, "invalid exponent radix {radix}"),
+            Error::InvalidGroupSize(size) => write!(f, "invalid group size {size}"),
+            Error::InvalidGroupMark(mark) => write!(f, "invalid group mark {mark}"),
+        }
+    }
+}
+
+impl core::error::Error for Error {}

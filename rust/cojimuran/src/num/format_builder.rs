@@ -1,0 +1,137 @@
+// Made by `strip` from crates/lexical_num/src/format_builder.rt. Edit that file, not this one.
+
+//! Building a format.
+
+use crate::num::error::{Error, Result};
+use crate::num::format::{NumberFormat, Parts, STANDARD};
+use crate::num::limits::{is_group_size, is_mark, is_radix};
+
+/// A builder of formats. Its parts may be any bytes until a format is built from them.
+///
+/// The documentation of this module has examples.
+#[derive(Clone, Copy, PartialEq, Eq, Debug)]
+pub struct NumberFormatBuilder {
+    parts: Parts,
+}
+
+impl NumberFormatBuilder {
+    /// Returns a builder with the parts of `STANDARD`: both radices are 10, no sign is required, and
+    /// the digits are not grouped.
+    #[must_use]
+    #[inline]
+    pub const fn new() -> Self {
+        NumberFormatBuilder {
+            parts: STANDARD.parts,
+        }
+    }
+
+    /// Returns the format whose radices are both 2, with no required sign and no groups.
+    #[must_use]
+    #[inline]
+    pub const fn binary() -> NumberFormat {
+        Self::from_radix(2)
+    }
+
+    /// Returns the format whose radices are both `radix`, from 2 to 36, with no required sign and no
+    /// groups.
+    ///
+    /// # Panics
+    ///
+    /// If the radix is not from 2 to 36.
+    #[must_use]
+    #[inline]
+    pub const fn from_radix(radix: u8) -> NumberFormat {
+        assert!(is_radix(radix as u64));
+        NumberFormat {
+            parts: Parts {
+                mantissa_radix: radix,
+                exponent_radix: radix,
+                required_mantissa_sign: false,
+                digit_grouping: None,
+            },
+        }
+    }
+
+    /// Sets the mantissa radix, as `mantissa_radix` does. The exponent radix is unchanged.
+    #[must_use]
+    #[inline]
+    pub const fn radix(self, radix: u8) -> Self {
+        self.mantissa_radix(radix)
+    }
+
+    /// Sets the mantissa radix. The exponent radix is unchanged.
+    #[must_use]
+    #[inline]
+    pub const fn mantissa_radix(mut self, radix: u8) -> Self {
+        self.parts.mantissa_radix = radix;
+        self
+    }
+
+    /// Sets the exponent radix. The mantissa radix is unchanged.
+    #[must_use]
+    #[inline]
+    pub const fn exponent_radix(mut self, radix: u8) -> Self {
+        self.parts.exponent_radix = radix;
+        self
+    }
+
+    /// Sets whether a `+` precedes a number that is not negative.
+    #[must_use]
+    #[inline]
+    pub const fn required_mantissa_sign(mut self, required: bool) -> Self {
+        self.parts.required_mantissa_sign = required;
+        self
+    }
+
+    /// Sets the number of digits of a group, and the separator between two groups. Groups are
+    /// counted from the right: in groups of three digits `1234567` is written `1,234,567`.
+    #[must_use]
+    #[inline]
+    pub const fn digit_grouping(mut self, size: u8, mark: u8) -> Self {
+        self.parts.digit_grouping = Some((size, mark));
+        self
+    }
+
+    /// Returns the format with these parts, or an error that names the first invalid part. The
+    /// mantissa radix is checked first, then the exponent radix, then the group size, then the
+    /// separator. The builder is unchanged.
+    #[inline]
+    pub const fn build(&self) -> Result<NumberFormat> {
+        if !is_radix(self.parts.mantissa_radix as u64) {
+            return Err(Error::InvalidMantissaRadix(self.parts.mantissa_radix));
+        }
+        if !is_radix(self.parts.exponent_radix as u64) {
+            return Err(Error::InvalidExponentRadix(self.parts.exponent_radix));
+        }
+        if let Some((size, mark)) = self.parts.digit_grouping {
+            if !is_group_size(size as u64) {
+                return Err(Error::InvalidGroupSize(size));
+            }
+            if !is_mark(mark as u64) {
+                return Err(Error::InvalidGroupMark(mark));
+            }
+        }
+        Ok(self.build_strict())
+    }
+
+    /// Returns the format with these parts, which are valid. Both radices are from 2 to 36. If groups
+    /// were set, their size is from 1 to 64, and the separator is from 32 to 126 and is not a letter,
+    /// a digit, `+` or `-`.
+    ///
+    /// # Panics
+    ///
+    /// If a part is invalid: then `build` returns an error.
+    #[must_use]
+    #[inline]
+    pub const fn build_strict(&self) -> NumberFormat {
+        assert!(self.parts.are_valid());
+        NumberFormat { parts: self.parts }
+    }
+}
+
+impl Default for NumberFormatBuilder {
+    #[inline]
+    fn default() -> Self {
+        NumberFormatBuilder::new()
+    }
+}

@@ -1,0 +1,307 @@
+// Made by `strip` from crates/lexical_num/src/num.rt. Edit that file, not this one.
+
+//! The traits of the integer types, for generic code.
+
+/// An integer type whose numbers can be written.
+pub trait LexicalInteger: Copy {
+    /// The number of bits of the type.
+    const BITS: usize;
+
+    /// The largest number of decimal digits of a number of the type.
+    const DECIMAL_WIDTH: usize;
+
+    /// Whether the type has numbers below 0.
+    const IS_SIGNED: bool;
+
+    /// Returns whether the number is below 0.
+    #[must_use]
+    fn is_negative(self) -> bool;
+}
+
+impl LexicalInteger for u8 {
+    const BITS: usize = u8::BITS as usize;
+
+    const DECIMAL_WIDTH: usize = 3;
+
+    const IS_SIGNED: bool = false;
+
+    #[inline]
+    fn is_negative(self) -> bool {
+        false
+    }
+}
+
+impl LexicalInteger for u16 {
+    const BITS: usize = u16::BITS as usize;
+
+    const DECIMAL_WIDTH: usize = 5;
+
+    const IS_SIGNED: bool = false;
+
+    #[inline]
+    fn is_negative(self) -> bool {
+        false
+    }
+}
+
+impl LexicalInteger for u32 {
+    const BITS: usize = u32::BITS as usize;
+
+    const DECIMAL_WIDTH: usize = 10;
+
+    const IS_SIGNED: bool = false;
+
+    #[inline]
+    fn is_negative(self) -> bool {
+        false
+    }
+}
+
+impl LexicalInteger for u64 {
+    const BITS: usize = u64::BITS as usize;
+
+    const DECIMAL_WIDTH: usize = 20;
+
+    const IS_SIGNED: bool = false;
+
+    #[inline]
+    fn is_negative(self) -> bool {
+        false
+    }
+}
+
+impl LexicalInteger for usize {
+    const BITS: usize = usize::BITS as usize;
+
+    const DECIMAL_WIDTH: usize = 20;
+
+    const IS_SIGNED: bool = false;
+
+    #[inline]
+    fn is_negative(self) -> bool {
+        false
+    }
+}
+
+impl LexicalInteger for i8 {
+    const BITS: usize = i8::BITS as usize;
+
+    const DECIMAL_WIDTH: usize = 3;
+
+    const IS_SIGNED: bool = true;
+
+    #[inline]
+    fn is_negative(self) -> bool {
+        // Neither 0 nor a larger number is negative.
+        self < 0
+    }
+}
+
+impl LexicalInteger for i16 {
+    const BITS: usize = i16::BITS as usize;
+
+    const DECIMAL_WIDTH: usize = 5;
+
+    const IS_SIGNED: bool = true;
+
+    #[inline]
+    fn is_negative(self) -> bool {
+        self < 0
+    }
+}
+
+impl LexicalInteger for i32 {
+    const BITS: usize = i32::BITS as usize;
+
+    const DECIMAL_WIDTH: usize = 10;
+
+    const IS_SIGNED: bool = true;
+
+    #[inline]
+    fn is_negative(self) -> bool {
+        self < 0
+    }
+}
+
+impl LexicalInteger for i64 {
+    const BITS: usize = i64::BITS as usize;
+
+    const DECIMAL_WIDTH: usize = 19;
+
+    const IS_SIGNED: bool = true;
+
+    #[inline]
+    fn is_negative(self) -> bool {
+        self < 0
+    }
+}
+
+impl LexicalInteger for isize {
+    const BITS: usize = isize::BITS as usize;
+
+    const DECIMAL_WIDTH: usize = 19;
+
+    const IS_SIGNED: bool = true;
+
+    #[inline]
+    fn is_negative(self) -> bool {
+        self < 0
+    }
+}
+
+/// An unsigned integer type, with the arithmetic that is needed to write digits. The writers of
+/// `write_integer` are generic over it, such as `compact_counted`.
+pub trait UnsignedInteger: LexicalInteger {
+    /// Returns the number as a value of this type, which it fits.
+    ///
+    /// # Panics
+    ///
+    /// If the type does not have the number.
+    #[must_use]
+    fn from_u32(value: u32) -> Self;
+
+    /// Returns the number as a `u32`, which it fits.
+    ///
+    /// # Panics
+    ///
+    /// If the number is 2^32 or above.
+    #[must_use]
+    #[inline]
+    fn as_u32(self) -> u32 {
+        let number = self.as_usize();
+        assert!(number < 4_294_967_296);
+        number as u32
+    }
+
+    /// Returns the number as a `usize`, which every number of the type fits.
+    #[must_use]
+    fn as_usize(self) -> usize;
+
+    /// Returns the quotient and the remainder of the division by `by`, which is not 0.
+    #[must_use]
+    fn div_rem(self, by: Self) -> (Self, Self);
+
+    /// Returns whether the number is `other` or larger.
+    #[must_use]
+    #[inline]
+    fn is_at_least(self, other: Self) -> bool {
+        self.as_usize() >= other.as_usize()
+    }
+
+    /// Returns the number of zero bits above the highest set bit, and `BITS` for 0.
+    #[must_use]
+    fn leading_zeros(self) -> u32;
+}
+
+impl UnsignedInteger for u8 {
+    #[inline]
+    fn from_u32(value: u32) -> u8 {
+        assert!(value < 256);
+        value as u8
+    }
+
+    #[inline]
+    fn as_usize(self) -> usize {
+        self as usize
+    }
+
+    #[inline]
+    fn div_rem(self, by: u8) -> (u8, u8) {
+        (self / by, self % by)
+    }
+
+    #[inline]
+    fn leading_zeros(self) -> u32 {
+        u8::leading_zeros(self)
+    }
+}
+
+impl UnsignedInteger for u16 {
+    #[inline]
+    fn from_u32(value: u32) -> u16 {
+        assert!(value < 65_536);
+        value as u16
+    }
+
+    #[inline]
+    fn as_usize(self) -> usize {
+        self as usize
+    }
+
+    #[inline]
+    fn div_rem(self, by: u16) -> (u16, u16) {
+        (self / by, self % by)
+    }
+
+    #[inline]
+    fn leading_zeros(self) -> u32 {
+        u16::leading_zeros(self)
+    }
+}
+
+impl UnsignedInteger for u32 {
+    #[inline]
+    fn from_u32(value: u32) -> u32 {
+        value
+    }
+
+    #[inline]
+    fn as_usize(self) -> usize {
+        self as usize
+    }
+
+    #[inline]
+    fn div_rem(self, by: u32) -> (u32, u32) {
+        (self / by, self % by)
+    }
+
+    #[inline]
+    fn leading_zeros(self) -> u32 {
+        u32::leading_zeros(self)
+    }
+}
+
+impl UnsignedInteger for u64 {
+    #[inline]
+    fn from_u32(value: u32) -> u64 {
+        value as u64
+    }
+
+    #[inline]
+    fn as_usize(self) -> usize {
+        // A `usize` has 64 bits.
+        self as usize
+    }
+
+    #[inline]
+    fn div_rem(self, by: u64) -> (u64, u64) {
+        (self / by, self % by)
+    }
+
+    #[inline]
+    fn leading_zeros(self) -> u32 {
+        u64::leading_zeros(self)
+    }
+}
+
+impl UnsignedInteger for usize {
+    #[inline]
+    fn from_u32(value: u32) -> usize {
+        value as usize
+    }
+
+    #[inline]
+    fn as_usize(self) -> usize {
+        self
+    }
+
+    #[inline]
+    fn div_rem(self, by: usize) -> (usize, usize) {
+        (self / by, self % by)
+    }
+
+    #[inline]
+    fn leading_zeros(self) -> u32 {
+        usize::leading_zeros(self)
+    }
+}

@@ -1,0 +1,55 @@
+// Made by `strip` from crates/lexical_parts/src/lib.rt. Edit that file, not this one.
+
+//! Writes texts that consist of several parts, such as a log line or a CSV row. A tuple of parts
+//! says what the text is, and one call writes it to a buffer:
+//!
+//! ```
+//! use cojimuran::parts::{Decimal, Padded, PaddedDigits, Part};
+//!
+//! let mut buffer = [7; 40];
+//! let date = (
+//!     Padded(2026u16, 4),
+//!     "-",
+//!     Padded(11u8, 2),
+//!     "-",
+//!     Padded(3u8, 2),
+//! );
+//! let flags = PaddedDigits(16, 255u32, 2);
+//! let text = (date, " ", Decimal(-12i32), " kg 0x", flags, ";").to_text(&mut buffer);
+//! assert_eq!(&*text, b"2026-11-03 -12 kg 0xFF;".as_slice());
+//! ```
+//!
+//! The calls are the methods of [`Part`]. The other types of this module are parts, and so are the integer types.
+
+mod column;
+mod display;
+mod fill;
+mod fixed;
+mod integers;
+mod joined;
+mod lower;
+mod number;
+mod option;
+mod padded;
+mod part;
+mod plus;
+mod powers_of_two;
+mod scientific;
+mod sign;
+mod text;
+mod tuples;
+mod zero_padded;
+
+pub use column::{Center, Left, Right};
+pub use fixed::{Fixed, GroupedFixed};
+pub use joined::Joined;
+pub use lower::Lower;
+pub use number::{Decimal, Digits, Formatted};
+pub use padded::{Padded, PaddedDigits};
+pub use part::Part;
+pub use plus::Plus;
+pub use powers_of_two::{Binary, Hex, HexBytes};
+pub use scientific::Scientific;
+pub use sign::Sign;
+pub use text::{Byte, Bytes};
+pub use zero_padded::ZeroPadded;

@@ -1,0 +1,69 @@
+// Made by `strip` from crates/lexical_parts/src/column.rt. Edit that file, not this one.
+
+//! Parts that are padded to the width of a column.
+
+use crate::parts::fill::{insert_fill, write_fill};
+use crate::parts::part::Part;
+
+/// A part that is aligned to the left of a column: a byte, often a space, is added after its text, up to
+/// the width. `Left(Decimal(12), 4, b'.')` writes `12..`. Nothing is added to a text longer than the
+/// width.
+#[derive(Clone, Copy, Debug)]
+pub struct Left<P>(pub P, pub usize, pub u8);
+
+impl<P: Part> Part for Left<P> {
+    #[inline]
+    fn room(self) -> usize {
+        self.0.room().max(self.1)
+    }
+
+    #[inline]
+    fn write_to(self, buffer: &mut [u8]) -> usize {
+        let count = self.0.write_to(buffer);
+        count + write_fill(self.2, self.1.saturating_sub(count), &mut buffer[count..])
+    }
+}
+
+/// A part that is aligned to the right of a column: a byte, often a space, is added before its text, up
+/// to the width. `Right(Decimal(42), 4, b' ')` writes two spaces and `42`. Nothing is added to a text
+/// longer than the width.
+#[derive(Clone, Copy, Debug)]
+pub struct Right<P>(pub P, pub usize, pub u8);
+
+impl<P: Part> Part for Right<P> {
+    #[inline]
+    fn room(self) -> usize {
+        self.0.room().max(self.1)
+    }
+
+    #[inline]
+    fn write_to(self, buffer: &mut [u8]) -> usize {
+        let count = self.0.write_to(buffer);
+        let added = self.1.saturating_sub(count);
+        insert_fill(self.2, added, count, buffer);
+        added + count
+    }
+}
+
+/// A part in the centre of a column: a byte, often a space, is added before and after its text, up to
+/// the width. Of an odd number of bytes the larger half is after the text, as with `{:^6}` in Rust:
+/// `Center(Decimal(-12), 6, b'*')` writes `*-12**`. Nothing is added to a text longer than the width.
+#[derive(Clone, Copy, Debug)]
+pub struct Center<P>(pub P, pub usize, pub u8);
+
+impl<P: Part> Part for Center<P> {
+    #[inline]
+    fn room(self) -> usize {
+        self.0.room().max(self.1)
+    }
+
+    #[inline]
+    fn write_to(self, buffer: &mut [u8]) -> usize {
+        let count = self.0.write_to(buffer);
+        let added = self.1.saturating_sub(count);
+        let before = added / 2;
+        insert_fill(self.2, before, count, buffer);
+        let end = before + count;
+        end + write_fill(self.2, added - before, &mut buffer[end..])
+    }
+}

@@ -1,0 +1,99 @@
+// Made by `strip` from crates/lexical_parts/src/display.rt. Edit that file, not this one.
+
+//! Parts in a format string: `{}` of a part writes its text, with the sign, the width and the fill of the format.
+
+use crate::parts::number::{Decimal, Formatted};
+use crate::parts::part::Part;
+use crate::parts::plus::Plus;
+use crate::parts::powers_of_two::{Binary, Hex};
+use crate::write_integer::format::STANDARD;
+use crate::write_integer::radix::Radix;
+use crate::write_integer::{BUFFER_SIZE, NumberFormatBuilder, ToLexicalWithOptions};
+use core::fmt;
+
+// Writes a text that begins with `+` as the standard library writes an integer with the option `+`.
+#[inline]
+fn pad_with_plus(f: &mut fmt::Formatter<'_>, text: &str) -> fmt::Result {
+    let digits = &text[1..];
+    if f.sign_plus() {
+        return f.pad_integral(true, "", digits);
+    }
+    if !f.sign_aware_zero_pad() {
+        return f.pad_integral(true, "", text);
+    }
+    f.write_str("+")?;
+    let zeros = f.width().unwrap_or(0).saturating_sub(text.len());
+    for _ in 0..zeros {
+        f.write_str("0")?;
+    }
+    f.write_str(digits)
+}
+
+// Writes a text, which begins with `-` if the number is negative, and otherwise with `+` if it has one, as the standard
+// library writes an integer.
+#[inline]
+fn pad_number(
+    f: &mut fmt::Formatter<'_>,
+    is_negative: bool,
+    has_plus: bool,
+    text: &str,
+) -> fmt::Result {
+    if f.width().is_none() && !f.sign_plus() && !f.alternate() {
+        f.write_str(text)
+    } else if is_negative {
+        f.pad_integral(false, "", &text[1..])
+    } else if has_plus {
+        pad_with_plus(f, text)
+    } else {
+        f.pad_integral(true, "", text)
+    }
+}
+
+impl<T: ToLexicalWithOptions> fmt::Display for Formatted<'_, T> {
+    #[inline]
+    fn fmt(&self, f: &mut fmt::Formatter<'_>) -> fmt::Result {
+        let mut buffer = [0; BUFFER_SIZE];
+        let text = Formatted(self.0, self.1).to_str(&mut buffer);
+        pad_number(
+            f,
+            self.0.is_negative(),
+            self.1.required_mantissa_sign(),
+            text,
+        )
+    }
+}
+
+impl<T: ToLexicalWithOptions> fmt::Display for Decimal<T> {
+    #[inline]
+    fn fmt(&self, f: &mut fmt::Formatter<'_>) -> fmt::Result {
+        fmt::Display::fmt(&Formatted(self.0, &STANDARD), f)
+    }
+}
+
+impl<T: ToLexicalWithOptions> fmt::Display for Plus<T> {
+    #[inline]
+    fn fmt(&self, f: &mut fmt::Formatter<'_>) -> fmt::Result {
+        let format = NumberFormatBuilder::new()
+            .required_mantissa_sign(true)
+            .build_strict();
+        fmt::Display::fmt(&Formatted(self.0, &format), f)
+    }
+}
+
+impl<T: Radix> fmt::Display for Hex<T> {
+    #[inline]
+    fn fmt(&self, f: &mut fmt::Formatter<'_>) -> fmt::Result {
+        let mut buffer = [0; 16];
+        let text = Hex(self.0).to_str(&mut buffer);
+        pad_number(f, false, false, text)
+    }
+}
+
+impl<T: Radix> fmt::Display for Binary<T> {
+    #[inline]
+    fn fmt(&self, f: &mut fmt::Formatter<'_>) -> fmt::Result {
+        let mut buffer = [0; 64];
+        let text = Binary(self.0).to_str(&mut buffer);
+        pad_number(f, false, false, text)
+    }
+}

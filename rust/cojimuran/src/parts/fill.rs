@@ -1,0 +1,17 @@
+// Made by `strip` from crates/lexical_parts/src/fill.rt. Edit that file, not this one.
+
+//! Runs of one byte, before a text and after it.
+
+// Writes `count` copies of the byte to the start of the buffer, and returns `count`.
+#[inline]
+pub(crate) fn write_fill(fill: u8, count: usize, buffer: &mut [u8]) -> usize {
+    buffer[..count].fill(fill);
+    count
+}
+
+// Moves the first `count` bytes of the buffer to the right, and writes `more` copies of the byte before them.
+#[inline]
+pub(crate) fn insert_fill(fill: u8, more: usize, count: usize, buffer: &mut [u8]) {
+    buffer.copy_within(..count, more);
+    buffer[..more].fill(fill);
+}

@@ -1,0 +1,84 @@
+// Made by `strip` from crates/lexical_parts/src/fixed.rt. Edit that file, not this one.
+
+//! Numbers with a fixed number of decimals.
+
+use crate::parts::part::Part;
+use crate::parts::sign::Sign;
+use crate::parts::text::Bytes;
+use crate::write_integer::buffer::copy_to_front;
+use crate::write_integer::format::STANDARD;
+use crate::write_integer::{NumberFormat, ToLexicalWithOptions, group_digits};
+
+// Writes the digits of a number after the first 20 of 40 zeros. Returns where they begin and end, with the zeros before
+// them that a digit before the point requires, so that no digit is moved for these.
+#[inline]
+fn write_units<T: ToLexicalWithOptions>(
+    number: T,
+    decimals: usize,
+    array: &mut [u8],
+) -> (usize, usize) {
+    let count = number.write_magnitude(&STANDARD, &mut array[20..]);
+    let zeros = (decimals + 1).saturating_sub(count);
+    (20 - zeros, 20 + count)
+}
+
+// Writes the absolute value of a number of units of 10^-`decimals` to the start of the buffer, with its whole part in
+// the groups of the format, and returns the number of bytes written.
+#[inline]
+fn write_grouped_units<T: ToLexicalWithOptions>(
+    number: T,
+    decimals: usize,
+    format: &NumberFormat,
+    buffer: &mut [u8],
+) -> usize {
+    if decimals == 0 {
+        let count = number.write_magnitude(&STANDARD, buffer);
+        return group_digits(count, format, buffer);
+    }
+    let mut array = [b'0'; 40];
+    let (start, end) = write_units(number, decimals, &mut array);
+    let units = &array[start..end];
+    let whole = units.len() - decimals;
+    copy_to_front(&units[..whole], buffer);
+    let point = group_digits(whole, format, buffer);
+    point + (".", Bytes(&units[whole..])).write_to(&mut buffer[point..])
+}
+
+/// A number of units of 10^-`decimals`, such as an amount in cents: `Fixed(-5i64, 2)` writes `-0.05`,
+/// and `Fixed(1234u32, 3)` writes `1.234`. At least one digit precedes the point, and `decimals`
+/// digits follow it; a number without decimals has no point. There are at most 19 decimals.
+#[derive(Clone, Copy, Debug)]
+pub struct Fixed<T>(pub T, pub usize);
+
+impl<T: ToLexicalWithOptions> Part for Fixed<T> {
+    #[inline]
+    fn room(self) -> usize {
+        GroupedFixed(self.0, self.1, &STANDARD).room()
+    }
+
+    #[inline]
+    fn write_to(self, buffer: &mut [u8]) -> usize {
+        GroupedFixed(self.0, self.1, &STANDARD).write_to(buffer)
+    }
+}
+
+/// A number as `Fixed` writes it, with its whole part in the groups of the format, and nothing else of it:
+/// in groups of three with `,`, `GroupedFixed(-123456, 2, &format)` writes `-1,234.56`.
+#[derive(Clone, Copy, Debug)]
+pub struct GroupedFixed<'a, T>(pub T, pub usize, pub &'a NumberFormat);
+
+impl<T: ToLexicalWithOptions> Part for GroupedFixed<'_, T> {
+    #[inline]
+    fn room(self) -> usize {
+        assert!(self.1 <= 19);
+        let whole = T::DECIMAL_WIDTH.max(self.1 + 1) - self.1;
+        usize::from(T::IS_SIGNED) + self.2.grouped_len(whole) + self.1 + self.1.min(1)
+    }
+
+    #[inline]
+    fn write_to(self, buffer: &mut [u8]) -> usize {
+        assert!(self.1 <= 19);
+        let start = Sign(self.0, false).write_to(buffer);
+        start + write_grouped_units(self.0, self.1, self.2, &mut buffer[start..])
+    }
+}

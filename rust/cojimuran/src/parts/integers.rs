@@ -1,0 +1,126 @@
+// Made by `strip` from crates/lexical_parts/src/integers.rt. Edit that file, not this one.
+
+//! The integer types, which are parts: the text of a number is the number in decimal.
+
+use crate::parts::number::Decimal;
+use crate::parts::part::Part;
+
+impl Part for u8 {
+    #[inline(always)]
+    fn room(self) -> usize {
+        3
+    }
+
+    #[inline(always)]
+    fn write_to(self, buffer: &mut [u8]) -> usize {
+        Decimal(self).write_to(buffer)
+    }
+}
+
+impl Part for u16 {
+    #[inline(always)]
+    fn room(self) -> usize {
+        5
+    }
+
+    #[inline(always)]
+    fn write_to(self, buffer: &mut [u8]) -> usize {
+        Decimal(self).write_to(buffer)
+    }
+}
+
+impl Part for u32 {
+    #[inline(always)]
+    fn room(self) -> usize {
+        10
+    }
+
+    #[inline(always)]
+    fn write_to(self, buffer: &mut [u8]) -> usize {
+        Decimal(self).write_to(buffer)
+    }
+}
+
+impl Part for u64 {
+    #[inline(always)]
+    fn room(self) -> usize {
+        20
+    }
+
+    #[inline(always)]
+    fn write_to(self, buffer: &mut [u8]) -> usize {
+        Decimal(self).write_to(buffer)
+    }
+}
+
+impl Part for usize {
+    #[inline(always)]
+    fn room(self) -> usize {
+        20
+    }
+
+    #[inline(always)]
+    fn write_to(self, buffer: &mut [u8]) -> usize {
+        Decimal(self).write_to(buffer)
+    }
+}
+
+impl Part for i8 {
+    #[inline(always)]
+    fn room(self) -> usize {
+        4
+    }
+
+    #[inline(always)]
+    fn write_to(self, buffer: &mut [u8]) -> usize {
+        Decimal(self).write_to(buffer)
+    }
+}
+
+impl Part for i16 {
+    #[inline(always)]
+    fn room(self) -> usize {
+        6
+    }
+
+    #[inline(always)]
+    fn write_to(self, buffer: &mut [u8]) -> usize {
+        Decimal(self).write_to(buffer)
+    }
+}
+
+impl Part for i32 {
+    #[inline(always)]
+    fn room(self) -> usize {
+        11
+    }
+
+    #[inline(always)]
+    fn write_to(self, buffer: &mut [u8]) -> usize {
+        Decimal(self).write_to(buffer)
+    }
+}
+
+impl Part for i64 {
+    #[inline(always)]
+    fn room(self) -> usize {
+        20
+    }
+
+    #[inline(always)]
+    fn write_to(self, buffer: &mut [u8]) -> usize {
+        Decimal(self).write_to(buffer)
+    }
+}
+
+impl Part for isize {
+    #[inline(always)]
+    fn room(self) -> usize {
+        20
+    }
+
+    #[inline(always)]
+    fn write_to(self, buffer: &mut [u8]) -> usize {
+        Decimal(self).write_to(buffer)
+    }
+}

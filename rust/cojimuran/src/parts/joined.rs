@@ -1,0 +1,49 @@
+// Made by `strip` from crates/lexical_parts/src/joined.rt. Edit that file, not this one.
+
+//! The parts of a slice, with a separator between adjacent parts.
+
+use crate::parts::part::Part;
+
+// Writes what precedes the part at the index, which is nothing before the first part and otherwise the separator, and
+// then the part. Returns their length.
+#[inline(always)]
+pub(crate) fn write_next<P: Part>(
+    index: usize,
+    separator: &str,
+    part: P,
+    buffer: &mut [u8],
+) -> usize {
+    // A branch, since a copy of a length that is not known is a call of memcpy.
+    if index == 0 {
+        part.write_to(buffer)
+    } else {
+        (separator, part).write_to(buffer)
+    }
+}
+
+/// The parts of a slice, with the separator between adjacent parts: `Joined(&[-1, 20], ", ")` writes
+/// `-1, 20`. An array of other values becomes parts by `map`: `Joined(&[10u8, 2].map(Hex), ":")` writes
+/// `A:2`.
+#[derive(Clone, Copy, Debug)]
+pub struct Joined<'a, P>(pub &'a [P], pub &'a str);
+
+impl<P: Part> Part for Joined<'_, P> {
+    #[inline(always)]
+    fn room(self) -> usize {
+        let separators = self.0.len().saturating_sub(1);
+        let mut room = separators.saturating_mul(self.1.len());
+        for part in self.0 {
+            room = room.saturating_add(part.room());
+        }
+        room
+    }
+
+    #[inline(always)]
+    fn write_to(self, buffer: &mut [u8]) -> usize {
+        let mut count = 0;
+        for (index, part) in self.0.iter().enumerate() {
+            count += write_next(index, self.1, *part, &mut buffer[count..]);
+        }
+        count
+    }
+}

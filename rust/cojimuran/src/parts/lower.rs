@@ -1,0 +1,24 @@
+// Made by `strip` from crates/lexical_parts/src/lower.rt. Edit that file, not this one.
+
+//! Parts in lowercase.
+
+use crate::parts::part::Part;
+
+/// A part in lowercase: its text with `A` to `Z` as `a` to `z`, and every other byte unchanged.
+/// `Lower(PaddedDigits(16, 255u32, 4))` writes `00ff`.
+#[derive(Clone, Copy, Debug)]
+pub struct Lower<P>(pub P);
+
+impl<P: Part> Part for Lower<P> {
+    #[inline]
+    fn room(self) -> usize {
+        self.0.room()
+    }
+
+    #[inline]
+    fn write_to(self, buffer: &mut [u8]) -> usize {
+        let count = self.0.write_to(buffer);
+        buffer[..count].make_ascii_lowercase();
+        count
+    }
+}

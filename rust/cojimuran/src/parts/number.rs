@@ -1,0 +1,71 @@
+// Made by `strip` from crates/lexical_parts/src/number.rt. Edit that file, not this one.
+
+//! Parts that are one number.
+
+use crate::parts::part::Part;
+use crate::write_integer::digit_count::DigitCount;
+use crate::write_integer::radix::Radix;
+use crate::write_integer::{NumberFormat, ToLexicalWithOptions};
+
+/// A number in decimal, with a `-` if it is negative: `Decimal(-5)` writes `-5`, as the part `-5` does. It
+/// is for generic code, in which the number has a type parameter.
+#[derive(Clone, Copy, Debug)]
+pub struct Decimal<T>(pub T);
+
+impl<T: ToLexicalWithOptions> Part for Decimal<T> {
+    #[inline(always)]
+    fn room(self) -> usize {
+        T::FORMATTED_SIZE_DECIMAL
+    }
+
+    #[inline(always)]
+    fn write_to(self, buffer: &mut [u8]) -> usize {
+        self.0.write_lexical(buffer)
+    }
+}
+
+/// The digits of an unsigned number in a radix from 2 to 36: `Digits(16, 255u32)` writes `FF`.
+#[derive(Clone, Copy, Debug)]
+pub struct Digits<T>(pub u32, pub T);
+
+impl<T: Radix + DigitCount> Part for Digits<T> {
+    #[inline(always)]
+    fn room(self) -> usize {
+        self.1.digit_count(self.0)
+    }
+
+    #[inline(always)]
+    fn write_to(self, buffer: &mut [u8]) -> usize {
+        self.1.radix(self.0, buffer)
+    }
+}
+
+// Returns the largest absolute value of a number of the type.
+#[inline(always)]
+fn largest_magnitude<T: ToLexicalWithOptions>() -> u64 {
+    let all_bits = u64::MAX >> (64 - T::BITS);
+    if T::IS_SIGNED {
+        all_bits / 2 + 1
+    } else {
+        all_bits
+    }
+}
+
+/// A number in a format, with its sign and its groups: in a format with groups of three digits and
+/// the separator `,`, `Formatted(1234567, &format)` writes `1,234,567`.
+#[derive(Clone, Copy, Debug)]
+pub struct Formatted<'a, T>(pub T, pub &'a NumberFormat);
+
+impl<T: ToLexicalWithOptions> Part for Formatted<'_, T> {
+    #[inline(always)]
+    fn room(self) -> usize {
+        let sign = usize::from(T::IS_SIGNED || self.1.required_mantissa_sign());
+        let digits = largest_magnitude::<T>().digit_count(self.1.mantissa_radix());
+        sign + self.1.grouped_len(digits)
+    }
+
+    #[inline(always)]
+    fn write_to(self, buffer: &mut [u8]) -> usize {
+        self.0.write_text(buffer, self.1)
+    }
+}

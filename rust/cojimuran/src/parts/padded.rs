@@ -1,0 +1,46 @@
+// Made by `strip` from crates/lexical_parts/src/padded.rt. Edit that file, not this one.
+
+//! Numbers with leading zeros, up to a fixed width.
+
+use crate::parts::part::Part;
+use crate::write_integer::digit_count::DigitCount;
+use crate::write_integer::padded::write_padded;
+use crate::write_integer::radix::Radix;
+
+/// The digits of an unsigned number in a radix from 2 to 36, with leading zeros up to the width:
+/// `PaddedDigits(16, 1u8, 2)` writes `01`. The number must be below `radix.pow(width)`.
+#[derive(Clone, Copy, Debug)]
+pub struct PaddedDigits<T>(pub u32, pub T, pub usize);
+
+impl<T: DigitCount + Radix> Part for PaddedDigits<T> {
+    #[inline]
+    fn room(self) -> usize {
+        self.2
+    }
+
+    #[inline]
+    fn write_to(self, buffer: &mut [u8]) -> usize {
+        write_padded(self.1, self.0, &mut buffer[..self.2]);
+        // `write_padded` returns the same number, but a constant width is known without its result,
+        // and with it the position of the next part.
+        self.2
+    }
+}
+
+/// An unsigned number in decimal, with leading zeros up to the width: `Padded(3u8, 2)` writes `03`.
+/// The number must be below `10.pow(width)`. `ZeroPadded` writes every number: `ZeroPadded(123u8, 2)`
+/// writes `123`.
+#[derive(Clone, Copy, Debug)]
+pub struct Padded<T>(pub T, pub usize);
+
+impl<T: DigitCount + Radix> Part for Padded<T> {
+    #[inline]
+    fn room(self) -> usize {
+        self.1
+    }
+
+    #[inline]
+    fn write_to(self, buffer: &mut [u8]) -> usize {
+        PaddedDigits(10, self.0, self.1).write_to(buffer)
+    }
+}

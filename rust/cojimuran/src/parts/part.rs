@@ -1,0 +1,96 @@
+// Made by `strip` from crates/lexical_parts/src/part.rt. Edit that file, not this one.
+
+//! The trait that each part of a text implements.
+
+use crate::write_integer::buffer::front_mut;
+use core::str::from_utf8;
+
+/// A value that has a text, such as a number or a `&str`. A tuple of parts is also a part, and its
+/// text consists of the texts of its elements, in order: `(250, " g")` writes `250 g`.
+///
+/// For a `String` or a `&String` write `string.as_str()`, for a `bool` `if flag { "true" } else { "false" }`, and for a
+/// `char` the `&str` that `encode_utf8` returns.
+///
+/// A part is *valid* if it meets the condition of its type: a radix is from 2 to 36, and a padded number
+/// fits in its width. A part that contains parts is valid if they are valid. A part without a condition is
+/// always valid.
+pub trait Part: Copy {
+    /// Returns a number of bytes that is enough for the text, or `usize::MAX` if that number does not
+    /// fit in a `usize`. The part must be valid.
+    ///
+    /// # Panics
+    ///
+    /// If the part is not valid.
+    #[must_use]
+    fn room(self) -> usize;
+
+    /// Writes the text to the start of the buffer, and returns its length. Every byte after the
+    /// text is unchanged. The part must be valid, and the buffer must have `room` bytes or more.
+    ///
+    /// # Panics
+    ///
+    /// If the part is not valid, or if the buffer is too short, except perhaps when the text fits.
+    fn write_to(self, buffer: &mut [u8]) -> usize;
+
+    /// Writes the text to the start of the buffer, and returns those bytes of the buffer, which the
+    /// caller may read and change. Every byte after the text is unchanged. The part must be valid,
+    /// and the buffer must have `room` bytes or more.
+    ///
+    /// # Panics
+    ///
+    /// If the part is not valid, or if the buffer is too short, except perhaps when the text fits.
+    #[inline]
+    fn to_text(self, buffer: &mut [u8]) -> &mut [u8] {
+        let count = self.write_to(buffer);
+        front_mut(buffer, count)
+    }
+
+    /// If the buffer has `room` bytes or more, writes the text to its start, and returns the length of
+    /// the text; every byte after the text is unchanged. Otherwise returns `None`, and the buffer is
+    /// unchanged. Only the room is tested: the part must be valid.
+    ///
+    /// # Panics
+    ///
+    /// If the part is not valid.
+    #[inline]
+    fn try_write_to(self, buffer: &mut [u8]) -> Option<usize> {
+        if buffer.len() < self.room() {
+            return None;
+        }
+        Some(self.write_to(buffer))
+    }
+
+    /// Writes the text into the buffer, and returns it as a `&str`, which borrows the buffer. What the buffer holds
+    /// afterwards is not promised. The part must be valid, each `Byte` in it and each byte of a column must be below
+    /// 128, each `Bytes` in it must be UTF-8, and the buffer must have `room` bytes or more.
+    ///
+    /// At run time this is `to_text` and then a call of `std::str::from_utf8`, which reads the text
+    /// once and cannot fail; if rustc compiles a caller with a `Bytes` that is not UTF-8, it panics. The standard
+    /// library has no call that returns a `&mut str`.
+    ///
+    /// # Panics
+    ///
+    /// If the part is not valid, or its text is not UTF-8, or if the buffer is too short, except
+    /// perhaps when the text fits.
+    #[inline]
+    fn to_str(self, buffer: &mut [u8]) -> &str {
+        from_utf8(self.to_text(buffer)).unwrap()
+    }
+
+    /// If the buffer has `room` bytes or more, returns the text as `to_str` does, at the same cost.
+    /// Otherwise returns `None`. Only the room is tested: the part must be valid, each `Byte` in it and each byte of
+    /// a column must be below 128, and each `Bytes` in it must be UTF-8: otherwise it panics if rustc compiles the
+    /// caller.
+    ///
+    /// # Panics
+    ///
+    /// If the part is not valid, or its text is not UTF-8.
+    #[inline]
+    fn try_to_str(self, buffer: &mut [u8]) -> Option<&str> {
+        if self.room() <= buffer.len() {
+            Some(self.to_str(buffer))
+        } else {
+            None
+        }
+    }
+}

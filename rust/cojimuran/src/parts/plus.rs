@@ -1,0 +1,26 @@
+// Made by `strip` from crates/lexical_parts/src/plus.rt. Edit that file, not this one.
+
+//! Numbers with a sign in each case.
+
+use crate::parts::part::Part;
+use crate::parts::sign::Sign;
+use crate::write_integer::ToLexicalWithOptions;
+use crate::write_integer::format::STANDARD;
+
+/// A number in decimal with a sign in each case, `+` if it is not negative: `Plus(5u8)` writes `+5`, and
+/// `Plus(-5)` writes `-5`. `ZeroPadded(Plus(42), 8)` writes `+0000042`, as `{:+08}` does in Rust.
+#[derive(Clone, Copy, Debug)]
+pub struct Plus<T>(pub T);
+
+impl<T: ToLexicalWithOptions> Part for Plus<T> {
+    #[inline]
+    fn room(self) -> usize {
+        1 + T::DECIMAL_WIDTH
+    }
+
+    #[inline]
+    fn write_to(self, buffer: &mut [u8]) -> usize {
+        let start = Sign(self.0, true).write_to(buffer);
+        start + self.0.write_magnitude(&STANDARD, &mut buffer[start..])
+    }
+}

@@ -1,0 +1,85 @@
+// Made by `strip` from crates/lexical_parts/src/powers_of_two.rt. Edit that file, not this one.
+
+//! Unsigned numbers in radix 16 and in radix 2, in the room of their type, and bytes in radix 16.
+
+use crate::parts::joined::write_next;
+use crate::parts::part::Part;
+use crate::tables::get_table;
+use crate::write_integer::radix::Radix;
+
+/// The digits of an unsigned number in radix 16, without a prefix: `Hex(255u32)` writes `FF`. Its room
+/// is that of its type: 2 bytes for a `u8`, and 16 for a `u64`.
+#[derive(Clone, Copy, Debug)]
+pub struct Hex<T>(pub T);
+
+impl<T: Radix> Part for Hex<T> {
+    #[inline]
+    fn room(self) -> usize {
+        T::BITS / 4
+    }
+
+    #[inline]
+    fn write_to(self, buffer: &mut [u8]) -> usize {
+        self.0.radix(16, buffer)
+    }
+}
+
+/// The digits of an unsigned number in radix 2, without a prefix: `Binary(5u8)` writes `101`. Its room
+/// is that of its type: 8 bytes for a `u8`, and 64 for a `u64`.
+#[derive(Clone, Copy, Debug)]
+pub struct Binary<T>(pub T);
+
+impl<T: Radix> Part for Binary<T> {
+    #[inline]
+    fn room(self) -> usize {
+        T::BITS
+    }
+
+    #[inline]
+    fn write_to(self, buffer: &mut [u8]) -> usize {
+        self.0.radix(2, buffer)
+    }
+}
+
+// The two digits of a byte in radix 16.
+#[derive(Clone, Copy)]
+struct HexByte(u8);
+
+impl Part for HexByte {
+    #[inline]
+    fn room(self) -> usize {
+        2
+    }
+
+    #[inline]
+    fn write_to(self, buffer: &mut [u8]) -> usize {
+        let table = get_table(16);
+        let index = 2 * usize::from(self.0);
+        buffer[0] = table[index];
+        buffer[1] = table[index + 1];
+        2
+    }
+}
+
+/// The bytes of a slice in radix 16, each in two digits, with a separator between adjacent bytes:
+/// `HexBytes(&[1, 255], "")` writes `01FF`, and `HexBytes(&[1, 255], ":")` writes `01:FF`.
+#[derive(Clone, Copy, Debug)]
+pub struct HexBytes<'a>(pub &'a [u8], pub &'a str);
+
+impl Part for HexBytes<'_> {
+    #[inline]
+    fn room(self) -> usize {
+        let separators = self.0.len().saturating_sub(1);
+        let digits = self.0.len().saturating_mul(2);
+        digits.saturating_add(separators.saturating_mul(self.1.len()))
+    }
+
+    #[inline]
+    fn write_to(self, buffer: &mut [u8]) -> usize {
+        let mut count = 0;
+        for (index, byte) in self.0.iter().enumerate() {
+            count += write_next(index, self.1, HexByte(*byte), &mut buffer[count..]);
+        }
+        count
+    }
+}

@@ -1,0 +1,30 @@
+// Made by `strip` from crates/lexical_parts/src/sign.rt. Edit that file, not this one.
+
+//! The sign of a number, as a part of its own.
+
+use crate::num::num::LexicalInteger;
+use crate::parts::part::Part;
+use crate::write_integer::buffer::copy_to_front;
+
+/// The sign of a number: `-` if it is below 0, and otherwise nothing, or a `+` if one is required. Before
+/// other parts, `Sign(-5, false)` and `Sign(-5, true)` write `-`, and `Sign(5, true)` writes `+`.
+#[derive(Clone, Copy, Debug)]
+pub struct Sign<T>(pub T, pub bool);
+
+impl<T: LexicalInteger> Part for Sign<T> {
+    #[inline]
+    fn room(self) -> usize {
+        1
+    }
+
+    #[inline]
+    fn write_to(self, buffer: &mut [u8]) -> usize {
+        if self.0.is_negative() {
+            copy_to_front(b"-", buffer)
+        } else if self.1 {
+            copy_to_front(b"+", buffer)
+        } else {
+            0
+        }
+    }
+}

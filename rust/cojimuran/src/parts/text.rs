@@ -1,0 +1,50 @@
+// Made by `strip` from crates/lexical_parts/src/text.rt. Edit that file, not this one.
+
+//! Parts that are strings or bytes, whose text is the same bytes.
+
+use crate::parts::part::Part;
+use crate::write_integer::buffer::copy_to_front;
+
+impl Part for &str {
+    #[inline(always)]
+    fn room(self) -> usize {
+        self.len()
+    }
+
+    #[inline(always)]
+    fn write_to(self, buffer: &mut [u8]) -> usize {
+        copy_to_front(self.as_bytes(), buffer)
+    }
+}
+
+/// A part whose text is the bytes of a slice.
+#[derive(Clone, Copy, Debug)]
+pub struct Bytes<'a>(pub &'a [u8]);
+
+impl Part for Bytes<'_> {
+    #[inline(always)]
+    fn room(self) -> usize {
+        self.0.len()
+    }
+
+    #[inline(always)]
+    fn write_to(self, buffer: &mut [u8]) -> usize {
+        copy_to_front(self.0, buffer)
+    }
+}
+
+/// A part whose text is one byte.
+#[derive(Clone, Copy, Debug)]
+pub struct Byte(pub u8);
+
+impl Part for Byte {
+    #[inline(always)]
+    fn room(self) -> usize {
+        1
+    }
+
+    #[inline(always)]
+    fn write_to(self, buffer: &mut [u8]) -> usize {
+        copy_to_front(&[self.0], buffer)
+    }
+}

@@ -1,0 +1,181 @@
+// Made by `strip` from crates/lexical_parts/src/tuples.rt. Edit that file, not this one.
+
+//! Tuples of two to twelve parts, whose text is the texts of their members in order.
+
+use crate::parts::part::Part;
+
+impl<A: Part, B: Part> Part for (A, B) {
+    #[inline(always)]
+    fn room(self) -> usize {
+        self.0.room().saturating_add(self.1.room())
+    }
+
+    #[inline(always)]
+    fn write_to(self, buffer: &mut [u8]) -> usize {
+        let first = self.0.write_to(buffer);
+        first + self.1.write_to(&mut buffer[first..])
+    }
+}
+
+impl<A: Part, B: Part, C: Part> Part for (A, B, C) {
+    #[inline(always)]
+    fn room(self) -> usize {
+        (self.0, (self.1, self.2)).room()
+    }
+
+    #[inline(always)]
+    fn write_to(self, buffer: &mut [u8]) -> usize {
+        (self.0, (self.1, self.2)).write_to(buffer)
+    }
+}
+
+impl<A: Part, B: Part, C: Part, D: Part> Part for (A, B, C, D) {
+    #[inline(always)]
+    fn room(self) -> usize {
+        (self.0, (self.1, self.2, self.3)).room()
+    }
+
+    #[inline(always)]
+    fn write_to(self, buffer: &mut [u8]) -> usize {
+        (self.0, (self.1, self.2, self.3)).write_to(buffer)
+    }
+}
+
+impl<A: Part, B: Part, C: Part, D: Part, E: Part> Part for (A, B, C, D, E) {
+    #[inline(always)]
+    fn room(self) -> usize {
+        (self.0, (self.1, self.2, self.3, self.4)).room()
+    }
+
+    #[inline(always)]
+    fn write_to(self, buffer: &mut [u8]) -> usize {
+        (self.0, (self.1, self.2, self.3, self.4)).write_to(buffer)
+    }
+}
+
+impl<A: Part, B: Part, C: Part, D: Part, E: Part, F: Part> Part for (A, B, C, D, E, F) {
+    #[inline(always)]
+    fn room(self) -> usize {
+        (self.0, (self.1, self.2, self.3, self.4, self.5)).room()
+    }
+
+    #[inline(always)]
+    fn write_to(self, buffer: &mut [u8]) -> usize {
+        (self.0, (self.1, self.2, self.3, self.4, self.5)).write_to(buffer)
+    }
+}
+
+impl<A: Part, B: Part, C: Part, D: Part, E: Part, F: Part, G: Part> Part for (A, B, C, D, E, F, G) {
+    #[inline(always)]
+    fn room(self) -> usize {
+        (self.0, (self.1, self.2, self.3, self.4, self.5, self.6)).room()
+    }
+
+    #[inline(always)]
+    fn write_to(self, buffer: &mut [u8]) -> usize {
+        (self.0, (self.1, self.2, self.3, self.4, self.5, self.6)).write_to(buffer)
+    }
+}
+
+impl<A: Part, B: Part, C: Part, D: Part, E: Part, F: Part, G: Part, H: Part> Part
+    for (A, B, C, D, E, F, G, H)
+{
+    #[inline(always)]
+    fn room(self) -> usize {
+        let (a, b, c, d, e, f, g, h) = self;
+        (a, (b, c, d, e, f, g, h)).room()
+    }
+
+    #[inline(always)]
+    fn write_to(self, buffer: &mut [u8]) -> usize {
+        let (a, b, c, d, e, f, g, h) = self;
+        (a, (b, c, d, e, f, g, h)).write_to(buffer)
+    }
+}
+
+impl<A: Part, B: Part, C: Part, D: Part, E: Part, F: Part, G: Part, H: Part, I: Part> Part
+    for (A, B, C, D, E, F, G, H, I)
+{
+    #[inline(always)]
+    fn room(self) -> usize {
+        let (a, b, c, d, e, f, g, h, i) = self;
+        (a, (b, c, d, e, f, g, h, i)).room()
+    }
+
+    #[inline(always)]
+    fn write_to(self, buffer: &mut [u8]) -> usize {
+        let (a, b, c, d, e, f, g, h, i) = self;
+        (a, (b, c, d, e, f, g, h, i)).write_to(buffer)
+    }
+}
+
+impl<A: Part, B: Part, C: Part, D: Part, E: Part, F: Part, G: Part, H: Part, I: Part, J: Part> Part
+    for (A, B, C, D, E, F, G, H, I, J)
+{
+    #[inline(always)]
+    fn room(self) -> usize {
+        let (a, b, c, d, e, f, g, h, i, j) = self;
+        (a, (b, c, d, e, f, g, h, i, j)).room()
+    }
+
+    #[inline(always)]
+    fn write_to(self, buffer: &mut [u8]) -> usize {
+        let (a, b, c, d, e, f, g, h, i, j) = self;
+        (a, (b, c, d, e, f, g, h, i, j)).write_to(buffer)
+    }
+}
+
+impl<
+    A: Part,
+    B: Part,
+    C: Part,
+    D: Part,
+    E: Part,
+    F: Part,
+    G: Part,
+    H: Part,
+    I: Part,
+    J: Part,
+    K: Part,
+> Part for (A, B, C, D, E, F, G, H, I, J, K)
+{
+    #[inline(always)]
+    fn room(self) -> usize {
+        let (a, b, c, d, e, f, g, h, i, j, k) = self;
+        (a, (b, c, d, e, f, g, h, i, j, k)).room()
+    }
+
+    #[inline(always)]
+    fn write_to(self, buffer: &mut [u8]) -> usize {
+        let (a, b, c, d, e, f, g, h, i, j, k) = self;
+        (a, (b, c, d, e, f, g, h, i, j, k)).write_to(buffer)
+    }
+}
+
+impl<
+    A: Part,
+    B: Part,
+    C: Part,
+    D: Part,
+    E: Part,
+    F: Part,
+    G: Part,
+    H: Part,
+    I: Part,
+    J: Part,
+    K: Part,
+    L: Part,
+> Part for (A, B, C, D, E, F, G, H, I, J, K, L)
+{
+    #[inline(always)]
+    fn room(self) -> usize {
+        let (a, b, c, d, e, f, g, h, i, j, k, l) = self;
+        (a, (b, c, d, e, f, g, h, i, j, k, l)).room()
+    }
+
+    #[inline(always)]
+    fn write_to(self, buffer: &mut [u8]) -> usize {
+        let (a, b, c, d, e, f, g, h, i, j, k, l) = self;
+        (a, (b, c, d, e, f, g, h, i, j, k, l)).write_to(buffer)
+    }
+}

@@ -1,0 +1,123 @@
+// Made by `strip` from crates/lexical_write_integer/src/digits/count.rt. Edit that file, not this one.
+
+//! Counting the digits of a number in any radix.
+
+pub mod decimal_count;
+pub mod logarithm;
+
+use crate::num::limits::is_radix;
+use crate::num::num::UnsignedInteger;
+use decimal_count::DecimalCount;
+pub use logarithm::fast_log2;
+
+// Returns `radix.pow(exponent)`, or `None` if it does not fit in the type. Then every number of the type is
+// smaller, so nothing is left to divide by it.
+#[inline]
+fn power_of<T: UnsignedInteger>(radix: u32, exponent: u32) -> Option<T> {
+    let power = radix.pow(exponent);
+    if T::BITS >= 32 || power >> T::BITS == 0 {
+        Some(T::from_u32(power))
+    } else {
+        None
+    }
+}
+
+// Returns the quotient of the number and a power of the radix.
+#[inline]
+fn divide_and_record<T: UnsignedInteger>(number: T, power: T) -> T {
+    let (left, _) = number.div_rem(power);
+    left
+}
+
+// Removes the last `step` digits of the number per iteration, while it has more than `step` digits.
+// Returns the remaining quotient and the number of digits that were removed.
+#[inline]
+fn take_digits<T: UnsignedInteger>(value: T, radix: u32, step: u32) -> (T, usize) {
+    let Some(power) = power_of::<T>(radix, step) else {
+        return (value, 0);
+    };
+    let mut left = value;
+    let mut taken = 0;
+    // No number has more than 64 digits. In Rust nothing checks the radix: in radix 1 only this bound ends the loop.
+    while left.is_at_least(power) && taken < 64 {
+        left = divide_and_record(left, power);
+        taken += step as usize;
+    }
+    (left, taken)
+}
+
+/// Returns how many digits the number has. They are counted by division: four per iteration while
+/// more than four are left, then two, and then one. The radix is from 2 to 36.
+///
+/// # Panics
+///
+/// If the radix is not from 2 to 36.
+#[must_use]
+#[doc(hidden)]
+#[inline]
+pub fn slow_digit_count_counted<T: UnsignedInteger>(x: T, radix: u32) -> usize {
+    assert!(is_radix(radix as u64));
+    let (left, by_four) = take_digits(x, radix, 4);
+    let (left, by_two) = take_digits(left, radix, 2);
+    let (_, by_one) = take_digits(left, radix, 1);
+    1 + by_four + by_two + by_one
+}
+
+// Returns whether `digit_count_counted` counts digits in the radix without division: from the highest set bit or with
+// a table.
+#[inline]
+pub(crate) fn counts_at_once(radix: u32) -> bool {
+    radix == 2 || radix == 4 || radix == 8 || radix == 10 || radix == 16 || radix == 32
+}
+
+/// Returns how many digits the number has. They are counted from the highest set bit if the radix
+/// is a power of 2, by `decimal_count` in radix 10, and otherwise by division. The radix is from 2
+/// to 36.
+///
+/// # Panics
+///
+/// If the radix is not from 2 to 36.
+#[must_use]
+#[doc(hidden)]
+#[inline(always)]
+pub fn digit_count_counted<T: DecimalCount>(x: T, radix: u32) -> usize {
+    assert!(is_radix(radix as u64));
+    match radix {
+        2 => fast_log2(x) + 1,
+        // By 2 and by 4, which are shifts, the sum first takes fewer instructions.
+        4 => (fast_log2(x) + 2) / 2,
+        8 => fast_log2(x) / 3 + 1,
+        16 => (fast_log2(x) + 4) / 4,
+        32 => fast_log2(x) / 5 + 1,
+        10 => x.decimal_count(),
+        _ => slow_digit_count_counted(x, radix),
+    }
+}
+
+/// An unsigned integer type whose digits are counted in every radix.
+pub trait DigitCount: DecimalCount {
+    /// Returns how many digits the number has. The radix is from 2 to 36.
+    ///
+    /// # Panics
+    ///
+    /// If the radix is not from 2 to 36.
+    #[must_use]
+    #[inline]
+    fn digit_count(self, radix: u32) -> usize {
+        digit_count_counted(self, radix)
+    }
+
+    /// Returns how many digits the number has, as `digit_count` does. `slow_digit_count_counted`, which it calls,
+    /// says how they are counted. The radix is from 2 to 36.
+    ///
+    /// # Panics
+    ///
+    /// If the radix is not from 2 to 36.
+    #[must_use]
+    #[inline]
+    fn slow_digit_count(self, radix: u32) -> usize {
+        slow_digit_count_counted(self, radix)
+    }
+}
+
+impl<T: DecimalCount> DigitCount for T {}

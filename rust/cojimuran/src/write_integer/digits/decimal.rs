@@ -1,0 +1,76 @@
+// Made by `strip` from crates/lexical_write_integer/src/digits/decimal.rt. Edit that file, not this one.
+
+//! Writing decimal digits, two at a time.
+
+pub(crate) mod decimal_pairs;
+pub mod jeaiii;
+mod kernels;
+
+pub use super::count::decimal_count::{DecimalCount, fallback_digit_count, fast_digit_count};
+pub use super::count::logarithm::fast_log10;
+use jeaiii::write_decimal;
+
+/// An unsigned integer type whose numbers are written in decimal, two digits at a time.
+pub trait Decimal: DecimalCount {
+    /// The largest number of decimal digits of the magnitude of a number of the signed type with the
+    /// same number of bits.
+    const SIGNED_WIDTH: usize;
+
+    /// Writes the digits of the number to the start of the buffer, and returns how many there are. The
+    /// buffer has room for `DECIMAL_WIDTH` bytes.
+    ///
+    /// # Panics
+    ///
+    /// If the buffer is too short, except perhaps when the text fits.
+    #[inline(always)]
+    fn decimal(self, buffer: &mut [u8]) -> usize {
+        self.decimal_counted(buffer)
+    }
+
+    /// Writes the digits of the number to the start of the buffer, and returns how many there are. The
+    /// number is below 10^`SIGNED_WIDTH`, as is the magnitude of each number of the signed type, and
+    /// the buffer has room for `SIGNED_WIDTH` bytes.
+    ///
+    /// # Panics
+    ///
+    /// If the number is 10^19 or above, or if the buffer is too short, except perhaps when the text
+    /// fits.
+    #[inline(always)]
+    fn decimal_signed(self, buffer: &mut [u8]) -> usize {
+        let number = self.as_usize() as u64;
+        assert!(number < 10_000_000_000_000_000_000);
+        write_decimal(self, Self::SIGNED_WIDTH, buffer)
+    }
+
+    /// Writes the digits as `decimal` does, under the same condition.
+    ///
+    /// # Panics
+    ///
+    /// If the buffer is too short, except perhaps when the text fits.
+    #[doc(hidden)]
+    #[inline(always)]
+    fn decimal_counted(self, buffer: &mut [u8]) -> usize {
+        write_decimal(self, Self::DECIMAL_WIDTH, buffer)
+    }
+}
+
+impl Decimal for u8 {
+    const SIGNED_WIDTH: usize = 3;
+}
+
+impl Decimal for u16 {
+    const SIGNED_WIDTH: usize = 5;
+}
+
+impl Decimal for u32 {
+    const SIGNED_WIDTH: usize = 10;
+}
+
+impl Decimal for u64 {
+    const SIGNED_WIDTH: usize = 19;
+}
+
+// A `usize` has 64 bits.
+impl Decimal for usize {
+    const SIGNED_WIDTH: usize = 19;
+}

@@ -1,0 +1,93 @@
+// Made by `strip` from crates/lexical_write_integer/src/digits/decimal/kernels.rt. Edit that file, not this one.
+
+// Decimal digits without division. A kernel converts a number to a fixed-point fraction with 32 bits
+// after the point. The whole part of the fraction is the first pair of the number's digits. When the
+// rest is multiplied by 100, the next pair becomes the whole part.
+
+/// Returns the fraction of a number below 10^4: its first pair of digits, and one pair after it.
+///
+/// # Panics
+///
+/// If the number is not in this range.
+#[must_use]
+#[inline(always)]
+pub fn fixed_2(n: u32) -> u64 {
+    assert!(n < 10_000);
+    u64::from(n) * 42_949_673
+}
+
+/// Returns the fraction of a number below 10^6: its first pair of digits, and two pairs after it.
+///
+/// # Panics
+///
+/// If the number is not in this range.
+#[must_use]
+#[inline(always)]
+pub fn fixed_4(n: u32) -> u64 {
+    assert!(n < 1_000_000);
+    u64::from(n) * 429_497
+}
+
+/// Returns the fraction of a number from 10^6 to below 10^8: its first pair of digits, and three
+/// pairs after it.
+///
+/// # Panics
+///
+/// If the number is not in this range.
+#[must_use]
+#[inline(always)]
+pub fn fixed_6(n: u32) -> u64 {
+    assert!(n >= 1_000_000);
+    assert!(n < 100_000_000);
+    (u64::from(n) * 281_474_978) >> 16
+}
+
+/// Returns the fraction of a number of nine digits: its first pair of digits, which is a single
+/// digit, and four pairs after it.
+///
+/// # Panics
+///
+/// If the number is not in this range.
+#[must_use]
+#[inline(always)]
+pub fn fixed_8_nine(n: u32) -> u64 {
+    assert!(n >= 100_000_000);
+    assert!(n < 1_000_000_000);
+    (u64::from(n) * 1_441_151_882) >> 25
+}
+
+/// Returns the fraction of a number of ten digits that fits in 32 bits: its first pair of digits, and
+/// four pairs after it.
+///
+/// # Panics
+///
+/// If the number is not in this range.
+#[must_use]
+#[inline(always)]
+pub fn fixed_8_ten(n: u32) -> u64 {
+    assert!(n >= 1_000_000_000);
+    // The multiplier for nine digits is 1 more: with it, 4,294,967,295 would end in 8.
+    (u64::from(n) * 1_441_151_881) >> 25
+}
+
+/// Returns the fraction of a number of ten digits: its first pair of digits, and four pairs after it.
+///
+/// # Panics
+///
+/// If the number is not in this range.
+#[must_use]
+#[inline(always)]
+pub fn fixed_8_wide(n: u64) -> u64 {
+    assert!(n >= 1_000_000_000);
+    assert!(n < 10_000_000_000);
+    // The product needs more than 64 bits.
+    ((u128::from(n) * 11_529_215_047) >> 28) as u64
+}
+
+/// Returns the next pair of digits of a fraction. The part after the point is multiplied by 100, and
+/// the whole part of the product is the pair.
+#[inline(always)]
+pub fn next2(prod: &mut u64) -> u32 {
+    *prod = (*prod & 0xFFFF_FFFF) * 100;
+    (*prod >> 32) as u32
+}

@@ -1,0 +1,47 @@
+// Made by `strip` from crates/lexical_write_integer/src/digits/padded.rt. Edit that file, not this one.
+
+//! Numbers with leading zeros, as in dates and times.
+
+use super::count::DigitCount;
+use super::decimal::decimal_pairs::write_decimal_block;
+use super::radix::Radix;
+
+// Writes the character `0` to each byte of the buffer.
+#[inline]
+fn write_zeros(buffer: &mut [u8]) {
+    buffer.fill(b'0');
+}
+
+// Returns whether the number, with leading zeros, can have this number of digits. Without digits it is 0.
+#[inline]
+fn fits_width(number: u64, radix: u32, width: usize) -> bool {
+    if radix == 10 {
+        // Every number is below 10^20. A constant power costs nothing in rustc.
+        return width >= 20 || number < 10u64.pow(width as u32);
+    }
+    number == 0 || number.digit_count(radix) <= width
+}
+
+/// Writes the number with leading zeros over the whole buffer, and returns the length of the buffer.
+/// The radix is from 2 to 36, and the number is below the radix to the power of that length.
+///
+/// # Panics
+///
+/// If the radix is not from 2 to 36, or if the number has more digits than the buffer has bytes, or
+/// if the buffer is too short, except perhaps when the text fits.
+#[inline]
+pub fn write_padded<T: DigitCount + Radix>(value: T, radix: u32, buffer: &mut [u8]) -> usize {
+    let number = value.as_usize() as u64;
+    assert!(fits_width(number, radix, buffer.len()));
+    if radix == 10 {
+        write_decimal_block(number, buffer);
+        return buffer.len();
+    }
+    // The number is 0 here, and its digit does not fit in an empty buffer.
+    if buffer.is_empty() {
+        return 0;
+    }
+    let zeros = buffer.len() - value.digit_count(radix);
+    write_zeros(&mut buffer[..zeros]);
+    zeros + value.radix(radix, &mut buffer[zeros..])
+}

@@ -1,0 +1,61 @@
+// Made by `strip` from crates/lexical_write_integer/src/digits/radix/algorithm.rt. Edit that file, not this one.
+
+//! The table writer, which writes four digits per iteration from a table of the digit pairs of the radix, or in
+//! radix 2 eight, which it computes.
+
+use super::by_radix::by_radix;
+use super::write_digits;
+use crate::num::num::UnsignedInteger;
+use crate::write_integer::digits::count::DigitCount;
+
+// Calls `write_digits` for a radix that is known only at run time.
+#[inline]
+fn write_digits_in<T: UnsignedInteger>(
+    value: T,
+    radix: u32,
+    table: &[u8],
+    buffer: &mut [u8],
+) -> usize {
+    by_radix!(radix, write_digits::<T>(value, table, buffer))
+}
+
+// Returns whether the table is long enough for the radix, and has the pair `10` for the number that is the radix, which
+// no table of another radix has.
+#[inline]
+fn begins_with_pairs(radix: u32, table: &[u8]) -> bool {
+    let pair = 2 * radix as usize;
+    table.len() >= pair * radix as usize && table[pair] == b'1' && table[pair + 1] == b'0'
+}
+
+/// Writes the digits of the number to the start of the buffer, and returns how many there are. The
+/// radix is from 2 to 36, the table begins with the digit pairs of the radix, and the buffer has
+/// room for the digits.
+///
+/// # Panics
+///
+/// If the radix is not from 2 to 36, or if the buffer is too short, except perhaps when the text
+/// fits.
+#[doc(hidden)]
+#[inline]
+pub fn algorithm_counted<T: DigitCount>(
+    value: T,
+    radix: u32,
+    table: &[u8],
+    buffer: &mut [u8],
+) -> usize {
+    assert!(begins_with_pairs(radix, table));
+    write_digits_in(value, radix, table, buffer)
+}
+
+/// Writes the digits of the number to the start of the buffer, and returns how many there are. The radix is
+/// from 2 to 36, the table begins with the digit pairs of the radix, and the buffer has room for the
+/// digits.
+///
+/// # Panics
+///
+/// If the radix is not from 2 to 36, or if the table does not begin with the digit pairs of the
+/// radix, or if the buffer is too short, except perhaps when the text fits.
+#[inline]
+pub fn algorithm<T: DigitCount>(value: T, radix: u32, table: &[u8], buffer: &mut [u8]) -> usize {
+    algorithm_counted(value, radix, table, buffer)
+}

@@ -1,0 +1,37 @@
+// Made by `strip` from crates/lexical_write_integer/src/digits/radix/binary_words.rt. Edit that file, not this one.
+
+// Writing binary digits, eight at a time, as the bytes of a word.
+
+use super::table_writer::remove_four;
+use crate::write_integer::digits::count::digit_count_counted;
+
+// Writes the eight binary digits of a number below 256 at index `at`. Each byte of the product is the number, of which
+// the mask keeps another bit. The sum carries a bit that is set to bit 7 of its byte, and no further.
+#[inline]
+fn write_eight_bits(bits: u64, buffer: &mut [u8], at: usize) {
+    let kept = (bits * 0x0101_0101_0101_0101) & 0x0102_0408_1020_4080;
+    let carried = kept + 0x7f7f_7f7f_7f7f_7f7f;
+    let characters = (carried >> 7 & 0x0101_0101_0101_0101 | 0x3030_3030_3030_3030).to_le_bytes();
+    buffer[at..at + 8].copy_from_slice(&characters);
+}
+
+// Writes a number of more than eight binary digits, from the last: eight per iteration while more than 16 are left. Of
+// those, the first are written with zeros after them, eight characters in total, and then the last eight.
+#[inline]
+pub(super) fn write_binary(value: u64, buffer: &mut [u8]) -> usize {
+    let count = digit_count_counted(value, 2);
+    let mut left = value;
+    let mut at = count;
+    while at > 16 {
+        let first = remove_four::<2>(left);
+        let next = remove_four::<2>(first);
+        at -= 8;
+        write_eight_bits(left % 256, buffer, at);
+        left = next;
+    }
+    let first = remove_four::<2>(left);
+    let rest = remove_four::<2>(first);
+    write_eight_bits(rest << (16 - at), buffer, 0);
+    write_eight_bits(left % 256, buffer, at - 8);
+    count
+}

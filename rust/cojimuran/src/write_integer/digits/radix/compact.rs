@@ -1,0 +1,87 @@
+// Made by `strip` from crates/lexical_write_integer/src/digits/radix/compact.rt. Edit that file, not this one.
+
+//! The compact writer, which writes one digit per iteration.
+
+use super::by_radix::by_radix;
+use crate::num::constants::FormattedSize;
+use crate::num::digit::digit_to_char;
+use crate::num::num::UnsignedInteger;
+use crate::write_integer::buffer::copy_to_front;
+
+// The number of digits of the largest `u64` in radix 2.
+const MAX_DIGITS: usize = 64;
+
+// Returns the character of a digit in this radix. In radix 10 and below it is computed.
+#[inline]
+fn char_of<const RADIX: u32>(digit: u32) -> u8 {
+    if RADIX <= 10 {
+        b'0' + digit as u8
+    } else {
+        digit_to_char(digit)
+    }
+}
+
+// Writes the digits of a number to the end of the buffer, the last digit first, and returns the index
+// of the first digit.
+#[inline]
+fn write_to_end<const RADIX: u32>(value: u64, buffer: &mut [u8]) -> usize {
+    let radix = u64::from(RADIX);
+    let mut index = buffer.len();
+    let mut left = value;
+    while left >= radix {
+        let next = left / radix;
+        index -= 1;
+        buffer[index] = char_of::<RADIX>((left % radix) as u32);
+        left = next;
+    }
+    index -= 1;
+    buffer[index] = char_of::<RADIX>(left as u32);
+    index
+}
+
+// Writes the digits of a number to the start of the buffer. Returns how many there are.
+#[cfg_attr(feature = "inline-more", inline(always))]
+#[cfg_attr(not(feature = "inline-more"), inline)]
+fn write_in_radix<const RADIX: u32>(value: u64, buffer: &mut [u8]) -> usize {
+    // The last digit is computed first, so the digits go to a temporary array.
+    let mut digits = [0u8; MAX_DIGITS];
+    let index = write_to_end::<RADIX>(value, &mut digits);
+    copy_to_front(&digits[index..], buffer)
+}
+
+// Calls `write_in_radix` for a radix that is known only at run time.
+#[inline]
+fn write_in(value: u64, radix: u32, buffer: &mut [u8]) -> usize {
+    by_radix!(radix, write_in_radix(value, buffer))
+}
+
+/// Writes the digits of the number to the start of the buffer, and returns how many there are. The
+/// radix is from 2 to 36, and the buffer has room for the digits. There is one division for each
+/// digit after the first.
+///
+/// # Panics
+///
+/// If the radix is not from 2 to 36, or if the buffer is too short, except perhaps when the text
+/// fits.
+#[doc(hidden)]
+#[inline]
+pub fn compact_counted<T: UnsignedInteger>(value: T, radix: u32, buffer: &mut [u8]) -> usize {
+    write_in(value.as_usize() as u64, radix, buffer)
+}
+
+/// An unsigned integer type whose digits are written by the compact writer.
+pub trait Compact: UnsignedInteger + FormattedSize {
+    /// Writes the digits of the number to the start of the buffer, and returns how many there are. The radix
+    /// is from 2 to 36, and the buffer has room for the digits.
+    ///
+    /// # Panics
+    ///
+    /// If the radix is not from 2 to 36, or if the buffer is too short, except perhaps when the text
+    /// fits.
+    #[inline]
+    fn compact(self, radix: u32, buffer: &mut [u8]) -> usize {
+        compact_counted(self, radix, buffer)
+    }
+}
+
+impl<T: UnsignedInteger + FormattedSize> Compact for T {}

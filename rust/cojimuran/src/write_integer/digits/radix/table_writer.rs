@@ -1,0 +1,155 @@
+// Made by `strip` from crates/lexical_write_integer/src/digits/radix/table_writer.rt. Edit that file, not this one.
+
+// Writing the digits of a number, four at a time, from a table of the digit pairs of the radix.
+
+use crate::write_integer::digits::count::digit_count_counted;
+use crate::write_integer::digits::pairs::RadixTable;
+
+// Returns the fourth power of the radix: the divisor that removes four digits.
+#[inline(always)]
+fn fourth_power(radix: u32) -> u64 {
+    let square = u64::from(radix * radix);
+    square * square
+}
+
+// Returns the number without its last four digits.
+#[inline(always)]
+pub(super) fn remove_four<const R: u32>(value: u64) -> u64 {
+    value / fourth_power(R)
+}
+
+// Returns the last four digits of a number, as a number.
+#[inline(always)]
+fn last_four<const R: u32>(value: u64) -> u32 {
+    (value % fourth_power(R)) as u32
+}
+
+// Writes a number of up to four digits at index `at`, with leading zeros, as two pairs.
+#[inline(always)]
+fn write_four<const R: u32>(number: u32, table: RadixTable<'_, R>, buffer: &mut [u8], at: usize) {
+    let square = R * R;
+    // rustc tests the end of these bytes once.
+    let four = &mut buffer[at..at + 4];
+    table.write(number % square, four, 2);
+    table.write(number / square, four, 0);
+}
+
+// Returns the digits before the last two of a number of up to four digits.
+#[inline(always)]
+pub(super) fn first_pair<const R: u32>(number: u32) -> u32 {
+    number / (R * R)
+}
+
+// Writes the one to four digits of a number to the start of the buffer: four characters, each at its index or,
+// if it is a leading zero, at an index that a later one takes. This avoids branches.
+#[inline(always)]
+pub(super) fn write_up_to_four<const R: u32>(
+    number: u32,
+    digits: usize,
+    table: RadixTable<'_, R>,
+    buffer: &mut [u8],
+) {
+    let first = 2 * first_pair::<R>(number) as usize;
+    let last = 2 * (number % (R * R)) as usize;
+    buffer[0] = table.pairs[first];
+    buffer[digits / 4] = table.pairs[first + 1];
+    buffer[digits.saturating_sub(2)] = table.pairs[last];
+    buffer[digits - 1] = table.pairs[last + 1];
+}
+
+// Writes a number whose digits are counted without division: the count first, then four digits per iteration
+// while more than four are left, and then the others.
+#[inline(always)]
+pub(super) fn write_after_count<const R: u32>(
+    value: u64,
+    table: RadixTable<'_, R>,
+    buffer: &mut [u8],
+) -> usize {
+    let count = digit_count_counted(value, R);
+    let mut left = value;
+    let mut at = count;
+    while at > 4 {
+        at -= 4;
+        write_four(last_four::<R>(left), table, buffer, at);
+        left = remove_four::<R>(left);
+    }
+    write_up_to_four(left as u32, at, table, buffer);
+    count
+}
+
+// Returns how many digits a number of one or two digits has, by a division.
+#[inline]
+fn count_one_or_two(number: u32, radix: u32) -> usize {
+    let left = number / radix;
+    if left == 0 {
+        return 1;
+    }
+    2
+}
+
+// Returns how many digits a number of up to four digits has, by division.
+#[inline]
+fn count_up_to_four<const R: u32>(number: u32) -> usize {
+    let left = number / (R * R);
+    if left == 0 {
+        return count_one_or_two(number, R);
+    }
+    2 + count_one_or_two(left, R)
+}
+
+// Counts the one to four digits of a number by division, and writes them.
+#[inline]
+fn count_and_write_up_to_four<const R: u32>(
+    number: u32,
+    table: RadixTable<'_, R>,
+    buffer: &mut [u8],
+) -> usize {
+    let count = count_up_to_four::<R>(number);
+    write_up_to_four(number, count, table, buffer);
+    count
+}
+
+// Counts up to eight digits by division, and writes them.
+#[cfg_attr(feature = "inline-more", inline(always))]
+#[cfg_attr(not(feature = "inline-more"), inline)]
+pub(super) fn count_and_write_up_to_eight<const R: u32>(
+    value: u64,
+    table: RadixTable<'_, R>,
+    buffer: &mut [u8],
+) -> usize {
+    if value < fourth_power(R) {
+        return count_and_write_up_to_four(value as u32, table, buffer);
+    }
+    let left = remove_four::<R>(value);
+    let head = count_and_write_up_to_four(left as u32, table, buffer);
+    // With `last_four` LLVM would not inline this function for numbers of 8 bits.
+    let last = value - left * fourth_power(R);
+    write_four(last as u32, table, buffer, head);
+    head + 4
+}
+
+// Returns the eighth power of the radix.
+#[inline]
+pub(super) fn eighth_power(radix: u32) -> u64 {
+    fourth_power(radix) * fourth_power(radix)
+}
+
+// Counts more than eight digits by division, and writes them: those before the last eight first, since only then the
+// index of the last eight is known.
+#[inline]
+pub(super) fn count_and_write_more<const R: u32>(
+    value: u64,
+    table: RadixTable<'_, R>,
+    buffer: &mut [u8],
+) -> usize {
+    let first = remove_four::<R>(value);
+    let second = remove_four::<R>(first);
+    let head = if second < eighth_power(R) {
+        count_and_write_up_to_eight(second, table, buffer)
+    } else {
+        count_and_write_more(second, table, buffer)
+    };
+    write_four(last_four::<R>(first), table, buffer, head);
+    write_four(last_four::<R>(value), table, buffer, head + 4);
+    head + 8
+}

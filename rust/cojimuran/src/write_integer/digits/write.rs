@@ -1,0 +1,119 @@
+// Made by `strip` from crates/lexical_write_integer/src/digits/write.rt. Edit that file, not this one.
+
+//! Writing the digits of a number in any radix: with the decimal writer in radix 10, and otherwise with
+//! the table writer.
+
+use super::count::DigitCount;
+use super::decimal::Decimal;
+use super::decimal::jeaiii::write_decimal;
+use super::radix::{Radix, radix_counted};
+use crate::num::format::NumberFormat;
+use crate::num::num::UnsignedInteger;
+
+// Writes the digits of a number to the start of the buffer, and returns how many there are. In radix 10 they are at
+// most `width`, and the buffer has room for so many.
+#[inline(always)]
+fn write_numeral<T: UnsignedInteger>(
+    value: T,
+    radix: u32,
+    width: usize,
+    buffer: &mut [u8],
+) -> usize {
+    if radix == 10 {
+        write_decimal(value, width, buffer)
+    } else {
+        radix_counted(value, radix, buffer)
+    }
+}
+
+/// Writes the digits of the number to the start of the buffer, and returns how many there are. The
+/// radix is from 2 to 36. The buffer has room for `DECIMAL_WIDTH` bytes in radix 10, and for the
+/// digits in another radix.
+///
+/// # Panics
+///
+/// If the radix is not from 2 to 36, or if the buffer is too short, except perhaps when the text
+/// fits.
+#[doc(hidden)]
+#[inline(always)]
+pub fn write_integer_counted<T: Decimal + DigitCount>(
+    value: T,
+    radix: u32,
+    buffer: &mut [u8],
+) -> usize {
+    write_numeral(value, radix, T::DECIMAL_WIDTH, buffer)
+}
+
+/// An unsigned integer type whose numbers are written in every radix.
+///
+/// Each method writes the digits of the number to the start of the buffer, without a sign, and returns
+/// how many there are. The buffer has room for `DECIMAL_WIDTH` bytes in radix 10, and for the digits in
+/// another radix. In radix 10 the `_signed` methods write numbers below 10^`SIGNED_WIDTH`, and their
+/// buffer has room for `SIGNED_WIDTH` bytes.
+pub trait WriteInteger: Decimal + Radix {
+    /// Writes the digits in a radix from 2 to 36.
+    ///
+    /// # Panics
+    ///
+    /// If the radix is not from 2 to 36, or if the buffer is too short, except perhaps when the text
+    /// fits.
+    #[inline(always)]
+    fn write_integer(self, radix: u32, buffer: &mut [u8]) -> usize {
+        write_integer_counted(self, radix, buffer)
+    }
+
+    /// Writes the digits of the magnitude of a signed number, without its sign, in a radix from 2 to 36.
+    ///
+    /// # Panics
+    ///
+    /// If the radix is not from 2 to 36, or if the radix is 10 and the number is 10^19 or above, or if
+    /// the buffer is too short, except perhaps when the text fits.
+    #[inline(always)]
+    fn write_integer_signed(self, radix: u32, buffer: &mut [u8]) -> usize {
+        let number = self.as_usize() as u64;
+        assert!(radix != 10 || number < 10_000_000_000_000_000_000);
+        write_numeral(self, radix, Self::SIGNED_WIDTH, buffer)
+    }
+
+    /// Writes the digits in the mantissa radix of the format.
+    ///
+    /// # Panics
+    ///
+    /// If the buffer is too short, except perhaps when the text fits.
+    #[inline(always)]
+    fn write_mantissa(self, format: &NumberFormat, buffer: &mut [u8]) -> usize {
+        self.write_integer(format.mantissa_radix(), buffer)
+    }
+
+    /// Writes the digits of the magnitude of a signed number, without its sign, in the mantissa radix of the format.
+    ///
+    /// # Panics
+    ///
+    /// If the buffer is too short, except perhaps when the text fits.
+    #[inline(always)]
+    fn write_mantissa_signed(self, format: &NumberFormat, buffer: &mut [u8]) -> usize {
+        self.write_integer_signed(format.mantissa_radix(), buffer)
+    }
+
+    /// Writes the digits in the exponent radix of the format.
+    ///
+    /// # Panics
+    ///
+    /// If the buffer is too short, except perhaps when the text fits.
+    #[inline(always)]
+    fn write_exponent(self, format: &NumberFormat, buffer: &mut [u8]) -> usize {
+        self.write_integer(format.exponent_radix(), buffer)
+    }
+
+    /// Writes the digits of the magnitude of a signed number, without its sign, in the exponent radix of the format.
+    ///
+    /// # Panics
+    ///
+    /// If the buffer is too short, except perhaps when the text fits.
+    #[inline(always)]
+    fn write_exponent_signed(self, format: &NumberFormat, buffer: &mut [u8]) -> usize {
+        self.write_integer_signed(format.exponent_radix(), buffer)
+    }
+}
+
+impl<T: Decimal> WriteInteger for T {}

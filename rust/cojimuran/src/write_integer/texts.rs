@@ -1,0 +1,7 @@
+// Made by `strip` from crates/lexical_write_integer/src/texts.rt. Edit that file, not this one.
+
+//! The texts of numbers: a sign, and then the digits in the groups of the format.
+
+pub mod api;
+pub mod groups;
+mod integers;

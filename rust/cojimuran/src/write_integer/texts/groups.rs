@@ -1,0 +1,44 @@
+// Made by `strip` from crates/lexical_write_integer/src/texts/groups.rt. Edit that file, not this one.
+
+//! Putting digits into groups.
+
+use crate::num::format::NumberFormat;
+
+/// Puts the first `count` bytes of the buffer into the groups of the format, and returns how many bytes
+/// then take with the separators. The count is not 0, and the buffer has room for the result. Every
+/// byte after the result is unchanged.
+///
+/// The bytes are moved from the last to the first, so no digit is overwritten before it has moved:
+///
+/// ```text
+/// 1234567      the digits
+/// 12345,567    after four bytes
+/// 1,234,567    after all
+/// ```
+///
+/// # Panics
+///
+/// If the buffer is too short, except perhaps when the text fits.
+#[inline]
+pub fn group_digits(count: usize, format: &NumberFormat, buffer: &mut [u8]) -> usize {
+    let Some((size, mark)) = format.digit_grouping() else {
+        return count;
+    };
+    let size = usize::from(size);
+    let total = format.grouped_len(count);
+    let mut left = count;
+    let mut end = total;
+    let mut in_group = 0;
+    while end > 0 {
+        end -= 1;
+        if in_group == size {
+            buffer[end] = mark;
+            in_group = 0;
+        } else {
+            left -= 1;
+            buffer[end] = buffer[left];
+            in_group += 1;
+        }
+    }
+    total
+}

@@ -1,0 +1,125 @@
+// Made by `strip` from crates/lexical_write_integer/src/texts/integers.rt. Edit that file, not this one.
+
+//! The implementations of the writing traits for the ten integer types.
+
+use super::api::{ToLexical, ToLexicalWithOptions};
+use crate::num::constants::FormattedSize;
+use crate::num::format::NumberFormat;
+use crate::num::options::Options;
+use crate::write_integer::digits::count::DigitCount;
+use crate::write_integer::digits::decimal::Decimal;
+use crate::write_integer::digits::write::WriteInteger;
+
+impl<T: Decimal + FormattedSize> ToLexical for T {
+    #[inline(always)]
+    fn write_magnitude(self, format: &NumberFormat, buffer: &mut [u8]) -> usize {
+        self.write_mantissa(format, buffer)
+    }
+
+    #[inline(always)]
+    fn magnitude_digits(self, radix: u32) -> usize {
+        self.digit_count(radix)
+    }
+}
+
+impl ToLexical for i8 {
+    #[inline(always)]
+    fn write_magnitude(self, format: &NumberFormat, buffer: &mut [u8]) -> usize {
+        // The magnitude of the smallest value, 128, is no `i8`.
+        self.unsigned_abs().write_mantissa_signed(format, buffer)
+    }
+
+    #[inline(always)]
+    fn magnitude_digits(self, radix: u32) -> usize {
+        self.unsigned_abs().digit_count(radix)
+    }
+}
+
+impl ToLexical for i16 {
+    #[inline(always)]
+    fn write_magnitude(self, format: &NumberFormat, buffer: &mut [u8]) -> usize {
+        // The magnitude 32,768 is no `i16`.
+        self.unsigned_abs().write_mantissa_signed(format, buffer)
+    }
+
+    #[inline(always)]
+    fn magnitude_digits(self, radix: u32) -> usize {
+        self.unsigned_abs().digit_count(radix)
+    }
+}
+
+impl ToLexical for i32 {
+    #[inline(always)]
+    fn write_magnitude(self, format: &NumberFormat, buffer: &mut [u8]) -> usize {
+        self.unsigned_abs().write_mantissa_signed(format, buffer)
+    }
+
+    #[inline(always)]
+    fn magnitude_digits(self, radix: u32) -> usize {
+        self.unsigned_abs().digit_count(radix)
+    }
+}
+
+impl ToLexical for i64 {
+    #[inline(always)]
+    fn write_magnitude(self, format: &NumberFormat, buffer: &mut [u8]) -> usize {
+        self.unsigned_abs().write_mantissa_signed(format, buffer)
+    }
+
+    #[inline(always)]
+    fn magnitude_digits(self, radix: u32) -> usize {
+        self.unsigned_abs().digit_count(radix)
+    }
+}
+
+impl ToLexical for isize {
+    #[inline(always)]
+    fn write_magnitude(self, format: &NumberFormat, buffer: &mut [u8]) -> usize {
+        self.unsigned_abs().write_mantissa_signed(format, buffer)
+    }
+
+    #[inline(always)]
+    fn magnitude_digits(self, radix: u32) -> usize {
+        self.unsigned_abs().digit_count(radix)
+    }
+}
+
+impl ToLexicalWithOptions for u8 {
+    type Options = Options;
+}
+
+impl ToLexicalWithOptions for u16 {
+    type Options = Options;
+}
+
+impl ToLexicalWithOptions for u32 {
+    type Options = Options;
+}
+
+impl ToLexicalWithOptions for u64 {
+    type Options = Options;
+}
+
+impl ToLexicalWithOptions for usize {
+    type Options = Options;
+}
+
+impl ToLexicalWithOptions for i8 {
+    type Options = Options;
+}
+
+impl ToLexicalWithOptions for i16 {
+    type Options = Options;
+}
+
+impl ToLexicalWithOptions for i32 {
+    type Options = Options;
+}
+
+impl ToLexicalWithOptions for i64 {
+    type Options = Options;
+}
+
+impl ToLexicalWithOptions for isize {
+    type Options = Options;
+}

@@ -1,0 +1,53 @@
+// Made by `strip` from crates/lexical_c/src/general.rt. Edit that file, not this one.
+
+//! Writes a number whose text may not fit, or whose format may have groups, a required sign or lowercase.
+
+use crate::format::{CFormat, number_format};
+use cojimuran::write_integer::buffer::copy_to_front;
+use cojimuran::write_integer::{BUFFER_SIZE, Options, ToLexicalWithOptions, WriteOptions};
+
+/// Writes the number to the start of the buffer, and returns the length of its text. Returns 0 and
+/// leaves the buffer unchanged if the format is invalid or the text does not fit.
+// It is cold, so that the tests before a call of it are separate branches, each of which is one instruction fewer.
+#[cold]
+#[inline]
+pub fn write_if_it_fits<T: ToLexicalWithOptions>(
+    value: T,
+    format: &CFormat,
+    buffer: &mut [u8],
+) -> usize {
+    let count = write_uppercase(value, format, buffer);
+    if has_lowercase(format) {
+        buffer[..count].make_ascii_lowercase();
+    }
+    count
+}
+
+// Returns whether the format requests lowercase letters.
+#[inline]
+fn has_lowercase(format: &CFormat) -> bool {
+    format.lowercase != 0
+}
+
+// Writes the number in uppercase, whatever the format requests, or refuses it as `write_if_it_fits` does.
+#[inline]
+fn write_uppercase<T: ToLexicalWithOptions>(
+    value: T,
+    format: &CFormat,
+    buffer: &mut [u8],
+) -> usize {
+    let Some(format) = number_format(format) else {
+        return 0;
+    };
+    if buffer.len() >= Options::new().buffer_size::<T>(&format) {
+        return value.write_text(buffer, &format);
+    }
+    // The text of this number may still fit. It is written to an array, and copied if it fits.
+    let mut text = [0; BUFFER_SIZE];
+    let count = value.write_text(&mut text, &format);
+    if count <= buffer.len() {
+        copy_to_front(&text[..count], buffer)
+    } else {
+        0
+    }
+}

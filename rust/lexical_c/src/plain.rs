@@ -1,0 +1,92 @@
+// Made by `strip` from crates/lexical_c/src/plain.rt. Edit that file, not this one.
+
+//! Writes a number in a format without groups and required signs, to a buffer that is long enough for
+//! every number of the type.
+
+use crate::format::CFormat;
+use cojimuran::num::limits::is_radix;
+use cojimuran::write_integer::{
+    FormattedSize, NumberFormat, NumberFormatBuilder, ToLexical, write_sign,
+};
+
+/// Returns whether every field but the radix, the mark and lowercase is 0. No field is tested by itself, so
+/// that one branch is enough.
+#[inline(always)]
+pub fn has_only_radix_and_case(format: &CFormat) -> bool {
+    (format.required_sign == 0)
+        & (format.group_size == 0)
+        & (format.reserved_1 == 0)
+        & (format.reserved_2 == 0)
+}
+
+/// Returns whether every field but the radix and the mark is 0.
+#[inline(always)]
+pub fn has_only_radix(format: &CFormat) -> bool {
+    has_only_radix_and_case(format) & (format.lowercase == 0)
+}
+
+/// Returns whether digits of the radix of the format are letters.
+#[inline(always)]
+pub fn has_letters(format: &CFormat) -> bool {
+    format.radix > 10
+}
+
+/// Returns the format of this radix without a required sign and groups if the radix is valid and not 10, and
+/// above 10 if `LETTERS` is true, and a buffer of `room` bytes is enough for every number of the type. Otherwise
+/// returns `None`.
+#[inline(always)]
+pub fn fitting_format<T: FormattedSize, const LETTERS: bool>(
+    radix: u32,
+    room: usize,
+) -> Option<NumberFormat> {
+    let is_wanted = if LETTERS { radix > 10 } else { radix != 10 };
+    if is_wanted && is_radix(u64::from(radix)) && T::FORMATTED_SIZE <= room {
+        let builder = NumberFormatBuilder::new().mantissa_radix(radix as u8);
+        Some(builder.build_strict())
+    } else {
+        None
+    }
+}
+
+// Sets the bit 32 in each byte of a text.
+#[inline(always)]
+fn set_bit(text: &mut [u8]) {
+    for byte in text.iter_mut() {
+        *byte |= 32;
+    }
+}
+
+// Sets the bit in the first `SIZE` bytes of a text and in the last `SIZE`, which together are all bytes. If they
+// overlap, the bit is set twice. A compiler makes one operation of a constant number of bytes.
+#[inline(always)]
+fn set_bit_in_halves<const SIZE: usize>(text: &mut [u8]) {
+    set_bit(&mut text[..SIZE]);
+    let start = text.len() - SIZE;
+    set_bit(&mut text[start..]);
+}
+
+/// Sets the bit 32 in each byte of a text, and returns its length. Of the bytes of digits and signs only
+/// uppercase letters lack this bit, which is all that distinguishes them from lowercase letters. The text must not
+/// be empty.
+#[inline(always)]
+pub fn set_lowercase_bit(text: &mut [u8]) -> usize {
+    match text.len() {
+        0..=2 => set_bit_in_halves::<1>(text),
+        3..=4 => set_bit_in_halves::<2>(text),
+        5..=8 => set_bit_in_halves::<4>(text),
+        9..=16 => set_bit_in_halves::<8>(text),
+        _ => set_bit(text),
+    }
+    text.len()
+}
+
+/// Writes a number to the start of the buffer, and returns the length of the text. The format must have
+/// no required sign and no groups, and the buffer must have the length that the writer of the number requires.
+#[inline(always)]
+pub fn write_plain<T: ToLexical>(value: T, format: &NumberFormat, buffer: &mut [u8]) -> usize {
+    if !T::IS_SIGNED {
+        return value.write_magnitude(format, buffer);
+    }
+    let sign = write_sign(value, buffer, format);
+    sign + value.write_magnitude(format, &mut buffer[sign..])
+}

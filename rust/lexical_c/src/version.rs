@@ -1,0 +1,13 @@
+// Made by `strip` from crates/lexical_c/src/version.rt. Edit that file, not this one.
+
+//! The version of the library.
+
+/// The version: 1000000 times the major number, plus 1000 times the minor number, plus the patch
+/// number.
+pub const VERSION: u32 = 3001000;
+
+/// Returns the version of the library, which a C caller can compare with that of its header.
+#[unsafe(no_mangle)]
+pub extern "C" fn lexical_version() -> u32 {
+    VERSION
+}

@@ -1,0 +1,133 @@
+// Made by `strip` from crates/lexical_c/src/write.rt. Edit that file, not this one.
+
+//! The functions that write a number. Each returns the length of the text, or returns 0 and leaves the
+//! buffer unchanged if the format is invalid or the text does not fit.
+
+use crate::decimal::write_decimal;
+use crate::format::CFormat;
+use crate::general::write_if_it_fits;
+use crate::integer::CInteger;
+use crate::plain::{
+    fitting_format, has_letters, has_only_radix, has_only_radix_and_case, set_lowercase_bit,
+    write_plain,
+};
+
+// Writes a number to the buffer, and returns the length of its text, or 0 if it is refused.
+#[inline]
+fn write<T: CInteger>(value: T, format: &CFormat, buffer: &mut [u8]) -> usize {
+    if has_only_radix(format) {
+        write_digits(value, format, buffer)
+    } else {
+        write_other(value, format, buffer)
+    }
+}
+
+// Does what `write` does in any other format. It is cold, and so not inlined: otherwise a call in uppercase
+// would save registers that only this needs.
+#[cold]
+#[inline]
+fn write_other<T: CInteger>(value: T, format: &CFormat, buffer: &mut [u8]) -> usize {
+    if !has_only_radix_and_case(format) {
+        write_if_it_fits(value.widen(), format, buffer)
+    } else if !has_letters(format) {
+        write_digits(value, format, buffer)
+    } else if T::IS_SIGNED {
+        write_signed_in_lowercase(value, format, buffer)
+    } else {
+        write_in_lowercase(value, format, buffer)
+    }
+}
+
+// Does what `write` does in a format that has only a radix, or at most 10 as the radix and a case: then the
+// text is the same in lowercase. Radix 10 is apart, so a signed number in decimal takes no jump by its radix.
+#[inline(never)]
+fn write_digits<T: CInteger>(value: T, format: &CFormat, buffer: &mut [u8]) -> usize {
+    if format.radix == 10 {
+        write_decimal(value, buffer)
+    } else {
+        write_in_radix(value, format, buffer)
+    }
+}
+
+// Does what `write_digits` does, under the same conditions.
+#[inline]
+fn write_in_radix<T: CInteger>(value: T, format: &CFormat, buffer: &mut [u8]) -> usize {
+    match fitting_format::<T, false>(format.radix, buffer.len()) {
+        Some(plain) => write_plain(value, &plain, buffer),
+        None => write_if_it_fits(value.widen(), format, buffer),
+    }
+}
+
+// Does what `write` does in a format that has only a radix and lowercase.
+#[cold]
+fn write_in_lowercase<T: CInteger>(value: T, format: &CFormat, buffer: &mut [u8]) -> usize {
+    match fitting_format::<T, true>(format.radix, buffer.len()) {
+        Some(plain) => {
+            let count = write_plain(value, &plain, buffer);
+            set_lowercase_bit(&mut buffer[..count])
+        }
+        None => write_if_it_fits(value.widen(), format, buffer),
+    }
+}
+
+// Does what `write_in_lowercase` does. It is cold too: with the code for the sign, the calls without letters
+// would save registers for it.
+#[cold]
+#[inline]
+fn write_signed_in_lowercase<T: CInteger>(value: T, format: &CFormat, buffer: &mut [u8]) -> usize {
+    write_in_lowercase(value, format, buffer)
+}
+
+/// Writes a `uint8_t` to the buffer, and returns the length of its text, or 0 if it is refused.
+#[inline]
+pub fn lexical_write_u8(value: u8, format: &CFormat, buffer: &mut [u8]) -> usize {
+    write::<u8>(value, format, buffer)
+}
+
+/// Writes a `uint16_t` to the buffer, and returns the length of its text, or 0 if it is refused.
+#[inline]
+pub fn lexical_write_u16(value: u16, format: &CFormat, buffer: &mut [u8]) -> usize {
+    write::<u16>(value, format, buffer)
+}
+
+/// Writes a `uint32_t` to the buffer, and returns the length of its text, or 0 if it is refused.
+#[inline]
+pub fn lexical_write_u32(value: u32, format: &CFormat, buffer: &mut [u8]) -> usize {
+    write::<u32>(value, format, buffer)
+}
+
+/// Writes a `uint64_t` to the buffer, and returns the length of its text, or 0 if it is refused.
+#[inline]
+pub fn lexical_write_u64(value: u64, format: &CFormat, buffer: &mut [u8]) -> usize {
+    write::<u64>(value, format, buffer)
+}
+
+/// Writes a `size_t` to the buffer, and returns the length of its text, or 0 if it is refused.
+#[inline]
+pub fn lexical_write_size(value: usize, format: &CFormat, buffer: &mut [u8]) -> usize {
+    write::<usize>(value, format, buffer)
+}
+
+/// Writes an `int8_t` to the buffer, and returns the length of its text, or 0 if it is refused.
+#[inline]
+pub fn lexical_write_i8(value: i8, format: &CFormat, buffer: &mut [u8]) -> usize {
+    write::<i8>(value, format, buffer)
+}
+
+/// Writes an `int16_t` to the buffer, and returns the length of its text, or 0 if it is refused.
+#[inline]
+pub fn lexical_write_i16(value: i16, format: &CFormat, buffer: &mut [u8]) -> usize {
+    write::<i16>(value, format, buffer)
+}
+
+/// Writes an `int32_t` to the buffer, and returns the length of its text, or 0 if it is refused.
+#[inline]
+pub fn lexical_write_i32(value: i32, format: &CFormat, buffer: &mut [u8]) -> usize {
+    write::<i32>(value, format, buffer)
+}
+
+/// Writes an `int64_t` to the buffer, and returns the length of its text, or 0 if it is refused.
+#[inline]
+pub fn lexical_write_i64(value: i64, format: &CFormat, buffer: &mut [u8]) -> usize {
+    write::<i64>(value, format, buffer)
+}

@@ -1,3 +1,0 @@
-fn main() {
-    strip::build("lexical_tables", &strip::Additions::default());
-}

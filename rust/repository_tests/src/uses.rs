@@ -1,0 +1,32 @@
+// Made by `strip` from crates/uses/src/lib.rt. Edit that file, not this one.
+
+#![allow(unused, clippy::all, reason = "these are tests of Rattle")]
+
+//! Examples of callers. Each module writes something that a program may need. The module
+//! `refused_calls` has calls whose conditions only just hold.
+
+pub mod amount;
+pub mod answers;
+pub mod any_format;
+pub mod arena;
+pub mod csv_row;
+pub mod date_time;
+pub mod digest;
+pub mod digit_pair;
+pub mod dump_line;
+pub mod equality;
+pub mod fixed_text;
+pub mod float_parts;
+pub mod hexadecimal;
+pub mod identifier;
+pub mod integer_types;
+pub mod ipv6;
+pub mod key_value;
+pub mod log_lines;
+pub mod printed;
+pub mod reading;
+pub mod refused_calls;
+pub mod sorted_keys;
+pub mod table_row;
+pub mod time_of_day;
+pub mod uuid;

@@ -1,0 +1,90 @@
+//! Parts in format strings, against what the standard library writes of its own integers: for the
+//! longest texts and some others, in each width up to three more than the text.
+
+use cojimuran::parts::{Binary, Decimal, Formatted, Hex, Plus};
+use cojimuran::{NumberFormat, NumberFormatBuilder};
+
+/// Compares a part with an integer, with the same options. The second one may have more of them.
+macro_rules! check_options {
+    ($part:expr, $number:expr, $more:literal: $($options:literal)+) => { $(
+        let longest = format!(concat!("{:", $more, "}"), $number).len() + 3;
+        for w in 0..=longest {
+            let shown = format!(concat!("{:", $options, "1$}"), $part, w);
+            let expected = format!(concat!("{:", $options, "1$", $more, "}"), $number, w);
+            assert_eq!(shown, expected, "in {:?}, width {w}", $options);
+        }
+    )+ };
+}
+
+macro_rules! check_numbers {
+    ($($number:ty),+) => { $(
+        for number in [<$number>::MIN, <$number>::MAX, 0, 1, 10, 99, <$number>::MAX / 7] {
+            check_options!(Decimal(number), number, "": "" "<" "^" ">" "*<" "é^" "0>" "+" "0" "+0" "<0");
+            check_options!(Decimal(number), number, "": "#" "-^+" "_^+0");
+            assert_eq!(format!("{:.1}|{:9.2}", Decimal(number), Decimal(number)),
+                format!("{:.1}|{:9.2}", number, number));
+            assert_eq!(format!("{}|{:+}", Plus(number), Plus(number)), format!("{:+}|{:+}", number, number));
+            for w in 0..24 {
+                assert_eq!(format!("{:w$}|{:^w$}|{:x<w$}", Plus(number), Plus(number), Plus(number)),
+                    format!("{:+w$}|{:^+w$}|{:x<+w$}", number, number, number));
+                assert_eq!(format!("{:0w$}|{:<0w$}", Plus(number), Plus(number)),
+                    format!("{:+0w$}|{:<+0w$}", number, number));
+            }
+        }
+    )+ };
+}
+
+#[test]
+fn decimal_numbers() {
+    check_numbers!(u8, u16, u32, u64, usize, i8, i16, i32, i64, isize);
+}
+
+macro_rules! check_digits {
+    ($($number:ty),+) => { $(
+        for number in [<$number>::MIN, <$number>::MAX, 1, 10, <$number>::MAX / 3] {
+            check_options!(Hex(number), number, "X": "" "<" "^" "*>" "+" "0" "+0");
+            check_options!(Binary(number), number, "b": "" "<" "^" "*>" "+" "0" "+0");
+        }
+    )+ };
+}
+
+#[test]
+fn digits() {
+    check_digits!(u8, u16, u32, u64, usize);
+}
+
+#[test]
+fn numbers_in_formats() {
+    const THOUSANDS: NumberFormat = NumberFormatBuilder::new()
+        .required_mantissa_sign(true)
+        .digit_grouping(3, b',')
+        .build_strict();
+    let number = Formatted(1234567i64, &THOUSANDS);
+    let shown = format!("{number}|{number:012}|{number:12}|{number:<12}|{number:+.2}");
+    assert_eq!(
+        shown,
+        "+1,234,567|+001,234,567|  +1,234,567|+1,234,567  |+1,234,567"
+    );
+    let number = Formatted(-1234567i64, &THOUSANDS);
+    assert_eq!(
+        format!("{number:#012}|{number:^12}"),
+        "-001,234,567| -1,234,567 "
+    );
+    let longest = NumberFormatBuilder::new()
+        .mantissa_radix(2)
+        .required_mantissa_sign(true)
+        .digit_grouping(1, b'.')
+        .build_strict();
+    assert_eq!(
+        format!("{:>130}", Formatted(i64::MIN, &longest))
+            .trim_start()
+            .len(),
+        128
+    );
+    assert_eq!(
+        format!("{:0130}", Formatted(u64::MAX, &longest))
+            .matches('0')
+            .count(),
+        2
+    );
+}

@@ -1,0 +1,13 @@
+// Made by `strip` from crates/library_tests/src/lines.rt. Edit that file, not this one.
+
+//! Reads the lines of the tables. The fields of a line are separated by a space, and the last is a text.
+
+use repository_tests::runtime::Abort;
+use std::str::FromStr;
+
+// Returns the number that the line begins with, and what follows the space after it.
+pub(crate) fn read<'a, F: FromStr>(rt: &impl Abort, line: &'a str) -> (F, &'a str) {
+    let (field, rest) = line.split_once(' ').expect(line);
+    let number = field.parse::<F>().ok();
+    (number.expect(line), rest)
+}

@@ -1,0 +1,172 @@
+// Made by `strip` from crates/uses_tests/src/tests/shown.rt. Edit that file, not this one.
+
+// Parts in format strings, and texts in a `Vec` and a `String`.
+
+use super::check;
+use cojimuran::parts::{Binary, Decimal, Formatted, Hex, Plus};
+use cojimuran::write_integer::NumberFormatBuilder;
+use repository_tests::runtime::Abort;
+use repository_tests::runtime::Fail;
+use repository_tests::runtime::{Alloc, Global};
+use repository_tests::uses::csv_row::push_entries;
+use repository_tests::uses::log_lines::{push_line, push_str_line, write_line};
+use repository_tests::uses::printed::{amount_string, flags_in_column};
+use std::fmt::Display;
+use std::io::{self, Write};
+
+// Checks what a format string with its parts, which `format_args!` joins, prints.
+fn check_shown<D: Display>(rt: &impl Abort, _alloc: Global, shown: D, text: &str) {
+    let printed = repository_tests::format_in!("{}", shown).expect(text);
+    check(rt, printed.as_str(), text);
+}
+
+#[test]
+#[should_panic(expected = "left: \"FF\"")]
+fn a_wrong_text_in_a_format_string_fails() {
+    let rt = repository_tests::runtime::HostRuntime;
+    check_shown(&rt, rt.alloc(), Hex(255u8), "FE");
+}
+
+// What Rust writes of the same texts: `format!("{:>8}", "FF")`, and so on.
+#[test]
+fn parts_in_format_strings() {
+    let rt = repository_tests::runtime::HostRuntime;
+    check_shown(
+        &rt,
+        rt.alloc(),
+        format_args!(
+            "{}|{:>8}|{:*^7}|{:<4}|",
+            Hex(255u32),
+            Hex(255u32),
+            Decimal(-12),
+            Binary(5u8)
+        ),
+        "FF|      FF|**-12**|101 |",
+    );
+}
+
+#[test]
+fn numbers_in_format_strings() {
+    let rt = repository_tests::runtime::HostRuntime;
+    let thousands = NumberFormatBuilder::new()
+        .digit_grouping(3, b',')
+        .build_strict();
+    let number = Formatted(-1234567, &thousands);
+    check_shown(
+        &rt,
+        rt.alloc(),
+        format_args!("{:12}|{:.3}", number, Decimal(98765u64)),
+        "  -1,234,567|98765",
+    );
+}
+
+#[test]
+fn signs_in_format_strings() {
+    let rt = repository_tests::runtime::HostRuntime;
+    check_shown(
+        &rt,
+        rt.alloc(),
+        format_args!("{}|{:>6}|{}", Plus(42u8), Plus(0i16), Plus(-42)),
+        "+42|    +0|-42",
+    );
+}
+
+// The longest texts, of which no clause says that `fmt` has room for them.
+#[test]
+fn longest_texts_in_format_strings() {
+    let rt = repository_tests::runtime::HostRuntime;
+    let largest = Binary(18446744073709551615u64);
+    check_shown(
+        &rt,
+        rt.alloc(),
+        format_args!("{}|{}", largest, Hex(18446744073709551615u64)),
+        "1111111111111111111111111111111111111111111111111111111111111111|FFFFFFFFFFFFFFFF",
+    );
+}
+
+#[test]
+fn longest_text_of_a_format() -> Result<(), Fail> {
+    let rt = repository_tests::runtime::HostRuntime;
+    let alloc = rt.alloc();
+    let ones = NumberFormatBuilder::new()
+        .mantissa_radix(2)
+        .required_mantissa_sign(true)
+        .digit_grouping(1, b'.')
+        .build_strict();
+    let text = repository_tests::format_in!("{}", Formatted(-9223372036854775808i64, &ones))?;
+    check(&rt, text.len(), 128);
+    check(&rt, text.as_bytes().starts_with(b"-1.0.0.0."), true);
+    check(&rt, text.as_bytes().ends_with(b".0.0.0"), true);
+    Ok(())
+}
+
+#[test]
+fn styles_of_numbers() {
+    let rt = repository_tests::runtime::HostRuntime;
+    check_shown(
+        &rt,
+        rt.alloc(),
+        format_args!("{:08}|{:+}|{:#}|", Decimal(-5), Decimal(5u8), Hex(5u8)),
+        "-0000005|+5|5|",
+    );
+    check_shown(
+        &rt,
+        rt.alloc(),
+        format_args!("{:05}|{:<4}|{:+}", Plus(5u8), Plus(5u8), Plus(5u8)),
+        "+0005|+5  |+5",
+    );
+}
+
+#[test]
+fn strings_of_parts() -> Result<(), Fail> {
+    let rt = repository_tests::runtime::HostRuntime;
+    let alloc = rt.alloc();
+    check(&rt, flags_in_column(alloc, 0xBEEF)?.as_str(), "0x****BEEF");
+    let thousands = NumberFormatBuilder::new()
+        .digit_grouping(3, b',')
+        .build_strict();
+    let amount = amount_string(alloc, -1234567, &thousands)?;
+    check(&rt, amount.as_str(), "-1,234,567");
+    repository_tests::println_in!("{}", Hex(0xC0DEu32))?;
+    Ok(())
+}
+
+#[test]
+fn lines_of_a_log() -> Result<(), Fail> {
+    let rt = repository_tests::runtime::HostRuntime;
+    let mut log = Vec::new();
+    push_line(&mut log, 4294967295, 65535)?;
+    push_line(&mut log, 0, 0)?;
+    write_line(&mut log, 12, 255)?;
+    check(
+        &rt,
+        log.as_slice(),
+        b"4294967295 0xFFFF\n0 0x0\n12 0xFF\n".as_slice(),
+    );
+    Ok(())
+}
+
+#[test]
+fn entries_in_a_vector() -> Result<(), Fail> {
+    let rt = repository_tests::runtime::HostRuntime;
+    let mut entries = Vec::new();
+    push_entries(&mut entries, &[])?;
+    push_entries(&mut entries, &[5, -6])?;
+    push_entries(&mut entries, &[-9223372036854775808])?;
+    check(
+        &rt,
+        entries.as_slice(),
+        b"5;-6;-9223372036854775808;".as_slice(),
+    );
+    Ok(())
+}
+
+#[test]
+fn lines_in_a_string() -> Result<(), Fail> {
+    let rt = repository_tests::runtime::HostRuntime;
+    let mut log = String::new();
+    push_str_line(&mut log, 12, 255)?;
+    push_str_line(&mut log, 7, 16)?;
+    check(&rt, log.as_str(), "12 0xFF\n7 0x10\n");
+    Ok(())
+}
