@@ -2,4 +2,5 @@
 pub mod Prefixes
 pub mod Blocks
 pub mod BlocksAfter
+pub mod Fields
 pub mod Lowercases

@@ -26,6 +26,7 @@ pub mod reading;
 pub mod refused_calls;
 pub mod sorted_keys;
 pub mod table_row;
+pub mod tar_header;
 pub mod time_of_day;
 pub mod turn_lists;
 pub mod uuid;

@@ -28,6 +28,7 @@ use uses::identifier::{
 };
 use uses::printed::printed;
 use uses::sorted_keys::{comes_before, is_earlier_key};
+use uses::tar_header::write_size;
 use uses::time_of_day::write_time;
 
 // Checks that a value is the expected one. A call is proved in less time than an `assert_eq!` of its own.
@@ -240,6 +241,14 @@ fn times_of_day(rt: HostRuntime) {
     check(&rt, time, *b"07:05Z");
     check(&rt, write_time(1439, &mut time), 6);
     check(&rt, time, *b"23:59Z");
+}
+
+// As `tar` writes the size of a file of 1000 bytes.
+#[test]
+fn size_in_a_header(rt: HostRuntime) {
+    let mut header = [7; 512];
+    write_size(1000, &mut header);
+    check_bytes(&rt, &header[123..136], b"\x0700000001750\x07");
 }
 
 #[test]

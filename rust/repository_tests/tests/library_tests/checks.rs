@@ -60,17 +60,17 @@ pub(crate) fn check_text(rt: &impl Abort, length: usize, buffer: &[u8], text: &[
 // Uses that must fail, since a check that compares nothing would let every test pass.
 
 #[test]
-#[should_panic(expected = "in the row 1: 2 in place of 3")]
+#[should_panic(expected = "in the row \"first\": 2 in place of 3")]
 fn a_wrong_value_fails() {
     let rt = repository_tests::runtime::HostRuntime;
-    check_equal(&rt, 1, 2, 3);
+    check_equal(&rt, "first", 2, 3);
 }
 
 #[test]
-#[should_panic(expected = "in the row 1: 2 in place of 3")]
+#[should_panic(expected = "in the row \"first\": 2 in place of 3")]
 fn a_wrong_length_fails() {
     let rt = repository_tests::runtime::HostRuntime;
-    check_written(&rt, 1, 2, b"123\x07", b"123");
+    check_written(&rt, "first", 2, b"123\x07", b"123");
 }
 
 #[test]

@@ -26,6 +26,7 @@ use repository_tests::uses::identifier::{
 };
 use repository_tests::uses::printed::printed;
 use repository_tests::uses::sorted_keys::{comes_before, is_earlier_key};
+use repository_tests::uses::tar_header::write_size;
 use repository_tests::uses::time_of_day::write_time;
 use std::fmt::Debug;
 
@@ -245,6 +246,15 @@ fn times_of_day() {
     check(&rt, time, *b"07:05Z");
     check(&rt, write_time(1439, &mut time), 6);
     check(&rt, time, *b"23:59Z");
+}
+
+// As `tar` writes the size of a file of 1000 bytes.
+#[test]
+fn size_in_a_header() {
+    let rt = repository_tests::runtime::HostRuntime;
+    let mut header = [7; 512];
+    write_size(1000, &mut header);
+    check_bytes(&rt, &header[123..136], b"\x0700000001750\x07");
 }
 
 #[test]
