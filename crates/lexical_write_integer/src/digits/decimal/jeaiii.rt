@@ -48,8 +48,20 @@ fn write_32(n: u32, buffer: &mut [u8], turns: &mut Turns) -> usize
     }
 }
 
-// Writes the digits of a number of up to 64 bits. If it has more than ten digits, the last ten are
-// written by division, after the digits before them.
+// Writes the digits of a number of more than ten digits: the last ten by division, after the digits before them. It is
+// cold, and so not inlined: otherwise each number would save registers that only these need.
+#[cold]
+fn write_more_than_ten(n: u64, buffer: &mut [u8], turns: &mut Turns) -> usize
+    requires long { 10 ^ 10 ≤ n }
+    requires room { digit_count 10 n ≤ length buffer.old }
+    ensures { WritesDecimal n (decimal_notes_64 n) buffer.old buffer.new turns.old turns.new result }
+{
+    let front = write_32((n / 10_000_000_000) as u32, buffer, turns);
+    write_last_ten(n, buffer, front, turns);
+    front + 10
+}
+
+// Writes the digits of a number of up to 64 bits.
 #[tactic(auto, using(crate::proofs::OfDigits::Count::DigitCounts::widths), unfolding(crate::specs::Digits::DecimalTurns::decimal_notes_64))]
 fn write_64(n: u64, buffer: &mut [u8], turns: &mut Turns) -> usize
     requires { digit_count 10 n ≤ length buffer.old }
@@ -67,9 +79,7 @@ fn write_64(n: u64, buffer: &mut [u8], turns: &mut Turns) -> usize
     } else if n < 10_000_000_000 {
         write_pairs(fixed_8_wide(n), 4, buffer, turns)
     } else {
-        let front = write_32((n / 10_000_000_000) as u32, buffer, turns);
-        write_last_ten(n, buffer, front, turns);
-        front + 10
+        write_more_than_ten(n, buffer, turns)
     }
 }
 

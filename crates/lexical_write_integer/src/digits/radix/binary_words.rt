@@ -18,7 +18,7 @@ fn write_eight_bits(bits: u64, buffer: &mut [u8], at: usize)
 {
     let kept = (bits * 0x0101_0101_0101_0101) & 0x0102_0408_1020_4080;
     let carried = kept + 0x7f7f_7f7f_7f7f_7f7f;
-    let characters = (carried >> 7 & 0x0101_0101_0101_0101 | 0x3030_3030_3030_3030).to_le_bytes();
+    let characters = ((carried >> 7) & 0x0101_0101_0101_0101 | 0x3030_3030_3030_3030).to_le_bytes();
     buffer[at..at + 8].copy_from_slice(&characters);
 }
 
