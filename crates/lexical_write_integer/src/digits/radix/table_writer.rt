@@ -2,7 +2,7 @@
 // counter of the writer's loop. A writer that counts the digits by division records those quotients in a second
 // counter, `turns`.
 
-ghost use Rattle.std.specs.Prelude.{◌≡◌, ◌+◌, ◌*◌, ◌/◌, ◌%◌, ◌^◌, ◌<◌, ◌≤◌, ◌++◌, length};
+ghost use Rattle.std.specs.Prelude.{◌≡◌, ◌+◌, ◌-◌, ◌*◌, ◌/◌, ◌%◌, ◌^◌, ◌<◌, ◌≤◌, ◌++◌, length};
 ghost use Rattle.lexical_num.specs.Format.{IsRadix};
 ghost use Rattle.lexical_write_integer.specs.Buffer.{WritesBlock, WritesDigits};
 ghost use Rattle.lexical_write_integer.specs.Digits.DigitCount.{digit_count};
@@ -73,16 +73,19 @@ pub(super) fn first_pair<const R: u32>(number: u32, turns: &mut Turns) -> u32
 }
 
 // Writes the one to four digits of a number to the start of the buffer: four characters, each at its index or,
-// if it is a leading zero, at an index that a later one takes. This avoids branches.
+// if it is a leading zero, at an index that a later one takes. This avoids branches. `third` is the index of the third
+// character.
 pub(super) fn write_up_to_four<const R: u32>(
     number: u32,
     digits: usize,
+    third: usize,
     table: RadixTable<'_, R>,
     buffer: &mut [u8],
     turns: &mut Turns,
 )
     requires short { number < R ^ 4 }
     requires digits { digits ≡ digit_count R number }
+    requires third { third ≡ digits - 2 }
     requires room { digits ≤ length buffer.old }
     ensures written { WritesBlock R digits number 0 buffer.old buffer.new }
     ensures notes { turns.new ≡ turns.old ++ loop_notes R number }
@@ -91,7 +94,7 @@ pub(super) fn write_up_to_four<const R: u32>(
     let last = 2 * (number % (R * R)) as usize;
     buffer[0] = table.pairs[first];
     buffer[digits / 4] = table.pairs[first + 1];
-    buffer[digits.saturating_sub(2)] = table.pairs[last];
+    buffer[third] = table.pairs[last];
     buffer[digits - 1] = table.pairs[last + 1];
 }
 
@@ -117,7 +120,9 @@ pub(super) fn write_after_count<const R: u32>(
         write_four(last_four::<R>(left), table, buffer, at);
         left = remove_four::<R>(left, written);
     }
-    write_up_to_four(left as u32, at, table, buffer, written);
+    // This is 2 less, or 0 if that is less, in fewer instructions.
+    let third = (at - 1) * 3 / 4;
+    write_up_to_four(left as u32, at, third, table, buffer, written);
     count
 }
 
@@ -166,7 +171,7 @@ fn count_and_write_up_to_four<const R: u32>(
     ensures written { written.new ≡ written.old ++ loop_notes R number }
 {
     let count = count_up_to_four::<R>(number, turns);
-    write_up_to_four(number, count, table, buffer, written);
+    write_up_to_four(number, count, count.saturating_sub(2), table, buffer, written);
     count
 }
 

@@ -1,4 +1,4 @@
-use Rattle.std.proofs.Common.{◌≡◌, ◌-◌, ◌*◌, ◌/◌, ◌%◌, ◌<◌, ◌≤◌, arith, length-set}
+use Rattle.std.proofs.Common.{◌*◌, ◌/◌, ◌%◌, ◌<◌, ◌≤◌, arith, length-set}
 use Rattle.std.proofs.Math.Nat.{mod-lt}
 use Rattle.std.proofs.lemmas.Nat.{div_below}
 use Rattle.lexical_write_integer.specs.Digits.LoopTurns.{takes_two}
@@ -48,9 +48,9 @@ bounds-buffer-0 g c = omega (arith, some_digit g (goal.at.bounds-buffer-0 g c).S
 pub bounds-buffer-digits : goal.bounds-buffer-digits
 bounds-buffer-digits g c = omega (arith, some_digit g (goal.at.bounds-buffer-digits g c).Start, c.requires.room, length-set c.args.buffer.now 0)
 
-pub bounds-buffer-saturating_sub : goal.bounds-buffer-saturating_sub
-bounds-buffer-saturating_sub g c =
-    rw (length-set, length-set) (omega (arith, some_digit g (goal.at.bounds-buffer-saturating_sub g c).Start, c.requires.room, c.saturating_sub.ensures))
+pub bounds-buffer-third : goal.bounds-buffer-third
+bounds-buffer-third g c =
+    rw (length-set, length-set) (omega (arith, some_digit g (goal.at.bounds-buffer-third g c).Start, c.requires.room, c.requires.third))
 
 pub overflow_sub-buffer : goal.overflow_sub-buffer
 overflow_sub-buffer g c = some_digit g (goal.at.overflow_sub-buffer g c).Start
@@ -64,13 +64,12 @@ returns-clause-written g c =
     let c' = (goal.at.returns-clause-written g c).Start in
     let pairs = c.args.table.pairs.now in
     let begins = c.args.table.begins in
-    let place : c.saturating_sub.result ≡ c.args.digits - 2 = omega (arith, c.saturating_sub.ensures) in
     let hi = c.args.number / (g.row.R * g.row.R) in
     let lo = c.args.number % (g.row.R * g.row.R) in
     let a = pair_first g.row.R hi pairs begins (first g c') in
     let b = pair_second g.row.R hi pairs begins (first g c') in
     let d = pair_first g.row.R lo pairs begins (last g c') in
     let e = pair_second g.row.R lo pairs begins (last g c') in
-    rw (c.first_pair.ensures.pair, a, b, d, e, place)
+    rw (c.first_pair.ensures.pair, a, b, d, e, c.requires.third)
     (WritesBlock-four g.row.R c.args.number c.args.digits c.args.buffer.now c.args.table.is_radix.at_least_two
     c.requires.short c.requires.digits c.requires.room)
