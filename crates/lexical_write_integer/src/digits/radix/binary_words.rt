@@ -37,6 +37,16 @@ fn record_up_to_eight(number: u32, turns: &mut Turns)
     first_pair::<2>(left, turns);
 }
 
+// Returns the number without its last eight digits, and records the quotients of both halves.
+fn remove_eight(value: u64, turns: &mut Turns) -> u64
+    requires { 256 ≤ value }
+    ensures left { result ≡ value / 256 }
+    ensures notes { turns.new ++ loop_notes 2 result ≡ turns.old ++ loop_notes 2 value }
+{
+    let first = remove_four::<2>(value, turns);
+    remove_four::<2>(first, turns)
+}
+
 // Writes a number of more than eight binary digits, from the last: eight per iteration while more than 16 are left. Of
 // those, the first are written with zeros after them, eight characters in total, and then the last eight.
 pub(super) fn write_binary(value: u64, buffer: &mut [u8], turns: &mut Turns) -> usize
@@ -48,14 +58,11 @@ pub(super) fn write_binary(value: u64, buffer: &mut [u8], turns: &mut Turns) -> 
     let mut left = value;
     let mut at = count;
     while at > 16 {
-        let first = remove_four::<2>(left, turns);
-        let next = remove_four::<2>(first, turns);
         at -= 8;
         write_eight_bits(left % 256, buffer, at);
-        left = next;
+        left = remove_eight(left, turns);
     }
-    let first = remove_four::<2>(left, turns);
-    let rest = remove_four::<2>(first, turns);
+    let rest = remove_eight(left, turns);
     record_up_to_eight(rest as u32, turns);
     write_eight_bits(rest << (16 - at), buffer, 0);
     write_eight_bits(left % 256, buffer, at - 8);

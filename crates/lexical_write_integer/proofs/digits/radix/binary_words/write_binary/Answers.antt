@@ -7,15 +7,11 @@ use Rattle.lexical_write_integer.proofs.Buffers.Blocks.{IsWrittenBack-start, IsW
 use Rattle.lexical_write_integer.proofs.Buffers.Blocks.{IsWrittenBack-more, IsWrittenBack-last}
 use Rattle.lexical_write_integer.proofs.Buffers.BlocksAfter.{WritesDigits-block}
 use Rattle.lexical_write_integer.proofs.OfDigits.Count.DigitCounts.{digit_count-fits, digit_count-more}
-use Rattle.lexical_write_integer.proofs.OfDigits.Powers.{div-pow_more}
 use Rattle.lexical_write_integer.proofs.OfDigits.Radix.EightBits.{WritesBlock-overlap, shifted-lt}
 use Rattle.lexical_write_integer.proofs.OfDigits.Radix.Loops.Records.{none_noted, table_notes-are}
 use Rattle.lexical_write_integer.proofs.OfDigits.Radix.Loops.ShortNumbers.{fits-within, longer-than}
 use Rattle.lexical_write_integer.proofs.digits.radix.binary_words.write_binary.Goals as goal
-use Rattle.lexical_write_integer.proofs.digits.radix.binary_words.write_binary.Goals.{In-loop-at, After-loop-at, After-remove_four-rest}
-
-without_eight : (left first next : ℕ) → first ≡ left / 2 ^ 4 → next ≡ first / 2 ^ 4 → next ≡ left / 2 ^ 8
-without_eight left first next one two = two ∙ ap (λ k. k / 2 ^ 4) one ∙ div-pow_more 2 left 4 4
+use Rattle.lexical_write_integer.proofs.digits.radix.binary_words.write_binary.Goals.{In-loop-at, After-loop-at}
 
 pub loop-at-init : goal.loop-at-init
 loop-at-init c =
@@ -39,12 +35,8 @@ long c =
     let counts = IsWrittenBack-left (omega arith) c.digit_count_counted-count.ensures.count c.loop-at.invariant.within c.loop-at.invariant.written in
     longer-than 2 c.loop-at.left 8 (omega arith) (omega (arith, counts, c.loop-at.invariant.more))
 
-pub remove_four-first-requires-clause-long : goal.remove_four-first-requires-clause-long
-remove_four-first-requires-clause-long c = omega (arith, long (goal.at.remove_four-first-requires-clause-long c).In-loop-at)
-
-pub remove_four-next-requires-clause-long : goal.remove_four-next-requires-clause-long
-remove_four-next-requires-clause-long c =
-    omega (arith, c.remove_four-first.ensures.left, long (goal.at.remove_four-next-requires-clause-long c).In-loop-at)
+pub remove_eight-left-requires : goal.remove_eight-left-requires
+remove_eight-left-requires c = omega (arith, long (goal.at.remove_eight-left-requires c).In-loop-at)
 
 pub loop-at-preserved : goal.loop-at-preserved
 loop-at-preserved c =
@@ -53,11 +45,10 @@ loop-at-preserved c =
     let order : 8 + (count - c.loop-at.at) ≡ count - (c.loop-at.at - 8) = omega (arith, c.loop-at-test.true, c.loop-at.invariant.within) in
     let place : c.loop-at.at ≡ c.loop-at.at - 8 + 8 = omega (arith, c.loop-at-test.true) in
     let written = IsWrittenBack-at place c.loop-at.invariant.written in
-    let next = without_eight left _ _ c.remove_four-first.ensures.left c.remove_four-next.ensures.left in
     record {
-      noted = c.remove_four-next.ensures.written ∙ c.remove_four-first.ensures.written ∙ c.loop-at.invariant.noted;
+      noted = c.remove_eight-left.ensures.notes ∙ c.loop-at.invariant.noted;
       written = rw order at
-          (IsWrittenBack-more {step = 8} (omega arith) (long (goal.at.loop-at-preserved c).In-loop-at) next written c.write_eight_bits.ensures);
+          (IsWrittenBack-more {step = 8} (omega arith) (long (goal.at.loop-at-preserved c).In-loop-at) c.remove_eight-left.ensures.left written c.write_eight_bits.ensures);
       more = omega (arith, c.loop-at-test.true);
       within = omega (arith, c.loop-at.invariant.within);
       room = c.write_eight_bits.auto.buffer ∙ c.loop-at.invariant.room;
@@ -72,15 +63,8 @@ count_left c =
 long_left : (c : After-loop-at) → 2 ^ 8 ≤ c.loop-at.left
 long_left c = longer-than 2 c.loop-at.left 8 (omega arith) (omega (arith, count_left c, c.loop-at.invariant.more))
 
-pub remove_four-first-requires-2-clause-long : goal.remove_four-first-requires-2-clause-long
-remove_four-first-requires-2-clause-long c = omega (arith, long_left (goal.at.remove_four-first-requires-2-clause-long c).After-loop-at)
-
-pub remove_four-rest-requires-clause-long : goal.remove_four-rest-requires-clause-long
-remove_four-rest-requires-clause-long c =
-    omega (arith, c.remove_four-first-2.ensures.left, long_left (goal.at.remove_four-rest-requires-clause-long c).After-loop-at)
-
-rest_is : (c : After-remove_four-rest) → c.remove_four-rest.result ≡ c.loop-at.left / 2 ^ 8
-rest_is c = without_eight c.loop-at.left _ _ c.remove_four-first-2.ensures.left c.remove_four-rest.ensures.left
+pub remove_eight-rest-requires : goal.remove_eight-rest-requires
+remove_eight-rest-requires c = omega (arith, long_left (goal.at.remove_eight-rest-requires c).After-loop-at)
 
 rest_short : (left end rest : ℕ) → rest ≡ left / 2 ^ 8 → digit_count 2 left ≡ end → end ≤ 16 → rest < 256
 rest_short left end rest is counts few = omega (arith, is, fits-within 2 left 16 (omega arith) (omega (arith, counts, few)))
@@ -88,12 +72,12 @@ rest_short left end rest is counts few = omega (arith, is, fits-within 2 left 16
 pub overflow_cast-rest : goal.overflow_cast-rest
 overflow_cast-rest c =
     let at = goal.at.overflow_cast-rest c in
-    omega (arith, rest_short _ _ _ (rest_is at.After-remove_four-rest) (count_left at.After-loop-at) c.loop-at-test.false)
+    omega (arith, rest_short _ _ _ c.remove_eight-rest.ensures.left (count_left at.After-loop-at) c.loop-at-test.false)
 
 pub record_up_to_eight-requires : goal.record_up_to_eight-requires
 record_up_to_eight-requires c =
     let at = goal.at.record_up_to_eight-requires c in
-    rest_short _ _ _ (rest_is at.After-remove_four-rest) (count_left at.After-loop-at) c.loop-at-test.false
+    rest_short _ _ _ c.remove_eight-rest.ensures.left (count_left at.After-loop-at) c.loop-at-test.false
 
 -- with zeros after them
 first_short : (c : After-loop-at) → c.loop-at.left / 2 ^ 8 * 2 ^ (16 - c.loop-at.at) < 2 ^ 8
@@ -104,7 +88,7 @@ first_short c =
 pub write_eight_bits-requires-2-clause-short : goal.write_eight_bits-requires-2-clause-short
 write_eight_bits-requires-2-clause-short c =
     let at = goal.at.write_eight_bits-requires-2-clause-short c in
-    rw (rest_is at.After-remove_four-rest) (omega (arith, first_short at.After-loop-at))
+    rw c.remove_eight-rest.ensures.left (omega (arith, first_short at.After-loop-at))
 
 pub returns : goal.returns
 returns c =
@@ -113,15 +97,15 @@ returns c =
     let end = c.loop-at.at in
     let count = c.digit_count_counted-count.result in
     let is = c.digit_count_counted-count.ensures.count in
-    let same : c.remove_four-rest.result * 2 ^ (16 - end) % 2 ^ 64 ≡ left / 2 ^ 8 * 2 ^ (16 - end) =
-    rw (rest_is at.After-remove_four-rest) (mod-eq_of_lt (omega (arith, first_short at.After-loop-at))) in
+    let same : c.remove_eight-rest.result * 2 ^ (16 - end) % 2 ^ 64 ≡ left / 2 ^ 8 * 2 ^ (16 - end) =
+    rw c.remove_eight-rest.ensures.left (mod-eq_of_lt (omega (arith, first_short at.After-loop-at))) in
     let first = subst (λ m. WritesBlock 2 8 m 0 c.loop-at.buffer c.write_eight_bits-2.new.buffer) same c.write_eight_bits-2.ensures in
     let more : 8 ≤ end = omega (arith, c.loop-at.invariant.more) in
     let block = WritesBlock-overlap left end 8 8 more more (omega (arith, c.loop-at-test.false)) first c.write_eight_bits-3.ensures in
     let place : end ≡ 0 + end = omega arith in
     let whole : end + (count - end) ≡ count = omega (arith, c.loop-at.invariant.within) in
     let old = c.args.turns.now in
-    let noted = c.record_up_to_eight.ensures ∙ c.remove_four-rest.ensures.written ∙ c.remove_four-first-2.ensures.written ∙ c.loop-at.invariant.noted in
+    let noted = c.record_up_to_eight.ensures ∙ c.remove_eight-rest.ensures.notes ∙ c.loop-at.invariant.noted in
     record {
       digits = WritesDigits-block {r = 2} (omega arith) (sym is) (omega (arith, is, c.requires.room))
           (rw whole at (IsWrittenBack-last (IsWrittenBack-at place c.loop-at.invariant.written) block));
