@@ -172,6 +172,11 @@ pub(crate) const SOURCES: &[Source] = &[
             (") -> (usize, Turns)", ") -> usize"),
             ("(copy_to_front(&digits[index..], buffer), turns)", "copy_to_front(&digits[index..], buffer)"),
             ("let (count, noted) = write_in(", "let count = write_in("),
+            // With this attribute rustc would save registers here.
+            (
+                "// It is cold, and so not inlined: otherwise each call for a shorter number would save registers that only this needs.\n#[cold]\n",
+                "",
+            ),
         ],
         ..LIBRARY
     },

@@ -72,6 +72,22 @@ stores_four (x ∷ (y ∷ (z ∷ (w ∷ list)))) a b c d room = refl
 
 -- ---- the number
 
+-- the index of the third of the four characters
+pub third-is : (count : ℕ) → 1 ≤ count → count ≤ 4 → count * count / 8 ≡ count - 2
+third-is count some few =
+    elim (cases_eq count 4) [
+      | inl four ↦ rw four refl
+      | inr not_four ↦ elim (cases_eq count 3) [
+        | inl three ↦ rw three refl
+        | inr not_three ↦ elim (cases_eq count 2) [
+          | inl two ↦ rw two refl
+          | inr not_two ↦
+              let one : count ≡ 1 = omega arith in
+              rw one refl
+        ]
+      ]
+    ]
+
 pub WritesBlock-four : (r n count : ℕ) (list : List ℕ)
     → 2 ≤ r → n < r ^ 4 → count ≡ digit_count r n → count ≤ length list
     → WritesBlock r count n 0 list

@@ -121,7 +121,7 @@ pub(super) fn write_after_count<const R: u32>(
         left = remove_four::<R>(left, written);
     }
     // This is 2 less, or 0 if that is less, in fewer instructions.
-    let third = (at - 1) * 3 / 4;
+    let third = at * at / 8;
     write_up_to_four(left as u32, at, third, table, buffer, written);
     count
 }
@@ -171,7 +171,14 @@ fn count_and_write_up_to_four<const R: u32>(
     ensures written { written.new ≡ written.old ++ loop_notes R number }
 {
     let count = count_up_to_four::<R>(number, turns);
-    write_up_to_four(number, count, count.saturating_sub(2), table, buffer, written);
+    write_up_to_four(
+        number,
+        count,
+        count.saturating_sub(2),
+        table,
+        buffer,
+        written,
+    );
     count
 }
 

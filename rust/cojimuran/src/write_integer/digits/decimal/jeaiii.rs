@@ -36,8 +36,15 @@ fn write_32(n: u32, buffer: &mut [u8]) -> usize {
     }
 }
 
-// Writes the digits of a number of up to 64 bits. If it has more than ten digits, the last ten are
-// written by division, after the digits before them.
+// Writes the digits of a number of more than ten digits: the last ten by division, after the digits before them.
+#[inline(always)]
+fn write_more_than_ten(n: u64, buffer: &mut [u8]) -> usize {
+    let front = write_32((n / 10_000_000_000) as u32, buffer);
+    write_last_ten(n, buffer, front);
+    front + 10
+}
+
+// Writes the digits of a number of up to 64 bits.
 #[inline(always)]
 fn write_64(n: u64, buffer: &mut [u8]) -> usize {
     // Short numbers are tested first, as in `write_32`: that mispredicts the fewest branches.
@@ -52,9 +59,7 @@ fn write_64(n: u64, buffer: &mut [u8]) -> usize {
     } else if n < 10_000_000_000 {
         write_pairs(fixed_8_wide(n), 4, buffer)
     } else {
-        let front = write_32((n / 10_000_000_000) as u32, buffer);
-        write_last_ten(n, buffer, front);
-        front + 10
+        write_more_than_ten(n, buffer)
     }
 }
 

@@ -11,8 +11,15 @@ use crate::write_integer::digits::count::digit_count_counted;
 fn write_eight_bits(bits: u64, buffer: &mut [u8], at: usize) {
     let kept = (bits * 0x0101_0101_0101_0101) & 0x0102_0408_1020_4080;
     let carried = kept + 0x7f7f_7f7f_7f7f_7f7f;
-    let characters = (carried >> 7 & 0x0101_0101_0101_0101 | 0x3030_3030_3030_3030).to_le_bytes();
+    let characters = ((carried >> 7) & 0x0101_0101_0101_0101 | 0x3030_3030_3030_3030).to_le_bytes();
     buffer[at..at + 8].copy_from_slice(&characters);
+}
+
+// Returns the number without its last eight digits.
+#[inline]
+fn remove_eight(value: u64) -> u64 {
+    let first = remove_four::<2>(value);
+    remove_four::<2>(first)
 }
 
 // Writes a number of more than eight binary digits, from the last: eight per iteration while more than 16 are left. Of
@@ -23,14 +30,11 @@ pub(super) fn write_binary(value: u64, buffer: &mut [u8]) -> usize {
     let mut left = value;
     let mut at = count;
     while at > 16 {
-        let first = remove_four::<2>(left);
-        let next = remove_four::<2>(first);
         at -= 8;
         write_eight_bits(left % 256, buffer, at);
-        left = next;
+        left = remove_eight(left);
     }
-    let first = remove_four::<2>(left);
-    let rest = remove_four::<2>(first);
+    let rest = remove_eight(left);
     write_eight_bits(rest << (16 - at), buffer, 0);
     write_eight_bits(left % 256, buffer, at - 8);
     count

@@ -41,11 +41,13 @@ pub(super) fn first_pair<const R: u32>(number: u32) -> u32 {
 }
 
 // Writes the one to four digits of a number to the start of the buffer: four characters, each at its index or,
-// if it is a leading zero, at an index that a later one takes. This avoids branches.
+// if it is a leading zero, at an index that a later one takes. This avoids branches. `third` is the index of the third
+// character.
 #[inline(always)]
 pub(super) fn write_up_to_four<const R: u32>(
     number: u32,
     digits: usize,
+    third: usize,
     table: RadixTable<'_, R>,
     buffer: &mut [u8],
 ) {
@@ -53,7 +55,7 @@ pub(super) fn write_up_to_four<const R: u32>(
     let last = 2 * (number % (R * R)) as usize;
     buffer[0] = table.pairs[first];
     buffer[digits / 4] = table.pairs[first + 1];
-    buffer[digits.saturating_sub(2)] = table.pairs[last];
+    buffer[third] = table.pairs[last];
     buffer[digits - 1] = table.pairs[last + 1];
 }
 
@@ -73,7 +75,9 @@ pub(super) fn write_after_count<const R: u32>(
         write_four(last_four::<R>(left), table, buffer, at);
         left = remove_four::<R>(left);
     }
-    write_up_to_four(left as u32, at, table, buffer);
+    // This is 2 less, or 0 if that is less, in fewer instructions.
+    let third = at * at / 8;
+    write_up_to_four(left as u32, at, third, table, buffer);
     count
 }
 
@@ -105,7 +109,7 @@ fn count_and_write_up_to_four<const R: u32>(
     buffer: &mut [u8],
 ) -> usize {
     let count = count_up_to_four::<R>(number);
-    write_up_to_four(number, count, table, buffer);
+    write_up_to_four(number, count, count.saturating_sub(2), table, buffer);
     count
 }
 

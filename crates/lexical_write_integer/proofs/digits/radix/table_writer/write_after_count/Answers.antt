@@ -4,6 +4,8 @@ use Rattle.lexical_write_integer.specs.Digits.DigitCount.{digit_count}
 use Rattle.lexical_write_integer.specs.Digits.LoopTurns.{takes_four}
 use Rattle.lexical_write_integer.proofs.Buffers.Blocks.{IsWrittenBack-at, IsWrittenBack-left, IsWrittenBack-more, IsWrittenBack-last}
 use Rattle.lexical_write_integer.proofs.Buffers.BlocksAfter.{WritesDigits-block}
+use Rattle.lexical_write_integer.proofs.OfDigits.Count.DigitCounts.{digit_count-pos}
+use Rattle.lexical_write_integer.proofs.OfDigits.Radix.FourDigits.{third-is}
 use Rattle.lexical_write_integer.proofs.OfDigits.Radix.Loops.ShortNumbers.{fits-within, longer-than}
 use Rattle.lexical_write_integer.proofs.OfDigits.Count.RadixPowers.{power-small}
 use Rattle.lexical_write_integer.proofs.digits.radix.table_writer.write_after_count.Goals as goal
@@ -43,6 +45,13 @@ count_left g c =
 short : (g : _) (c : After-loop-at g) → c.loop-at.left < g.row.R ^ 4
 short g c = fits-within g.row.R c.loop-at.left 4 c.args.table.is_radix.at_least_two (omega (arith, count_left g c))
 
+some_left : (g : _) (c : After-loop-at g) → 1 ≤ c.loop-at.at
+some_left g c = omega (arith, count_left g c, digit_count-pos g.row.R c.loop-at.left)
+
+pub overflow_mul-third : goal.overflow_mul-third
+overflow_mul-third g c =
+    omega (arith, third-is c.loop-at.at (some_left g (goal.at.overflow_mul-third g c).After-loop-at) c.loop-at-test.false, c.loop-at-test.false)
+
 pub overflow_cast-left : goal.overflow_cast-left
 overflow_cast-left g c =
     omega (arith, short g (goal.at.overflow_cast-left g c).After-loop-at, power-small g.row.R 4 c.args.table.is_radix.at_most_36 takes_four)
@@ -51,7 +60,8 @@ pub write_up_to_four-requires : goal.write_up_to_four-requires
 write_up_to_four-requires g c =
     let c' = (goal.at.write_up_to_four-requires g c).After-loop-at in
     let is = c.digit_count_counted-count.ensures.count in
-    (lit< tt, (short g c', (sym (count_left g c'), omega (arith, is, c.requires.room, c.loop-at.invariant))))
+    let third = third-is c.loop-at.at (some_left g c') c.loop-at-test.false in
+    (lit< tt, (short g c', (sym (count_left g c'), (third, omega (arith, is, c.requires.room, c.loop-at.invariant)))))
 
 pub returns-clause-digits : goal.returns-clause-digits
 returns-clause-digits g c =
