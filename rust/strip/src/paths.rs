@@ -1,31 +1,27 @@
 //! Paths: a crate of Rattle is a module of the package.
 
-use crate::Unknown;
 use crate::packages::{SOURCES, Source};
 use crate::tokens::{Tokens, is_space};
 
-/// Returns the text of a file of the source with the paths of the package, also in examples of the documentation.
-pub(crate) fn with_paths(text: &str, source: &Source) -> Result<String, Unknown> {
-    let tokens = Tokens::read(text)?;
-    let mut written = String::with_capacity(text.len());
-    for (index, token) in tokens.0.iter().enumerate() {
-        let is_first = tokens.after(index, &[token, ":", ":"]).is_some() || tokens.at(tokens.next(index)) == "as";
-        let module = SOURCES.iter().find(|each| each.name == *token && each.path.starts_with("crate::"));
-        match (*token, module) {
-            (comment, _) if is_space(comment) => written += &comment_with_paths(comment),
-            ("crate", _) if is_first => written += source.path,
-            ("std", _) if is_first && source.is_core => written += "core",
-            (_, Some(module)) if is_first => written += &path_of(module, source.library),
-            _ => written += token,
-        }
+/// Returns the token at this index with the path of the package, also in examples of the documentation.
+pub(crate) fn changed(tokens: &Tokens, index: usize, source: &Source) -> String {
+    let token = tokens.at(index);
+    let is_first = tokens.after(index, &[token, ":", ":"]).is_some() || tokens.at(tokens.next(index)) == "as";
+    let module = SOURCES.iter().find(|each| each.name == token && each.path.starts_with("crate::"));
+    match (token, module) {
+        _ if is_space(token) => comment_with_paths(token),
+        ("crate", _) if is_first => source.path.to_owned(),
+        ("std", _) if is_first && source.is_core => "core".to_owned(),
+        (_, Some(module)) if is_first => path_of(module, source),
+        _ => token.to_owned(),
     }
-    Ok(written)
 }
 
-/// Returns the path of a library, or of what the tests call.
-fn path_of(module: &Source, library: &str) -> String {
-    let library = if module.is_test && library != "crate" { "repository_tests" } else { library };
-    format!("{library}::{}", module.root)
+/// Returns the path of a module of the library, or of what the tests call, in a file of the source.
+fn path_of(module: &Source, source: &Source) -> String {
+    let library =
+        if module.is_test() && source.folder != module.folder { "repository_tests" } else { source.library() };
+    module.path.replacen("crate", library, 1)
 }
 
 /// Returns a comment with the paths of the package. The names of `write_integer` are also those of the root, and in

@@ -22,8 +22,7 @@ const NEWLINE: u8 = b'\n';
 /// An answerer writes the answer to a sink as soon as it gets the newline that ends the line.
 ///
 /// An answerer keeps the line that has not ended yet, the number of that line, and whether all lines
-/// before it are valid. It must not be used again after an error; the contracts then promise nothing
-/// about the answers.
+/// before it are valid. It must not be used again after an error.
 #[derive(Drop)]
 pub struct Answerer {
     line: Line,

@@ -15,7 +15,8 @@ pub fn write_row(numbers: &[i64; 8], buffer: &mut [u8; ROW_SIZE]) -> usize {
     (Joined(numbers, ","), "\n").write_to(buffer)
 }
 
-/// Writes eight arguments as `write_row` writes an array, and returns the length of the row.
+/// Writes eight arguments as `write_row` writes an array, and returns the length of the row. With
+/// more than four signed arguments, the proof needs one line.
 pub fn write_row_of(
     a: i64,
     b: i64,

@@ -15,7 +15,7 @@ use std::fmt::Display;
 use std::io::{self, Write};
 
 // Checks what a format string with its parts, which `format_args!` joins, prints.
-fn check_shown<D: Display>(rt: &impl Abort, _alloc: Global, shown: D, text: &str) {
+fn check_shown<D: Display>(rt: &impl Abort, alloc: Global, shown: D, text: &str) {
     let printed = repository_tests::format_in!("{}", shown).expect(text);
     check(rt, printed.as_str(), text);
 }

@@ -47,9 +47,9 @@ fn write_first(pair: u32, buffer: &mut [u8]) -> usize {
     1 + (pair >= 10) as usize
 }
 
-/// Writes the digits of the number that a fraction carries to the start of the buffer, and returns
-/// how many there are. They are the whole part of the fraction, which has one or two digits, and
-/// `pair_count` pairs after it. Each of these pairs takes one iteration.
+/// Writes the digits of the number that a fraction carries to the start of the buffer, and returns how
+/// many there are. They are the whole part of the fraction, which has one or two digits, and
+/// `pair_count` pairs after it. Each of these pairs takes one iteration, in which `next2` computes a product.
 #[inline(always)]
 pub(crate) fn write_pairs(fraction: u64, pair_count: usize, buffer: &mut [u8]) -> usize {
     let mut count = write_first((fraction >> 32) as u32, buffer);
