@@ -11,10 +11,8 @@ pub(crate) struct Source {
     pub name: &'static str,
     /// The folder of the made files, in `rust`.
     pub folder: &'static str,
-    /// The file of the root, without `.rs`. Empty if none is made of it.
+    /// The file of the root, without `.rs`: that of a module, `main`, or empty if none is made.
     pub root: &'static str,
-    /// How a path names the root: `crate` or `crate::num`.
-    pub path: &'static str,
     /// Whether std is not used, but core.
     pub is_core: bool,
     /// Attributes other than `#[inline]`, each with its functions, and the files, paths in `src`, whose functions have
@@ -39,6 +37,11 @@ impl Source {
         self.folder.starts_with("repository_tests")
     }
 
+    /// Returns whether the crate is a module of what is made.
+    pub fn is_module(&self) -> bool {
+        !matches!(self.root, "" | "main")
+    }
+
     /// Returns how a path names the library.
     pub fn library(&self) -> &'static str {
         if self.folder == LIBRARY.folder { "crate" } else { "cojimuran" }
@@ -52,8 +55,8 @@ impl Source {
             _ if self.left_out.split_whitespace().any(is_in) => None,
             "lib.rt" if self.root.is_empty() => None,
             "lib.rt" => Some(folder.join(self.root).with_extension("rs")),
-            _ if self.path == "crate" => Some(folder.join(file).with_extension("rs")),
-            _ => Some(folder.join(self.root).join(file).with_extension("rs")),
+            _ if self.is_module() => Some(folder.join(self.root).join(file).with_extension("rs")),
+            _ => Some(folder.join(file).with_extension("rs")),
         }
     }
 
@@ -87,7 +90,6 @@ const LIBRARY: Source = Source {
     name: "",
     folder: "cojimuran/src",
     root: "",
-    path: "",
     is_core: true,
     attributes: &[],
     constant: "",
@@ -101,7 +103,6 @@ pub(crate) const SOURCES: &[Source] = &[
     Source {
         name: "lexical_num",
         root: "num",
-        path: "crate::num",
         constant: "
             digit_to_char is_radix is_group_size is_mark are_valid new binary from_radix radix mantissa_radix
             exponent_radix required_mantissa_sign digit_grouping grouped_len is_valid build build_strict
@@ -115,11 +116,10 @@ pub(crate) const SOURCES: &[Source] = &[
         left_out: "ghost_log",
         ..LIBRARY
     },
-    Source { name: "lexical_tables", root: "tables", path: "crate::tables", ..LIBRARY },
+    Source { name: "lexical_tables", root: "tables", ..LIBRARY },
     Source {
         name: "lexical_write_integer",
         root: "write_integer",
-        path: "crate::write_integer",
         attributes: &[
             // For a library that calls each writer once, as the one for C.
             (
@@ -152,7 +152,6 @@ pub(crate) const SOURCES: &[Source] = &[
     Source {
         name: "lexical_parts",
         root: "parts",
-        path: "crate::parts",
         // A tuple of parts and what it often contains. So the texts and the widths that are constant in a caller are
         // known.
         attributes: &[("#[inline(always)]", "tuples.rt joined.rt integers.rt number.rt text.rt")],
@@ -167,24 +166,15 @@ pub(crate) const SOURCES: &[Source] = &[
     Source {
         name: "lexical_lines",
         root: "lines",
-        path: "crate::lines",
         is_core: false,
         left_out: "devices/trace laws",
         replaced: replaced::LINES,
         ..LIBRARY
     },
-    Source {
-        name: "lexical_streams",
-        root: "streams",
-        path: "crate::streams",
-        is_core: false,
-        replaced: replaced::STREAMS,
-        ..LIBRARY
-    },
+    Source { name: "lexical_streams", root: "streams", is_core: false, replaced: replaced::STREAMS, ..LIBRARY },
     Source {
         name: "lexical_c",
         folder: "lexical_c/src",
-        path: "crate",
         attributes: &[
             // If rustc inlined the first, the calls without letters would save registers for it, and the second would
             // be in the code of each type twice.
@@ -200,7 +190,6 @@ pub(crate) const SOURCES: &[Source] = &[
         name: "uses",
         folder: "repository_tests/src",
         root: "uses",
-        path: "crate::uses",
         left_out: "refused_calls/clones turn_lists",
         ..TESTS
     },
@@ -209,4 +198,4 @@ pub(crate) const SOURCES: &[Source] = &[
 ];
 
 /// What calls the libraries as the repository's tests do.
-const TESTS: Source = Source { path: "crate", is_core: false, replaced: replaced::IN_TESTS, ..LIBRARY };
+const TESTS: Source = Source { is_core: false, replaced: replaced::IN_TESTS, ..LIBRARY };

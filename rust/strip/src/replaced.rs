@@ -18,6 +18,13 @@ pub(crate) const EVERYWHERE: Replaced = &[
     // The formatter of Rattle has its writer as a parameter.
     ("<W: fmt::Write>", ""),
     ("fmt::Formatter<W>", "fmt::Formatter<'_>"),
+    // An assertion takes the runtime, and a vector its allocator.
+    ("!(rt; ", "!("),
+    ("Vec::new(alloc)", "Vec::new()"),
+    // The names of `write_integer` are also those of the root.
+    ("//! use lexical_write_integer::", "//! use cojimuran::"),
+    ("//! use lexical_", "//! use cojimuran::"),
+    ("this crate", "this module"),
 ];
 
 pub(crate) const WRITE_INTEGER: Replaced = &[
@@ -109,7 +116,6 @@ pub(crate) const FOR_C: Replaced = &[
 pub(crate) const IN_TESTS: Replaced = &[
     ("println!(rt; ", "repository_tests::println_in!("),
     ("format!(in alloc; ", "repository_tests::format_in!("),
-    ("!(rt; ", "!("),
     ("(rt: HostRuntime) {", "() {\n    let rt = repository_tests::runtime::HostRuntime;"),
     (
         "(rt: HostRuntime) -> Result<(), Fail> {",
@@ -118,17 +124,17 @@ pub(crate) const IN_TESTS: Replaced = &[
     ("rt: HostRuntime) ->", "rt: repository_tests::runtime::HostRuntime) ->"),
     ("use std::process::Abort;", "use repository_tests::runtime::Abort;"),
     ("use std::alloc::", "use repository_tests::runtime::"),
-    ("use std::fmt::InlineText;", "use repository_tests::runtime::InlineText;"),
+    ("use std::fmt::InlineText;\n", ""),
+    ("InlineText::<32>::of(", "ToString::to_string(&"),
     ("use std::test::Fail;", "use repository_tests::runtime::Fail;"),
     (".expect(&rt, ", ".expect("),
     (".expect(rt, ", ".expect("),
     // In Rattle what allocates takes an allocator and returns a `Result`.
     (".clone().expect(\"clone\")", ".clone()"),
-    ("Vec::new(alloc)", "Vec::new()"),
     ("Vec::new(rt.alloc())", "Vec::new()"),
     ("String::new(rt.alloc())", "String::new()"),
-    ("log.extend_from_slice(", "repository_tests::runtime::extend(log, "),
-    ("entries.extend_from_slice(", "repository_tests::runtime::extend(entries, "),
+    ("log.extend_from_slice(", "std::io::Write::write_all(log, "),
+    ("entries.extend_from_slice(", "std::io::Write::write_all(entries, "),
     ("log.push_str(", "repository_tests::runtime::push_str(log, "),
     ("Formatted(amount, format).to_string(alloc)", "repository_tests::format_in!(\"{}\", Formatted(amount, format))"),
     ("io::writer(&rt)", "io::stdout()"),

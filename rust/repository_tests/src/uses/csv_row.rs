@@ -62,7 +62,7 @@ pub fn try_write_rows(rows: &[Row<'_>], buffer: &mut [u8]) -> Option<usize> {
 /// out.
 pub fn push_entries(entries: &mut Vec<u8>, numbers: &[i64]) -> Result<(), AllocError> {
     for number in numbers {
-        repository_tests::runtime::extend(entries, (*number, ";").to_text(&mut [0; 21]))?;
+        std::io::Write::write_all(entries, (*number, ";").to_text(&mut [0; 21]))?;
     }
     Ok(())
 }
