@@ -3,34 +3,34 @@
 
 use crate::packages::{Source, has};
 use crate::paths;
-use crate::tokens::{Tokens, rewritten};
+use crate::tokens::Tokens;
 use crate::{Unknown, docs};
 
 /// Returns the text of a file, a path in `src`, with the additions and with the paths of the package. Each attribute is
 /// on a line of its own.
 pub(crate) fn with_additions(text: &str, file: &str, source: &Source) -> Result<String, Unknown> {
-    let (mut last_item, mut trait_end) = (0, 0);
-    rewritten(text, |tokens, index| {
-        let mut written = String::new();
+    let tokens = Tokens::read(text)?;
+    let (mut written, mut last_item, mut trait_end) = (String::new(), 0, 0);
+    for index in 1..tokens.0.len() {
         let item = tokens.after_visibility(index)?;
-        if item > last_item && is_item(tokens, item) {
+        if item > last_item && is_item(&tokens, item) {
             last_item = item;
             if tokens.at(item) == "trait" {
                 trait_end = tokens.group_end(tokens.first_of(item, &["{"])?)?;
             }
-            let is_shown = is_public(tokens, index) || index < trait_end;
+            let is_shown = is_public(&tokens, index) || index < trait_end;
             let space = tokens.at(index - 1);
-            let indent = space.rfind('\n').map_or("", |line| &space[line + 1..]);
-            for line in lines(tokens, item, is_shown, file, source)? {
-                written += &format!("{}\n{indent}", line.replace('\n', &format!("\n{indent}")));
+            let line_break = space.rfind('\n').map_or("\n", |line| &space[line..]);
+            for line in lines(&tokens, item, is_shown, file, source)? {
+                written += &(line.replace('\n', line_break) + line_break);
             }
         }
-        if tokens.at(index) == "fn" && is_constant(tokens, index, source) {
+        if tokens.at(index) == "fn" && is_constant(&tokens, index, source) {
             written += "const ";
         }
-        written += &paths::changed(tokens, index, source);
-        Ok((index + 1, written))
-    })
+        written += &paths::changed(&tokens, index, source);
+    }
+    Ok(written)
 }
 
 /// Returns the lines before a function, a module or a type, which is shown in the documentation or not.

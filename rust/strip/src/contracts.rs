@@ -1,17 +1,12 @@
 //! What only Rattle reads: ghost items, clauses, models and tactics.
 
 use crate::Unknown;
-use crate::tokens::{Tokens, rewritten};
+use crate::tokens::Tokens;
 
-/// What stands in a text for what was removed, until its lines are laid out.
-pub(crate) const REMOVED: char = '\0';
-
-/// Returns the text without its contracts, and with `REMOVED` in place of each.
+/// Returns the text without its contracts, and with gaps in their place.
 pub(crate) fn without_contracts(text: &str) -> Result<String, Unknown> {
-    rewritten(text, |tokens, index| {
-        let end = end_of_removed(tokens, index)?;
-        Ok(if end > index { (end, REMOVED.into()) } else { (index + 1, tokens.at(index).to_owned()) })
-    })
+    let tokens = Tokens::read(text)?;
+    tokens.without(|index| end_of_removed(&tokens, index))
 }
 
 /// Returns the index after what is removed, which begins with this token, or this index if nothing is. The comment

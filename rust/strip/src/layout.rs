@@ -1,17 +1,15 @@
 //! Lays out a text from which something was removed, as a person would who never wrote that.
 
-use crate::contracts::REMOVED;
+use crate::tokens::{GAP, has_empty_line};
 
-/// Returns the text without the places of what was removed.
+/// Returns the text without its gaps.
 pub(crate) fn without_gaps(text: &str) -> String {
-    let is_of_gap = |c: char| c.is_whitespace() || c == REMOVED;
     let (mut written, mut rest) = (String::with_capacity(text.len()), text);
-    while let Some(removed) = rest.find(REMOVED) {
-        let start = rest[..removed].trim_end().len();
-        let end = rest[removed..].find(|c| !is_of_gap(c)).map_or(rest.len(), |length| removed + length);
-        written += &rest[..start];
-        written += &space(written.chars().last(), &rest[start..end], rest[end..].chars().next());
-        rest = &rest[end..];
+    while let Some(gap) = rest.find(GAP) {
+        let (before, after) = (rest[..gap].trim_end(), rest[gap..].trim_start());
+        written += before;
+        written += &space(written.chars().last(), &rest[before.len()..rest.len() - after.len()], after.chars().next());
+        rest = after;
     }
     written += rest;
     written.trim().to_owned() + "\n"
@@ -19,19 +17,14 @@ pub(crate) fn without_gaps(text: &str) -> String {
 
 /// Returns the white space between two characters that have a gap between them.
 fn space(before: Option<char>, gap: &str, after: Option<char>) -> String {
-    let Some(line) = gap.rfind('\n') else {
-        let is_apart = gap.starts_with(' ') && gap.ends_with(' ');
-        return if is_apart || after == Some('{') { " ".to_owned() } else { String::new() };
-    };
-    match (before, after) {
-        (_, Some('{')) => " ".to_owned(),
-        (_, Some(';')) | (Some('{'), Some('}')) => String::new(),
-        _ => {
-            let is_empty_line = |part: &str| part.matches('\n').count() > 1;
-            let is_parted = before != Some('{') && after != Some('}') && gap.split(REMOVED).any(is_empty_line);
-            let indent = gap[line..].trim_matches(REMOVED);
-            if is_parted { format!("\n{indent}") } else { indent.to_owned() }
-        }
+    let indent = gap.rfind('\n').map(|line| gap[line..].replace(GAP, ""));
+    match (before, indent, after) {
+        (_, Some(_), Some(';')) | (Some('{'), Some(_), Some('}')) => String::new(),
+        (_, _, Some('{')) => " ".to_owned(),
+        (_, None, _) => " ".repeat(usize::from(gap.starts_with(' ') && gap.ends_with(' '))),
+        (Some('{'), Some(indent), _) | (_, Some(indent), Some('}')) => indent,
+        (_, Some(indent), _) if has_empty_line(gap) => format!("\n{indent}"),
+        (_, Some(indent), _) => indent,
     }
 }
 

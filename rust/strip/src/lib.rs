@@ -60,10 +60,9 @@ fn made(top: &Path) -> Result<BTreeMap<PathBuf, String>, String> {
 
 /// Returns what is made of the text of a file of a source, a path in its `src`.
 fn made_text(original: &str, file: &str, source: &Source) -> Result<String, Unknown> {
-    let replaced = source.replaced.iter().chain(EVERYWHERE);
-    let text = replaced.fold(original.to_owned(), |text, (from, to)| text.replace(from, to));
-    let text = left_out::without_laws(&contracts::without_contracts(&text)?, source)?;
-    let text = layout::without_gaps(&text);
+    let text = contracts::without_contracts(original)?;
+    let text = source.replaced.iter().chain(EVERYWHERE).fold(text, |text, (from, to)| text.replace(from, to));
+    let text = layout::without_gaps(&left_out::without_laws(&text, source)?);
     match comments::line_with_word(&text, original) {
         Some(line) if !source.is_test() => return Err(Unknown { line, message: "a comment about contracts" }),
         _ => {}

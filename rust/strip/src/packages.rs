@@ -83,7 +83,7 @@ pub(crate) const LEFT_OUT: &str = "
     DECIMAL GhostLog Trace Turns note_put record_flush record_up_to_eight
     in_range fits_bits text_is_utf8 rooms_at_most same_rest formatted_room_suffices size_suffices sizes_suffice
     digit_count_is_least digit_count_at_most digit_count_within_bits digits_computed digits_equal_iff different_digits
-    equal_digits equal_padded equal_texts padded_order order text_computed text_is_ascii text_is_decimal text_length
+    equal_digits equal_padded equal_texts padded_order text_computed text_is_ascii text_is_decimal text_length
     texts_equal_iff same_counter same_link same_user different_codes";
 
 const LIBRARY: Source = Source {

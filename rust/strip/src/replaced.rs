@@ -56,7 +56,8 @@ pub(crate) const WRITE_INTEGER: Replaced = &[
 ];
 
 pub(crate) const PARTS: Replaced = &[
-    // Only contracts use it.
+    // What only contracts use.
+    ("{Joined, rooms_at_most}", "Joined"),
     ("::DigitCount;\nuse lexical_write_integer::format::STANDARD;", "::DigitCount;"),
     // rustfmt writes the brace after a long `impl` on a line of its own.
     (", H) {", ", H)\n{"),
@@ -68,6 +69,7 @@ pub(crate) const PARTS: Replaced = &[
 
 pub(crate) const LINES: Replaced = &[
     // What only contracts use.
+    ("{ByteSink, note_put}", "ByteSink"),
     ("{ToLexical, ToLexicalWithOptions}", "ToLexicalWithOptions"),
     ("constants::FormattedSize;\nuse lexical_num::format::NumberFormat;", "format::NumberFormat;"),
     ("num::LexicalInteger;\nuse lexical_num::options::WriteOptions;", "options::WriteOptions;"),
@@ -139,6 +141,8 @@ pub(crate) const IN_TESTS: Replaced = &[
     ("Formatted(amount, format).to_string(alloc)", "repository_tests::format_in!(\"{}\", Formatted(amount, format))"),
     ("io::writer(&rt)", "io::stdout()"),
     ("rt.reader()", "io::stdin()"),
+    ("use lexical_write_integer::laws::order;\n", ""),
+    ("    order(a, b, &STANDARD);\n", ""),
     ("where\n    F::Err: Drop,\n", ""),
     ("where\n    T::Err: Drop,\n", ""),
     // Rust has this method since 1.87.

@@ -58,7 +58,7 @@ fn laws_and_values() {
         "/// Not of it.\nenum F {}",
     );
     check("if a {\n    b;\n}\n// For a proof.\na::in_range(1);\n(a, b).fits_bits();\nc();", "if a {\n    b;\n}\nc();");
-    check("use a::{in_range, Model, fits_bits};\nuse b::Turns;\nuse a::{B, Trace};", "use a::Model;\nuse a::B;");
+    check("use a::{B, in_range};\nuse b::Turns;\nuse a::{fits_bits, in_range};", "use a::{B};");
     check("a;\nlet mut t = Turns::new();\nt.tick(a);\nf(&t, a, &mut t, &mut Turns::new());", "a;\nf(&t, a);");
 }
 

@@ -2,6 +2,9 @@
 
 use crate::Unknown;
 
+/// What stands in a text for what was removed, until its lines are laid out: white space that no source has.
+pub(crate) const GAP: char = '\u{b}';
+
 /// The tokens of a file, which one after another are its text: words, literals, other characters, and between them
 /// white space and comments. An empty token precedes them.
 pub(crate) struct Tokens<'a>(pub Vec<&'a str>);
@@ -21,6 +24,21 @@ impl<'a> Tokens<'a> {
     /// Returns the error of a form that is not known, which begins with the token at this index.
     pub fn unknown(&self, index: usize, message: &'static str) -> Unknown {
         Unknown { line: 1 + self.0[..index].concat().matches('\n').count(), message }
+    }
+
+    /// Returns the text without what begins at each index and ends at another that `end` returns, with a gap in its place.
+    pub fn without(&self, end: impl Fn(usize) -> Result<usize, Unknown>) -> Result<String, Unknown> {
+        let (mut kept, mut index) = (String::new(), 0);
+        while index < self.0.len() {
+            let after = end(index)?;
+            if after == index {
+                kept += self.0[index];
+            } else {
+                kept.push(GAP);
+            }
+            index = after.max(index + 1);
+        }
+        Ok(kept)
     }
 
     /// Returns the token at this index, or an empty one after the last.
@@ -62,7 +80,7 @@ impl<'a> Tokens<'a> {
         match self.at(index) {
             "#" if self.at(index + 1) == "[" => self.item(self.group_end(index + 1)?),
             "pub" => self.after_visibility(index),
-            space if is_space(space) && space.matches('\n').count() < 2 => self.item(index + 1),
+            space if is_space(space) && !has_empty_line(space) => self.item(index + 1),
             _ => Ok(index),
         }
     }
@@ -105,21 +123,6 @@ impl<'a> Tokens<'a> {
     }
 }
 
-/// Returns a text in which each token, or all from it to an index, are replaced by what `write` returns for it.
-pub(crate) fn rewritten(
-    text: &str,
-    mut write: impl FnMut(&Tokens, usize) -> Result<(usize, String), Unknown>,
-) -> Result<String, Unknown> {
-    let tokens = Tokens::read(text)?;
-    let (mut written, mut index) = (String::with_capacity(text.len()), 1);
-    while index < tokens.0.len() {
-        let (end, replacement) = write(&tokens, index)?;
-        written += &replacement;
-        index = end;
-    }
-    Ok(written)
-}
-
 /// Returns the length of the token at the start of a text, which is not empty, or `None` if it is not known.
 fn end_of_token(text: &str) -> Option<usize> {
     if text.starts_with("//") {
@@ -141,6 +144,11 @@ fn end_of_token(text: &str) -> Option<usize> {
 
 pub(crate) fn is_space(token: &str) -> bool {
     token.starts_with(char::is_whitespace) || token.starts_with("//")
+}
+
+/// Returns whether white space has an empty line, which is not of what was removed.
+pub(crate) fn has_empty_line(space: &str) -> bool {
+    space.split(GAP).any(|part| part.matches('\n').count() > 1)
 }
 
 /// Returns whether a word may contain the character. In contracts a reserved word is a name between « and ».
