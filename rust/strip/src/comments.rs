@@ -1,4 +1,4 @@
-//! Comments: those of a made file do not speak of what only Rattle has. So what a contract says about a function is in a
+//! Comments: those of a made file do not speak of what only Rattle has. What a contract says about a function is in the
 //! comment of a clause, which is removed with it.
 
 use crate::packages::has;
@@ -12,5 +12,5 @@ const WORDS: &str = "
 pub(crate) fn line_with_word(text: &str, source: &str) -> Option<usize> {
     let is_word = |line: &str| line.split(|c: char| !c.is_alphanumeric()).any(|word| has(WORDS, word));
     let comment = text.lines().find(|line| line.trim_start().starts_with("//") && is_word(line))?;
-    source.lines().position(|line| line == comment).map(|line| line + 1)
+    source.lines().position(|line| line == comment).or(Some(0)).map(|line| line + 1)
 }

@@ -49,12 +49,7 @@ fn end_of_left_out(tokens: &Tokens, index: usize, names: &BTreeSet<&str>, source
             Ok(if (item..end).filter(is_last).all(is_name) { end + 1 } else { index })
         }
         _ if matches!(tokens.at(tokens.previous(index)), "{" | "}" | ";") => {
-            // A statement that only calls what is left out, or that binds or calls such a value.
-            let is_path = |i| tokens.after(i, &[tokens.at(i), ":", ":"]).is_some();
-            let is_used = |i| is_name(i) && (is_path(i) || matches!(tokens.at(tokens.next(i)), "(" | "." | "="));
-            let found = tokens.first(item, |i| is_used(i) || matches!(tokens.at(i), ";" | "{"));
-            let end = found.ok().filter(|found| is_used(*found)).and_then(|found| tokens.first_of(found, &[";"]).ok());
-            Ok(end.map_or(index, |end| end + 1))
+            Ok(end_of_statement(tokens, item, is_name).unwrap_or(index))
         }
         _ => Ok(index),
     }
@@ -64,4 +59,12 @@ fn end_of_left_out(tokens: &Tokens, index: usize, names: &BTreeSet<&str>, source
 fn end_of_item(tokens: &Tokens, item: usize) -> Result<usize, Unknown> {
     let end = tokens.first_of(item, &["{", ";"])?;
     if tokens.at(end) == "{" { tokens.group_end(end) } else { Ok(end + 1) }
+}
+
+/// Returns the end of a statement that only calls what is left out, or that binds or calls such a value.
+fn end_of_statement(tokens: &Tokens, item: usize, is_name: impl Fn(usize) -> bool) -> Option<usize> {
+    let is_path = |i| tokens.after(i, &[tokens.at(i), ":", ":"]).is_some();
+    let is_used = |i| is_name(i) && (is_path(i) || matches!(tokens.at(tokens.next(i)), "(" | "." | "="));
+    let found = tokens.first(item, |i| is_used(i) || matches!(tokens.at(i), ";" | "{")).ok()?;
+    if is_used(found) { Some(tokens.first_of(found, &[";"]).ok()? + 1) } else { None }
 }

@@ -1,5 +1,5 @@
 //! What is written in Rattle, and what is written in its place: a few texts that no rule makes right, such as a line
-//! whose length changes, or a name that is bound only to be recorded. Each is found in its crate, or is an error.
+//! whose length changes, or a name that is bound only to be recorded. One that its crate does not have is an error.
 
 /// Texts, and what is written in the place of each.
 pub(crate) type Replaced = &'static [(&'static str, &'static str)];

@@ -26,7 +26,7 @@ impl<'a> Tokens<'a> {
         Unknown { line: 1 + self.0[..index].concat().matches('\n').count(), message }
     }
 
-    /// Returns the text without what begins at each index and ends at another that `end` returns, with a gap in its place.
+    /// Returns the text with a gap in place of all from an index to the one that `end` returns for it.
     pub fn without(&self, end: impl Fn(usize) -> Result<usize, Unknown>) -> Result<String, Unknown> {
         let (mut kept, mut index) = (String::new(), 0);
         while index < self.0.len() {
