@@ -3,9 +3,6 @@
 /// In Rattle, the permission to end the process.
 pub trait Abort {}
 
-/// In Rattle, the permission to allocate.
-pub trait Alloc {}
-
 /// In Rattle, the error of a call that allocates. Here none fails.
 pub type AllocError = std::io::Error;
 

@@ -30,16 +30,14 @@ fn space(before: Option<char>, gap: &str, after: Option<char>) -> String {
 
 /// Returns the text with the imports next to one another in the order of rustfmt: `super` and `crate` precede names.
 pub(crate) fn with_sorted_imports(text: &str) -> String {
+    let path = |line: &&str| {
+        let path = line.replace("pub use ", "use ").replace(';', "");
+        path.replace("use super:", "use 0:").replace("use crate:", "use 1:")
+    };
+    let is_import = |line: &&str| path(line).starts_with("use ") && line.ends_with(';');
     let mut lines: Vec<&str> = text.lines().collect();
-    for imports in lines.chunk_by_mut(|a, b| path(a).is_some() && path(b).is_some()) {
-        imports.sort_by_key(|line| {
-            path(line).map(|path| (!path.starts_with("super"), !path.starts_with("crate"), path.to_owned()))
-        });
+    for imports in lines.chunk_by_mut(|a, b| is_import(a) && is_import(b)) {
+        imports.sort_by_key(path);
     }
     lines.join("\n") + "\n"
-}
-
-/// Returns the path of an import on one line.
-fn path(line: &str) -> Option<&str> {
-    line.strip_prefix("pub ").unwrap_or(line).strip_prefix("use ")?.strip_suffix(';')
 }

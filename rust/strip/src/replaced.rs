@@ -125,6 +125,7 @@ pub(crate) const IN_TESTS: Replaced = &[
     ),
     ("rt: HostRuntime) ->", "rt: repository_tests::runtime::HostRuntime) ->"),
     ("use std::process::Abort;", "use repository_tests::runtime::Abort;"),
+    ("use std::alloc::{Alloc, Global};", "use repository_tests::runtime::Global;"),
     ("use std::alloc::", "use repository_tests::runtime::"),
     ("use std::fmt::InlineText;\n", ""),
     ("InlineText::<32>::of(", "ToString::to_string(&"),
