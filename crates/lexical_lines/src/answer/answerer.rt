@@ -47,6 +47,7 @@ impl Answerer {
 
     /// Takes the next byte. If it is a newline, the answer to the line that it ends is written to `sink`.
     pub fn push<K: ByteSink>(&mut self, byte: u8, sink: &mut K) -> io::Result<()>
+        // After an error nothing is promised of the answers.
         ensures ok { OnOk result ((before read : List ℕ)
             → HasAnswered before read (K.taken sink.old) self.old
             → HasAnswered before (read ++ byte ∷ []) (K.taken sink.new) self.new) }

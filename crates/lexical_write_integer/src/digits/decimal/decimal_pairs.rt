@@ -107,8 +107,7 @@ fn write_and_record_pair(pair: u32, buffer: &mut [u8], at: usize, turns: &mut Tu
     turns.tick(u64::from(pair));
 }
 
-// Writes a number below 10000 as four digits at index `at`, with leading zeros. The last pair is
-// first.
+// Writes a number below 10000 as four digits at index `at`, with leading zeros. The last pair is first.
 fn write_and_record_four(number: u32, buffer: &mut [u8], at: usize, turns: &mut Turns)
     requires number { number < 10 ^ 4 }
     requires room { at + 4 ≤ length buffer.old }

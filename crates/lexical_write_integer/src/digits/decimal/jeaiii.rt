@@ -6,9 +6,9 @@
 //!
 //! Each `_counted` function writes what the function without that suffix writes.
 
-// It records in `turns` what each iteration computes: one number for each pair of digits after the first, and at most
-// 9. Examples of the writers are in `crates/library_tests/src/decimal_values.rt`, and of the kernels in
-// `crates/library_tests/src/kernel_values.rt`.
+// Each `_counted` function records in `turns` what an iteration computes: one number for each pair of digits after the
+// first, and at most 9. Examples of the writers are in `crates/library_tests/src/decimal_values.rt`, and
+// of the kernels in `crates/library_tests/src/kernel_values.rt`.
 #![tactic(auto, using(crate::proofs::OfDigits::Count::DigitCounts::widths), unfolding(crate::specs::Digits::DecimalTurns::decimal_notes_32))]
 
 ghost use Rattle.std.specs.Prelude.{◌+◌, ◌-◌, ◌/◌, ◌^◌, ◌<◌, ◌≤◌, length};

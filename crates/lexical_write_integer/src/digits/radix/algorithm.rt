@@ -43,8 +43,7 @@ fn begins_with_pairs(radix: u32, table: &[u8]) -> bool
 }
 
 /// Writes the digits of the number to the start of the buffer, and returns how many there are. The radix is
-/// from 2 to 36, the table begins with the digit pairs of the radix, and the buffer has room for the
-/// digits.
+/// from 2 to 36, the table begins with the digit pairs of the radix, and the buffer has room for the digits.
 pub fn algorithm_counted<T: DigitCount>(
     value: T,
     radix: u32,

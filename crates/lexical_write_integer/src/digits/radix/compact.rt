@@ -82,8 +82,7 @@ fn write_in(value: u64, radix: u32, buffer: &mut [u8]) -> (usize, Turns)
 }
 
 /// Writes the digits of the number to the start of the buffer, and returns how many there are. The radix is
-/// from 2 to 36, and the buffer has room for the digits. There is one division for each digit after the
-/// first.
+/// from 2 to 36, and the buffer has room for the digits. There is one division for each digit after the first.
 pub fn compact_counted<T: UnsignedInteger>(
     value: T,
     radix: u32,

@@ -27,8 +27,7 @@ fn write_numeral<T: UnsignedInteger>(
 }
 
 /// Writes the digits of the number to the start of the buffer, and returns how many there are. The radix is
-/// from 2 to 36. The buffer has room for `DECIMAL_WIDTH` bytes in radix 10, and for the digits in
-/// another radix.
+/// from 2 to 36. The buffer has room for `DECIMAL_WIDTH` bytes in radix 10, and for the digits in another radix.
 ///
 /// # Panics
 ///

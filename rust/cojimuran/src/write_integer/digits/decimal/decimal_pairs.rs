@@ -69,8 +69,7 @@ fn write_and_record_pair(pair: u32, buffer: &mut [u8], at: usize) {
     RadixTable::<10>::new().write(pair, buffer, at);
 }
 
-// Writes a number below 10000 as four digits at index `at`, with leading zeros. The last pair is
-// first.
+// Writes a number below 10000 as four digits at index `at`, with leading zeros. The last pair is first.
 #[inline(always)]
 fn write_and_record_four(number: u32, buffer: &mut [u8], at: usize) {
     write_and_record_pair(number % 100, buffer, at + 2);
