@@ -60,12 +60,14 @@ fn made(top: &Path) -> Result<BTreeMap<PathBuf, String>, String> {
 
 /// Returns what is made of the text of a file of a source, a path in its `src`.
 fn made_text(original: &str, file: &str, source: &Source) -> Result<String, Unknown> {
-    let text = contracts::without_contracts(original)?;
-    let text = source.replaced.iter().chain(EVERYWHERE).fold(text, |text, (from, to)| text.replace(from, to));
+    let replaced = |text: &str| {
+        source.replaced.iter().chain(EVERYWHERE).fold(text.to_owned(), |text, (from, to)| text.replace(from, to))
+    };
+    let text = replaced(&contracts::without_contracts(original)?);
     let text = layout::without_gaps(&left_out::without_laws(&text, source)?);
-    match comments::line_with_word(&text, original) {
-        Some(line) if !source.is_test() => return Err(Unknown { line, message: "a comment about contracts" }),
-        _ => {}
+    if let (false, Some(comment)) = (source.is_test(), comments::with_word(&text)) {
+        let line = 1 + original.lines().position(|line| replaced(line) == comment).unwrap_or_default();
+        return Err(Unknown { line, message: "a comment about contracts" });
     }
     let text = layout::with_sorted_imports(&additions::with_additions(&text, file, source)?);
     let allowed = "#![allow(unused, clippy::all, reason = \"these are tests of Rattle\")]\n\n";
