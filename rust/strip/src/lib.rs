@@ -119,16 +119,15 @@ pub fn make(top: &Path) -> Result<(), String> {
 
 /// Returns an error that names each made file that is not what would be made now, and its first line that differs.
 pub fn check(top: &Path) -> Result<(), String> {
-    let mut wrong = Vec::new();
-    for (path, text) in changes(top)? {
+    let wrong = |(path, text): (PathBuf, Option<String>)| {
         let Some(text) = text else {
-            wrong.push(format!("{}: it is made of no file", path.display()));
-            continue;
+            return format!("{}: it is made of no file", path.display());
         };
         let there = read(&top.join(&path)).unwrap_or_default();
         let same = there.lines().zip(text.lines()).take_while(|(a, b)| a == b).count();
-        wrong.push(format!("{}:{}: it is not what is made now", path.display(), same + 1));
-    }
+        format!("{}:{}: it is not what is made now", path.display(), same + 1)
+    };
+    let wrong: Vec<String> = changes(top)?.into_iter().map(wrong).collect();
     if wrong.is_empty() { Ok(()) } else { Err(wrong.join("\n")) }
 }
 

@@ -14,7 +14,6 @@ pub(crate) const EVERYWHERE: Replaced = &[
     ("#[derive(Drop)]\n", ""),
     (", Drop)]", ")]"),
     (" + Drop", ""),
-    ("use std::marker::Model;\n", ""),
     // The formatter of Rattle has its writer as a parameter.
     ("<W: fmt::Write>", ""),
     ("fmt::Formatter<W>", "fmt::Formatter<'_>"),
