@@ -1,73 +1,73 @@
-//! What a package has that the crate does not say: attributes, `const`, and what `docs` adds. Without `#[inline]` rustc
-//! would inline few functions of a package into the code of another one.
+//! What a package has that the crate does not say: attributes, `const`, when a public function panics, and that its
+//! result is to be used. Without `#[inline]` rustc would inline few functions of a package into the code of another one.
 
 use crate::packages::{Source, has};
-use crate::paths;
-use crate::tokens::Tokens;
-use crate::{Unknown, docs};
 
-/// Returns the text of a file, a path in `src`, with the additions and with the paths of the package. Each attribute is
-/// on a line of its own.
-pub(crate) fn with_additions(text: &str, file: &str, source: &Source) -> Result<String, Unknown> {
-    let tokens = Tokens::read(text)?;
-    let (mut written, mut last_item, mut trait_end) = (String::new(), 0, 0);
-    for index in 1..tokens.0.len() {
-        let item = tokens.after_visibility(index)?;
-        if item > last_item && is_item(&tokens, item) {
-            last_item = item;
-            if tokens.at(item) == "trait" {
-                trait_end = tokens.group_end(tokens.first_of(item, &["{"])?)?;
+/// How the line of a function begins. One with an ABI, `extern "C"`, has no additions.
+const STARTS: [&str; 4] = ["pub fn ", "pub(crate) fn ", "pub(super) fn ", "fn "];
+
+/// Returns the text of a file, a path in `src`, with the additions.
+pub(crate) fn with_additions(text: &str, file: &str, source: &Source) -> String {
+    let lines: Vec<&str> = text.lines().collect();
+    let (mut written, mut is_in_trait) = (String::with_capacity(2 * text.len()), false);
+    for (index, line) in lines.iter().enumerate() {
+        is_in_trait = line.trim_start_matches("pub ").starts_with("trait ") || is_in_trait && *line != "}";
+        let code = line.trim_start();
+        let indent = &line[..line.len() - code.len()];
+        let mut line = line.to_string();
+        if let Some(rest) = STARTS.iter().find_map(|start| code.strip_prefix(start)) {
+            let name = rest.split(['(', '<']).next().unwrap_or_default();
+            let is_public = code.starts_with("pub fn ");
+            let signature = signature(&lines[index..]);
+            for added in additions(name, &signature, is_public || is_in_trait, file, source) {
+                written += &format!("{indent}{}\n", added.replace('\n', &format!("\n{indent}")));
             }
-            let is_shown = is_public(&tokens, index) || index < trait_end;
-            let space = tokens.at(index - 1);
-            let line_break = space.rfind('\n').map_or("\n", |line| &space[line..]);
-            for line in lines(&tokens, item, is_shown, file, source)? {
-                written += &(line.replace('\n', line_break) + line_break);
+            if is_public && has(source.constant, name) {
+                line = line.replacen("fn", "const fn", 1);
             }
         }
-        if tokens.at(index) == "fn" && is_constant(&tokens, index, source) {
-            written += "const ";
-        }
-        written += &paths::changed(&tokens, index, source);
+        written += &(line + "\n");
     }
-    Ok(written)
+    written
 }
 
-/// Returns the lines before a function, a module or a type, which is shown in the documentation or not.
-fn lines(tokens: &Tokens, item: usize, is_shown: bool, file: &str, source: &Source) -> Result<Vec<String>, Unknown> {
-    let name = tokens.at(tokens.next(item));
+/// Returns the signature of the function that begins in the first of these lines, with `;` at its end if it has no body.
+fn signature(lines: &[&str]) -> String {
+    let end = lines.iter().position(|line| line.ends_with(['{', '}', ';'])).unwrap_or_default();
+    let text = lines[..=end].join(" ");
+    text.split(" {").next().unwrap_or_default().to_owned()
+}
+
+/// Returns the lines before a function, which is shown in the documentation or not.
+fn additions(name: &str, signature: &str, is_shown: bool, file: &str, source: &Source) -> Vec<String> {
+    let (parameters, result) = signature.trim_end_matches(';').rsplit_once(") -> ").unwrap_or((signature, ""));
     let mut lines = Vec::new();
-    if tokens.at(item) == "fn" && is_shown && source.library() == "crate" {
-        lines.extend(docs::lines(tokens, item, name, source)?);
+    if is_shown && source.library() == "crate" {
+        let panics = panics(name, parameters, result, source);
+        if !panics.is_empty() {
+            lines.push(format!("///\n/// # Panics\n///\n/// If {}.", panics.join(",\n/// or if ")));
+        }
+        let is_changing = parameters.contains("&mut") || parameters.contains("&'a mut");
+        if !(result.is_empty() || result.contains("Result<") || is_changing) {
+            lines.push("#[must_use]".to_owned());
+        }
     }
     // Without counters these are as the functions without the suffix.
     if is_shown && name.ends_with("_counted") {
         lines.push("#[doc(hidden)]".to_owned());
     }
-    if has_body(tokens, item)? && !source.is_test() {
+    if !signature.ends_with(';') {
         let is_listed = |(_, names): &&(_, &str)| has(names, name) || has(names, file);
         lines.push(source.attributes.iter().find(is_listed).map_or("#[inline]", |(attribute, _)| attribute).to_owned());
     }
-    Ok(lines)
+    lines
 }
 
-/// Returns whether a function, a module or a type begins at this index. The type of a function has no name.
-fn is_item(tokens: &Tokens, index: usize) -> bool {
-    matches!(tokens.at(index), "fn" | "mod" | "struct" | "enum" | "trait") && tokens.is_word(tokens.next(index))
-}
-
-/// Returns whether a function with a body begins at this index. One with an ABI, `extern "C"`, is not inlined.
-fn has_body(tokens: &Tokens, index: usize) -> Result<bool, Unknown> {
-    let is_function = tokens.at(index) == "fn" && !tokens.at(tokens.previous(index)).starts_with('"');
-    Ok(is_function && tokens.at(tokens.first_of(tokens.next(index), &["{", ";"])?) == "{")
-}
-
-/// Returns whether `pub` is at this index.
-fn is_public(tokens: &Tokens, index: usize) -> bool {
-    tokens.at(index) == "pub" && tokens.at(tokens.next(index)) != "("
-}
-
-/// Returns whether the function at this index is constant. A method of a trait has no visibility, and cannot be.
-fn is_constant(tokens: &Tokens, index: usize, source: &Source) -> bool {
-    is_public(tokens, tokens.previous(index)) && has(source.constant, tokens.at(tokens.next(index)))
+/// Returns the conditions under which a function panics.
+fn panics(name: &str, parameters: &str, result: &str, source: &Source) -> Vec<&'static str> {
+    let listed = source.panics.iter().filter(|(_, names)| has(names, name)).map(|(panics, _)| *panics);
+    let is_radix = parameters.contains("radix: u32").then_some("the radix is not from 2 to 36");
+    let is_writer = parameters.contains("mut [u8]") && ["usize", "&mut [u8]", "&'a mut [u8]", "&str"].contains(&result);
+    let is_short = is_writer.then_some("the buffer is too short, except perhaps when the text fits");
+    is_radix.into_iter().chain(listed).chain(is_short).collect()
 }

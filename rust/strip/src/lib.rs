@@ -8,7 +8,6 @@
 mod additions;
 mod comments;
 mod contracts;
-mod docs;
 mod layout;
 mod left_out;
 mod packages;
@@ -69,9 +68,13 @@ fn made_text(original: &str, file: &str, source: &Source) -> Result<String, Unkn
         let line = 1 + original.lines().position(|line| replaced(line) == comment).unwrap_or_default();
         return Err(Unknown { line, message: "a comment about contracts" });
     }
-    let text = layout::with_sorted_imports(&additions::with_additions(&text, file, source)?);
+    let text = layout::with_sorted_imports(&paths::with_paths(&text, source)?);
     let allowed = "#![allow(unused, clippy::all, reason = \"these are tests of Rattle\")]\n\n";
-    Ok(if source.is_test() && file == "lib.rt" { allowed.to_owned() + &text } else { text })
+    Ok(match file {
+        "lib.rt" if source.is_test() => allowed.to_owned() + &text,
+        _ if source.is_test() => text,
+        _ => additions::with_additions(&text, file, source),
+    })
 }
 
 /// Returns the files with this extension in a folder of the repository and in the folders in it.
