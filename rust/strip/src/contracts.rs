@@ -16,7 +16,7 @@ fn end_of_removed(tokens: &Tokens, index: usize) -> Result<usize, Unknown> {
     let item = if is_comment || tokens.at(index) == "pub" { tokens.item(index)? } else { index };
     match tokens.at(item) {
         "ghost" => end_of_ghost(tokens, item),
-        word if is_clause(word) => end_of_clauses(tokens, item),
+        "requires" | "ensures" => end_of_clauses(tokens, item),
         "impl" if !is_comment => end_of_model(tokens, index),
         "#" if !is_comment || tokens.at(index).starts_with("// ") => {
             let open = tokens.after(item, &["#", "!"]).unwrap_or(tokens.next(item));
@@ -38,11 +38,6 @@ fn end_of_ghost(tokens: &Tokens, index: usize) -> Result<usize, Unknown> {
     Ok(if tokens.at(end) == "}" { tokens.previous(end) + 1 } else { end + 1 })
 }
 
-/// Returns whether a clause begins with this word.
-fn is_clause(word: &str) -> bool {
-    matches!(word, "requires" | "ensures")
-}
-
 /// Returns the end of `requires { .. }`, `ensures name { .. }`, `ensures* name { .. }` and the clauses after it.
 fn end_of_clauses(tokens: &Tokens, index: usize) -> Result<usize, Unknown> {
     let next = tokens.next(index);
@@ -53,7 +48,7 @@ fn end_of_clauses(tokens: &Tokens, index: usize) -> Result<usize, Unknown> {
     }
     let end = tokens.group_end(group)?;
     let next = tokens.next(end - 1);
-    if is_clause(tokens.at(next)) { end_of_clauses(tokens, next) } else { Ok(end) }
+    if matches!(tokens.at(next), "requires" | "ensures") { end_of_clauses(tokens, next) } else { Ok(end) }
 }
 
 /// Returns the end of `impl Model for Name { .. }`, also with parameters, or this index if there is none.

@@ -2,7 +2,7 @@
 //! function does. These are left out, with what calls them or is passed them.
 
 use crate::Unknown;
-use crate::packages::{LEFT_OUT, Source, TYPES, has};
+use crate::packages::{LEFT_OUT, Source, has};
 use crate::tokens::Tokens;
 use std::collections::BTreeSet;
 
@@ -18,7 +18,7 @@ fn names<'a>(tokens: &Tokens<'a>) -> BTreeSet<&'a str> {
     let is_value = |index: &usize| {
         let name = tokens.at(*index);
         let after = tokens.after(*index, &[name, ":"]).or(tokens.after(*index, &[name, "="]));
-        tokens.is_word(*index) && after.is_some_and(|after| has(TYPES, tokens.at(after_borrow(tokens, after))))
+        tokens.is_word(*index) && after.is_some_and(|after| has(LEFT_OUT, tokens.at(after_borrow(tokens, after))))
     };
     (0..tokens.0.len()).filter(is_value).map(|index| tokens.at(index)).chain(LEFT_OUT.split_whitespace()).collect()
 }

@@ -75,12 +75,9 @@ pub(crate) fn has(list: &str, name: &str) -> bool {
     list.split_whitespace().any(|listed| listed == name)
 }
 
-/// The types whose values have no data: nothing is made of these.
-pub(crate) const TYPES: &str = "GhostLog Trace Turns";
-
-/// What is left out: laws, functions that only record, the types without data, and what only contracts use.
+/// What is left out: laws, functions that only record, types without data, and what only contracts use.
 pub(crate) const LEFT_OUT: &str = "
-    DECIMAL Model GhostLog Trace Turns note_put record_flush record_up_to_eight
+    DECIMAL Model Trace Turns note_put record_flush record_up_to_eight
     in_range fits_bits text_is_utf8 rooms_at_most same_rest formatted_room_suffices size_suffices sizes_suffice
     digit_count_is_least digit_count_at_most digit_count_within_bits digits_computed digits_equal_iff different_digits
     equal_digits equal_padded equal_texts padded_order text_computed text_is_ascii text_is_decimal text_length

@@ -65,21 +65,15 @@ impl<'a> Tokens<'a> {
         tokens.iter().try_fold(index, |i, token| (self.at(i) == *token).then(|| self.next(i)))
     }
 
-    /// Returns the index of the word after `pub` or `pub(..)` at this index, or this index if there is neither.
-    pub fn after_visibility(&self, index: usize) -> Result<usize, Unknown> {
-        match (self.at(index), self.next(index)) {
-            ("pub", group) if self.at(group) == "(" => Ok(self.next(self.group_end(group)? - 1)),
-            ("pub", item) => Ok(item),
-            _ => Ok(index),
-        }
-    }
-
     /// Returns the index of the first word of the item or the statement to which the comments, the attributes and the
     /// visibility at this index belong. An empty line ends what belongs to it.
     pub fn item(&self, index: usize) -> Result<usize, Unknown> {
         match self.at(index) {
             "#" if self.at(index + 1) == "[" => self.item(self.group_end(index + 1)?),
-            "pub" => self.after_visibility(index),
+            "pub" => match self.next(index) {
+                group if self.at(group) == "(" => Ok(self.next(self.group_end(group)? - 1)),
+                item => Ok(item),
+            },
             space if is_space(space) && !has_empty_line(space) => self.item(index + 1),
             _ => Ok(index),
         }
