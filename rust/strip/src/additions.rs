@@ -1,5 +1,5 @@
 //! What a package has that the crate does not say: attributes, `const`, when a public function panics, and that its
-//! result is to be used. Without `#[inline]` rustc would inline few functions of a package into the code of another one.
+//! result is to be used. Without `#[inline]` rustc would inline few functions of a package into another one.
 
 use crate::packages::{Source, has};
 
@@ -31,7 +31,7 @@ pub(crate) fn with_additions(text: &str, file: &str, source: &Source) -> String 
     written
 }
 
-/// Returns the signature of the function that begins in the first of these lines, with `;` at its end if it has no body.
+/// Returns the signature of the function that begins in the first of these lines, with `;` if it has no body.
 fn signature(lines: &[&str]) -> String {
     let end = lines.iter().position(|line| line.ends_with(['{', '}', ';'])).unwrap_or_default();
     let text = lines[..=end].join(" ");
