@@ -36,10 +36,10 @@
 //! ```
 //!
 //! `write_joined` writes several numbers, and `join` returns their text.
-#![tactic(auto)]
 
 // The lines above are in `crates/library_tests/src/line_answers/answers.rt`, and `length_of_joined_texts` in
 // `crates/uses/src/refused_calls/texts.rt` calls `join`.
+#![tactic(auto)]
 
 // Several numbers with a separator between them.
 mod joined_text;

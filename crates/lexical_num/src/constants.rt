@@ -11,7 +11,7 @@ use crate::num::LexicalInteger;
 pub const BUFFER_SIZE: usize = 128;
 
 /// An integer type with two buffer lengths, between which `buffer_size` of the options chooses. The length is
-/// enough for each number of the type, which is the law `size_suffices` of `lexical_write_integer`.
+/// enough for each number of the type.
 pub trait FormattedSize: LexicalInteger {
     /// The buffer length in a radix other than 10, with a sign and with groups.
     const FORMATTED_SIZE: usize;
@@ -23,6 +23,7 @@ pub trait FormattedSize: LexicalInteger {
 
     ghost FORMATTED_SIZE_DECIMAL: { ℕ };
 
+    // The law `size_suffices` of `lexical_write_integer` is that a length is enough.
     ghost sizes: { AreSizes BUFFER_SIZE Self.BITS Self.IS_SIGNED Self.DECIMAL_WIDTH
         FORMATTED_SIZE FORMATTED_SIZE_DECIMAL };
 }

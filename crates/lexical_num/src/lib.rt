@@ -22,10 +22,10 @@
 //!     .digit_grouping(3, b',')
 //!     .build_strict();
 //! ```
-#![tactic(auto)]
 
 // The examples above are from `crates/uses/src/float_parts.rt`, and from `a_first_use` in
 // `crates/uses_tests/src/tests.rt`.
+#![tactic(auto)]
 
 // The integer types, and the characters of digits.
 pub mod digit;

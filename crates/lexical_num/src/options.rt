@@ -17,8 +17,9 @@ pub trait WriteOptions {
 
     /// Returns the size of the type in the format: in a radix other than 10 `FORMATTED_SIZE`, and in radix 10
     /// what `FORMATTED_SIZE_DECIMAL` digits take in the groups of the format, and one byte for a required sign.
-    /// It is enough for every number of the type, which is the law `size_suffices` of `lexical_write_integer`.
+    /// It is enough for every number of the type.
     fn buffer_size<T: FormattedSize>(&self, format: &NumberFormat) -> usize
+        // The law `size_suffices` of `lexical_write_integer` is that it is enough.
         ensures { result ≡ size_in T.FORMATTED_SIZE T.FORMATTED_SIZE_DECIMAL format.now };
 }
 

@@ -18,9 +18,9 @@
 //! ```
 //!
 //! The calls are the methods of [`Part`]. The other types of this crate are parts, and so are the integer types.
-#![tactic(auto)]
 
 // The example is from the test `texts_for_writing` in `crates/uses_tests/src/tests/lines.rt`.
+#![tactic(auto)]
 
 mod column;
 mod display;

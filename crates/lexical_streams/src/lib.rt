@@ -2,8 +2,7 @@
 //! allocates memory: the blocks are on the stack.
 //!
 //! The devices are in `lexical_lines`: a `Reading` and a `Writing` over a reader and a writer
-//! of the standard library, and a `BlockWriter`, which collects bytes in a block. A device records its own
-//! failures, since the traits of the standard library do not say that a call failed.
+//! of the standard library, and a `BlockWriter`, which collects bytes in a block.
 //!
 //! The answers to the lines of a slice, in a vector, and the exit status:
 //!
@@ -16,9 +15,10 @@
 //! assert_eq!(rt; status, 1);
 //! assert_eq!(rt; writer.into_inner().into_inner(), b"-128\nbad line 2\n");
 //! ```
-#![tactic(auto)]
 
-// `answered` in `crates/uses_tests/src/tests/streams.rt` is like the example above.
+// `answered` in `crates/uses_tests/src/tests/streams.rt` is like the example above. A device records
+// its own failures, since the traits of the standard library do not say that a call failed.
+#![tactic(auto)]
 
 mod stream_answers;
 

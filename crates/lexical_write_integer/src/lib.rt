@@ -24,10 +24,10 @@
 //! let text = 127i8.to_lexical_with_options(&mut buffer, &signed, &Options::new());
 //! assert_eq!(rt; &*text, b"+127".as_slice());
 //! ```
-#![tactic(auto)]
 
 // The examples above are from `a_first_use` in `crates/uses_tests/src/tests.rt`. `crates/uses` has others, and the
 // documentation of most calls names one.
+#![tactic(auto)]
 
 // The texts of numbers: the calls that most callers want.
 mod texts;

@@ -3,4 +3,5 @@
 extern crate self as repository_tests;
 
 pub mod runtime;
+#[rustfmt::skip]
 pub mod uses;

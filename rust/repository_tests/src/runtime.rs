@@ -3,11 +3,8 @@
 /// In Rattle, the permission to end the process.
 pub trait Abort {}
 
-/// In Rattle, the permission to allocate.
-pub trait Alloc {}
-
 /// In Rattle, the error of a call that allocates. Here none fails.
-pub type AllocError = std::fmt::Error;
+pub type AllocError = std::io::Error;
 
 /// The error of a test.
 pub type Fail = Box<dyn std::error::Error>;
@@ -27,11 +24,6 @@ macro_rules! println_in {
     }};
 }
 
-pub fn extend(vector: &mut Vec<u8>, bytes: &[u8]) -> Result<(), AllocError> {
-    vector.extend_from_slice(bytes);
-    Ok(())
-}
-
 pub fn push_str(string: &mut String, text: &str) -> Result<(), AllocError> {
     string.push_str(text);
     Ok(())
@@ -49,20 +41,5 @@ pub struct Global;
 impl HostRuntime {
     pub fn alloc(&self) -> Global {
         Global
-    }
-}
-
-/// A text of at most `SIZE` bytes.
-pub struct InlineText<const SIZE: usize>(String);
-
-impl<const SIZE: usize> InlineText<SIZE> {
-    pub fn of(value: impl std::fmt::Display) -> Self {
-        let text = value.to_string();
-        assert!(text.len() <= SIZE);
-        InlineText(text)
-    }
-
-    pub fn as_str(&self) -> &str {
-        &self.0
     }
 }

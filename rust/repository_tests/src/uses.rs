@@ -2,8 +2,9 @@
 
 #![allow(unused, clippy::all, reason = "these are tests of Rattle")]
 
-//! Examples of callers. Each module writes something that a program may need. The module
-//! `refused_calls` has calls whose conditions only just hold.
+//! Examples of callers. Each module writes something that a program may need, and is proved from
+//! nothing but the contracts of the functions that it calls. The module `refused_calls` has calls whose
+//! conditions only just hold.
 
 pub mod amount;
 pub mod answers;

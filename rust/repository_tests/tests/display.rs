@@ -55,36 +55,18 @@ fn digits() {
 
 #[test]
 fn numbers_in_formats() {
-    const THOUSANDS: NumberFormat = NumberFormatBuilder::new()
-        .required_mantissa_sign(true)
-        .digit_grouping(3, b',')
-        .build_strict();
+    const THOUSANDS: NumberFormat =
+        NumberFormatBuilder::new().required_mantissa_sign(true).digit_grouping(3, b',').build_strict();
     let number = Formatted(1234567i64, &THOUSANDS);
     let shown = format!("{number}|{number:012}|{number:12}|{number:<12}|{number:+.2}");
-    assert_eq!(
-        shown,
-        "+1,234,567|+001,234,567|  +1,234,567|+1,234,567  |+1,234,567"
-    );
+    assert_eq!(shown, "+1,234,567|+001,234,567|  +1,234,567|+1,234,567  |+1,234,567");
     let number = Formatted(-1234567i64, &THOUSANDS);
-    assert_eq!(
-        format!("{number:#012}|{number:^12}"),
-        "-001,234,567| -1,234,567 "
-    );
+    assert_eq!(format!("{number:#012}|{number:^12}"), "-001,234,567| -1,234,567 ");
     let longest = NumberFormatBuilder::new()
         .mantissa_radix(2)
         .required_mantissa_sign(true)
         .digit_grouping(1, b'.')
         .build_strict();
-    assert_eq!(
-        format!("{:>130}", Formatted(i64::MIN, &longest))
-            .trim_start()
-            .len(),
-        128
-    );
-    assert_eq!(
-        format!("{:0130}", Formatted(u64::MAX, &longest))
-            .matches('0')
-            .count(),
-        2
-    );
+    assert_eq!(format!("{:>130}", Formatted(i64::MIN, &longest)).trim_start().len(), 128);
+    assert_eq!(format!("{:0130}", Formatted(u64::MAX, &longest)).matches('0').count(), 2);
 }

@@ -11,14 +11,11 @@ use cojimuran::padded::write_padded;
 use cojimuran::parts::{Decimal, Digits, Fixed, Joined, Padded, PaddedDigits, Part};
 use cojimuran::radix::Radix;
 use cojimuran::write::WriteInteger;
-use cojimuran::{NumberFormatBuilder, Options, ToLexical, ToLexicalWithOptions};
-use cojimuran::{jeaiii, table};
+use cojimuran::{NumberFormatBuilder, Options, ToLexical, ToLexicalWithOptions, jeaiii, table};
 use std::panic::{AssertUnwindSafe, catch_unwind};
 use std::sync::mpsc;
 use std::thread;
 use std::time::Duration;
-
-const RADICES: [u8; 5] = [0, 1, 37, 128, 255];
 
 /// Runs the calls of a test in a thread. Fails unless all return or panic within a second for each.
 fn check(name: &str, calls: u32, run: impl FnOnce() + Send + 'static) {
@@ -27,48 +24,26 @@ fn check(name: &str, calls: u32, run: impl FnOnce() + Send + 'static) {
         run();
         sender.send(()).ok();
     });
-    receiver
-        .recv_timeout(Duration::from_secs(1) * calls)
-        .unwrap_or_else(|_| panic!("{name} does not return"));
+    receiver.recv_timeout(Duration::from_secs(1) * calls).unwrap_or_else(|_| panic!("{name} does not return"));
 }
 
 /// Calls with the middle of a buffer, of this length. No other byte changes.
 fn with_buffer(length: usize, call: impl FnOnce(&mut [u8]) -> usize) {
     let mut buffer = [7; 300];
-    drop(catch_unwind(AssertUnwindSafe(|| {
-        call(&mut buffer[50..50 + length])
-    })));
-    assert!(
-        buffer[..50]
-            .iter()
-            .chain(&buffer[50 + length..])
-            .all(|byte| *byte == 7)
-    );
+    drop(catch_unwind(AssertUnwindSafe(|| call(&mut buffer[50..50 + length]))));
+    assert!(buffer[..50].iter().chain(&buffer[50 + length..]).all(|byte| *byte == 7));
 }
 
 #[test]
 fn short_buffers() {
     check("a short buffer", 10, || {
-        let grouped = NumberFormatBuilder::new()
-            .required_mantissa_sign(true)
-            .digit_grouping(1, b'_')
-            .build_strict();
+        let grouped = NumberFormatBuilder::new().required_mantissa_sign(true).digit_grouping(1, b'_').build_strict();
         for length in 0..40 {
             with_buffer(length, |buffer| u64::MAX.to_lexical(buffer).len());
-            with_buffer(length, |buffer| {
-                i64::MIN
-                    .to_lexical_with_options(buffer, &grouped, &Options::new())
-                    .len()
-            });
-            with_buffer(length, |buffer| {
-                join(&[1u8, 20, 255], b',', buffer, &grouped, &Options::new()).len()
-            });
-            with_buffer(length, |buffer| {
-                (Decimal(-1i32), " ", Padded(7u8, 30)).to_text(buffer).len()
-            });
-            with_buffer(length, |buffer| {
-                Joined(&[1i64, -2, 3], ", ").to_text(buffer).len()
-            });
+            with_buffer(length, |buffer| i64::MIN.to_lexical_with_options(buffer, &grouped, &Options::new()).len());
+            with_buffer(length, |buffer| join(&[1u8, 20, 255], b',', buffer, &grouped, &Options::new()).len());
+            with_buffer(length, |buffer| (Decimal(-1i32), " ", Padded(7u8, 30)).to_text(buffer).len());
+            with_buffer(length, |buffer| Joined(&[1i64, -2, 3], ", ").to_text(buffer).len());
             for radix in 2..=36 {
                 with_buffer(length, |buffer| u64::MAX.write_integer(radix, buffer));
                 with_buffer(length, |buffer| u32::MAX.radix(radix, buffer));
@@ -81,11 +56,7 @@ fn short_buffers() {
 #[test]
 fn invalid_radices_of_numbers() {
     check("a radix", 10, || {
-        for radix in RADICES
-            .map(u32::from)
-            .into_iter()
-            .chain([256, 65536, 2147483647, u32::MAX])
-        {
+        for radix in [0, 1, 37, 128, 255, 256, 65536, 2147483647, u32::MAX] {
             drop(catch_unwind(|| u64::MAX.digit_count(radix)));
             drop(catch_unwind(|| u8::MAX.slow_digit_count(radix)));
             drop(catch_unwind(|| u64::MAX.slow_digit_count(radix)));
@@ -96,9 +67,7 @@ fn invalid_radices_of_numbers() {
             with_buffer(128, |buffer| u64::MAX.radix(radix, buffer));
             with_buffer(128, |buffer| u64::MAX.compact(radix, buffer));
             with_buffer(128, |buffer| Digits(radix, u64::MAX).to_text(buffer).len());
-            with_buffer(128, |buffer| {
-                PaddedDigits(radix, u64::MAX, 90).to_text(buffer).len()
-            });
+            with_buffer(128, |buffer| PaddedDigits(radix, u64::MAX, 90).to_text(buffer).len());
         }
     });
 }
@@ -117,15 +86,9 @@ fn numbers_above_their_width() {
 /// Returns with what a call panics, and `None` if it returns.
 fn message_of<T>(call: impl FnOnce() -> T) -> Option<String> {
     let panic = catch_unwind(AssertUnwindSafe(|| drop(call()))).err()?;
-    panic.downcast::<String>().map_or_else(
-        |panic| {
-            panic
-                .downcast()
-                .ok()
-                .map(|text: Box<&str>| text.to_string())
-        },
-        |text| Some(*text),
-    )
+    panic
+        .downcast::<String>()
+        .map_or_else(|panic| panic.downcast().ok().map(|text: Box<&str>| text.to_string()), |text| Some(*text))
 }
 
 /// Checks that each call panics with a message that contains the condition.

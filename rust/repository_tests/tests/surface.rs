@@ -1,37 +1,30 @@
 //! The names of the package, and the traits of its types: a caller that takes one does not compile without it.
 
-#![allow(
-    unused_imports,
-    clippy::unnecessary_operation,
-    reason = "what is not there is an error"
-)]
+#![allow(unused_imports, clippy::unnecessary_operation, reason = "what is not there is an error")]
 
 use cojimuran::buffer::{copy_to_front, front_mut};
-use cojimuran::decimal::{
-    Decimal as _, DecimalCount, fallback_digit_count, fast_digit_count, fast_log10,
-};
+use cojimuran::decimal::{Decimal as _, DecimalCount, fallback_digit_count, fast_digit_count, fast_log10};
 use cojimuran::digit_count::{DigitCount, fast_log2};
 use cojimuran::jeaiii::{
-    fixed_2, fixed_4, fixed_6, fixed_8_nine, fixed_8_ten, fixed_8_wide, from_i64, from_u8,
-    from_u16, from_u32, from_u64, next2,
+    fixed_2, fixed_4, fixed_6, fixed_8_nine, fixed_8_ten, fixed_8_wide, from_i64, from_u8, from_u16, from_u32,
+    from_u64, next2,
 };
 use cojimuran::lines::{
-    Answerer, BlockSink, BlockSource, BlockWriter, ByteSink, ByteSource, Reading, SliceSink,
-    SliceSource, Writing, answer_slice, join, put_all, run, status, write_joined,
+    Answerer, BlockSink, BlockSource, BlockWriter, ByteSink, ByteSource, Reading, SliceSink, SliceSource, Writing,
+    answer_slice, join, put_all, run, status, write_joined,
 };
 use cojimuran::num::limits::{is_group_size, is_mark, is_radix};
 use cojimuran::num::{LexicalInteger, UnsignedInteger, digit_to_char};
 use cojimuran::parts::{
-    Binary, Byte, Bytes, Center, Decimal, Digits, Fixed, Formatted, GroupedFixed, Hex, HexBytes,
-    Joined, Left, Lower, Padded, PaddedDigits, Part, Plus, Right, Scientific, Sign, ZeroPadded,
+    Binary, Byte, Bytes, Center, Decimal, Digits, Fixed, Formatted, GroupedFixed, Hex, HexBytes, Joined, Left, Lower,
+    Padded, PaddedDigits, Part, Plus, Right, Scientific, Sign, ZeroPadded,
 };
 use cojimuran::streams::{answer_lines, answer_reader, answer_stream};
 use cojimuran::table::{DIGIT_TO_BASE2_SQUARED, DIGIT_TO_BASE36_SQUARED, get_table};
 use cojimuran::{
-    BUFFER_SIZE, Error, FormattedSize, NumberFormat, NumberFormatBuilder, Options, OptionsBuilder,
-    Result, ToLexical, ToLexicalWithOptions, WriteOptions, algorithm::algorithm, compact::Compact,
-    format::STANDARD, group_digits, padded::write_padded, radix::Radix, write::WriteInteger,
-    write_sign,
+    BUFFER_SIZE, Error, FormattedSize, NumberFormat, NumberFormatBuilder, Options, OptionsBuilder, Result, ToLexical,
+    ToLexicalWithOptions, WriteOptions, algorithm::algorithm, compact::Compact, format::STANDARD, group_digits,
+    padded::write_padded, radix::Radix, write::WriteInteger, write_sign,
 };
 use std::fmt::{Debug, Display};
 use std::panic::{RefUnwindSafe, UnwindSafe};
@@ -70,37 +63,14 @@ fn parts() {
     (part::<&str>(), part::<Byte>(), part::<Bytes>());
     (part::<Option<U>>(), part::<Joined<U>>(), part::<Lower<U>>());
     (part::<Left<U>>(), part::<Right<U>>(), part::<Center<U>>());
-    (
-        part::<ZeroPadded<U>>(),
-        part::<Sign<i8>>(),
-        part::<Digits<u8>>(),
-    );
-    (
-        part::<Padded<u8>>(),
-        part::<PaddedDigits<u8>>(),
-        part::<HexBytes>(),
-    );
-    (
-        part::<Fixed<i64>>(),
-        part::<GroupedFixed<i64>>(),
-        part::<Scientific<i64>>(),
-    );
-    (
-        shown::<Decimal<i8>>(),
-        shown::<Formatted<i8>>(),
-        shown::<Plus<i8>>(),
-    );
+    (part::<ZeroPadded<U>>(), part::<Sign<i8>>(), part::<Digits<u8>>());
+    (part::<Padded<u8>>(), part::<PaddedDigits<u8>>(), part::<HexBytes>());
+    (part::<Fixed<i64>>(), part::<GroupedFixed<i64>>(), part::<Scientific<i64>>());
+    (shown::<Decimal<i8>>(), shown::<Formatted<i8>>(), shown::<Plus<i8>>());
     (shown::<Hex<u8>>(), shown::<Binary<u8>>());
-    (
-        part::<(U, U)>(),
-        part::<(U, U, U)>(),
-        part::<(U, U, U, U)>(),
-    );
+    (part::<(U, U)>(), part::<(U, U, U)>(), part::<(U, U, U, U)>());
     (part::<(U, U, U, U, U)>(), part::<(U, U, U, U, U, U)>());
-    (
-        part::<(U, U, U, U, U, U, U)>(),
-        part::<(U, U, U, U, U, U, U, U)>(),
-    );
+    (part::<(U, U, U, U, U, U, U)>(), part::<(U, U, U, U, U, U, U, U)>());
     part::<(U, U, U, U, U, U, U, U, U)>();
     part::<(U, U, U, U, U, U, U, U, U, U)>();
     part::<(U, U, U, U, U, U, U, U, U, U, U)>();

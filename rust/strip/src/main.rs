@@ -6,17 +6,13 @@ use std::process::ExitCode;
 
 fn main() -> ExitCode {
     let top = Path::new(env!("CARGO_MANIFEST_DIR")).join("../..");
-    let words: Vec<String> = std::env::args().skip(1).collect();
-    let result = match words.iter().map(String::as_str).collect::<Vec<_>>()[..] {
-        [] => strip::make(&top),
-        ["--check"] => strip::check(&top),
-        _ => Err("use: cargo run -p strip [-- --check]".to_owned()),
+    let result = match std::env::args().nth(1).as_deref() {
+        None => strip::make(&top),
+        Some("--check") => strip::check(&top),
+        Some(_) => Err("use: cargo run -p strip [-- --check]".to_owned()),
     };
-    match result {
-        Ok(()) => ExitCode::SUCCESS,
-        Err(message) => {
-            eprintln!("{message}");
-            ExitCode::FAILURE
-        }
+    if let Err(message) = &result {
+        eprintln!("{message}");
     }
+    ExitCode::from(u8::from(result.is_err()))
 }

@@ -4,40 +4,27 @@ use crate::Unknown;
 use crate::packages::{SOURCES, Source};
 use crate::tokens::{Tokens, is_space};
 
-/// Returns the text of a file of the source with the paths of the package, also in examples of the documentation.
+/// Returns the text of a file of the source with the paths of the package.
 pub(crate) fn with_paths(text: &str, source: &Source) -> Result<String, Unknown> {
     let tokens = Tokens::read(text)?;
-    let mut written = String::with_capacity(text.len());
-    for (index, token) in tokens.0.iter().enumerate() {
-        let is_first = tokens.after(index, &[token, ":", ":"]).is_some() || tokens.at(tokens.next(index)) == "as";
-        let module = SOURCES.iter().find(|each| each.name == *token && each.path.starts_with("crate::"));
-        match (*token, module) {
-            (comment, _) if is_space(comment) => written += &comment_with_paths(comment),
-            ("crate", _) if is_first => written += source.path,
-            ("std", _) if is_first && source.is_core => written += "core",
-            (_, Some(module)) if is_first => written += &path_of(module, source.library),
-            _ => written += token,
+    Ok((0..tokens.0.len()).map(|index| changed(&tokens, index, source)).collect())
+}
+
+/// Returns the token at this index with the path of the package. A comment has the names of the modules.
+fn changed(tokens: &Tokens, index: usize, source: &Source) -> String {
+    let token = tokens.at(index);
+    let mut modules = SOURCES.iter().filter(|each| each.is_module());
+    if is_space(token) {
+        return modules.fold(token.to_owned(), |comment, module| comment.replace(module.name, module.root));
+    }
+    let is_first = tokens.after(index, &[token, ":", ":"]).is_some() || tokens.at(tokens.next(index)) == "as";
+    match (token, modules.find(|module| module.name == token)) {
+        ("crate", _) if is_first && source.is_module() => format!("crate::{}", source.root),
+        ("std", _) if is_first && source.is_core => "core".to_owned(),
+        (_, Some(module)) if is_first => {
+            let library = if module.is_test() { "repository_tests" } else { source.library() };
+            format!("{library}::{}", module.root)
         }
+        _ => token.to_owned(),
     }
-    Ok(written)
-}
-
-/// Returns the path of a library, or of what the tests call.
-fn path_of(module: &Source, library: &str) -> String {
-    let library = if module.is_test && library != "crate" { "repository_tests" } else { library };
-    format!("{library}::{}", module.root)
-}
-
-/// Returns a comment with the paths of the package. The names of `write_integer` are also those of the root, and in
-/// Rattle an assertion takes the runtime, and a vector its allocator.
-fn comment_with_paths(comment: &str) -> String {
-    let mut changed = comment.replace("lexical_write_integer::{", "cojimuran::{").replace("(rt; ", "(");
-    changed =
-        changed.replace("use lexical_write_integer::", "use cojimuran::").replace("Vec::new(alloc)", "Vec::new()");
-    changed = changed.replace("this crate", "this module");
-    for module in SOURCES.iter().filter(|each| each.path.starts_with("crate::")) {
-        changed = changed.replace(&format!("use {}::", module.name), &format!("use cojimuran::{}::", module.root));
-        changed = changed.replace(module.name, module.root);
-    }
-    changed
 }

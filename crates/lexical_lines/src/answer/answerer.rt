@@ -22,8 +22,7 @@ const NEWLINE: u8 = b'\n';
 /// An answerer writes the answer to a sink as soon as it gets the newline that ends the line.
 ///
 /// An answerer keeps the line that has not ended yet, the number of that line, and whether all lines
-/// before it are valid. It must not be used again after an error; the contracts then promise nothing
-/// about the answers.
+/// before it are valid. It must not be used again after an error.
 #[derive(Drop)]
 pub struct Answerer {
     line: Line,
@@ -48,6 +47,7 @@ impl Answerer {
 
     /// Takes the next byte. If it is a newline, the answer to the line that it ends is written to `sink`.
     pub fn push<K: ByteSink>(&mut self, byte: u8, sink: &mut K) -> io::Result<()>
+        // After an error nothing is promised of the answers.
         ensures ok { OnOk result ((before read : List ℕ)
             → HasAnswered before read (K.taken sink.old) self.old
             → HasAnswered before (read ++ byte ∷ []) (K.taken sink.new) self.new) }

@@ -20,8 +20,7 @@ use std::io;
 /// text of a number that is not negative begins with that sign. The answer to any other line is
 /// `bad line ` and the number of the line; the first line is line 1. Each answer ends with a newline.
 ///
-/// The first failure of a device ends the run, and its error is returned; the contract does not say which
-/// error that is.
+/// The first failure of a device ends the run, and its error is returned.
 #[tactic(auto, using(crate::proofs::Added::grown))]
 pub fn run<S: ByteSource, K: ByteSink>(source: &mut S, sink: &mut K) -> io::Result<bool>
     // The run only appends to what the source has yielded and to what the sink has taken.
@@ -41,7 +40,7 @@ pub fn run<S: ByteSource, K: ByteSink>(source: &mut S, sink: &mut K) -> io::Resu
         RunAnswered before after (S.is_ended source.new) bytes put all_valid) }
 
     // If the run fails, either the source failed, and all lines that ended are answered, or the sink
-    // failed during the answer to the last line.
+    // failed during the answer to the last line. The error is not named.
     ensures err { OnErr result
         (let bytes = added (S.yielded source.old) (S.yielded source.new) in
         let put = added (K.taken sink.old) (K.taken sink.new) in

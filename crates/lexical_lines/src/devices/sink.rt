@@ -34,8 +34,6 @@ pub trait ByteSink {
 }
 
 /// A sink that can be flushed.
-///
-/// Its contract counts its flushes.
 pub trait BlockSink: ByteSink {
     // The bytes that the sink contains, if they are known.
     ghost contents: { Self → Option (List ℕ) };
@@ -60,9 +58,10 @@ pub trait BlockSink: ByteSink {
 }
 
 /// Writes all bytes to the sink, and stops at its first failure. Returns how many bytes the sink has
-/// taken, and an error if it failed; the contract does not say which.
+/// taken, and an error if it failed.
 pub fn put_all<K: ByteSink>(sink: &mut K, bytes: &[u8]) -> (usize, io::Result<()>)
     ensures ok { OnOk result.1 (result.0 ≡ length bytes.now) }
+    // The error is not named.
     ensures err { OnErr result.1 (result.0 < length bytes.now) }
     ensures taken { K.taken sink.new ≡ K.taken sink.old ++ take result.0 bytes.now }
     ensures failures { K.failures sink.new ≡ K.failures sink.old + failures_of result.1 }

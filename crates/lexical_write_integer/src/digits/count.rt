@@ -32,10 +32,11 @@ fn power_of<T: UnsignedInteger>(radix: u32, exponent: u32) -> Option<T>
     }
 }
 
-// Returns the quotient of the number and a power of the radix, and records it in the counter.
+// Returns the quotient of the number and a power of the radix.
 fn divide_and_record<T: UnsignedInteger>(number: T, power: T, turns: &mut Turns) -> T
     requires { 0 < T.magnitude power }
     ensures left { T.magnitude result ≡ T.magnitude number / T.magnitude power }
+    // The counter records the quotient.
     ensures notes { turns.new ≡ turns.old ++ T.magnitude result ∷ [] }
 {
     let (left, _) = number.div_rem(power);
@@ -43,11 +44,12 @@ fn divide_and_record<T: UnsignedInteger>(number: T, power: T, turns: &mut Turns)
     left
 }
 
-// Removes the last `step` digits of the number per iteration, while it has more than `step` digits, and
-// records each quotient. Returns the remaining quotient and the number of digits that were removed.
+// Removes the last `step` digits of the number per iteration, while it has more than `step` digits.
+// Returns the remaining quotient and the number of digits that were removed.
 fn take_digits<T: UnsignedInteger>(value: T, radix: u32, step: u32, turns: &mut Turns) -> (T, usize)
     requires radix { IsRadix radix }
     requires step { IsStep step }
+    // The counter records each quotient.
     ensures { TakesDigits radix (T.magnitude value) step result.1 (T.magnitude result.0)
         turns.old turns.new }
 {
@@ -66,14 +68,14 @@ fn take_digits<T: UnsignedInteger>(value: T, radix: u32, step: u32, turns: &mut 
 }
 
 /// Returns how many digits the number has. They are counted by division: four per iteration while more
-/// than four are left, then two, and then one. Each quotient is recorded in the counter. The radix is
-/// from 2 to 36.
+/// than four are left, then two, and then one. The radix is from 2 to 36.
 #[tactic(auto, using(crate::proofs::OfDigits::Count::RadixPowers::steps))]
 pub fn slow_digit_count_counted<T: UnsignedInteger>(x: T, radix: u32, turns: &mut Turns) -> usize
     requires { IsRadix radix }
     ensures count { result ≡ digit_count radix (T.magnitude x) }
     ensures some { 1 ≤ result }
     ensures at_most_64 { result ≤ 64 }
+    // The counter records each quotient.
     ensures notes { turns.new ≡ turns.old ++ slow_notes radix (T.magnitude x) }
     ensures turns { length turns.new ≡ length turns.old + slow_turns result }
 {
@@ -94,14 +96,14 @@ pub(crate) fn counts_at_once(radix: u32) -> bool
 }
 
 /// Returns how many digits the number has. They are counted from the highest set bit if the radix is a
-/// power of 2, by `decimal_count` in radix 10, and otherwise by division, whose quotients are recorded
-/// in the counter. The radix is from 2 to 36.
+/// power of 2, by `decimal_count` in radix 10, and otherwise by division. The radix is from 2 to 36.
 #[tactic(auto, using(crate::proofs::OfDigits::Radix::Loops::Records::none_noted))]
 pub fn digit_count_counted<T: DecimalCount>(x: T, radix: u32, turns: &mut Turns) -> usize
     requires { IsRadix radix }
     ensures count { result ≡ digit_count radix (T.magnitude x) }
     ensures some { 1 ≤ result }
     ensures at_most_64 { result ≤ 64 }
+    // The counter records the quotient of each division.
     ensures notes { turns.new ≡ turns.old ++ count_notes radix (T.magnitude x) }
     ensures turns { length turns.new ≡ length turns.old + count_turns radix result }
 {

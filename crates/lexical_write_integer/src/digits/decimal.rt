@@ -1,6 +1,6 @@
 //! Writing decimal digits, two at a time.
-//!
-//! Examples are in `crates/library_tests/src/decimal_values.rt`.
+
+// Examples are in `crates/library_tests/src/decimal_values.rt`.
 #![tactic(auto, using(crate::proofs::OfDigits::Count::DigitCounts::widths))]
 
 ghost use Rattle.std.specs.Prelude.{◌≡◌, ℕ, pos, negsuc, ◌-◌, ◌^◌, ◌<◌, ◌≤◌, ◌+◌, length};
@@ -51,13 +51,13 @@ pub trait Decimal: DecimalCount {
         write_decimal(self, Self::SIGNED_WIDTH, buffer, &mut Turns::new())
     }
 
-    /// Writes the digits as `decimal` does, under the same condition, and records its iterations in
-    /// the counter: one for each pair of digits after the first, and at most 9.
+    /// Writes the digits as `decimal` does, under the same condition.
     fn decimal_counted(self, buffer: &mut [u8], turns: &mut Turns) -> usize
         requires { Self.DECIMAL_WIDTH ≤ length buffer.old }
         ensures writes { WritesDecimal (Self.magnitude self) (decimal_notes Self.BITS (Self.magnitude self))
             buffer.old buffer.new turns.old turns.new result }
         ensures short { result ≤ Self.DECIMAL_WIDTH }
+        // The counter records an iteration for each pair of digits after the first.
         ensures few { length turns.new ≤ length turns.old + 9 }
     {
         self.in_range();

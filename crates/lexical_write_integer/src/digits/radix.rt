@@ -26,8 +26,7 @@ use table_writer::{
 };
 
 // Writes a number in the radix `R`, with a table that begins with the digit pairs of that radix: after the count of
-// the digits if that needs no division, and otherwise while they are counted. What the count records precedes what
-// the writer records.
+// the digits if that needs no division, and otherwise while they are counted.
 fn write_digits<T: UnsignedInteger, const R: u32>(
     value: T,
     table: &[u8],
@@ -37,6 +36,7 @@ fn write_digits<T: UnsignedInteger, const R: u32>(
     requires radix { IsRadix R }
     requires table { BeginsWithPairs R table.now }
     requires room { digit_count R (T.magnitude value) ≤ length buffer.old }
+    // What the count records precedes what the writer records.
     ensures { WritesByTable R (T.magnitude value) buffer.old buffer.new turns.old turns.new result }
 {
     value.fits_bits();
@@ -71,8 +71,8 @@ fn write_by_table<T: UnsignedInteger, const R: u32>(
     write_digits::<T, R>(value, get_table(R), buffer, turns)
 }
 
-// Writes the digits with the table of the radix, and records its iterations. The radix is looked at only
-// once, since the code of each radix names its table.
+// Writes the digits with the table of the radix. The radix is looked at only once, since the code of each radix names
+// its table.
 fn write_in_radix<T: UnsignedInteger>(
     value: T,
     radix: u32,

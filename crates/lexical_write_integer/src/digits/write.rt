@@ -42,9 +42,7 @@ fn write_numeral<T: UnsignedInteger>(
 }
 
 /// Writes the digits of the number to the start of the buffer, and returns how many there are. The radix is
-/// from 2 to 36. The buffer has room for `DECIMAL_WIDTH` bytes in radix 10, and for the digits in
-/// another radix. The writer records its iterations in the counter: at most 9 in radix 10, and at most
-/// 21 in any radix.
+/// from 2 to 36. The buffer has room for `DECIMAL_WIDTH` bytes in radix 10, and for the digits in another radix.
 pub fn write_integer_counted<T: Decimal + DigitCount>(
     value: T,
     radix: u32,
@@ -57,6 +55,7 @@ pub fn write_integer_counted<T: Decimal + DigitCount>(
     ensures short { result ≤ T.BITS }
     ensures notes { turns.new ≡ turns.old ++ write_notes T.BITS radix (T.magnitude value) }
     ensures turns { length turns.new ≡ length turns.old + write_turns radix result }
+    // The writer records its iterations in the counter: few in any radix, and at most 9 in radix 10.
     ensures few_turns { length turns.new ≤ length turns.old + 21 }
     ensures few_decimal_turns { radix ≡ 10 → length turns.new ≤ length turns.old + 9 }
 {

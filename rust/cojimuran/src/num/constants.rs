@@ -7,8 +7,8 @@ use crate::num::num::LexicalInteger;
 /// The length of a buffer that is long enough for every number of every type in every format.
 pub const BUFFER_SIZE: usize = 128;
 
-/// An integer type with two buffer lengths, between which `buffer_size` of the options chooses. The
-/// length is enough for each number of the type.
+/// An integer type with two buffer lengths, between which `buffer_size` of the options chooses. The length is
+/// enough for each number of the type.
 pub trait FormattedSize: LexicalInteger {
     /// The buffer length in a radix other than 10, with a sign and with groups.
     const FORMATTED_SIZE: usize;

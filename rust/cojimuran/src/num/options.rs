@@ -12,9 +12,9 @@ pub trait WriteOptions {
     #[must_use]
     fn is_valid(&self) -> bool;
 
-    /// Returns the size of the type in the format: in a radix other than 10 `FORMATTED_SIZE`, and
-    /// in radix 10 what `FORMATTED_SIZE_DECIMAL` digits take in the groups of the format, and one
-    /// byte for a required sign. It is enough for every number of the type.
+    /// Returns the size of the type in the format: in a radix other than 10 `FORMATTED_SIZE`, and in radix 10
+    /// what `FORMATTED_SIZE_DECIMAL` digits take in the groups of the format, and one byte for a required sign.
+    /// It is enough for every number of the type.
     #[must_use]
     fn buffer_size<T: FormattedSize>(&self, format: &NumberFormat) -> usize;
 }

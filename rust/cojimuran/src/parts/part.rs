@@ -29,7 +29,8 @@ pub trait Part: Copy {
     ///
     /// # Panics
     ///
-    /// If the part is not valid, or if the buffer is too short, except perhaps when the text fits.
+    /// If the part is not valid,
+    /// or if the buffer is too short, except perhaps when the text fits.
     fn write_to(self, buffer: &mut [u8]) -> usize;
 
     /// Writes the text to the start of the buffer, and returns those bytes of the buffer, which the
@@ -38,7 +39,8 @@ pub trait Part: Copy {
     ///
     /// # Panics
     ///
-    /// If the part is not valid, or if the buffer is too short, except perhaps when the text fits.
+    /// If the part is not valid,
+    /// or if the buffer is too short, except perhaps when the text fits.
     #[inline]
     fn to_text(self, buffer: &mut [u8]) -> &mut [u8] {
         let count = self.write_to(buffer);
@@ -70,8 +72,8 @@ pub trait Part: Copy {
     ///
     /// # Panics
     ///
-    /// If the part is not valid, or its text is not UTF-8, or if the buffer is too short, except
-    /// perhaps when the text fits.
+    /// If the part is not valid, or its text is not UTF-8,
+    /// or if the buffer is too short, except perhaps when the text fits.
     #[inline]
     fn to_str(self, buffer: &mut [u8]) -> &str {
         from_utf8(self.to_text(buffer)).unwrap()

@@ -39,8 +39,8 @@ pub fn answer_reader<R: Read, K: BlockSink, const SIZE: usize>(
 /// When a read begins, every line that has ended is answered, and the answers are written and flushed.
 /// So an answer never waits for the next line. A failure ends the call.
 ///
-/// The block of 128 KiB that is read into is on the stack. With a `BlockWriter` of 16 KiB, a call
-/// uses about 160 KB of stack, and no other memory.
+/// The block of 128 KiB that is read into is on the stack. With a `BlockWriter` of 16 KiB, a call uses
+/// about 160 KB of stack, and no other memory.
 #[inline]
 pub fn answer_stream<S: BlockSource, K: BlockSink, const SIZE: usize>(
     source: &mut S,

@@ -8,7 +8,7 @@ use std::io;
 
 /// Reads a source to its end, and returns the answers to its lines. The error is that of the source, or
 /// an allocation failure during the answer to a line.
-pub fn answers_to<S: ByteSource>(_alloc: Global, source: &mut S) -> io::Result<Vec<u8>> {
+pub fn answers_to<S: ByteSource>(alloc: Global, source: &mut S) -> io::Result<Vec<u8>> {
     let mut sink = Writing::new(Vec::new());
     run(source, &mut sink)?;
     Ok(sink.into_inner())

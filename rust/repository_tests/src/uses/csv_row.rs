@@ -15,7 +15,8 @@ pub fn write_row(numbers: &[i64; 8], buffer: &mut [u8; ROW_SIZE]) -> usize {
     (Joined(numbers, ","), "\n").write_to(buffer)
 }
 
-/// Writes eight arguments as `write_row` writes an array, and returns the length of the row.
+/// Writes eight arguments as `write_row` writes an array, and returns the length of the row. With
+/// more than four signed arguments, the proof needs one line.
 pub fn write_row_of(
     a: i64,
     b: i64,
@@ -61,7 +62,7 @@ pub fn try_write_rows(rows: &[Row<'_>], buffer: &mut [u8]) -> Option<usize> {
 /// out.
 pub fn push_entries(entries: &mut Vec<u8>, numbers: &[i64]) -> Result<(), AllocError> {
     for number in numbers {
-        repository_tests::runtime::extend(entries, (*number, ";").to_text(&mut [0; 21]))?;
+        std::io::Write::write_all(entries, (*number, ";").to_text(&mut [0; 21]))?;
     }
     Ok(())
 }

@@ -52,12 +52,7 @@ impl DateTime {
     /// Returns the timestamp of RFC 3339 with these milliseconds and this offset from UTC, such as
     /// `2026-11-23T07:05:09.042+01:00`, which borrows the array. The offset is in minutes, and less than
     /// a day.
-    pub fn timestamp(
-        self,
-        millisecond: u16,
-        offset: i16,
-        buffer: &mut [u8; TIMESTAMP_SIZE],
-    ) -> &str {
+    pub fn timestamp(self, millisecond: u16, offset: i16, buffer: &mut [u8; TIMESTAMP_SIZE]) -> &str {
         let minutes = offset.unsigned_abs();
         let zone = (
             Sign(offset, true),

@@ -1,5 +1,7 @@
 // Made by `strip` from crates/uses/src/fixed_text.rt. Edit that file, not this one.
 
+//! Texts whose bytes the contract states as an equation.
+
 use cojimuran::parts::{Padded, Part};
 use cojimuran::write_integer::{NumberFormatBuilder, Options, ToLexicalWithOptions};
 
@@ -9,7 +11,8 @@ pub fn million(buffer: &mut [u8; 14]) -> &[u8] {
         .required_mantissa_sign(true)
         .digit_grouping(3, b',')
         .build_strict();
-    1000000u32.to_lexical_with_options(buffer, &format, &Options::new())
+    let text = 1000000u32.to_lexical_with_options(buffer, &format, &Options::new());
+    text
 }
 
 /// Returns the year and the month, such as `2026-11`, which borrows the array.

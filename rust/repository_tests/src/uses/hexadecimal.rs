@@ -6,5 +6,6 @@ use cojimuran::parts::{Hex, Part};
 
 /// Returns `0x` and the number in radix 16, as a text that borrows the array.
 pub fn hexadecimal(number: u32, buffer: &mut [u8; 10]) -> &[u8] {
-    ("0x", Hex(number)).to_text(buffer)
+    let text = ("0x", Hex(number)).to_text(buffer);
+    text
 }

@@ -9,7 +9,7 @@ use std::io::{self, Write};
 /// Adds a line with a count and flags, such as `12 0xFF`, to the end of the log, or returns an error if
 /// memory runs out. Then the log is unchanged.
 pub fn push_line(log: &mut Vec<u8>, count: u32, flags: u16) -> Result<(), AllocError> {
-    repository_tests::runtime::extend(log, (count, " 0x", Hex(flags), "\n").to_text(&mut [0; 18]))
+    std::io::Write::write_all(log, (count, " 0x", Hex(flags), "\n").to_text(&mut [0; 18]))
 }
 
 /// Adds the line to a `String`, as `push_line` adds it to a `Vec`.

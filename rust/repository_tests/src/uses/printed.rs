@@ -15,13 +15,13 @@ pub fn printed(number: i32, buffer: &mut [u8; 11]) -> &str {
 
 /// Returns the flags in radix 16, after `0x` and at the right of a column of eight characters with `*` before them.
 /// The numbers of `format_spec` are the fill, the alignment to the right, no zeros, the width and no precision.
-pub fn flags_in_column(_alloc: Global, flags: u32) -> Result<String, AllocError> {
+pub fn flags_in_column(alloc: Global, flags: u32) -> Result<String, AllocError> {
     repository_tests::format_in!("0x{:*>8}", Hex(flags))
 }
 
 /// Returns an amount in a format.
 pub fn amount_string(
-    _alloc: Global,
+    alloc: Global,
     amount: i64,
     format: &NumberFormat,
 ) -> Result<String, AllocError> {

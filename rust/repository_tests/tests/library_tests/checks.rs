@@ -27,7 +27,12 @@ pub(crate) fn check_equal<R: Debug, T: PartialEq + Debug>(
 }
 
 // Checks that the buffer begins with the text, and that every byte after it is still 7.
-pub(crate) fn check_buffer<R: Copy + Debug>(rt: &impl Abort, row: R, buffer: &[u8], text: &[u8]) {
+pub(crate) fn check_buffer<R: Copy + Debug>(
+    rt: &impl Abort,
+    row: R,
+    buffer: &[u8],
+    text: &[u8],
+) {
     let is_unchanged = match buffer.strip_prefix(text) {
         Some(rest) => UNCHANGED.ends_with(rest),
         None => false,

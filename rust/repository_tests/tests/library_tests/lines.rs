@@ -6,7 +6,8 @@ use repository_tests::runtime::Abort;
 use std::str::FromStr;
 
 // Returns the number that the line begins with, and what follows the space after it.
-pub(crate) fn read<'a, F: FromStr>(rt: &impl Abort, line: &'a str) -> (F, &'a str) {
+pub(crate) fn read<'a, F: FromStr>(rt: &impl Abort, line: &'a str) -> (F, &'a str)
+{
     let (field, rest) = line.split_once(' ').expect(line);
     let number = field.parse::<F>().ok();
     (number.expect(line), rest)

@@ -11,9 +11,7 @@ use crate::lines::read;
 use crate::numbers::NUMBERS;
 use cojimuran::num::options::{Options, WriteOptions};
 use cojimuran::write_integer::format::STANDARD;
-use cojimuran::write_integer::{
-    NumberFormat, NumberFormatBuilder, ToLexical, ToLexicalWithOptions,
-};
+use cojimuran::write_integer::{NumberFormat, NumberFormatBuilder, ToLexical, ToLexicalWithOptions};
 use repository_tests::runtime::Abort;
 use std::fmt::Debug;
 use std::str::FromStr;
@@ -83,7 +81,8 @@ fn check_line<T: ToLexicalWithOptions + FromStr + Debug>(
     builder: NumberFormatBuilder,
     options: &T::Options,
     line: &str,
-) {
+)
+{
     let (radix, rest) = read::<u8>(rt, line);
     let (value, rest) = read::<T>(rt, rest);
     let (required, rest) = read::<usize>(rt, rest);
@@ -101,7 +100,8 @@ fn check_lines<T: ToLexicalWithOptions + FromStr + Debug>(
     builder: NumberFormatBuilder,
     options: &T::Options,
     lines: &str,
-) {
+)
+{
     for line in lines.lines() {
         check_line::<T>(rt, builder, options, line);
     }
@@ -112,7 +112,8 @@ fn try_number<T: ToLexicalWithOptions + FromStr + Debug>(
     rt: &impl Abort,
     options: &T::Options,
     text: &str,
-) -> bool {
+) -> bool
+{
     let Ok(value) = text.parse::<T>() else {
         return false;
     };
@@ -127,7 +128,8 @@ fn check_numbers<T: ToLexicalWithOptions + FromStr + Debug>(
     rt: &impl Abort,
     options: &T::Options,
     count: u32,
-) {
+)
+{
     let mut found = 0u32;
     for text in NUMBERS.split(' ') {
         found = found.wrapping_add(u32::from(try_number::<T>(rt, options, text)));

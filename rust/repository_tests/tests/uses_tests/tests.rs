@@ -21,16 +21,17 @@ use repository_tests::uses::arena::{have_same_kept_texts, keep_text};
 use repository_tests::uses::fixed_text::{million, year_month};
 use repository_tests::uses::float_parts::{float_format, write_parts};
 use repository_tests::uses::hexadecimal::hexadecimal;
+use std::fmt::Debug;
 use repository_tests::uses::identifier::{
-    have_same_identifier, identifier, is_sorted_before, link, sorted_identifier,
+    have_same_identifier, identifier, is_sorted_before, link,
+    sorted_identifier,
 };
 use repository_tests::uses::printed::printed;
 use repository_tests::uses::sorted_keys::{comes_before, is_earlier_key};
 use repository_tests::uses::tar_header::write_size;
 use repository_tests::uses::time_of_day::write_time;
-use std::fmt::Debug;
 
-// Checks that a value is the expected one.
+// Checks that a value is the expected one. A call is proved in less time than an `assert_eq!` of its own.
 fn check<T: Copy + PartialEq + Debug>(rt: &impl Abort, value: T, expected: T) {
     assert_eq!(value, expected);
 }

@@ -69,8 +69,7 @@ fn write_first(pair: u32, buffer: &mut [u8]) -> usize
 
 /// Writes the digits of the number that a fraction carries to the start of the buffer, and returns how
 /// many there are. They are the whole part of the fraction, which has one or two digits, and
-/// `pair_count` pairs after it. Each of these pairs takes one iteration, which records the product
-/// that `next2` computes.
+/// `pair_count` pairs after it. Each of these pairs takes one iteration, in which `next2` computes a product.
 pub(crate) fn write_pairs(
     fraction: u64,
     pair_count: usize,
@@ -96,34 +95,35 @@ pub(crate) fn write_pairs(
     count
 }
 
-// Writes the two digits of a number below 100 at index `at`, and records the number in the counter.
+// Writes the two digits of a number below 100 at index `at`.
 fn write_and_record_pair(pair: u32, buffer: &mut [u8], at: usize, turns: &mut Turns)
     requires pair { pair < 100 }
     requires room { at + 2 ≤ length buffer.old }
     ensures block { WritesBlock 10 2 pair at buffer.old buffer.new }
+    // The counter records the number.
     ensures notes { turns.new ≡ turns.old ++ pair ∷ [] }
 {
     RadixTable::<10>::new().write(pair, buffer, at);
     turns.tick(u64::from(pair));
 }
 
-// Writes a number below 10000 as four digits at index `at`, with leading zeros, and records each of
-// its two pairs in the counter. The last pair is first.
+// Writes a number below 10000 as four digits at index `at`, with leading zeros. The last pair is first.
 fn write_and_record_four(number: u32, buffer: &mut [u8], at: usize, turns: &mut Turns)
     requires number { number < 10 ^ 4 }
     requires room { at + 4 ≤ length buffer.old }
     ensures block { WritesBlock 10 4 number at buffer.old buffer.new }
+    // The counter records each of its two pairs.
     ensures notes { turns.new ≡ turns.old ++ pairs_from_back number 2 }
 {
     write_and_record_pair(number % 100, buffer, at + 2, turns);
     write_and_record_pair(number / 100, buffer, at, turns);
 }
 
-/// Writes the last ten digits of a number at index `at`, and records each of their five pairs in the
-/// counter. The last pair is first.
+/// Writes the last ten digits of a number at index `at`. The last pair is first.
 pub(crate) fn write_last_ten(number: u64, buffer: &mut [u8], at: usize, turns: &mut Turns)
     requires { at + 10 ≤ length buffer.old }
     ensures block { WritesBlock 10 10 (number % 10 ^ 10) at buffer.old buffer.new }
+    // The counter records each of their five pairs.
     ensures notes { turns.new ≡ turns.old ++ pairs_from_back number 5 }
 {
     let low = number % 10_000_000_000;

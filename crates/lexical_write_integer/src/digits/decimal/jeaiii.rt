@@ -4,11 +4,11 @@
 //! (<https://github.com/jeaiii/itoa>); Lemire, Kaser and Kurz, "Faster Remainder by Direct Computation"
 //! (2019), describe how digits are obtained from the fraction of a product with a reciprocal.
 //!
-//! Each `_counted` function writes what the function without that suffix writes, and records in `turns` what
-//! each iteration computes: one number for each pair of digits after the first, and at most 9.
-//!
-//! Examples of the writers are in `crates/library_tests/src/decimal_values.rt`, and of the kernels
-//! in `crates/library_tests/src/kernel_values.rt`.
+//! Each `_counted` function writes what the function without that suffix writes.
+
+// Each `_counted` function records in `turns` what an iteration computes: one number for each pair of digits after the
+// first, and at most 9. Examples of the writers are in `crates/library_tests/src/decimal_values.rt`, and
+// of the kernels in `crates/library_tests/src/kernel_values.rt`.
 #![tactic(auto, using(crate::proofs::OfDigits::Count::DigitCounts::widths), unfolding(crate::specs::Digits::DecimalTurns::decimal_notes_32))]
 
 ghost use Rattle.std.specs.Prelude.{◌+◌, ◌-◌, ◌/◌, ◌^◌, ◌<◌, ◌≤◌, length};
@@ -157,7 +157,7 @@ pub fn from_i64(n: u64, buffer: &mut [u8]) -> usize
     from_i64_counted(n, buffer, &mut Turns::new())
 }
 
-/// Writes the digits as `from_u8` does, under the same condition, and records its iterations.
+/// Writes the digits as `from_u8` does, under the same condition.
 pub fn from_u8_counted(n: u8, buffer: &mut [u8], turns: &mut Turns) -> usize
     requires { 3 ≤ length buffer.old }
     ensures writes { WritesDecimal n (decimal_notes_32 n) buffer.old buffer.new turns.old turns.new result }
@@ -167,7 +167,7 @@ pub fn from_u8_counted(n: u8, buffer: &mut [u8], turns: &mut Turns) -> usize
     write_32(u32::from(n), buffer, turns)
 }
 
-/// Writes the digits as `from_u16` does, under the same condition, and records its iterations.
+/// Writes the digits as `from_u16` does, under the same condition.
 pub fn from_u16_counted(n: u16, buffer: &mut [u8], turns: &mut Turns) -> usize
     requires { 5 ≤ length buffer.old }
     ensures writes { WritesDecimal n (decimal_notes_32 n) buffer.old buffer.new turns.old turns.new result }
@@ -177,7 +177,7 @@ pub fn from_u16_counted(n: u16, buffer: &mut [u8], turns: &mut Turns) -> usize
     write_32(u32::from(n), buffer, turns)
 }
 
-/// Writes the digits as `from_u32` does, under the same condition, and records its iterations.
+/// Writes the digits as `from_u32` does, under the same condition.
 pub fn from_u32_counted(n: u32, buffer: &mut [u8], turns: &mut Turns) -> usize
     requires { 10 ≤ length buffer.old }
     ensures writes { WritesDecimal n (decimal_notes_32 n) buffer.old buffer.new turns.old turns.new result }
@@ -187,7 +187,7 @@ pub fn from_u32_counted(n: u32, buffer: &mut [u8], turns: &mut Turns) -> usize
     write_32(n, buffer, turns)
 }
 
-/// Writes the digits as `from_u64` does, under the same condition, and records its iterations.
+/// Writes the digits as `from_u64` does, under the same condition.
 pub fn from_u64_counted(n: u64, buffer: &mut [u8], turns: &mut Turns) -> usize
     requires { 20 ≤ length buffer.old }
     ensures writes { WritesDecimal n (decimal_notes_64 n) buffer.old buffer.new turns.old turns.new result }
@@ -197,7 +197,7 @@ pub fn from_u64_counted(n: u64, buffer: &mut [u8], turns: &mut Turns) -> usize
     write_64(n, buffer, turns)
 }
 
-/// Writes the digits as `from_i64` does, under the same conditions, and records its iterations.
+/// Writes the digits as `from_i64` does, under the same conditions.
 pub fn from_i64_counted(n: u64, buffer: &mut [u8], turns: &mut Turns) -> usize
     requires number { n < 10 ^ 19 }
     requires room { 19 ≤ length buffer.old }

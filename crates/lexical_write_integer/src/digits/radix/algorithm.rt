@@ -1,8 +1,7 @@
 //! The table writer, which writes four digits per iteration from a table of the digit pairs of the radix, or in
 //! radix 2 eight, which it computes.
-//!
-//! `crates/library_tests/src/tables.rt` has examples.
 
+// `crates/library_tests/src/tables.rt` has examples.
 ghost use Rattle.std.specs.Prelude.{◌≡◌, ◌+◌, ◌≤◌, ◌++◌, IsTrue, length};
 ghost use Rattle.lexical_num.specs.Format.{IsRadix};
 ghost use Rattle.lexical_write_integer.specs.Buffer.{WritesDigits};
@@ -44,9 +43,7 @@ fn begins_with_pairs(radix: u32, table: &[u8]) -> bool
 }
 
 /// Writes the digits of the number to the start of the buffer, and returns how many there are. The radix is
-/// from 2 to 36, the table begins with the digit pairs of the radix, and the buffer has room for the
-/// digits. The counter records the quotient of each iteration of the digit count, which comes first, and of
-/// the writer: at most 21 in total.
+/// from 2 to 36, the table begins with the digit pairs of the radix, and the buffer has room for the digits.
 pub fn algorithm_counted<T: DigitCount>(
     value: T,
     radix: u32,
@@ -58,6 +55,7 @@ pub fn algorithm_counted<T: DigitCount>(
     requires table { BeginsWithPairs radix table.now }
     requires room { digit_count radix (T.magnitude value) ≤ length buffer.old }
     ensures digits { WritesDigits radix (T.magnitude value) buffer.old buffer.new result }
+    // The counter records the quotient of each iteration of the digit count, which comes first, and of the writer.
     ensures notes { turns.new ≡ turns.old ++ table_notes radix (T.magnitude value) }
     ensures turns { length turns.new ≡ length turns.old + table_turns radix result }
     ensures few_turns { length turns.new ≤ length turns.old + 21 }

@@ -37,7 +37,7 @@ fn record_up_to_eight(number: u32, turns: &mut Turns)
     first_pair::<2>(left, turns);
 }
 
-// Returns the number without its last eight digits, and records the quotients of both halves.
+// Returns the number without its last eight digits.
 fn remove_eight(value: u64, turns: &mut Turns) -> u64
     requires { 256 ≤ value }
     ensures left { result ≡ value / 256 }

@@ -1,7 +1,6 @@
 //! The compact writer, which writes one digit per iteration.
-//!
-//! `crates/library_tests/src/tables.rt` has examples.
 
+// `crates/library_tests/src/tables.rt` has examples.
 ghost use Rattle.std.specs.Prelude.{◌≡◌, ◌+◌, ◌/◌, ◌%◌, ◌<◌, ◌≤◌, ◌++◌, [], ◌∷◌, length, drop};
 ghost use Rattle.lexical_num.specs.Digit.{digit_char};
 ghost use Rattle.lexical_num.specs.Format.{IsRadix};
@@ -57,11 +56,12 @@ fn write_to_end<const RADIX: u32>(value: u64, buffer: &mut [u8], turns: &mut Tur
     index
 }
 
-// Writes the digits of a number to the start of the buffer. Returns how many there are, and what is recorded.
+// Writes the digits of a number to the start of the buffer. Returns how many there are.
 fn write_in_radix<const RADIX: u32>(value: u64, buffer: &mut [u8]) -> (usize, Turns)
     requires radix { IsRadix RADIX }
     requires room { digit_count RADIX value ≤ length buffer.old }
     ensures digits { WritesDigits RADIX value buffer.old buffer.new result.0 }
+    // The second part of the result is what a counter records.
     ensures notes { result.1 ≡ compact_notes RADIX value }
 {
     let mut turns = Turns::new();
@@ -82,8 +82,7 @@ fn write_in(value: u64, radix: u32, buffer: &mut [u8]) -> (usize, Turns)
 }
 
 /// Writes the digits of the number to the start of the buffer, and returns how many there are. The radix is
-/// from 2 to 36, and the buffer has room for the digits. There is one division for each digit after the
-/// first, and its quotient is recorded in the counter.
+/// from 2 to 36, and the buffer has room for the digits. There is one division for each digit after the first.
 pub fn compact_counted<T: UnsignedInteger>(
     value: T,
     radix: u32,
@@ -93,6 +92,7 @@ pub fn compact_counted<T: UnsignedInteger>(
     requires radix { IsRadix radix }
     requires room { digit_count radix (T.magnitude value) ≤ length buffer.old }
     ensures digits { WritesDigits radix (T.magnitude value) buffer.old buffer.new result }
+    // The counter records the quotient of each division.
     ensures notes { turns.new ≡ turns.old ++ compact_notes radix (T.magnitude value) }
     ensures turns { length turns.new ≡ length turns.old + compact_turns result }
     ensures short { result ≤ T.BITS }

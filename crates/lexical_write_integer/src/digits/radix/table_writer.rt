@@ -1,7 +1,7 @@
-// Writing the digits of a number, four at a time, from a table of the digit pairs of the radix. `written` is the
-// counter of the writer's loop. A writer that counts the digits by division records those quotients in a second
-// counter, `turns`.
+// Writing the digits of a number, four at a time, from a table of the digit pairs of the radix.
 
+// `written` is the counter of the writer's loop. A writer that counts the digits by division records those quotients in
+// a second counter, `turns`.
 ghost use Rattle.std.specs.Prelude.{◌≡◌, ◌+◌, ◌-◌, ◌*◌, ◌/◌, ◌%◌, ◌^◌, ◌<◌, ◌≤◌, ◌++◌, length};
 ghost use Rattle.lexical_num.specs.Format.{IsRadix};
 ghost use Rattle.lexical_write_integer.specs.Buffer.{WritesBlock, WritesDigits};
@@ -22,13 +22,14 @@ fn fourth_power(radix: u32) -> u64
     square * square
 }
 
-// Returns the number without its last four digits, and records this quotient.
+// Returns the number without its last four digits.
 pub(super) fn remove_four<const R: u32>(value: u64, written: &mut Turns) -> u64
     requires radix { IsRadix R }
     requires long { R ^ 4 ≤ value }
     ensures left { result ≡ value / R ^ 4 }
     ensures smaller { result < value }
     ensures digits { digit_count R result + 4 ≡ digit_count R value }
+    // The counter records this quotient.
     ensures written { written.new ++ loop_notes R result ≡ written.old ++ loop_notes R value }
 {
     let left = value / fourth_power(R);
@@ -58,11 +59,12 @@ fn write_four<const R: u32>(number: u32, table: RadixTable<'_, R>, buffer: &mut 
     table.write(number / square, four, 0);
 }
 
-// Returns the digits before the last two of a number of up to four digits, and records them if there are any.
+// Returns the digits before the last two of a number of up to four digits.
 pub(super) fn first_pair<const R: u32>(number: u32, turns: &mut Turns) -> u32
     requires radix { IsRadix R }
     requires short { number < R ^ 4 }
     ensures pair { result ≡ number / (R * R) }
+    // The counter records them if there are any.
     ensures notes { turns.new ≡ turns.old ++ loop_notes R number }
 {
     let pair = number / (R * R);
@@ -171,14 +173,8 @@ fn count_and_write_up_to_four<const R: u32>(
     ensures written { written.new ≡ written.old ++ loop_notes R number }
 {
     let count = count_up_to_four::<R>(number, turns);
-    write_up_to_four(
-        number,
-        count,
-        count.saturating_sub(2),
-        table,
-        buffer,
-        written,
-    );
+    let third = count.saturating_sub(2);
+    write_up_to_four(number, count, third, table, buffer, written);
     count
 }
 

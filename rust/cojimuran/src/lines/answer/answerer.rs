@@ -14,8 +14,8 @@ const NEWLINE: u8 = b'\n';
 /// line requests, or `bad line` and the number of the line; the documentation of `run` has the details.
 /// An answerer writes the answer to a sink as soon as it gets the newline that ends the line.
 ///
-/// An answerer keeps the line that has not ended yet, the number of that line, and whether all
-/// lines before it are valid. It must not be used again after an error.
+/// An answerer keeps the line that has not ended yet, the number of that line, and whether all lines
+/// before it are valid. It must not be used again after an error.
 pub struct Answerer {
     line: Line,
     line_number: u64,

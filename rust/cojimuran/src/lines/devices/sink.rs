@@ -18,8 +18,8 @@ pub trait BlockSink: ByteSink {
     fn flush(&mut self) -> io::Result<()>;
 }
 
-/// Writes all bytes to the sink, and stops at its first failure. Returns how many bytes the sink
-/// has taken, and an error if it failed.
+/// Writes all bytes to the sink, and stops at its first failure. Returns how many bytes the sink has
+/// taken, and an error if it failed.
 #[inline]
 pub fn put_all<K: ByteSink>(sink: &mut K, bytes: &[u8]) -> (usize, io::Result<()>) {
     let mut taken = 0;

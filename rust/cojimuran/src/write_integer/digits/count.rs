@@ -46,8 +46,8 @@ fn take_digits<T: UnsignedInteger>(value: T, radix: u32, step: u32) -> (T, usize
     (left, taken)
 }
 
-/// Returns how many digits the number has. They are counted by division: four per iteration while
-/// more than four are left, then two, and then one. The radix is from 2 to 36.
+/// Returns how many digits the number has. They are counted by division: four per iteration while more
+/// than four are left, then two, and then one. The radix is from 2 to 36.
 ///
 /// # Panics
 ///
@@ -70,9 +70,8 @@ pub(crate) fn counts_at_once(radix: u32) -> bool {
     radix == 2 || radix == 4 || radix == 8 || radix == 10 || radix == 16 || radix == 32
 }
 
-/// Returns how many digits the number has. They are counted from the highest set bit if the radix
-/// is a power of 2, by `decimal_count` in radix 10, and otherwise by division. The radix is from 2
-/// to 36.
+/// Returns how many digits the number has. They are counted from the highest set bit if the radix is a
+/// power of 2, by `decimal_count` in radix 10, and otherwise by division. The radix is from 2 to 36.
 ///
 /// # Panics
 ///

@@ -33,8 +33,8 @@ pub trait Decimal: DecimalCount {
     ///
     /// # Panics
     ///
-    /// If the number is 10^19 or above, or if the buffer is too short, except perhaps when the text
-    /// fits.
+    /// If the number is 10^19 or above,
+    /// or if the buffer is too short, except perhaps when the text fits.
     #[inline(always)]
     fn decimal_signed(self, buffer: &mut [u8]) -> usize {
         let number = self.as_usize() as u64;

@@ -19,8 +19,8 @@ use table_writer::{
     count_and_write_more, count_and_write_up_to_eight, eighth_power, write_after_count,
 };
 
-// Writes a number in the radix `R`, with a table that begins with the digit pairs of that radix:
-// after the count of the digits if that needs no division, and otherwise while they are counted.
+// Writes a number in the radix `R`, with a table that begins with the digit pairs of that radix: after the count of
+// the digits if that needs no division, and otherwise while they are counted.
 #[inline(always)]
 fn write_digits<T: UnsignedInteger, const R: u32>(
     value: T,
@@ -48,8 +48,8 @@ fn write_by_table<T: UnsignedInteger, const R: u32>(value: T, buffer: &mut [u8])
     write_digits::<T, R>(value, get_table(R), buffer)
 }
 
-// Writes the digits with the table of the radix. The radix is looked at only once, since the code
-// of each radix names its table.
+// Writes the digits with the table of the radix. The radix is looked at only once, since the code of each radix names
+// its table.
 #[cfg_attr(feature = "inline-more", inline(always))]
 #[cfg_attr(not(feature = "inline-more"), inline)]
 fn write_in_radix<T: UnsignedInteger>(value: T, radix: u32, buffer: &mut [u8]) -> usize {
@@ -75,8 +75,8 @@ pub trait Radix: UnsignedInteger {
     ///
     /// # Panics
     ///
-    /// If the radix is not from 2 to 36, or if the buffer is too short, except perhaps when the text
-    /// fits.
+    /// If the radix is not from 2 to 36,
+    /// or if the buffer is too short, except perhaps when the text fits.
     #[inline(always)]
     fn radix(self, radix: u32, buffer: &mut [u8]) -> usize {
         algorithm(self, radix, get_table(radix), buffer)

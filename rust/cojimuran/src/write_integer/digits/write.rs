@@ -26,14 +26,13 @@ fn write_numeral<T: UnsignedInteger>(
     }
 }
 
-/// Writes the digits of the number to the start of the buffer, and returns how many there are. The
-/// radix is from 2 to 36. The buffer has room for `DECIMAL_WIDTH` bytes in radix 10, and for the
-/// digits in another radix.
+/// Writes the digits of the number to the start of the buffer, and returns how many there are. The radix is
+/// from 2 to 36. The buffer has room for `DECIMAL_WIDTH` bytes in radix 10, and for the digits in another radix.
 ///
 /// # Panics
 ///
-/// If the radix is not from 2 to 36, or if the buffer is too short, except perhaps when the text
-/// fits.
+/// If the radix is not from 2 to 36,
+/// or if the buffer is too short, except perhaps when the text fits.
 #[doc(hidden)]
 #[inline(always)]
 pub fn write_integer_counted<T: Decimal + DigitCount>(
@@ -55,8 +54,8 @@ pub trait WriteInteger: Decimal + Radix {
     ///
     /// # Panics
     ///
-    /// If the radix is not from 2 to 36, or if the buffer is too short, except perhaps when the text
-    /// fits.
+    /// If the radix is not from 2 to 36,
+    /// or if the buffer is too short, except perhaps when the text fits.
     #[inline(always)]
     fn write_integer(self, radix: u32, buffer: &mut [u8]) -> usize {
         write_integer_counted(self, radix, buffer)
@@ -66,8 +65,9 @@ pub trait WriteInteger: Decimal + Radix {
     ///
     /// # Panics
     ///
-    /// If the radix is not from 2 to 36, or if the radix is 10 and the number is 10^19 or above, or if
-    /// the buffer is too short, except perhaps when the text fits.
+    /// If the radix is not from 2 to 36,
+    /// or if the radix is 10 and the number is 10^19 or above,
+    /// or if the buffer is too short, except perhaps when the text fits.
     #[inline(always)]
     fn write_integer_signed(self, radix: u32, buffer: &mut [u8]) -> usize {
         let number = self.as_usize() as u64;

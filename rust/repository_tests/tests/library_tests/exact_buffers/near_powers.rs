@@ -129,7 +129,8 @@ fn try_grouped_type<T: ToLexicalWithOptions + FromStr + Debug>(
     rt: &impl Abort,
     ends: [u64; 2],
     options: &T::Options,
-) -> usize {
+) -> usize
+{
     try_groups::<T>(rt, ends, 1, options)
         + try_groups::<T>(rt, ends, 2, options)
         + try_groups::<T>(rt, ends, 3, options)
@@ -142,7 +143,8 @@ fn try_type<T: ToLexicalWithOptions + FromStr + Debug>(
     rt: &impl Abort,
     ends: [u64; 2],
     options: &T::Options,
-) -> usize {
+) -> usize
+{
     let builder = NumberFormatBuilder::new();
     let mut tried = 0;
     for radix in 2..37u8 {
@@ -157,7 +159,8 @@ fn check_type<T: ToLexicalWithOptions + FromStr + Debug>(
     options: &T::Options,
     ends: [u64; 2],
     expected: [usize; 2],
-) {
+)
+{
     let tried = [
         try_type::<T>(rt, ends, options),
         try_grouped_type::<T>(rt, ends, options),

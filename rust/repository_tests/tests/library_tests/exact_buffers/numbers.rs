@@ -10,7 +10,8 @@ use std::str::FromStr;
 
 // Returns the number of the type with this sign and magnitude, if there is one. No number has the sign `-` and
 // the magnitude 0.
-pub(crate) fn number<T: FromStr>(is_negative: bool, magnitude: u64) -> Option<T> {
+pub(crate) fn number<T: FromStr>(is_negative: bool, magnitude: u64) -> Option<T>
+{
     if is_negative && magnitude == 0 {
         return None;
     }

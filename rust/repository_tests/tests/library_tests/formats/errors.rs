@@ -8,7 +8,6 @@ use cojimuran::num::error::Error;
 use cojimuran::num::format::NumberFormat;
 use cojimuran::num::format_builder::NumberFormatBuilder;
 use repository_tests::runtime::Abort;
-use repository_tests::runtime::InlineText;
 
 // Checks the text of the error of a build.
 pub(crate) fn check_error(
@@ -17,7 +16,7 @@ pub(crate) fn check_error(
     built: Result<NumberFormat, Error>,
     message: &str,
 ) {
-    let text = InlineText::<32>::of(built.err().expect(row));
+    let text = ToString::to_string(&built.err().expect(row));
     check_equal(rt, row, text.as_str(), message);
 }
 

@@ -20,7 +20,9 @@ impl ByteSink for CountingSink {
 
 // Returns the length of the answers.
 fn answers_exist(input: &[u8]) -> usize {
-    let mut sink = CountingSink { count: 0 };
+    let mut sink = CountingSink {
+        count: 0,
+    };
     let _all_good = run(&mut SliceSource::new(input), &mut sink);
     sink.count
 }

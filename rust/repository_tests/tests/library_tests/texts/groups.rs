@@ -41,7 +41,8 @@ fn groups_of_other_sizes() {
     let words = builder.digit_grouping(4, b' ');
     check_lines::<u32>(&rt, words, &options, "16 3735928559 9 64 DEAD BEEF");
     let long = builder.digit_grouping(64, b'_');
-    let line = "2 18446744073709551615 64 128 1111111111111111111111111111111111111111111111111111111111111111";
+    let line =
+        "2 18446744073709551615 64 128 1111111111111111111111111111111111111111111111111111111111111111";
     check_lines::<u64>(&rt, long, &options, line);
 }
 

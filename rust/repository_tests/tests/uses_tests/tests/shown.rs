@@ -7,7 +7,7 @@ use cojimuran::parts::{Binary, Decimal, Formatted, Hex, Plus};
 use cojimuran::write_integer::NumberFormatBuilder;
 use repository_tests::runtime::Abort;
 use repository_tests::runtime::Fail;
-use repository_tests::runtime::{Alloc, Global};
+use repository_tests::runtime::Global;
 use repository_tests::uses::csv_row::push_entries;
 use repository_tests::uses::log_lines::{push_line, push_str_line, write_line};
 use repository_tests::uses::printed::{amount_string, flags_in_column};
@@ -15,7 +15,7 @@ use std::fmt::Display;
 use std::io::{self, Write};
 
 // Checks what a format string with its parts, which `format_args!` joins, prints.
-fn check_shown<D: Display>(rt: &impl Abort, _alloc: Global, shown: D, text: &str) {
+fn check_shown<D: Display>(rt: &impl Abort, alloc: Global, shown: D, text: &str) {
     let printed = repository_tests::format_in!("{}", shown).expect(text);
     check(rt, printed.as_str(), text);
 }

@@ -8,7 +8,7 @@ use cojimuran::streams::answer_reader;
 use repository_tests::runtime::Global;
 
 // Returns the exit status, and the answers to the lines of a slice.
-fn answered(_alloc: Global, bytes: &[u8]) -> (u8, Vec<u8>) {
+fn answered(alloc: Global, bytes: &[u8]) -> (u8, Vec<u8>) {
     let mut writer = BlockWriter::<_, 7>::new(Writing::new(Vec::new()));
     let status = answer_reader(bytes, &mut writer);
     (status, writer.into_inner().into_inner())

@@ -7,13 +7,14 @@ use cojimuran::parts::{Binary, Decimal, Formatted, Hex, Plus};
 use cojimuran::write_integer::format::STANDARD;
 use cojimuran::write_integer::radix::Radix;
 use cojimuran::write_integer::{NumberFormatBuilder, ToLexicalWithOptions};
+// The second name is that of an allocator which is passed on: without the runtime of Rattle there is no other.
 use repository_tests::runtime::Abort;
 use repository_tests::runtime::{Global, Global as Allocator};
 use std::fmt::Display;
 
 // Checks what a part prints in a column of each width up to three more than its text. With an alignment this is what
 // both an integer and a string print; without one a part is padded at the left, like an integer.
-fn check_widths<D: Display>(rt: &impl Abort, _alloc: Global, part: &D, text: &str) {
+fn check_widths<D: Display>(rt: &impl Abort, alloc: Global, part: &D, text: &str) {
     let last = text.len().saturating_add(3);
     for width in 0..=last {
         let shown = repository_tests::format_in!("{part:*<width$}|{part:*^width$}").expect(text);

@@ -47,9 +47,9 @@ fn write_first(pair: u32, buffer: &mut [u8]) -> usize {
     1 + (pair >= 10) as usize
 }
 
-/// Writes the digits of the number that a fraction carries to the start of the buffer, and returns
-/// how many there are. They are the whole part of the fraction, which has one or two digits, and
-/// `pair_count` pairs after it. Each of these pairs takes one iteration.
+/// Writes the digits of the number that a fraction carries to the start of the buffer, and returns how
+/// many there are. They are the whole part of the fraction, which has one or two digits, and
+/// `pair_count` pairs after it. Each of these pairs takes one iteration, in which `next2` computes a product.
 #[inline(always)]
 pub(crate) fn write_pairs(fraction: u64, pair_count: usize, buffer: &mut [u8]) -> usize {
     let mut count = write_first((fraction >> 32) as u32, buffer);
@@ -69,8 +69,7 @@ fn write_and_record_pair(pair: u32, buffer: &mut [u8], at: usize) {
     RadixTable::<10>::new().write(pair, buffer, at);
 }
 
-// Writes a number below 10000 as four digits at index `at`, with leading zeros. The last pair is
-// first.
+// Writes a number below 10000 as four digits at index `at`, with leading zeros. The last pair is first.
 #[inline(always)]
 fn write_and_record_four(number: u32, buffer: &mut [u8], at: usize) {
     write_and_record_pair(number % 100, buffer, at + 2);

@@ -129,8 +129,8 @@ pub fn from_u64(n: u64, buffer: &mut [u8]) -> usize {
 ///
 /// # Panics
 ///
-/// If the number is 10^19 or above, or if the buffer is too short, except perhaps when the text
-/// fits.
+/// If the number is 10^19 or above,
+/// or if the buffer is too short, except perhaps when the text fits.
 #[inline(always)]
 pub fn from_i64(n: u64, buffer: &mut [u8]) -> usize {
     from_i64_counted(n, buffer)

@@ -27,14 +27,13 @@ fn begins_with_pairs(radix: u32, table: &[u8]) -> bool {
     table.len() >= pair * radix as usize && table[pair] == b'1' && table[pair + 1] == b'0'
 }
 
-/// Writes the digits of the number to the start of the buffer, and returns how many there are. The
-/// radix is from 2 to 36, the table begins with the digit pairs of the radix, and the buffer has
-/// room for the digits.
+/// Writes the digits of the number to the start of the buffer, and returns how many there are. The radix is
+/// from 2 to 36, the table begins with the digit pairs of the radix, and the buffer has room for the digits.
 ///
 /// # Panics
 ///
-/// If the radix is not from 2 to 36, or if the buffer is too short, except perhaps when the text
-/// fits.
+/// If the radix is not from 2 to 36,
+/// or if the buffer is too short, except perhaps when the text fits.
 #[doc(hidden)]
 #[inline]
 pub fn algorithm_counted<T: DigitCount>(
@@ -53,8 +52,9 @@ pub fn algorithm_counted<T: DigitCount>(
 ///
 /// # Panics
 ///
-/// If the radix is not from 2 to 36, or if the table does not begin with the digit pairs of the
-/// radix, or if the buffer is too short, except perhaps when the text fits.
+/// If the radix is not from 2 to 36,
+/// or if the table does not begin with the digit pairs of the radix,
+/// or if the buffer is too short, except perhaps when the text fits.
 #[inline]
 pub fn algorithm<T: DigitCount>(value: T, radix: u32, table: &[u8], buffer: &mut [u8]) -> usize {
     algorithm_counted(value, radix, table, buffer)

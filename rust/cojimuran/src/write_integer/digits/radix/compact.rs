@@ -55,14 +55,13 @@ fn write_in(value: u64, radix: u32, buffer: &mut [u8]) -> usize {
     by_radix!(radix, write_in_radix(value, buffer))
 }
 
-/// Writes the digits of the number to the start of the buffer, and returns how many there are. The
-/// radix is from 2 to 36, and the buffer has room for the digits. There is one division for each
-/// digit after the first.
+/// Writes the digits of the number to the start of the buffer, and returns how many there are. The radix is
+/// from 2 to 36, and the buffer has room for the digits. There is one division for each digit after the first.
 ///
 /// # Panics
 ///
-/// If the radix is not from 2 to 36, or if the buffer is too short, except perhaps when the text
-/// fits.
+/// If the radix is not from 2 to 36,
+/// or if the buffer is too short, except perhaps when the text fits.
 #[doc(hidden)]
 #[inline]
 pub fn compact_counted<T: UnsignedInteger>(value: T, radix: u32, buffer: &mut [u8]) -> usize {
@@ -76,8 +75,8 @@ pub trait Compact: UnsignedInteger + FormattedSize {
     ///
     /// # Panics
     ///
-    /// If the radix is not from 2 to 36, or if the buffer is too short, except perhaps when the text
-    /// fits.
+    /// If the radix is not from 2 to 36,
+    /// or if the buffer is too short, except perhaps when the text fits.
     #[inline]
     fn compact(self, radix: u32, buffer: &mut [u8]) -> usize {
         compact_counted(self, radix, buffer)

@@ -109,7 +109,8 @@ fn count_and_write_up_to_four<const R: u32>(
     buffer: &mut [u8],
 ) -> usize {
     let count = count_up_to_four::<R>(number);
-    write_up_to_four(number, count, count.saturating_sub(2), table, buffer);
+    let third = count.saturating_sub(2);
+    write_up_to_four(number, count, third, table, buffer);
     count
 }
 
