@@ -8,7 +8,7 @@ use Rattle.lexical_write_integer.specs.Sequence.{IsExactly}
 use Rattle.lexical_write_integer.specs.Text.{IsDigits, IsText}
 use Rattle.lexical_parts.specs.Sequence.{◌then◌, IsStr}
 
--- the point and this many digits of the fraction, or no bytes if there are no digits
+-- the point and this many digits of the fraction, or no bytes if there are none
 abbrev pub IsFraction : ℕ → ℕ → List ℕ → Type 0
 IsFraction zero units = IsExactly []
 IsFraction (suc decimals) units = IsStr "." then IsPadded 10 (suc decimals) units

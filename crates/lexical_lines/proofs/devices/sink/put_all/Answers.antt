@@ -4,7 +4,7 @@ use lib.Seq.{take-add, take-take}
 use Rattle.lexical_lines.specs.Sink.{put_failures}
 use Rattle.lexical_lines.proofs.devices.sink.put_all.Goals as goal
 
--- a call that takes some bytes is no failure
+-- a call that takes some bytes is not a failure
 some-taken : (count : ℕ) (bytes : List ℕ) → (count ≡ 0 → ⊥) → put_failures {E = ℕ} (Ok count) bytes ≡ 0
 some-taken zero bytes some = absurd (some refl)
 some-taken (suc count) bytes some = refl

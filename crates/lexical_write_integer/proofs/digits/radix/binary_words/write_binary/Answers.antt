@@ -45,10 +45,11 @@ loop-at-preserved c =
     let order : 8 + (count - c.loop-at.at) ≡ count - (c.loop-at.at - 8) = omega (arith, c.loop-at-test.true, c.loop-at.invariant.within) in
     let place : c.loop-at.at ≡ c.loop-at.at - 8 + 8 = omega (arith, c.loop-at-test.true) in
     let written = IsWrittenBack-at place c.loop-at.invariant.written in
+    let long_left = long (goal.at.loop-at-preserved c).In-loop-at in
     record {
       noted = c.remove_eight-left.ensures.notes ∙ c.loop-at.invariant.noted;
       written = rw order at
-          (IsWrittenBack-more {step = 8} (omega arith) (long (goal.at.loop-at-preserved c).In-loop-at) c.remove_eight-left.ensures.left written c.write_eight_bits.ensures);
+          (IsWrittenBack-more {step = 8} (omega arith) long_left c.remove_eight-left.ensures.left written c.write_eight_bits.ensures);
       more = omega (arith, c.loop-at-test.true);
       within = omega (arith, c.loop-at.invariant.within);
       room = c.write_eight_bits.auto.buffer ∙ c.loop-at.invariant.room;
@@ -60,11 +61,11 @@ count_left : (c : After-loop-at) → digit_count 2 c.loop-at.left ≡ c.loop-at.
 count_left c =
     IsWrittenBack-left (omega arith) c.digit_count_counted-count.ensures.count c.loop-at.invariant.within c.loop-at.invariant.written
 
-long_left : (c : After-loop-at) → 2 ^ 8 ≤ c.loop-at.left
-long_left c = longer-than 2 c.loop-at.left 8 (omega arith) (omega (arith, count_left c, c.loop-at.invariant.more))
+long_after : (c : After-loop-at) → 2 ^ 8 ≤ c.loop-at.left
+long_after c = longer-than 2 c.loop-at.left 8 (omega arith) (omega (arith, count_left c, c.loop-at.invariant.more))
 
 pub remove_eight-rest-requires : goal.remove_eight-rest-requires
-remove_eight-rest-requires c = omega (arith, long_left (goal.at.remove_eight-rest-requires c).After-loop-at)
+remove_eight-rest-requires c = omega (arith, long_after (goal.at.remove_eight-rest-requires c).After-loop-at)
 
 rest_short : (left end rest : ℕ) → rest ≡ left / 2 ^ 8 → digit_count 2 left ≡ end → end ≤ 16 → rest < 256
 rest_short left end rest is counts few = omega (arith, is, fits-within 2 left 16 (omega arith) (omega (arith, counts, few)))
