@@ -8,3 +8,5 @@ pub mod TextLengths
 pub mod WrittenTexts
 -- a change of both ends of a list
 pub mod Halves
+-- digits in radix 16 in lowercase, which are written from the last
+pub mod Hexadecimals

@@ -1,14 +1,32 @@
 //! The integer types whose numbers are written.
 
-ghost use Rattle.std.specs.Prelude.{◌≡◌};
+ghost use Rattle.std.specs.Prelude.{◌≡◌, unsigned_abs};
 
 use lexical_write_integer::ToLexicalWithOptions;
 
+/// An integer type of 64 bits. Two copies are made of code for these types, in place of nine.
+pub trait WideInteger: ToLexicalWithOptions {
+    /// Returns the absolute value of the number.
+    fn magnitude(self) -> u64
+        ensures { result ≡ unsigned_abs (Self.number self) };
+}
+
+impl WideInteger for isize {
+    fn magnitude(self) -> u64 {
+        self.unsigned_abs() as u64
+    }
+}
+
+impl WideInteger for usize {
+    fn magnitude(self) -> u64 {
+        self as u64
+    }
+}
+
 /// An integer type that C passes, of at most 64 bits.
 pub trait CInteger: ToLexicalWithOptions {
-    /// A type of 64 bits that has its numbers: `isize` if it has them. Two copies are made of code for these types, in
-    /// place of nine.
-    type Wide: ToLexicalWithOptions;
+    /// A type of 64 bits that has its numbers: `isize` if it has them.
+    type Wide: WideInteger;
 
     /// Returns the same number.
     fn widen(self) -> Self::Wide

@@ -14,6 +14,7 @@ mod buffer_size;
 mod decimal;
 mod format;
 mod general;
+mod hexadecimal;
 mod integer;
 mod length;
 mod plain;

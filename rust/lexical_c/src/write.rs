@@ -6,6 +6,7 @@
 use crate::decimal::write_decimal;
 use crate::format::CFormat;
 use crate::general::write_if_it_fits;
+use crate::hexadecimal::write_hexadecimal;
 use crate::integer::CInteger;
 use crate::plain::{
     fitting_format, has_letters, has_only_radix, has_only_radix_and_case, set_lowercase_bit,
@@ -31,6 +32,8 @@ fn write_other<T: CInteger>(value: T, format: &CFormat, buffer: &mut [u8]) -> us
         write_if_it_fits(value.widen(), format, buffer)
     } else if !has_letters(format) {
         write_digits(value, format, buffer)
+    } else if format.radix == 16 {
+        write_hexadecimal(value.widen(), buffer)
     } else if T::IS_SIGNED {
         write_signed_in_lowercase(value, format, buffer)
     } else {

@@ -105,7 +105,7 @@ pub(crate) const FOR_C: Replaced = &[
     ("#[unsafe(no_mangle)]\npub extern \"C\" fn lexical_write_", "pub fn lexical_write_"),
     ("#[unsafe(no_mangle)]\npub extern \"C\" fn lexical_decimal_", "pub fn lexical_decimal_"),
     // Only contracts use it.
-    ("use lexical_num::format::STANDARD;\n", ""),
+    ("CInteger;\nuse lexical_num::format::STANDARD;", "CInteger;"),
     // With its brace this is too long for one line.
     (
         "fn write_uppercase<T: ToLexicalWithOptions>(value: T, format: &CFormat, buffer: &mut [u8])",
