@@ -48,36 +48,13 @@ pub fn fitting_format<T: FormattedSize, const LETTERS: bool>(
     }
 }
 
-// Sets the bit 32 in each byte of a text.
+/// Sets the bit 32 in each byte of a text. Of the bytes of digits and signs only uppercase letters lack this bit, which
+/// is all that distinguishes them from lowercase letters.
 #[inline(always)]
-fn set_bit(text: &mut [u8]) {
+pub fn set_lowercase_bit(text: &mut [u8]) {
     for byte in text.iter_mut() {
         *byte |= 32;
     }
-}
-
-// Sets the bit in the first `SIZE` bytes of a text and in the last `SIZE`, which together are all bytes. If they
-// overlap, the bit is set twice. A compiler makes one operation of a constant number of bytes.
-#[inline(always)]
-fn set_bit_in_halves<const SIZE: usize>(text: &mut [u8]) {
-    set_bit(&mut text[..SIZE]);
-    let start = text.len() - SIZE;
-    set_bit(&mut text[start..]);
-}
-
-/// Sets the bit 32 in each byte of a text, and returns its length. Of the bytes of digits and signs only
-/// uppercase letters lack this bit, which is all that distinguishes them from lowercase letters. The text must not
-/// be empty.
-#[inline(always)]
-pub fn set_lowercase_bit(text: &mut [u8]) -> usize {
-    match text.len() {
-        0..=2 => set_bit_in_halves::<1>(text),
-        3..=4 => set_bit_in_halves::<2>(text),
-        5..=8 => set_bit_in_halves::<4>(text),
-        9..=16 => set_bit_in_halves::<8>(text),
-        _ => set_bit(text),
-    }
-    text.len()
 }
 
 /// Writes a number to the start of the buffer, and returns the length of the text. The format must have

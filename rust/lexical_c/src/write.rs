@@ -34,8 +34,6 @@ fn write_other<T: CInteger>(value: T, format: &CFormat, buffer: &mut [u8]) -> us
         write_digits(value, format, buffer)
     } else if format.radix == 16 {
         write_hexadecimal(value.widen(), buffer)
-    } else if T::IS_SIGNED {
-        write_signed_in_lowercase(value, format, buffer)
     } else {
         write_in_lowercase(value, format, buffer)
     }
@@ -61,24 +59,19 @@ fn write_in_radix<T: CInteger>(value: T, format: &CFormat, buffer: &mut [u8]) ->
     }
 }
 
-// Does what `write` does in a format that has only a radix and lowercase.
+// Does what `write` does in a format that has only a radix and lowercase. It is cold too: otherwise the calls without
+// letters would save registers for it.
 #[cold]
+#[inline]
 fn write_in_lowercase<T: CInteger>(value: T, format: &CFormat, buffer: &mut [u8]) -> usize {
     match fitting_format::<T, true>(format.radix, buffer.len()) {
         Some(plain) => {
             let count = write_plain(value, &plain, buffer);
-            set_lowercase_bit(&mut buffer[..count])
+            set_lowercase_bit(&mut buffer[..count]);
+            count
         }
         None => write_if_it_fits(value.widen(), format, buffer),
     }
-}
-
-// Does what `write_in_lowercase` does. It is cold too: with the code for the sign, the calls without letters
-// would save registers for it.
-#[cold]
-#[inline]
-fn write_signed_in_lowercase<T: CInteger>(value: T, format: &CFormat, buffer: &mut [u8]) -> usize {
-    write_in_lowercase(value, format, buffer)
 }
 
 /// Writes a `uint8_t` to the buffer, and returns the length of its text, or 0 if it is refused.

@@ -173,9 +173,7 @@ pub(crate) const SOURCES: &[Source] = &[
         name: "lexical_c",
         folder: "lexical_c/src",
         attributes: &[
-            // If rustc inlined the first, the calls without letters would save registers for it, and the second would
-            // be in the code of each type twice.
-            ("#[cold]", "write_in_lowercase"),
+            // If rustc inlined it, it would be in the code of each type twice.
             ("#[inline(never)]", "write_digits"),
             // If the length of the buffer is known to suffice, the writers have fewer checks.
             ("#[inline(always)]", "plain.rt"),

@@ -1,17 +1,10 @@
-use Rattle.std.proofs.Common.{ℕ, refl, sym, ◌∙◌, arith, length-take}
+use Rattle.std.proofs.Common.{refl, sym, ◌∙◌}
 use Rattle.lexical_num.proofs.Magnitudes.{magnitude-small}
 use Rattle.lexical_write_integer.proofs.Buffers.Prefixes.{Writes-is}
 use Rattle.lexical_c.proofs.Letters.{lowered-IsText}
 use Rattle.lexical_c.proofs.PlainTexts.{only_radix, accepted}
-use Rattle.lexical_c.proofs.WrittenTexts.{count-length, some-written, written, in_lowercase}
+use Rattle.lexical_c.proofs.WrittenTexts.{written, in_lowercase}
 use Rattle.lexical_c.proofs.write.write_in_lowercase.Goals as goal
-
-pub set_lowercase_bit-requires : goal.set_lowercase_bit-requires
-set_lowercase_bit-requires g c =
-    let only = c.requires.only in
-    let text = rw (c.in-Some.ensures.format ∙ sym (only_radix _ only)) at c.write_plain-count.ensures in
-    let some = some-written _ _ _ _ _ (accepted _ only c.in-Some.ensures.radix).valid text in
-    omega (arith, some, length-take {A = ℕ}, c.write_plain-count.auto.buffer)
 
 pub returns-in-Some : goal.returns-in-Some
 returns-in-Some g c =
@@ -20,5 +13,5 @@ returns-in-Some g c =
     let small = magnitude-small _ g.met.T.LexicalInteger.bit_width _ range.at_least range.at_most in
     let text = rw (c.in-Some.ensures.format ∙ sym (only_radix _ only)) at c.write_plain-count.ensures in
     let lower = lowered-IsText _ _ _ c.in-Some.ensures.radix.at_most_36 (rw only.groups refl) (Writes-is _ _ _ text) in
-    rw (c.set_lowercase_bit.ensures.count ∙ sym (count-length _ _ _ text)) (in_lowercase _ c.args.format.now _ _ _ _ c.requires.lowercase
-    (written _ c.args.format.now _ _ _ (accepted _ only c.in-Some.ensures.radix) small text) (c.set_lowercase_bit.ensures.set ∙ lower))
+    in_lowercase _ c.args.format.now _ _ _ _ c.requires.lowercase
+    (written _ c.args.format.now _ _ _ (accepted _ only c.in-Some.ensures.radix) small text) (c.set_lowercase_bit.ensures ∙ lower)
