@@ -1,14 +1,13 @@
 //! Writes a number in radix 16 in lowercase.
 
-ghost use Rattle.std.specs.Prelude.{◌≡◌, ◌%◌, ◌<◌, ◌≤◌, ◌↔◌, length};
+ghost use Rattle.std.specs.Prelude.{◌≡◌, ◌%◌, ◌<◌, ◌≤◌, ◌↔◌, length, map};
 ghost use Rattle.std.specs.Char.{to_ascii_lowercase};
 ghost use Rattle.lexical_num.specs.Digit.{digit_char};
 ghost use Rattle.lexical_num.specs.Format.{standard};
 ghost use Rattle.lexical_write_integer.specs.Buffer.{Writes};
-ghost use Rattle.lexical_write_integer.specs.Computed.{text_of};
-ghost use Rattle.lexical_write_integer.specs.DigitCount.{digit_count};
+ghost use Rattle.lexical_write_integer.specs.Computed.{padded_text, text_of};
 ghost use Rattle.lexical_write_integer.specs.Lowercase.{IsLowercase};
-ghost use Rattle.lexical_write_integer.specs.Text.{IsDigits, IsText};
+ghost use Rattle.lexical_write_integer.specs.Text.{IsText};
 
 use crate::integer::WideInteger;
 use lexical_num::format::STANDARD;
@@ -25,11 +24,11 @@ fn last_character(number: u64) -> u8
     CHARACTERS[(number % 16) as usize]
 }
 
-// Writes the digits of a number, which are as many as the bytes: from the last, two per iteration while more than two
-// are left.
+// Fills the text, which is not empty, with the last digits of a number, after zeros if it has fewer: from the last, two
+// per iteration while more than two are left.
 fn fill_with_digits(number: u64, text: &mut [u8])
-    requires { digit_count 16 number ≡ length text.old }
-    ensures { IsLowercase (IsDigits 16 number) text.new }
+    requires { 1 ≤ length text.old }
+    ensures { text.new ≡ map to_ascii_lowercase (padded_text 16 (length text.old) number) }
 {
     let mut left = number;
     let mut at = text.len();

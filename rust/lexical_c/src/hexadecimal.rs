@@ -16,8 +16,8 @@ fn last_character(number: u64) -> u8 {
     CHARACTERS[(number % 16) as usize]
 }
 
-// Writes the digits of a number, which are as many as the bytes: from the last, two per iteration while more than two
-// are left.
+// Fills the text, which is not empty, with the last digits of a number, after zeros if it has fewer: from the last, two
+// per iteration while more than two are left.
 #[inline]
 fn fill_with_digits(number: u64, text: &mut [u8]) {
     let mut left = number;
