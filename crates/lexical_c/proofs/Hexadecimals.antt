@@ -1,6 +1,6 @@
 -- Digits in radix 16 in lowercase, which are written from the last, and the sign before them.
 use Rattle.std.proofs.Common.{◌≡◌, ℤ, pos, negsuc, unsigned_abs, false, ℕ, zero, suc, ◌+◌, ◌-◌, ◌/◌, ◌%◌, ◌<◌, ◌≤◌, List, [], ◌∷◌, ◌++◌, length, take, drop, set, map}
-use Rattle.std.proofs.Common.{append_assoc, refl, sym, ap, ◌∙◌, arith, rules, drop-cons}
+use Rattle.std.proofs.Common.{append_assoc, refl, sym, ap, ◌∙◌, arith, drop-cons}
 use Rattle.std.specs.Char.{to_ascii_lowercase}
 use Rattle.std.proofs.lemmas.List.{append-nil, drop_all, drop-set, drop-set-add, drop-set-lt, length-drop, length-set, length-take-le, map-append, take-append-drop}
 use Rattle.lexical_num.specs.Digit.{digit_char}
@@ -15,6 +15,8 @@ use Rattle.lexical_write_integer.proofs.Buffers.Prefixes.{Writes-after, Writes-o
 use Rattle.lexical_write_integer.proofs.OfDigits.Count.DigitCounts.{digit_count-fits}
 use Rattle.lexical_write_integer.proofs.OfDigits.Numerals.{IsNumeralOf-block}
 use Rattle.lexical_write_integer.proofs.OfDigits.PaddedDigits.{padded_computed}
+use Rattle.lexical_c.proofs.Letters.{Unlettered-sign, lowercase-unlettered}
+use Rattle.lexical_c.proofs.PlainTexts.{plain_valid}
 use borrow.Rule.Slice.PartMut.{put_mid}
 
 -- the character of the last digit of a number
@@ -73,20 +75,12 @@ abbrev pub hexadecimal : Format
 hexadecimal = record standard { mantissa_radix = 16 }
 
 pub hexadecimal_valid : IsValid hexadecimal
-hexadecimal_valid = record {
-  mantissa = record { at_least_two = omega arith; at_most_36 = omega arith };
-  exponent = record { at_least_two = omega arith; at_most_36 = omega arith };
-  groups = λ grouping none. search rules;
-}
+hexadecimal_valid = plain_valid 16 record { at_least_two = omega arith; at_most_36 = omega arith }
 
 take-sign : {sign : ℕ} (x : ℤ) (bytes : List ℕ) → sign ≡ length (sign_of x false) → 1 ≤ length bytes → take sign (set bytes 0 45) ≡ sign_of x false
 take-sign (pos n) bytes is some = rw is refl
 take-sign (negsuc n) [] is some = absurd (omega arith)
 take-sign (negsuc n) (byte ∷ bytes) is some = rw is refl
-
-lowercase-sign : (x : ℤ) → map to_ascii_lowercase (sign_of x false) ≡ sign_of x false
-lowercase-sign (pos n) = refl
-lowercase-sign (negsuc n) = refl
 
 -- the digits after the sign are the text in lowercase; if there is no sign, they are written over the byte for it
 pub with_sign : {sign end : ℕ} (x : ℤ) (before part : List ℕ) → sign ≡ length (sign_of x false) → end ≡ sign + digit_count 16 (unsigned_abs x)
@@ -108,7 +102,7 @@ with_sign {sign} {end} x before part is is_end some room digits long =
     (λ text digits. record {
       original = sign_of x false ++ digits.original;
       is = record { digits = digits.original; magnitude = digits.is; whole = refl };
-      whole = rw (map-append, lowercase-sign, ← digits.whole) refl;
+      whole = rw (map-append, lowercase-unlettered (sign_of x false) (Unlettered-sign x false), ← digits.whole) refl;
     })
     record {
       text = part;

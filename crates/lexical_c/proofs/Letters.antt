@@ -27,12 +27,12 @@ Unlettered-digit_chars r digits few below = All-map (λ b. b < 65) digit_char di
 Unlettered-one : (b : ℕ) → b < 65 → Unlettered (b ∷ [])
 Unlettered-one b small = All-cons (λ b. b < 65) b [] small (All-nil (λ b. b < 65))
 
-Unlettered-sign : (x : ℤ) (required : Bool) → Unlettered (sign_of x required)
+pub Unlettered-sign : (x : ℤ) (required : Bool) → Unlettered (sign_of x required)
 Unlettered-sign (negsuc n) required = Unlettered-one 45 (omega arith)
 Unlettered-sign (pos n) true = Unlettered-one 43 (omega arith)
 Unlettered-sign (pos n) false = All-nil (λ b. b < 65)
 
-lowercase-unlettered : (text : List ℕ) → Unlettered text → map to_ascii_lowercase text ≡ text
+pub lowercase-unlettered : (text : List ℕ) → Unlettered text → map to_ascii_lowercase text ≡ text
 lowercase-unlettered [] all = refl
 lowercase-unlettered (b ∷ text) all =
     let first = (lowercase_is b).1 (All-head (λ b. b < 65) b text all) in

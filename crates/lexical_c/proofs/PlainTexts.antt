@@ -1,7 +1,7 @@
 -- Texts in formats without groups and required signs.
 use Rattle.std.proofs.Common.{◌≡◌, None, ℕ, ◌-◌, ◌+◌, ◌≤◌, ℤ, unsigned_abs, List, ◌++◌, length, take, drop, refl, sym, ap, ◌∙◌, arith, rules}
 use Rattle.std.proofs.lemmas.List.{length-take, take-append-drop}
-use Rattle.lexical_num.specs.Format.{Format, IsRadix, standard}
+use Rattle.lexical_num.specs.Format.{Format, IsRadix, IsValid, standard}
 use Rattle.lexical_num.specs.Sign.{sign_of}
 use Rattle.lexical_write_integer.specs.Buffer.{Front, Writes, WritesDigits, WritesText}
 use Rattle.lexical_c.specs.Format.{HasOnlyRadixAndCase, IsAccepted, format_of}
@@ -14,15 +14,15 @@ use borrow.Rule.Slice.PartMut.{put_mid}
 pub only_radix : (format : CFormat) → HasOnlyRadixAndCase format → format_of format ≡ record standard { mantissa_radix = format.radix }
 only_radix format only = rw (only.sign, only.groups) refl
 
-pub accepted : (format : CFormat) → HasOnlyRadixAndCase format → IsRadix format.radix → IsAccepted format
-accepted format only radix = record {
-  valid = record {
-    mantissa = radix;
-    exponent = record { at_least_two = omega arith; at_most_36 = omega arith };
-    groups = rw only.groups (λ grouping none. search rules);
-  };
-  unreserved = only.unreserved;
+pub plain_valid : (radix : ℕ) → IsRadix radix → IsValid (record standard { mantissa_radix = radix })
+plain_valid radix is = record {
+  mantissa = is;
+  exponent = record { at_least_two = omega arith; at_most_36 = omega arith };
+  groups = λ grouping none. search rules;
 }
+
+pub accepted : (format : CFormat) → HasOnlyRadixAndCase format → IsRadix format.radix → IsAccepted format
+accepted format only radix = record { valid = rw (only_radix format only) (plain_valid format.radix radix); unreserved = only.unreserved }
 
 -- a buffer that begins with written bytes is unchanged if the same bytes are written again
 own_front : {Is : List ℕ → Type 0} (before written : List ℕ) (count : ℕ) →
