@@ -1,8 +1,9 @@
 -- Digits in radix 16 in lowercase, which are written from the last, and the sign before them.
-use Rattle.std.proofs.Common.{◌≡◌, ℤ, pos, negsuc, unsigned_abs, false, ℕ, zero, suc, ◌+◌, ◌-◌, ◌/◌, ◌%◌, ◌<◌, ◌≤◌, List, [], ◌∷◌, ◌++◌, length, take, drop, set, map}
-use Rattle.std.proofs.Common.{append_assoc, refl, sym, ap, ◌∙◌, arith, drop-cons}
+use Rattle.std.proofs.Common.{◌≡◌, ℤ, pos, negsuc, unsigned_abs, false, ℕ, zero, suc, ◌+◌, ◌-◌, ◌/◌, ◌%◌, ◌<◌, ◌≤◌, List, [], ◌∷◌, ◌++◌}
+use Rattle.std.proofs.Common.{length, take, drop, set, map, append_assoc, refl, sym, ap, ◌∙◌, arith, drop-cons}
 use Rattle.std.specs.Char.{to_ascii_lowercase}
-use Rattle.std.proofs.lemmas.List.{append-nil, drop_all, drop-set, drop-set-add, drop-set-lt, length-drop, length-set, length-take-le, map-append, take-append-drop}
+use Rattle.std.proofs.lemmas.List.{append-nil, drop_all, drop-set, drop-set-add, drop-set-lt, length-drop, length-set}
+use Rattle.std.proofs.lemmas.List.{length-take-le, map-append, take-append-drop}
 use Rattle.lexical_num.specs.Digit.{digit_char}
 use Rattle.lexical_num.specs.Format.{Format, IsValid, standard}
 use Rattle.lexical_num.specs.Sign.{sign_of}
