@@ -15,7 +15,7 @@ use crate::plain::{
 };
 use lexical_write_integer::laws::size_suffices;
 
-// Writes a number to the buffer, and returns the length of its text, or 0 if it is refused.
+// Writes a number to the buffer, and returns the text's length, or 0 if the format is invalid or it does not fit.
 fn write<T: CInteger>(value: T, format: &CFormat, buffer: &mut [u8]) -> usize
     ensures { WritesOrRefuses (T.number value) format.now buffer.old buffer.new result }
 {
@@ -102,7 +102,7 @@ fn write_signed_in_lowercase<T: CInteger>(value: T, format: &CFormat, buffer: &m
     write_in_lowercase(value, format, buffer)
 }
 
-/// Writes a `uint8_t` to the buffer, and returns the length of its text, or 0 if it is refused.
+/// Writes a `uint8_t` to the buffer, and returns the text's length, or 0 if the format is invalid or it does not fit.
 #[unsafe(no_mangle)]
 pub extern "C" fn lexical_write_u8(value: u8, format: &CFormat, buffer: &mut [u8]) -> usize
     ensures { WritesOrRefuses (pos value) format.now buffer.old buffer.new result }
@@ -110,7 +110,7 @@ pub extern "C" fn lexical_write_u8(value: u8, format: &CFormat, buffer: &mut [u8
     write::<u8>(value, format, buffer)
 }
 
-/// Writes a `uint16_t` to the buffer, and returns the length of its text, or 0 if it is refused.
+/// Writes a `uint16_t` to the buffer, and returns the text's length, or 0 if the format is invalid or it does not fit.
 #[unsafe(no_mangle)]
 pub extern "C" fn lexical_write_u16(value: u16, format: &CFormat, buffer: &mut [u8]) -> usize
     ensures { WritesOrRefuses (pos value) format.now buffer.old buffer.new result }
@@ -118,7 +118,7 @@ pub extern "C" fn lexical_write_u16(value: u16, format: &CFormat, buffer: &mut [
     write::<u16>(value, format, buffer)
 }
 
-/// Writes a `uint32_t` to the buffer, and returns the length of its text, or 0 if it is refused.
+/// Writes a `uint32_t` to the buffer, and returns the text's length, or 0 if the format is invalid or it does not fit.
 #[unsafe(no_mangle)]
 pub extern "C" fn lexical_write_u32(value: u32, format: &CFormat, buffer: &mut [u8]) -> usize
     ensures { WritesOrRefuses (pos value) format.now buffer.old buffer.new result }
@@ -126,7 +126,7 @@ pub extern "C" fn lexical_write_u32(value: u32, format: &CFormat, buffer: &mut [
     write::<u32>(value, format, buffer)
 }
 
-/// Writes a `uint64_t` to the buffer, and returns the length of its text, or 0 if it is refused.
+/// Writes a `uint64_t` to the buffer, and returns the text's length, or 0 if the format is invalid or it does not fit.
 #[unsafe(no_mangle)]
 pub extern "C" fn lexical_write_u64(value: u64, format: &CFormat, buffer: &mut [u8]) -> usize
     ensures { WritesOrRefuses (pos value) format.now buffer.old buffer.new result }
@@ -134,7 +134,7 @@ pub extern "C" fn lexical_write_u64(value: u64, format: &CFormat, buffer: &mut [
     write::<u64>(value, format, buffer)
 }
 
-/// Writes a `size_t` to the buffer, and returns the length of its text, or 0 if it is refused.
+/// Writes a `size_t` to the buffer, and returns the text's length, or 0 if the format is invalid or it does not fit.
 #[unsafe(no_mangle)]
 pub extern "C" fn lexical_write_size(value: usize, format: &CFormat, buffer: &mut [u8]) -> usize
     ensures { WritesOrRefuses (pos value) format.now buffer.old buffer.new result }
@@ -142,7 +142,7 @@ pub extern "C" fn lexical_write_size(value: usize, format: &CFormat, buffer: &mu
     write::<usize>(value, format, buffer)
 }
 
-/// Writes an `int8_t` to the buffer, and returns the length of its text, or 0 if it is refused.
+/// Writes an `int8_t` to the buffer, and returns the text's length, or 0 if the format is invalid or it does not fit.
 #[unsafe(no_mangle)]
 pub extern "C" fn lexical_write_i8(value: i8, format: &CFormat, buffer: &mut [u8]) -> usize
     ensures { WritesOrRefuses value format.now buffer.old buffer.new result }
@@ -150,7 +150,7 @@ pub extern "C" fn lexical_write_i8(value: i8, format: &CFormat, buffer: &mut [u8
     write::<i8>(value, format, buffer)
 }
 
-/// Writes an `int16_t` to the buffer, and returns the length of its text, or 0 if it is refused.
+/// Writes an `int16_t` to the buffer, and returns the text's length, or 0 if the format is invalid or it does not fit.
 #[unsafe(no_mangle)]
 pub extern "C" fn lexical_write_i16(value: i16, format: &CFormat, buffer: &mut [u8]) -> usize
     ensures { WritesOrRefuses value format.now buffer.old buffer.new result }
@@ -158,7 +158,7 @@ pub extern "C" fn lexical_write_i16(value: i16, format: &CFormat, buffer: &mut [
     write::<i16>(value, format, buffer)
 }
 
-/// Writes an `int32_t` to the buffer, and returns the length of its text, or 0 if it is refused.
+/// Writes an `int32_t` to the buffer, and returns the text's length, or 0 if the format is invalid or it does not fit.
 #[unsafe(no_mangle)]
 pub extern "C" fn lexical_write_i32(value: i32, format: &CFormat, buffer: &mut [u8]) -> usize
     ensures { WritesOrRefuses value format.now buffer.old buffer.new result }
@@ -166,7 +166,7 @@ pub extern "C" fn lexical_write_i32(value: i32, format: &CFormat, buffer: &mut [
     write::<i32>(value, format, buffer)
 }
 
-/// Writes an `int64_t` to the buffer, and returns the length of its text, or 0 if it is refused.
+/// Writes an `int64_t` to the buffer, and returns the text's length, or 0 if the format is invalid or it does not fit.
 #[unsafe(no_mangle)]
 pub extern "C" fn lexical_write_i64(value: i64, format: &CFormat, buffer: &mut [u8]) -> usize
     ensures { WritesOrRefuses value format.now buffer.old buffer.new result }
