@@ -15,12 +15,12 @@ const WORDS: &str = "
     texts_equal_iff same_counter same_link same_user different_codes";
 
 /// Other texts of such a line: a module of laws, and calls that only record.
-const TEXTS: [&str; 5] = ["::laws::", "turns.tick(", "turns.append(", "written.tick(", "self.trace."];
+const TEXTS: [&str; 5] = ["::laws::", "turns.tick", "turns.append", "written.tick", "self.trace."];
 
 /// The words of what a Rust program does not have, and the folder of the crates.
 const UNKNOWN: &str = "
     Rattle contract contracts counter counters ghost law laws proof proofs prove proved prover record recorded records
-    trace turns crates";
+    trace Trace turns Turns crates";
 
 /// Returns the text without what is left out, laid out as by a person who never wrote that.
 pub(crate) fn without_left_out(text: &str, source: &Source) -> String {
@@ -62,10 +62,12 @@ fn count_left_out(lines: &[&str], source: &Source) -> usize {
     end - lines[..end].iter().rev().take_while(|line| line.is_empty()).count()
 }
 
-/// Returns whether a line begins what is left out.
+/// Returns whether a line begins what is left out. What only comes after another call is not: that may have an effect.
 fn is_left_out(line: &str, source: &Source) -> bool {
-    // What follows is a comment, a text, or no statement of its own.
     let code = line.split(['/', '"']).next().unwrap_or_default();
+    let is_call = |before: &str| before.ends_with(char::is_alphanumeric) && !before.ends_with("pub");
+    let call = code.match_indices('(').map(|(at, _)| &code[..at]).find(|before| is_call(before));
+    let code = call.unwrap_or(code);
     let is_module = |path: &str| code.ends_with(&format!("mod {};", path.rsplit('/').next().unwrap_or_default()));
     words(code).any(|word| has(WORDS, word))
         || TEXTS.iter().any(|text| code.contains(text))

@@ -1,12 +1,11 @@
 //! Makes the sources of the Rust packages from those of the crates of Rattle.
 //!
-//! What only Rattle reads is removed: ghost items, clauses, models and tactics, laws and what they need. The paths are
-//! those of the package. A form that is not known here is an error with its file and its line.
+//! What only Rattle reads is left out: ghost items, clauses, models and tactics, laws and what they need. The paths are
+//! those of the package. A word that then no Rust program knows is an error, with its file and its line.
 
 #![forbid(unsafe_code)]
 
 mod additions;
-mod layout;
 mod left_out;
 mod packages;
 mod replaced;
@@ -46,7 +45,7 @@ fn made(top: &Path) -> Result<BTreeMap<PathBuf, String>, String> {
 
 /// Returns what is made of the text of a file of a source, a path in its `src`.
 fn made_text(text: &str, file: &str, source: &Source) -> Result<String, String> {
-    let text = layout::with_sorted_imports(&left_out::without_left_out(&source.replaced(text), source));
+    let text = with_sorted_imports(&left_out::without_left_out(&source.replaced(text), source));
     let allowed = "#![allow(unused, clippy::all, reason = \"these are tests of Rattle\")]\n\n";
     match (left_out::unknown(&text), file) {
         (_, "lib.rt") if source.is_test() => Ok(allowed.to_owned() + &text),
@@ -54,6 +53,20 @@ fn made_text(text: &str, file: &str, source: &Source) -> Result<String, String> 
         (Some(line), _) => Err(format!("a word that only Rattle has: {line}")),
         (None, _) => Ok(additions::with_additions(&text, file, source)),
     }
+}
+
+/// Returns the text with the imports next to one another in the order of rustfmt: `super` and `crate` precede names.
+fn with_sorted_imports(text: &str) -> String {
+    let path = |line: &&str| {
+        let path = line.replace("pub use ", "use ").replace(';', "");
+        path.replace("use super:", "use 0:").replace("use crate:", "use 1:")
+    };
+    let is_import = |line: &&str| path(line).starts_with("use ") && line.ends_with(';');
+    let mut lines: Vec<&str> = text.lines().collect();
+    for imports in lines.chunk_by_mut(|a, b| is_import(a) && is_import(b)) {
+        imports.sort_by_key(path);
+    }
+    lines.join("\n") + "\n"
 }
 
 /// Returns the files with this extension in a folder of the repository and in the folders in it.

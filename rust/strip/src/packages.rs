@@ -13,8 +13,6 @@ pub(crate) struct Source {
     pub folder: &'static str,
     /// The file of the root, without `.rs`: that of a module, `main`, or empty if none is made.
     pub root: &'static str,
-    /// Whether std is not used, but core.
-    pub is_core: bool,
     /// Attributes other than `#[inline]`, each with its functions, and the files, paths in `src`, whose functions have
     /// it. The first that names a function counts.
     pub attributes: Listed,
@@ -73,7 +71,8 @@ impl Source {
             let path = format!("{}::{}::", self.library(), module.root);
             text = text.replace(&format!("{}::", module.name), &path).replace(module.name, module.root);
         }
-        if self.is_core { text.replace("use std::", "use core::").replace(" std::", " core::") } else { text }
+        // Only the modules that need std use `io`.
+        if self.is_test() { text } else { text.replace(" std::", " core::").replace(" core::io", " std::io") }
     }
 
     /// Returns a name or a text of the lists that a crate with these names of files and texts does not have.
@@ -95,7 +94,6 @@ const LIBRARY: Source = Source {
     name: "",
     folder: "cojimuran/src",
     root: "",
-    is_core: true,
     attributes: &[],
     constant: "",
     panics: &[],
@@ -171,12 +169,11 @@ pub(crate) const SOURCES: &[Source] = &[
     Source {
         name: "lexical_lines",
         root: "lines",
-        is_core: false,
         left_out: "devices/trace laws",
         replaced: replaced::LINES,
         ..LIBRARY
     },
-    Source { name: "lexical_streams", root: "streams", is_core: false, replaced: replaced::STREAMS, ..LIBRARY },
+    Source { name: "lexical_streams", root: "streams", replaced: replaced::STREAMS, ..LIBRARY },
     Source {
         name: "lexical_c",
         folder: "lexical_c/src",
@@ -203,4 +200,4 @@ pub(crate) const SOURCES: &[Source] = &[
 ];
 
 /// What calls the libraries as the repository's tests do.
-const TESTS: Source = Source { is_core: false, replaced: replaced::IN_TESTS, ..LIBRARY };
+const TESTS: Source = Source { replaced: replaced::IN_TESTS, ..LIBRARY };

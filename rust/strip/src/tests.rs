@@ -11,7 +11,7 @@ fn check(text: &str, expected: &str) {
 
 #[test]
 fn refused_words() {
-    for line in ["// A law of b.", "/// Of the crates.", "f(a, &mut turns);", "let a = \"ghost\";"] {
+    for line in ["// A law of b.", "/// Of the crates.", "f(a, &mut turns);", "f(&mut Trace::new());"] {
         let refused = Err(format!("a word that only Rattle has: {line}"));
         assert_eq!(made_text(&format!("a;\n    {line}\nc;"), "a.rt", &SOURCES[0]), refused);
     }
