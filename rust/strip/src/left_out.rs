@@ -5,8 +5,8 @@
 
 use crate::packages::{Source, has};
 
-/// The words of a line with which something begins that is left out: those of contracts, laws, functions that only
-/// record, types without data, and what only contracts use.
+/// A line with one of these words begins what is left out: contracts, laws, functions that only record, types without
+/// data, and what only contracts use.
 const WORDS: &str = "
     ghost requires ensures tactic DECIMAL Model Trace Turns note_put record_flush record_up_to_eight
     in_range fits_bits text_is_utf8 rooms_at_most same_rest formatted_room_suffices size_suffices sizes_suffice
@@ -14,10 +14,10 @@ const WORDS: &str = "
     equal_digits equal_padded equal_texts padded_order text_computed text_is_ascii text_is_decimal text_length
     texts_equal_iff same_counter same_link same_user different_codes";
 
-/// Other texts of such a line: a module of laws, and calls that only record.
+/// So does a line with one of these texts: a module of laws, and calls that only record.
 const TEXTS: [&str; 5] = ["::laws::", "turns.tick", "turns.append", "written.tick", "self.trace."];
 
-/// The words of what a Rust program does not have, and the folder of the crates.
+/// The words of what a Rust program does not have, and the folder of the crates. No made line may have one.
 const UNKNOWN: &str = "
     Rattle contract contracts counter counters ghost law laws proof proofs prove proved prover record recorded records
     trace Trace turns Turns crates";
@@ -26,7 +26,7 @@ const UNKNOWN: &str = "
 pub(crate) fn without_left_out(text: &str, source: &Source) -> String {
     let mut text = text.to_owned();
     for word in WORDS.split_whitespace() {
-        // In an import with others.
+        // It is in an import with other names.
         text = text.replace(&format!(", {word},"), ",").replace(&format!(", {word}}}"), "}");
     }
     let lines: Vec<&str> = text.lines().filter(|line| !line.trim_start().starts_with("#[tactic(")).collect();
@@ -62,7 +62,7 @@ fn count_left_out(lines: &[&str], source: &Source) -> usize {
     end - lines[..end].iter().rev().take_while(|line| line.is_empty()).count()
 }
 
-/// Returns whether a line begins what is left out. What only comes after another call is not: that may have an effect.
+/// Returns whether a line begins what is left out. What is after a call does not count, since that may have an effect.
 fn is_left_out(line: &str, source: &Source) -> bool {
     let code = line.split(['/', '"']).next().unwrap_or_default();
     let is_call = |before: &str| before.ends_with(char::is_alphanumeric) && !before.ends_with("pub");
@@ -74,8 +74,8 @@ fn is_left_out(line: &str, source: &Source) -> bool {
         || source.left_out.split_whitespace().any(is_module)
 }
 
-/// Returns the text with one more line. After what is left out, a brace or a `;` ends the line before that, and one of
-/// the empty lines around it goes too.
+/// Returns the text with one more line. If it is after what is left out, a brace or a `;` ends the line before that, and
+/// one of the empty lines around that goes too.
 fn with_line(text: &str, line: &str, is_after: bool) -> String {
     let code = line.trim_start();
     let (before, space) = text.split_at(text.trim_end().len());

@@ -1,7 +1,7 @@
 //! Makes the sources of the Rust packages from those of the crates of Rattle.
 //!
 //! What only Rattle reads is left out: ghost items, clauses, models and tactics, laws and what they need. The paths are
-//! those of the package. A word that then no Rust program knows is an error, with its file and its line.
+//! those of the package. A line that still has a word of Rattle is an error, which shows its file and the line.
 
 #![forbid(unsafe_code)]
 
