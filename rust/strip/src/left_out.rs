@@ -74,8 +74,8 @@ fn is_left_out(line: &str, source: &Source) -> bool {
         || source.left_out.split_whitespace().any(is_module)
 }
 
-/// Returns the text with one more line. If it is after what is left out, a brace or a `;` ends the line before that, and
-/// one of the empty lines around that goes too.
+/// Returns the text with one more line. If it is after what is left out, a brace or a `;` ends the line before that,
+/// and one of the empty lines around that goes too.
 fn with_line(text: &str, line: &str, is_after: bool) -> String {
     let code = line.trim_start();
     let (before, space) = text.split_at(text.trim_end().len());
