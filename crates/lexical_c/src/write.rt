@@ -16,7 +16,7 @@ use crate::plain::{
 };
 use lexical_write_integer::laws::size_suffices;
 
-// Writes a number to the buffer, and returns the length of its text, or 0 if it is refused.
+// Writes a number to the buffer, and returns the text's length, or 0 if the format is invalid or it does not fit.
 fn write<T: CInteger>(value: T, format: &CFormat, buffer: &mut [u8]) -> usize
     ensures { WritesOrRefuses (T.number value) format.now buffer.old buffer.new result }
 {
@@ -95,7 +95,7 @@ fn write_in_lowercase<T: CInteger>(value: T, format: &CFormat, buffer: &mut [u8]
     }
 }
 
-/// Writes a `uint8_t` to the buffer, and returns the length of its text, or 0 if it is refused.
+/// Writes a `uint8_t` to the buffer, and returns the text's length, or 0 if the format is invalid or it does not fit.
 #[unsafe(no_mangle)]
 pub extern "C" fn lexical_write_u8(value: u8, format: &CFormat, buffer: &mut [u8]) -> usize
     ensures { WritesOrRefuses (pos value) format.now buffer.old buffer.new result }
@@ -103,7 +103,7 @@ pub extern "C" fn lexical_write_u8(value: u8, format: &CFormat, buffer: &mut [u8
     write::<u8>(value, format, buffer)
 }
 
-/// Writes a `uint16_t` to the buffer, and returns the length of its text, or 0 if it is refused.
+/// Writes a `uint16_t` to the buffer, and returns the text's length, or 0 if the format is invalid or it does not fit.
 #[unsafe(no_mangle)]
 pub extern "C" fn lexical_write_u16(value: u16, format: &CFormat, buffer: &mut [u8]) -> usize
     ensures { WritesOrRefuses (pos value) format.now buffer.old buffer.new result }
@@ -111,7 +111,7 @@ pub extern "C" fn lexical_write_u16(value: u16, format: &CFormat, buffer: &mut [
     write::<u16>(value, format, buffer)
 }
 
-/// Writes a `uint32_t` to the buffer, and returns the length of its text, or 0 if it is refused.
+/// Writes a `uint32_t` to the buffer, and returns the text's length, or 0 if the format is invalid or it does not fit.
 #[unsafe(no_mangle)]
 pub extern "C" fn lexical_write_u32(value: u32, format: &CFormat, buffer: &mut [u8]) -> usize
     ensures { WritesOrRefuses (pos value) format.now buffer.old buffer.new result }
@@ -119,7 +119,7 @@ pub extern "C" fn lexical_write_u32(value: u32, format: &CFormat, buffer: &mut [
     write::<u32>(value, format, buffer)
 }
 
-/// Writes a `uint64_t` to the buffer, and returns the length of its text, or 0 if it is refused.
+/// Writes a `uint64_t` to the buffer, and returns the text's length, or 0 if the format is invalid or it does not fit.
 #[unsafe(no_mangle)]
 pub extern "C" fn lexical_write_u64(value: u64, format: &CFormat, buffer: &mut [u8]) -> usize
     ensures { WritesOrRefuses (pos value) format.now buffer.old buffer.new result }
@@ -127,7 +127,7 @@ pub extern "C" fn lexical_write_u64(value: u64, format: &CFormat, buffer: &mut [
     write::<u64>(value, format, buffer)
 }
 
-/// Writes a `size_t` to the buffer, and returns the length of its text, or 0 if it is refused.
+/// Writes a `size_t` to the buffer, and returns the text's length, or 0 if the format is invalid or it does not fit.
 #[unsafe(no_mangle)]
 pub extern "C" fn lexical_write_size(value: usize, format: &CFormat, buffer: &mut [u8]) -> usize
     ensures { WritesOrRefuses (pos value) format.now buffer.old buffer.new result }
@@ -135,7 +135,7 @@ pub extern "C" fn lexical_write_size(value: usize, format: &CFormat, buffer: &mu
     write::<usize>(value, format, buffer)
 }
 
-/// Writes an `int8_t` to the buffer, and returns the length of its text, or 0 if it is refused.
+/// Writes an `int8_t` to the buffer, and returns the text's length, or 0 if the format is invalid or it does not fit.
 #[unsafe(no_mangle)]
 pub extern "C" fn lexical_write_i8(value: i8, format: &CFormat, buffer: &mut [u8]) -> usize
     ensures { WritesOrRefuses value format.now buffer.old buffer.new result }
@@ -143,7 +143,7 @@ pub extern "C" fn lexical_write_i8(value: i8, format: &CFormat, buffer: &mut [u8
     write::<i8>(value, format, buffer)
 }
 
-/// Writes an `int16_t` to the buffer, and returns the length of its text, or 0 if it is refused.
+/// Writes an `int16_t` to the buffer, and returns the text's length, or 0 if the format is invalid or it does not fit.
 #[unsafe(no_mangle)]
 pub extern "C" fn lexical_write_i16(value: i16, format: &CFormat, buffer: &mut [u8]) -> usize
     ensures { WritesOrRefuses value format.now buffer.old buffer.new result }
@@ -151,7 +151,7 @@ pub extern "C" fn lexical_write_i16(value: i16, format: &CFormat, buffer: &mut [
     write::<i16>(value, format, buffer)
 }
 
-/// Writes an `int32_t` to the buffer, and returns the length of its text, or 0 if it is refused.
+/// Writes an `int32_t` to the buffer, and returns the text's length, or 0 if the format is invalid or it does not fit.
 #[unsafe(no_mangle)]
 pub extern "C" fn lexical_write_i32(value: i32, format: &CFormat, buffer: &mut [u8]) -> usize
     ensures { WritesOrRefuses value format.now buffer.old buffer.new result }
@@ -159,7 +159,7 @@ pub extern "C" fn lexical_write_i32(value: i32, format: &CFormat, buffer: &mut [
     write::<i32>(value, format, buffer)
 }
 
-/// Writes an `int64_t` to the buffer, and returns the length of its text, or 0 if it is refused.
+/// Writes an `int64_t` to the buffer, and returns the text's length, or 0 if the format is invalid or it does not fit.
 #[unsafe(no_mangle)]
 pub extern "C" fn lexical_write_i64(value: i64, format: &CFormat, buffer: &mut [u8]) -> usize
     ensures { WritesOrRefuses value format.now buffer.old buffer.new result }

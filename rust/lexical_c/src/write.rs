@@ -13,7 +13,7 @@ use crate::plain::{
     write_plain,
 };
 
-// Writes a number to the buffer, and returns the length of its text, or 0 if it is refused.
+// Writes a number to the buffer, and returns the text's length, or 0 if the format is invalid or it does not fit.
 #[inline]
 fn write<T: CInteger>(value: T, format: &CFormat, buffer: &mut [u8]) -> usize {
     if has_only_radix(format) {
@@ -74,55 +74,55 @@ fn write_in_lowercase<T: CInteger>(value: T, format: &CFormat, buffer: &mut [u8]
     }
 }
 
-/// Writes a `uint8_t` to the buffer, and returns the length of its text, or 0 if it is refused.
+/// Writes a `uint8_t` to the buffer, and returns the text's length, or 0 if the format is invalid or it does not fit.
 #[inline]
 pub fn lexical_write_u8(value: u8, format: &CFormat, buffer: &mut [u8]) -> usize {
     write::<u8>(value, format, buffer)
 }
 
-/// Writes a `uint16_t` to the buffer, and returns the length of its text, or 0 if it is refused.
+/// Writes a `uint16_t` to the buffer, and returns the text's length, or 0 if the format is invalid or it does not fit.
 #[inline]
 pub fn lexical_write_u16(value: u16, format: &CFormat, buffer: &mut [u8]) -> usize {
     write::<u16>(value, format, buffer)
 }
 
-/// Writes a `uint32_t` to the buffer, and returns the length of its text, or 0 if it is refused.
+/// Writes a `uint32_t` to the buffer, and returns the text's length, or 0 if the format is invalid or it does not fit.
 #[inline]
 pub fn lexical_write_u32(value: u32, format: &CFormat, buffer: &mut [u8]) -> usize {
     write::<u32>(value, format, buffer)
 }
 
-/// Writes a `uint64_t` to the buffer, and returns the length of its text, or 0 if it is refused.
+/// Writes a `uint64_t` to the buffer, and returns the text's length, or 0 if the format is invalid or it does not fit.
 #[inline]
 pub fn lexical_write_u64(value: u64, format: &CFormat, buffer: &mut [u8]) -> usize {
     write::<u64>(value, format, buffer)
 }
 
-/// Writes a `size_t` to the buffer, and returns the length of its text, or 0 if it is refused.
+/// Writes a `size_t` to the buffer, and returns the text's length, or 0 if the format is invalid or it does not fit.
 #[inline]
 pub fn lexical_write_size(value: usize, format: &CFormat, buffer: &mut [u8]) -> usize {
     write::<usize>(value, format, buffer)
 }
 
-/// Writes an `int8_t` to the buffer, and returns the length of its text, or 0 if it is refused.
+/// Writes an `int8_t` to the buffer, and returns the text's length, or 0 if the format is invalid or it does not fit.
 #[inline]
 pub fn lexical_write_i8(value: i8, format: &CFormat, buffer: &mut [u8]) -> usize {
     write::<i8>(value, format, buffer)
 }
 
-/// Writes an `int16_t` to the buffer, and returns the length of its text, or 0 if it is refused.
+/// Writes an `int16_t` to the buffer, and returns the text's length, or 0 if the format is invalid or it does not fit.
 #[inline]
 pub fn lexical_write_i16(value: i16, format: &CFormat, buffer: &mut [u8]) -> usize {
     write::<i16>(value, format, buffer)
 }
 
-/// Writes an `int32_t` to the buffer, and returns the length of its text, or 0 if it is refused.
+/// Writes an `int32_t` to the buffer, and returns the text's length, or 0 if the format is invalid or it does not fit.
 #[inline]
 pub fn lexical_write_i32(value: i32, format: &CFormat, buffer: &mut [u8]) -> usize {
     write::<i32>(value, format, buffer)
 }
 
-/// Writes an `int64_t` to the buffer, and returns the length of its text, or 0 if it is refused.
+/// Writes an `int64_t` to the buffer, and returns the text's length, or 0 if the format is invalid or it does not fit.
 #[inline]
 pub fn lexical_write_i64(value: i64, format: &CFormat, buffer: &mut [u8]) -> usize {
     write::<i64>(value, format, buffer)

@@ -1,36 +1,22 @@
-//! Every number of the types of 8 and 16 bits, in every radix, against a loop that divides.
+//! Every number of the types of 8 and 16 bits, in every radix, against divisions by the radix.
 
 use cojimuran::{NumberFormatBuilder, Options, ToLexicalWithOptions};
+use std::iter::successors;
 
-const ROOM: usize = 40;
-
-/// Writes the text of a number to the end of the buffer, and returns its length.
-fn divide(number: i64, radix: u32, buffer: &mut [u8; ROOM]) -> usize {
-    let mut start = ROOM;
-    let mut left = number.unsigned_abs() as u32;
-    loop {
-        start -= 1;
-        buffer[start] = char::from_digit(left % radix, radix).map_or(0, |digit| digit.to_ascii_uppercase() as u8);
-        left /= radix;
-        if left == 0 {
-            break;
-        }
-    }
-    if number < 0 {
-        start -= 1;
-        buffer[start] = b'-';
-    }
-    ROOM - start
+/// Returns the characters of a number, the last one first.
+fn reversed(number: i64, radix: u32) -> impl Iterator<Item = u8> {
+    let divided = move |left: &u32| if *left < radix { None } else { Some(left / radix) };
+    let digit = move |left| b"0123456789ABCDEFGHIJKLMNOPQRSTUVWXYZ"[(left % radix) as usize];
+    successors(Some(number.unsigned_abs() as u32), divided).map(digit).chain((number < 0).then_some(b'-'))
 }
 
 fn check<T: ToLexicalWithOptions<Options = Options> + Into<i64>>(numbers: impl Iterator<Item = T> + Clone) {
     for radix in 2..=36 {
         let format = NumberFormatBuilder::from_radix(radix);
         for number in numbers.clone() {
-            let (mut expected, mut buffer) = ([0; ROOM], [7; ROOM]);
-            let length = divide(number.into(), u32::from(radix), &mut expected);
-            let written = number.to_lexical_with_options(&mut buffer, &format, &Options::new()).len();
-            let is_text = written == length && buffer[..length] == expected[ROOM - length..];
+            let mut buffer = [7; 40];
+            let length = number.to_lexical_with_options(&mut buffer, &format, &Options::new()).len();
+            let is_text = buffer[..length].iter().copied().rev().eq(reversed(number.into(), radix.into()));
             let is_rest_same = buffer[length..].iter().all(|byte| *byte == 7);
             assert!(is_text && is_rest_same, "{} in radix {radix}: {buffer:?}", number.into());
         }

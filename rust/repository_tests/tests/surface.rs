@@ -1,6 +1,6 @@
 //! The names of the package, and the traits of its types: a caller that takes one does not compile without it.
 
-#![allow(unused_imports, clippy::unnecessary_operation, reason = "what is not there is an error")]
+#![allow(unused_imports, reason = "what is not there is an error")]
 
 use cojimuran::buffer::{copy_to_front, front_mut};
 use cojimuran::decimal::{Decimal as _, DecimalCount, fallback_digit_count, fast_digit_count, fast_log10};
@@ -35,14 +35,15 @@ fn shown<P: Part + Debug + Display + Send + Sync>() {}
 fn number<T: ToLexicalWithOptions<Options = Options> + FormattedSize + Part>() {}
 fn unsigned<T: UnsignedInteger + Radix + Compact + DigitCount + WriteInteger + DecimalCount>() {}
 
+/// Calls the function for each of the types.
+macro_rules! check {
+    ($function:ident: $($type:ty),+) => { $($function::<$type>();)+ };
+}
+
 #[test]
 fn numbers() {
-    (number::<u8>(), number::<u16>(), number::<u32>());
-    (number::<u64>(), number::<usize>(), number::<i8>());
-    (number::<i16>(), number::<i32>(), number::<i64>());
-    number::<isize>();
-    (unsigned::<u8>(), unsigned::<u16>(), unsigned::<u32>());
-    (unsigned::<u64>(), unsigned::<usize>());
+    check!(number: u8, u16, u32, u64, usize, i8, i16, i32, i64, isize);
+    check!(unsigned: u8, u16, u32, u64, usize);
 }
 
 #[test]
@@ -50,9 +51,10 @@ fn formats() {
     fn ordered<T: Clone + Debug + Ord + Default + Send + Sync>() {}
     fn error<E: std::error::Error + Send + Sync + 'static>() {}
     fn options<T: WriteOptions>() {}
-    (value::<NumberFormat>(), value::<NumberFormatBuilder>());
-    (ordered::<Options>(), ordered::<OptionsBuilder>());
-    (error::<Error>(), options::<Options>());
+    check!(value: NumberFormat, NumberFormatBuilder);
+    check!(ordered: Options, OptionsBuilder);
+    error::<Error>();
+    options::<Options>();
     assert_eq!(NumberFormatBuilder::default().build().unwrap(), STANDARD);
     let _: Result<NumberFormat> = Err(Error::InvalidGroupMark(b'0'));
 }
@@ -60,21 +62,13 @@ fn formats() {
 #[test]
 fn parts() {
     type U = Decimal<u64>;
-    (part::<&str>(), part::<Byte>(), part::<Bytes>());
-    (part::<Option<U>>(), part::<Joined<U>>(), part::<Lower<U>>());
-    (part::<Left<U>>(), part::<Right<U>>(), part::<Center<U>>());
-    (part::<ZeroPadded<U>>(), part::<Sign<i8>>(), part::<Digits<u8>>());
-    (part::<Padded<u8>>(), part::<PaddedDigits<u8>>(), part::<HexBytes>());
-    (part::<Fixed<i64>>(), part::<GroupedFixed<i64>>(), part::<Scientific<i64>>());
-    (shown::<Decimal<i8>>(), shown::<Formatted<i8>>(), shown::<Plus<i8>>());
-    (shown::<Hex<u8>>(), shown::<Binary<u8>>());
-    (part::<(U, U)>(), part::<(U, U, U)>(), part::<(U, U, U, U)>());
-    (part::<(U, U, U, U, U)>(), part::<(U, U, U, U, U, U)>());
-    (part::<(U, U, U, U, U, U, U)>(), part::<(U, U, U, U, U, U, U, U)>());
-    part::<(U, U, U, U, U, U, U, U, U)>();
-    part::<(U, U, U, U, U, U, U, U, U, U)>();
-    part::<(U, U, U, U, U, U, U, U, U, U, U)>();
-    part::<(U, U, U, U, U, U, U, U, U, U, U, U)>();
+    check!(part: &str, Byte, Bytes, Option<U>, Joined<U>, Lower<U>, Left<U>, Right<U>, Center<U>, ZeroPadded<U>);
+    check!(part: Sign<i8>, Digits<u8>, Padded<u8>, PaddedDigits<u8>, HexBytes);
+    check!(part: Fixed<i64>, GroupedFixed<i64>, Scientific<i64>);
+    check!(shown: Decimal<i8>, Formatted<i8>, Plus<i8>, Hex<u8>, Binary<u8>);
+    check!(part: (U, U), (U, U, U), (U, U, U, U), (U, U, U, U, U), (U, U, U, U, U, U), (U, U, U, U, U, U, U));
+    check!(part: (U, U, U, U, U, U, U, U), (U, U, U, U, U, U, U, U, U), (U, U, U, U, U, U, U, U, U, U));
+    check!(part: (U, U, U, U, U, U, U, U, U, U, U), (U, U, U, U, U, U, U, U, U, U, U, U));
 }
 
 #[test]
@@ -82,7 +76,8 @@ fn devices() {
     fn source<S: BlockSource + Send>() {}
     fn sink<K: BlockSink + Send>() {}
     fn bytes<S: ByteSource, K: ByteSink>() {}
-    (source::<Reading<&[u8]>>(), sink::<Writing<Vec<u8>>>());
+    source::<Reading<&[u8]>>();
+    sink::<Writing<Vec<u8>>>();
     bytes::<SliceSource, SliceSink>();
     bytes::<SliceSource, BlockWriter<Writing<Vec<u8>>, 16>>();
 }

@@ -1,70 +1,101 @@
-//! What only proofs need: laws, which are functions without an effect, and values without data, which record what a
-//! function does. These are left out, with what calls them or is passed them.
+//! What is left out: what only Rattle reads, as contracts, and what only proofs need, as laws and counters.
+//!
+//! The sources are laid out by `rt fmt`. So each of these begins a line, and has the next lines that have more indent
+//! or that begin with a bracket. The comments and the attributes before it are left out with it.
 
-use crate::Unknown;
-use crate::packages::{LEFT_OUT, Source, has};
-use crate::tokens::Tokens;
-use std::collections::BTreeSet;
+use crate::packages::{Source, has};
 
-/// Returns the text of a file of the source without what is left out, and with gaps in its place.
-pub(crate) fn without_laws(text: &str, source: &Source) -> Result<String, Unknown> {
-    let tokens = Tokens::read(text)?;
-    let names = names(&tokens);
-    tokens.without(|index| end_of_left_out(&tokens, index, &names, source))
+/// A line with one of these words begins what is left out: contracts, laws, functions that only record, types without
+/// data, and what only contracts use.
+const WORDS: &str = "
+    ghost requires ensures tactic DECIMAL Model Trace Turns note_put record_flush record_up_to_eight
+    in_range fits_bits text_is_utf8 rooms_at_most same_rest formatted_room_suffices size_suffices sizes_suffice
+    digit_count_is_least digit_count_at_most digit_count_within_bits digits_computed digits_equal_iff different_digits
+    equal_digits equal_padded equal_texts padded_order text_computed text_is_ascii text_is_decimal text_length
+    texts_equal_iff same_counter same_link same_user different_codes";
+
+/// So does a line with one of these texts: a module of laws, and calls that only record.
+const TEXTS: [&str; 5] = ["::laws::", "turns.tick", "turns.append", "written.tick", "self.trace."];
+
+/// The words of what a Rust program does not have, and the folder of the crates. No made line may have one.
+const UNKNOWN: &str = "
+    Rattle contract contracts counter counters ghost law laws proof proofs prove proved prover record recorded records
+    trace Trace turns Turns crates";
+
+/// Returns the text without what is left out, laid out as by a person who never wrote that.
+pub(crate) fn without_left_out(text: &str, source: &Source) -> String {
+    let mut text = text.to_owned();
+    for word in WORDS.split_whitespace() {
+        // It is in an import with other names.
+        text = text.replace(&format!(", {word},"), ",").replace(&format!(", {word}}}"), "}");
+    }
+    let lines: Vec<&str> = text.lines().filter(|line| !line.trim_start().starts_with("#[tactic(")).collect();
+    let (mut kept, mut rest, mut is_after) = (String::new(), lines.as_slice(), true);
+    while let Some(line) = rest.first() {
+        let count = count_left_out(rest, source);
+        let mut codes = rest[..count].iter().map(|line| line.trim_start());
+        let is_clause = codes.find(|code| !code.starts_with("//")).is_some_and(|code| code.starts_with("ensures "));
+        if count == 0 {
+            kept = with_line(&kept, line, is_after);
+        } else if is_clause && rest[count - 1].ends_with(';') {
+            // The last clause ended what only declares a function.
+            kept = with_line(&kept, ";", true);
+        }
+        is_after = count > 0 || is_after && line.is_empty();
+        rest = &rest[count.max(1)..];
+    }
+    kept.trim_end().to_owned() + "\n"
 }
 
-/// Returns the names of what is left out in a file: also those of parameters, fields and variables of such a type.
-fn names<'a>(tokens: &Tokens<'a>) -> BTreeSet<&'a str> {
-    let is_value = |index: &usize| {
-        let name = tokens.at(*index);
-        let after = tokens.after(*index, &[name, ":"]).or(tokens.after(*index, &[name, "="]));
-        tokens.is_word(*index) && after.is_some_and(|after| has(LEFT_OUT, tokens.at(after_borrow(tokens, after))))
+/// Returns how many of the lines are left out together with the first one, which may be a comment before it.
+fn count_left_out(lines: &[&str], source: &Source) -> usize {
+    let is_comment = |code: &str| code.starts_with("//") && !code.starts_with("//!");
+    let is_before = |code: &str| is_comment(code) || code.starts_with("#[");
+    let first = lines.iter().take_while(|line| is_before(line.trim_start())).count();
+    let Some(line) = lines.get(first).filter(|line| is_left_out(line, source)) else {
+        return 0;
     };
-    (0..tokens.0.len()).filter(is_value).map(|index| tokens.at(index)).chain(LEFT_OUT.split_whitespace()).collect()
+    let indent = &line[..line.len() - line.trim_start().len()];
+    let is_more = |rest: &str| rest.starts_with([' ', '{', '}', ')']);
+    let is_inside = |line: &&&str| line.is_empty() || line.strip_prefix(indent).is_some_and(is_more);
+    let end = first + 1 + lines[first + 1..].iter().take_while(is_inside).count();
+    end - lines[..end].iter().rev().take_while(|line| line.is_empty()).count()
 }
 
-/// Returns the index after `&`, `&mut` or nothing at this index.
-fn after_borrow(tokens: &Tokens, index: usize) -> usize {
-    tokens.after(index, &["&", "mut"]).or(tokens.after(index, &["&"])).unwrap_or(index)
+/// Returns whether a line begins what is left out. What is after a call does not count, since that may have an effect.
+fn is_left_out(line: &str, source: &Source) -> bool {
+    let code = line.split(['/', '"']).next().unwrap_or_default();
+    let is_call = |before: &str| before.ends_with(char::is_alphanumeric) && !before.ends_with("pub");
+    let call = code.match_indices('(').map(|(at, _)| &code[..at]).find(|before| is_call(before));
+    let code = call.unwrap_or(code);
+    let is_module = |path: &str| code.ends_with(&format!("mod {};", path.rsplit('/').next().unwrap_or_default()));
+    words(code).any(|word| has(WORDS, word))
+        || TEXTS.iter().any(|text| code.contains(text))
+        || source.left_out.split_whitespace().any(is_module)
 }
 
-/// Returns the index after what is left out, which begins with this token, or this index if nothing is.
-fn end_of_left_out(tokens: &Tokens, index: usize, names: &BTreeSet<&str>, source: &Source) -> Result<usize, Unknown> {
-    let is_name = |index| names.contains(tokens.at(index));
-    if tokens.at(index) == "," && is_name(after_borrow(tokens, tokens.next(index))) {
-        return tokens.first_of(tokens.next(index), &[",", ")", "}"]);
+/// Returns the text with one more line. If it is after what is left out, a brace or a `;` ends the line before that,
+/// and one of the empty lines around that goes too.
+fn with_line(text: &str, line: &str, is_after: bool) -> String {
+    let code = line.trim_start();
+    let (before, space) = text.split_at(text.trim_end().len());
+    let is_open = before.ends_with('{');
+    match code.chars().next() {
+        _ if !is_after => format!("{text}{line}\n"),
+        None if is_open || before.is_empty() || space == "\n\n" => text.to_owned(),
+        Some('{') => format!("{before} {code}\n"),
+        Some(';') => format!("{before}{code}\n"),
+        Some('}') if is_open => format!("{before}{code}\n"),
+        Some('}') => format!("{before}\n{line}\n"),
+        _ => format!("{text}{line}\n"),
     }
-    let item = tokens.item(index)?;
-    let name = tokens.next(item);
-    match tokens.at(item) {
-        _ if tokens.at(index).starts_with(char::is_whitespace) => Ok(index),
-        "fn" if is_name(name) => end_of_item(tokens, item),
-        "mod" if source.left_out.split_whitespace().any(|path| path.rsplit('/').next() == Some(tokens.at(name))) => {
-            end_of_item(tokens, item)
-        }
-        "const" if is_name(name) => Ok(tokens.first_of(item, &[";"])? + 1),
-        "use" => {
-            let end = tokens.first_of(item, &[";"])?;
-            let is_last = |i: &usize| tokens.is_word(*i) && matches!(tokens.at(tokens.next(*i)), "," | "}" | ";");
-            Ok(if (item..end).filter(is_last).all(is_name) { end + 1 } else { index })
-        }
-        _ if matches!(tokens.at(tokens.previous(index)), "{" | "}" | ";") => {
-            Ok(end_of_statement(tokens, item, is_name).unwrap_or(index))
-        }
-        _ => Ok(index),
-    }
 }
 
-/// Returns the end of a function or a module.
-fn end_of_item(tokens: &Tokens, item: usize) -> Result<usize, Unknown> {
-    let end = tokens.first_of(item, &["{", ";"])?;
-    if tokens.at(end) == "{" { tokens.group_end(end) } else { Ok(end + 1) }
+/// Returns the first line of a text that has a word of what a Rust program does not have.
+pub(crate) fn unknown(text: &str) -> Option<&str> {
+    text.lines().map(str::trim_start).find(|line| words(line).any(|word| has(UNKNOWN, word)))
 }
 
-/// Returns the end of a statement that only calls what is left out, or that binds or calls such a value.
-fn end_of_statement(tokens: &Tokens, item: usize, is_name: impl Fn(usize) -> bool) -> Option<usize> {
-    let is_path = |i| tokens.after(i, &[tokens.at(i), ":", ":"]).is_some();
-    let is_used = |i| is_name(i) && (is_path(i) || matches!(tokens.at(tokens.next(i)), "(" | "." | "="));
-    let found = tokens.first(item, |i| is_used(i) || matches!(tokens.at(i), ";" | "{")).ok()?;
-    if is_used(found) { Some(tokens.first_of(found, &[";"]).ok()? + 1) } else { None }
+fn words(text: &str) -> impl Iterator<Item = &str> {
+    text.split(|c: char| !c.is_alphanumeric() && c != '_')
 }

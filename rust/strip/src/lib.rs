@@ -1,35 +1,22 @@
 //! Makes the sources of the Rust packages from those of the crates of Rattle.
 //!
-//! What only Rattle reads is removed: ghost items, clauses, models and tactics, laws and what they need. The paths are
-//! those of the package. A form that is not known here is an error with its file and its line.
+//! What only Rattle reads is left out: ghost items, clauses, models and tactics, laws and what they need. The paths are
+//! those of the package. A line that still has a word of Rattle is an error, which shows its file and the line.
 
 #![forbid(unsafe_code)]
 
 mod additions;
-mod comments;
-mod contracts;
-mod layout;
 mod left_out;
 mod packages;
-mod paths;
 mod replaced;
-mod tokens;
 
 use packages::{SOURCES, Source};
-use replaced::EVERYWHERE;
 use std::collections::BTreeMap;
 use std::path::{Path, PathBuf};
 use std::{fs, io};
 
 /// What each made file begins with.
 const START: &str = "// Made by `strip` from ";
-
-/// A form that is not known: its line, and what is wrong.
-#[derive(Debug, PartialEq)]
-struct Unknown {
-    line: usize,
-    message: &'static str,
-}
 
 /// Returns the path and the text of each file that is made of the repository in this folder.
 fn made(top: &Path) -> Result<BTreeMap<PathBuf, String>, String> {
@@ -41,9 +28,8 @@ fn made(top: &Path) -> Result<BTreeMap<PathBuf, String>, String> {
             let name = file.strip_prefix(&folder).unwrap_or(&file).to_string_lossy().into_owned();
             let text = read(&top.join(&file))?;
             if let Some(path) = source.made_of(&name) {
-                let made_text = made_text(&text, &name, source)
-                    .map_err(|unknown| format!("{}:{}: {}", file.display(), unknown.line, unknown.message))?;
-                made.insert(path, format!("{START}{}. Edit that file, not this one.\n\n{made_text}", file.display()));
+                let text = made_text(&text, &name, source).map_err(|what| format!("{}: {what}", file.display()))?;
+                made.insert(path, format!("{START}{}. Edit that file, not this one.\n\n{text}", file.display()));
             }
             all += &format!("{name} {text}");
         }
@@ -58,23 +44,29 @@ fn made(top: &Path) -> Result<BTreeMap<PathBuf, String>, String> {
 }
 
 /// Returns what is made of the text of a file of a source, a path in its `src`.
-fn made_text(original: &str, file: &str, source: &Source) -> Result<String, Unknown> {
-    let replaced = |text: &str| {
-        source.replaced.iter().chain(EVERYWHERE).fold(text.to_owned(), |text, (from, to)| text.replace(from, to))
-    };
-    let text = replaced(&contracts::without_contracts(original)?);
-    let text = layout::without_gaps(&left_out::without_laws(&text, source)?);
-    if let (false, Some(comment)) = (source.is_test(), comments::with_word(&text)) {
-        let line = 1 + original.lines().position(|line| replaced(line) == comment).unwrap_or_default();
-        return Err(Unknown { line, message: "a comment about contracts" });
-    }
-    let text = layout::with_sorted_imports(&paths::with_paths(&text, source)?);
+fn made_text(text: &str, file: &str, source: &Source) -> Result<String, String> {
+    let text = with_sorted_imports(&left_out::without_left_out(&source.replaced(text), source));
     let allowed = "#![allow(unused, clippy::all, reason = \"these are tests of Rattle\")]\n\n";
-    Ok(match file {
-        "lib.rt" if source.is_test() => allowed.to_owned() + &text,
-        _ if source.is_test() => text,
-        _ => additions::with_additions(&text, file, source),
-    })
+    match (left_out::unknown(&text), file) {
+        (_, "lib.rt") if source.is_test() => Ok(allowed.to_owned() + &text),
+        _ if source.is_test() => Ok(text),
+        (Some(line), _) => Err(format!("a word that only Rattle has: {line}")),
+        (None, _) => Ok(additions::with_additions(&text, file, source)),
+    }
+}
+
+/// Returns the text with the imports next to one another in the order of rustfmt: `super` and `crate` precede names.
+fn with_sorted_imports(text: &str) -> String {
+    let path = |line: &&str| {
+        let path = line.replace("pub use ", "use ").replace(';', "");
+        path.replace("use super:", "use 0:").replace("use crate:", "use 1:")
+    };
+    let is_import = |line: &&str| path(line).starts_with("use ") && line.ends_with(';');
+    let mut lines: Vec<&str> = text.lines().collect();
+    for imports in lines.chunk_by_mut(|a, b| is_import(a) && is_import(b)) {
+        imports.sort_by_key(path);
+    }
+    lines.join("\n") + "\n"
 }
 
 /// Returns the files with this extension in a folder of the repository and in the folders in it.

@@ -1,6 +1,6 @@
 //! Which crate becomes which files, and what the files have that the crate does not say.
 
-use crate::replaced::{self, Replaced};
+use crate::replaced::{self, EVERYWHERE, Replaced};
 use std::path::{Path, PathBuf};
 
 /// A crate of Rattle, and the files that are made of it. rustc checks what is added. White space parts the names of a
@@ -13,8 +13,6 @@ pub(crate) struct Source {
     pub folder: &'static str,
     /// The file of the root, without `.rs`: that of a module, `main`, or empty if none is made.
     pub root: &'static str,
-    /// Whether std is not used, but core.
-    pub is_core: bool,
     /// Attributes other than `#[inline]`, each with its functions, and the files, paths in `src`, whose functions have
     /// it. The first that names a function counts.
     pub attributes: Listed,
@@ -60,6 +58,23 @@ impl Source {
         }
     }
 
+    /// Returns a text of the crate as it is written in Rust, with the paths of the package.
+    pub fn replaced(&self, text: &str) -> String {
+        let mut text = text.to_owned();
+        if self.is_module() {
+            text = text.replace("crate::", &format!("crate::{}::", self.root));
+        }
+        for (from, to) in self.replaced.iter().chain(EVERYWHERE) {
+            text = text.replace(from, to);
+        }
+        for module in SOURCES.iter().filter(|source| source.folder == LIBRARY.folder) {
+            let path = format!("{}::{}::", self.library(), module.root);
+            text = text.replace(&format!("{}::", module.name), &path).replace(module.name, module.root);
+        }
+        // Only the modules that need std use `io`.
+        if self.is_test() { text } else { text.replace(" std::", " core::").replace(" core::io", " std::io") }
+    }
+
     /// Returns a name or a text of the lists that a crate with these names of files and texts does not have.
     pub fn missing(&self, files: &str) -> Option<&'static str> {
         let listed = self.attributes.iter().chain(self.panics).map(|(_, names)| *names);
@@ -75,19 +90,10 @@ pub(crate) fn has(list: &str, name: &str) -> bool {
     list.split_whitespace().any(|listed| listed == name)
 }
 
-/// What is left out: laws, functions that only record, types without data, and what only contracts use.
-pub(crate) const LEFT_OUT: &str = "
-    DECIMAL Model Trace Turns note_put record_flush record_up_to_eight
-    in_range fits_bits text_is_utf8 rooms_at_most same_rest formatted_room_suffices size_suffices sizes_suffice
-    digit_count_is_least digit_count_at_most digit_count_within_bits digits_computed digits_equal_iff different_digits
-    equal_digits equal_padded equal_texts padded_order text_computed text_is_ascii text_is_decimal text_length
-    texts_equal_iff same_counter same_link same_user different_codes";
-
 const LIBRARY: Source = Source {
     name: "",
     folder: "cojimuran/src",
     root: "",
-    is_core: true,
     attributes: &[],
     constant: "",
     panics: &[],
@@ -163,12 +169,11 @@ pub(crate) const SOURCES: &[Source] = &[
     Source {
         name: "lexical_lines",
         root: "lines",
-        is_core: false,
         left_out: "devices/trace laws",
         replaced: replaced::LINES,
         ..LIBRARY
     },
-    Source { name: "lexical_streams", root: "streams", is_core: false, replaced: replaced::STREAMS, ..LIBRARY },
+    Source { name: "lexical_streams", root: "streams", replaced: replaced::STREAMS, ..LIBRARY },
     Source {
         name: "lexical_c",
         folder: "lexical_c/src",
@@ -193,4 +198,4 @@ pub(crate) const SOURCES: &[Source] = &[
 ];
 
 /// What calls the libraries as the repository's tests do.
-const TESTS: Source = Source { is_core: false, replaced: replaced::IN_TESTS, ..LIBRARY };
+const TESTS: Source = Source { replaced: replaced::IN_TESTS, ..LIBRARY };

@@ -27,6 +27,7 @@ pub(crate) const EVERYWHERE: Replaced = &[
 ];
 
 pub(crate) const WRITE_INTEGER: Replaced = &[
+    ("use lexical_tables as", "use crate::tables as"),
     ("unreachable!(\"", "panic!(\""),
     // What only contracts use.
     ("::write_decimal;\nuse lexical_num::num::{LexicalInteger, UnsignedInteger};", "::write_decimal;"),
@@ -57,6 +58,14 @@ pub(crate) const WRITE_INTEGER: Replaced = &[
         "// It is cold, and so not inlined: otherwise each call for a shorter number would save registers that only this needs.\n#[cold]\n",
         "",
     ),
+    // The counters are the last parameters.
+    (", turns: &mut Turns)", ")"),
+    (", written: &mut Turns)", ")"),
+    (", &mut Turns::new())", ")"),
+    (", &mut turns)", ")"),
+    (", &mut written)", ")"),
+    (", written)", ")"),
+    (", turns)", ")"),
 ];
 
 pub(crate) const PARTS: Replaced = &[
@@ -97,8 +106,12 @@ pub(crate) const LINES: Replaced = &[
 ];
 
 /// In Rattle the runtime permits input and output, and returns their streams.
-pub(crate) const STREAMS: Replaced =
-    &[("(rt: HostRuntime)", "()"), ("rt.reader()", "io::stdin().lock()"), ("io::writer(&rt)", "io::stdout().lock()")];
+pub(crate) const STREAMS: Replaced = &[
+    ("(rt: HostRuntime)", "()"),
+    ("rt.reader()", "io::stdin().lock()"),
+    ("io::writer(&rt)", "io::stdout().lock()"),
+    ("`lexical_lines::run`", "`lines::run`"),
+];
 
 pub(crate) const FOR_C: Replaced = &[
     // A slice has no C ABI in rustc. So the root exports functions with the names of the writers, which call these.
@@ -128,6 +141,7 @@ pub(crate) const IN_TESTS: Replaced = &[
         "() -> Result<(), Fail> {\n    let rt = repository_tests::runtime::HostRuntime;",
     ),
     ("rt: HostRuntime) ->", "rt: repository_tests::runtime::HostRuntime) ->"),
+    ("use uses::", "use repository_tests::uses::"),
     ("use std::process::Abort;", "use repository_tests::runtime::Abort;"),
     ("use std::alloc::{Alloc, Global};", "use repository_tests::runtime::Global;"),
     ("use std::alloc::", "use repository_tests::runtime::"),

@@ -1,5 +1,6 @@
 //! The table writer, which writes four digits per iteration from a table of the digit pairs of the radix, or in
-//! radix 2 eight, which it computes.
+//! radix 2 eight, which it computes. In radix 10 and in powers of 2 it counts the digits first, and otherwise, by
+//! division, while it writes them.
 
 // `crates/library_tests/src/tables.rt` has examples.
 ghost use Rattle.std.specs.Prelude.{◌≡◌, ◌+◌, ◌≤◌, ◌++◌, IsTrue, length};
@@ -55,7 +56,7 @@ pub fn algorithm_counted<T: DigitCount>(
     requires table { BeginsWithPairs radix table.now }
     requires room { digit_count radix (T.magnitude value) ≤ length buffer.old }
     ensures digits { WritesDigits radix (T.magnitude value) buffer.old buffer.new result }
-    // The counter records the quotient of each iteration of the digit count, which comes first, and of the writer.
+    // The counter records the quotients of the digit count, and then those of the writer.
     ensures notes { turns.new ≡ turns.old ++ table_notes radix (T.magnitude value) }
     ensures turns { length turns.new ≡ length turns.old + table_turns radix result }
     ensures few_turns { length turns.new ≤ length turns.old + 21 }

@@ -1,7 +1,8 @@
 // Made by `strip` from crates/lexical_write_integer/src/digits/radix/algorithm.rt. Edit that file, not this one.
 
 //! The table writer, which writes four digits per iteration from a table of the digit pairs of the radix, or in
-//! radix 2 eight, which it computes.
+//! radix 2 eight, which it computes. In radix 10 and in powers of 2 it counts the digits first, and otherwise, by
+//! division, while it writes them.
 
 use super::by_radix::by_radix;
 use super::write_digits;
