@@ -24,7 +24,7 @@ use borrow.Rule.Slice.PartMut.{put_mid}
 abbrev pub last_of : ℕ → ℕ
 last_of n = to_ascii_lowercase (digit_char (n % 16))
 
--- as many last digits of a number
+-- this many last digits of a number
 abbrev pub last_digits : ℕ → ℕ → List ℕ
 last_digits count n = map to_ascii_lowercase (padded_text 16 count n)
 
@@ -83,7 +83,7 @@ take-sign (pos n) bytes is some = rw is refl
 take-sign (negsuc n) [] is some = absurd (omega arith)
 take-sign (negsuc n) (byte ∷ bytes) is some = rw is refl
 
--- the digits after the sign are the text in lowercase; if there is no sign, they are written over the byte for it
+-- the digits after the sign are the text in lowercase; without a sign they are written over the byte for it
 pub with_sign : {sign end : ℕ} (x : ℤ) (before part : List ℕ) → sign ≡ length (sign_of x false) → end ≡ sign + digit_count 16 (unsigned_abs x)
     → sign < end → end ≤ length before → part ≡ last_digits (length (take (end - sign) (drop sign (set before 0 45)))) (unsigned_abs x)
     → length part ≡ length (take (end - sign) (drop sign (set before 0 45)))

@@ -43,7 +43,7 @@ pub fn write_hexadecimal<T: WideInteger>(value: T, buffer: &mut [u8]) -> usize {
     if end > buffer.len() {
         return 0;
     }
-    // If there is no sign, the first digit is written over it.
+    // Without a sign the first digit is written over it.
     buffer[0] = b'-';
     fill_with_digits(magnitude, &mut buffer[sign..end]);
     end
