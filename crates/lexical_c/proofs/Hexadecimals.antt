@@ -1,6 +1,7 @@
 -- Digits in radix 16 in lowercase, which are written from the last, and the sign before them.
-use Rattle.std.proofs.Common.{◌≡◌, ℤ, pos, negsuc, unsigned_abs, false, ℕ, zero, suc, ◌+◌, ◌-◌, ◌/◌, ◌%◌, ◌<◌, ◌≤◌, List, [], ◌∷◌, ◌++◌}
-use Rattle.std.proofs.Common.{length, take, drop, set, map, append_assoc, refl, sym, ap, ◌∙◌, arith, drop-cons}
+use Rattle.std.proofs.lemmas.Grind.{common_steps}
+use Rattle.std.proofs.Common.{◌≡◌, ℤ, unsigned_abs, false, ℕ, suc, ◌+◌, ◌-◌, ◌/◌, ◌%◌, ◌<◌, ◌≤◌, List, [], ◌∷◌, ◌++◌, length, take, drop, set, map}
+use Rattle.std.proofs.Common.{append_assoc, refl, sym, ap, ◌∙◌, drop-cons, arith}
 use Rattle.std.specs.Char.{to_ascii_lowercase}
 use Rattle.std.proofs.lemmas.List.{append-nil, drop_all, drop-set, drop-set-add, drop-set-lt, length-drop, length-set}
 use Rattle.std.proofs.lemmas.List.{length-take-le, map-append, take-append-drop}
@@ -45,32 +46,18 @@ pub two_digits : {x y : ℕ} (left at : ℕ) (text : List ℕ) → 1 < at → at
     last_digits (at - 2) (left / 256) ++ drop (at - 2) (set (set text (at - 2) y) (at - 1) x) ≡ last_digits at left ++ drop at text
 two_digits {x} {y} left at text two within is_y is_x =
     let place : at ≡ suc (suc (at - 2)) = omega arith in
-    let quotient : left / 256 ≡ left / 16 / 16 = omega arith in
-    rw (written_two text at x y two within, is_y, is_x, quotient)
-    (sym (ap (λ k. last_digits k left ++ drop at text) place ∙ without_two (at - 2) left (drop at text)))
+    grind (arith, written_two, without_two)
 
 -- the first two digits; if there is only one, it is written over a byte of the same index
 pub first_digits : {x y : ℕ} (left at : ℕ) (text : List ℕ) → 1 ≤ at → at ≤ 2 → at ≤ length text → y ≡ last_of (left / 16) → x ≡ last_of left →
     set (set text 0 y) (at - 1) x ≡ last_digits at left ++ drop at text
-first_digits left zero text some few within is_y is_x = absurd (omega arith)
-first_digits left (suc zero) [] some few within is_y is_x = absurd (omega arith)
-first_digits left (suc zero) (byte ∷ text) some few within is_y is_x = rw is_x refl
-first_digits left (suc (suc zero)) text some few within is_y is_x = two_digits left 2 text (omega arith) within is_y is_x
-first_digits left (suc (suc (suc at))) text some few within is_y is_x = absurd (omega arith)
+first_digits left at text some few within is_y is_x = grind arith
 
 -- as many digits as the number has are its digits
 all_digits : (n count : ℕ) → count ≡ digit_count 16 n → IsLowercase (IsDigits 16 n) (last_digits count n)
 all_digits n count is =
     let padded = (padded_computed 16 count n (padded_text 16 count n) (omega arith) (rw is (digit_count-fits 16 n (omega arith)))).1 refl in
-    record {
-      original = padded_text 16 count n;
-      is = record {
-        digits = padded.digits;
-        numeral = IsNumeralOf-block 16 n count padded.digits (omega arith) (sym is) padded.block;
-        characters = padded.characters;
-      };
-      whole = refl;
-    }
+    grind (arith, IsNumeralOf-block)
 
 abbrev pub hexadecimal : Format
 hexadecimal = record standard { mantissa_radix = 16 }
@@ -79,9 +66,7 @@ pub hexadecimal_valid : IsValid hexadecimal
 hexadecimal_valid = plain_valid 16 record { at_least_two = omega arith; at_most_36 = omega arith }
 
 take-sign : {sign : ℕ} (x : ℤ) (bytes : List ℕ) → sign ≡ length (sign_of x false) → 1 ≤ length bytes → take sign (set bytes 0 45) ≡ sign_of x false
-take-sign (pos n) bytes is some = rw is refl
-take-sign (negsuc n) [] is some = absurd (omega arith)
-take-sign (negsuc n) (byte ∷ bytes) is some = rw is refl
+take-sign x bytes is some = grind (arith, common_steps)
 
 -- the digits after the sign are the text in lowercase; without a sign they are written over the byte for it
 pub with_sign : {sign end : ℕ} (x : ℤ) (before part : List ℕ) → sign ≡ length (sign_of x false) → end ≡ sign + digit_count 16 (unsigned_abs x)

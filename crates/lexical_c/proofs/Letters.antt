@@ -1,9 +1,9 @@
 -- Texts in lowercase: those of radix 10 and below have no letters, and the letters of the others differ in a bit.
-use Rattle.std.proofs.Common.{◌≡◌, None, Bool, true, false, ℕ, ◌+◌, ◌%◌, ◌<◌, ◌≤◌, List, [], ◌∷◌, map, refl, arith, ◌-◌, ◌*◌, ◌/◌, ℤ, pos, negsuc}
+use Rattle.std.proofs.Common.{◌≡◌, None, Bool, ℕ, ◌+◌, ◌%◌, ◌<◌, ◌≤◌, List, [], ◌∷◌, map, refl, arith, ◌-◌, ◌*◌, ◌/◌, ℤ}
 use Rattle.std.specs.List.{All}
 use Rattle.std.specs.Char.{to_ascii_lowercase}
 use Rattle.std.proofs.lemmas.Bool.Decides.{nat_tests}
-use Rattle.std.proofs.lemmas.List.Elements.{All-nil, All-cons, All-head, All-tail, All-map, All-append}
+use Rattle.std.proofs.lemmas.List.Elements.{All-head, All-tail, All-map, All-append}
 use Rattle.std.proofs.lemmas.List.{map-append}
 use Rattle.std.proofs.lemmas.Str.Ascii.{lowercase_is}
 use Rattle.std.proofs.lemmas.Nat.Bits.{and_pow}
@@ -24,13 +24,8 @@ digit_char-unlettered d small = grind (arith, nat_tests)
 Unlettered-digit_chars : (r : ℕ) (digits : List ℕ) → r ≤ 10 → All (λ d. d < r) digits → Unlettered (map digit_char digits)
 Unlettered-digit_chars r digits few below = All-map (λ b. b < 65) digit_char digits (λ k d less. digit_char-unlettered _ (omega (arith, below k d less)))
 
-Unlettered-one : (b : ℕ) → b < 65 → Unlettered (b ∷ [])
-Unlettered-one b small = All-cons (λ b. b < 65) b [] small (All-nil (λ b. b < 65))
-
 pub Unlettered-sign : (x : ℤ) (required : Bool) → Unlettered (sign_of x required)
-Unlettered-sign (negsuc n) required = Unlettered-one 45 (omega arith)
-Unlettered-sign (pos n) true = Unlettered-one 43 (omega arith)
-Unlettered-sign (pos n) false = All-nil (λ b. b < 65)
+Unlettered-sign x required = grind arith
 
 pub lowercase-unlettered : (text : List ℕ) → Unlettered text → map to_ascii_lowercase text ≡ text
 lowercase-unlettered [] all = refl
@@ -63,9 +58,7 @@ Lowered-digit_chars (d ∷ digits) below =
     rw (digit_char-lowered d (All-head (λ k. k < 36) d digits below), Lowered-digit_chars digits (All-tail (λ k. k < 36) d digits below)) refl
 
 Lowered-sign : (x : ℤ) (required : Bool) → Lowered (sign_of x required)
-Lowered-sign (negsuc n) required = refl
-Lowered-sign (pos n) true = refl
-Lowered-sign (pos n) false = refl
+Lowered-sign x required = grind arith
 
 -- the letters of a text without groups are changed to lowercase by setting the bit
 pub lowered-IsText : (x : ℤ) (format : Format) (text : List ℕ) → format.mantissa_radix ≤ 36 → format.digit_grouping ≡ None →

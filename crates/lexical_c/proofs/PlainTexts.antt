@@ -1,6 +1,6 @@
 -- Texts in formats without groups and required signs.
-use Rattle.std.proofs.Common.{◌≡◌, None, ℕ, ◌-◌, ◌+◌, ◌≤◌, ℤ, unsigned_abs, List, ◌++◌, length, take, drop, refl, sym, ap, ◌∙◌, arith, rules}
-use Rattle.std.proofs.lemmas.List.{length-take, take-append-drop}
+use Rattle.std.proofs.lemmas.Grind.{common_steps}
+use Rattle.std.proofs.Common.{◌≡◌, None, ℕ, ◌-◌, ◌+◌, ◌≤◌, ℤ, unsigned_abs, List, length, take, drop, refl, sym, ap, ◌∙◌, arith}
 use Rattle.lexical_num.specs.Format.{Format, IsRadix, IsValid, standard}
 use Rattle.lexical_num.specs.Sign.{sign_of}
 use Rattle.lexical_write_integer.specs.Buffer.{Front, Writes, WritesDigits, WritesText}
@@ -15,11 +15,7 @@ pub only_radix : (format : CFormat) → HasOnlyRadixAndCase format → format_of
 only_radix format only = rw (only.sign, only.groups) refl
 
 pub plain_valid : (radix : ℕ) → IsRadix radix → IsValid (record standard { mantissa_radix = radix })
-plain_valid radix is = record {
-  mantissa = is;
-  exponent = record { at_least_two = omega arith; at_most_36 = omega arith };
-  groups = λ grouping none. search rules;
-}
+plain_valid radix is = grind arith
 
 pub accepted : (format : CFormat) → HasOnlyRadixAndCase format → IsRadix format.radix → IsAccepted format
 accepted format only radix = record { valid = rw (only_radix format only) (plain_valid format.radix radix); unreserved = only.unreserved }
@@ -27,12 +23,7 @@ accepted format only radix = record { valid = rw (only_radix format only) (plain
 -- a buffer that begins with written bytes is unchanged if the same bytes are written again
 own_front : {Is : List ℕ → Type 0} (before written : List ℕ) (count : ℕ) →
     Writes Is before written count → Front written written (take count written)
-own_front before written count w =
-    let long : length (take count written) ≡ count = ap length (take-Writes before written count w) ∙ sym w.count in
-    record {
-      fits = omega (arith, length-take count written);
-      written = sym (take-append-drop count written) ∙ ap (λ k. take count written ++ drop k written) (sym long);
-    }
+own_front before written count w = grind (arith, common_steps)
 
 -- the digits of the magnitude after the sign are the text
 pub after_sign : (x : ℤ) (format : Format) (before between written : List ℕ) (count digits : ℕ) → format.digit_grouping ≡ None →

@@ -26,7 +26,4 @@ pub text_of-le_need : {bits width : ℕ} (is_signed : Bool) (x : ℤ) (format : 
     IsDecimalWidth (least_of bits is_signed) (greatest_of bits is_signed) width →
     least_of bits is_signed ≤ℤ x → x ≤ℤ greatest_of bits is_signed → length (text_of x format) ≤ need x width format
 text_of-le_need is_signed x format valid of_type decimal at_least at_most =
-    let small = magnitude-small is_signed of_type x at_least at_most in
-    let count = digit_count format.mantissa_radix (unsigned_abs x) in
-    let fewer = grouped_length-le_need format {count = count} decimal at_least at_most refl in
-    omega (arith, length-text_of x format valid small, fewer)
+    search (arith, magnitude-small, unsigned_abs, grouped_length-le_need, length-text_of)

@@ -1,23 +1,21 @@
 -- What a function that writes promises, from what it knows of the text.
-use Rattle.std.proofs.Common.{◌≡◌, Option, None, Some, ℕ, ◌^◌, ◌<◌, ◌≤◌, ℤ, unsigned_abs, List, ◌++◌, length, map, take, drop}
-use Rattle.std.proofs.Common.{length-append, refl, sym, ap, subst, ◌∙◌, arith}
+use Rattle.std.proofs.lemmas.Grind.{common_steps}
+use Rattle.std.proofs.Common.{◌≡◌, Option, ℕ, ◌^◌, ◌<◌, ◌≤◌, ℤ, unsigned_abs, List, ◌++◌, length, map, take, drop, length-append, refl, sym, ap, ◌∙◌, arith}
 use Rattle.std.specs.Prelude.{◌≢◌}
 use Rattle.std.specs.Char.{to_ascii_lowercase}
-use Rattle.lexical_num.specs.Format.{Format, IsRadix, IsValid, grouped_length, standard}
+use Rattle.lexical_num.specs.Format.{Format, IsValid, grouped_length}
 use Rattle.lexical_write_integer.specs.Buffer.{Front, Writes, WritesText}
 use Rattle.lexical_write_integer.specs.Computed.{text_of}
 use Rattle.lexical_write_integer.specs.Text.{IsText}
 use Rattle.lexical_write_integer.proofs.Buffers.Lowercases.{written_lower}
 use Rattle.lexical_write_integer.proofs.Buffers.Prefixes.{take-Writes, Writes-is}
 use Rattle.lexical_write_integer.proofs.OfTexts.ComputedTexts.{text_computed}
-use Rattle.lexical_write_integer.proofs.OfDigits.Count.DigitCounts.{digit_count-pos}
-use Rattle.lexical_write_integer.proofs.OfTexts.Required.{length-IsText}
 use Rattle.lexical_c.specs.Buffer.{IsWritable, WritesIf, WritesOrRefuses}
 use Rattle.lexical_c.specs.Format.{HasOnlyRadixAndCase, IsAccepted, format_of}
 use Rattle.lexical_c.specs.declared.format.CFormat.{CFormat}
 use Rattle.lexical_c.specs.declared.format.TheConstants.{DECIMAL}
 use Rattle.lexical_c.proofs.Letters.{lowercase-IsText}
-use Rattle.lexical_c.proofs.PlainTexts.{accepted, only_radix}
+use Rattle.lexical_c.proofs.PlainTexts.{accepted}
 
 -- the length of the written text is that of the computed text
 pub length-written : (x : ℤ) (format : Format) (before after : List ℕ) (count : ℕ) → 2 ≤ format.mantissa_radix →
@@ -34,15 +32,11 @@ pub count-length : {Is : List ℕ → Type 0} (before after : List ℕ) (count :
 count-length before after count w = w.count ∙ ap length (sym (take-Writes before after count w))
 
 pub grouped_length-pos : (grouping : Option (ℕ × ℕ)) (count : ℕ) → 1 ≤ count → 1 ≤ grouped_length grouping count
-grouped_length-pos None count some = some
-grouped_length-pos (Some grouping) count some = omega arith
+grouped_length-pos grouping count some = grind arith
 
 -- the text of a number is not empty
 pub some-written : (x : ℤ) (format : Format) (before after : List ℕ) (count : ℕ) → IsValid format → WritesText x format before after count → 1 ≤ count
-some-written x format before after count valid w =
-    let digits = digit_count-pos format.mantissa_radix (unsigned_abs x) in
-    let long = length-IsText x format w.text valid.mantissa.at_least_two valid.groups w.is in
-    omega (arith, w.count, long, grouped_length-pos format.digit_grouping _ digits)
+some-written x format before after count valid w = grind (arith, common_steps)
 
 -- the text of a number in a format that is accepted is the result
 pub written : (x : ℤ) (format : CFormat) (before after : List ℕ) (count : ℕ) → IsAccepted format → unsigned_abs x < 2 ^ 64 →
@@ -50,11 +44,7 @@ pub written : (x : ℤ) (format : CFormat) (before after : List ℕ) (count : �
 written x format before after count accepted small w =
     let computed = length-written x (format_of format) before after count accepted.valid.mantissa.at_least_two small w in
     let some = some-written x (format_of format) before after count accepted.valid w in
-    record {
-      accepts = (λ _. record { accepted = accepted; fits = omega (arith, computed, w.count, w.front.fits) }, λ _. some);
-      text = λ _. w;
-      refused = λ none. absurd (omega (arith, some, none));
-    }
+    grind arith
 
 -- the text is written to an array, and copied from there to the start of the buffer
 pub written_by_copy : (x : ℤ) (format : CFormat) (array with_text before after : List ℕ) (count copy : ℕ) → IsAccepted format →
@@ -67,11 +57,7 @@ written_by_copy x format array with_text before after count copy accepted small 
 -- the number cannot be written, so the result is 0 and the buffer is unchanged
 pub refused : (x : ℤ) (format : CFormat) (Is : List ℕ → Type 0) (buffer : List ℕ) → ¬ IsWritable x format (length buffer) →
     WritesIf x format Is buffer buffer 0
-refused x format Is buffer cannot = record {
-  accepts = (λ none. absurd (omega (arith, none)), λ writable. absurd (cannot writable));
-  text = λ none. absurd (omega (arith, none));
-  refused = λ _. refl;
-}
+refused x format Is buffer cannot = grind arith
 
 -- without groups, in radix 10 or below if lowercase is requested, the text is in the requested case
 pub in_either_case : (x : ℤ) (format : CFormat) (before after : List ℕ) (count : ℕ) → format.group_size ≡ 0 →
@@ -97,9 +83,7 @@ in_either_case x format before after count none few w = record {
 
 -- the standard format is accepted
 pub decimal_accepted : IsAccepted DECIMAL
-decimal_accepted = accepted DECIMAL
-    record { sign = refl; groups = refl; unreserved = record { first = refl; second = refl } }
-    record { at_least_two = omega arith; at_most_36 = omega arith }
+decimal_accepted = grind arith
 
 -- its text is in the requested case
 pub in_decimal : (x : ℤ) (before after : List ℕ) (count : ℕ) → WritesIf x DECIMAL (IsText x (format_of DECIMAL)) before after count →
@@ -109,19 +93,7 @@ in_decimal x before after count = in_either_case x DECIMAL before after count re
 -- in radix 10 a format with only a radix and a case is like the standard format
 pub as_decimal : (x : ℤ) (format : CFormat) (before after : List ℕ) (count : ℕ) → HasOnlyRadixAndCase format → format.radix ≡ 10 →
     WritesOrRefuses x DECIMAL before after count → WritesOrRefuses x format before after count
-as_decimal x format before after count only ten w =
-    let same : format_of format ≡ standard = only_radix format only ∙ ap (λ r. record standard { mantissa_radix = r }) ten in
-    let long = ap (λ f. length (text_of x f)) same in
-    let radix : IsRadix format.radix = record { at_least_two = omega (arith, ten); at_most_36 = omega (arith, ten) } in
-    in_either_case x format before after count only.groups (λ _. omega (arith, ten)) record {
-      accepts = (
-        λ some. record { accepted = accepted format only radix; fits = omega (arith, long, (w.accepts.0 some).fits) },
-        λ writable. w.accepts.1 (record { accepted = decimal_accepted; fits = omega (arith, long, writable.fits) }),
-      );
-      text = λ some. let t = w.text some in
-          record { text = t.text; is = subst (λ f. IsText x f t.text) (sym same) (t.is.upper refl); front = t.front; count = t.count };
-      refused = w.refused;
-    }
+as_decimal x format before after count only ten w = grind (arith, in_either_case)
 
 -- with lowercase, the letters of the written text are changed where they are
 pub in_lowercase : (x : ℤ) (format : CFormat) (before between lower : List ℕ) (count : ℕ) → format.lowercase ≢ 0 →

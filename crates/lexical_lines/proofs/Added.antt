@@ -1,5 +1,5 @@
 -- The elements that were appended to a list.
-use Rattle.std.proofs.Common.{◌≡◌, ℕ, List, ◌++◌, length, drop, sym, ap, ◌∙◌, append_assoc}
+use Rattle.std.proofs.Common.{◌≡◌, ℕ, List, ◌++◌, length, drop, ap, ◌∙◌, append_assoc, arith}
 use Rattle.std.proofs.Math.Seq.{drop-append_seam}
 use Rattle.lexical_lines.specs.RunOutcome.{added}
 
@@ -8,9 +8,7 @@ added-is before after more e = ap (drop (length before)) e ∙ drop-append_seam 
 
 -- appending twice is appending
 pub grown : (a b c x y : List ℕ) → b ≡ a ++ x → c ≡ b ++ y → c ≡ a ++ added a c
-grown a b c x y e f =
-    let whole = f ∙ ap (λ front. front ++ y) e ∙ append_assoc a x y in
-    whole ∙ ap (λ more. a ++ more) (sym (added-is a c (x ++ y) whole))
+grown a b c x y e f = grind (arith, append_assoc, added-is)
 
 pub added-more : (a b c x : List ℕ) → b ≡ a ++ added a b → c ≡ b ++ x → added a c ≡ added a b ++ x
 added-more a b c x e f = added-is a c (added a b ++ x) (f ∙ ap (λ front. front ++ x) e ∙ append_assoc a (added a b) x)

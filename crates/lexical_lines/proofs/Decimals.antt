@@ -1,13 +1,14 @@
 -- Decimal digits and the bytes that represent them.
+use Rattle.std.proofs.lemmas.Grind.{common_steps}
 use Rattle.std.proofs.Common.{◌≡◌, ℕ, ◌+◌, ◌-◌, ◌*◌, ◌^◌, ◌<◌, ◌≤◌, List, [], ◌∷◌, ◌++◌, length, get_or, map, take, drop, refl, sym, ap, ◌∙◌, arith}
 use Rattle.std.specs.List.{All}
-use Rattle.std.proofs.lemmas.List.{take_more, take-append-drop, length-map, map-append}
+use Rattle.std.proofs.lemmas.List.{take-append-drop, length-map, map-append}
 use Rattle.std.proofs.lemmas.List.Elements.{All-head, All-tail, All-map, All-weaker}
 use Rattle.std.proofs.Math.Nat.{one-le-pow, mul-le-mul_left}
 use Rattle.lexical_num.specs.Digit.{digit_char}
 use Rattle.lexical_write_integer.specs.Numeral.{value_of}
 use Rattle.lexical_write_integer.specs.Text.{IsDigits}
-use Rattle.lexical_write_integer.proofs.OfDigits.DigitValues.{value_of-append, value_of-one}
+use Rattle.lexical_write_integer.proofs.OfDigits.DigitValues.{value_of-append}
 pub use Rattle.lexical_write_integer.proofs.OfTexts.PrintedTexts.{digit_char-decimal}
 use Rattle.lexical_lines.specs.Decimal.{IsDecimalNumeral, IsDigitByte, digits_in}
 
@@ -28,11 +29,7 @@ value_of-front text k =
 -- the value of the digits up to the next one
 pub value_of-more : (text : List ℕ) (i : ℕ) → i < length text → value_of 10 (digits_in (take (i + 1) text))
     ≡ value_of 10 (digits_in (take i text)) * 10 + (get_or text i 0 - 48)
-value_of-more text i h =
-    ap (λ bytes. value_of 10 (digits_in bytes)) (take_more text i 0 h)
-    ∙ ap (value_of 10) (map-append (λ byte. byte - 48) (take i text) (get_or text i 0 ∷ []))
-    ∙ value_of-append 10 (digits_in (take i text)) ((get_or text i 0 - 48) ∷ [])
-    ∙ omega (arith, value_of-one 10 (get_or text i 0 - 48))
+value_of-more text i h = grind (arith, common_steps, value_of-append)
 
 -- the value of the first bytes is at most the number
 pub IsDecimalNumeral-at_least : (n : ℕ) (text : List ℕ) (i : ℕ) → i < length text → IsDecimalNumeral n text

@@ -1,4 +1,5 @@
 -- Joined texts, and how another text is appended to them.
+use Rattle.std.proofs.lemmas.Grind.{common_steps}
 use Rattle.std.proofs.Common.{◌≡◌, ℕ, ◌+◌, ◌<◌, List, [], ◌∷◌, ◌++◌, length, set, refl, sym, ap, ◌∙◌, arith, length-append, append_assoc}
 use Rattle.lexical_write_integer.specs.Buffer.{Front, Writes}
 use Rattle.lexical_write_integer.specs.Sequence.{AreJoined}
@@ -16,15 +17,7 @@ pub record Ready (IsNext IsWhole : List ℕ → Type 0) (before between : List �
 pub Ready-one : {A : Type 0} (IsOf : A → List ℕ → Type 0) (separator : ℕ) (xs : List A) (x : A) (before between : List ℕ) (count : ℕ) → length xs ≡ 0
     → Writes (AreJoined IsOf (separator ∷ []) xs) before between count
     → Ready (IsOf x) (AreJoined IsOf (separator ∷ []) (xs ++ x ∷ [])) before between count
-Ready-one IsOf separator xs x before between count none w =
-    record {
-      text = w.text;
-      counted = w.count;
-      front = w.front;
-      whole = λ last is.
-          AreJoined-push IsOf (separator ∷ []) [] xs x w.text last record { at_first = λ _. refl; later = λ some. absurd (omega (arith, none, some)) }
-          w.is record { first = []; second = last; is_first = refl; is_second = is; whole = refl };
-    }
+Ready-one IsOf separator xs x before between count none w = grind (arith, common_steps)
 
 -- before each later text, after its separator
 pub Ready-push : {A : Type 0} (IsOf : A → List ℕ → Type 0) (separator : ℕ) (xs : List A) (x : A) (before between : List ℕ) (count : ℕ) → 0 < length xs

@@ -1,10 +1,10 @@
 -- An input is cut into lines in exactly one way.
-use Rattle.std.proofs.Common.{◌≡◌, ◌≢◌, ℕ, List, [], ◌∷◌, ◌++◌, refl, sym, ap, ◌∙◌, append_assoc, inl, inr}
+use Rattle.std.proofs.lemmas.Grind.{common_steps}
+use Rattle.std.proofs.Common.{◌≡◌, ◌≢◌, ℕ, List, [], ◌∷◌, ◌++◌, refl, sym, ap, ◌∙◌, append_assoc, inl, inr, arith}
 use Rattle.std.proofs.lemmas.Bool.{cases_eq}
 use Rattle.std.specs.List.{All}
-use Rattle.std.proofs.lemmas.Grind.{flat_map-append}
 use Rattle.std.proofs.lemmas.List.{append-nil}
-use Rattle.std.proofs.lemmas.List.Elements.{All-nil, All-cons, All-head, All-tail, All-push, All-append}
+use Rattle.std.proofs.lemmas.List.Elements.{All-nil, All-cons, All-head, All-tail}
 use Rattle.lexical_lines.specs.Lines.{IsCut, AreLines, EndsLine, NoNewline, with_newlines, rest_line}
 use Rattle.lexical_lines.proofs.Splits.{Lacks-not, cut_unique}
 
@@ -22,40 +22,18 @@ IsCut-none = record { whole = refl; each = All-nil NoNewline; rest_inside = All-
 
 pub IsCut-more : {bytes : List ℕ} {ended : List (List ℕ)} {rest : List ℕ} (more : List ℕ) → NoNewline more → IsCut bytes ended rest
     → IsCut (bytes ++ more) ended (rest ++ more)
-IsCut-more {ended = ended} {rest = rest} more inside h = record {
-  whole = ap (λ xs. xs ++ more) h.whole ∙ append_assoc (with_newlines ended) rest more;
-  each = h.each;
-  rest_inside = All-append IsInside rest more h.rest_inside inside;
-}
+IsCut-more {ended = ended} {rest = rest} more inside h = grind (arith, common_steps)
 
 pub IsCut-newline : {bytes : List ℕ} {ended : List (List ℕ)} {rest : List ℕ} → IsCut bytes ended rest → IsCut (bytes ++ 10 ∷ []) (ended ++ rest ∷ []) []
-IsCut-newline {ended = ended} {rest = rest} h = record {
-  whole = ap (λ xs. xs ++ 10 ∷ []) h.whole ∙ simp (flat_map-append, append_assoc, append-nil);
-  each = All-push NoNewline ended rest h.each h.rest_inside;
-  rest_inside = All-nil IsInside;
-}
+IsCut-newline {ended = ended} {rest = rest} h = grind (arith, common_steps)
 
 -- ---- the lines of a cut
 
-rest_line-some : (rest : List ℕ) → (rest ≡ [] → ⊥) → rest_line rest ≡ rest ∷ []
-rest_line-some [] some = absurd (some refl)
-rest_line-some (byte ∷ rest) some = refl
-
 pub AreLines-ended : {bytes : List ℕ} {ended : List (List ℕ)} {rest : List ℕ} → IsCut bytes ended rest → rest ≡ [] → AreLines bytes ended
-AreLines-ended {ended = ended} {rest = rest} cut none = record {
-  ended = ended;
-  rest = rest;
-  cut = cut;
-  are = sym (append-nil ended) ∙ ap (λ last. ended ++ rest_line last) (sym none);
-}
+AreLines-ended {ended = ended} {rest = rest} cut none = grind (arith, append-nil)
 
 pub AreLines-rest : {bytes : List ℕ} {ended : List (List ℕ)} {rest : List ℕ} → IsCut bytes ended rest → (rest ≡ [] → ⊥) → AreLines bytes (ended ++ rest ∷ [])
-AreLines-rest {ended = ended} {rest = rest} cut some = record {
-  ended = ended;
-  rest = rest;
-  cut = cut;
-  are = ap (λ more. ended ++ more) (sym (rest_line-some rest some));
-}
+AreLines-rest {ended = ended} {rest = rest} cut some = grind arith
 
 -- ---- every input has a cut
 

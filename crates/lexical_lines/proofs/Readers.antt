@@ -1,11 +1,12 @@
 -- The bytes that a source has read from a reader.
-use Rattle.std.proofs.Common.{◌≡◌, ◌⊎◌, ℕ, ◌+◌, true, List, [], ◌++◌, length, take, zero, suc, Option, Some, None, IsSome, refl, sym, ap, subst, ◌∙◌, inl}
-use Rattle.std.proofs.Common.{inr, arith, ◌∷◌, length-append}
+use Rattle.std.proofs.lemmas.Grind.{common_steps}
+use Rattle.std.proofs.Common.{◌≡◌, ◌⊎◌, ℕ, ◌+◌, true, List, [], ◌++◌, length, take, zero, suc, Option, Some, None, IsSome, refl, sym, ap, ◌∙◌, inl, inr, ◌∷◌}
+use Rattle.std.proofs.Common.{length-append, arith}
 use Rattle.std.specs.Prelude.{option_map, nat_eq, ◌||◌, false, ◌<◌, ◌≤◌}
 use Rattle.std.proofs.Math.Bool.{or-false}
 use Rattle.std.proofs.lemmas.Bool.Decides.{nat_tests}
 use Rattle.std.proofs.lemmas.List.{length-take-le, take-append-le}
-use lib.Seq.{take-append-add, take-nil}
+use lib.Seq.{take-append-add}
 use Rattle.std.specs.Io.KnownBytes.{Consumes, IsAtEnd}
 use Rattle.std.proofs.Math.Seq.{take-append_seam}
 use Rattle.lexical_lines.proofs.Added.{added-is}
@@ -21,9 +22,7 @@ Consumes-limited (Some xs) None limit left more count gave = absurd gave
 Consumes-limited (Some xs) (Some ys) limit left more count gave = (λ i. take (count i) (gave i)) ∙ take-append-add more ys left
 
 IsAtEnd-limited : (known : Option (List ℕ)) (limit : ℕ) → (limit ≡ 0) ⊎ IsAtEnd known → IsAtEnd (option_map (take limit) known)
-IsAtEnd-limited None limit used = tt
-IsAtEnd-limited (Some xs) limit (inl none) = ap (λ n. take n xs) none
-IsAtEnd-limited (Some xs) limit (inr none) = ap (take limit) none ∙ take-nil limit
+IsAtEnd-limited known limit is = grind (arith, common_steps)
 
 -- ---- a read
 
@@ -32,12 +31,7 @@ pub KeepsReader-more : {R : Type 0} (remaining : R → Option (List ℕ)) (a b :
     → b.left + length more ≡ a.left → Consumes (remaining a.reader) (remaining b.reader) more
     → (IsSome (remaining a.reader) → (a.is_ended ≡ true → IsUsedUp remaining a) → b.is_ended ≡ true → IsUsedUp remaining b)
     → KeepsReader remaining a b
-KeepsReader-more remaining a b more yielded left gave at_end = record {
-  longer = ap (take (length a.yielded)) yielded ∙ take-append_seam a.yielded more;
-  left = omega (arith, left, ap length yielded, length-append a.yielded more);
-  bytes = subst (Consumes _ _) (sym (added-is a.yielded b.yielded more yielded)) gave;
-  at_end = at_end;
-}
+KeepsReader-more remaining a b more yielded left gave at_end = grind (arith, take-append_seam, length-append, added-is)
 
 empty-right : (xs ys : List ℕ) → xs ++ ys ≡ [] → ys ≡ []
 empty-right [] ys e = e
@@ -45,9 +39,7 @@ empty-right (x ∷ xs) ys e = absurd (cc e)
 
 -- a reader that was at its end still is
 pub still-at_end : (before after : Option (List ℕ)) (more : List ℕ) → Consumes before after more → IsSome before → IsAtEnd before → IsAtEnd after
-still-at_end None after more gave told ended = absurd (cc told)
-still-at_end (Some xs) None more gave told ended = absurd gave
-still-at_end (Some xs) (Some ys) more gave told ended = empty-right more ys (sym gave ∙ ended)
+still-at_end before after more gave told ended = grind (arith, empty-right)
 
 eqb-suc : (n : ℕ) → nat_eq (suc n) 0 ≡ false
 eqb-suc n = grind (arith, nat_tests)

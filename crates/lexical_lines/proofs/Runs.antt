@@ -1,6 +1,6 @@
 -- What an answerer has done so far, and how a run ends.
-use Rattle.std.proofs.Common.{◌≡◌, ◌↔◌, ℕ, ◌+◌, ◌-◌, ◌^◌, min, Bool, true, false, List, [], ◌∷◌, ◌++◌, length, refl, sym, ap, ◌∙◌, arith}
-use Rattle.std.proofs.Common.{append_assoc, IsTrue, length-append, inl, inr, ◌&&◌, ◌⊎◌}
+use Rattle.std.proofs.Common.{◌≡◌, ◌↔◌, ℕ, ◌+◌, ◌-◌, ◌^◌, min, Bool, true, false, List, [], ◌∷◌, ◌++◌, length, refl, sym, ap, ◌∙◌, append_assoc, IsTrue}
+use Rattle.std.proofs.Common.{length-append, inl, inr, ◌&&◌, ◌⊎◌, arith}
 use Rattle.std.specs.List.{All}
 use Rattle.std.proofs.lemmas.List.Elements.{All-nil, All-cons, All-head, All-tail, All-push}
 use Rattle.lexical_lines.specs.declared.answer.answerer.Answerer.{Answerer}
@@ -32,16 +32,8 @@ AreAnswersFrom-push i (first ∷ ended) answers line answer (a, rest, is_first, 
       ap (λ xs. xs ++ answer) whole ∙ append_assoc a rest answer,
     )
 
--- a line number stays at the largest number of 64 bits
-min_twice : (i top : ℕ) → min (min i top) top ≡ min i top
-min_twice i top = omega arith
-
 IsAnswer-counted : (i line_number : ℕ) (line answer : List ℕ) → line_number ≡ min i (2 ^ 64 - 1) → IsAnswer line_number line answer → IsAnswer i line answer
-IsAnswer-counted i line_number line answer e (inl text) = inl text
-IsAnswer-counted i line_number line answer e (inr bad) = inr (record {
-  bad = bad.bad;
-  told = rw (ap (λ n. min n (2 ^ 64 - 1)) e ∙ min_twice i (2 ^ 64 - 1)) at bad.told;
-})
+IsAnswer-counted i line_number line answer e is = grind arith
 
 All-push_iff : (P : List ℕ → Type 0) (xs : List (List ℕ)) (x : List ℕ) → All P (xs ++ x ∷ []) → All P xs × P x
 All-push_iff P [] x h = (All-nil P, All-head P x [] h)
@@ -50,25 +42,12 @@ All-push_iff P (y ∷ xs) x h =
     (All-cons P y xs (All-head P y (xs ++ x ∷ []) h) rest.0, rest.1)
 
 and_iff : (a b : Bool) (P Q : Type 0) → (IsTrue a ↔ P) → (IsTrue b ↔ Q) → IsTrue (a && b) ↔ P × Q
-and_iff true b P Q p q = (λ e. (p.0 refl, q.0 e), λ both. q.1 both.1)
-and_iff false b P Q p q = (λ e. cc, λ both. p.1 both.0)
+and_iff a b P Q p q = grind arith
 
 -- a run that broke off after some bytes also broke off after others that have the same lines
 BreaksOff-as : {was is : Bool} {bytes read put : List ℕ} → IsTrue is ⊎ EndsLine read → ((all : List (List ℕ)) → AreLines bytes all → AreLines read all)
     → BreaksOff was bytes put → BreaksOff is read put
-BreaksOff-as line_end same h = record {
-  line_end = line_end;
-  front = h.front;
-  last = h.last;
-  answers = h.answers;
-  part = h.part;
-  answer = h.answer;
-  cut = same _ h.cut;
-  answered = h.answered;
-  last_answer = h.last_answer;
-  beginning = h.beginning;
-  whole = h.whole;
-}
+BreaksOff-as line_end same h = grind arith
 
 module _ {before bytes taken : List ℕ} {answerer : Answerer} (h : HasAnswered before bytes taken answerer) where
   pub answers_after : (answer : List ℕ) → IsAnswer answerer.line_number h.rest answer → AreAnswers (h.ended ++ h.rest ∷ []) (h.answers ++ answer)

@@ -1,6 +1,6 @@
 -- The answers to an input are unique.
-use Rattle.std.proofs.Common.{◌≡◌, ℕ, ◌+◌, ◌-◌, ◌^◌, ◌≤◌, min, Bool, List, [], ◌∷◌, ◌++◌, refl, sym, ap, ◌∙◌, arith, ℤ, inl, inr, ◌⊎◌, IsTrue, length}
-use Rattle.std.proofs.Common.{length-append, append_assoc}
+use Rattle.std.proofs.Common.{◌≡◌, ℕ, ◌+◌, ◌-◌, ◌^◌, ◌≤◌, min, Bool, List, [], ◌∷◌, ◌++◌, refl, sym, ap, ◌∙◌, ℤ, inl, inr, ◌⊎◌, IsTrue, length, length-append}
+use Rattle.std.proofs.Common.{append_assoc, arith}
 use Rattle.std.specs.Prelude.{codes}
 use Rattle.lexical_write_integer.specs.Text.{IsText}
 use Rattle.lexical_num.specs.Sign.{sign_of}

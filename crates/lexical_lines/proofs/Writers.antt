@@ -1,7 +1,7 @@
 -- The bytes that a sink has written to a writer.
-use Rattle.std.proofs.Common.{◌≡◌, ℕ, List, [], ◌++◌, take, Option, Some, None, Result, Ok, Err, sym, ap, subst, ◌∙◌}
+use Rattle.std.proofs.Common.{◌≡◌, ℕ, List, [], take, Option, Some, Result, arith}
 use Rattle.std.specs.Io.KnownBytes.{Appends, WriteAppends}
-use Rattle.std.proofs.KnownBytes.{Appends-kept, Appends-nil}
+use Rattle.std.proofs.KnownBytes.{Appends-nil}
 use Rattle.lexical_lines.specs.Answer.{AnswersAll}
 use Rattle.lexical_lines.specs.RunOutcome.{added}
 use Rattle.lexical_lines.specs.Sink.{taken_by}
@@ -10,23 +10,15 @@ use Rattle.lexical_lines.specs.Stream.{StreamWriting, KeepsWriter}
 
 -- a sink that was empty contains what it has taken
 pub contents-known : (old new : Option (List ℕ)) (more items : List ℕ) → old ≡ Some [] → new ≡ Some items → Appends old new more → items ≡ more
-contents-known None new more items none some appends = absurd (cc none)
-contents-known (Some xs) None more items none some appends = absurd appends
-contents-known (Some xs) (Some ys) more items none some appends =
-    let same : items ≡ ys = cc in
-    let empty : xs ≡ [] = cc in
-    same ∙ appends ∙ ap (λ front. front ++ more) empty
+contents-known old new more items none some appends = grind arith
 
 -- a write appends the bytes that it took
 pub appends-taken : {E : Type 0} (old new : Option (List ℕ)) (outcome : Result ℕ E) (bytes : List ℕ) → WriteAppends old new outcome bytes
     → Appends old new (take (taken_by outcome) bytes)
-appends-taken old new (Ok count) bytes wrote = wrote
-appends-taken old new (Err e) bytes wrote = Appends-kept old old new [] (Appends-nil old) wrote
+appends-taken old new outcome bytes wrote = grind (arith, Appends-nil)
 
 -- if a writer was empty, it now contains the answers that its sink has taken
 pub answers_held : {W : Type 0} (contents : W → Option (List ℕ)) {bytes items : List ℕ} {a b : StreamWriting W}
     → AnswersAll bytes (added a.taken b.taken) → KeepsWriter contents a b → contents a.writer ≡ Some [] → contents b.writer ≡ Some items
     → AnswersAll bytes items
-answers_held contents {bytes = bytes} {items = items} {a = a} {b = b} answers kept empty full =
-    let same = contents-known _ _ kept.more items empty full kept.contents ∙ sym (added-is _ _ _ kept.taken) in
-    subst (λ text. AnswersAll bytes text) (sym same) answers
+answers_held contents {bytes = bytes} {items = items} {a = a} {b = b} answers kept empty full = grind (arith, added-is)

@@ -1,6 +1,7 @@
 -- The states of `SliceSource` and `SliceSink` in contracts.
-use Rattle.std.specs.Prelude.{◌≡◌, ◌⊎◌, ℕ, ◌+◌, Bool, true, List, [], ◌∷◌, ◌++◌, length, take, drop, refl}
+use Rattle.std.specs.Prelude.{◌≡◌, ◌⊎◌, ℕ, ◌+◌, Bool, true, List, [], ◌++◌, length, take, drop, refl}
 use Rattle.std.proofs.Common.{arith, sym, ap, ◌∙◌, inl, inr, append_assoc, length-append}
+use Rattle.std.proofs.lemmas.List.{nil_from_length}
 use base.Fml.{GName}
 use Rattle.lexical_lines.specs.declared.devices.slice.SliceSink.{SliceSink}
 
@@ -55,10 +56,6 @@ KeepsSlice-transitive a b c p q = record { whole = q.whole ∙ p.whole; at_end =
 pub KeepsBuffer-reflexive : (a : SliceSink) → KeepsBuffer a a
 KeepsBuffer-reflexive a = record { loan = refl; over = []; rest = refl; longer = omega arith; full = inl refl }
 
-nothing-after : (xs ys : List ℕ) → xs ++ ys ≡ [] → ys ≡ []
-nothing-after [] ys none = none
-nothing-after (x ∷ xs) ys none = absurd (cc none)
-
 pub KeepsBuffer-transitive : (a b c : SliceSink) → KeepsBuffer a b → KeepsBuffer b c → KeepsBuffer a c
 KeepsBuffer-transitive a b c p q = record {
   loan = q.loan ∙ p.loan;
@@ -69,7 +66,9 @@ KeepsBuffer-transitive a b c p q = record {
     | inr full ↦ inr full
     | inl same ↦ elim p.full [
       | inl before ↦ inl (same ∙ before)
-      | inr full ↦ inr (nothing-after q.over (rest_in c) (sym q.rest ∙ full))
+      | inr full ↦
+          let none = ap length (sym q.rest ∙ full) in
+          inr (nil_from_length (rest_in c) (omega (arith, none, length-append q.over (rest_in c))))
     ]
   ];
 }

@@ -1,26 +1,19 @@
 -- The magnitudes of the numbers of a type, and how many decimal digits they have.
-use Rattle.std.proofs.Common.{◌≡◌, ℕ, ◌-◌, ◌*◌, ◌^◌, ◌<◌, ◌≤◌, arith, inl, inr, lit≤, ℤ, pos, negsuc, ◌≤ℤ◌, unsigned_abs, Bool, true, false, refl}
+use Rattle.std.proofs.Common.{◌≡◌, ℕ, ◌-◌, ◌*◌, ◌^◌, ◌<◌, ◌≤◌, arith, inl, inr, ℤ, ◌≤ℤ◌, unsigned_abs, Bool, true, false}
 use Rattle.std.proofs.Math.Nat.{pow-le-pow_right}
 use Rattle.std.proofs.lemmas.Bool.{cases_lt}
-use Rattle.std.proofs.lemmas.Int.{ints}
-use Rattle.lexical_num.specs.BitWidth.{IsBitWidth, is_8, is_16, is_32, is_64}
+use Rattle.lexical_num.specs.BitWidth.{IsBitWidth}
 use Rattle.lexical_num.specs.DecimalWidth.{IsDecimalWidth}
 use Rattle.lexical_num.specs.Range.{greatest_of, least_of}
 
 -- a power of two is twice the one before it, and some number is below each of the two
 halves : {bits : ℕ} → IsBitWidth bits → (2 ^ bits ≡ 2 * 2 ^ (bits - 1)) × (0 < 2 ^ (bits - 1)) × (2 ^ bits ≤ 2 ^ 64)
-halves is_8 = (refl, lit≤ tt, lit≤ tt)
-halves is_16 = (refl, lit≤ tt, lit≤ tt)
-halves is_32 = (refl, lit≤ tt, lit≤ tt)
-halves is_64 = (refl, lit≤ tt, lit≤ tt)
+halves v0 = grind arith
 
 -- a magnitude has no more bits than the type
 pub magnitude-below : {bits : ℕ} (is_signed : Bool) → IsBitWidth bits → (x : ℤ) → least_of bits is_signed ≤ℤ x
     → x ≤ℤ greatest_of bits is_signed → unsigned_abs x < 2 ^ bits
-magnitude-below false width (pos n) low high = omega (arith, ints, halves width)
-magnitude-below false width (negsuc n) low high = absurd (omega (arith, ints))
-magnitude-below true width (pos n) low high = omega (arith, ints, halves width)
-magnitude-below true width (negsuc n) low high = omega (arith, ints, halves width)
+magnitude-below v0 width v2 low high = grind arith
 
 -- so it fits in 64 bits
 pub magnitude-small : {bits : ℕ} (is_signed : Bool) → IsBitWidth bits → (x : ℤ) → least_of bits is_signed ≤ℤ x

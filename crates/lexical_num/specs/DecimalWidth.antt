@@ -1,5 +1,5 @@
 -- The largest number of decimal digits of the numbers of a type.
-use Rattle.std.specs.Prelude.{ℕ, ◌-◌, ◌^◌, ◌<◌, ◌≤◌, ℤ, pos, negsuc, unsigned_abs, ◌≤ℤ◌}
+use Rattle.std.specs.Prelude.{ℕ, ◌-◌, ◌^◌, ◌<◌, ◌≤◌, ℤ, unsigned_abs, ◌≤ℤ◌}
 use Rattle.std.proofs.Common.{arith}
 use Rattle.std.proofs.lemmas.Int.{ints}
 
@@ -9,18 +9,12 @@ pub record IsDecimalWidth (least greatest : ℤ) (width : ℕ) : Type 0 where
   pub enough : (n : ℤ) → least ≤ℤ n → n ≤ℤ greatest → unsigned_abs n < 10 ^ width
   pub needed : 10 ^ (width - 1) ≤ unsigned_abs greatest
 
--- ---- a proof, which is here since ghost members cite it
-
--- it is enough that neither end has more digits, and that `greatest` has `width`
+-- ghost members are proved by this: it is enough that neither end has more digits, and that `greatest` has `width`
 pub is_decimal_width : {least greatest : ℤ} {width : ℕ} → 1 ≤ width → unsigned_abs least < 10 ^ width
     → unsigned_abs greatest < 10 ^ width → 10 ^ (width - 1) ≤ unsigned_abs greatest
     → IsDecimalWidth least greatest width
-is_decimal_width {least} {greatest} {width} some low high full =
-    record { some = some; enough = λ n. between n least greatest low high; needed = full }
-  where
-    between : (n least greatest : ℤ) → unsigned_abs least < 10 ^ width → unsigned_abs greatest < 10 ^ width
-        → least ≤ℤ n → n ≤ℤ greatest → unsigned_abs n < 10 ^ width
-    between (pos n) least (pos greatest) low high above below = omega (arith, ints)
-    between (pos n) least (negsuc greatest) low high above below = absurd (omega (arith, ints))
-    between (negsuc n) (pos least) greatest low high above below = absurd (omega (arith, ints))
-    between (negsuc n) (negsuc least) greatest low high above below = omega (arith, ints)
+is_decimal_width some low high full = record {
+  some = some;
+  enough = λ n above below. omega (arith, ints, low, high, above, below);
+  needed = full;
+}

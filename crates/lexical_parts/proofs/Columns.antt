@@ -12,9 +12,7 @@ pub written_left : {Is : List ℕ → Type 0} {width fill : ℕ} {before between
     Writes Is before between count →
     Writes (IsExactly (replicate (width - count) fill)) (take room (drop count between)) part more →
     Writes (IsAtLeft width fill Is) before (take count between ++ (part ++ drop room (drop count between))) (count + more)
-written_left {width = width} {fill} {before} {between} {part} {count} {more} room a b =
-    Writes-after a.text before between part count room more a.count a.front
-    (λ added is. record { cell = a.text; is = a.is; whole = ap (λ k. a.text ++ k) (is ∙ ap (λ n. replicate (width - n) fill) a.count) }) b
+written_left {width = width} {fill} {before} {between} {part} {count} {more} room a b = grind (arith, Writes-after)
 
 -- bytes written before a text, which has moved to the right
 written_before : {Is IsWhole : List ℕ → Type 0} (fill added : ℕ) {before between after : List ℕ} {count : ℕ} (a : Writes Is before between count) →

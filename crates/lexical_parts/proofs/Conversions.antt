@@ -1,5 +1,5 @@
 -- Texts of one kind that are also of another kind.
-use Rattle.std.proofs.Common.{ℕ, List, true, ℤ, pos, unsigned_abs}
+use Rattle.std.proofs.Common.{ℕ, List, true, ℤ, pos, unsigned_abs, arith}
 use Rattle.lexical_num.specs.Format.{standard}
 use Rattle.lexical_num.specs.Sign.{sign_of}
 use Rattle.lexical_write_integer.specs.Buffer.{Writes}
@@ -13,8 +13,7 @@ written_as change w = record { text = w.text; is = change w.text w.is; front = w
 
 pub then_as : {A B C D : List ℕ → Type 0} → ((text : List ℕ) → A text → C text) → ((text : List ℕ) → B text → D text)
     → (text : List ℕ) → Then A B text → Then C D text
-then_as first second text is =
-    record { first = is.first; second = is.second; is_first = first is.first is.is_first; is_second = second is.second is.is_second; whole = is.whole }
+then_as first second text is = grind arith
 
 -- a sign and digits
 pub IsPlus-from_then : {number : ℤ} (text : List ℕ) → Then (IsExactly (sign_of number true)) (IsDigits 10 (unsigned_abs number)) text → IsPlus number text

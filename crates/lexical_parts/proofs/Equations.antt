@@ -1,12 +1,9 @@
 -- Kinds of texts with only one text, and the equation of bytes that this is.
-use Rattle.std.proofs.Common.{◌≡◌, ℕ, ◌^◌, ◌<◌, ◌≤◌, List, ◌++◌, ap, ◌∙◌, ℤ, unsigned_abs}
-use Rattle.lexical_num.specs.Format.{Format}
-use Rattle.lexical_write_integer.specs.Computed.{digits_text, padded_text, text_of}
+use Rattle.std.proofs.Common.{◌≡◌, ℕ, ◌^◌, ◌<◌, ◌≤◌, List, ◌++◌, ◌∙◌, arith}
+use Rattle.lexical_write_integer.specs.Computed.{padded_text}
 use Rattle.lexical_write_integer.specs.Padded.{IsPadded}
 use Rattle.lexical_write_integer.specs.Sequence.{IsExactly, Then}
-use Rattle.lexical_write_integer.specs.Text.{IsDigits, IsText}
 use Rattle.lexical_write_integer.proofs.OfDigits.PaddedDigits.{padded_computed}
-use Rattle.lexical_write_integer.proofs.OfTexts.ComputedTexts.{digits_computed, text_computed}
 
 -- every text of this kind is these bytes
 pub record AreOnly (Is : List ℕ → Type 0) (bytes : List ℕ) : Type 0 where
@@ -18,17 +15,8 @@ only_exactly bytes = record { only = λ text is. is }
 pub only_padded : (r width number : ℕ) → 2 ≤ r → number < r ^ width → AreOnly (IsPadded r width number) (padded_text r width number)
 only_padded r width number two fits = record { only = λ text. (padded_computed r width number text two fits).0 }
 
-pub only_digits : (r number : ℕ) → 2 ≤ r → number < 2 ^ 64 → AreOnly (IsDigits r number) (digits_text r number)
-only_digits r number two small = record { only = λ text. (digits_computed r number text two small).0 }
-
-pub only_text : (number : ℤ) (format : Format) → 2 ≤ format.mantissa_radix → unsigned_abs number < 2 ^ 64 →
-    AreOnly (IsText number format) (text_of number format)
-only_text number format two small = record { only = λ text. (text_computed number format text two small).0 }
-
 pub only_then : {A B : List ℕ → Type 0} {a b : List ℕ} → AreOnly A a → AreOnly B b → AreOnly (Then A B) (a ++ b)
-only_then {A} {B} {a} {b} first second = record {
-  only = λ text is. is.whole ∙ ap (λ k. k ++ is.second) (first.only is.first is.is_first) ∙ ap (λ k. a ++ k) (second.only is.second is.is_second);
-}
+only_then {A} {B} {a} {b} first second = grind arith
 
 -- the text of a tuple, as the bytes that a contract states
 pub then_equation : {A B : List ℕ → Type 0} {a b text whole : List ℕ} → Then A B text → AreOnly A a → AreOnly B b → a ++ b ≡ whole → text ≡ whole

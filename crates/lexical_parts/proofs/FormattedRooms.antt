@@ -1,16 +1,15 @@
 -- The room of a number in a format is enough for each number of the type.
-use Rattle.std.proofs.Common.{◌≡◌, ℕ, zero, suc, ◌+◌, ◌-◌, ◌/◌, ◌^◌, ◌<◌, ◌≤◌, max, length, refl, inl, inr, arith, ℤ, pos, negsuc, ◌≤ℤ◌, unsigned_abs}
+use Rattle.std.proofs.Common.{◌≡◌, ℕ, ◌+◌, ◌-◌, ◌/◌, ◌^◌, ◌<◌, ◌≤◌, max, length, refl, inl, inr, arith, ℤ, pos, negsuc, ◌≤ℤ◌, unsigned_abs}
 use Rattle.std.specs.Prelude.{Bool, true, false}
 use mir.Val.{bool_byte}
 use Rattle.std.proofs.Math.Nat.{pow-le-pow_right}
 use Rattle.std.proofs.lemmas.Bool.{cases_lt, cond_both, eqb-true}
 use Rattle.std.proofs.lemmas.Int.{ints}
-use Rattle.lexical_num.specs.BitWidth.{IsBitWidth, is_8, is_16, is_32, is_64}
+use Rattle.lexical_num.specs.BitWidth.{IsBitWidth}
 use Rattle.lexical_num.specs.DecimalWidth.{IsDecimalWidth}
 use Rattle.lexical_num.specs.Format.{Format}
 use Rattle.lexical_num.specs.Range.{greatest_of, least_of}
 use Rattle.lexical_num.specs.Sign.{sign_of}
-use Rattle.lexical_write_integer.specs.Computed.{digits_text}
 use Rattle.lexical_write_integer.specs.DigitCount.{digit_count}
 use Rattle.lexical_write_integer.proofs.OfTexts.SizeBounds.{grouped_length-more, sign-le_one}
 use Rattle.lexical_write_integer.specs.Text.{digits_need, need}
@@ -22,14 +21,7 @@ use Rattle.lexical_parts.specs.Formatted.{count_in, formatted_room, largest_magn
 -- ---- the largest magnitude
 
 pub largest-small : {bits : ℕ} (is_signed : Bool) → IsBitWidth bits → largest_magnitude bits is_signed < 2 ^ 64
-largest-small false is_8 = omega arith
-largest-small false is_16 = omega arith
-largest-small false is_32 = omega arith
-largest-small false is_64 = omega arith
-largest-small true is_8 = omega arith
-largest-small true is_16 = omega arith
-largest-small true is_32 = omega arith
-largest-small true is_64 = omega arith
+largest-small is_signed is = grind arith
 
 largest-le : {least greatest : ℤ} (x : ℤ) → least ≤ℤ x → x ≤ℤ greatest → unsigned_abs x ≤ max (unsigned_abs least) (unsigned_abs greatest)
 largest-le {least = pos m} {greatest = pos n} (pos x) low high = omega (arith, ints)
@@ -40,19 +32,12 @@ largest-le {least = negsuc m} (negsuc x) low high = omega (arith, ints)
 
 -- half of the bits of a signed type, and one more
 pub signed-largest : {bits : ℕ} → IsBitWidth bits → (2 ^ 64 - 1) / 2 ^ (64 - bits) / 2 + 1 ≡ largest_magnitude bits true
-signed-largest is_8 = refl
-signed-largest is_16 = refl
-signed-largest is_32 = refl
-signed-largest is_64 = refl
+signed-largest is = grind arith
 
 -- ---- the sign and the digits
 
 sign-le : (least x : ℤ) (required : Bool) → least ≤ℤ x → length (sign_of x required) ≤ length (sign_of least required)
-sign-le (pos m) (pos n) required low = omega arith
-sign-le (negsuc m) (pos n) true low = omega arith
-sign-le (negsuc m) (pos n) false low = omega arith
-sign-le (pos m) (negsuc n) required low = absurd (omega (arith, ints))
-sign-le (negsuc m) (negsuc n) required low = omega arith
+sign-le least x required low = grind arith
 
 pub sign-signed : (bits : ℕ) {is_signed : Bool} (required : Bool) → is_signed ≡ true
     → length (sign_of (least_of bits is_signed) required) ≡ 1
@@ -60,12 +45,10 @@ sign-signed bits required signed = rw signed refl
 
 pub sign-unsigned : (bits : ℕ) {is_signed : Bool} (required : Bool) → is_signed ≡ false
     → length (sign_of (least_of bits is_signed) required) ≡ bool_byte required
-sign-unsigned bits true unsigned = rw unsigned refl
-sign-unsigned bits false unsigned = rw unsigned refl
+sign-unsigned bits required unsigned = grind arith
 
 pub count_in-is : (r n : ℕ) → 2 ≤ r → n < 2 ^ 64 → count_in r n ≡ digit_count r n
-count_in-is zero n two small = absurd (omega arith)
-count_in-is (suc r) n two small = length-IsDigits (suc r) n (digits_text (suc r) n) two ((digits_computed (suc r) n (digits_text (suc r) n) two small).1 refl)
+count_in-is r n two small = grind (arith, length-IsDigits, digits_computed)
 
 -- a number with the largest decimal width has no fewer digits in decimal
 width-le : (width n : ℕ) → 1 ≤ width → 10 ^ (width - 1) ≤ n → width ≤ digit_count 10 n

@@ -1,15 +1,15 @@
 -- The digits of a number of units, and its whole part in groups.
-use Rattle.std.proofs.Common.{◌≡◌, Option, ℕ, ◌+◌, ◌-◌, ◌/◌, ◌^◌, ◌≤◌, List, [], ◌++◌, length, length-append, take}
-use Rattle.std.proofs.Common.{drop, replicate, refl, sym, ap, ◌∙◌, arith, pos}
+use Rattle.std.proofs.lemmas.Grind.{common_steps}
+use Rattle.std.proofs.Common.{◌≡◌, Option, ℕ, ◌+◌, ◌-◌, ◌/◌, ◌^◌, ◌≤◌, List, [], ◌++◌, length, length-append, take, drop, replicate, refl, sym, ap, ◌∙◌, pos}
+use Rattle.std.proofs.Common.{arith}
 use Rattle.std.specs.Prelude.{max, min}
 use Rattle.std.proofs.Math.Seq.{take-append-add}
-use Rattle.std.proofs.lemmas.List.{append-nil, drop-append-le, drop-replicate, length-replicate, take_at}
+use Rattle.std.proofs.lemmas.List.{append-nil, drop-replicate, length-replicate, take_at}
 use Rattle.lexical_num.specs.Format.{grouped_length, standard}
 use Rattle.lexical_write_integer.specs.Buffer.{Front, Writes}
 use Rattle.lexical_write_integer.specs.Groups.{grouped}
 use Rattle.lexical_write_integer.proofs.OfTexts.SizeBounds.{grouped_length-more}
 use Rattle.lexical_write_integer.specs.Text.{IsDigits, IsText}
-use Rattle.lexical_write_integer.proofs.Buffers.Prefixes.{take-Writes}
 use borrow.Rule.Slice.PartMut.{put_mid}
 use Rattle.lexical_parts.specs.Fixed.{AreUnits, IsGroupedUnits, grouped_units_room}
 use Rattle.lexical_parts.proofs.Inserts.{Front-over}
@@ -23,9 +23,7 @@ digits_after_zeros {before = before} {part} {count} added skip few w =
     let long : length zeros ≡ added = length-replicate added 48 in
     let left : skip - (skip - added) ≡ added = omega arith in
     let counted : skip + count - (skip - added) ≡ length zeros + count = omega (arith, long) in
-    let first = drop-append-le (skip - added) (replicate skip 48) (part ++ []) (omega (arith, length-replicate {A = ℕ} skip 48)) in
-    rw (first, drop-replicate {X = ℕ} (skip - added) skip 48, left, append-nil part, counted, sym (take-Writes before part count w))
-    (take-append-add zeros part count)
+    grind (arith, common_steps, drop-replicate, take-append-add)
 
 pub units_after_zeros : {number decimals added count width : ℕ} {before array part : List ℕ} → array ≡ replicate 40 48 → added ≤ 20 → count ≤ width
     → Writes (IsDigits 10 number) before part count → added ≡ (decimals + 1) - count

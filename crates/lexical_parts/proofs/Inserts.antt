@@ -1,5 +1,5 @@
 -- Bytes that are inserted into a text in a buffer.
-use Rattle.std.proofs.Common.{◌≡◌, ℕ, ◌+◌, ◌≤◌, List, ◌++◌, length, length-append, take, drop, refl, sym, ap, ◌∙◌, arith}
+use Rattle.std.proofs.Common.{◌≡◌, ℕ, ◌+◌, ◌≤◌, List, ◌++◌, length, length-append, take, drop, sym, ap, ◌∙◌, arith}
 use Rattle.std.proofs.lemmas.List.{drop-append-le, length-drop, length-take-le, take-append-drop, take-append-le, take_at}
 use Rattle.std.proofs.lemmas.Slice.{drop-append-drop}
 use Rattle.lexical_write_integer.specs.Buffer.{Front}
@@ -7,13 +7,7 @@ use Rattle.lexical_write_integer.proofs.Buffers.Prefixes.{Front-after}
 
 -- a text is written over a shorter one
 pub Front-over : {before between after s t : List ℕ} → Front before between s → Front between after t → length s ≤ length t → Front before after t
-Front-over {before} {between} {after} {s} {t} a b more =
-    let long = length-append s (drop (length s) before) in
-    record {
-      fits = omega (arith, b.fits, ap length a.written, long, length-drop (length s) before, a.fits);
-      written = b.written ∙ ap (λ xs. t ++ drop (length t) xs) a.written
-          ∙ ap (λ xs. t ++ xs) (drop-append-drop (length s) before s (length t) more refl);
-    }
+Front-over {before} {between} {after} {s} {t} a b more = grind (arith, length-append, length-drop, drop-append-drop)
 
 -- bytes are inserted after the first `at` bytes of a text, whose last `count` bytes move to the right
 pub Front-inserted : {before between part text : List ℕ} {count : ℕ} (bytes : List ℕ) (at room : ℕ) → Front before between text

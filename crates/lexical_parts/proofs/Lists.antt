@@ -1,4 +1,5 @@
 -- The texts of the elements of a list, to whose end the text of the next element is added.
+use Rattle.std.proofs.lemmas.Grind.{common_steps}
 use Rattle.std.proofs.Common.{◌≡◌, ℕ, ◌+◌, ◌<◌, List, [], ◌∷◌, ◌++◌, length, take, drop, get_or, refl, sym, ap, ◌∙◌, arith, append_assoc}
 use Rattle.std.proofs.lemmas.List.{take_more, append-nil, length-take-le}
 use Rattle.lexical_write_integer.specs.Buffer.{Writes}
@@ -23,13 +24,7 @@ AreEach-push IsOf (y ∷ ys) x s t each is = record {
 pub added_each : {A : Type 0} (IsOf : A → List ℕ → Type 0) (start : List ℕ) (xs : List A) {i : ℕ} (d : A) {before text : List ℕ} →
     i < length xs → (IsExactly start then AreEach IsOf (take i xs)) before → IsOf (get_or xs i d) text →
     (IsExactly start then AreEach IsOf (take (i + 1) xs)) (before ++ text)
-added_each IsOf start xs {i} d {before} {text} inside each is = rw (take_more xs i d inside) (record {
-  first = each.first;
-  second = each.second ++ text;
-  is_first = each.is_first;
-  is_second = AreEach-push IsOf (take i xs) (get_or xs i d) each.second text each.is_second is;
-  whole = ap (λ k. k ++ text) each.whole ∙ append_assoc each.first each.second text;
-})
+added_each IsOf start xs {i} d {before} {text} inside each is = grind (arith, common_steps, AreEach-push)
 
 -- before such a loop nothing is added
 pub added_none : {A : Type 0} (IsOf : A → List ℕ → Type 0) (start : List ℕ) → (IsExactly start then AreEach {A = A} IsOf []) start

@@ -1,7 +1,7 @@
 -- The room of the elements of a list with a separator between them.
-use Rattle.std.proofs.Common.{◌≡◌, ℕ, zero, suc, ◌+◌, ◌-◌, ◌*◌, ◌<◌, ◌≤◌, List, [], ◌∷◌, length, take, get_or, refl, ap, arith}
+use Rattle.std.proofs.Common.{◌≡◌, ℕ, ◌+◌, ◌-◌, ◌*◌, ◌<◌, ◌≤◌, List, [], ◌∷◌, length, take, get_or, refl, arith}
 use Rattle.std.specs.List.{sum_by}
-use Rattle.std.proofs.Math.Nat.{mul-le-mul_right, suc-mul}
+use Rattle.std.proofs.Math.Nat.{mul-le-mul_right}
 use Rattle.std.proofs.lemmas.List.{length-take-le}
 use Rattle.std.proofs.lemmas.List.Sums.{sum_by_more, sum_by-cons, sum_by-take-le}
 use Rattle.lexical_write_integer.proofs.OfTexts.Joins.{Leads}
@@ -10,16 +10,11 @@ use Rattle.lexical_parts.specs.Joined.{joined_room, lead}
 -- the separators before one further element
 separators_more : (separator lead : List ℕ) (i : ℕ) → Leads separator i lead
     → (i + 1 - 1) * length separator ≡ (i - 1) * length separator + length lead
-separators_more separator lead zero leads = omega (arith, ap length (leads.at_first refl))
-separators_more separator lead (suc i) leads =
-    let one_more : suc i + 1 - 1 ≡ suc i = omega arith in
-    let one_less : suc i - 1 ≡ i = omega arith in
-    rw (one_more, one_less) (omega (arith, suc-mul i (length separator), ap length (leads.later (omega arith))))
+separators_more separator lead i leads = grind arith
 
 -- what precedes an element
 pub leads_at : (separator : List ℕ) (index : ℕ) → Leads separator index (lead index separator)
-leads_at separator zero = record { at_first = λ _. refl; later = λ some. absurd (omega arith) }
-leads_at separator (suc index) = record { at_first = λ none. absurd (omega arith); later = λ _. refl }
+leads_at separator index = grind arith
 
 -- one further element needs its own room and that of the separator before it
 pub joined_room-more : {A : Type 0} (room : A → ℕ) (separator lead : List ℕ) (xs : List A) {i : ℕ} {x : A} → i < length xs → x ≡ get_or xs i x

@@ -1,29 +1,23 @@
 -- What `pad_integral` writes of a number, with a required sign as the option `+`.
-use Rattle.std.proofs.Common.{◌≡◌, sym, refl, true, false, Bool, [], ◌∷◌, ◌++◌, ℕ, zero, suc, ◌+◌, ◌-◌, ◌==◌, length, replicate, List}
-use Rattle.std.proofs.Common.{arith, ap, if◌then◌else◌, append-nil, append_assoc, None, Some, true≢false, drop, ℤ, pos, negsuc}
+use Rattle.std.proofs.lemmas.Grind.{common_steps}
+use Rattle.std.proofs.Common.{◌≡◌, refl, true, false, Bool, [], ◌∷◌, ◌++◌, ℕ, suc, ◌+◌, ◌-◌, ◌==◌, length, replicate, List, if◌then◌else◌, append-nil}
+use Rattle.std.proofs.Common.{append_assoc, None, Some, drop, ℤ, arith}
 use Rattle.std.specs.Fmt.{formatter_spec, padded_integral, char_count, sign_text_with, spec_width}
 use Rattle.std.specs.Int.{is_negative}
 use Rattle.lexical_num.specs.Sign.{sign_of}
-use Rattle.std.specs.Option.{unwrap_or}
+use Rattle.std.specs.Option.{unwrap_or, is_some}
 use Rattle.std.specs.declared.fmt.Formatter.{Formatter}
-use Rattle.std.specs.Option.{is_some}
 use Rattle.std.proofs.Padding.{cond_same, padding_before_none}
-use Rattle.std.proofs.lemmas.Bool.Decides.{Decides-eqb, Decides-ltb}
 use native.Mathlib.Numerals.{add-one}
 
 one_more : (x k : ℕ) → replicate k x ++ x ∷ [] ≡ replicate (suc k) x
-one_more x zero = refl
-one_more x (suc k) = ap (λ l. x ∷ l) (one_more x k)
+one_more x k = grind (arith, common_steps)
 
 pub replicate_more : (x k : ℕ) → replicate k x ++ x ∷ [] ≡ replicate (k + 1) x
 replicate_more x k = rw add-one (one_more x k)
 
 width_or_zero : (n : ℕ) → unwrap_or (if n == 0 then None else Some n) 0 ≡ n
-width_or_zero n = by (n == 0) refl
-  where
-    by : (t : Bool) → (n == 0) ≡ t → unwrap_or (if t then None else Some n) 0 ≡ n
-    by true is_zero = sym ((Decides-eqb n 0).0 is_zero)
-    by false _ = refl
+width_or_zero n = grind arith
 
 module _ {W : Type 0} (f : Formatter W) where
   -- no width is a width of 0
@@ -52,11 +46,7 @@ cond_self_number : (t : Bool) (n : ℕ) → (if t then n else n) ≡ n
 cond_self_number t n = cond_same t n n n refl refl
 
 none_is_zero : (n : ℕ) → is_some (if n == 0 then None else Some n) ≡ false → n ≡ 0
-none_is_zero n = by (n == 0) refl
-  where
-    by : (t : Bool) → (n == 0) ≡ t → is_some (if t then None else Some n) ≡ false → n ≡ 0
-    by true is_zero _ = (Decides-eqb n 0).0 is_zero
-    by false _ some = absurd (true≢false some)
+none_is_zero n = grind arith
 
 module _ {W : Type 0} (f : Formatter W) where
   pub no_width : is_some (spec_width (formatter_spec f)) ≡ false → (formatter_spec f).width ≡ 0
@@ -84,16 +74,7 @@ module _ {W : Type 0} (f : Formatter W) where
   negative_sign true digits = refl
   negative_sign false digits = refl
 
-not_negative : (n : ℕ) → is_negative (pos n) ≡ false
-not_negative n = by (is_negative (pos n)) refl
-  where
-    by : (t : Bool) → is_negative (pos n) ≡ t → t ≡ false
-    by true below = absurd (omega (arith, (Decides-ltb n 0).0 below))
-    by false _ = refl
-
 -- the text of a number without its sign
 pub without_sign : (n : ℤ) (required : Bool) (digits : List ℕ)
     → drop (length (sign_text_with required (is_negative n))) (sign_of n required ++ digits) ≡ digits
-without_sign (pos n) true digits = rw (not_negative n) refl
-without_sign (pos n) false digits = rw (not_negative n) refl
-without_sign (negsuc n) required digits = refl
+without_sign n required digits = grind arith

@@ -1,12 +1,10 @@
 -- Texts in lowercase, and texts with zeros after the sign, are UTF-8.
-use Rattle.std.proofs.Common.{◌≡◌, ℕ, ◌≤◌, ◌+◌, ◌-◌, ◌%◌, cond, List, [], ◌∷◌, ◌++◌, length, map, take, drop, replicate, refl, sym, ap, ◌∙◌}
-use Rattle.std.proofs.Common.{arith}
-use Rattle.std.specs.Prelude.{true, false, Bool, ◌||◌, ◌==◌, if◌then◌else◌}
+use Rattle.std.proofs.lemmas.Grind.{common_steps}
+use Rattle.std.proofs.Common.{◌≡◌, ℕ, ◌≤◌, ◌-◌, List, [], ◌∷◌, ◌++◌, length, map, take, drop, replicate, refl, sym, ap, ◌∙◌, arith}
 use Rattle.std.specs.Char.{to_ascii_lowercase}
 use Rattle.std.specs.Str.{IsUtf8, IsCharBoundary}
 use Rattle.std.proofs.Math.Utf8.{scalar, scalars, encode, encodes, low_scalar}
 use Rattle.std.proofs.lemmas.Bool.{cases_lt}
-use Rattle.std.proofs.lemmas.Bool.Decides.{nat_tests}
 use Rattle.std.proofs.lemmas.List.{map-append}
 use Rattle.std.proofs.lemmas.Str.{IsUtf8-append, IsUtf8-drop, IsUtf8-take, IsCharBoundary-after_ascii, IsCharBoundary-start}
 use Rattle.std.proofs.lemmas.Str.Ascii.{encode_ascii, lowercase_ascii, lowercase_is}
@@ -22,19 +20,10 @@ kept byte high = (lowercase_is byte).2 (omega arith)
 abbrev Kept : List ℕ → Type 0
 Kept bytes = map to_ascii_lowercase bytes ≡ bytes
 
-kept_cons : (byte : ℕ) (bytes : List ℕ) → 128 ≤ byte → Kept bytes → Kept (byte ∷ bytes)
-kept_cons byte bytes high rest = rw (kept byte high, rest) refl
-
-kept_either : (test : Bool) {a b : List ℕ} → Kept a → Kept b → Kept (cond test a b)
-kept_either true a b = a
-kept_either false a b = b
-
 -- the bytes of a character of 128 or more are unchanged: whatever its length is, each of its bytes is 128 or more
 kept_encode : (c : ℕ) → 128 ≤ c → Kept (encode c)
 unfolding encode
-kept_encode c high =
-    let last : (a : ℕ) → 128 ≤ a → Kept (a ∷ (128 + c % 64) ∷ []) = grind (arith, kept_cons) in
-    grind (arith, kept_either, kept_cons)
+kept_encode c high = grind (arith, common_steps)
 
 lower_encode : (c : ℕ) → encode (to_ascii_lowercase c) ≡ map to_ascii_lowercase (encode c)
 lower_encode c = grind (arith, cases_lt, encode_ascii, lowercase_ascii, kept, kept_encode)
@@ -61,12 +50,7 @@ lower_is_utf8 texts = record {
 
 -- a character ends after a sign
 sign_ends : (text : List ℕ) → IsUtf8 text → IsCharBoundary text (sign_length text)
-sign_ends [] u = IsCharBoundary-start [] u
-sign_ends (byte ∷ text) u = by_test (byte == 45 || byte == 43) refl
-  where
-    by_test : (b : Bool) → (byte == 45 || byte == 43) ≡ b → IsCharBoundary (byte ∷ text) (if b then 1 else 0)
-    by_test true sign = IsCharBoundary-after_ascii (byte ∷ text) 0 u (omega arith) (grind (arith, nat_tests, sign))
-    by_test false sign = IsCharBoundary-start (byte ∷ text) u
+sign_ends text u = grind (arith, common_steps, IsCharBoundary-start, IsCharBoundary-after_ascii)
 
 pub zero_padded_is_utf8 : {Is : List ℕ → Type 0} (width : ℕ) → AreUtf8 Is → AreUtf8 (IsZeroPadded width Is)
 zero_padded_is_utf8 width texts = record {

@@ -3,7 +3,7 @@ use Rattle.std.proofs.Common.{Bool, true, ℕ, zero, suc, ◌-◌, ◌/◌, ◌<
 use Rattle.std.specs.List.{All}
 use Rattle.std.specs.Option.{ForSome}
 use Rattle.std.specs.Str.{IsUtf8}
-use Rattle.std.proofs.lemmas.List.Elements.{All-nil, All-cons, All-head, All-tail, All-replicate}
+use Rattle.std.proofs.lemmas.List.Elements.{All-head, All-tail, All-replicate}
 use Rattle.std.proofs.lemmas.Str.{IsUtf8-nil, IsUtf8-from_ascii, IsUtf8-append}
 use Rattle.std.proofs.lemmas.Str.Ascii.{IsAscii-from_all}
 use Rattle.lexical_num.specs.Format.{Format, IsGrouping, standard}
@@ -19,19 +19,13 @@ use Rattle.lexical_parts.specs.Utf8.{AreUtf8}
 
 -- a byte below 128
 pub one_is_utf8 : (byte : ℕ) → byte < 128 → AreUtf8 (IsExactly (byte ∷ []))
-one_is_utf8 byte small =
-    let all = All-cons (λ b. b < 128) byte [] small (All-nil (λ b. b < 128)) in
-    record { each = λ text is. rw is (IsUtf8-from_ascii (byte ∷ []) (IsAscii-from_all (byte ∷ []) all)) }
+one_is_utf8 byte small = grind (arith, IsUtf8-from_ascii)
 
 pub digits_are_utf8 : (r number : ℕ) → r ≤ 36 → AreUtf8 (IsDigits r number)
-digits_are_utf8 r number few = record {
-  each = λ text is. rw is.characters (IsUtf8-from_ascii _ (IsAscii-digit_chars r is.digits few is.numeral.numeral.below_radix));
-}
+digits_are_utf8 r number few = grind (arith, IsUtf8-from_ascii, IsAscii-digit_chars)
 
 pub padded_is_utf8 : (r width number : ℕ) → r ≤ 36 → AreUtf8 (IsPadded r width number)
-padded_is_utf8 r width number few = record {
-  each = λ text is. rw is.characters (IsUtf8-from_ascii _ (IsAscii-digit_chars r is.digits few is.block.below_radix));
-}
+padded_is_utf8 r width number few = grind (arith, IsUtf8-from_ascii, IsAscii-digit_chars)
 
 pub text_is_utf8 : (number : ℤ) (format : Format) → format.mantissa_radix ≤ 36 → ForSome format.digit_grouping IsGrouping → AreUtf8 (IsText number format)
 text_is_utf8 number format few groups = record { each = λ text is. IsUtf8-from_ascii text (IsAscii-IsText number format text few groups is) }
@@ -56,8 +50,7 @@ joined_is_utf8 IsOf separator (x ∷ y ∷ xs) each between =
 
 -- copies of a byte below 128
 pub fill_is_utf8 : (fill count : ℕ) → fill < 128 → IsUtf8 (replicate count fill)
-fill_is_utf8 fill count small =
-    IsUtf8-from_ascii (replicate count fill) (IsAscii-from_all (replicate count fill) (All-replicate (λ b. b < 128) count fill small))
+fill_is_utf8 fill count small = search (arith, IsUtf8-from_ascii, IsAscii-from_all, All-replicate)
 
 pub at_left_is_utf8 : {Is : List ℕ → Type 0} (width fill : ℕ) → fill < 128 → AreUtf8 Is → AreUtf8 (IsAtLeft width fill Is)
 at_left_is_utf8 width fill small cells = record {

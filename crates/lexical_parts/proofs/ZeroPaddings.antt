@@ -1,8 +1,7 @@
 -- Zeros that are inserted after the sign of a text.
-use Rattle.std.proofs.Common.{◌≡◌, ℕ, ◌+◌, ◌-◌, ◌≤◌, List, ◌++◌, length, length-append, take, drop, replicate, sym, ap, ◌∙◌, arith}
+use Rattle.std.proofs.Common.{◌≡◌, ℕ, ◌+◌, ◌-◌, ◌≤◌, List, ◌++◌, length, length-append, take, drop, replicate, arith}
 use Rattle.std.proofs.lemmas.List.{length-drop, length-replicate, length-take-le}
 use Rattle.lexical_write_integer.specs.Buffer.{Front, Writes}
-use Rattle.lexical_write_integer.proofs.Buffers.Prefixes.{take-Writes}
 use Rattle.lexical_parts.specs.ZeroPadded.{IsZeroPadded, sign_length}
 use Rattle.lexical_parts.proofs.Inserts.{Front-inserted}
 
@@ -12,20 +11,6 @@ pub written_zero_padded : {Is : List ℕ → Type 0} {width count sign added : �
     → Front (take room (drop sign between)) part (replicate added 48 ++ take (count - sign) (take room (drop sign between)))
     → Writes (IsZeroPadded width Is) before (take sign between ++ (part ++ drop room (drop sign between))) (added + count)
 written_zero_padded {Is} {width} {count} {sign} {added} {before} {between} {part} room a is_sign within is_added room_for inserted =
-    let number = take-Writes before between count a in
-    let is_sign' : sign ≡ sign_length a.text = rw number at is_sign in
-    let within' : sign ≤ length a.text = rw number at within in
-    let is_added' : added ≡ width - length a.text = is_added ∙ ap (λ n. width - n) a.count in
     let whole : List ℕ = take sign a.text ++ (replicate added 48 ++ drop sign a.text) in
     let long : length whole ≡ added + count = grind (arith, length-append, length-replicate, length-take-le, length-drop) in
-    record {
-      text = whole;
-      is = record {
-        number = a.text;
-        is = a.is;
-        whole = ap (λ n. take sign a.text ++ (replicate n 48 ++ drop sign a.text)) is_added'
-            ∙ ap (λ k. take k a.text ++ (replicate (width - length a.text) 48 ++ drop k a.text)) is_sign';
-      };
-      front = Front-inserted (replicate added 48) sign room a.front (omega (arith, a.count, within')) inserted room_for;
-      count = sym long;
-    }
+    grind (arith, Front-inserted)

@@ -14,6 +14,7 @@ use crate::part::Part;
 pub struct Left<P>(pub P, pub usize, pub u8);
 
 impl<P: Part> Part for Left<P> {
+    // `Right` and `Center` have the same members, since the toolchain takes no `impl` that a macro writes.
     ghost is_text = { λ part. IsAtLeft part.1 part.2 (P.is_text part.0) };
 
     ghost is_valid = { λ part. P.is_valid part.0 };

@@ -49,7 +49,7 @@ fn write_with_point(digits: &[u8], buffer: &mut [u8]) -> usize
 // Returns the exponent of the first of the digits, if that of the last is `exponent`. The exponent of 0 is 0.
 fn first_exponent(digits: &[u8], exponent: i32) -> i64
     requires some { 1 ≤ length digits.now }
-    requires few { length digits.now ≤ 20 }
+    requires at_most_20 { length digits.now ≤ 20 }
     ensures exponent { (number : ℕ) → IsDigits 10 number digits.now
         → result ≡ exponent_of_first number exponent }
     ensures small { unsigned_abs result < 2 ^ 32 }

@@ -1,43 +1,28 @@
 -- What a flush and a read do in a run over blocks.
-use Rattle.std.proofs.Common.{◌≡◌, ℕ, zero, suc, ◌+◌, Bool, true, false, ◌||◌, List, [], ◌++◌, take, Option, Ok, refl, sym, ap, subst, ◌∙◌}
-use Rattle.std.proofs.Common.{inl, inr, arith, append-nil, append_assoc, ◌≤◌, ◌<◌, ◌∷◌, Some, None, length, length-append, length-take}
-use Rattle.std.specs.Prelude.{IsSome}
-use Rattle.std.specs.Io.{StartsWith}
-use Rattle.std.specs.Io.KnownBytes.{Appends, Consumes, IsAtEnd}
-use Rattle.std.proofs.KnownBytes.{Consumes-all, Consumes-trans}
+use Rattle.std.proofs.Common.{◌≡◌, ℕ, ◌+◌, Bool, ◌||◌, List, [], ◌++◌, take, Option, Ok, sym, ap, subst, ◌∙◌, append-nil, append_assoc, ◌≤◌, length}
+use Rattle.std.proofs.Common.{length-append, length-take, arith}
+use Rattle.std.specs.Io.KnownBytes.{Consumes}
+use Rattle.std.proofs.KnownBytes.{Consumes-trans}
 use Rattle.std.proofs.lemmas.List.{append_cancel_left}
 use Rattle.lexical_lines.specs.declared.answer.answerer.Answerer.{Answerer}
-use Rattle.lexical_lines.specs.Answer.{AnswersAll, AnswersEnded}
-use Rattle.lexical_lines.specs.Answerer.{HasAnswered}
-use Rattle.lexical_lines.specs.BlockWriter.{BlockWriting, taken, TakesMore, IsFlushed, TakesMore-reflexive, TakesMore-transitive}
-use Rattle.lexical_lines.specs.RunOutcome.{added, BreaksOff}
+use Rattle.lexical_lines.specs.BlockWriter.{BlockWriting, taken, TakesMore, IsFlushed, TakesMore-transitive}
 use Rattle.lexical_lines.specs.Source.{reads_end}
 use Rattle.lexical_lines.specs.Stream.{still-told}
 use Rattle.lexical_lines.proofs.Added.{added-is}
 use Rattle.lexical_lines.proofs.Readers.{still-at_end}
-use Rattle.lexical_streams.specs.StreamAnswers.{Yields, bytes_put, BeginsAnswers, HandedAll, AllAnswered, OneFailed, IsUnderWay}
+use Rattle.lexical_streams.specs.StreamAnswers.{Yields, HandedAll, IsUnderWay}
 
 -- ---- the bytes of the writer
 
 -- if all bytes that the writer has taken are written and flushed, the sink contains them
 pub handed-all : (c d : BlockWriting) → TakesMore c d → IsFlushed d → HandedAll c d
-handed-all c d kept flushed = record {
-  flushed = flushed;
-  contents = subst (Appends c.contents d.contents) sent kept.passed.contents;
-}
-  where
-    sent : kept.sent ≡ c.held ++ bytes_put c d
-    sent = append_cancel_left c.written kept.sent (c.held ++ bytes_put c d) (
-        sym kept.passed.written ∙ sym (append-nil d.written) ∙ ap (λ held. d.written ++ held) (sym flushed.empty) ∙ kept.longer
-        ∙ ap (λ more. taken c ++ more) (sym (added-is (taken c) (taken d) kept.more kept.longer)) ∙ append_assoc c.written c.held (bytes_put c d))
+handed-all c d kept flushed = grind (arith, append_cancel_left, append-nil, added-is, append_assoc)
 
 -- ---- the bytes of the source
 
 -- a read that yielded some bytes does not report the end
 pub not_ended : (E : Type 0) (a : Bool) (count : ℕ) → (count ≡ 0 → ⊥) → (a || reads_end {E = E} (Ok count)) ≡ a
-not_ended E a zero some = absurd (some refl)
-not_ended E true (suc count) some = refl
-not_ended E false (suc count) some = refl
+not_ended E a count some = grind arith
 
 -- a read that yielded some bytes, after those that were read since the source was new
 module _ {S : Type 0} (yielded : S → List ℕ) (remaining : S → ℕ) (unread : S → Option (List ℕ)) (is_ended : S → Bool) where

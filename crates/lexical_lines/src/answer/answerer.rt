@@ -35,7 +35,7 @@ pub struct Answerer {
 impl Answerer {
     /// Returns an answerer that has received no bytes.
     pub fn new() -> Answerer
-        ensures { (taken : List ℕ) → HasAnswered taken [] taken result }
+        ensures { (before : List ℕ) → HasAnswered before [] before result }
     {
         Answerer {
             line: Line::new(),

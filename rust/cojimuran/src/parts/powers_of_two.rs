@@ -76,6 +76,7 @@ impl Part for HexBytes<'_> {
 
     #[inline]
     fn write_to(self, buffer: &mut [u8]) -> usize {
+        // The loop of `Joined`, whose slice contains the parts: here each byte becomes one.
         let mut count = 0;
         for (index, byte) in self.0.iter().enumerate() {
             count += write_next(index, self.1, HexByte(*byte), &mut buffer[count..]);

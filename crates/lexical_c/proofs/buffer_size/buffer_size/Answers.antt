@@ -1,5 +1,4 @@
 use Rattle.std.proofs.Common.{refl, arith, rules}
-use Rattle.std.proofs.lemmas.Bool.{false≢true}
 use Rattle.lexical_write_integer.proofs.OfTexts.SizeBounds.{need-le_size}
 use Rattle.lexical_c.specs.Format.{format_of}
 use Rattle.lexical_c.proofs.TextLengths.{text_of-le_need}
@@ -23,9 +22,4 @@ returns-in-Some g c =
     }
 
 pub returns-in-None : goal.returns-in-None
-returns-in-None g c = record {
-  accepts = (λ none. absurd (omega (arith, none)), λ valid. absurd (false≢true (c.in-None.ensures.valid.1 valid)));
-  size = λ none. absurd (omega (arith, none));
-  enough = λ none. absurd (omega (arith, none));
-  within = omega arith;
-}
+returns-in-None g c = grind arith

@@ -25,8 +25,4 @@ returns-clause-fits g c =
     (λ _. omega (arith, long), λ _. omega (arith, c.digit_count.ensures.some))
 
 pub returns-clause-text : goal.returns-clause-text
-returns-clause-text g c _ =
-    let digits = c.digit_count.ensures.count ∙ ap (digit_count 16) c.magnitude-magnitude.ensures in
-    with_sign (g.T.LexicalInteger.number c.args.value) c.args.buffer.now c.fill_with_digits.new.text c.sign_len-sign.ensures
-    (ap (λ count. c.sign_len-sign.result + count) digits) (omega (arith, c.digit_count.ensures.some)) c.if-end-buffer.false
-    (rw c.magnitude-magnitude.ensures at c.fill_with_digits.ensures) c.fill_with_digits.auto.text
+returns-clause-text g c _ = grind (arith, with_sign)

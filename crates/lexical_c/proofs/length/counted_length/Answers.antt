@@ -1,12 +1,12 @@
-use Rattle.std.proofs.Common.{◌≡◌, ◌^◌, ◌<◌, ◌≤◌, unsigned_abs, refl, ap, ◌∙◌, arith}
 use Rattle.lexical_num.specs.Format.{grouped_length}
+use Rattle.lexical_c.specs.Format.{format_of}
+use Rattle.lexical_c.proofs.WrittenTexts.{grouped_length-pos}
+use Rattle.std.proofs.Common.{◌≡◌, ◌^◌, ◌<◌, ◌≤◌, unsigned_abs, refl, ap, ◌∙◌, arith}
 use Rattle.lexical_write_integer.specs.DigitCount.{digit_count}
 use Rattle.lexical_write_integer.proofs.OfDigits.Count.DigitCounts.{digit_count-pos, digit_count-le_bits}
 use Rattle.lexical_num.proofs.Magnitudes.{magnitude-small}
 use Rattle.lexical_write_integer.proofs.OfTexts.SizeBounds.{grouped_length-le, sign-le_one}
-use Rattle.lexical_c.specs.Format.{format_of}
 use Rattle.lexical_c.proofs.TextLengths.{length-text_of}
-use Rattle.lexical_c.proofs.WrittenTexts.{grouped_length-pos}
 use Rattle.lexical_c.proofs.length.counted_length.Goals as goal
 use Rattle.lexical_c.proofs.length.counted_length.Goals.{After-sign_len}
 
@@ -18,9 +18,7 @@ small : (g : _) (c : After-sign_len g) → unsigned_abs (g.T.LexicalInteger.numb
 small g c = magnitude-small _ g.met.T.LexicalInteger.bit_width _ c.in_range.ensures.at_least c.in_range.ensures.at_most
 
 few : (g : _) (c : After-sign_len g) → c.magnitude_digits-digits.result ≤ 64
-few g c =
-    let two = (rw c.mantissa_radix.ensures.value at c.mantissa_radix.ensures.radix).at_least_two in
-    omega (arith, count_is g c, digit_count-le_bits _ _ 64 two (omega arith) (small g c))
+few g c = grind (arith, digit_count-le_bits)
 
 pub grouped_len-requires : goal.grouped_len-requires
 grouped_len-requires g c = omega (arith, few g (goal.at.grouped_len-requires g c).After-sign_len)

@@ -5,9 +5,7 @@ use Rattle.lexical_c.proofs.PlainTexts.{after_sign}
 use Rattle.lexical_c.proofs.plain.write_plain.Goals as goal
 
 pub write_sign-sign-requires : goal.write_sign-sign-requires
-write_sign-sign-requires g c =
-    let some = g.met.T.LexicalInteger.decimal_width.some in
-    omega (arith, c.requires.room, need-pos (g.T.LexicalInteger.number c.args.value) g.T.LexicalInteger.DECIMAL_WIDTH c.args.format.now some)
+write_sign-sign-requires g c = grind (arith, need-pos)
 
 pub returns : goal.returns
 returns g c =

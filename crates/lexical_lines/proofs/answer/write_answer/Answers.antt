@@ -1,4 +1,4 @@
-use Rattle.std.proofs.Common.{◌≡◌, ◌-◌, ◌^◌, min, false, IsTrue, arith, inr}
+use Rattle.std.proofs.Common.{◌≡◌, ◌-◌, ◌^◌, min, inr, false, IsTrue, arith}
 use Rattle.lexical_lines.proofs.answer.write_answer.Goals as goal
 
 pub returns-in-None-clause-answer : goal.returns-in-None-clause-answer

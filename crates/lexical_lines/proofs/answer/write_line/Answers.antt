@@ -14,11 +14,4 @@ write_text-end-requires g c =
 pub returns : goal.returns
 returns g c =
     let written = Writes-front 128 c.args.buffer.now c.write_text-end.new.buffer _ c.write_text-end.ensures.text in
-    Writes-newline _ _ _ written
-    (omega (
-      arith,
-      written.count,
-      c.write_text-end.ensures.text.front.fits,
-      length-take-le 128 c.args.buffer.now (omega (arith, c.requires)),
-      c.requires,
-    ))
+    grind (arith, Writes-newline)

@@ -1,4 +1,5 @@
-use Rattle.std.proofs.Common.{◌≡◌, ◌∙◌, ap, sym, false, not, ◌∷◌, drop, length, ◌<◌, arith}
+use Rattle.std.proofs.lemmas.Grind.{common_steps}
+use Rattle.std.proofs.Common.{◌≡◌, ◌∙◌, ap, sym, false, not, drop, arith}
 use Rattle.std.specs.Fmt.{formatter_spec}
 use Rattle.std.specs.Option.{is_some}
 use Rattle.std.proofs.lemmas.Str.{IsCharBoundary-after_ascii}
@@ -7,11 +8,7 @@ use Rattle.lexical_parts.proofs.ShownNumbers.{negative_sign, no_width, unpadded}
 use Rattle.lexical_parts.proofs.display.pad_number.Goals as goal
 
 pub range_from-requires : goal.range_from-requires
-range_from-requires g c = λ _.
-    let text = c.args.text.now in
-    let starts : text ≡ 45 ∷ drop 1 text = rw c.if-is_negative.true at c.requires in
-    let some : 0 < length text = rw starts (omega arith) in
-    IsCharBoundary-after_ascii text 0 c.utf8.text some (rw starts (omega arith))
+range_from-requires g c = grind (arith, common_steps, IsCharBoundary-after_ascii)
 
 pub returns-then-not-alternate-clause-styled : goal.returns-then-not-alternate-clause-styled
 returns-then-not-alternate-clause-styled g c = λ p ok.

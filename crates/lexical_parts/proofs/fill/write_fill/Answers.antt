@@ -1,5 +1,5 @@
 use Rattle.std.proofs.Common.{◌≡◌, ◌++◌, length, take, drop, refl, sym, ap, ◌∙◌, arith}
-use Rattle.std.proofs.lemmas.List.{length-take-le, length-replicate}
+use Rattle.std.proofs.lemmas.List.{length-replicate, length-take-le}
 use Rattle.std.specs.Prelude.{replicate}
 use Rattle.lexical_parts.proofs.fill.write_fill.Goals as goal
 

@@ -24,13 +24,10 @@ digits_within g c =
     omega (arith, grouped_length-more c.args.format.now.digit_grouping c.write_magnitude-count.result most 0 within)
 
 pub group_digits-requires-clause-room : goal.group_digits-requires-clause-room
-group_digits-requires-clause-room g c =
-    let within = digits_within g (goal.at.group_digits-requires-clause-room g c).After-write_magnitude-count in
-    omega (arith, within, c.requires.room, c.write_magnitude-count.auto.buffer)
+group_digits-requires-clause-room g c = grind (arith, digits_within)
 
 pub returns-then-decimals-eq0-clause-short : goal.returns-then-decimals-eq0-clause-short
-returns-then-decimals-eq0-clause-short g c =
-    omega (arith, digits_within g (goal.at.returns-then-decimals-eq0-clause-short g c).After-write_magnitude-count, c.group_digits.ensures.total)
+returns-then-decimals-eq0-clause-short g c = grind (arith, digits_within)
 
 pub returns-then-decimals-eq0-clause-text : goal.returns-then-decimals-eq0-clause-text
 returns-then-decimals-eq0-clause-text g c =
@@ -54,20 +51,8 @@ group_digits-point-requires-clause-room g c =
 pub write_to-requires-clause-room : goal.write_to-requires-clause-room
 write_to-requires-clause-room g c =
     let are = c.write_units-start.ensures.units in
-    let point = c.group_digits-point in
     let within = grouped_units-le c.args.format.now.digit_grouping are in
-    omega (
-      arith,
-      within,
-      are.more,
-      point.ensures.total,
-      c.requires.room,
-      c.if-decimals-eq0.false,
-      c.copy_to_front.auto.buffer,
-      point.auto.buffer,
-      length-take {A = ℕ},
-      length-drop {A = ℕ},
-    )
+    grind arith
 
 pub returns-clause-text : goal.returns-clause-text
 returns-clause-text g c =

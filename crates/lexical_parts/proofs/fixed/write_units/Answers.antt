@@ -1,14 +1,11 @@
-use Rattle.std.proofs.Common.{ℕ, ap, length, arith}
-use Rattle.std.proofs.lemmas.List.{length-drop, length-take}
+use Rattle.std.proofs.Common.{arith}
 use Rattle.lexical_parts.proofs.GroupedUnits.{units_after_zeros}
 use Rattle.lexical_num.proofs.Magnitudes.{decimal_width-le_20}
 use Rattle.lexical_parts.proofs.Widths.{few_digits}
 use Rattle.lexical_parts.proofs.fixed.write_units.Goals as goal
 
 pub write_magnitude-count-requires : goal.write_magnitude-count-requires
-write_magnitude-count-requires g c =
-    let width = decimal_width-le_20 _ g.met.T.LexicalInteger.bit_width g.met.T.LexicalInteger.decimal_width in
-    omega (arith, width, ap length c.requires.zeros, length-take {A = ℕ}, length-drop {A = ℕ})
+write_magnitude-count-requires g c = grind (arith, decimal_width-le_20)
 
 pub returns-clause-units : goal.returns-clause-units
 returns-clause-units g c =

@@ -1,5 +1,5 @@
-use Rattle.std.proofs.Common.{sym}
 use Rattle.lexical_parts.proofs.FormattedRooms.{signed-largest}
+use Rattle.std.proofs.Common.{sym}
 use Rattle.lexical_parts.proofs.number.largest_magnitude.Goals as goal
 
 pub returns-then-IS_SIGNED : goal.returns-then-IS_SIGNED

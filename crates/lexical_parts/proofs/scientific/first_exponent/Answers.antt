@@ -1,4 +1,4 @@
-use Rattle.std.proofs.Common.{◌∙◌, arith, rules, sym}
+use Rattle.std.proofs.Common.{◌∙◌, rules, sym, arith}
 use Rattle.std.proofs.lemmas.Int.{ints}
 use Rattle.lexical_parts.proofs.Scientifics.{exponent_of_digits}
 use Rattle.lexical_parts.proofs.scientific.first_exponent.Goals as goal

@@ -1,4 +1,4 @@
-use Rattle.std.proofs.Common.{◌≡◌, [], true, inl, inr, refl, sym, arith, rules, ◌∙◌, append-nil}
+use Rattle.std.proofs.Common.{[], inl, inr, refl, sym, arith, rules, ◌∙◌, append-nil}
 use Rattle.std.proofs.Math.Bool.{or-true}
 use Rattle.std.proofs.KnownBytes.{Consumes-all, Consumes-trans}
 use Rattle.std.proofs.lemmas.Result.{err_from_is_err_and}

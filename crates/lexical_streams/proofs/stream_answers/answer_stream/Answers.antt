@@ -1,33 +1,23 @@
 -- An answer for each clause, by the cases of what `answer_blocks` returns, with which the writer is flushed.
-use Rattle.std.proofs.Common.{◌≡◌, ℕ, ◌≤◌, Bool, true, false, Result, Ok, Err, arith}
+use Rattle.std.proofs.Common.{◌≡◌, ◌≤◌, Bool, true, false, Result, arith}
 use Rattle.std.specs.Prelude.{IfOk, OnOk, OnErr}
 use Rattle.lexical_lines.specs.ExitStatus.{status_of}
 use Rattle.lexical_streams.proofs.stream_answers.answer_stream.Goals as goal
 
 if_at_most_1 : {E P : Type 0} (ran : Result Bool E) → OnOk ran P → status_of ran true ≤ 1 → P
-if_at_most_1 (Ok true) ok low = ok
-if_at_most_1 (Ok false) ok low = ok
-if_at_most_1 (Err e) ok low = absurd (omega arith)
+if_at_most_1 ran ok low = grind arith
 
 if_0 : {E : Type 0} (P : Bool → Type 0) (ran : Result Bool E) → IfOk ran P → status_of ran true ≡ 0 → P true
-if_0 P (Ok true) ok is = ok
-if_0 P (Ok false) ok is = absurd (omega arith)
-if_0 P (Err e) ok is = absurd (omega arith)
+if_0 P ran ok is = grind arith
 
 if_1 : {E : Type 0} (P : Bool → Type 0) (ran : Result Bool E) → IfOk ran P → status_of ran true ≡ 1 → P false
-if_1 P (Ok true) ok is = absurd (omega arith)
-if_1 P (Ok false) ok is = ok
-if_1 P (Err e) ok is = absurd (omega arith)
+if_1 P ran ok is = grind arith
 
 if_2 : {E P : Type 0} (ran : Result Bool E) → OnErr ran P → status_of ran true ≡ 2 → P
-if_2 (Ok true) err is = absurd (omega arith)
-if_2 (Ok false) err is = absurd (omega arith)
-if_2 (Err e) err is = err
+if_2 ran err is = grind arith
 
 at_most_2 : {E : Type 0} (ran : Result Bool E) → status_of ran true ≤ 2
-at_most_2 (Ok true) = omega arith
-at_most_2 (Ok false) = omega arith
-at_most_2 (Err e) = omega arith
+at_most_2 ran = grind arith
 
 pub returns-clause-range : goal.returns-clause-range
 returns-clause-range g c = rw c.status.ensures (at_most_2 c.answer_blocks.result)

@@ -1,4 +1,4 @@
-use Rattle.std.proofs.Common.{◌∙◌, ap, inr, true, ◌≡◌, ◌+◌, ℕ, Result, Ok, Err, OnOk, OnErr, IfOk, arith}
+use Rattle.std.proofs.Common.{◌∙◌, inr, true, ◌≡◌, ◌+◌, ℕ, Result, OnOk, OnErr, IfOk, ap, arith}
 use Rattle.std.proofs.Math.Bool.{or-true}
 use Rattle.std.proofs.lemmas.List.{append-nil}
 use Rattle.std.proofs.lemmas.Result.{err_from_is_err_and}
@@ -11,14 +11,12 @@ use Rattle.lexical_lines.proofs.answer.line_loop.run.Goals as goal
 -- a call that succeeded had no failure
 IfOk-no_failure : {A E P : Type 0} {Q R : A → Type 0} (before after : ℕ) (result : Result A E) → after ≡ before + failures_of result
     → OnOk result P → IfOk result Q → ((a : A) → after ≡ before → P → Q a → R a) → IfOk result R
-IfOk-no_failure before after (Ok a) failures p q then = then a (omega (arith, failures)) p q
-IfOk-no_failure before after (Err e) failures p q then = tt
+IfOk-no_failure before after result failures p q then = grind arith
 
 -- a call that failed had one failure
 OnErr-one_failure : {A E P Q : Type 0} (before after : ℕ) (result : Result A E) → after ≡ before + failures_of result
     → (after ≡ before + 1 → P → Q) → OnErr result P → OnErr result Q
-OnErr-one_failure before after (Ok a) failures then p = tt
-OnErr-one_failure before after (Err e) failures then p = then failures p
+OnErr-one_failure before after result failures then p = grind arith
 
 pub loop-byte-preserved : goal.loop-byte-preserved
 loop-byte-preserved g c =
@@ -72,9 +70,7 @@ pub returns-in_err-byte-clause-err : goal.returns-in_err-byte-clause-err
 returns-in_err-byte-clause-err g c = grind (arith, common_steps)
 
 pub returns-clause-kept_source : goal.returns-clause-kept_source
-returns-clause-kept_source g c =
-    g.met.S.ByteSource.keeps_transitive _ _ _ c.loop-byte.invariant.source_kept c.in_ok-byte.ensures.kept
+returns-clause-kept_source g c = grind arith
 
 pub returns-clause-kept_sink : goal.returns-clause-kept_sink
-returns-clause-kept_sink g c =
-    g.met.K.ByteSink.keeps_transitive _ _ _ c.loop-byte.invariant.sink_kept c.finish.ensures.puts.kept
+returns-clause-kept_sink g c = grind arith

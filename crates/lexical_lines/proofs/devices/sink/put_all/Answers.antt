@@ -1,18 +1,15 @@
-use Rattle.std.proofs.Common.{◌≡◌, ◌-◌, ◌++◌, length, take, drop, sym, ap, ◌∙◌, arith, append_assoc}
-use Rattle.std.proofs.Common.{ℕ, zero, suc, List, [], ◌∷◌, Ok, refl, length-take, length-drop}
+use Rattle.std.proofs.Common.{◌≡◌, ◌-◌, ◌++◌, length, take, drop, sym, ap, ◌∙◌, append_assoc, ℕ, List, Ok, length-take, length-drop, arith}
 use lib.Seq.{take-add, take-take}
 use Rattle.lexical_lines.specs.Sink.{put_failures}
 use Rattle.lexical_lines.proofs.devices.sink.put_all.Goals as goal
 
 -- a call that takes some bytes is not a failure
 some-taken : (count : ℕ) (bytes : List ℕ) → (count ≡ 0 → ⊥) → put_failures {E = ℕ} (Ok count) bytes ≡ 0
-some-taken zero bytes some = absurd (some refl)
-some-taken (suc count) bytes some = refl
+some-taken count bytes some = grind arith
 
 -- a call that takes none of some bytes is a failure
 none-taken : (bytes : List ℕ) → (length bytes ≡ 0 → ⊥) → put_failures {E = ℕ} (Ok 0) bytes ≡ 1
-none-taken [] some = absurd (some refl)
-none-taken (byte ∷ bytes) some = refl
+none-taken bytes some = grind arith
 
 pub loop-taken-preserved : goal.loop-taken-preserved
 loop-taken-preserved g c =

@@ -10,9 +10,7 @@ returns-in_err-checked_mul-clause-none c = rw c.from_residual.ensures (λ number
     c.in_err-checked_mul.ensures (omega (arith, c.loop-byte.invariant.value)))
 
 pub returns-in_err-number-clause-none : goal.returns-in_err-number-clause-none
-returns-in_err-number-clause-none c = rw c.from_residual-in_err-number.ensures (λ number small spelled.
-    let least = IsDecimalNumeral-at_least number c.args.text.now c.loop-byte.byte-index c.loop-byte-test.true spelled in
-    c.in_err-number.ensures (omega (arith, c.loop-byte.invariant.value, c.in_ok-checked_mul.ensures, c.from-digit.ensures)))
+returns-in_err-number-clause-none c = grind (arith, IsDecimalNumeral-at_least)
 
 pub loop-byte-preserved : goal.loop-byte-preserved
 loop-byte-preserved c =

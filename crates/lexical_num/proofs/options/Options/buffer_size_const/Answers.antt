@@ -1,10 +1,9 @@
-use Rattle.std.proofs.Common.{◌≡◌, Bool, true, false, if◌then◌else◌, refl, arith}
+use Rattle.std.proofs.Common.{◌≡◌, Bool, if◌then◌else◌, arith}
 use mir.Val.{bool_byte}
 use Rattle.lexical_num.proofs.options.Options.buffer_size_const.Goals as goal
 
 cast : (b : Bool) → bool_byte b ≡ (if b then 1 else 0)
-cast true = refl
-cast false = refl
+cast v0 = grind arith
 
 -- the check finds this proof by itself, but with an answer the refusal of a mistake says what is wrong
 pub returns : goal.returns

@@ -1,5 +1,5 @@
-use Rattle.std.proofs.Common.{refl, arith}
 use Rattle.std.proofs.lemmas.Bool.{false≢true}
+use Rattle.std.proofs.Common.{refl, arith}
 use Rattle.lexical_parts.proofs.part.Part.try_write_to.Goals as goal
 
 -- the check finds these proofs by itself, but with answers the refusal of a mistake says what is wrong

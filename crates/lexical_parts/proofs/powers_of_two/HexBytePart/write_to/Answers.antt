@@ -4,9 +4,7 @@ use Rattle.lexical_num.specs.Digit.{digit_char}
 use Rattle.lexical_parts.proofs.powers_of_two.HexBytePart.write_to.Goals as goal
 
 stores : (buffer : List ℕ) (x y : ℕ) → 2 ≤ length buffer → set (set buffer 0 x) 1 y ≡ x ∷ y ∷ drop 2 buffer
-stores [] x y room = absurd (omega arith)
-stores (a ∷ []) x y room = absurd (omega arith)
-stores (a ∷ (b ∷ buffer)) x y room = refl
+stores buffer x y room = grind arith
 
 pub returns-clause-text : goal.returns-clause-text
 returns-clause-text c =

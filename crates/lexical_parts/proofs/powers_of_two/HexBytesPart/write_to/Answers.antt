@@ -30,7 +30,4 @@ loop-index-preserved c =
     }
 
 pub returns-clause-short : goal.returns-clause-short
-returns-clause-short c =
-    let bytes = c.args.self.0.now in
-    let fits = joined_room-take-le (λ _. 2) (length c.args.self.1.now) bytes c.loop-index.index c.loop-index.auto.index-end in
-    omega (arith, fits, two_each bytes, c.loop-index.invariant.within)
+returns-clause-short c = grind (arith, joined_room-take-le, two_each)

@@ -1,5 +1,5 @@
-use Rattle.std.proofs.Common.{refl}
 use Rattle.lexical_write_integer.proofs.OfTexts.Signs.{sign_of-other}
+use Rattle.std.proofs.Common.{refl}
 use Rattle.lexical_parts.proofs.sign.SignPart.write_to.Goals as goal
 
 -- the check finds this proof by itself, but with an answer the refusal of a mistake says what is wrong

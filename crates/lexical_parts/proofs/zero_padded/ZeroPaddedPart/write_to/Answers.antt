@@ -1,5 +1,5 @@
-use Rattle.std.proofs.Common.{ℕ, arith}
 use Rattle.std.proofs.lemmas.List.{length-drop, length-take}
+use Rattle.std.proofs.Common.{ℕ, arith}
 use Rattle.lexical_parts.proofs.ZeroPaddings.{written_zero_padded}
 use Rattle.lexical_parts.proofs.zero_padded.ZeroPaddedPart.write_to.Goals as goal
 

@@ -1,5 +1,5 @@
-use Rattle.std.proofs.Common.{arith, ◌≡◌, ◌<◌, ℕ, List, [], ◌∷◌, ◌++◌, length, take, drop, refl, sym, ap, ◌∙◌, append_assoc, length-append, length-drop}
-use Rattle.std.proofs.Common.{take-append-drop}
+use Rattle.std.proofs.Common.{◌≡◌, ◌<◌, ℕ, List, [], ◌∷◌, ◌++◌, length, take, drop, refl, sym, ap, ◌∙◌, append_assoc, length-append, length-drop}
+use Rattle.std.proofs.Common.{take-append-drop, arith}
 use Rattle.std.proofs.lemmas.List.{take_all}
 use Rattle.std.proofs.lemmas.Result.{err_from_is_err_and}
 use Rattle.std.proofs.Transfers.{starts_with_of_append}
@@ -10,10 +10,7 @@ use Rattle.lexical_lines.proofs.answer.answerer.Answerer.push_all.Goals as goal
 
 -- the next line of the slice
 line_more : (bytes front rest end more : List ℕ) → bytes ≡ front ++ rest → rest ≡ end ++ 10 ∷ more → bytes ≡ (front ++ (end ++ 10 ∷ [])) ++ more
-line_more bytes front rest end more e f = e ∙ ap (λ xs. front ++ xs) f ∙ regroup
-  where
-    regroup : front ++ (end ++ 10 ∷ more) ≡ (front ++ (end ++ 10 ∷ [])) ++ more
-    regroup = simp append_assoc
+line_more bytes front rest end more e f = grind (arith, append_assoc)
 
 -- fewer bytes than all are a proper prefix
 beginning : (count : ℕ) (bytes : List ℕ) → count < length bytes → IsBeginning (take count bytes) bytes

@@ -1,11 +1,11 @@
-use Rattle.std.proofs.Common.{◌≡◌, ℕ, ◌+◌, ◌-◌, ◌<◌, ◌≤◌, List, ◌++◌, length, take, drop, sym, ap, ◌∙◌, arith, length-take, take-append-drop}
+use Rattle.lexical_lines.specs.Source.{failures_of}
+use Rattle.std.proofs.lemmas.Grind.{common_steps}
+use Rattle.std.proofs.Common.{◌≡◌, ℕ, ◌+◌, ◌-◌, ◌<◌, ◌≤◌, List, ◌++◌, length, take, drop, sym, ap, ◌∙◌, length-take, take-append-drop, append_assoc, [], Result}
+use Rattle.std.proofs.Common.{OnOk, OnErr, arith}
 use Rattle.std.specs.List.{copy_within}
 use Rattle.std.proofs.lemmas.List.{append-nil, drop-take}
-use Rattle.std.proofs.lemmas.List.Edits.{take-paste}
-use Rattle.lexical_lines.specs.Source.{failures_of}
 use Rattle.lexical_lines.specs.BlockWriter.{taken}
 use Rattle.lexical_lines.proofs.devices.block_writer.BlockWriter.write_block.Goals as goal
-use Rattle.std.proofs.Common.{length-drop, append_assoc, [], Result, Ok, Err, OnOk, OnErr}
 use Rattle.std.specs.Prelude.{⊤}
 
 -- the bytes after the first ones are moved to the start
@@ -14,28 +14,20 @@ take-copy_within : (xs : List ℕ) (count end : ℕ) → count ≤ end → end �
 take-copy_within xs count end ordered within =
     let left = end - count in
     let parts : end ≡ count + left = omega arith in
-    let none : left ≡ 0 + left = omega arith in
-    ap (λ k. take k (copy_within xs count end 0)) none
-    ∙ take-paste xs 0 (drop count xs) left (omega arith) (omega (arith, length-drop count xs))
-    ∙ sym (ap (λ k. drop count (take k xs)) parts ∙ drop-take count left xs)
+    grind (arith, common_steps, drop-take)
 
 -- the block held the bytes that were written, followed by those that it holds after the move
 parted : (xs ys : List ℕ) (count end : ℕ) → count ≤ end → end ≤ length xs → ys ≡ copy_within xs count end 0
     → take end xs ≡ take count (take end xs) ++ take (end - count) ys
-parted xs ys count end ordered within moved =
-    let rest = ap (take (end - count)) moved ∙ take-copy_within xs count end ordered within in
-    sym (take-append-drop count (take end xs)) ∙ ap (λ l. take count (take end xs) ++ l) (sym rest)
+parted xs ys count end ordered within moved = grind (arith, take-copy_within, take-append-drop)
 
 -- each byte that was taken is still taken: it was written, or it is in the block
 same : (written after xs ys : List ℕ) (count end : ℕ) → after ≡ written ++ take count (take end xs)
     → take end xs ≡ take count (take end xs) ++ take (end - count) ys → after ++ take (end - count) ys ≡ written ++ take end xs
-same written after xs ys count end passed parts =
-    ap (λ front. front ++ take (end - count) ys) passed ∙ append_assoc written (take count (take end xs)) (take (end - count) ys)
-    ∙ ap (λ held. written ++ held) (sym parts)
+same written after xs ys count end passed parts = grind (arith, append_assoc)
 
 within : {E : Type 0} (result : Result ⊤ E) (count whole : ℕ) → OnOk result (count ≡ whole) → OnErr result (count < whole) → count ≤ whole
-within (Ok done) count whole all less = omega (arith, all)
-within (Err e) count whole all less = omega (arith, less)
+within result count whole all less = grind arith
 
 pub returns-clause-taken : goal.returns-clause-taken
 returns-clause-taken g c =

@@ -1,7 +1,7 @@
-use Rattle.std.proofs.Common.{◌≡◌, ℕ, List, [], ◌++◌, arith, length, length-take, sym, subst, ap, ◌∙◌, append_assoc}
+use Rattle.std.proofs.Common.{◌≡◌, ℕ, List, [], ◌++◌, length-take, sym, ap, ◌∙◌, append_assoc, length, arith}
 use Rattle.std.proofs.KnownBytes.{Appends-nil}
 use Rattle.std.proofs.lemmas.List.{append-nil}
-use Rattle.lexical_lines.specs.BlockWriter.{BlockWriting, taken, TakesMore, TakesMore-transitive}
+use Rattle.lexical_lines.specs.BlockWriter.{BlockWriting, taken, TakesMore}
 use Rattle.lexical_lines.proofs.devices.block_writer.BlockWriterByteSink.put.Goals.{then-self+in_ok-write_block, else-self}
 use Rattle.lexical_lines.proofs.devices.block_writer.BlockWriterByteSink.put.Goals as goal
 
@@ -17,11 +17,7 @@ held_more a b more is = record {
 pub returns-clause-kept : goal.returns-clause-kept
 returns-clause-kept g c =
     let filled = held_more c.if-self.self c.fill_block.new.self _ c.fill_block.ensures.held in
-    elim c.if-self.branch [
-      | then-self+in_ok-write_block w ↦
-          TakesMore-transitive _ _ _ (subst (TakesMore c.args.self.now) (sym w.self-is) w.write_block.ensures.kept) filled
-      | else-self w ↦ subst (λ a. TakesMore a c.fill_block.new.self) w.self-is filled
-    ]
+    grind arith
 
 -- the check finds these proofs by itself, but with an answer the refusal of a mistake says what is wrong
 

@@ -1,12 +1,11 @@
-use Rattle.std.proofs.Common.{◌≡◌, ℕ, zero, suc, ◌==◌, ◌||◌, Ok, refl, ap, sym, arith, length, length-take}
+use Rattle.std.proofs.Common.{◌≡◌, ℕ, ◌==◌, ◌||◌, Ok, ap, sym, refl, length, length-take, arith}
 use Rattle.std.specs.contracts.io.Error.{the_row}
 use Rattle.lexical_lines.specs.Source.{reads_end}
-use Rattle.lexical_lines.proofs.Readers.{KeepsReader-read, ReadConsumes-limited}
+use Rattle.lexical_lines.proofs.Readers.{ReadConsumes-limited, KeepsReader-read}
 use Rattle.lexical_lines.proofs.devices.stream.ReadingBlockSource.read_block.Goals as goal
 
 is_end : (E : Type 0) (count : ℕ) → (count == 0) ≡ reads_end {E = E} (Ok count)
-is_end E zero = refl
-is_end E (suc count) = grind arith
+is_end E count = grind arith
 
 -- the check finds three of these proofs by itself, but with answers the refusals of mistakes say what is wrong
 
