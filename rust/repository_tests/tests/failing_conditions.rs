@@ -116,9 +116,10 @@ fn messages() {
         "self.1 <= 19": Fixed(7i64, 20).to_text(buffer), Fixed(7u8, usize::MAX).room(), Fixed(7u8, 90).to_str(buffer);
         "radix <= 36": table(37);
         "radix >= 2": table(1);
-        "fits_width(": Padded(2026u16, 2).to_text(buffer), Padded(15u8, 1).try_to_str(buffer),
-            Padded(1234567u32, 3).to_str(buffer), PaddedDigits(16, 256u32, 2).to_text(buffer),
-            write_padded(10u8, 10, &mut buffer[..1]), write_padded(1u8, 16, &mut []);
+        "fits_decimal_width(": Padded(2026u16, 2).to_text(buffer), Padded(15u8, 1).try_to_str(buffer),
+            Padded(1234567u32, 3).to_str(buffer), write_padded(10u8, 10, &mut buffer[..1]);
+        "count <= buffer.len()": PaddedDigits(16, 256u32, 2).to_text(buffer);
+        "number == 0": write_padded(1u8, 16, &mut []);
         "begins_with_pairs(": algorithm(7u32, 16, &table(16)[..511], buffer), algorithm(7u32, 12, table(13), buffer),
             algorithm(7u32, 13, table(12), buffer), algorithm(7u32, 2, table(36), buffer);
         "number < 10_000_000_000_000_000_000": u64::MAX.decimal_signed(buffer), usize::MAX.decimal_signed(buffer);

@@ -1,9 +1,8 @@
 -- Blocks of digits in a buffer: how they join, and how the digits of a number are made of them.
-use Rattle.std.proofs.Common.{◌≡◌, ℕ, ◌+◌, ◌-◌, ◌*◌, ◌/◌, ◌%◌, ◌^◌, ◌<◌, ◌≤◌, List, [], ◌∷◌, ◌++◌, length, take, drop, set, map, refl}
-use Rattle.std.proofs.Common.{sym, ap, subst, ◌∙◌, arith, add-zero, add_assoc, append_assoc, length-drop, take-take}
-use Rattle.std.proofs.Math.Nat.{pow-zero, one-le-pow, mod-one, mod-lt, div-one, div-add-mod', add-mul, mul_assoc}
+use Rattle.std.proofs.Common.{◌≡◌, ℕ, ◌+◌, ◌-◌, ◌*◌, ◌/◌, ◌%◌, ◌^◌, ◌<◌, ◌≤◌, List, ◌++◌, length, take, drop, set, map, sym, ap, subst, ◌∙◌, add_assoc}
+use Rattle.std.proofs.Common.{append_assoc, length-drop, take-take, arith}
+use Rattle.std.proofs.Math.Nat.{pow-zero, one-le-pow, mod-lt, div-add-mod', add-mul, mul_assoc}
 use Rattle.std.proofs.lemmas.List.{map-append, append-nil, drop_all, drop-set, take-set, length-take-le, take_at, drop_at, drop-drop}
-use Rattle.std.proofs.lemmas.List.Elements.{All-nil}
 use Rattle.std.proofs.lemmas.Nat.{pow-add, mul-add-lt, mod-mul-add}
 use Rattle.lexical_num.specs.Digit.{digit_char}
 use Rattle.lexical_write_integer.specs.Buffer.{WritesBlock}
@@ -15,51 +14,21 @@ use Rattle.lexical_write_integer.proofs.OfDigits.Powers.{div-pow_more}
 use Rattle.lexical_write_integer.proofs.OfDigits.Numerals.{IsBlockOf-one, IsBlockOf-append, IsNumeralOf-block}
 use borrow.Rule.Slice.PartMut.{put_mid}
 
--- no digit
-pub WritesBlock-none : (n : ℕ) {r at : ℕ} {list : List ℕ} → WritesBlock r 0 (n % r ^ 0) at list list
-WritesBlock-none n {r} = record {
-  digits = [];
-  block = record { counted = refl; below_radix = All-nil (λ d. d < r); value = sym (ap (λ p. n % p) (pow-zero r) ∙ mod-one n) };
-  written = rw add-zero refl;
-  kept = refl;
-}
-
 -- one digit
 pub WritesBlock-one : (r d at : ℕ) (list : List ℕ) → d < r → at < length list → WritesBlock r 1 d at list (set list at (digit_char d))
-WritesBlock-one r d at list small room = record {
-  digits = d ∷ [];
-  block = IsBlockOf-one r d small;
-  written = drop-set list at (digit_char d) room;
-  kept = take-set list at (digit_char d);
-}
+WritesBlock-one r d at list small room = search (arith, IsBlockOf-one, drop-set, take-set)
 
 -- the characters of a block, copied to index `at_index`
 pub WritesBlock-copied : (at_index : ℕ) {r count n : ℕ} {digits before characters : List ℕ}
     → IsBlockOf r count n digits → characters ≡ map digit_char digits → at_index + count ≤ length before
     → WritesBlock r count n at_index before (put_mid at_index (at_index + count - at_index) before characters)
-WritesBlock-copied at_index {count = count} {digits = digits} {before} {characters} block are room =
-    let kept = take at_index before in
-    let rest = drop (at_index + count - at_index) (drop at_index before) in
-    let long = length-take-le at_index before (omega arith) in
-    let end : at_index + (at_index + count - at_index) ≡ at_index + count = omega arith in
-    record {
-      digits = digits;
-      block = block;
-      written = drop_at kept (characters ++ rest) at_index long
-          ∙ ap (λ cs. cs ++ rest) are
-          ∙ ap (λ ys. map digit_char digits ++ ys) (drop-drop (at_index + count - at_index) at_index before ∙ ap (λ e. drop e before) end);
-      kept = take_at kept (characters ++ rest) at_index long;
-    }
+WritesBlock-copied at_index {count = count} {digits = digits} {before} {characters} block are room = grind (arith, length-take-le, drop_at, drop-drop, take_at)
 
 -- a block that fills a part of the buffer
 pub WritesBlock-part : (at_index : ℕ) {r count n : ℕ} {before part : List ℕ}
     → at_index + count ≤ length before → WritesBlock r count n 0 (take (at_index + count - at_index) (drop at_index before)) part
     → WritesBlock r count n at_index before (put_mid at_index (at_index + count - at_index) before part)
-WritesBlock-part at_index {count = count} {before = before} room b =
-    let lent = take (at_index + count - at_index) (drop at_index before) in
-    let long = length-take-le (at_index + count - at_index) (drop at_index before) (omega (arith, length-drop at_index before)) in
-    let none : drop (0 + count) lent ≡ [] = drop_all (0 + count) lent (omega (arith, long)) in
-    WritesBlock-copied at_index b.block (b.written ∙ ap (λ ys. map digit_char b.digits ++ ys) none ∙ append-nil (map digit_char b.digits)) room
+WritesBlock-part at_index {count = count} {before = before} room b = grind (arith, length-take-le, length-drop, drop_all, WritesBlock-copied, append-nil)
 
 -- a block before one that is written
 pub WritesBlock-front : {r i j m n at : ℕ} {before between after : List ℕ}
@@ -86,9 +55,7 @@ mod-pow_split r n i j two =
     let parts : q / s * (s * p) + (q % s * p + n % p) ≡ n =
     ap (λ k. k + (q % s * p + n % p)) (sym (mul_assoc (q / s) s p))
     ∙ omega (arith, add-mul (q / s * s) (q % s) p, ap (λ k. k * p) (div-add-mod' q s), div-add-mod' n p) in
-    ap (λ k. n % k) (pow-add r i j)
-    ∙ ap (λ k. k % (s * p)) (sym parts)
-    ∙ mod-mul-add (q / s) (s * p) (q % s * p + n % p) low
+    grind (arith, pow-add, mod-mul-add)
 
 -- the next digits of a number, before its last ones
 pub WritesBlock-next : {r taken step at : ℕ} (n : ℕ) {before between after : List ℕ}
@@ -111,11 +78,7 @@ pub record IsWrittenBack (r n taken rest at : ℕ) (before after : List ℕ) : T
   pub block : WritesBlock r taken (n % r ^ taken) at before after
 
 pub IsWrittenBack-start : {r n at : ℕ} {list : List ℕ} → IsWrittenBack r n 0 n at list list
-IsWrittenBack-start {r} {n} = record {
-  fewer = digit_count-pos r n;
-  left = rw (pow-zero, div-one) refl;
-  block = WritesBlock-none n;
-}
+IsWrittenBack-start {r} {n} = grind (arith, digit_count-pos, pow-zero)
 
 -- an equal index
 pub IsWrittenBack-at : {r n taken rest at at' : ℕ} {before after : List ℕ}
@@ -151,10 +114,4 @@ IsWrittenBack-last w b = WritesBlock-whole w.left w.block b
 -- a block of all digits of the number, to the end of the list, is its text
 pub IsDigits-block : (r n count at : ℕ) (before after : List ℕ)
     → 2 ≤ r → digit_count r n ≡ count → at + count ≡ length before → WritesBlock r count n at before after → IsDigits r n (drop at after)
-IsDigits-block r n count at before after two few just b =
-    let none : drop (at + count) before ≡ [] = drop_all (at + count) before (omega arith) in
-    record {
-      digits = b.digits;
-      numeral = IsNumeralOf-block r n count b.digits two few b.block;
-      characters = b.written ∙ ap (λ ys. map digit_char b.digits ++ ys) none ∙ append-nil (map digit_char b.digits);
-    }
+IsDigits-block r n count at before after two few just b = grind (arith, drop_all, IsNumeralOf-block, append-nil)

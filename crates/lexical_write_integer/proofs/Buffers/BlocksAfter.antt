@@ -1,6 +1,6 @@
 -- Blocks of digits that are written from the start of a buffer: a block after another, and after the digits of a number.
-use Rattle.std.proofs.Common.{◌≡◌, ℕ, ◌+◌, ◌*◌, ◌/◌, ◌%◌, ◌^◌, ◌≤◌, List, ◌++◌, length, take, drop, map, refl, sym, ap, ◌∙◌}
-use Rattle.std.proofs.Common.{arith, add_assoc, zero-add, append_assoc, take-take}
+use Rattle.std.proofs.Common.{◌≡◌, ℕ, ◌+◌, ◌*◌, ◌/◌, ◌%◌, ◌^◌, ◌≤◌, List, ◌++◌, length, take, drop, map, sym, ap, ◌∙◌, add_assoc, zero-add, append_assoc}
+use Rattle.std.proofs.Common.{take-take, arith}
 use Rattle.std.proofs.lemmas.List.{map-append, length-map, drop-drop, take_at, drop_at, take-append-drop, drop-take}
 use Rattle.std.proofs.Math.Nat.{div-add-mod'}
 use Rattle.lexical_num.specs.Digit.{digit_char}
@@ -55,29 +55,11 @@ WritesBlock-after {i = i} {j} {at = at} {before} {between} {after} first last =
 -- a block of all digits of the number, at the start of the buffer, is its digits
 pub WritesDigits-block : {r n count : ℕ} {before after : List ℕ}
     → 2 ≤ r → digit_count r n ≡ count → count ≤ length before → WritesBlock r count n 0 before after → WritesDigits r n before after count
-WritesDigits-block {r} {n} {count} two few room b =
-    let long = length-map b.digits digit_char ∙ b.block.counted in
-    record {
-      writes = record {
-        text = map digit_char b.digits;
-        is = record { digits = b.digits; numeral = IsNumeralOf-block r n count b.digits two few b.block; characters = refl };
-        front = record { fits = rw long room; written = rw (zero-add, ← long) at b.written };
-        count = sym long;
-      };
-      count = sym few;
-    }
+WritesDigits-block {r} {n} {count} two few room b = grind (arith, length-map, IsNumeralOf-block)
 
 -- the digits of a number at the start of the buffer are a block
 WritesBlock-digits : {r n count : ℕ} {before after : List ℕ} → WritesDigits r n before after count → WritesBlock r count n 0 before after
-WritesBlock-digits {count = count} written =
-    let w = written.writes in
-    let long : length w.is.digits ≡ count = sym (w.count ∙ ap length w.is.characters ∙ length-map w.is.digits digit_char) in
-    record {
-      digits = w.is.digits;
-      block = record { counted = long; below_radix = w.is.numeral.numeral.below_radix; value = w.is.numeral.value };
-      written = rw (zero-add, w.count, ← w.is.characters) w.front.written;
-      kept = refl;
-    }
+WritesBlock-digits {count = count} written = grind (arith, length-map)
 
 -- the last digits of a number, after the digits of the number without them
 pub WritesDigits-after : {r count at : ℕ} (n : ℕ) {before between after : List ℕ}

@@ -1,6 +1,6 @@
 -- Prefixes of a buffer: one text after another, and what is known of the text that is written there.
-use Rattle.std.proofs.Common.{◌≡◌, ℕ, ◌+◌, ◌-◌, ◌≤◌, List, [], ◌++◌, length, take, drop, refl, sym, ap, subst, ◌∙◌, arith, zero-add}
-use Rattle.std.proofs.Common.{length-append, append_assoc}
+use Rattle.std.proofs.lemmas.Grind.{common_steps}
+use Rattle.std.proofs.Common.{◌≡◌, ℕ, ◌+◌, ◌-◌, ◌≤◌, List, [], ◌++◌, length, take, drop, refl, sym, ap, ◌∙◌, zero-add, length-append, append_assoc, arith}
 use Rattle.std.proofs.lemmas.List.{drop-drop, take_at, drop_at, length-take, length-drop, drop-append-le, take-append-drop}
 use Rattle.lexical_write_integer.specs.Buffer.{Front, Writes}
 use borrow.Rule.Slice.PartMut.{put_mid}
@@ -10,28 +10,18 @@ pub Front-after : (before between part text following : List ℕ) (count room : 
     → count ≡ length text → Front before between text → Front (take room (drop count between)) part following
     → Front before (put_mid count room between part) (text ++ following)
 Front-after before between part text following count room e front back =
-    let rest : drop count between ≡ drop count before = grind (arith, drop_at) in
-    let first : take count between ≡ text = ap (take count) front.written ∙ take_at text (drop (length text) before) count (sym e) in
     let lent = take room (drop count between) in
     let unused = drop room (drop count between) in
     let left : drop (length following) lent ++ unused ≡ drop (length following) (drop count between) =
     sym (drop-append-le (length following) lent unused back.fits) ∙ ap (drop (length following)) (take-append-drop room (drop count between)) in
-    let written : part ++ unused ≡ following ++ drop (count + length following) before = grind (arith, append_assoc, drop-drop) in
-    let long : length (text ++ following) ≡ count + length following = grind (arith, length-append) in
-    record {
-      fits = omega (arith, long, front.fits, back.fits, length-take room (drop count between), ap length rest, length-drop count before);
-      written = (λ i. first i ++ written i)
-          ∙ sym (append_assoc text following (drop (count + length following) before))
-          ∙ ap (λ k. (text ++ following) ++ drop k before) (sym long);
-    }
+    grind (arith, drop_at, take_at, append_assoc, drop-drop, length-append, length-take, length-drop)
 
 pub length-after : (text following : List ℕ) (count more : ℕ) → count ≡ length text → more ≡ length following → count + more ≡ length (text ++ following)
 length-after text following count more e f = omega (arith, length-append text following)
 
 -- the text that is written
 pub take-Writes : {Is : List ℕ → Type 0} (before after : List ℕ) (count : ℕ) (w : Writes Is before after count) → take count after ≡ w.text
-take-Writes before after count w =
-    ap (take count) w.front.written ∙ take_at w.text (drop (length w.text) before) count (sym w.count)
+take-Writes before after count w = grind (arith, take_at)
 
 pub Writes-is : {Is : List ℕ → Type 0} (before after : List ℕ) (count : ℕ) → Writes Is before after count → Is (take count after)
 Writes-is before after count w = rw (take-Writes before after count w) w.is
@@ -39,20 +29,13 @@ Writes-is before after count w = rw (take-Writes before after count w) w.is
 -- what more is known of it
 pub Writes-and : {Is Also : List ℕ → Type 0} (before after : List ℕ) (count : ℕ)
     → Writes Is before after count → Also (take count after) → Writes (λ text. Is text × Also text) before after count
-Writes-and {Is} {Also} before after count w also =
-    record { text = w.text; is = (w.is, subst Also (take-Writes before after count w) also); front = w.front; count = w.count }
+Writes-and {Is} {Also} before after count w also = grind (arith, common_steps)
 
 -- a text of some kind, which is written after another text
 pub Writes-after : {IsAfter IsWhole : List ℕ → Type 0} (text before between after : List ℕ) (count room more : ℕ)
     → count ≡ length text → Front before between text → ((following : List ℕ) → IsAfter following → IsWhole (text ++ following))
     → Writes IsAfter (take room (drop count between)) after more → Writes IsWhole before (put_mid count room between after) (count + more)
-Writes-after text before between after count room more e front whole w =
-    record {
-      text = text ++ w.text;
-      is = whole w.text w.is;
-      front = Front-after before between after text w.text count room e front w.front;
-      count = length-after text w.text count more e w.count;
-    }
+Writes-after text before between after count room more e front whole w = grind (arith, Front-after, length-after)
 
 -- a text that is written in the first `room` bytes
 pub Writes-part : {Is : List ℕ → Type 0} (before after : List ℕ) (room count : ℕ)
@@ -65,8 +48,7 @@ Writes-part {Is} before after room count w =
 -- a text whose length is at most `room` is one of a kind that says so
 pub Writes-short : {Is : List ℕ → Type 0} (room : ℕ) (before after : List ℕ) (count : ℕ)
     → Writes Is before after count → count ≤ room → Writes (λ text. Is text × (length text ≤ room)) before after count
-Writes-short room before after count w short =
-    record { text = w.text; is = (w.is, omega (arith, w.count)); front = w.front; count = w.count }
+Writes-short room before after count w short = grind arith
 
 -- bytes that were written before are written over
 pub Writes-over-all : {Is : List ℕ → Type 0} {before between after : List ℕ} {count : ℕ} (k : ℕ)
@@ -76,12 +58,7 @@ Writes-over-all {before = before} {between} {count = count} k long rest some w =
     let all : k + more ≡ length w.text = omega (arith, w.count) in
     let same : drop (length w.text) between ≡ drop (length w.text) before =
     rw all at (sym (drop-drop more k between) ∙ ap (drop more) rest ∙ drop-drop more k before) in
-    record {
-      text = w.text;
-      is = w.is;
-      front = record { fits = omega (arith, w.front.fits); written = w.front.written ∙ ap (λ ys. w.text ++ ys) same };
-      count = w.count;
-    }
+    grind arith
 
 -- a first byte that was written before is written over
 pub Writes-over : {Is : List ℕ → Type 0} {before between after : List ℕ} {count : ℕ}

@@ -1,12 +1,12 @@
 -- Laws of numerals: every number has exactly one, how many digits it has, and how it is put together from parts.
-use Rattle.std.proofs.Common.{◌≡◌, ℕ, zero, suc, ◌+◌, ◌-◌, ◌*◌, ◌/◌, ◌%◌, ◌^◌, ◌<◌, ◌≤◌, List, [], ◌∷◌, ◌++◌, length, get_or, map}
-use Rattle.std.proofs.Common.{refl, sym, ap, ◌∙◌, inl, inr, arith, length-append}
+use Rattle.std.proofs.lemmas.Grind.{common_steps}
+use Rattle.std.proofs.Common.{◌≡◌, ℕ, zero, suc, ◌+◌, ◌-◌, ◌*◌, ◌/◌, ◌%◌, ◌^◌, ◌<◌, ◌≤◌, List, [], ◌∷◌, ◌++◌, length, sym, ap, ◌∙◌, inl, inr, arith}
 use Rattle.std.specs.Int.Digits.{digits_of, number_from_digits_after}
-use Rattle.std.proofs.Math.Nat.{pow-zero, pow-suc, one-le-pow, mod-lt, div-add-mod'}
+use Rattle.std.proofs.Math.Nat.{pow-zero, pow-suc, one-le-pow, div-add-mod'}
 use Rattle.std.proofs.lemmas.Int.Digits.{number_digits_of, all_below_base_digits_of, first_digits_of, length-digits_of_step}
 use Rattle.std.proofs.lemmas.Bool.{cases_lt}
-use Rattle.std.proofs.lemmas.List.{get_or_append_left, length-map}
-use Rattle.std.proofs.lemmas.List.Elements.{All-nil, All-cons, All-head, All-append, All-from_recursion}
+use Rattle.std.proofs.lemmas.List.{length-map}
+use Rattle.std.proofs.lemmas.List.Elements.{All-from_recursion}
 use Rattle.std.proofs.lemmas.Nat.{le-div, div_below}
 use Rattle.lexical_num.specs.Digit.{digit_char}
 use Rattle.lexical_write_integer.specs.Digits.DigitCount.{digit_count}
@@ -20,25 +20,17 @@ use Rattle.lexical_write_integer.proofs.OfDigits.DigitValues.{value_of-append, v
 
 -- a numeral of n digits, more than one, has a value of at least `r ^ (n - 1)`
 IsNumeral-ge : (r : ℕ) (digits : List ℕ) → IsNumeral r digits → 1 < length digits → r ^ (length digits - 1) ≤ value_of r digits
-IsNumeral-ge r [] n long = absurd (omega arith)
-IsNumeral-ge r (zero ∷ digits) n long = absurd (omega (arith, ap length (n.no_leading_zero refl)))
-IsNumeral-ge r (suc d ∷ digits) n long =
-    let e : length (suc d ∷ digits) - 1 ≡ length digits = omega arith in
-    rw e (value_of-ge r (suc d) digits (omega arith))
+IsNumeral-ge r digits n long = grind (arith, common_steps, value_of-ge)
 
 length-IsNumeral : (r : ℕ) (digits : List ℕ) → 2 ≤ r → IsNumeral r digits → length digits ≡ digit_count r (value_of r digits)
-length-IsNumeral r digits two n =
-    sym (digit_count-is r (value_of r digits) (length digits) two n.nonempty (value_of-lt r digits n.below_radix) (IsNumeral-ge r digits n))
+length-IsNumeral r digits two n = grind (arith, digit_count-is, value_of-lt, IsNumeral-ge)
 
 pub length-IsNumeralOf : {r n : ℕ} {digits : List ℕ} → 2 ≤ r → IsNumeralOf r n digits → length digits ≡ digit_count r n
 length-IsNumeralOf {r} {n} {digits} two p = length-IsNumeral r digits two p.numeral ∙ ap (digit_count r) p.value
 
 -- in a radix below 2 the only numeral is that of 0
 only_zero : (r : ℕ) (digits : List ℕ) → r < 2 → IsNumeral r digits → digits ≡ 0 ∷ []
-only_zero r [] small n = absurd (omega (arith, n.nonempty))
-only_zero r (d ∷ digits) small n =
-    let below = All-head (λ d. d < r) d digits n.below_radix in
-    n.no_leading_zero (let first : d ≡ 0 = omega (arith, below) in first)
+only_zero r digits small n = grind arith
 
 pub numeral_unique : (r : ℕ) (xs ys : List ℕ) → IsNumeral r xs → IsNumeral r ys → value_of r xs ≡ value_of r ys → xs ≡ ys
 numeral_unique r xs ys p q same =
@@ -51,47 +43,21 @@ numeral_unique r xs ys p q same =
 -- ---- blocks of digits, and a numeral before a block
 
 pub IsBlockOf-one : (r d : ℕ) → d < r → IsBlockOf r 1 d (d ∷ [])
-IsBlockOf-one r d small = record {
-  counted = refl;
-  below_radix = All-cons (λ d. d < r) d [] small (All-nil (λ d. d < r));
-  value = value_of-one r d;
-}
+IsBlockOf-one r d small = grind (arith, value_of-one)
 
 pub IsBlockOf-append : {r i j m n : ℕ} {xs ys : List ℕ} → IsBlockOf r i m xs → IsBlockOf r j n ys → IsBlockOf r (i + j) (m * r ^ j + n) (xs ++ ys)
-IsBlockOf-append {r} {i} {j} {m} {n} {xs} {ys} p q = record {
-  counted = omega (arith, length-append xs ys, p.counted, q.counted);
-  below_radix = All-append (λ d. d < r) xs ys p.below_radix q.below_radix;
-  value = rw (value_of-append, p.value, q.value, q.counted);
-}
+IsBlockOf-append {r} {i} {j} {m} {n} {xs} {ys} p q = grind (arith, common_steps, value_of-append)
 
 pub IsBlockOf-pair : (r n : ℕ) → 0 < r → n < r * r → IsBlockOf r 2 n (n / r ∷ n % r ∷ [])
-IsBlockOf-pair r n some small =
-    let whole : n / r * r ^ 1 + n % r ≡ n = rw pow-one (div-add-mod' n r) in
-    rw whole at (IsBlockOf-append (IsBlockOf-one r (n / r) (div_below n r r some small)) (IsBlockOf-one r (n % r) (mod-lt n some)))
+IsBlockOf-pair r n some small = grind (arith, pow-one, IsBlockOf-one, div_below)
 
 IsNumeralOf-zero : (r : ℕ) → 0 < r → IsNumeralOf r 0 (0 ∷ [])
-IsNumeralOf-zero r some = record {
-  numeral = record {
-    nonempty = omega arith;
-    below_radix = (IsBlockOf-one r 0 some).below_radix;
-    no_leading_zero = λ _. refl;
-  };
-  value = value_of-one r 0;
-}
+IsNumeralOf-zero r some = grind arith
 
 -- digits after the numeral of a number that is not 0
 IsNumeralOf-append : {r count q m : ℕ} {xs ys : List ℕ} → 0 < q → IsNumeralOf r q xs → IsBlockOf r count m ys → IsNumeralOf r (q * r ^ count + m) (xs ++ ys)
-IsNumeralOf-append {r} {count} {q} {m} {xs} {ys} pos p b = record {
-  numeral = record {
-    nonempty = omega (arith, length-append xs ys, p.numeral.nonempty);
-    below_radix = All-append (λ d. d < r) xs ys p.numeral.below_radix b.below_radix;
-    no_leading_zero = λ e.
-        let zero_first : get_or xs 0 0 ≡ 0 = sym (get_or_append_left xs ys 0 0 p.numeral.nonempty) ∙ e in
-        let is_zero : q ≡ 0 = sym p.value ∙ ap (value_of r) (p.numeral.no_leading_zero zero_first) ∙ value_of-one r 0 in
-        absurd (omega arith);
-  };
-  value = rw (value_of-append, p.value, b.value, b.counted);
-}
+IsNumeralOf-append {r} {count} {q} {m} {xs} {ys} pos p b =
+    grind (arith, common_steps, value_of-append)
 
 -- the numeral of a number that is at least `r ^ count`: that of its quotient, and then `count` digits of its remainder
 pub IsNumeralOf-split : (r count n : ℕ) (front back : List ℕ)
@@ -138,9 +104,7 @@ IsNumeralOf-block r n count digits two few b =
 -- ---- texts
 
 pub digits_unique : (r n : ℕ) (a b : List ℕ) → 2 ≤ r → IsDigits r n a → IsDigits r n b → a ≡ b
-digits_unique r n a b two p q =
-    let same = numeral_unique r p.digits q.digits p.numeral.numeral q.numeral.numeral (p.numeral.value ∙ sym q.numeral.value) in
-    p.characters ∙ ap (map digit_char) same ∙ sym q.characters
+digits_unique r n a b two p q = grind (arith, numeral_unique)
 
 pub length-IsDigits : (r n : ℕ) (text : List ℕ) → 2 ≤ r → IsDigits r n text → length text ≡ digit_count r n
 length-IsDigits r n text two p = ap length p.characters ∙ length-map p.digits digit_char ∙ length-IsNumeralOf two p.numeral

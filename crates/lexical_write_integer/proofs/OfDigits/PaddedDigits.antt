@@ -18,11 +18,7 @@ value_of-zeros r zero = refl
 value_of-zeros r (suc k) = omega (arith, value_of-zeros r k)
 
 IsBlockOf-zeros : (r k : ℕ) → 0 < r → IsBlockOf r k 0 (replicate k 0)
-IsBlockOf-zeros r k some = record {
-  counted = length-replicate k 0;
-  below_radix = All-replicate (λ d. d < r) k 0 some;
-  value = value_of-zeros r k;
-}
+IsBlockOf-zeros r k some = search (arith, length-replicate, All-replicate, value_of-zeros)
 
 map-zeros : (k : ℕ) → map digit_char (replicate k 0) ≡ replicate k 48
 map-zeros zero = refl

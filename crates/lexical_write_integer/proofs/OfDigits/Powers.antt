@@ -1,7 +1,6 @@
 -- Laws of powers, and of quotients by them, in general.
 use Rattle.std.proofs.Common.{◌≡◌, ℕ, zero, suc, ◌+◌, ◌*◌, ◌/◌, ◌^◌, ◌<◌, ◌≤◌, refl, sym, ap, ◌∙◌, arith}
-use Rattle.std.proofs.Math.Nat.{pow-zero, pow-suc, pow-le-pow_right, one-le-pow, mul-le-mul_left, mul_comm}
-use Rattle.std.proofs.Math.Nat.{div-div-eq-div-mul}
+use Rattle.std.proofs.Math.Nat.{pow-zero, pow-suc, pow-le-pow_right, one-le-pow, mul-le-mul_left, div-div-eq-div-mul}
 use Rattle.std.proofs.lemmas.Nat.{pow-add}
 pub use Rattle.lexical_write_integer.proofs.OfTexts.SizeBounds.{div-monotone}
 
@@ -39,5 +38,4 @@ pow-lt_more r i zero two less = absurd (omega arith)
 
 -- a quotient that is divided by a further power
 pub div-pow_more : (r n step taken : ℕ) → n / r ^ taken / r ^ step ≡ n / r ^ (step + taken)
-div-pow_more r n step taken =
-    div-div-eq-div-mul n (r ^ taken) (r ^ step) ∙ ap (λ p. n / p) (mul_comm (r ^ taken) (r ^ step) ∙ sym (pow-add r step taken))
+div-pow_more r n step taken = grind (arith, div-div-eq-div-mul, pow-add)

@@ -1,5 +1,5 @@
 -- The characters of digits, the signs and the separators between groups are ASCII.
-use Rattle.std.proofs.Common.{Option, None, Some, Bool, true, false, ◌==◌, ℕ, ◌<◌, ◌≤◌, ◌%◌, List, [], ◌∷◌, ◌++◌, length, map, refl, arith, ℤ, pos, negsuc}
+use Rattle.std.proofs.Common.{Option, Bool, ◌==◌, ℕ, ◌<◌, ◌≤◌, ◌%◌, List, [], ◌∷◌, ◌++◌, length, map, arith, ℤ}
 use Rattle.std.specs.List.{All}
 use Rattle.std.specs.Option.{ForSome}
 use Rattle.std.specs.Str.{IsAscii}
@@ -36,16 +36,13 @@ AllAscii-in_groups grouping (byte ∷ next ∷ bytes) mark all =
     (All-append (λ b. b < 128) (mark_before grouping right) (in_groups grouping (next ∷ bytes)) marks rest)
 
 AllAscii-grouped : (grouping : Option (ℕ × ℕ)) (bytes : List ℕ) → ForSome grouping IsGrouping → AllAscii bytes → AllAscii (grouped grouping bytes)
-AllAscii-grouped None bytes good all = all
-AllAscii-grouped (Some grouping) bytes good all = AllAscii-in_groups grouping bytes (omega (arith, (good grouping refl).mark.at_most_tilde)) all
+AllAscii-grouped grouping bytes good all = grind (arith, AllAscii-in_groups)
 
 pub IsAscii-digit_chars : (r : ℕ) (digits : List ℕ) → r ≤ 36 → All (λ d. d < r) digits → IsAscii (map digit_char digits)
 IsAscii-digit_chars r digits few below = IsAscii-from_all (map digit_char digits) (AllAscii-digit_chars r digits few below)
 
 AllAscii-sign : (x : ℤ) (required : Bool) → AllAscii (sign_of x required)
-AllAscii-sign (negsuc n) required = AllAscii-one 45 (omega arith)
-AllAscii-sign (pos n) true = AllAscii-one 43 (omega arith)
-AllAscii-sign (pos n) false = All-nil (λ b. b < 128)
+AllAscii-sign x required = grind arith
 
 pub IsAscii-IsText : (x : ℤ) (format : Format) (text : List ℕ)
     → format.mantissa_radix ≤ 36 → ForSome format.digit_grouping IsGrouping → IsText x format text → IsAscii text

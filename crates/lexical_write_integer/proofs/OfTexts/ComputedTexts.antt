@@ -1,6 +1,6 @@
 -- The computed text of a number is its text.
-use Rattle.std.proofs.Common.{◌≡◌, ℕ, zero, suc, ◌+◌, ◌/◌, ◌%◌, ◌^◌, ◌<◌, ◌≤◌, List, [], ◌∷◌, ◌++◌, min, true, inl, inr, refl}
-use Rattle.std.proofs.Common.{sym, ap, ◌∙◌, arith, ℤ, unsigned_abs, append_assoc}
+use Rattle.std.proofs.Common.{◌≡◌, ℕ, zero, suc, ◌+◌, ◌/◌, ◌%◌, ◌^◌, ◌<◌, ◌≤◌, List, [], ◌∷◌, ◌++◌, min, true, inl, inr, refl, sym, ap, ◌∙◌, ℤ, unsigned_abs}
+use Rattle.std.proofs.Common.{append_assoc, arith}
 use Rattle.std.specs.Prelude.{◌↔◌}
 use Rattle.std.specs.Fmt.{digits_onto}
 use Rattle.std.proofs.Math.Nat.{pow-suc, pow-zero, div-add-mod', div-eq_of_lt, div-lt_iff_lt-mul, mod-lt, pow-le-pow_left}
@@ -99,11 +99,7 @@ digits_computed r n text two small =
     (λ is. digits_unique r n text (digits_text r n) two is computed, λ same. rw same computed)
 
 IsText-text_of : (x : ℤ) (format : Format) → 2 ≤ format.mantissa_radix → unsigned_abs x < 2 ^ 64 → IsText x format (text_of x format)
-IsText-text_of x format two small = record {
-  digits = digits_text format.mantissa_radix (unsigned_abs x);
-  magnitude = IsDigits-digits_text format.mantissa_radix (unsigned_abs x) two small;
-  whole = refl;
-}
+IsText-text_of x format two small = grind (arith, IsDigits-digits_text)
 
 pub text_computed : (x : ℤ) (format : Format) (text : List ℕ)
     → 2 ≤ format.mantissa_radix → unsigned_abs x < 2 ^ 64 → IsText x format text ↔ (text ≡ text_of x format)

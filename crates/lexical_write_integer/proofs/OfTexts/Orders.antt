@@ -1,7 +1,7 @@
 -- Texts and their numbers: a text belongs to one number, and the order of texts is that of their numbers.
-use Rattle.std.proofs.Common.{◌≡◌, Option, None, Some, ℕ, suc, ◌+◌, ◌*◌, ◌^◌, ◌<◌, ◌≤◌, List, [], ◌∷◌, ◌++◌, length, get_or, map}
-use Rattle.std.proofs.Common.{Bool, true, false, ◌↔◌, inl, inr, refl, sym, ap, ◌∙◌, arith, ℤ, pos, negsuc, ◌<ℤ◌, ◌≤ℤ◌}
-use Rattle.std.proofs.Common.{length-append}
+use Rattle.std.proofs.lemmas.Grind.{common_steps}
+use Rattle.std.proofs.Common.{◌≡◌, Option, ℕ, suc, ◌+◌, ◌*◌, ◌^◌, ◌<◌, ◌≤◌, List, [], ◌∷◌, ◌++◌, length, map, ◌↔◌, inl, inr, refl, sym, ap, ◌∙◌, ℤ, pos, negsuc}
+use Rattle.std.proofs.Common.{◌<ℤ◌, ◌≤ℤ◌, length-append, arith}
 use Rattle.std.specs.Cmp.{nat_cmp_is, ranks}
 use Rattle.std.specs.Cmp.Derive.Mapped.{lex_map}
 use Rattle.std.specs.Cmp.Lexicographic.{slice_cmp}
@@ -29,9 +29,6 @@ use Rattle.lexical_write_integer.proofs.OfDigits.DigitValues.{value_of-lt}
 
 -- ---- a text has one number
 
-digit_char-ge : (d : ℕ) → 48 ≤ digit_char d
-digit_char-ge d = grind arith
-
 digit_char-injective : (c d : ℕ) → digit_char c ≡ digit_char d → c ≡ d
 digit_char-injective c d same = grind (arith, same)
 
@@ -48,35 +45,9 @@ pub equal_from_IsDigits : (r m n : ℕ) (text : List ℕ) → IsDigits r m text 
 equal_from_IsDigits r m n text p q =
     sym p.numeral.value ∙ ap (value_of r) (map-digit_char_injective p.digits q.digits (sym p.characters ∙ q.characters)) ∙ q.numeral.value
 
--- digits have the same first byte in groups
-get_or-grouped : (grouping : Option (ℕ × ℕ)) (digits : List ℕ) → get_or (grouped grouping digits) 0 0 ≡ get_or digits 0 0
-get_or-grouped None digits = refl
-get_or-grouped (Some grouping) [] = refl
-get_or-grouped (Some grouping) (digit ∷ []) = refl
-get_or-grouped (Some grouping) (digit ∷ next ∷ digits) = refl
-
--- the characters of digits do not begin with a sign
-no_sign : (grouping : Option (ℕ × ℕ)) (sign : ℕ) (rest digits : List ℕ) → 0 < sign → sign < 48 → sign ∷ rest ≡ grouped grouping (map digit_char digits) → ⊥
-no_sign grouping sign rest digits some small e =
-    let first : sign ≡ get_or (map digit_char digits) 0 0 = ap (λ text. get_or text 0 0) e ∙ get_or-grouped grouping (map digit_char digits) in
-    differ digits first
-  where
-    differ : (digits : List ℕ) → sign ≡ get_or (map digit_char digits) 0 0 → ⊥
-    differ [] first = omega arith
-    differ (d ∷ digits) first = omega (arith, digit_char-ge d)
-
-signs_differ : (grouping : Option (ℕ × ℕ)) (required : Bool) (n : ℕ) (s digits : List ℕ)
-    → 45 ∷ s ≡ sign_of (pos n) required ++ grouped grouping (map digit_char digits) → ⊥
-signs_differ grouping true n s digits e =
-    let same : ◌≡◌ {A = ℕ} 45 43 = ap (λ text. get_or text 0 0) e in
-    omega arith
-signs_differ grouping false n s digits e = no_sign grouping 45 s digits (omega arith) (omega arith) e
-
 -- a negative number and one that is not negative have no text in common
 IsText-one_sign : (m n : ℕ) (format : Format) (text : List ℕ) → IsText (negsuc m) format text → IsText (pos n) format text → ⊥
-IsText-one_sign m n format text p q =
-    signs_differ format.digit_grouping format.required_mantissa_sign n (grouped format.digit_grouping p.digits) q.magnitude.digits
-    (sym p.whole ∙ q.whole ∙ ap (λ digits. sign_of (pos n) format.required_mantissa_sign ++ grouped format.digit_grouping digits) q.magnitude.characters)
+IsText-one_sign m n format text p q = grind (arith, common_steps)
 
 pub equal_from_IsText : (m n : ℤ) (format : Format) (text : List ℕ) → IsText m format text → IsText n format text → m ≡ n
 equal_from_IsText (pos m) (pos n) format text p q =
@@ -149,9 +120,7 @@ equal_from_IsPadded r width m n text p q =
     sym p.block.value ∙ ap (value_of r) (map-digit_char_injective p.digits q.digits (sym p.characters ∙ q.characters)) ∙ q.block.value
 
 pub slice_cmp-IsPadded : (r width m n : ℕ) (s t : List ℕ) → IsPadded r width m s → IsPadded r width n t → slice_cmp nat_cmp s t ≡ nat_cmp m n
-slice_cmp-IsPadded r width m n s t p q =
-    let values = slice_cmp-value_of r p.digits q.digits (p.block.counted ∙ sym q.block.counted) p.block.below_radix q.block.below_radix in
-    rw (p.characters, q.characters, slice_cmp-digit_char, values, p.block.value, q.block.value)
+slice_cmp-IsPadded r width m n s t p q = grind (arith, slice_cmp-value_of, slice_cmp-digit_char)
 
 pub IsEarlier-IsPadded : (r width m n : ℕ) (s t : List ℕ) → IsPadded r width m s → IsPadded r width n t → (m < n) ↔ IsEarlier s t
 IsEarlier-IsPadded r width m n s t p q =
@@ -206,8 +175,7 @@ slice_cmp-in_groups grouping (c ∷ next ∷ s) (d ∷ other ∷ t) long =
 
 slice_cmp-grouped : (grouping : Option (ℕ × ℕ)) (s t : List ℕ)
     → length s ≡ length t → slice_cmp nat_cmp (grouped grouping s) (grouped grouping t) ≡ slice_cmp nat_cmp s t
-slice_cmp-grouped None s t long = refl
-slice_cmp-grouped (Some grouping) s t long = slice_cmp-in_groups grouping s t long
+slice_cmp-grouped grouping s t long = grind (arith, slice_cmp-in_groups)
 
 ComesBefore-grouped : (grouping : Option (ℕ × ℕ)) (s t : List ℕ) → ComesBefore s t ↔ ComesBefore (grouped grouping s) (grouped grouping t)
 ComesBefore-grouped grouping s t = grind (arith, length-grouped_lt, length-grouped_same, slice_cmp-grouped, cases_order)

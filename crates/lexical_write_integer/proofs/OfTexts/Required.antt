@@ -1,6 +1,5 @@
 -- How long a text is, and how long a buffer it requires at most.
-use Rattle.std.proofs.Common.{◌≡◌, Option, None, Some, ℕ, ◌+◌, ◌^◌, ◌<◌, ◌≤◌, ◌≤ℤ◌, ◌==◌, List, length, refl}
-use Rattle.std.proofs.Common.{arith, ℤ, unsigned_abs, length-append}
+use Rattle.std.proofs.Common.{◌≡◌, Option, ℕ, ◌+◌, ◌^◌, ◌<◌, ◌≤◌, ◌≤ℤ◌, ◌==◌, List, length, ℤ, unsigned_abs, length-append, arith}
 use Rattle.std.specs.Option.{ForSome}
 use Rattle.std.proofs.lemmas.Bool.{cond_both, eqb-true}
 use Rattle.lexical_num.specs.DecimalWidth.{IsDecimalWidth}
@@ -8,7 +7,6 @@ use Rattle.lexical_num.specs.Format.{Format, IsGrouping, grouped_length}
 use Rattle.lexical_num.specs.Sign.{sign_of}
 use Rattle.lexical_write_integer.specs.Digits.DigitCount.{digit_count-le, digit_count}
 use Rattle.lexical_write_integer.specs.Texts.Groups.{grouped}
-use Rattle.lexical_write_integer.proofs.OfTexts.SizeBounds.{grouped_length-more}
 use Rattle.lexical_write_integer.specs.Texts.Text.{IsText, digits_need, need}
 use Rattle.lexical_write_integer.proofs.OfDigits.Count.DigitCounts.{digit_count-pos}
 use Rattle.lexical_write_integer.proofs.OfTexts.Grouping.Digits.{length-in_groups}
@@ -18,8 +16,7 @@ use Rattle.lexical_write_integer.proofs.OfDigits.Numerals.{length-IsDigits}
 
 length-grouped : (grouping : Option (ℕ × ℕ)) (digits : List ℕ)
     → ForSome grouping IsGrouping → length (grouped grouping digits) ≡ grouped_length grouping (length digits)
-length-grouped None digits good = refl
-length-grouped (Some grouping) digits good = length-in_groups grouping digits (good grouping refl).size.at_least_one
+length-grouped grouping digits good = grind (arith, length-in_groups)
 
 -- the sign, the digits, and the separators between their groups
 pub length-IsText : (x : ℤ) (format : Format) (text : List ℕ) → 2 ≤ format.mantissa_radix → ForSome format.digit_grouping IsGrouping → IsText x format text
@@ -40,14 +37,11 @@ pub grouped_length-le_need : {x least greatest : ℤ} (format : Format) {width c
     → IsDecimalWidth least greatest width → least ≤ℤ x → x ≤ℤ greatest
     → count ≡ digit_count format.mantissa_radix (unsigned_abs x)
     → length (sign_of x format.required_mantissa_sign) + grouped_length format.digit_grouping count ≤ need x width format
-grouped_length-le_need {x} format {width} {count} decimal low high counted =
-    let few = digit_count-le_need format.mantissa_radix (unsigned_abs x) width decimal.some (decimal.enough x low high) in
-    omega (arith, grouped_length-more format.digit_grouping count (digits_need format.mantissa_radix (unsigned_abs x) width) 0 (omega (arith, few, counted)))
+grouped_length-le_need {x} format {width} {count} decimal low high counted = grind (arith, digit_count-le_need)
 
 -- the digits with their separators are at least as long as the digits
 grouped_length-ge : (grouping : Option (ℕ × ℕ)) (n : ℕ) → n ≤ grouped_length grouping n
-grouped_length-ge None n = omega arith
-grouped_length-ge (Some grouping) n = omega arith
+grouped_length-ge grouping n = grind arith
 
 -- a text has at least one byte
 pub need-pos : (x : ℤ) (width : ℕ) (format : Format) → 1 ≤ width → 1 ≤ need x width format

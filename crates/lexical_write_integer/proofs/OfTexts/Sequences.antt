@@ -23,13 +23,7 @@ pub ruleset in_order = (written_then, to_z-of_z)
 
 -- `Then` is associative: three texts that are written one after another are the texts of a tuple of three
 pub then_assoc : {A B C : List ℕ → Type 0} {text : List ℕ} → Then (Then A B) C text → Then A (Then B C) text
-then_assoc is = record {
-  first = is.is_first.first;
-  second = is.is_first.second ++ is.second;
-  is_first = is.is_first.is_first;
-  is_second = record { first = is.is_first.second; second = is.second; is_first = is.is_first.is_second; is_second = is.is_second; whole = refl };
-  whole = is.whole ∙ ap (λ start. start ++ is.second) is.is_first.whole ∙ append_assoc is.is_first.first is.is_first.second is.second;
-}
+then_assoc is = grind (arith, append_assoc)
 
 -- what calls write one after another is what one call writes for a tuple
 pub written_as_tuple : {A B C : List ℕ → Type 0} {before after : List ℕ} {count : ℕ} →
@@ -42,12 +36,4 @@ pub written_first : (Is : List ℕ → Type 0) (before part : List ℕ) (count r
 written_first Is before part count room w =
     let left : drop (length w.text) (take room before) ++ drop room before ≡ drop (length w.text) before =
     sym (drop-append-le (length w.text) (take room before) (drop room before) w.front.fits) ∙ ap (drop (length w.text)) (take-append-drop room before) in
-    record {
-      text = w.text;
-      is = w.is;
-      front = record {
-        fits = omega (arith, w.front.fits, length-take {A = ℕ});
-        written = ap (λ xs. xs ++ drop room before) w.front.written ∙ append_assoc w.text _ _ ∙ ap (λ xs. w.text ++ xs) left;
-      };
-      count = w.count;
-    }
+    grind (arith, length-take, append_assoc)

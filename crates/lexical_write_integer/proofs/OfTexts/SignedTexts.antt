@@ -1,6 +1,7 @@
 -- A sign, and the digits after it.
-use Rattle.std.proofs.Common.{◌≡◌, Option, ℕ, ◌+◌, ◌-◌, ◌≤◌, List, ◌++◌, length, take, drop, refl, ap, ◌∙◌, arith, ℤ, unsigned_abs, length-append}
-use Rattle.std.proofs.lemmas.List.{length-take, length-drop, take-append-drop}
+use Rattle.std.proofs.lemmas.Grind.{common_steps}
+use Rattle.std.proofs.Common.{◌≡◌, Option, ℕ, ◌+◌, ◌-◌, ◌≤◌, List, ◌++◌, length, take, drop, ap, arith, ℤ, unsigned_abs}
+use Rattle.std.proofs.lemmas.List.{length-take, take-append-drop}
 use Rattle.std.proofs.lemmas.Slice.{drop-append-drop}
 use Rattle.lexical_num.specs.Format.{Format}
 use Rattle.lexical_num.specs.Sign.{sign_of}
@@ -8,7 +9,7 @@ use Rattle.lexical_write_integer.specs.Buffer.{Front, Writes, WritesDigits, Writ
 use Rattle.lexical_write_integer.specs.Texts.Groups.{grouped}
 use Rattle.lexical_write_integer.proofs.OfTexts.Grouping.Digits.{length-grouped_ge}
 use borrow.Rule.Slice.PartMut.{put_mid}
-use Rattle.lexical_write_integer.proofs.Buffers.Prefixes.{Writes-after, Writes-over, take-Writes}
+use Rattle.lexical_write_integer.proofs.Buffers.Prefixes.{Writes-after, Writes-over}
 
 -- ---- digits in groups, after the sign
 
@@ -23,23 +24,7 @@ Writes-grouped : {Is : List ℕ → Type 0} (grouping : Option (ℕ × ℕ)) {be
     → Writes Is before between count → Front between after (grouped grouping (take count between))
     → total ≡ length (grouped grouping (take count between)) → Writes (IsGrouped grouping Is) before after total
 Writes-grouped grouping {before} {between} {after} {count} w front long =
-    let taken = take-Writes before between count w in
-    let text = grouped grouping w.text in
-    let again : Front between after text = rw taken at front in
-    let more = length-grouped_ge grouping w.text in
-    let rest = drop (length w.text) before in
-    let same = ap length w.front.written in
-    record {
-      text = text;
-      is = record { digits = w.text; is = w.is; whole = refl };
-      front = record {
-        fits = omega (arith, again.fits, w.front.fits, same, length-append w.text rest, length-drop (length w.text) before);
-        written = again.written
-            ∙ ap (λ xs. text ++ drop (length text) xs) w.front.written
-            ∙ ap (λ xs. text ++ xs) (drop-append-drop (length w.text) before w.text (length text) more refl);
-      };
-      count = long ∙ ap (λ xs. length (grouped grouping xs)) taken;
-    }
+    grind (arith, common_steps, length-grouped_ge, drop-append-drop)
 
 -- after the first `sign` bytes the digits of the magnitude are written, and then put into the groups of the format
 pub record IsAfterSign (x : ℤ) (format : Format) (between written after : List ℕ) (sign digits total : ℕ) : Type 0 where
@@ -65,4 +50,4 @@ pub WritesText-over : {x : ℤ} {format : Format} {before between written after 
     → 1 ≤ digits → IsAfterSign x format between written after sign digits total
     → WritesText x format before (put_mid sign (length between - sign) between after) (sign + total)
 WritesText-over {x} {format} {before} {between} {written} {sign = sign} {digits} is_sign same rest some w =
-    grind (arith, length-take, take-append-drop, take-Writes, length-grouped_ge, Writes-over, WritesText-after)
+    grind (arith, length-take, take-append-drop, Writes-over, WritesText-after)

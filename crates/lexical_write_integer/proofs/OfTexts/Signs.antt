@@ -1,18 +1,16 @@
 -- The sign of a number, from a test whether the number is below 0.
-use Rattle.std.proofs.Common.{Bool, true, false, IsTrue, ◌≡◌, ◌≤◌, ◌↔◌, ℕ, List, [], ◌∷◌, length, take, set, refl, arith, ℤ, pos, negsuc, ◌<ℤ◌}
+use Rattle.std.proofs.lemmas.Grind.{common_steps}
+use Rattle.std.proofs.Common.{Bool, true, false, IsTrue, ◌≡◌, ◌≤◌, ◌↔◌, ℕ, List, [], ◌∷◌, length, take, set, refl, arith, ℤ, pos, ◌<ℤ◌}
 use Rattle.std.specs.Prelude.{if◌then◌else◌}
-use Rattle.std.proofs.lemmas.Int.{ints}
 use Rattle.lexical_num.specs.Sign.{sign_of}
 use mir.Val.{bool_byte}
 
 pub sign_of-below : {negative : Bool} (x : ℤ) (required : Bool) → (IsTrue negative ↔ x <ℤ pos 0) → negative ≡ true → sign_of x required ≡ 45 ∷ []
-sign_of-below (negsuc n) required test is = refl
-sign_of-below (pos n) required test is = absurd (omega (arith, ints, test.0 is))
+sign_of-below x required test is = grind arith
 
 pub sign_of-other : {negative : Bool} (x : ℤ) (required : Bool) → (IsTrue negative ↔ x <ℤ pos 0) → negative ≡ false
     → sign_of x required ≡ (if required then 43 ∷ [] else [])
-sign_of-other (pos n) required test other = refl
-sign_of-other (negsuc n) required test other = absurd (grind (arith, ints))
+sign_of-other x required test other = grind arith
 
 -- ---- the sign in the first byte
 
@@ -22,10 +20,7 @@ take-minus (_ ∷ _) some = refl
 
 pub take-plus : (bytes : List ℕ) (required : Bool) → 1 ≤ length bytes
     → take (bool_byte required) (set bytes 0 43) ≡ (if required then 43 ∷ [] else [])
-take-plus [] required some = absurd (omega arith)
-take-plus (_ ∷ _) true some = refl
-take-plus (_ ∷ _) false some = refl
+take-plus bytes required some = grind (arith, common_steps)
 
 pub length-plus : (required : Bool) → length {A = ℕ} (if required then 43 ∷ [] else []) ≡ bool_byte required
-length-plus true = refl
-length-plus false = refl
+length-plus required = grind arith

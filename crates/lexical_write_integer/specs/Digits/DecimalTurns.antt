@@ -1,17 +1,8 @@
 -- What the decimal writers record in a counter, one number (a note) for each pair of digits after the first, and what
 -- the writer of every radix records.
-use Rattle.std.specs.Prelude.{◌≡◌, ℕ, ◌+◌, ◌-◌, ◌*◌, ◌/◌, ◌%◌, ◌^◌, List, [], ◌++◌, length, map}
-use Rattle.std.specs.Prelude.{nat_lt, if◌then◌else◌, ◌==◌}
+use Rattle.std.specs.Prelude.{ℕ, ◌-◌, ◌*◌, ◌/◌, ◌%◌, ◌^◌, List, [], ◌++◌, map, nat_lt, if◌then◌else◌, ◌==◌}
 use Rattle.std.specs.List.{range_with_len}
-use Rattle.lexical_write_integer.specs.Buffer.{WritesDigits}
 use Rattle.lexical_write_integer.specs.Digits.LoopTurns.{table_notes, table_turns}
-
--- what a decimal writer with a counter promises: it writes the digits of the number, returns their number, and records
--- one note for each pair after the first
-pub record WritesDecimal (number : ℕ) (notes before after turns turned : List ℕ) (len : ℕ) : Type 0 where
-  pub digits : WritesDigits 10 number before after len
-  pub noted : turned ≡ turns ++ notes
-  pub half : length turned ≡ length turns + (len - 1) / 2
 
 -- 100 times the part after the point, which has 32 bits there: of a fraction, of 100 times it, and so on
 abbrev pub products : ℕ → ℕ → List ℕ

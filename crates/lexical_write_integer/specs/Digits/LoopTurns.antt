@@ -3,7 +3,6 @@
 use Rattle.std.specs.Prelude.{◌≡◌, ℕ, ◌+◌, ◌-◌, ◌*◌, ◌/◌, ◌%◌, ◌^◌, List, [], ◌∷◌, ◌++◌, map}
 use Rattle.std.specs.Prelude.{Bool, ◌||◌, ◌==◌, nat_lt, if◌then◌else◌}
 use Rattle.std.specs.List.{range_with_len}
-use Rattle.lexical_write_integer.specs.Buffer.{WritesDigits}
 use Rattle.lexical_write_integer.specs.Digits.DigitCount.{digit_count}
 
 -- how many digits an iteration removes
@@ -54,12 +53,6 @@ count_notes r number = if is_counted_at_once r then [] else slow_notes r number
 -- recorded by the table writer, which counts the digits and then writes them: for 255 in radix 3, 3, 1 and 3
 unfoldable pub table_notes : ℕ → ℕ → List ℕ
 table_notes r number = count_notes r number ++ loop_notes r number
-
--- what a table writer with a counter promises: it writes the digits of the number, returns their number, and records
--- `table_notes`
-pub record WritesByTable (r number : ℕ) (before after turns turned : List ℕ) (len : ℕ) : Type 0 where
-  pub digits : WritesDigits r number before after len
-  pub noted : turned ≡ turns ++ table_notes r number
 
 -- recorded by the compact writer, with one digit per iteration: for 255 in radix 16, 15
 unfoldable pub compact_notes : ℕ → ℕ → List ℕ

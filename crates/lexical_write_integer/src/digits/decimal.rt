@@ -3,11 +3,11 @@
 // Examples are in `crates/library_tests/src/decimal_values.rt`.
 #![tactic(auto, using(crate::proofs::OfDigits::Count::DigitCounts::widths))]
 
-ghost use Rattle.std.specs.Prelude.{◌≡◌, ℕ, pos, negsuc, ◌-◌, ◌^◌, ◌<◌, ◌≤◌, ◌+◌, length};
+ghost use Rattle.std.specs.Prelude.{◌≡◌, ℕ, pos, negsuc, ◌-◌, ◌/◌, ◌^◌, ◌<◌, ◌≤◌, ◌+◌, ◌++◌, length};
 ghost use Rattle.std.proofs.Common.{lit≤};
 ghost use Rattle.lexical_num.specs.DecimalWidth.{IsDecimalWidth, is_decimal_width};
 ghost use Rattle.lexical_write_integer.specs.Buffer.{WritesDigits};
-ghost use Rattle.lexical_write_integer.specs.Digits.DecimalTurns.{WritesDecimal, decimal_notes};
+ghost use Rattle.lexical_write_integer.specs.Digits.DecimalTurns.{decimal_notes};
 
 pub(crate) mod decimal_pairs;
 pub mod jeaiii;
@@ -54,11 +54,12 @@ pub trait Decimal: DecimalCount {
     /// Writes the digits as `decimal` does, under the same condition.
     fn decimal_counted(self, buffer: &mut [u8], turns: &mut Turns) -> usize
         requires { Self.DECIMAL_WIDTH ≤ length buffer.old }
-        ensures writes { WritesDecimal (Self.magnitude self) (decimal_notes Self.BITS (Self.magnitude self))
-            buffer.old buffer.new turns.old turns.new result }
+        ensures digits { WritesDigits 10 (Self.magnitude self) buffer.old buffer.new result }
+        ensures notes { turns.new ≡ turns.old ++ decimal_notes Self.BITS (Self.magnitude self) }
+        ensures turns { length turns.new ≡ length turns.old + (result - 1) / 2 }
         ensures short { result ≤ Self.DECIMAL_WIDTH }
         // The counter records an iteration for each pair of digits after the first.
-        ensures few { length turns.new ≤ length turns.old + 9 }
+        ensures few_turns { length turns.new ≤ length turns.old + 9 }
     {
         self.in_range();
         self.fits_bits();

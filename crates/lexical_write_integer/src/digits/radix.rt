@@ -1,10 +1,10 @@
 //! Writing the digits of a number in any radix, from the tables of digit pairs.
 
-ghost use Rattle.std.specs.Prelude.{◌≤◌, length};
+ghost use Rattle.std.specs.Prelude.{◌≡◌, ◌≤◌, ◌++◌, length};
 ghost use Rattle.lexical_num.specs.Format.{IsRadix};
 ghost use Rattle.lexical_write_integer.specs.Buffer.{WritesDigits};
 ghost use Rattle.lexical_write_integer.specs.Digits.DigitCount.{digit_count};
-ghost use Rattle.lexical_write_integer.specs.Digits.LoopTurns.{WritesByTable};
+ghost use Rattle.lexical_write_integer.specs.Digits.LoopTurns.{table_notes};
 ghost use Rattle.lexical_write_integer.specs.Digits.Table.{BeginsWithPairs};
 
 pub mod algorithm;
@@ -37,7 +37,8 @@ fn write_digits<T: UnsignedInteger, const R: u32>(
     requires table { BeginsWithPairs R table.now }
     requires room { digit_count R (T.magnitude value) ≤ length buffer.old }
     // What the count records precedes what the writer records.
-    ensures { WritesByTable R (T.magnitude value) buffer.old buffer.new turns.old turns.new result }
+    ensures digits { WritesDigits R (T.magnitude value) buffer.old buffer.new result }
+    ensures notes { turns.new ≡ turns.old ++ table_notes R (T.magnitude value) }
 {
     value.fits_bits();
     let number = value.as_usize() as u64;
@@ -66,7 +67,8 @@ fn write_by_table<T: UnsignedInteger, const R: u32>(
 ) -> usize
     requires radix { IsRadix R }
     requires room { digit_count R (T.magnitude value) ≤ length buffer.old }
-    ensures { WritesByTable R (T.magnitude value) buffer.old buffer.new turns.old turns.new result }
+    ensures digits { WritesDigits R (T.magnitude value) buffer.old buffer.new result }
+    ensures notes { turns.new ≡ turns.old ++ table_notes R (T.magnitude value) }
 {
     write_digits::<T, R>(value, get_table(R), buffer, turns)
 }
@@ -81,7 +83,8 @@ fn write_in_radix<T: UnsignedInteger>(
 ) -> usize
     requires radix { IsRadix radix }
     requires room { digit_count radix (T.magnitude value) ≤ length buffer.old }
-    ensures { WritesByTable radix (T.magnitude value) buffer.old buffer.new turns.old turns.new result }
+    ensures digits { WritesDigits radix (T.magnitude value) buffer.old buffer.new result }
+    ensures notes { turns.new ≡ turns.old ++ table_notes radix (T.magnitude value) }
 {
     by_radix!(radix, write_by_table::<T>(value, buffer, turns))
 }
@@ -97,7 +100,8 @@ pub(crate) fn radix_counted<T: UnsignedInteger>(
 ) -> usize
     requires radix { IsRadix radix }
     requires room { digit_count radix (T.magnitude value) ≤ length buffer.old }
-    ensures { WritesByTable radix (T.magnitude value) buffer.old buffer.new turns.old turns.new result }
+    ensures digits { WritesDigits radix (T.magnitude value) buffer.old buffer.new result }
+    ensures notes { turns.new ≡ turns.old ++ table_notes radix (T.magnitude value) }
 {
     if radix == 16 {
         write_by_table::<T, 16>(value, buffer, turns)

@@ -1,6 +1,6 @@
 -- The tables that the decimal digit counts read.
-use Rattle.std.proofs.Common.{◌≡◌, ℕ, zero, suc, ◌+◌, ◌-◌, ◌*◌, ◌/◌, ◌^◌, ◌<◌, ◌≤◌, Bool, true, ◌&&◌, ◌||◌, ltb, leb, eqb, List}
-use Rattle.std.proofs.Common.{[], ◌∷◌, length, map, get_or, refl, sym, ap, ◌∙◌, inl, inr, arith, add-zero, zero-add}
+use Rattle.std.proofs.Common.{◌≡◌, ℕ, zero, suc, ◌+◌, ◌-◌, ◌*◌, ◌/◌, ◌^◌, ◌<◌, ◌≤◌, Bool, true, ◌&&◌, ◌||◌, ltb, leb, eqb, List, [], ◌∷◌, length, map, get_or}
+use Rattle.std.proofs.Common.{refl, sym, ap, ◌∙◌, inl, inr, add-zero, zero-add, arith}
 use Rattle.std.proofs.Math.Nat.{pow-le-pow_right}
 use Rattle.std.proofs.lemmas.Bool.{and_parts, or_cases, cases_lt, leb-true, ltb-true, eqb-true}
 use Rattle.std.proofs.lemmas.List.{get_or-map, length-map}
@@ -26,9 +26,7 @@ entry_is limit number table i entry within is powers =
 
 pub past_table : {X : Type 0} (limit : ℕ) (number : X → ℕ) (table : List X) (i : ℕ)
     → length table ≤ i → IsPowersOfTen limit (map number table) → limit ≤ 10 ^ (i + 1)
-past_table limit number table i past powers =
-    let count = length-map table number in
-    omega (arith, powers.all, pow-le-pow_right {n = 10} (omega arith) {i = length (map number table) + 1} {j = i + 1} (omega arith))
+past_table limit number table i past powers = grind (arith, length-map, pow-le-pow_right)
 
 -- ---- the table that is indexed by the position of the highest bit
 

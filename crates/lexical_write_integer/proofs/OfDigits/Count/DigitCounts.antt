@@ -3,12 +3,12 @@ use Rattle.std.proofs.Common.{◌≡◌, ℕ, zero, suc, ◌+◌, ◌-◌, ◌*�
 use Rattle.std.proofs.Math.Nat.{pow-zero, pow-le-pow_right, mul-le-mul_right, one-le-pow, div-lt_iff_lt-mul, div-mul-le_self, div-one}
 use Rattle.std.proofs.lemmas.Bool.{cases_lt, ltb-true, cond_both}
 use Rattle.std.proofs.lemmas.Nat.{pow-add}
-use Rattle.lexical_num.specs.BitWidth.{IsBitWidth, is_8, is_16, is_32, is_64}
+use Rattle.lexical_num.specs.BitWidth.{IsBitWidth}
 use Rattle.lexical_num.specs.DecimalWidth.{IsDecimalWidth}
 use Rattle.lexical_write_integer.specs.Buffer.{WritesDigits}
 use Rattle.lexical_write_integer.specs.Digits.DigitCount.{digit_count, least_exponent}
 pub use Rattle.lexical_write_integer.specs.Digits.DigitCount.{digit_count-le, digit_count-le_bits}
-use Rattle.lexical_write_integer.proofs.OfDigits.Powers.{lt-pow_self, pow-lt_more, pow-one}
+use Rattle.lexical_write_integer.proofs.OfDigits.Powers.{lt-pow_self, pow-one}
 
 -- ---- the least exponent
 
@@ -35,8 +35,7 @@ digit_count-pos r number = least_exponent-ge r number 1 number
 
 pub digit_count-fits : (r number : ℕ) → 2 ≤ r → number < r ^ digit_count r number
 unfolding digit_count
-digit_count-fits r number two =
-    least_exponent-fits r number 1 number (omega (arith, lt-pow_self r number two, pow-lt_more r number (1 + number) two (omega arith)))
+digit_count-fits r number two = grind (arith, least_exponent-fits, lt-pow_self)
 
 pub digit_count-full : (r n : ℕ) → 2 ≤ r → 1 < digit_count r n → r ^ (digit_count r n - 1) ≤ n
 digit_count-full r n two long =
@@ -107,17 +106,11 @@ width-le width most limit needed below = grind (arith, cases_lt, pow-le-pow_righ
 
 -- no type has more than 64 bits
 pub width-le_64 : (bits : ℕ) → IsBitWidth bits → bits ≤ 64
-width-le_64 bits is_8 = omega arith
-width-le_64 bits is_16 = omega arith
-width-le_64 bits is_32 = omega arith
-width-le_64 bits is_64 = omega arith
+width-le_64 bits is = grind arith
 
 -- and each has at least one
 pub width-some : (bits : ℕ) → IsBitWidth bits → 0 < bits
-width-some bits is_8 = omega arith
-width-some bits is_16 = omega arith
-width-some bits is_32 = omega arith
-width-some bits is_64 = omega arith
+width-some bits is = grind arith
 
 -- a number has at most one digit for each bit of its type
 pub digit_count-le_width : (r n bits : ℕ) → 2 ≤ r → IsBitWidth bits → n < 2 ^ bits → digit_count r n ≤ bits

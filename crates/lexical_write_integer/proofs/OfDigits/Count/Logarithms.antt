@@ -1,20 +1,15 @@
 -- Logarithms, rounded down, and what follows from them for the number of digits.
+use Rattle.std.proofs.lemmas.Grind.{common_steps}
 use Rattle.std.proofs.Common.{◌≡◌, ℕ, zero, suc, ◌+◌, ◌-◌, ◌*◌, ◌/◌, ◌^◌, ◌<◌, ◌≤◌, Bool, true, ◌&&◌, ltb, leb, refl, inl, inr, arith}
 use Rattle.std.proofs.Math.Nat.{pow-suc, pow-le-pow_right, one-le-pow}
 use Rattle.std.proofs.lemmas.Bool.{and_parts, cases_lt, cases_eq, ltb-true, leb-true}
 use Rattle.lexical_write_integer.specs.Digits.Logarithm.{IsGreatestPower, IsLog2, IsLog10Estimate}
 use Rattle.lexical_write_integer.specs.Digits.DigitCount.{digit_count}
 use Rattle.lexical_write_integer.proofs.OfDigits.Count.DigitCounts.{digit_count-is}
-use Rattle.lexical_write_integer.proofs.OfDigits.Powers.{pow-lt_more, pow-pow}
+use Rattle.lexical_write_integer.proofs.OfDigits.Powers.{pow-pow}
 
 pub IsGreatestPower-between : (base number k : ℕ) → 2 ≤ base → base ^ k ≤ number → number < base ^ (k + 1) → IsGreatestPower base number k
-IsGreatestPower-between base number k two low high = record {
-  within = low;
-  greatest = λ e le. elim (cases_lt k e) [
-    | inl more ↦ absurd (omega (arith, pow-le-pow_right {n = base} (omega arith) {i = k + 1} {j = e} (omega arith)))
-    | inr less ↦ less
-  ];
-}
+IsGreatestPower-between base number k two low high = grind (arith, pow-le-pow_right)
 
 pub IsGreatestPower-lt : (base number k : ℕ) → IsGreatestPower base number k → number < base ^ (k + 1)
 IsGreatestPower-lt base number k g = grind (arith, cases_lt)
@@ -57,17 +52,6 @@ estimate_is k small =
 
 -- ---- the number of digits
 
--- the estimate is not too large
-log10-within : (number e : ℕ) → IsLog10Estimate number e → 0 < e → 10 ^ e ≤ number
-log10-within number e est some =
-    elim (cases_lt 0 number) [
-      | inl pos ↦ omega (arith, (est.is_log2.of_positive pos).within, est.estimate.within)
-      | inr none ↦
-          let zero_is : est.log2 ≡ 0 = est.is_log2.of_zero (omega arith) in
-          let one : 10 ^ e ≤ 1 = rw zero_is at est.estimate.within in
-          absurd (omega (arith, pow-lt_more 10 0 e (omega arith) some))
-    ]
-
 log10-lt : (number e : ℕ) → IsLog10Estimate number e → number < 10 ^ (e + 2)
 log10-lt number e est =
     let more : e + 2 ≡ suc (e + 1) = omega arith in
@@ -76,9 +60,7 @@ log10-lt number e est =
 
 -- the digit count is one or two more than the estimate
 pub digit_count-estimate : (number e : ℕ) → IsLog10Estimate number e → number < 10 ^ (e + 1) → digit_count 10 number ≡ e + 1
-digit_count-estimate number e est below =
-    let last : e + 1 - 1 ≡ e = omega arith in
-    digit_count-is 10 number (e + 1) (omega arith) (omega arith) below (λ more. rw last (log10-within number e est (omega arith)))
+digit_count-estimate number e est below = grind (arith, common_steps, digit_count-is)
 
 pub digit_count-estimate_more : (number e : ℕ) → IsLog10Estimate number e → 10 ^ (e + 1) ≤ number → digit_count 10 number ≡ e + 2
 digit_count-estimate_more number e est above =

@@ -1,6 +1,6 @@
 -- The powers of a radix by which the loops divide: which of them fit in which type.
 use Rattle.std.proofs.Common.{ℕ, ◌^◌, ◌<◌, ◌≤◌, arith}
-use Rattle.std.proofs.Math.Nat.{pow-zero, pow-le-pow_left, pow-le-pow_right}
+use Rattle.std.proofs.Math.Nat.{pow-zero, pow-le-pow_left}
 use Rattle.lexical_write_integer.specs.Digits.LoopTurns.{IsStep, takes_one, takes_two, takes_four}
 use Rattle.lexical_write_integer.proofs.OfDigits.Powers.{pow-lt_more}
 
@@ -10,19 +10,11 @@ pub ruleset steps = (takes_one, takes_two, takes_four)
 -- ---- the powers themselves
 
 pub step-pos : (step : ℕ) → IsStep step → 0 < step
-step-pos step takes_one = omega arith
-step-pos step takes_two = omega arith
-step-pos step takes_four = omega arith
-
-pub step-le_4 : (step : ℕ) → IsStep step → step ≤ 4
-step-le_4 step takes_one = omega arith
-step-le_4 step takes_two = omega arith
-step-le_4 step takes_four = omega arith
+step-pos step is = grind arith
 
 -- each of them fits in 32 bits
 pub power-small : (r step : ℕ) → r ≤ 36 → IsStep step → r ^ step < 4294967296
-power-small r step few stepped =
-    omega (arith, pow-le-pow_left {n = r} {m = 36} few step, pow-le-pow_right {n = 36} (omega arith) {i = step} {j = 4} (step-le_4 step stepped))
+power-small r step few stepped = grind (arith, pow-le-pow_left)
 
 pub power-gt_one : (r step : ℕ) → 2 ≤ r → IsStep step → 1 < r ^ step
 power-gt_one r step two stepped = omega (arith, pow-lt_more r 0 step two (step-pos step stepped), pow-zero r)

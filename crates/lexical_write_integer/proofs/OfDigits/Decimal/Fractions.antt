@@ -32,10 +32,7 @@ Carries-next {n} {y} {k} some carries =
     let last : k - 1 + 1 ≡ k = omega arith in
     let power : p ≡ 100 ^ (k - 1) * 100 = rw last at (pow-add 100 (k - 1) 1) in
     let shifted : y % 2 ^ 32 * 100 * 100 ^ (k - 1) ≡ y % 2 ^ 32 * p = rw power (grind arith) in
-    record {
-      at_least = rw shifted (grind (arith, carries.at_least));
-      below = rw shifted (grind (arith, carries.below));
-    }
+    grind arith
 
 -- ---- pair by pair
 
@@ -56,6 +53,4 @@ rest-more y i rest is = rw is (mul-mod_first (y * 100 ^ i) 100 (2 ^ 32) ∙ ap (
 
 -- the number that more pairs carry is not smaller
 pub carried-monotone : (y i j : ℕ) → i ≤ j → carried y i ≤ carried y j
-carried-monotone y i j fewer =
-    let more : y * 100 ^ i ≤ y * 100 ^ j = mul-le-mul_left y (pow-le-pow_right {n = 100} (omega arith) {i = i} {j = j} fewer) in
-    omega arith
+carried-monotone y i j fewer = grind (arith, mul-le-mul_left, pow-le-pow_right)

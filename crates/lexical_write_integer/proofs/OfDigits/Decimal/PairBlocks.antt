@@ -10,8 +10,7 @@ pub use Rattle.lexical_write_integer.proofs.OfDigits.Count.DigitCounts.{widths}
 
 -- fewer pairs have no more digits
 pub room_for_carried : (y i k room : ℕ) → i ≤ k → digit_count 10 (carried y k) ≤ room → digit_count 10 (carried y i) ≤ room
-room_for_carried y i k room fewer enough =
-    omega (arith, digit_count-monotone 10 (carried y i) (carried y k) (omega arith) (carried-monotone y i k fewer))
+room_for_carried y i k room fewer enough = grind (arith, digit_count-monotone, carried-monotone)
 
 -- what one further pair adds, to a fraction whose first pair is not 0
 carried-long : (y i : ℕ) → 1 ≤ y / 2 ^ 32 → 10 ^ 2 ≤ carried y (i + 1)

@@ -1,13 +1,12 @@
 -- The digits of a number in radix 2, of which the first are written with zeros after them, and the last then take their place.
-use Rattle.std.proofs.Common.{◌≡◌, ℕ, ◌+◌, ◌-◌, ◌*◌, ◌/◌, ◌%◌, ◌^◌, ◌<◌, ◌≤◌, List, ◌++◌, length, take, drop, map, refl, sym, ap, subst, ◌∙◌, arith}
-use Rattle.std.proofs.Common.{append_assoc, length-append}
+use Rattle.std.proofs.lemmas.Grind.{common_steps}
+use Rattle.std.proofs.Common.{◌≡◌, ℕ, ◌+◌, ◌-◌, ◌*◌, ◌/◌, ◌%◌, ◌^◌, ◌<◌, ◌≤◌, List, ◌++◌, length, take, drop, map, sym, ap, subst, ◌∙◌, append_assoc, arith}
 use Rattle.std.proofs.Math.Nat.{div-add-mod', one-le-pow}
-use Rattle.std.proofs.lemmas.List.{map-append, length-map, length-take-le, take-append-drop, drop-drop, drop_at}
-use Rattle.std.proofs.lemmas.List.Elements.{All-take, All-drop}
+use Rattle.std.proofs.lemmas.List.{map-append, length-map, take-append-drop, drop-drop, drop_at}
 use Rattle.std.proofs.lemmas.Nat.{pow-add, mul-add-lt, div_below, div-mul-add}
 use Rattle.lexical_num.specs.Digit.{digit_char}
 use Rattle.lexical_write_integer.specs.Buffer.{WritesBlock}
-use Rattle.lexical_write_integer.specs.Digits.Numeral.{IsBlockOf, value_of}
+use Rattle.lexical_write_integer.specs.Digits.Numeral.{IsBlockOf}
 use Rattle.lexical_write_integer.proofs.Buffers.BlocksAfter.{WritesBlock-after}
 use Rattle.lexical_write_integer.proofs.OfDigits.DigitValues.{value_of-append, value_of-lt}
 use Rattle.lexical_write_integer.proofs.OfDigits.Radix.Loops.ShortNumbers.{WritesBlock-over}
@@ -18,15 +17,7 @@ IsBlockOf-first r k j m digits two b =
     let first = take k digits in
     let last = drop k digits in
     let parts : first ++ last ≡ digits = take-append-drop k digits in
-    let long : length first ≡ k = length-take-le k digits (omega (arith, b.counted)) in
-    let rest : length last ≡ j = omega (arith, b.counted, long, ap length parts, length-append first last) in
-    let below : value_of r last < r ^ j = rw rest at (value_of-lt r last (All-drop (λ d. d < r) k digits b.below_radix)) in
-    let sum : value_of r first * r ^ j + value_of r last ≡ m = grind (arith, value_of-append) in
-    record {
-      counted = long;
-      below_radix = All-take (λ d. d < r) k digits b.below_radix;
-      value = sym (ap (λ n. n / r ^ j) (sym sum) ∙ div-mul-add (value_of r first) (r ^ j) (value_of r last) below);
-    }
+    grind (arith, common_steps, value_of-lt, value_of-append, div-mul-add)
 
 -- a buffer that starts with a block starts with the first digits of the block
 WritesBlock-already : (r k j m : ℕ) {before after : List ℕ} → 2 ≤ r → WritesBlock r (k + j) m 0 before after → WritesBlock r k (m / r ^ j) 0 after after
@@ -35,20 +26,12 @@ WritesBlock-already r k j m {before} {after} two w =
     let last = drop k w.digits in
     let rest = drop (0 + (k + j)) before in
     let block = IsBlockOf-first r k j m w.digits two w.block in
-    let long : length (map digit_char first) ≡ k = length-map first digit_char ∙ block.counted in
     let whole : after ≡ map digit_char first ++ (map digit_char last ++ rest) =
     w.written
     ∙ ap (λ ds. map digit_char ds ++ rest) (sym (take-append-drop k w.digits))
     ∙ ap (λ cs. cs ++ rest) (map-append digit_char first last)
     ∙ append_assoc (map digit_char first) (map digit_char last) rest in
-    let following : drop k after ≡ map digit_char last ++ rest = grind (arith, drop_at) in
-    let none : 0 + k ≡ k = omega arith in
-    record {
-      digits = first;
-      block = block;
-      written = rw (none, following) whole;
-      kept = refl;
-    }
+    grind (arith, length-map, drop_at)
 
 -- the first digits are written with zeros after them, `wide` in all, and then the last `taken`
 pub WritesBlock-overlap : (n count taken wide : ℕ) {before between after : List ℕ}

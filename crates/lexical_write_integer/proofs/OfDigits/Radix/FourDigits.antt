@@ -49,44 +49,22 @@ one_of r n two short = grind (arith, pow-one, pow-two, pow-lt_more, mod-eq_of_lt
 -- ---- the characters, each stored at its index or at one that a later store takes
 
 stores_one : (list : List ℕ) (a b c d : ℕ) → 1 ≤ length list → set (set (set (set list 0 a) 0 b) 0 c) 0 d ≡ d ∷ drop 1 list
-stores_one [] a b c d room = absurd (omega arith)
-stores_one (x ∷ list) a b c d room = refl
+stores_one list a b c d room = grind arith
 
 stores_two : (list : List ℕ) (a b c d : ℕ) → 2 ≤ length list → set (set (set (set list 0 a) 0 b) 0 c) 1 d ≡ c ∷ d ∷ drop 2 list
-stores_two [] a b c d room = absurd (omega arith)
-stores_two (x ∷ []) a b c d room = absurd (omega arith)
-stores_two (x ∷ (y ∷ list)) a b c d room = refl
+stores_two list a b c d room = grind arith
 
 stores_three : (list : List ℕ) (a b c d : ℕ) → 3 ≤ length list → set (set (set (set list 0 a) 0 b) 1 c) 2 d ≡ b ∷ c ∷ d ∷ drop 3 list
-stores_three [] a b c d room = absurd (omega arith)
-stores_three (x ∷ []) a b c d room = absurd (omega arith)
-stores_three (x ∷ (y ∷ [])) a b c d room = absurd (omega arith)
-stores_three (x ∷ (y ∷ (z ∷ list))) a b c d room = refl
+stores_three list a b c d room = grind arith
 
 stores_four : (list : List ℕ) (a b c d : ℕ) → 4 ≤ length list → set (set (set (set list 0 a) 1 b) 2 c) 3 d ≡ a ∷ b ∷ c ∷ d ∷ drop 4 list
-stores_four [] a b c d room = absurd (omega arith)
-stores_four (x ∷ []) a b c d room = absurd (omega arith)
-stores_four (x ∷ (y ∷ [])) a b c d room = absurd (omega arith)
-stores_four (x ∷ (y ∷ (z ∷ []))) a b c d room = absurd (omega arith)
-stores_four (x ∷ (y ∷ (z ∷ (w ∷ list)))) a b c d room = refl
+stores_four list a b c d room = grind arith
 
 -- ---- the number
 
 -- the index of the third of the four characters
 pub third-is : (count : ℕ) → 1 ≤ count → count ≤ 4 → count * count / 8 ≡ count - 2
-third-is count some few =
-    elim (cases_eq count 4) [
-      | inl four ↦ rw four refl
-      | inr not_four ↦ elim (cases_eq count 3) [
-        | inl three ↦ rw three refl
-        | inr not_three ↦ elim (cases_eq count 2) [
-          | inl two ↦ rw two refl
-          | inr not_two ↦
-              let one : count ≡ 1 = omega arith in
-              rw one refl
-        ]
-      ]
-    ]
+third-is count some few = grind arith
 
 pub WritesBlock-four : (r n count : ℕ) (list : List ℕ)
     → 2 ≤ r → n < r ^ 4 → count ≡ digit_count r n → count ≤ length list

@@ -1,6 +1,6 @@
 -- Pairs of digits, which are read from a table that begins with the pairs of the radix.
-use Rattle.std.proofs.Common.{◌≡◌, ℕ, suc, ◌+◌, ◌-◌, ◌*◌, ◌/◌, ◌%◌, ◌^◌, ◌<◌, ◌≤◌, List, [], ◌∷◌, length, get_or, take, drop, map, set}
-use Rattle.std.proofs.Common.{refl, sym, ap, subst, ◌∙◌, arith, length-take}
+use Rattle.std.proofs.Common.{◌≡◌, ℕ, suc, ◌+◌, ◌-◌, ◌*◌, ◌/◌, ◌%◌, ◌^◌, ◌<◌, ◌≤◌, List, [], ◌∷◌, length, get_or, take, drop, map, set, refl, ap, subst}
+use Rattle.std.proofs.Common.{length-take, arith}
 use Rattle.std.proofs.Math.Nat.{div-add-mod'}
 use Rattle.std.proofs.Math.Seq.{drop-cons}
 use Rattle.std.proofs.lemmas.List.{get_or-take}
@@ -25,11 +25,7 @@ length-table r table t = omega (arith, length-pairs r, ap length t.first, length
 
 -- the two characters of a pair
 pub pair_first : (r k : ℕ) (table : List ℕ) → BeginsWithPairs r table → k < r * r → get_or table (2 * k) 0 ≡ digit_char (k / r)
-pair_first r k table t small =
-    sym (get_or-take (2 * (r * r)) table (2 * k) 0 (omega arith))
-    ∙ ap (λ list. get_or list (2 * k) 0) t.first
-    ∙ slice_index-pairs_first r k small
-    ∙ same_characters (k / r)
+pair_first r k table t small = grind (arith, get_or-take, slice_index-pairs_first)
 
 pub pair_second : (r k : ℕ) (table : List ℕ) → BeginsWithPairs r table → k < r * r → get_or table (2 * k + 1) 0 ≡ digit_char (k % r)
 pair_second r k table t small = grind (arith, get_or-take, slice_index-pairs_second, same_characters)

@@ -1,6 +1,6 @@
 -- Digits in groups: how long they are, and the last group after the others.
-use Rattle.std.proofs.Common.{◌≡◌, Option, None, Some, ℕ, zero, suc, ◌+◌, ◌-◌, ◌/◌, ◌%◌, ◌<◌, ◌≤◌, List, []}
-use Rattle.std.proofs.Common.{◌∷◌, ◌++◌, length, take, inl, inr, ◌*◌, refl, sym, ap, ◌∙◌, arith, length-append}
+use Rattle.std.proofs.Common.{◌∷◌, ◌++◌, length, take, inl, inr, ◌*◌, refl, sym, ap, ◌∙◌, length-append, ◌≡◌, Option, None, Some, ℕ, suc, ◌+◌, ◌-◌, ◌/◌, ◌%◌}
+use Rattle.std.proofs.Common.{◌<◌, ◌≤◌, List, [], arith}
 use Rattle.std.proofs.Math.Nat.{mod-eq_of_lt, mod-lt, div-eq_of_lt}
 use Rattle.std.proofs.lemmas.Nat.{div-mul-add}
 use Rattle.std.proofs.lemmas.Bool.{cases_eq, cases_lt, cases_order, eq-eqb, ne_eqb, cond-true, cond-false}
@@ -15,8 +15,7 @@ mark_before-part grouping right part = cond-false _ _ _ (ne_eqb (right % groupin
 
 pub in_groups-more : (grouping : ℕ × ℕ) (digit : ℕ) (digits : List ℕ)
     → 0 < length digits → in_groups grouping (digit ∷ digits) ≡ digit ∷ mark_before grouping (length digits) ++ in_groups grouping digits
-in_groups-more grouping digit [] some = absurd (omega arith)
-in_groups-more grouping digit (next ∷ digits) some = refl
+in_groups-more grouping digit digits some = grind arith
 
 -- a single group has no separator
 pub in_groups-one : (grouping : ℕ × ℕ) (digits : List ℕ) → length digits ≤ grouping.0 → in_groups grouping digits ≡ digits
@@ -28,8 +27,7 @@ in_groups-one grouping (digit ∷ next ∷ digits) few =
     rw part (ap (λ rest. digit ∷ rest) (in_groups-one grouping (next ∷ digits) (omega arith)))
 
 pub some_factor : (m n product : ℕ) → m * n ≡ product → 0 < product → 0 < m
-some_factor zero n product is some = absurd (omega arith)
-some_factor (suc m) n product is some = omega arith
+some_factor m n product is some = grind arith
 
 -- the separator before a byte is counted as one further group to its right
 pub length-mark_before : (grouping : ℕ × ℕ) (right : ℕ)
@@ -76,9 +74,7 @@ length-in_groups_taken {grouping} {count} {total} {before} h = grind (arith, len
 
 -- one further digit takes more bytes
 length-in_groups_more : (grouping : ℕ × ℕ) (digit : ℕ) (digits : List ℕ) → length (in_groups grouping digits) < length (in_groups grouping (digit ∷ digits))
-length-in_groups_more grouping digit [] = omega arith
-length-in_groups_more grouping digit (next ∷ digits) =
-    omega (arith, length-append (mark_before grouping (length (next ∷ digits))) (in_groups grouping (next ∷ digits)))
+length-in_groups_more grouping digit digits = grind arith
 
 length-in_groups_same : (grouping : ℕ × ℕ) (xs ys : List ℕ) → length xs ≡ length ys → length (in_groups grouping xs) ≡ length (in_groups grouping ys)
 length-in_groups_same grouping [] [] same = refl
@@ -106,12 +102,10 @@ length-in_groups_lt grouping xs (y ∷ ys) less =
     ]
 
 pub length-grouped_lt : (grouping : Option (ℕ × ℕ)) (xs ys : List ℕ) → length xs < length ys → length (grouped grouping xs) < length (grouped grouping ys)
-length-grouped_lt None xs ys less = less
-length-grouped_lt (Some grouping) xs ys less = length-in_groups_lt grouping xs ys less
+length-grouped_lt grouping xs ys less = grind (arith, length-in_groups_lt)
 
 pub length-grouped_same : (grouping : Option (ℕ × ℕ)) (xs ys : List ℕ) → length xs ≡ length ys → length (grouped grouping xs) ≡ length (grouped grouping ys)
-length-grouped_same None xs ys same = same
-length-grouped_same (Some grouping) xs ys same = length-in_groups_same grouping xs ys same
+length-grouped_same grouping xs ys same = grind (arith, length-in_groups_same)
 
 -- digits in groups take at least as many bytes as the digits
 pub length-grouped_ge : (grouping : Option (ℕ × ℕ)) (digits : List ℕ) → length digits ≤ length (grouped grouping digits)

@@ -1,9 +1,8 @@
 -- A text without the separators between its groups.
-use Rattle.std.proofs.Common.{◌≡◌, ◌≢◌, Option, None, Some, Bool, true, false, not, ◌==◌, ℕ, ◌<◌, ◌≤◌, ◌%◌, List, [], ◌∷◌, ◌++◌}
-use Rattle.std.proofs.Common.{length, map, refl, sym, ap, ◌∙◌, arith, ℤ, pos, negsuc}
+use Rattle.std.proofs.Common.{◌≡◌, ◌≢◌, Option, None, Some, Bool, not, ◌==◌, ℕ, ◌<◌, ◌≤◌, List, [], ◌∷◌, ◌++◌, length, map, refl, ap, ◌∙◌, ℤ, arith}
 use Rattle.std.specs.List.{All, filter}
 use Rattle.std.specs.Option.{ForSome}
-use Rattle.std.proofs.lemmas.Bool.{cond-true, cond-false, cond_both, eq-eqb, ne_eqb, not_from_false, not_from_true}
+use Rattle.std.proofs.lemmas.Bool.{cond-true, ne_eqb, not_from_false}
 use Rattle.std.proofs.lemmas.List.Elements.{All-head, All-tail, All-cons, All-nil, filter-append}
 use Rattle.lexical_num.specs.Digit.{digit_char}
 use Rattle.lexical_num.specs.Format.{Format, IsGrouping, IsMark, without_groups}
@@ -19,12 +18,8 @@ others mark = filter (λ byte. not (byte == mark))
 others-other : (mark byte : ℕ) (bytes : List ℕ) → byte ≢ mark → others mark (byte ∷ bytes) ≡ byte ∷ others mark bytes
 others-other mark byte bytes other = cond-true _ _ _ (not_from_false _ (ne_eqb byte mark other))
 
-others-mark : (mark : ℕ) (bytes : List ℕ) → others mark (mark ∷ bytes) ≡ others mark bytes
-others-mark mark bytes = cond-false _ _ _ (not_from_true _ (eq-eqb mark mark refl))
-
 others-mark_before : (grouping : ℕ × ℕ) (right : ℕ) → others grouping.1 (mark_before grouping right) ≡ []
-others-mark_before grouping right =
-    cond_both (right % grouping.0 == 0) (grouping.1 ∷ []) [] (λ bytes. others grouping.1 bytes ≡ []) (λ _. others-mark grouping.1 []) (λ _. refl)
+others-mark_before grouping right = grind arith
 
 -- bytes in groups without the separators are the bytes
 others-in_groups : (grouping : ℕ × ℕ) (bytes : List ℕ) → All (λ byte. byte ≢ grouping.1) bytes → others grouping.1 (in_groups grouping bytes) ≡ bytes
@@ -53,9 +48,7 @@ digit_chars-mark r mark (d ∷ digits) few is below =
 
 others-sign : (mark : ℕ) (x : ℤ) (required : Bool) (bytes : List ℕ)
     → IsMark mark → others mark (sign_of x required ++ bytes) ≡ sign_of x required ++ others mark bytes
-others-sign mark (negsuc n) required bytes is = others-other mark 45 bytes (λ e. is.no_minus (sym e))
-others-sign mark (pos n) true bytes is = others-other mark 43 bytes (λ e. is.no_plus (sym e))
-others-sign mark (pos n) false bytes is = refl
+others-sign mark x required bytes is = grind arith
 
 -- ---- texts
 
@@ -72,14 +65,4 @@ without_separators-grouped (Some grouping) r x required digits good few below =
 pub IsText-without_separators : (x : ℤ) (format : Format) (text : List ℕ)
     → format.mantissa_radix ≤ 36 → ForSome format.digit_grouping IsGrouping → IsText x format text
     → IsText x (without_groups format) (without_separators format.digit_grouping text)
-IsText-without_separators x format text few good p =
-    let chars = p.magnitude.characters in
-    let required = format.required_mantissa_sign in
-    let grouping = format.digit_grouping in
-    record {
-      digits = p.digits;
-      magnitude = p.magnitude;
-      whole = ap (without_separators grouping) (p.whole ∙ ap (λ digits. sign_of x required ++ grouped grouping digits) chars)
-          ∙ without_separators-grouped grouping format.mantissa_radix x required p.magnitude.digits good few p.magnitude.numeral.numeral.below_radix
-          ∙ ap (λ digits. sign_of x required ++ digits) (sym chars);
-    }
+IsText-without_separators x format text few good p = grind (arith, without_separators-grouped)

@@ -1,13 +1,12 @@
 -- Digits that are put into groups in place, byte by byte from the last.
-use Rattle.std.proofs.Common.{◌≡◌, ℕ, zero, suc, ◌+◌, ◌-◌, ◌*◌, ◌/◌, ◌%◌, ◌<◌, ◌≤◌, List, [], ◌∷◌, ◌++◌, length, take, drop, get_or, set}
-use Rattle.std.proofs.Common.{refl, sym, ap, ◌∙◌, arith, append_assoc}
+use Rattle.std.proofs.Common.{◌≡◌, ℕ, zero, suc, ◌+◌, ◌-◌, ◌*◌, ◌/◌, ◌%◌, ◌<◌, ◌≤◌, List, [], ◌∷◌, ◌++◌, length, take, drop, get_or, set, refl, sym, ap, ◌∙◌}
+use Rattle.std.proofs.Common.{append_assoc, arith}
 use Rattle.std.proofs.Math.Nat.{add-div_right, div-eq_of_lt, mul-mod_left}
 use Rattle.std.proofs.lemmas.List.{append-nil, drop-set, length-set, take_more, take-set-le}
 use Rattle.std.proofs.lemmas.Nat.{mod-mul-add}
 use Rattle.lexical_write_integer.specs.Buffer.{Front}
 use Rattle.lexical_write_integer.specs.Texts.Groups.{in_groups}
-use Rattle.lexical_write_integer.proofs.OfTexts.Grouping.Digits.{HasRoomInGroups, length-in_groups_taken}
-use Rattle.lexical_write_integer.proofs.OfTexts.Grouping.Digits.{in_groups-more, mark_before-whole, mark_before-part}
+use Rattle.lexical_write_integer.proofs.OfTexts.Grouping.Digits.{in_groups-more, mark_before-whole, mark_before-part, HasRoomInGroups, length-in_groups_taken}
 
 -- The first `left` digits have not moved. `behind` is written from index `end`: what follows a further digit in groups, with a
 -- separator first if `in_group`, the number of digits in the group that is being written, is 0.
@@ -57,9 +56,7 @@ left-some {left = suc left} due w = omega arith
 -- a byte is written before those that are written
 written-more : (end byte : ℕ) (between behind : List ℕ)
     → 0 < end → end ≤ length between → drop end between ≡ behind → drop (end - 1) (set between (end - 1) byte) ≡ byte ∷ behind
-written-more end byte between behind due room written =
-    let next : end - 1 + 1 ≡ end = omega arith in
-    drop-set between (end - 1) byte (omega arith) ∙ ap (λ n. byte ∷ drop n between) next ∙ ap (λ xs. byte ∷ xs) written
+written-more end byte between behind due room written = grind (arith, drop-set)
 
 -- a digit is moved to its index
 pub IsSpread-digit : {grouping : ℕ × ℕ} {count total left end in_group : ℕ} {before between : List ℕ}
@@ -118,11 +115,4 @@ IsSpread-mark {grouping} {left = left} {end} {in_group} {between = between} due 
 -- every byte is written
 pub IsSpread-end : {grouping : ℕ × ℕ} {count total left end in_group : ℕ} {before after : List ℕ}
     → end ≡ 0 → IsSpread grouping count total left end in_group before after → Front before after (in_groups grouping (take count before))
-IsSpread-end {grouping} {count} {left = left} {in_group = in_group} {before} none w =
-    let long = length-in_groups_taken w.fits in
-    let no_left : left ≡ 0 = omega (arith, w.place) in
-    let text : in_groups grouping (take count before) ≡ w.behind = rw no_left at (ap (in_groups grouping) w.digits) ∙ w.whole (omega (arith, w.some)) in
-    record {
-      fits = omega (arith, long, w.fits.room);
-      written = rw none at w.written ∙ (λ i. sym text i ++ drop (sym long i) before);
-    }
+IsSpread-end {grouping} {count} {left = left} {in_group = in_group} {before} none w = grind (arith, length-in_groups_taken)

@@ -34,11 +34,7 @@ pub IsText-one_group : (x : ℤ) (format : Format) (grouping : ℕ × ℕ) (text
     → IsText x (without_groups format) text
 IsText-one_group x format grouping text two groups is few =
     let one = in_groups-one grouping is.digits (omega (arith, counted x format text two is)) in
-    record {
-      digits = is.digits;
-      magnitude = is.magnitude;
-      whole = whole x format grouping text groups is ∙ ap (λ digits. sign_of x format.required_mantissa_sign ++ digits) one;
-    }
+    grind arith
 
 pub digit-in_text : (x : ℤ) (format : Format) (grouping : ℕ × ℕ) (text plain : List ℕ) (right : ℕ)
     → 2 ≤ format.mantissa_radix → 0 < grouping.0 → format.digit_grouping ≡ Some grouping → IsText x format text

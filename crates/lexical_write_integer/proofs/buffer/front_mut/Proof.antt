@@ -1,12 +1,11 @@
 -- `front_mut` returns a borrow of the first bytes of a slice. The borrow checker shows no write-back clause for a
 -- part of a slice, so this proof walks the code by hand.
+use Rattle.lexical_num.proofs.Steps.{group, split, split3, join, fsplit, fsplit3, fjoin, feq_i, feq_l, use1, use2, await, pick, suffices, frame, rewrite, whole}
+use Rattle.lexical_num.proofs.Steps.{look_in_at, get, sets, Held, Arr, cells, u8, usize, yes, no, mem, uint_vals, uint_Tells, plain, MutSlice, Room, slice_val}
 use Rattle.lexical_num.proofs.Steps.{refl, sym, ap, ℕ, ◌≤◌, List, [], ◌∷◌, ◌++◌, length, take, Ura, named, w64, Val, ent, sep, Lft, GName, Share, ftrue, flft}
 use Rattle.lexical_num.proofs.Steps.{fobs, fbor, Logic, sem, fact, Item, Goal, Soaks, Seq, ‵, raw, ◌⊛◌, some, later, ◌$◌, ◌∵◌, !, qed, done, move, keep, drop}
-use Rattle.lexical_num.proofs.Steps.{group, split, split3, join, fsplit, fsplit3, fjoin, feq_i, feq_l, use1, use2, await, pick, suffices, frame, rewrite, whole}
-use Rattle.lexical_num.proofs.Steps.{sub, agg, enter, stop, fld, hop, from, addr, and_then, no_more, returns, alloc_all, pass_all, free_all, look_at}
-use Rattle.lexical_num.proofs.Steps.{look_in_at, get, sets, Held, Arr, cells, u8, usize, yes, no, mem, uint_vals, uint_Tells, plain, MutSlice, Room, slice_val}
-use Rattle.lexical_num.proofs.Steps.{mut_slice_vals, mut_slice_Tells, nothing, heard, says, Stays, stay_dropped, Goes-dropped, Goes-spent_slice, ends_at}
-use Rattle.lexical_num.proofs.Steps.{proved}
+use Rattle.lexical_num.proofs.Steps.{mut_slice_vals, mut_slice_Tells, nothing, heard, says, Stays, stay_dropped, Goes-dropped, Goes-spent_slice, ends_at, sub}
+use Rattle.lexical_num.proofs.Steps.{agg, enter, stop, fld, hop, from, addr, and_then, no_more, returns, alloc_all, pass_all, free_all, look_at, proved}
 use native.Mathlib.Omega.{arith}
 use lib.ListN.{drop as drop_list, take-append-drop, length-append}
 use base.Stored.{coded_list}

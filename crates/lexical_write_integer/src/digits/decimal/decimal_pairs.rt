@@ -4,7 +4,7 @@ ghost use Rattle.std.specs.Prelude.{◌≡◌, ◌+◌, ◌-◌, ◌*◌, ◌/�
 ghost use Rattle.lexical_num.specs.Digit.{digit_char};
 ghost use Rattle.lexical_write_integer.specs.Buffer.{WritesBlock, WritesDigits};
 ghost use Rattle.lexical_write_integer.specs.Digits.Carries.{carried};
-ghost use Rattle.lexical_write_integer.specs.Digits.DecimalTurns.{WritesDecimal, products, pairs_from_back};
+ghost use Rattle.lexical_write_integer.specs.Digits.DecimalTurns.{products, pairs_from_back};
 ghost use Rattle.lexical_write_integer.specs.Digits.DigitCount.{digit_count};
 
 use super::kernels::next2;
@@ -41,7 +41,7 @@ pub(crate) fn write_one_or_two(pair: u32, buffer: &mut [u8]) -> usize
     requires room { digit_count 10 pair ≤ length buffer.old }
     ensures digits { WritesDigits 10 pair buffer.old buffer.new result }
     ensures some { 1 ≤ result }
-    ensures few { result ≤ 2 }
+    ensures at_most_2 { result ≤ 2 }
 {
     // A single digit is written over the zero after it, to avoid a branch.
     let is_pair = pair >= 10;
@@ -59,7 +59,7 @@ fn write_first(pair: u32, buffer: &mut [u8]) -> usize
     ensures digits { WritesDigits 10 pair buffer.new buffer.new result }
     ensures rest { drop 2 buffer.new ≡ drop 2 buffer.old }
     ensures some { 1 ≤ result }
-    ensures few { result ≤ 2 }
+    ensures at_most_2 { result ≤ 2 }
 {
     let (first, second) = first_pair(pair);
     buffer[1] = second;
@@ -80,8 +80,9 @@ pub(crate) fn write_pairs(
     requires first { 1 ≤ fraction / 2 ^ 32 }
     requires below { fraction / 2 ^ 32 < 100 }
     requires room { digit_count 10 (carried fraction pair_count) ≤ length buffer.old }
-    ensures { WritesDecimal (carried fraction pair_count) (products fraction pair_count)
-        buffer.old buffer.new turns.old turns.new result }
+    ensures digits { WritesDigits 10 (carried fraction pair_count) buffer.old buffer.new result }
+    ensures notes { turns.new ≡ turns.old ++ products fraction pair_count }
+    ensures turns { length turns.new ≡ length turns.old + (result - 1) / 2 }
 {
     let mut count = write_first((fraction >> 32) as u32, buffer);
     let table = RadixTable::<10>::new();

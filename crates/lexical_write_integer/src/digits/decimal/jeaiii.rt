@@ -11,10 +11,9 @@
 // of the kernels in `crates/library_tests/src/kernel_values.rt`.
 #![tactic(auto, using(crate::proofs::OfDigits::Count::DigitCounts::widths), unfolding(crate::specs::Digits::DecimalTurns::decimal_notes_32))]
 
-ghost use Rattle.std.specs.Prelude.{◌+◌, ◌-◌, ◌/◌, ◌^◌, ◌<◌, ◌≤◌, length};
+ghost use Rattle.std.specs.Prelude.{◌≡◌, ◌+◌, ◌-◌, ◌/◌, ◌^◌, ◌<◌, ◌≤◌, ◌++◌, length};
 ghost use Rattle.lexical_write_integer.specs.Buffer.{WritesDigits};
-ghost use Rattle.lexical_write_integer.specs.Digits.DecimalTurns.{WritesDecimal, decimal_notes};
-ghost use Rattle.lexical_write_integer.specs.Digits.DecimalTurns.{decimal_notes_32, decimal_notes_64};
+ghost use Rattle.lexical_write_integer.specs.Digits.DecimalTurns.{decimal_notes, decimal_notes_32, decimal_notes_64};
 ghost use Rattle.lexical_write_integer.specs.Digits.DigitCount.{digit_count};
 
 use super::decimal_pairs::{write_last_ten, write_one_or_two, write_pairs};
@@ -27,7 +26,9 @@ use lexical_num::num::UnsignedInteger;
 // Writes the digits of a number of up to 32 bits.
 fn write_32(n: u32, buffer: &mut [u8], turns: &mut Turns) -> usize
     requires { digit_count 10 n ≤ length buffer.old }
-    ensures { WritesDecimal n (decimal_notes_32 n) buffer.old buffer.new turns.old turns.new result }
+    ensures digits { WritesDigits 10 n buffer.old buffer.new result }
+    ensures notes { turns.new ≡ turns.old ++ decimal_notes_32 n }
+    ensures turns { length turns.new ≡ length turns.old + (result - 1) / 2 }
 {
     if n < 100 {
         write_one_or_two(n, buffer)
@@ -54,7 +55,9 @@ fn write_32(n: u32, buffer: &mut [u8], turns: &mut Turns) -> usize
 fn write_more_than_ten(n: u64, buffer: &mut [u8], turns: &mut Turns) -> usize
     requires long { 10 ^ 10 ≤ n }
     requires room { digit_count 10 n ≤ length buffer.old }
-    ensures { WritesDecimal n (decimal_notes_64 n) buffer.old buffer.new turns.old turns.new result }
+    ensures digits { WritesDigits 10 n buffer.old buffer.new result }
+    ensures notes { turns.new ≡ turns.old ++ decimal_notes_64 n }
+    ensures turns { length turns.new ≡ length turns.old + (result - 1) / 2 }
 {
     let front = write_32((n / 10_000_000_000) as u32, buffer, turns);
     write_last_ten(n, buffer, front, turns);
@@ -65,7 +68,9 @@ fn write_more_than_ten(n: u64, buffer: &mut [u8], turns: &mut Turns) -> usize
 #[tactic(auto, using(crate::proofs::OfDigits::Count::DigitCounts::widths), unfolding(crate::specs::Digits::DecimalTurns::decimal_notes_64))]
 fn write_64(n: u64, buffer: &mut [u8], turns: &mut Turns) -> usize
     requires { digit_count 10 n ≤ length buffer.old }
-    ensures { WritesDecimal n (decimal_notes_64 n) buffer.old buffer.new turns.old turns.new result }
+    ensures digits { WritesDigits 10 n buffer.old buffer.new result }
+    ensures notes { turns.new ≡ turns.old ++ decimal_notes_64 n }
+    ensures turns { length turns.new ≡ length turns.old + (result - 1) / 2 }
 {
     // Short numbers are tested first, as in `write_32`: that mispredicts the fewest branches.
     if n < 10_000 {
@@ -93,8 +98,9 @@ pub(crate) fn write_decimal<T: UnsignedInteger>(
 ) -> usize
     requires width { digit_count 10 (T.magnitude value) ≤ width }
     requires room { width ≤ length buffer.old }
-    ensures { WritesDecimal (T.magnitude value) (decimal_notes T.BITS (T.magnitude value))
-        buffer.old buffer.new turns.old turns.new result }
+    ensures digits { WritesDigits 10 (T.magnitude value) buffer.old buffer.new result }
+    ensures notes { turns.new ≡ turns.old ++ decimal_notes T.BITS (T.magnitude value) }
+    ensures turns { length turns.new ≡ length turns.old + (result - 1) / 2 }
 {
     value.fits_bits();
     // One test of the length takes the place of one at each write.
@@ -160,9 +166,11 @@ pub fn from_i64(n: u64, buffer: &mut [u8]) -> usize
 /// Writes the digits as `from_u8` does, under the same condition.
 pub fn from_u8_counted(n: u8, buffer: &mut [u8], turns: &mut Turns) -> usize
     requires { 3 ≤ length buffer.old }
-    ensures writes { WritesDecimal n (decimal_notes_32 n) buffer.old buffer.new turns.old turns.new result }
+    ensures digits { WritesDigits 10 n buffer.old buffer.new result }
+    ensures notes { turns.new ≡ turns.old ++ decimal_notes_32 n }
+    ensures turns { length turns.new ≡ length turns.old + (result - 1) / 2 }
     ensures short { result ≤ 3 }
-    ensures few { length turns.new ≤ length turns.old + 9 }
+    ensures few_turns { length turns.new ≤ length turns.old + 9 }
 {
     write_32(u32::from(n), buffer, turns)
 }
@@ -170,9 +178,11 @@ pub fn from_u8_counted(n: u8, buffer: &mut [u8], turns: &mut Turns) -> usize
 /// Writes the digits as `from_u16` does, under the same condition.
 pub fn from_u16_counted(n: u16, buffer: &mut [u8], turns: &mut Turns) -> usize
     requires { 5 ≤ length buffer.old }
-    ensures writes { WritesDecimal n (decimal_notes_32 n) buffer.old buffer.new turns.old turns.new result }
+    ensures digits { WritesDigits 10 n buffer.old buffer.new result }
+    ensures notes { turns.new ≡ turns.old ++ decimal_notes_32 n }
+    ensures turns { length turns.new ≡ length turns.old + (result - 1) / 2 }
     ensures short { result ≤ 5 }
-    ensures few { length turns.new ≤ length turns.old + 9 }
+    ensures few_turns { length turns.new ≤ length turns.old + 9 }
 {
     write_32(u32::from(n), buffer, turns)
 }
@@ -180,9 +190,11 @@ pub fn from_u16_counted(n: u16, buffer: &mut [u8], turns: &mut Turns) -> usize
 /// Writes the digits as `from_u32` does, under the same condition.
 pub fn from_u32_counted(n: u32, buffer: &mut [u8], turns: &mut Turns) -> usize
     requires { 10 ≤ length buffer.old }
-    ensures writes { WritesDecimal n (decimal_notes_32 n) buffer.old buffer.new turns.old turns.new result }
+    ensures digits { WritesDigits 10 n buffer.old buffer.new result }
+    ensures notes { turns.new ≡ turns.old ++ decimal_notes_32 n }
+    ensures turns { length turns.new ≡ length turns.old + (result - 1) / 2 }
     ensures short { result ≤ 10 }
-    ensures few { length turns.new ≤ length turns.old + 9 }
+    ensures few_turns { length turns.new ≤ length turns.old + 9 }
 {
     write_32(n, buffer, turns)
 }
@@ -190,9 +202,11 @@ pub fn from_u32_counted(n: u32, buffer: &mut [u8], turns: &mut Turns) -> usize
 /// Writes the digits as `from_u64` does, under the same condition.
 pub fn from_u64_counted(n: u64, buffer: &mut [u8], turns: &mut Turns) -> usize
     requires { 20 ≤ length buffer.old }
-    ensures writes { WritesDecimal n (decimal_notes_64 n) buffer.old buffer.new turns.old turns.new result }
+    ensures digits { WritesDigits 10 n buffer.old buffer.new result }
+    ensures notes { turns.new ≡ turns.old ++ decimal_notes_64 n }
+    ensures turns { length turns.new ≡ length turns.old + (result - 1) / 2 }
     ensures short { result ≤ 20 }
-    ensures few { length turns.new ≤ length turns.old + 9 }
+    ensures few_turns { length turns.new ≤ length turns.old + 9 }
 {
     write_64(n, buffer, turns)
 }
@@ -201,9 +215,11 @@ pub fn from_u64_counted(n: u64, buffer: &mut [u8], turns: &mut Turns) -> usize
 pub fn from_i64_counted(n: u64, buffer: &mut [u8], turns: &mut Turns) -> usize
     requires number { n < 10 ^ 19 }
     requires room { 19 ≤ length buffer.old }
-    ensures writes { WritesDecimal n (decimal_notes_64 n) buffer.old buffer.new turns.old turns.new result }
+    ensures digits { WritesDigits 10 n buffer.old buffer.new result }
+    ensures notes { turns.new ≡ turns.old ++ decimal_notes_64 n }
+    ensures turns { length turns.new ≡ length turns.old + (result - 1) / 2 }
     ensures short { result ≤ 19 }
-    ensures few { length turns.new ≤ length turns.old + 9 }
+    ensures few_turns { length turns.new ≤ length turns.old + 9 }
 {
     prove!(n < 10_000_000_000_000_000_000);
     write_64(n, buffer, turns)

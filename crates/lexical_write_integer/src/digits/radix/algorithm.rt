@@ -8,7 +8,7 @@ ghost use Rattle.lexical_num.specs.Format.{IsRadix};
 ghost use Rattle.lexical_write_integer.specs.Buffer.{WritesDigits};
 ghost use Rattle.lexical_write_integer.specs.Digits.DigitCount.{digit_count};
 ghost use Rattle.lexical_write_integer.specs.Digits.Table.{BeginsWithPairs};
-ghost use Rattle.lexical_write_integer.specs.Digits.LoopTurns.{WritesByTable, table_notes, table_turns};
+ghost use Rattle.lexical_write_integer.specs.Digits.LoopTurns.{table_notes, table_turns};
 
 use super::by_radix::by_radix;
 use super::write_digits;
@@ -27,7 +27,8 @@ fn write_digits_in<T: UnsignedInteger>(
     requires radix { IsRadix radix }
     requires table { BeginsWithPairs radix table.now }
     requires room { digit_count radix (T.magnitude value) ≤ length buffer.old }
-    ensures { WritesByTable radix (T.magnitude value) buffer.old buffer.new turns.old turns.new result }
+    ensures digits { WritesDigits radix (T.magnitude value) buffer.old buffer.new result }
+    ensures notes { turns.new ≡ turns.old ++ table_notes radix (T.magnitude value) }
 {
     by_radix!(radix, write_digits::<T>(value, table, buffer, turns))
 }

@@ -1,9 +1,9 @@
 // Writing binary digits, eight at a time, as the bytes of a word.
 
 ghost use Rattle.std.specs.Prelude.{◌≡◌, ◌+◌, ◌/◌, ◌<◌, ◌≤◌, ◌++◌, length};
-ghost use Rattle.lexical_write_integer.specs.Buffer.{WritesBlock};
+ghost use Rattle.lexical_write_integer.specs.Buffer.{WritesBlock, WritesDigits};
 ghost use Rattle.lexical_write_integer.specs.Digits.DigitCount.{digit_count};
-ghost use Rattle.lexical_write_integer.specs.Digits.LoopTurns.{WritesByTable, loop_notes};
+ghost use Rattle.lexical_write_integer.specs.Digits.LoopTurns.{loop_notes, table_notes};
 
 use super::table_writer::{first_pair, remove_four};
 use crate::digits::count::digit_count_counted;
@@ -52,7 +52,8 @@ fn remove_eight(value: u64, turns: &mut Turns) -> u64
 pub(super) fn write_binary(value: u64, buffer: &mut [u8], turns: &mut Turns) -> usize
     requires long { 256 ≤ value }
     requires room { digit_count 2 value ≤ length buffer.old }
-    ensures { WritesByTable 2 value buffer.old buffer.new turns.old turns.new result }
+    ensures digits { WritesDigits 2 value buffer.old buffer.new result }
+    ensures notes { turns.new ≡ turns.old ++ table_notes 2 value }
 {
     let count = digit_count_counted(value, 2, turns);
     let mut left = value;

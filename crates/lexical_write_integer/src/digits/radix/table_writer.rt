@@ -150,12 +150,11 @@ fn count_up_to_four<const R: u32>(number: u32, turns: &mut Turns) -> usize
     ensures count { result ≡ digit_count R number }
     ensures turns { turns.new ≡ turns.old ++ slow_notes R number }
 {
-    let left = number / (R * R);
-    if left == 0 {
+    let pair = first_pair::<R>(number, turns);
+    if pair == 0 {
         return count_one_or_two(number, R, turns);
     }
-    turns.tick(u64::from(left));
-    2 + count_one_or_two(left, R, turns)
+    2 + count_one_or_two(pair, R, turns)
 }
 
 // Counts the one to four digits of a number by division, and writes them.

@@ -4,4 +4,4 @@ use Rattle.uses.proofs.turn_lists.notes_of_four_digits.Goals as goal
 -- the check finds this proof by itself, but with an answer the refusal of a mistake says what is wrong
 pub returns : goal.returns
 unfolding decimal_notes_32
-returns c = rw c.new-turns.ensures at c.from_u32_counted.ensures.writes.noted
+returns c = rw c.new-turns.ensures at c.from_u32_counted.ensures.notes

@@ -12,14 +12,11 @@ fn write_zeros(buffer: &mut [u8]) {
     buffer.fill(b'0');
 }
 
-// Returns whether the number, with leading zeros, can have this number of digits. Without digits it is 0.
+// Returns whether the number, with leading zeros, can have this number of decimal digits. Without digits it is 0.
 #[inline]
-fn fits_width(number: u64, radix: u32, width: usize) -> bool {
-    if radix == 10 {
-        // Every number is below 10^20. A constant power costs nothing in rustc.
-        return width >= 20 || number < 10u64.pow(width as u32);
-    }
-    number == 0 || number.digit_count(radix) <= width
+fn fits_decimal_width(number: u64, width: usize) -> bool {
+    // Every number is below 10^20. A constant power costs nothing in rustc.
+    width >= 20 || number < 10u64.pow(width as u32)
 }
 
 /// Writes the number with leading zeros over the whole buffer, and returns the length of the buffer.
@@ -33,16 +30,19 @@ fn fits_width(number: u64, radix: u32, width: usize) -> bool {
 #[inline]
 pub fn write_padded<T: DigitCount + Radix>(value: T, radix: u32, buffer: &mut [u8]) -> usize {
     let number = value.as_usize() as u64;
-    assert!(fits_width(number, radix, buffer.len()));
     if radix == 10 {
+        assert!(fits_decimal_width(number, buffer.len()));
         write_decimal_block(number, buffer);
         return buffer.len();
     }
-    // The number is 0 here, and its digit does not fit in an empty buffer.
     if buffer.is_empty() {
+        // The digit of 0 does not fit, and no other number is without digits.
+        assert!(number == 0);
         return 0;
     }
-    let zeros = buffer.len() - value.digit_count(radix);
+    let count = value.digit_count(radix);
+    assert!(count <= buffer.len());
+    let zeros = buffer.len() - count;
     write_zeros(&mut buffer[..zeros]);
     zeros + value.radix(radix, &mut buffer[zeros..])
 }

@@ -1,6 +1,6 @@
 -- The loops that divide a number by a power of the radix: their invariant, and the quotients that they record.
 use Rattle.std.proofs.Common.{◌≡◌, ℕ, zero, suc, ◌+◌, ◌*◌, ◌/◌, ◌^◌, ◌<◌, ◌≤◌, List, [], ◌∷◌, ◌++◌, length, refl, sym, ap, ◌∙◌, arith, append_assoc}
-use Rattle.std.proofs.Math.Nat.{pow-zero, div-lt_self, div-one}
+use Rattle.std.proofs.Math.Nat.{pow-zero}
 use Rattle.std.proofs.lemmas.List.{append-nil}
 use Rattle.std.proofs.lemmas.List.FromFn.{map-range_with_len_more, length-map-range_with_len}
 use Rattle.std.proofs.lemmas.Nat.{div-mul-add}
@@ -53,13 +53,7 @@ pub record IsDivided (r n step taken left : ℕ) (before after : List ℕ) : Typ
   pub notes : after ≡ before ++ quotients r n step turns
 
 pub IsDivided-start : {r n step : ℕ} {notes : List ℕ} → IsDivided r n step 0 n notes notes
-IsDivided-start {r} {n} {notes = notes} = record {
-  turns = 0;
-  by_turns = omega arith;
-  rest = rw (pow-zero, div-one) refl;
-  fewer = digit_count-pos r n;
-  notes = rw quotients-none (sym (append-nil notes));
-}
+IsDivided-start {r} {n} {notes = notes} = grind (arith, pow-zero, digit_count-pos, quotients-none, append-nil)
 
 -- if there is a further iteration, more than `step` digits remain
 pub IsDivided-room : {r n step taken left : ℕ} {before after : List ℕ}
@@ -72,15 +66,7 @@ pub IsDivided-more : {r n step taken left next : ℕ} {before between after : Li
     → IsDivided r n step (taken + step) next before after
 IsDivided-more {r} {n} {step} {taken} {next = next} {before} two d long e noted =
     let turn : taken + step ≡ step * (d.turns + 1) = grind (arith, d.by_turns) in
-    let order : step + taken ≡ taken + step = omega arith in
-    let rest : next ≡ n / r ^ (taken + step) = e ∙ ap (λ k. k / r ^ step) d.rest ∙ div-pow_more r n step taken ∙ ap (λ k. n / r ^ k) order in
-    record {
-      turns = d.turns + 1;
-      by_turns = turn;
-      rest = rest;
-      fewer = IsDivided-room two d long;
-      notes = noted ∙ rw (d.notes, quotients-more, ← turn, ← rest) (append_assoc before (quotients r n step d.turns) (next ∷ []));
-    }
+    grind (arith, div-pow_more, IsDivided-room, quotients-more, append_assoc)
 
 -- at the end of the loop
 pub TakesDigits-end : {r n step taken left : ℕ} {before after : List ℕ}
@@ -97,13 +83,10 @@ TakesDigits-none two stepped short = TakesDigits-end two stepped IsDivided-start
 
 -- each quotient is smaller than the one before
 pub left-smaller : {r step left next : ℕ} → 2 ≤ r → IsStep step → r ^ step ≤ left → next ≡ left / r ^ step → next < left
-left-smaller {r} {step} {left} two stepped long e =
-    let large = power-gt_one r step two stepped in
-    omega (arith, div-lt_self {n = left} {k = r ^ step} (omega (arith, large)) large)
+left-smaller {r} {step} {left} two stepped long e = grind (arith, power-gt_one)
 
 -- ---- after the loop
 
 pub TakesDigits-counts : {r n step taken left : ℕ} {before after : List ℕ}
     → 2 ≤ r → TakesDigits r n step taken left before after → digit_count r left + taken ≡ digit_count r n
-TakesDigits-counts {r} {n} {step} {taken} {left} two t =
-    digit_count-left r n taken left two (omega (arith, t.count, digit_count-pos r n)) t.rest
+TakesDigits-counts {r} {n} {step} {taken} {left} two t = grind (arith, digit_count-left, digit_count-pos)

@@ -1,26 +1,20 @@
 -- The quotients that the loops record, and how many of them there are.
-use Rattle.std.proofs.Common.{◌≡◌, ◌≢◌, ℕ, ◌+◌, ◌*◌, ◌/◌, ◌%◌, ◌^◌, ◌<◌, ◌≤◌, Bool, true, false, cond, ltb, eqb, List, []}
-use Rattle.std.proofs.Common.{◌∷◌, ◌++◌, length, refl, sym, ap, ◌∙◌, inl, inr, arith, append_assoc, length-append}
+use Rattle.std.proofs.lemmas.Grind.{common_steps}
+use Rattle.std.proofs.Common.{◌≡◌, ◌≢◌, ℕ, ◌+◌, ◌*◌, ◌/◌, ◌%◌, ◌^◌, ◌<◌, ◌≤◌, true, false, cond, ltb, eqb, List, [], ◌∷◌, ◌++◌, length, refl, sym, ap, ◌∙◌, inl}
+use Rattle.std.proofs.Common.{inr, append_assoc, length-append, arith}
 use Rattle.std.proofs.Math.Nat.{pow-le-pow_left, pow-le-pow_right, div-one}
 use Rattle.std.proofs.lemmas.Nat.{div_below, pow-add}
 use Rattle.std.proofs.lemmas.List.{append-nil}
-use Rattle.std.proofs.lemmas.Bool.{cond_both, ltb-true, ltb-false, eqb-true, eqb-false, or_from, ne_eqb, cases_eq}
+use Rattle.std.proofs.lemmas.Bool.{cond_both, ltb-true, ltb-false, eqb-true, eqb-false, cases_eq}
 use Rattle.lexical_num.specs.BitWidth.{IsBitWidth}
 use Rattle.lexical_write_integer.specs.Digits.DigitCount.{digit_count}
+use Rattle.lexical_write_integer.specs.Digits.LoopTurns.{TakesDigits, digits_after_first, quotients, loop_notes, slow_notes, count_notes, table_notes}
+use Rattle.lexical_write_integer.specs.Digits.LoopTurns.{compact_notes, is_counted_at_once, loop_turns, slow_turns, count_turns, table_turns, compact_turns}
 use Rattle.lexical_write_integer.specs.Digits.LoopTurns.{takes_two}
-use Rattle.lexical_write_integer.specs.Digits.LoopTurns.{TakesDigits, digits_after_first, quotients, loop_notes, slow_notes, count_notes}
-use Rattle.lexical_write_integer.specs.Digits.LoopTurns.{table_notes, compact_notes, is_counted_at_once, loop_turns, slow_turns}
-use Rattle.lexical_write_integer.specs.Digits.LoopTurns.{count_turns, table_turns, compact_turns}
-use Rattle.lexical_write_integer.proofs.OfDigits.Count.DigitCounts.{digit_count-pos, digit_count-le, digit_count-one, digit_count-two}
-use Rattle.lexical_write_integer.proofs.OfDigits.Count.DigitCounts.{digit_count-split, width-le_64}
+use Rattle.lexical_write_integer.proofs.OfDigits.Count.DigitCounts.{digit_count-pos, digit_count-le, digit_count-one, digit_count-two, digit_count-split}
 use Rattle.lexical_write_integer.proofs.OfDigits.Powers.{div-pow_more, pow-one}
 use Rattle.lexical_write_integer.proofs.OfDigits.Count.RadixPowers.{power-gt_one}
-use Rattle.lexical_write_integer.proofs.OfDigits.Radix.Loops.Divisions.{TakesDigits-counts}
-use Rattle.lexical_write_integer.proofs.OfDigits.Radix.Loops.Divisions.{quotients-none, quotients-more, quotients-first, length-quotients}
-
-length-cond : (test : Bool) (xs ys : List ℕ) → length (cond test xs ys) ≡ cond test (length xs) (length ys)
-length-cond true xs ys = refl
-length-cond false xs ys = refl
+use Rattle.lexical_write_integer.proofs.OfDigits.Radix.Loops.Divisions.{quotients-none, quotients-more, quotients-first, length-quotients, TakesDigits-counts}
 
 quotients-one : (r n step : ℕ) → quotients r n step 1 ≡ n / r ^ step ∷ []
 quotients-one r n step =
@@ -90,7 +84,7 @@ slow_notes-are {r} {n} {a = a} two t u v =
 
 -- ---- a number of up to four digits
 
-loop_notes-short : (r n : ℕ) → 2 ≤ r → n < r ^ 2 → loop_notes r n ≡ []
+pub loop_notes-short : (r n : ℕ) → 2 ≤ r → n < r ^ 2 → loop_notes r n ≡ []
 unfolding loop_notes quotients
 loop_notes-short r n two short = grind (arith, digit_count-le, cases_eq, digit_count-pos)
 
@@ -103,11 +97,7 @@ pub loop_notes-pair : (r n : ℕ) → 2 ≤ r → r ^ 2 ≤ n → n < r ^ 4 → 
 unfolding loop_notes quotients
 loop_notes-pair r n two long short =
     let split = digit_count-split r 2 n two long in
-    let few = digit_count-le r n 4 (omega arith) short in
-    elim (cases_eq (digit_count r n) 3) [
-      | inl three ↦ rw three refl
-      | inr more ↦ let four : digit_count r n ≡ 4 = omega (arith, split, digit_count-pos r (n / r ^ 2)) in rw four refl
-    ]
+    grind (arith, digit_count-le, digit_count-pos)
 
 pub slow_notes-one : (r n : ℕ) → 2 ≤ r → n < r → slow_notes r n ≡ []
 unfolding slow_notes
@@ -124,15 +114,7 @@ unfolding slow_notes
 slow_notes-pair r n two long short =
     let below : n / r ^ 2 < r ^ 2 = div_below n (r ^ 2) (r ^ 2) (omega (arith, power-gt_one r 2 two takes_two)) (rw (pow-add r 2 2) at short) in
     let few = digit_count-le r (n / r ^ 2) 2 (omega arith) below in
-    let split = digit_count-split r 2 n two long in
-    let pair = loop_notes-pair r n two long short in
-    let none = loop_notes-short r (n / r ^ 2) two below in
-    elim (cases_eq (digit_count r (n / r ^ 2)) 1) [
-      | inl one ↦ rw (pair, none, split, one) refl
-      | inr more ↦
-          let both : digit_count r (n / r ^ 2) ≡ 2 = omega (arith, digit_count-pos r (n / r ^ 2)) in
-          rw (pair, none, split, both, div-pow_more) refl
-    ]
+    grind (arith, digit_count-split, loop_notes-pair, loop_notes-short, digit_count-pos, div-pow_more)
 
 -- ---- a number of more than four digits: its first quotient, and then what is recorded for that quotient
 
@@ -169,9 +151,7 @@ unfolding count_notes
 slow_noted r n a b by_turns noted = rw by_turns noted
 
 pub not_at_once : (r : ℕ) → r ≢ 2 → r ≢ 4 → r ≢ 8 → r ≢ 10 → r ≢ 16 → r ≢ 32 → is_counted_at_once r ≡ false
-not_at_once r p2 p4 p8 p10 p16 p32 =
-    or_from _ _ (ne_eqb r 2 p2)
-    (or_from _ _ (ne_eqb r 4 p4) (or_from _ _ (ne_eqb r 8 p8) (or_from _ _ (ne_eqb r 10 p10) (or_from _ _ (ne_eqb r 16 p16) (ne_eqb r 32 p32)))))
+not_at_once r p2 p4 p8 p10 p16 p32 = grind arith
 
 -- ---- the table writer
 
@@ -186,13 +166,11 @@ after_first a b c q notes noted following = rw (following, noted) (append_assoc 
 
 pub loop_notes-after : (r n : ℕ) (a b c : List ℕ)
     → 2 ≤ r → r ^ 4 ≤ n → b ≡ a ++ n / r ^ 4 ∷ [] → c ≡ b ++ loop_notes r (n / r ^ 4) → c ≡ a ++ loop_notes r n
-loop_notes-after r n a b c two long noted following =
-    rw (loop_notes-first r n two long) (after_first a b c (n / r ^ 4) (loop_notes r (n / r ^ 4)) noted following)
+loop_notes-after r n a b c two long noted following = grind (arith, loop_notes-first, after_first)
 
 pub slow_notes-after : (r n : ℕ) (a b c : List ℕ)
     → 2 ≤ r → r ^ 4 ≤ n → b ≡ a ++ n / r ^ 4 ∷ [] → c ≡ b ++ slow_notes r (n / r ^ 4) → c ≡ a ++ slow_notes r n
-slow_notes-after r n a b c two long noted following =
-    rw (slow_notes-first r n two long) (after_first a b c (n / r ^ 4) (slow_notes r (n / r ^ 4)) noted following)
+slow_notes-after r n a b c two long noted following = grind (arith, slow_notes-first, after_first)
 
 -- ---- how many quotients are recorded
 
@@ -202,28 +180,19 @@ length-more a b notes more noted count = ap length noted ∙ length-append a not
 
 pub length-loop_notes : (r n : ℕ) → length (loop_notes r n) ≡ loop_turns (digit_count r n)
 unfolding loop_notes
-length-loop_notes r n =
-    let b = digits_after_first r n in
-    length-more (quotients r n 4 (b / 4)) (loop_notes r n) (cond (ltb (b % 4) 2) [] (n / r ^ (4 * (b / 4) + 2) ∷ []))
-    (cond (ltb (b % 4) 2) 0 1) refl (length-cond (ltb (b % 4) 2) [] _)
-    ∙ ap (λ k. k + cond (ltb (b % 4) 2) 0 1) (length-quotients r n 4 (b / 4))
+length-loop_notes r n = grind (arith, common_steps, length-quotients)
 
 pub length-slow_notes : (r n : ℕ) → length (slow_notes r n) ≡ slow_turns (digit_count r n)
 unfolding slow_notes
-length-slow_notes r n =
-    let even = eqb (digit_count r n % 2) 0 in
-    length-more (loop_notes r n) (slow_notes r n) (cond even (n / r ^ digits_after_first r n ∷ []) []) (cond even 1 0) refl (length-cond even _ [])
-    ∙ ap (λ k. k + cond even 1 0) (length-loop_notes r n)
+length-slow_notes r n = grind (arith, common_steps, length-loop_notes)
 
 pub length-count_notes : (r n : ℕ) → length (count_notes r n) ≡ count_turns r (digit_count r n)
 unfolding count_notes
-length-count_notes r n =
-    length-cond (is_counted_at_once r) [] (slow_notes r n) ∙ ap (λ k. cond (is_counted_at_once r) 0 k) (length-slow_notes r n)
+length-count_notes r n = grind (arith, length-slow_notes)
 
 pub length-table_notes : (r n : ℕ) → length (table_notes r n) ≡ table_turns r (digit_count r n)
 unfolding table_notes
-length-table_notes r n =
-    omega (arith, length-append (count_notes r n) (loop_notes r n), length-count_notes r n, length-loop_notes r n)
+length-table_notes r n = grind (arith, length-append, length-count_notes, length-loop_notes)
 
 pub length-compact_notes : (r n : ℕ) → length (compact_notes r n) ≡ compact_turns (digit_count r n)
 unfolding compact_notes
@@ -259,6 +228,4 @@ table_turns-are r n digits a b noted count = rw count (length-more a b _ _ noted
 
 pub table_turns-few : (bits r n : ℕ) (a b : List ℕ)
     → 2 ≤ r → IsBitWidth bits → n < 2 ^ bits → b ≡ a ++ table_notes r n → length b ≤ length a + 21
-table_turns-few bits r n a b two width fits noted =
-    let wide = pow-le-pow_right {n = 2} (omega arith) {i = bits} {j = 64} (width-le_64 bits width) in
-    omega (arith, length-more a b _ _ noted (length-table_notes r n), table_turns-le_21 r n two (omega (arith, fits, wide)))
+table_turns-few bits r n a b two width fits noted = grind (arith, length-more, length-table_notes, table_turns-le_21)

@@ -1,5 +1,5 @@
 -- Numbers of one to four digits, which are written without a loop.
-use Rattle.std.proofs.Common.{◌≡◌, ℕ, ◌+◌, ◌*◌, ◌/◌, ◌^◌, ◌<◌, ◌≤◌, List, drop, arith}
+use Rattle.std.proofs.Common.{◌≡◌, ℕ, ◌*◌, ◌/◌, ◌^◌, ◌<◌, ◌≤◌, List, drop, arith}
 use Rattle.std.proofs.Math.Nat.{div-eq_of_lt, pow-le-pow_right}
 use Rattle.std.proofs.lemmas.Bool.{cases_lt}
 use Rattle.std.proofs.lemmas.Nat.{pow-add, le-div}
@@ -19,14 +19,7 @@ quotient-none k n pos none = grind (arith, cases_lt, le-div)
 -- digits that were written before are written over
 pub WritesBlock-over : {r count n : ℕ} {before between after : List ℕ}
     → drop count between ≡ drop count before → WritesBlock r count n 0 between after → WritesBlock r count n 0 before after
-WritesBlock-over {count = count} following b =
-    let none : 0 + count ≡ count = omega arith in
-    record {
-      digits = b.digits;
-      block = b.block;
-      written = rw none (rw (none, following) at b.written);
-      kept = b.kept;
-    }
+WritesBlock-over {count = count} following b = grind arith
 
 pub fits-within : (r n k : ℕ) → 2 ≤ r → digit_count r n ≤ k → n < r ^ k
 fits-within r n k two few =

@@ -16,8 +16,7 @@ returns-in-4-clause-count g c =
     rw c.in-4.is (omega (arith, digit_count-log2 (g.T.UnsignedInteger.magnitude c.args.x) c.fast_log2-in-4.result 2 (omega arith) log2))
 
 pub returns-in-8-clause-count : goal.returns-in-8-clause-count
-returns-in-8-clause-count g c =
-    rw c.in-8.is (sym (digit_count-log2 (g.T.UnsignedInteger.magnitude c.args.x) c.fast_log2-in-8.result 3 (omega arith) c.fast_log2-in-8.ensures.log2))
+returns-in-8-clause-count g c = grind (arith, digit_count-log2)
 
 pub returns-in-16-clause-count : goal.returns-in-16-clause-count
 returns-in-16-clause-count g c =
@@ -32,8 +31,7 @@ pub returns-in-10-clause-some : goal.returns-in-10-clause-some
 returns-in-10-clause-some g c = omega (arith, c.decimal_count.ensures, digit_count-pos 10 (g.T.UnsignedInteger.magnitude c.args.x))
 
 pub returns-in-10-clause-at_most_64 : goal.returns-in-10-clause-at_most_64
-returns-in-10-clause-at_most_64 g c =
-    omega (arith, c.decimal_count.ensures, digit_count-le_64 10 _ _ (omega arith) g.met.T.UnsignedInteger.range.width c.fits_bits.ensures)
+returns-in-10-clause-at_most_64 g c = grind (arith, digit_count-le_64)
 
 pub returns-in_default-clause-notes : goal.returns-in_default-clause-notes
 returns-in_default-clause-notes g c = grind (arith, slow_noted, not_at_once)

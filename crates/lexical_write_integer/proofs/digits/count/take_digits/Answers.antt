@@ -19,14 +19,10 @@ pub divide_and_record-left-requires : goal.divide_and_record-left-requires
 divide_and_record-left-requires g c = omega (arith, c.in-Some.ensures.power, power-gt_one _ _ c.requires.radix.at_least_two c.requires.step)
 
 pub loop-power-smaller : goal.loop-power-smaller
-loop-power-smaller g c =
-    left-smaller c.requires.radix.at_least_two c.requires.step (long g (goal.at.loop-power-smaller g c).In-loop-power)
-    (rw c.in-Some.ensures.power at c.divide_and_record-left.ensures.left)
+loop-power-smaller g c = grind (arith, left-smaller)
 
 pub loop-power-preserved : goal.loop-power-preserved
-loop-power-preserved g c =
-    IsDivided-more c.requires.radix.at_least_two c.loop-power.invariant (long g (goal.at.loop-power-preserved g c).In-loop-power)
-    (rw c.in-Some.ensures.power at c.divide_and_record-left.ensures.left) c.divide_and_record-left.ensures.notes
+loop-power-preserved g c = grind (arith, IsDivided-more)
 
 pub returns : goal.returns
 returns g c =

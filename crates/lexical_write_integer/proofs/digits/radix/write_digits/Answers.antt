@@ -33,4 +33,4 @@ returns g c =
           )
     ] in
     rw (← c.as_usize-number.ensures, c.append.ensures)
-    (record { digits = all.0; noted = table_notes-are r n old turns _ all.1 (ap (λ ys. turns ++ ys) all.2) })
+    (record { digits = all.0; notes = table_notes-are r n old turns _ all.1 (ap (λ ys. turns ++ ys) all.2) })

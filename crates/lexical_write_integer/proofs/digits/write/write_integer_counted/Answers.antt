@@ -12,9 +12,7 @@ write_numeral-requires-clause-width g c = λ _.
     rw c.DECIMAL_WIDTH.ensures (decimal_digits-le width _ _ is c.in_range.ensures.at_least c.in_range.ensures.at_most)
 
 few_in_decimal : (g : _) (c : After-write_numeral g) → c.args.radix ≡ 10 → length c.write_numeral.new.turns ≤ length c.args.turns.now + 9
-few_in_decimal g c is =
-    let few = decimal_digits-le_20 _ _ g.met.T.UnsignedInteger.range.width c.fits_bits.ensures in
-    omega (arith, few, rw is at c.write_numeral.ensures.digits.count, rw is at c.write_numeral.ensures.turns)
+few_in_decimal g c is = grind (arith, decimal_digits-le_20)
 
 pub returns-clause-few_turns : goal.returns-clause-few_turns
 returns-clause-few_turns g c =

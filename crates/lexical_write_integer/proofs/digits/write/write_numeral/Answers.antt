@@ -1,6 +1,5 @@
-use Rattle.std.proofs.Common.{◌+◌, ◌-◌, ◌/◌, cond, length, sym, ap, ◌∙◌, arith}
-use Rattle.std.proofs.lemmas.Bool.{eq-eqb, ne_eqb}
-use Rattle.lexical_write_integer.specs.Digits.LoopTurns.{table_turns}
+use Rattle.std.proofs.Common.{arith}
+use Rattle.std.proofs.lemmas.Bool.{eq-eqb}
 use Rattle.lexical_write_integer.proofs.OfDigits.Count.DigitCounts.{WritesDigits-short}
 use Rattle.lexical_write_integer.proofs.OfDigits.Radix.Loops.Records.{table_turns-are}
 use Rattle.lexical_write_integer.proofs.digits.write.write_numeral.Goals as goal
@@ -10,11 +9,7 @@ returns-then-radix-eq10-clause-short g c =
     WritesDigits-short c.write_decimal.ensures.digits (omega arith) g.met.T.UnsignedInteger.range.width c.fits_bits.ensures
 
 pub returns-else-radix-eq10-clause-turns : goal.returns-else-radix-eq10-clause-turns
-returns-else-radix-eq10-clause-turns g c =
-    let digits = c.radix_counted.result in
-    let other = ne_eqb c.args.radix 10 c.if-radix-eq10.false in
-    let turns = ap (λ test. length c.args.turns.now + cond test ((digits - 1) / 2) (table_turns c.args.radix digits)) other in
-    table_turns-are _ _ _ _ _ c.radix_counted.ensures.noted c.radix_counted.ensures.digits.count ∙ sym turns
+returns-else-radix-eq10-clause-turns g c = grind (arith, table_turns-are)
 
 pub returns-else-radix-eq10-clause-short : goal.returns-else-radix-eq10-clause-short
 returns-else-radix-eq10-clause-short g c =
@@ -22,4 +17,4 @@ returns-else-radix-eq10-clause-short g c =
 
 -- the check finds this proof by itself, but with an answer the refusal of a mistake says what is wrong
 pub returns-then-radix-eq10-clause-notes : goal.returns-then-radix-eq10-clause-notes
-returns-then-radix-eq10-clause-notes g c = rw (eq-eqb c.args.radix 10 c.if-radix-eq10.true) c.write_decimal.ensures.noted
+returns-then-radix-eq10-clause-notes g c = rw (eq-eqb c.args.radix 10 c.if-radix-eq10.true) c.write_decimal.ensures.notes

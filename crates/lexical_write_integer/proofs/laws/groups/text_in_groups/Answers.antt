@@ -1,10 +1,9 @@
+use Rattle.std.proofs.Common.{arith}
 use Rattle.lexical_write_integer.proofs.OfTexts.Grouping.Texts.{IsText-one_group, digit-in_text, mark-in_text}
 use Rattle.lexical_write_integer.proofs.laws.groups.text_in_groups.Goals as goal
 
 pub returns-clause-one_group : goal.returns-clause-one_group
-returns-clause-one_group g c = λ text.
-    let two = c.in_range.ensures.mantissa.at_least_two in
-    IsText-one_group (g.T.LexicalInteger.number c.args.number) c.args.format.now (c.args.size, c.args.mark) text two c.requires
+returns-clause-one_group g c = grind (arith, IsText-one_group)
 
 pub returns-clause-digits : goal.returns-clause-digits
 returns-clause-digits g c = λ text plain is bare right.

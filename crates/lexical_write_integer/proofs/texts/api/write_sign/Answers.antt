@@ -1,6 +1,6 @@
-use Rattle.std.proofs.Common.{arith, true, false, refl}
-use Rattle.std.proofs.lemmas.List.{set-get_or}
+use Rattle.std.proofs.Common.{true, false, refl, arith}
 use Rattle.lexical_write_integer.proofs.OfTexts.Signs.{sign_of-below, sign_of-other, take-minus, take-plus}
+use Rattle.std.proofs.lemmas.List.{set-get_or}
 use Rattle.lexical_write_integer.proofs.texts.api.write_sign.Goals as goal
 use Rattle.lexical_write_integer.proofs.texts.api.write_sign.Goals.{then-is_negative, else-is_negative+then-is_required, else-is_negative+else-is_required}
 

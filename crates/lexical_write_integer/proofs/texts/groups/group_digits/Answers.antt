@@ -1,4 +1,4 @@
-use Rattle.std.proofs.Common.{arith, refl, sym}
+use Rattle.std.proofs.Common.{sym, refl, arith}
 use Rattle.lexical_write_integer.proofs.OfTexts.Grouping.Digits.{length-in_groups_taken}
 use Rattle.lexical_write_integer.proofs.OfTexts.Grouping.Spread.{IsSpread-start, IsSpread-digit, IsSpread-mark, IsSpread-end}
 use Rattle.lexical_write_integer.proofs.texts.groups.group_digits.Goals as goal

@@ -94,11 +94,11 @@ fn count_one_or_two(number: u32, radix: u32) -> usize {
 // Returns how many digits a number of up to four digits has, by division.
 #[inline]
 fn count_up_to_four<const R: u32>(number: u32) -> usize {
-    let left = number / (R * R);
-    if left == 0 {
+    let pair = first_pair::<R>(number);
+    if pair == 0 {
         return count_one_or_two(number, R);
     }
-    2 + count_one_or_two(left, R)
+    2 + count_one_or_two(pair, R)
 }
 
 // Counts the one to four digits of a number by division, and writes them.

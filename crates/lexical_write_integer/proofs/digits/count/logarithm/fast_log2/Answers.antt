@@ -2,7 +2,6 @@ use Rattle.std.proofs.Common.{◌≡◌, ℕ, zero, suc, ◌+◌, ◌*◌, ◌/�
 use native.Mathlib.Numerals.{unary_clauses}
 use Rattle.std.proofs.Math.Nat.{pow-zero, pow-suc, pow-le-pow_right}
 use Rattle.std.proofs.lemmas.Bool.{cases_lt}
-use Rattle.lexical_write_integer.proofs.OfDigits.Count.DigitCounts.{width-some}
 use Rattle.lexical_write_integer.proofs.OfDigits.Count.Logarithms.{IsGreatestPower-between}
 use Rattle.lexical_write_integer.proofs.digits.count.logarithm.fast_log2.Goals as goal
 
@@ -32,17 +31,4 @@ returns-clause-log2 g c =
     }
 
 pub returns-clause-within : goal.returns-clause-within
-returns-clause-within g c =
-    let bits = g.T.LexicalInteger.BITS in
-    let x = g.T.UnsignedInteger.magnitude c.args.x in
-    let k = c.ilog2.result in
-    let low = rw c.as_usize.ensures at c.ilog2.ensures.power_le in
-    elim (cases_lt k bits) [
-      | inl less ↦ less
-      | inr more ↦
-          let power = pow-le-pow_right {n = 2} (omega arith) {i = bits} {j = k} more in
-          elim (cases_lt 0 x) [
-            | inl some ↦ absurd (omega (arith, power, c.fits_bits.ensures, power_below x k some low))
-            | inr none ↦ absurd (omega (arith, power_in_one k (omega (arith, low)), width-some bits g.met.T.UnsignedInteger.range.width))
-          ]
-    ]
+returns-clause-within g c = grind (arith, pow-le-pow_right)

@@ -15,7 +15,5 @@ write_decimal-requires-clause-width g c = rw c.DECIMAL_WIDTH.ensures (within g (
 pub returns-clause-short : goal.returns-clause-short
 returns-clause-short g c = omega (arith, within g (goal.at.returns-clause-short g c).After-in_range, c.write_decimal.ensures.digits.count)
 
-pub returns-clause-few : goal.returns-clause-few
-returns-clause-few g c =
-    let few = decimal_digits-le_20 _ _ g.met.Self.UnsignedInteger.range.width c.fits_bits.ensures in
-    omega (arith, few, c.write_decimal.ensures.digits.count, c.write_decimal.ensures.half)
+pub returns-clause-few_turns : goal.returns-clause-few_turns
+returns-clause-few_turns g c = grind (arith, decimal_digits-le_20)

@@ -4,8 +4,7 @@ use Rattle.lexical_write_integer.proofs.OfDigits.Count.DigitCounts.{signed_below
 use Rattle.lexical_write_integer.proofs.digits.decimal.Decimal.decimal_signed.Goals as goal
 
 pub prove-unreachable-requires : goal.prove-unreachable-requires
-prove-unreachable-requires g c =
-    omega (arith, c.if-prove.true, signed_below _ _ _ g.met.Self.UnsignedInteger.range.width g.met.Self.Decimal.signed_width.needed c.requires.number)
+prove-unreachable-requires g c = grind (arith, signed_below)
 
 pub write_decimal-requires-clause-width : goal.write_decimal-requires-clause-width
 write_decimal-requires-clause-width g c =

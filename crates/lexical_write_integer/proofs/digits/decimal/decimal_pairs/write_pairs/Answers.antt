@@ -46,6 +46,6 @@ returns c =
     let several : 2 ≤ c.loop.count = omega (arith, c.loop.invariant.count, first.ensures.some, c.requires.some) in
     record {
       digits = record { writes = Writes-over-all 2 first.auto.buffer first.ensures.rest several digits.writes; count = digits.count };
-      noted = rw all at c.loop.invariant.notes;
-      half = omega (arith, length-products c.args.fraction c.loop.counter);
+      notes = rw all at c.loop.invariant.notes;
+      turns = omega (arith, length-products c.args.fraction c.loop.counter);
     }

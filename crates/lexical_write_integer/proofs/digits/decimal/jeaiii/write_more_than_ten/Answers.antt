@@ -18,9 +18,9 @@ returns c =
     let long : 10 ^ 10 ≤ n = c.requires.long in
     let front = c.write_32-front.ensures in
     let five_more = ap length c.write_last_ten.ensures.notes ∙ length-append c.write_32-front.new.turns _ in
-    let following = c.write_last_ten.ensures.notes ∙ ap (λ notes. notes ++ pairs_from_back n 5) front.noted in
+    let following = c.write_last_ten.ensures.notes ∙ ap (λ notes. notes ++ pairs_from_back n 5) front.notes in
     record {
       digits = WritesDigits-after n (omega arith) long c.requires.room front.digits c.write_last_ten.ensures.block;
-      noted = rw (le-ltb n (10 ^ 9) (omega arith), le-ltb n (10 ^ 10) long) (rw append_assoc at following);
-      half = omega (arith, five_more, front.half, front.digits.count, digit_count-pos 10 (n / 10 ^ 10));
+      notes = rw (le-ltb n (10 ^ 9) (omega arith), le-ltb n (10 ^ 10) long) (rw append_assoc at following);
+      turns = omega (arith, five_more, front.turns, front.digits.count, digit_count-pos 10 (n / 10 ^ 10));
     }

@@ -1,13 +1,13 @@
+use Rattle.std.proofs.Common.{arith}
 use Rattle.lexical_write_integer.proofs.OfDigits.Count.DigitCounts.{WritesDigits-short}
 use Rattle.lexical_write_integer.proofs.OfDigits.Radix.Loops.Records.{table_turns-are, table_turns-few}
 use Rattle.lexical_write_integer.proofs.digits.radix.algorithm.algorithm_counted.Goals as goal
 
 pub returns-clause-turns : goal.returns-clause-turns
-returns-clause-turns g c = let written = c.write_digits_in.ensures in table_turns-are _ _ _ _ _ written.noted written.digits.count
+returns-clause-turns g c = let written = c.write_digits_in.ensures in table_turns-are _ _ _ _ _ written.notes written.digits.count
 
 pub returns-clause-few_turns : goal.returns-clause-few_turns
-returns-clause-few_turns g c =
-    table_turns-few _ _ _ _ _ c.requires.radix.at_least_two g.met.T.UnsignedInteger.range.width c.fits_bits.ensures c.write_digits_in.ensures.noted
+returns-clause-few_turns g c = grind (arith, table_turns-few)
 
 pub returns-clause-short : goal.returns-clause-short
 returns-clause-short g c =

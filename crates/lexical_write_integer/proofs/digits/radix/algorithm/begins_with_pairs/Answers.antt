@@ -22,8 +22,4 @@ returns-then-table-pair-eq49 c = let is = zero c.args.radix c.args.table.now c.r
 pub returns-else-table-pair-eq49 : goal.returns-else-table-pair-eq49
 returns-else-table-pair-eq49 c =
     let is = one c.args.radix c.args.table.now c.requires.radix c.requires.table in
-    let long = length-table c.args.radix c.args.table.now c.requires.table in
-    elim c.if-table-pair.branch [
-      | then-table-pair w ↦ grind (arith, nat_tests, is, w.value-is)
-      | else-table-pair w ↦ absurd (grind (arith, nat_tests, long))
-    ]
+    grind (arith, length-table)

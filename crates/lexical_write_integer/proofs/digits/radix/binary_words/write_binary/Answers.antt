@@ -3,8 +3,7 @@ use Rattle.std.proofs.Math.Nat.{mod-eq_of_lt}
 use Rattle.lexical_write_integer.specs.Buffer.{WritesBlock}
 use Rattle.lexical_write_integer.specs.Digits.DigitCount.{digit_count}
 use Rattle.lexical_write_integer.specs.Digits.LoopTurns.{loop_notes}
-use Rattle.lexical_write_integer.proofs.Buffers.Blocks.{IsWrittenBack-start, IsWrittenBack-at, IsWrittenBack-left}
-use Rattle.lexical_write_integer.proofs.Buffers.Blocks.{IsWrittenBack-more, IsWrittenBack-last}
+use Rattle.lexical_write_integer.proofs.Buffers.Blocks.{IsWrittenBack-start, IsWrittenBack-at, IsWrittenBack-left, IsWrittenBack-more, IsWrittenBack-last}
 use Rattle.lexical_write_integer.proofs.Buffers.BlocksAfter.{WritesDigits-block}
 use Rattle.lexical_write_integer.proofs.OfDigits.Count.DigitCounts.{digit_count-fits, digit_count-more}
 use Rattle.lexical_write_integer.proofs.OfDigits.Radix.EightBits.{WritesBlock-overlap, shifted-lt}
@@ -71,14 +70,10 @@ rest_short : (left end rest : ℕ) → rest ≡ left / 2 ^ 8 → digit_count 2 l
 rest_short left end rest is counts few = omega (arith, is, fits-within 2 left 16 (omega arith) (omega (arith, counts, few)))
 
 pub overflow_cast-rest : goal.overflow_cast-rest
-overflow_cast-rest c =
-    let at = goal.at.overflow_cast-rest c in
-    omega (arith, rest_short _ _ _ c.remove_eight-rest.ensures.left (count_left at.After-loop-at) c.loop-at-test.false)
+overflow_cast-rest c = grind (arith, rest_short, count_left)
 
 pub record_up_to_eight-requires : goal.record_up_to_eight-requires
-record_up_to_eight-requires c =
-    let at = goal.at.record_up_to_eight-requires c in
-    rest_short _ _ _ c.remove_eight-rest.ensures.left (count_left at.After-loop-at) c.loop-at-test.false
+record_up_to_eight-requires c = grind (arith, rest_short, count_left)
 
 -- with zeros after them
 first_short : (c : After-loop-at) → c.loop-at.left / 2 ^ 8 * 2 ^ (16 - c.loop-at.at) < 2 ^ 8
@@ -87,9 +82,7 @@ first_short c =
     (rw (← count_left c) (digit_count-fits 2 c.loop-at.left (omega arith)))
 
 pub write_eight_bits-requires-2-clause-short : goal.write_eight_bits-requires-2-clause-short
-write_eight_bits-requires-2-clause-short c =
-    let at = goal.at.write_eight_bits-requires-2-clause-short c in
-    rw c.remove_eight-rest.ensures.left (omega (arith, first_short at.After-loop-at))
+write_eight_bits-requires-2-clause-short c = grind (arith, first_short)
 
 pub returns : goal.returns
 returns c =
@@ -110,5 +103,5 @@ returns c =
     record {
       digits = WritesDigits-block {r = 2} (omega arith) (sym is) (omega (arith, is, c.requires.room))
           (rw whole at (IsWrittenBack-last (IsWrittenBack-at place c.loop-at.invariant.written) block));
-      noted = table_notes-are 2 c.args.value old old c.record_up_to_eight.new.turns (none_noted 2 c.args.value old refl) noted;
+      notes = table_notes-are 2 c.args.value old old c.record_up_to_eight.new.turns (none_noted 2 c.args.value old refl) noted;
     }

@@ -1,12 +1,10 @@
+use Rattle.std.proofs.Common.{arith}
 use Rattle.lexical_write_integer.proofs.OfDigits.Count.DigitCounts.{WritesDigits-short}
 use Rattle.lexical_write_integer.proofs.OfDigits.Radix.Loops.Records.{length-more, length-compact_notes}
 use Rattle.lexical_write_integer.proofs.digits.radix.compact.compact_counted.Goals as goal
 
 pub returns-clause-turns : goal.returns-clause-turns
-returns-clause-turns g c =
-    let magnitude = g.T.UnsignedInteger.magnitude c.args.value in
-    let written = rw c.as_usize.ensures at c.write_in-count.ensures in
-    rw written.digits.count (length-more _ _ _ _ (rw written.notes at c.append.ensures) (length-compact_notes c.args.radix magnitude))
+returns-clause-turns g c = grind (arith, length-more, length-compact_notes)
 
 pub returns-clause-short : goal.returns-clause-short
 returns-clause-short g c =

@@ -26,11 +26,7 @@ block : (g : _) (c : In-loop-left g)
 block g c = grind (arith, pow-one, WritesBlock-one, mod-lt, room)
 
 pub loop-left-init : goal.loop-left-init
-loop-left-init g c = record {
-  within = omega arith;
-  written = rw sub_self IsWrittenBack-start;
-  divided = rw sub_self IsDivided-start;
-}
+loop-left-init g c = search (arith, sub_self, IsWrittenBack-start, IsDivided-start)
 
 pub loop-left-preserved : goal.loop-left-preserved
 loop-left-preserved g c =

@@ -1,6 +1,6 @@
+use Rattle.lexical_write_integer.specs.Digits.LoopTurns.{loop_notes}
 use Rattle.std.proofs.Common.{◌≡◌, ◌+◌, ◌/◌, ◌^◌, ◌++◌, ◌∙◌, arith}
 use Rattle.lexical_write_integer.specs.Buffer.{WritesDigits}
-use Rattle.lexical_write_integer.specs.Digits.LoopTurns.{loop_notes}
 use Rattle.lexical_write_integer.proofs.Buffers.BlocksAfter.{WritesDigits-after}
 use Rattle.lexical_write_integer.proofs.OfDigits.Radix.Loops.Records.{slow_notes-after}
 use Rattle.lexical_write_integer.proofs.OfDigits.Radix.Loops.ShortNumbers.{HasEight-of}
@@ -11,8 +11,7 @@ pub remove_four-first-requires-clause-long : goal.remove_four-first-requires-cla
 remove_four-first-requires-clause-long g t c = (HasEight-of c.args.table.is_radix.at_least_two c.requires.long).value
 
 pub remove_four-second-requires-clause-long : goal.remove_four-second-requires-clause-long
-remove_four-second-requires-clause-long g t c =
-    rw c.remove_four-first.ensures.left (HasEight-of c.args.table.is_radix.at_least_two c.requires.long).first
+remove_four-second-requires-clause-long g t c = grind (arith, HasEight-of)
 
 pub returns-clause-digits : goal.returns-clause-digits
 returns-clause-digits g t c =

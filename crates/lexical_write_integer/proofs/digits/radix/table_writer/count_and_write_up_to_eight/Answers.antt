@@ -51,11 +51,9 @@ overflow_cast-last g c =
 
 pub returns-clause-digits : goal.returns-clause-digits
 returns-clause-digits g c =
-    let c' = (goal.at.returns-clause-digits g c).After-remove_four-left in
     let last : c.args.value - c.remove_four-left.result * c.fourth_power-2.result ≡ c.args.value % g.row.R ^ 4 =
     omega (arith, parts g (goal.at.returns-clause-digits g c).After-fourth_power-2) in
-    WritesDigits-after c.args.value c.args.table.is_radix.at_least_two (long g c') c.requires.room
-    (rw c.remove_four-left.ensures.left at c.count_and_write_up_to_four-head.ensures.digits) (rw last at c.write_four.ensures)
+    grind (arith, WritesDigits-after)
 
 pub returns-clause-turns : goal.returns-clause-turns
 returns-clause-turns g c = grind (arith, slow_notes-after, long)

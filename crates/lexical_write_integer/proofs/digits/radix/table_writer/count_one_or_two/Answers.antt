@@ -16,14 +16,10 @@ returns-then-left-eq0-clause-count c =
     (single (goal.at.returns-then-left-eq0-clause-count c).Start c.if-left-eq0.true))
 
 pub returns-then-left-eq0-clause-turns : goal.returns-then-left-eq0-clause-turns
-returns-then-left-eq0-clause-turns c =
-    let short = single (goal.at.returns-then-left-eq0-clause-turns c).Start c.if-left-eq0.true in
-    rw (slow_notes-one c.args.radix c.args.number c.requires.radix.at_least_two short) (sym (append-nil c.args.turns.now))
+returns-then-left-eq0-clause-turns c = grind (arith, slow_notes-one, append-nil)
 
 pub returns-clause-count : goal.returns-clause-count
-returns-clause-count c =
-    let long = quotient-some c.args.radix c.args.number (omega (arith, c.if-left-eq0.false)) in
-    sym (digit_count-two c.args.radix c.args.number c.requires.radix.at_least_two long c.requires.short)
+returns-clause-count c = grind (arith, digit_count-two)
 
 pub returns-clause-turns : goal.returns-clause-turns
 returns-clause-turns c = grind (arith, quotient-some, slow_notes-two)

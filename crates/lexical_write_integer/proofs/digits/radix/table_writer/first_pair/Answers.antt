@@ -1,9 +1,7 @@
 use Rattle.std.proofs.Common.{◌≤◌, ◌^◌, ◌*◌, arith}
-use Rattle.lexical_write_integer.specs.Digits.LoopTurns.{takes_two}
-use Rattle.lexical_write_integer.proofs.OfDigits.Count.RadixPowers.{power-gt_one}
+use Rattle.lexical_write_integer.proofs.OfDigits.Radix.Loops.ShortNumbers.{quotient-some}
 use Rattle.lexical_write_integer.proofs.OfDigits.Powers.{pow-two}
 use Rattle.lexical_write_integer.proofs.OfDigits.Radix.Loops.Records.{loop_notes-none, loop_notes-pair}
-use Rattle.lexical_write_integer.proofs.OfDigits.Radix.Loops.ShortNumbers.{quotient-some, quotient-none}
 use Rattle.lexical_write_integer.proofs.digits.radix.table_writer.first_pair.Goals as goal
 
 -- the quotient is recorded if it is not 0
@@ -16,9 +14,4 @@ returns-then-pair-gt0-clause-notes g c =
     rw (pair, pow-two, ← c.from.ensures) c.tick.ensures
 
 pub returns-else-pair-gt0-clause-notes : goal.returns-else-pair-gt0-clause-notes
-returns-else-pair-gt0-clause-notes g c =
-    let r = g.row.R in
-    let two = c.requires.radix.at_least_two in
-    let some = power-gt_one r 2 two takes_two in
-    loop_notes-none r c.args.number c.args.turns.now two
-    (rw pow-two (quotient-none (r * r) c.args.number (omega (arith, some, pow-two r)) c.if-pair-gt0.false))
+returns-else-pair-gt0-clause-notes g c = grind (arith, loop_notes-none, pow-two)

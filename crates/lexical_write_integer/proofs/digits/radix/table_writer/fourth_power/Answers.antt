@@ -1,5 +1,5 @@
-use Rattle.std.proofs.Common.{sym, arith}
 use Rattle.std.proofs.Math.Nat.{one-le-pow}
+use Rattle.std.proofs.Common.{sym, arith}
 use Rattle.lexical_write_integer.proofs.OfDigits.Powers.{pow-four}
 use Rattle.lexical_write_integer.proofs.digits.radix.table_writer.fourth_power.Goals as goal
 

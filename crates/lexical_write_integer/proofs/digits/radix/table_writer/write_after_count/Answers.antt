@@ -49,8 +49,7 @@ some_left : (g : _) (c : After-loop-at g) → 1 ≤ c.loop-at.at
 some_left g c = omega (arith, count_left g c, digit_count-pos g.row.R c.loop-at.left)
 
 pub overflow_mul-third : goal.overflow_mul-third
-overflow_mul-third g c =
-    omega (arith, third-is c.loop-at.at (some_left g (goal.at.overflow_mul-third g c).After-loop-at) c.loop-at-test.false, c.loop-at-test.false)
+overflow_mul-third g c = grind arith
 
 pub overflow_cast-left : goal.overflow_cast-left
 overflow_cast-left g c =

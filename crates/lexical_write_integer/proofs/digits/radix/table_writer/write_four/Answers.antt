@@ -1,4 +1,4 @@
-use Rattle.std.proofs.Common.{◌*◌, refl, arith}
+use Rattle.std.proofs.Common.{arith}
 use Rattle.std.proofs.lemmas.Nat.{div_below}
 use Rattle.lexical_write_integer.proofs.Buffers.Blocks.{WritesBlock-part}
 use Rattle.lexical_write_integer.proofs.OfDigits.Count.RadixPowers.{power-gt_one}
@@ -10,5 +10,4 @@ pub write-requires-2 : goal.write-requires-2
 write-requires-2 g c = grind (arith, pow-two, power-gt_one, pow-four, div_below)
 
 pub returns : goal.returns
-returns g c =
-    WritesBlock-part c.args.at c.requires.room (WritesBlock-pairs g.row.R c.args.number (g.row.R * g.row.R) refl c.write.ensures c.write-2.ensures)
+returns g c = grind (arith, WritesBlock-part, WritesBlock-pairs)

@@ -32,12 +32,10 @@ bounds-table-first-2 g c =
     omega (arith, first g (goal.at.bounds-table-first-2 g c).Start, length-table g.row.R c.args.table.pairs.now c.args.table.begins)
 
 pub bounds-table-last : goal.bounds-table-last
-bounds-table-last g c =
-    omega (arith, last g (goal.at.bounds-table-last g c).Start, length-table g.row.R c.args.table.pairs.now c.args.table.begins)
+bounds-table-last g c = grind (arith, length-table)
 
 pub bounds-table-last-2 : goal.bounds-table-last-2
-bounds-table-last-2 g c =
-    omega (arith, last g (goal.at.bounds-table-last-2 g c).Start, length-table g.row.R c.args.table.pairs.now c.args.table.begins)
+bounds-table-last-2 g c = grind (arith, length-table)
 
 some_digit : (g : _) (c : Start g) → 1 ≤ c.args.digits
 some_digit g c = omega (arith, c.requires.digits, digit_count-pos g.row.R c.args.number)

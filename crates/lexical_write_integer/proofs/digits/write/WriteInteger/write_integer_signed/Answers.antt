@@ -1,19 +1,11 @@
 use Rattle.std.proofs.Common.{arith}
-use Rattle.std.proofs.lemmas.Bool.Decides.{nat_tests}
 use Rattle.lexical_write_integer.specs.Digits.DigitCount.{digit_count-le}
 use Rattle.lexical_write_integer.proofs.OfDigits.Count.DigitCounts.{signed_below}
 use Rattle.lexical_write_integer.proofs.digits.write.WriteInteger.write_integer_signed.Goals as goal
 use Rattle.lexical_write_integer.proofs.digits.write.WriteInteger.write_integer_signed.Goals.{then-radix-ne10, else-radix-ne10}
 
 pub prove-unreachable-requires : goal.prove-unreachable-requires
-prove-unreachable-requires g c =
-    elim c.if-radix-ne10.branch [
-      | then-radix-ne10 w ↦ grind (arith, nat_tests, w.prove-is, c.if-prove.true)
-      | else-radix-ne10 w ↦
-          let number = c.requires.number w.if-radix-ne10.false in
-          let below = signed_below _ _ _ g.met.Self.UnsignedInteger.range.width g.met.Self.Decimal.signed_width.needed number in
-          grind (arith, nat_tests, w.prove-is, c.if-prove.true, below)
-    ]
+prove-unreachable-requires g c = grind (arith, signed_below)
 
 pub write_numeral-requires-clause-width : goal.write_numeral-requires-clause-width
 write_numeral-requires-clause-width g c = λ is.
