@@ -5,10 +5,13 @@
 
 use crate::packages::{Source, has};
 
-/// A line with one of these words begins what is left out: contracts, laws, functions that only record, types without
-/// data, and what only contracts use.
-const WORDS: &str = "
-    ghost requires ensures tactic DECIMAL Model Trace Turns note_put record_flush record_up_to_eight
+/// A line with one of these words begins what is left out: contracts, types without data, and what only contracts use.
+const WORDS: &str = "ghost requires ensures tactic DECIMAL Model Trace Turns";
+
+/// So does a line that imports, declares or calls one of these functions: laws, and functions that only record. A
+/// variable may have the same name.
+const FUNCTIONS: &str = "
+    note_put record_flush record_up_to_eight
     in_range fits_bits text_is_utf8 rooms_at_most same_rest formatted_room_suffices size_suffices sizes_suffice
     digit_count_is_least digit_count_at_most digit_count_within_bits digits_computed digits_equal_iff different_digits
     equal_digits equal_padded equal_texts padded_order text_computed text_is_ascii text_is_decimal text_length
@@ -24,11 +27,7 @@ const UNKNOWN: &str = "
 
 /// Returns the text without what is left out, laid out as by a person who never wrote that.
 pub(crate) fn without_left_out(text: &str, source: &Source) -> String {
-    let mut text = text.to_owned();
-    for word in WORDS.split_whitespace() {
-        // It is in an import with other names.
-        text = text.replace(&format!(", {word},"), ",").replace(&format!(", {word}}}"), "}");
-    }
+    let text = without_imports(text);
     let lines: Vec<&str> = text.lines().filter(|line| !line.trim_start().starts_with("#[tactic(")).collect();
     let (mut kept, mut rest, mut is_after) = (String::new(), lines.as_slice(), true);
     while let Some(line) = rest.first() {
@@ -45,6 +44,27 @@ pub(crate) fn without_left_out(text: &str, source: &Source) -> String {
         rest = &rest[count.max(1)..];
     }
     kept.trim_end().to_owned() + "\n"
+}
+
+/// Returns the text without the words and the functions that are in an import with other names.
+fn without_imports(text: &str) -> String {
+    let (mut kept, mut is_inside) = (String::with_capacity(text.len()), false);
+    for line in text.lines() {
+        let mut line = line.to_owned();
+        is_inside |= is_import(&line);
+        if is_inside {
+            for word in WORDS.split_whitespace().chain(FUNCTIONS.split_whitespace()) {
+                line = line.replace(&format!(", {word},"), ",").replace(&format!(", {word}}}"), "}");
+            }
+            is_inside = !line.ends_with(';');
+        }
+        kept += &(line + "\n");
+    }
+    kept
+}
+
+fn is_import(code: &str) -> bool {
+    code.trim_start().trim_start_matches("pub ").starts_with("use ")
 }
 
 /// Returns how many of the lines are left out together with the first one, which may be a comment before it.
@@ -67,11 +87,25 @@ fn is_left_out(line: &str, source: &Source) -> bool {
     let code = line.split(['/', '"']).next().unwrap_or_default();
     let is_call = |before: &str| before.ends_with(char::is_alphanumeric) && !before.ends_with("pub");
     let call = code.match_indices('(').map(|(at, _)| &code[..at]).find(|before| is_call(before));
+    let is_function = is_of_function(code, call.map_or(code.len(), str::len));
     let code = call.unwrap_or(code);
     let is_module = |path: &str| code.ends_with(&format!("mod {};", path.rsplit('/').next().unwrap_or_default()));
-    words(code).any(|word| has(WORDS, word))
+    is_function
+        || words(code).any(|word| has(WORDS, word))
         || TEXTS.iter().any(|text| code.contains(text))
         || source.left_out.split_whitespace().any(is_module)
+}
+
+/// Returns whether code imports, declares or calls one of the functions, whose name ends at this index or before it.
+fn is_of_function(code: &str, end: usize) -> bool {
+    let is_end =
+        |rest: &str| is_import(code) || rest.starts_with('(') || rest.trim_start_matches("::").starts_with('<');
+    FUNCTIONS.split_whitespace().any(|name| {
+        code[..end].match_indices(name).any(|(at, _)| {
+            let is_start = !code[..at].ends_with(|c: char| c.is_alphanumeric() || c == '_');
+            is_start && is_end(&code[at + name.len()..])
+        })
+    })
 }
 
 /// Returns the text with one more line. If it is after what is left out, a brace or a `;` ends the line before that,
