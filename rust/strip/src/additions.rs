@@ -52,10 +52,6 @@ fn additions(name: &str, signature: &str, is_shown: bool, file: &str, source: &S
             lines.push("#[must_use]".to_owned());
         }
     }
-    // Without counters these are as the functions without the suffix.
-    if is_shown && name.ends_with("_counted") {
-        lines.push("#[doc(hidden)]".to_owned());
-    }
     if !signature.ends_with(';') {
         let is_listed = |(_, names): &&(_, &str)| has(names, name) || has(names, file);
         lines.push(source.attributes.iter().find(is_listed).map_or("#[inline]", |(attribute, _)| attribute).to_owned());

@@ -6,6 +6,7 @@
 #![forbid(unsafe_code)]
 
 mod additions;
+mod counted;
 mod left_out;
 mod packages;
 mod replaced;
@@ -45,7 +46,8 @@ fn made(top: &Path) -> Result<BTreeMap<PathBuf, String>, String> {
 
 /// Returns what is made of the text of a file of a source, a path in its `src`.
 fn made_text(text: &str, file: &str, source: &Source) -> Result<String, String> {
-    let text = with_sorted_imports(&left_out::without_left_out(&source.replaced(text), source));
+    let text = counted::without_counted(&left_out::without_left_out(&source.replaced(text), source));
+    let text = with_sorted_imports(&text);
     let allowed = "#![allow(unused, clippy::all, reason = \"these are tests of Rattle\")]\n\n";
     match (left_out::unknown(&text), file) {
         (_, "lib.rt") if source.is_test() => Ok(allowed.to_owned() + &text),

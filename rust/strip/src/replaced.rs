@@ -29,6 +29,7 @@ pub(crate) const EVERYWHERE: Replaced = &[
 pub(crate) const WRITE_INTEGER: Replaced = &[
     ("use lexical_tables as", "use crate::tables as"),
     ("unreachable!(\"", "panic!(\""),
+    ("//!\n//! Each `_counted` function writes what the function without that suffix writes.\n", ""),
     // What only contracts use.
     ("::write_decimal;\nuse lexical_num::num::{LexicalInteger, UnsignedInteger};", "::write_decimal;"),
     ("::num::{LexicalInteger, UnsignedInteger};", "::num::UnsignedInteger;"),

@@ -150,7 +150,7 @@ impl LexicalInteger for isize {
 }
 
 /// An unsigned integer type, with the arithmetic that is needed to write digits. The writers of
-/// `write_integer` are generic over it, such as `compact_counted`.
+/// `write_integer` are generic over it, such as `compact`.
 pub trait UnsignedInteger: LexicalInteger {
     /// Returns the number as a value of this type, which it fits.
     ///

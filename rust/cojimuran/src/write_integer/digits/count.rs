@@ -48,14 +48,8 @@ fn take_digits<T: UnsignedInteger>(value: T, radix: u32, step: u32) -> (T, usize
 
 /// Returns how many digits the number has. They are counted by division: four per iteration while more
 /// than four are left, then two, and then one. The radix is from 2 to 36.
-///
-/// # Panics
-///
-/// If the radix is not from 2 to 36.
-#[must_use]
-#[doc(hidden)]
 #[inline]
-pub fn slow_digit_count_counted<T: UnsignedInteger>(x: T, radix: u32) -> usize {
+pub(crate) fn slow_digit_count<T: UnsignedInteger>(x: T, radix: u32) -> usize {
     assert!(is_radix(radix as u64));
     let (left, by_four) = take_digits(x, radix, 4);
     let (left, by_two) = take_digits(left, radix, 2);
@@ -63,7 +57,7 @@ pub fn slow_digit_count_counted<T: UnsignedInteger>(x: T, radix: u32) -> usize {
     1 + by_four + by_two + by_one
 }
 
-// Returns whether `digit_count_counted` counts digits in the radix without division: from the highest set bit or with
+// Returns whether `digit_count` counts digits in the radix without division: from the highest set bit or with
 // a table.
 #[inline]
 pub(crate) fn counts_at_once(radix: u32) -> bool {
@@ -72,14 +66,8 @@ pub(crate) fn counts_at_once(radix: u32) -> bool {
 
 /// Returns how many digits the number has. They are counted from the highest set bit if the radix is a
 /// power of 2, by `decimal_count` in radix 10, and otherwise by division. The radix is from 2 to 36.
-///
-/// # Panics
-///
-/// If the radix is not from 2 to 36.
-#[must_use]
-#[doc(hidden)]
 #[inline(always)]
-pub fn digit_count_counted<T: DecimalCount>(x: T, radix: u32) -> usize {
+pub(crate) fn digit_count<T: DecimalCount>(x: T, radix: u32) -> usize {
     assert!(is_radix(radix as u64));
     match radix {
         2 => fast_log2(x) + 1,
@@ -89,7 +77,7 @@ pub fn digit_count_counted<T: DecimalCount>(x: T, radix: u32) -> usize {
         16 => (fast_log2(x) + 4) / 4,
         32 => fast_log2(x) / 5 + 1,
         10 => x.decimal_count(),
-        _ => slow_digit_count_counted(x, radix),
+        _ => slow_digit_count(x, radix),
     }
 }
 
@@ -101,12 +89,12 @@ pub trait DigitCount: DecimalCount {
     ///
     /// If the radix is not from 2 to 36.
     #[must_use]
-    #[inline]
+    #[inline(always)]
     fn digit_count(self, radix: u32) -> usize {
-        digit_count_counted(self, radix)
+        digit_count(self, radix)
     }
 
-    /// Returns how many digits the number has, as `digit_count` does. `slow_digit_count_counted`, which it calls,
+    /// Returns how many digits the number has, as `digit_count` does. `slow_digit_count`, which it calls,
     /// says how they are counted. The radix is from 2 to 36.
     ///
     /// # Panics
@@ -115,7 +103,7 @@ pub trait DigitCount: DecimalCount {
     #[must_use]
     #[inline]
     fn slow_digit_count(self, radix: u32) -> usize {
-        slow_digit_count_counted(self, radix)
+        slow_digit_count(self, radix)
     }
 }
 

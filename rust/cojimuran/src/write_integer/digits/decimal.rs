@@ -24,7 +24,7 @@ pub trait Decimal: DecimalCount {
     /// If the buffer is too short, except perhaps when the text fits.
     #[inline(always)]
     fn decimal(self, buffer: &mut [u8]) -> usize {
-        self.decimal_counted(buffer)
+        write_decimal(self, Self::DECIMAL_WIDTH, buffer)
     }
 
     /// Writes the digits of the number to the start of the buffer, and returns how many there are. The
@@ -40,17 +40,6 @@ pub trait Decimal: DecimalCount {
         let number = self.as_usize() as u64;
         assert!(number < 10_000_000_000_000_000_000);
         write_decimal(self, Self::SIGNED_WIDTH, buffer)
-    }
-
-    /// Writes the digits as `decimal` does, under the same condition.
-    ///
-    /// # Panics
-    ///
-    /// If the buffer is too short, except perhaps when the text fits.
-    #[doc(hidden)]
-    #[inline(always)]
-    fn decimal_counted(self, buffer: &mut [u8]) -> usize {
-        write_decimal(self, Self::DECIMAL_WIDTH, buffer)
     }
 }
 

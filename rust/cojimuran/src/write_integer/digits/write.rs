@@ -28,14 +28,8 @@ fn write_numeral<T: UnsignedInteger>(
 
 /// Writes the digits of the number to the start of the buffer, and returns how many there are. The radix is
 /// from 2 to 36. The buffer has room for `DECIMAL_WIDTH` bytes in radix 10, and for the digits in another radix.
-///
-/// # Panics
-///
-/// If the radix is not from 2 to 36,
-/// or if the buffer is too short, except perhaps when the text fits.
-#[doc(hidden)]
 #[inline(always)]
-pub fn write_integer_counted<T: Decimal + DigitCount>(
+pub(crate) fn write_integer<T: Decimal + DigitCount>(
     value: T,
     radix: u32,
     buffer: &mut [u8],
@@ -58,7 +52,7 @@ pub trait WriteInteger: Decimal + Radix {
     /// or if the buffer is too short, except perhaps when the text fits.
     #[inline(always)]
     fn write_integer(self, radix: u32, buffer: &mut [u8]) -> usize {
-        write_integer_counted(self, radix, buffer)
+        write_integer(self, radix, buffer)
     }
 
     /// Writes the digits of the magnitude of a signed number, without its sign, in a radix from 2 to 36.

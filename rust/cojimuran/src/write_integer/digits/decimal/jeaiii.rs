@@ -5,8 +5,6 @@
 //! digits, so no digit needs a division. The algorithm is James Anhalt's jeaiii
 //! (<https://github.com/jeaiii/itoa>); Lemire, Kaser and Kurz, "Faster Remainder by Direct Computation"
 //! (2019), describe how digits are obtained from the fraction of a product with a reciprocal.
-//!
-//! Each `_counted` function writes what the function without that suffix writes.
 
 use super::decimal_pairs::{write_last_ten, write_one_or_two, write_pairs};
 pub use super::kernels::{
@@ -88,7 +86,7 @@ pub(crate) fn write_decimal<T: UnsignedInteger>(
 /// If the buffer is too short, except perhaps when the text fits.
 #[inline(always)]
 pub fn from_u8(n: u8, buffer: &mut [u8]) -> usize {
-    from_u8_counted(n, buffer)
+    write_32(u32::from(n), buffer)
 }
 
 /// Writes the digits of a number to the start of the buffer, and returns how many there are. The buffer has
@@ -99,7 +97,7 @@ pub fn from_u8(n: u8, buffer: &mut [u8]) -> usize {
 /// If the buffer is too short, except perhaps when the text fits.
 #[inline(always)]
 pub fn from_u16(n: u16, buffer: &mut [u8]) -> usize {
-    from_u16_counted(n, buffer)
+    write_32(u32::from(n), buffer)
 }
 
 /// Writes the digits of a number to the start of the buffer, and returns how many there are. The buffer has
@@ -110,7 +108,7 @@ pub fn from_u16(n: u16, buffer: &mut [u8]) -> usize {
 /// If the buffer is too short, except perhaps when the text fits.
 #[inline(always)]
 pub fn from_u32(n: u32, buffer: &mut [u8]) -> usize {
-    from_u32_counted(n, buffer)
+    write_32(n, buffer)
 }
 
 /// Writes the digits of a number to the start of the buffer, and returns how many there are. The buffer has
@@ -121,7 +119,7 @@ pub fn from_u32(n: u32, buffer: &mut [u8]) -> usize {
 /// If the buffer is too short, except perhaps when the text fits.
 #[inline(always)]
 pub fn from_u64(n: u64, buffer: &mut [u8]) -> usize {
-    from_u64_counted(n, buffer)
+    write_64(n, buffer)
 }
 
 /// Writes the digits of a number to the start of the buffer, and returns how many there are. The number is
@@ -133,61 +131,6 @@ pub fn from_u64(n: u64, buffer: &mut [u8]) -> usize {
 /// or if the buffer is too short, except perhaps when the text fits.
 #[inline(always)]
 pub fn from_i64(n: u64, buffer: &mut [u8]) -> usize {
-    from_i64_counted(n, buffer)
-}
-
-/// Writes the digits as `from_u8` does, under the same condition.
-///
-/// # Panics
-///
-/// If the buffer is too short, except perhaps when the text fits.
-#[doc(hidden)]
-#[inline(always)]
-pub fn from_u8_counted(n: u8, buffer: &mut [u8]) -> usize {
-    write_32(u32::from(n), buffer)
-}
-
-/// Writes the digits as `from_u16` does, under the same condition.
-///
-/// # Panics
-///
-/// If the buffer is too short, except perhaps when the text fits.
-#[doc(hidden)]
-#[inline(always)]
-pub fn from_u16_counted(n: u16, buffer: &mut [u8]) -> usize {
-    write_32(u32::from(n), buffer)
-}
-
-/// Writes the digits as `from_u32` does, under the same condition.
-///
-/// # Panics
-///
-/// If the buffer is too short, except perhaps when the text fits.
-#[doc(hidden)]
-#[inline(always)]
-pub fn from_u32_counted(n: u32, buffer: &mut [u8]) -> usize {
-    write_32(n, buffer)
-}
-
-/// Writes the digits as `from_u64` does, under the same condition.
-///
-/// # Panics
-///
-/// If the buffer is too short, except perhaps when the text fits.
-#[doc(hidden)]
-#[inline(always)]
-pub fn from_u64_counted(n: u64, buffer: &mut [u8]) -> usize {
-    write_64(n, buffer)
-}
-
-/// Writes the digits as `from_i64` does, under the same conditions.
-///
-/// # Panics
-///
-/// If the buffer is too short, except perhaps when the text fits.
-#[doc(hidden)]
-#[inline(always)]
-pub fn from_i64_counted(n: u64, buffer: &mut [u8]) -> usize {
     assert!(n < 10_000_000_000_000_000_000);
     write_64(n, buffer)
 }

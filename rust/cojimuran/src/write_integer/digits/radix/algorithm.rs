@@ -29,25 +29,6 @@ fn begins_with_pairs(radix: u32, table: &[u8]) -> bool {
 }
 
 /// Writes the digits of the number to the start of the buffer, and returns how many there are. The radix is
-/// from 2 to 36, the table begins with the digit pairs of the radix, and the buffer has room for the digits.
-///
-/// # Panics
-///
-/// If the radix is not from 2 to 36,
-/// or if the buffer is too short, except perhaps when the text fits.
-#[doc(hidden)]
-#[inline]
-pub fn algorithm_counted<T: DigitCount>(
-    value: T,
-    radix: u32,
-    table: &[u8],
-    buffer: &mut [u8],
-) -> usize {
-    assert!(begins_with_pairs(radix, table));
-    write_digits_in(value, radix, table, buffer)
-}
-
-/// Writes the digits of the number to the start of the buffer, and returns how many there are. The radix is
 /// from 2 to 36, the table begins with the digit pairs of the radix, and the buffer has room for the
 /// digits.
 ///
@@ -58,5 +39,6 @@ pub fn algorithm_counted<T: DigitCount>(
 /// or if the buffer is too short, except perhaps when the text fits.
 #[inline]
 pub fn algorithm<T: DigitCount>(value: T, radix: u32, table: &[u8], buffer: &mut [u8]) -> usize {
-    algorithm_counted(value, radix, table, buffer)
+    assert!(begins_with_pairs(radix, table));
+    write_digits_in(value, radix, table, buffer)
 }

@@ -3,7 +3,7 @@
 // Writing binary digits, eight at a time, as the bytes of a word.
 
 use super::table_writer::remove_four;
-use crate::write_integer::digits::count::digit_count_counted;
+use crate::write_integer::digits::count::digit_count;
 
 // Writes the eight binary digits of a number below 256 at index `at`. Each byte of the product is the number, of which
 // the mask keeps another bit. The sum carries a bit that is set to bit 7 of its byte, and no further.
@@ -26,7 +26,7 @@ fn remove_eight(value: u64) -> u64 {
 // those, the first are written with zeros after them, eight characters in total, and then the last eight.
 #[inline]
 pub(super) fn write_binary(value: u64, buffer: &mut [u8]) -> usize {
-    let count = digit_count_counted(value, 2);
+    let count = digit_count(value, 2);
     let mut left = value;
     let mut at = count;
     while at > 16 {

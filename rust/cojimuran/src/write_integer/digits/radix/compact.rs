@@ -57,14 +57,8 @@ fn write_in(value: u64, radix: u32, buffer: &mut [u8]) -> usize {
 
 /// Writes the digits of the number to the start of the buffer, and returns how many there are. The radix is
 /// from 2 to 36, and the buffer has room for the digits. There is one division for each digit after the first.
-///
-/// # Panics
-///
-/// If the radix is not from 2 to 36,
-/// or if the buffer is too short, except perhaps when the text fits.
-#[doc(hidden)]
 #[inline]
-pub fn compact_counted<T: UnsignedInteger>(value: T, radix: u32, buffer: &mut [u8]) -> usize {
+pub(crate) fn compact<T: UnsignedInteger>(value: T, radix: u32, buffer: &mut [u8]) -> usize {
     write_in(value.as_usize() as u64, radix, buffer)
 }
 
@@ -79,7 +73,7 @@ pub trait Compact: UnsignedInteger + FormattedSize {
     /// or if the buffer is too short, except perhaps when the text fits.
     #[inline]
     fn compact(self, radix: u32, buffer: &mut [u8]) -> usize {
-        compact_counted(self, radix, buffer)
+        compact(self, radix, buffer)
     }
 }
 

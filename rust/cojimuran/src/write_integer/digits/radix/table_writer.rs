@@ -2,7 +2,7 @@
 
 // Writing the digits of a number, four at a time, from a table of the digit pairs of the radix.
 
-use crate::write_integer::digits::count::digit_count_counted;
+use crate::write_integer::digits::count::digit_count;
 use crate::write_integer::digits::pairs::RadixTable;
 
 // Returns the fourth power of the radix: the divisor that removes four digits.
@@ -67,7 +67,7 @@ pub(super) fn write_after_count<const R: u32>(
     table: RadixTable<'_, R>,
     buffer: &mut [u8],
 ) -> usize {
-    let count = digit_count_counted(value, R);
+    let count = digit_count(value, R);
     let mut left = value;
     let mut at = count;
     while at > 4 {

@@ -1,0 +1,46 @@
+//! Some functions are there twice: `NAME_counted` has a counter, which is left out, and `NAME` calls it. Of each two one is
+//! made.
+
+/// Functions with a counter that others than theirs call too. In the package they are named without the ending.
+const SHARED: [&str; 4] = ["slow_digit_count", "digit_count", "write_integer", "compact"];
+
+/// Returns the text with one function for each two.
+pub(crate) fn without_counted(text: &str) -> String {
+    let mut lines: Vec<&str> = text.lines().collect();
+    while let Some(joined) = with_one_less(&lines) {
+        lines = joined;
+    }
+    let mut text = lines.join("\n") + "\n";
+    for name in SHARED {
+        text = text.replace(&format!("pub fn {name}_counted"), &format!("pub(crate) fn {name}"));
+        text = text.replace(&format!("{name}_counted"), name);
+    }
+    text
+}
+
+/// Returns the lines with the body of a function with a counter in place of the call of it, or `None` if no function with
+/// the same parameters only calls it.
+fn with_one_less<'a>(lines: &[&'a str]) -> Option<Vec<&'a str>> {
+    let is_of = |line: &str, name: &str| line.contains(&format!("fn {name}(")) || line.contains(&format!("fn {name}<"));
+    let callee = |at: usize| {
+        let (name, arguments) = lines[at].trim().trim_start_matches("self.").split_once("_counted(")?;
+        let caller = lines[..at].iter().rfind(|line| line.contains("fn "))?;
+        let is_only = lines[at + 1].trim() == "}" && is_of(caller, name) && !arguments.contains("self");
+        is_only.then(|| lines.iter().position(|line| is_of(line, &format!("{name}_counted"))))?
+    };
+    let (call, callee) = (0..lines.len()).find_map(|at| Some((at, callee(at)?)))?;
+    let is_before = |line: &&&str| line.trim_start().starts_with("//") || line.trim_start().starts_with("#[");
+    let start = callee - lines[..callee].iter().rev().take_while(is_before).count() - 1;
+    let body = callee + lines[callee..].iter().position(|line| line.ends_with('{'))? + 1;
+    let indent = &lines[callee][..lines[callee].len() - lines[callee].trim_start().len()];
+    let end = body + lines[body..].iter().position(|line| line.strip_prefix(indent) == Some("}"))?;
+    let mut joined = Vec::new();
+    for (at, line) in lines.iter().enumerate() {
+        match at {
+            _ if (start..=end).contains(&at) => {}
+            _ if at == call => joined.extend(&lines[body..end]),
+            _ => joined.push(*line),
+        }
+    }
+    Some(joined)
+}
