@@ -6,7 +6,7 @@ use std::fmt;
 pub type Result<T> = std::result::Result<T, Error>;
 
 /// The first part of a format that is invalid, with the invalid byte.
-#[derive(Debug, Drop)]
+#[derive(Clone, Copy, PartialEq, Eq, Debug, Drop)]
 pub enum Error {
     /// The mantissa radix is below 2 or above 36.
     InvalidMantissaRadix(u8),

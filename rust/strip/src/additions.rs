@@ -43,7 +43,7 @@ fn additions(name: &str, signature: &str, is_shown: bool, file: &str, source: &S
     let (parameters, result) = signature.trim_end_matches(';').rsplit_once(") -> ").unwrap_or((signature, ""));
     let mut lines = Vec::new();
     if is_shown && source.library() == "crate" {
-        let panics = panics(name, parameters, result, source);
+        let panics = panics(name, parameters, result, file, source);
         if !panics.is_empty() {
             lines.push(format!("///\n/// # Panics\n///\n/// If {}.", panics.join(",\n/// or if ")));
         }
@@ -60,8 +60,9 @@ fn additions(name: &str, signature: &str, is_shown: bool, file: &str, source: &S
 }
 
 /// Returns the conditions under which a function panics.
-fn panics(name: &str, parameters: &str, result: &str, source: &Source) -> Vec<&'static str> {
-    let listed = source.panics.iter().filter(|(_, names)| has(names, name)).map(|(panics, _)| *panics);
+fn panics(name: &str, parameters: &str, result: &str, file: &str, source: &Source) -> Vec<&'static str> {
+    let is_listed = |names: &str| has(names, name) || has(names, &format!("{file}:{name}"));
+    let listed = source.panics.iter().filter(|(_, names)| is_listed(names)).map(|(panics, _)| *panics);
     let is_radix = parameters.contains("radix: u32").then_some("the radix is not from 2 to 36");
     let is_writer = parameters.contains("mut [u8]") && ["usize", "&mut [u8]", "&'a mut [u8]", "&str"].contains(&result);
     let is_short = is_writer.then_some("the buffer is too short, except perhaps when the text fits");

@@ -18,7 +18,8 @@ pub(crate) struct Source {
     pub attributes: Listed,
     /// The names of public functions that are `const fn`.
     pub constant: &'static str,
-    /// When public functions panic whose condition is neither on a radix nor on a buffer, and their names.
+    /// When public functions panic whose condition is neither on a radix nor on a buffer, and their names, or
+    /// `FILE:NAME` if functions of other files have the same name.
     pub panics: Listed,
     /// The modules of which nothing is made, as paths in `src`: only proofs need them, or only Rattle has them.
     pub left_out: &'static str,
@@ -81,7 +82,9 @@ impl Source {
         let names = listed.chain([self.constant, self.left_out]).flat_map(str::split_whitespace);
         // The rules for tests are one list for all of them.
         let replaced = self.replaced.iter().filter(|_| !self.is_test()).map(|(from, _)| *from);
-        names.chain(replaced).find(|name| !files.contains(name))
+        names.chain(replaced).find(|name| {
+            !name.split_once(".rt:").map_or(vec![*name], |(a, b)| vec![a, b]).iter().all(|part| files.contains(part))
+        })
     }
 }
 
@@ -112,8 +115,10 @@ pub(crate) const SOURCES: &[Source] = &[
             build_unchecked buffer_size_const builder rebuild",
         panics: &[
             ("the number is 2^32 or above", "as_u32"),
-            ("a part is invalid: then `build` returns an error", "build_strict"),
-            ("the radix is not from 2 to 36", "from_radix"),
+            ("a part is invalid: then `build` returns an error", "format_builder.rt:build_strict"),
+            ("the radix is not from 2 to 36", "format_builder.rt:from_radix"),
+            ("the digit is 36 or above", "digit_to_char"),
+            ("`by` is 0", "div_rem"),
             ("the type does not have the number", "from_u32"),
         ],
         left_out: "ghost_log",

@@ -11,6 +11,7 @@ pub(crate) const EVERYWHERE: Replaced = &[
     // A function that is final for the prover.
     ("final fn", "fn"),
     // In Rattle a type says that it can be dropped.
+    ("#[derive(Drop)]\npub struct", "#[derive(Debug)]\npub struct"),
     ("#[derive(Drop)]\n", ""),
     (", Drop)]", ")]"),
     (" + Drop", ""),

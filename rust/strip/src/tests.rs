@@ -47,5 +47,5 @@ fn rust_stays() {
 
 #[test]
 fn names_of_a_list_that_a_crate_does_not_have() {
-    assert_eq!(SOURCES[0].missing("as_u32"), Some("build_strict"));
+    assert_eq!(SOURCES[0].missing("as_u32"), Some("format_builder.rt:build_strict"));
 }

@@ -7,6 +7,10 @@ const CHARACTERS: [u8; 36] = *b"0123456789ABCDEFGHIJKLMNOPQRSTUVWXYZ";
 
 /// Returns the character of a digit: `0` to `9` for a digit below ten, and `A` to `Z` otherwise. The
 /// digit is below 36.
+///
+/// # Panics
+///
+/// If the digit is 36 or above.
 #[must_use]
 #[inline]
 pub const fn digit_to_char(digit: u32) -> u8 {

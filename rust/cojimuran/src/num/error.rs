@@ -8,7 +8,7 @@ use core::fmt;
 pub type Result<T> = core::result::Result<T, Error>;
 
 /// The first part of a format that is invalid, with the invalid byte.
-#[derive(Debug)]
+#[derive(Clone, Copy, PartialEq, Eq, Debug)]
 pub enum Error {
     /// The mantissa radix is below 2 or above 36.
     InvalidMantissaRadix(u8),

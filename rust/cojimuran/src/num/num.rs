@@ -178,6 +178,10 @@ pub trait UnsignedInteger: LexicalInteger {
     fn as_usize(self) -> usize;
 
     /// Returns the quotient and the remainder of the division by `by`, which is not 0.
+    ///
+    /// # Panics
+    ///
+    /// If `by` is 0.
     #[must_use]
     fn div_rem(self, by: Self) -> (Self, Self);
 

@@ -35,10 +35,6 @@ impl Options {
     }
 
     /// Returns the options, which do not depend on the radix.
-    ///
-    /// # Panics
-    ///
-    /// If the radix is not from 2 to 36.
     #[must_use]
     #[inline]
     pub const fn from_radix(_radix: u8) -> Self {
@@ -124,10 +120,6 @@ impl OptionsBuilder {
     }
 
     /// Returns the options.
-    ///
-    /// # Panics
-    ///
-    /// If a part is invalid: then `build` returns an error.
     #[must_use]
     #[inline]
     pub const fn build_strict(&self) -> Options {

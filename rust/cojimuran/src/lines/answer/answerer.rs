@@ -16,6 +16,7 @@ const NEWLINE: u8 = b'\n';
 ///
 /// An answerer keeps the line that has not ended yet, the number of that line, and whether all lines
 /// before it are valid. It must not be used again after an error.
+#[derive(Debug)]
 pub struct Answerer {
     line: Line,
     line_number: u64,

@@ -11,6 +11,7 @@ use std::io;
 /// Each byte is written once and in order, even if an earlier write returned an error. After a flush
 /// that succeeds, the block is empty, and the sink is flushed too. The bytes in the block are lost if the
 /// value is dropped, so call `flush` last. The block is part of the value: no memory is allocated.
+#[derive(Debug)]
 pub struct BlockWriter<K: BlockSink, const SIZE: usize> {
     sink: K,
     // The bytes before `end` were taken but are not yet written.

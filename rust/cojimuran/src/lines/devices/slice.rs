@@ -8,6 +8,7 @@ use crate::lines::devices::source::ByteSource;
 use std::io;
 
 /// A source that yields the bytes of a slice and then the end. It never fails.
+#[derive(Debug)]
 pub struct SliceSource<'a> {
     bytes: &'a [u8],
     position: usize,
@@ -43,6 +44,7 @@ impl ByteSource for SliceSource<'_> {
 }
 
 /// A sink that fills a buffer from its start. It fails if the buffer is full.
+#[derive(Debug)]
 pub struct SliceSink<'a> {
     buffer: &'a mut [u8],
     count: usize,

@@ -11,6 +11,7 @@ use std::io::{Read, Write};
 const LONGEST: u64 = 9_223_372_036_854_775_807;
 
 /// A source that yields the bytes of a reader, up to a limit.
+#[derive(Debug)]
 pub struct Reading<R> {
     reader: R,
     left: u64,
@@ -72,6 +73,7 @@ impl<R: Read> BlockSource for Reading<R> {
 }
 
 /// A sink that writes to a writer.
+#[derive(Debug)]
 pub struct Writing<W> {
     writer: W,
 }

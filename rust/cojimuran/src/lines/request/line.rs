@@ -6,6 +6,7 @@
 pub const MAX_LENGTH: usize = 64;
 
 /// A line of at most `MAX_LENGTH` bytes, or a line that is too long, whose bytes are not kept.
+#[derive(Debug)]
 pub struct Line {
     bytes: [u8; MAX_LENGTH],
     // The length of the line, or 65 if the line is too long.

@@ -10,6 +10,7 @@ use std::io::{ErrorKind, Read, Write};
 pub const NEVER: usize = usize::MAX;
 
 /// A reader that yields the bytes of a slice. One of its calls may fail, and the next one continues.
+#[derive(Debug)]
 pub struct Giver<'a> {
     bytes: &'a [u8],
     // The largest number of bytes that a call yields.
@@ -53,6 +54,7 @@ impl Read for Giver<'_> {
 }
 
 /// A writer that keeps the first 64 bytes that it takes, and counts all of them.
+#[derive(Debug)]
 pub struct Taker<'a> {
     kept: [u8; 64],
     pub count: usize,

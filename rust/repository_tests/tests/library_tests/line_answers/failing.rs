@@ -8,6 +8,7 @@ use std::io;
 use std::io::ErrorKind;
 
 /// A source that yields the bytes of a slice. One of its calls fails, and the next one continues.
+#[derive(Debug)]
 pub struct FailingSource<'a> {
     bytes: &'a [u8],
     // The number of calls before the one that fails, and its error.
@@ -50,6 +51,7 @@ impl ByteSource for FailingSource<'_> {
 }
 
 /// A sink that fills a buffer from its start. If a call is passed bytes after `good_bytes` bytes, it fails.
+#[derive(Debug)]
 pub struct FailingSink<'a> {
     buffer: &'a mut [u8],
     count: usize,
