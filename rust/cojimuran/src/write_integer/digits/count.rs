@@ -38,8 +38,7 @@ fn take_digits<T: UnsignedInteger>(value: T, radix: u32, step: u32) -> (T, usize
     };
     let mut left = value;
     let mut taken = 0;
-    // No number has more than 64 digits. In Rust nothing checks the radix: in radix 1 only this bound ends the loop.
-    while left.is_at_least(power) && taken < 64 {
+    while left.is_at_least(power) {
         left = divide_and_record(left, power);
         taken += step as usize;
     }

@@ -1,6 +1,7 @@
 use Rattle.std.proofs.Common.{◌^◌, ◌≤◌, arith}
 use Rattle.lexical_write_integer.proofs.OfDigits.Count.DigitCounts.{digit_count-le_64}
-use Rattle.lexical_write_integer.proofs.OfDigits.Radix.Loops.Divisions.{IsDivided-start, IsDivided-more, TakesDigits-end, TakesDigits-none, left-smaller}
+use Rattle.lexical_write_integer.proofs.OfDigits.Radix.Loops.Divisions.{IsDivided-start, IsDivided-more, IsDivided-room, TakesDigits-end, left-smaller}
+use Rattle.lexical_write_integer.proofs.OfDigits.Radix.Loops.Divisions.{TakesDigits-none}
 use Rattle.lexical_write_integer.proofs.OfDigits.Count.RadixPowers.{power-gt_one}
 use Rattle.lexical_write_integer.proofs.digits.count.take_digits.Goals as goal
 use Rattle.lexical_write_integer.proofs.digits.count.take_digits.Goals.{In-loop-power}
@@ -17,6 +18,13 @@ loop-power-init g c = IsDivided-start
 
 pub divide_and_record-left-requires : goal.divide_and_record-left-requires
 divide_and_record-left-requires g c = omega (arith, c.in-Some.ensures.power, power-gt_one _ _ c.requires.radix.at_least_two c.requires.step)
+
+pub overflow_add-taken : goal.overflow_add-taken
+overflow_add-taken g c =
+    let narrow = digit_count-le_64 _ _ _ c.requires.radix.at_least_two g.met.T.UnsignedInteger.range.width c.fits_bits.ensures in
+    let room = IsDivided-room c.requires.radix.at_least_two c.loop-power.invariant
+    (rw c.in-Some.ensures.power at (c.is_at_least.ensures.0 c.loop-power-test.true)) in
+    record { fits = omega (arith, narrow, room) }
 
 pub loop-power-smaller : goal.loop-power-smaller
 loop-power-smaller g c = grind (arith, left-smaller)
