@@ -83,7 +83,8 @@ int main(void)
     TRY(int64_t, 10, "10", "A", "+1010")
 #if !defined(__cplusplus) || __cplusplus >= 201103L
     TRY(unsigned long long, -1, "18446744073709551615", "FFFFFFFFFFFFFFFF", "+" ONES_64)
-    TRY(long long, -10, "-10", "-A", "-1010")
+    TRY(long long, -4611686018427387904LL, "-4611686018427387904", "-4000000000000000",
+        "-100_0000_0000" ZEROS_12 ZEROS_12 ZEROS_12 "_0000_0000_0000_0000")
 #endif
 #ifdef REFUSED
     wrong += REFUSED != 0;

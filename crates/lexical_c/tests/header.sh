@@ -55,7 +55,7 @@ refused_in() {
 # Every standard that a compiler has compiles the header, and from C11 and C++98 on a function is chosen by the type.
 check_standards() {
   # shellcheck disable=SC2016
-  printf '#include "lexical.h"\nint main(void) { return lexical_check_format(&lexical_standard_format) != 0; }\n' > "$work/standard.c"
+  printf '#include "lexical.h"\n#include "lexical.h"\nint main(void) { return lexical_check_format(&lexical_standard_format) != 0; }\n' > "$work/standard.c"
   printf 'extern "C" {\n#include "lexical.h"\n}\nint main() { return lexical_length(1, &lexical_standard_format) != 1; }\n' > "$work/inside.c"
   for compiler in "$CC" $(others "$CC" gcc clang); do
     for standard in c89 c99 c11 c17 c2x; do
@@ -143,8 +143,9 @@ warns() {
 # warns_of_each COMPILER MISUSE WARNING: whether a compiler reports the misuse of each writer.
 warns_of_each() {
   for type in u8 u16 u32 u64 size i8 i16 i32 i64; do
-    for call in "lexical_write_$type(1,format,buffer,length)" "lexical_decimal_$type(1,buffer,length)"; do
-      case $2$call in NO_FORMATlexical_decimal*) continue ;; esac
+    for call in "lexical_write_$type(1,format,buffer,length)" "lexical_decimal_$type(1,buffer,length)" \
+      "lexical_length_$type(1,format)" "lexical_buffer_size_$type(format)" 'lexical_check_format(format)'; do
+      case $2$call in NO_FORMATlexical_decimal* | LENGTH*lexical_[lbc]*) continue ;; esac
       warns "$1" "$call" "$2" "$3" || { echo "no warning: $call"; return 1; }
     done
   done

@@ -36,8 +36,12 @@ has_links() {
     [ "$(readlink "$1/liblexical_c.so.${2%%.*}")" = "liblexical_c.so.$2" ] && [ -f "$1/liblexical_c.so" ]
 }
 
-# is_hardened LIBRARY: whether the dynamic linker resolves all names of it first, and then makes their table read-only.
-is_hardened() { readelf -lW "$1" | grep -q GNU_RELRO && readelf -dW "$1" | grep -q 'FLAGS_1.*NOW'; }
+# is_hardened LIBRARY: whether the dynamic linker resolves all names of it first, and then makes their table read-only,
+# and neither its stack is executable nor its code changed.
+is_hardened() {
+  readelf -lW "$1" | grep -q GNU_RELRO && readelf -dW "$1" | grep -q 'FLAGS_1.*NOW' &&
+    ! readelf -lW "$1" | grep -q 'GNU_STACK.*E' && ! readelf -dW "$1" | grep -q TEXTREL
+}
 
 # names_each_file PREFIX: whether install, whose output is $work/installed, printed each file below the prefix.
 names_each_file() {
@@ -51,6 +55,13 @@ shows_each_function() {
   [ ! -s "$work/said" ] || { cat "$work/said"; return 1; }
   for name in $(header_names); do
     grep -q " $name(" "$work/page" || { echo "the page does not have $name"; return 1; }
+  done
+  # Each constant, with its value, the fields, and the last sentence of the header's last comment.
+  sed -n 's/^#define \(LEXICAL_[A-Z0-9_]* ["0-9].*\)/\1/p' "$crate/include/lexical.h" | while read -r constant; do
+    grep -q -F "#define $constant" "$work/page" || { echo "the page does not have $constant"; exit 1; }
+  done || return 1
+  for words in "lexical_c $version" 'uint32_t lowercase;' 'In C99 and later a pointer to it is'; do
+    grep -q -F "$words" "$work/page" || { echo "the page does not have $words"; return 1; }
   done
   grep -q '^   Buffer' "$work/page" && grep -q 'count = lexical_write_u32(48879, &hexadecimal, ' "$work/page"
 }
@@ -241,7 +252,8 @@ links_with_pkg_config() {
 # installs_for_all PREFIX FOLDER: whether everyone may read what is installed, pkg-config and CMake find it, and nothing
 # is left when it is removed.
 installs_for_all() {
-  (umask 077 && "$crate/install" --from="$library" --prefix="$1" --libdir="$1/$2") || return 1
+  (umask 077 && "$crate/install" --from="$library" --prefix="$1" --libdir="$1/$2" 2> "$work/said") || return 1
+  grep -q -F "LD_LIBRARY_PATH=$1/$2" "$work/said" || return 1
   [ -z "$(find "$1" ! -type l ! -perm -444)" ] && [ -z "$(find "$1" -type d ! -perm -555)" ] || return 1
   if has pkg-config; then
     links_with_pkg_config "$1" "$2" || return 1
@@ -268,7 +280,8 @@ later_version() {
 # present one, and nothing is left when it is removed.
 upgrades() {
   later_version "$2"
-  "$crate/install" --from "$library" "$1" && "$later/install" "$1" && has_links "$DESTDIR$1/lib" "$2" &&
+  "$crate/install" --from "$library" "$1" && grep -q "^prefix=$1\$" "$DESTDIR$1/lib/pkgconfig/lexical_c.pc" &&
+    "$later/install" "$1" && has_links "$DESTDIR$1/lib" "$2" &&
     [ "$(cd "$DESTDIR$1/lib" && echo ./*.so*)" = "$3" ] && "$later/uninstall" "$1" && [ ! -e "$DESTDIR$1" ]
 }
 
