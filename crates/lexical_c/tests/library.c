@@ -98,7 +98,11 @@ struct expected {
 static struct expected plain_text(const struct type *type, uint64_t bits,
                                   const struct lexical_format *format)
 {
+#ifdef WRONG_TEXT
+    static const char UPPERCASE[] = "0123456789ABCDEFGHIJKLMNOPQRSTUVWXYz";
+#else
     static const char UPPERCASE[] = "0123456789ABCDEFGHIJKLMNOPQRSTUVWXYZ";
+#endif
     static const char LOWERCASE[] = "0123456789abcdefghijklmnopqrstuvwxyz";
     const char *digit_chars = format->lowercase == 0 ? UPPERCASE : LOWERCASE;
     struct expected expected;
@@ -439,6 +443,23 @@ static void check_every_length(void)
             }
 }
 
+/* Checks buffers that are longer than 4 KiB and 4 GiB, of which only the first page may be accessed. */
+static void check_long_buffers(void)
+{
+    static const size_t LENGTHS[] = { 4097, 65536, (size_t)1 << 32 };
+    char *map = (char *)mmap(NULL, LENGTHS[2], PROT_NONE, MAP_PRIVATE | MAP_ANONYMOUS | MAP_NORESERVE, -1, 0);
+    if (map == (char *)MAP_FAILED || mprotect(map, (size_t)sysconf(_SC_PAGESIZE), PROT_READ | PROT_WRITE) != 0)
+        exit(EXIT_FAILURE);
+    for (size_t t = 0; t < TYPE_COUNT; t++)
+        for (size_t i = 0; i < 3; i++) {
+            memset(map, 0, 2);
+            check(TYPES[t].decimal(7, map, LENGTHS[i]) == 1 && memcmp(map, "7", 2) == 0, "a long buffer in decimal");
+            struct lexical_format format = FORMAT(36, 0, 0, 0);
+            check(TYPES[t].write(35, &format, map, LENGTHS[i]) == 1 && memcmp(map, "Z", 2) == 0, "a long buffer");
+        }
+    munmap(map, LENGTHS[2]);
+}
+
 /* Checks that a NULL buffer of length 0 is refused. */
 static void check_null(void)
 {
@@ -663,6 +684,7 @@ int main(void)
     run("snprintf", check_against_snprintf);
     run("snprintf of signed numbers", check_signed_decimals);
     run("every length of buffer", check_every_length);
+    run("long buffers", check_long_buffers);
     run("no buffer", check_null);
     run("every byte as the radix", check_radices);
     run("every byte as the group size and the separator", check_group_bytes);

@@ -24,6 +24,13 @@ macro_rules! check_numbers {
             assert_eq!(format!("{:.1}|{:9.2}", Decimal(number), Decimal(number)),
                 format!("{:.1}|{:9.2}", number, number));
             assert_eq!(format!("{}|{:+}", Plus(number), Plus(number)), format!("{:+}|{:+}", number, number));
+            // No option makes it fail, as one that is ignored, or a width above each text.
+            for w in [0, 300, 10_000] {
+                assert_eq!(format!("{:#w$.9}|{:+#0w$.40}", Plus(number), Plus(number)),
+                    format!("{:+#w$.9}|{:+#0w$.40}", number, number));
+                assert_eq!(format!("{:#w$.9}|{:+0w$.40}", Decimal(number), Decimal(number)),
+                    format!("{:#w$.9}|{:+0w$.40}", number, number));
+            }
             for w in 0..24 {
                 assert_eq!(format!("{:w$}|{:^w$}|{:x<w$}", Plus(number), Plus(number), Plus(number)),
                     format!("{:+w$}|{:^+w$}|{:x<+w$}", number, number, number));

@@ -123,6 +123,7 @@ fn messages() {
         "begins_with_pairs(": algorithm(7u32, 16, &table(16)[..511], buffer), algorithm(7u32, 12, table(13), buffer),
             algorithm(7u32, 13, table(12), buffer), algorithm(7u32, 2, table(36), buffer);
         "number < 10_000_000_000_000_000_000": u64::MAX.decimal_signed(buffer), usize::MAX.decimal_signed(buffer);
+        "radix != 10 || number": u64::MAX.write_integer_signed(10, buffer);
         "n < 10_000_000_000_000_000_000": jeaiii::from_i64(u64::MAX, buffer);
         "n < 10_000": jeaiii::fixed_2(10_000);
         "n < 1_000_000": jeaiii::fixed_4(1_000_000);
