@@ -143,7 +143,8 @@ pub(crate) const SOURCES: &[Source] = &[
                 "buffer.rt texts/api.rt texts/integers.rt digits/write.rt digits/decimal.rt digits/pairs.rt
                 digits/decimal/jeaiii.rt digits/decimal/kernels.rt digits/decimal/decimal_pairs.rt
                 write_digits write_by_table radix_counted radix digit_count fast_log2 write_after_count
-                last_four write_four write_up_to_four first_pair remove_four fourth_power",
+                last_four write_four write_up_to_four first_pair remove_four fourth_power
+                count_one_or_two count_and_write_one_or_two count_and_write_short",
             ),
         ],
         panics: &[

@@ -21,9 +21,7 @@ use binary_words::write_binary;
 use by_radix::by_radix;
 use lexical_num::num::UnsignedInteger;
 use lexical_tables::get_table;
-use table_writer::{
-    count_and_write_more, count_and_write_up_to_eight, eighth_power, write_after_count,
-};
+use table_writer::{count_and_write_more, count_and_write_short, eighth_power, write_after_count};
 
 // Writes a number in the radix `R`, with a table that begins with the digit pairs of that radix: after the count of
 // the digits if that needs no division, and otherwise while they are counted.
@@ -51,7 +49,7 @@ fn write_digits<T: UnsignedInteger, const R: u32>(
         write_after_count(number, table, buffer, turns, &mut written)
     } else if number < eighth_power(R) {
         // This is known of each number of 8 bits, so their code has nothing else.
-        count_and_write_up_to_eight(number, table, buffer, turns, &mut written)
+        count_and_write_short(number, table, buffer, turns, &mut written)
     } else {
         count_and_write_more(number, table, buffer, turns, &mut written)
     };

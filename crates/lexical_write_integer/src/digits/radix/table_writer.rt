@@ -203,6 +203,48 @@ pub(super) fn count_and_write_up_to_eight<const R: u32>(
     head + 4
 }
 
+// Counts the one or two digits of a number by division, and writes them.
+fn count_and_write_one_or_two<const R: u32>(
+    number: u32,
+    table: RadixTable<'_, R>,
+    buffer: &mut [u8],
+    turns: &mut Turns,
+) -> usize
+    requires short { number < R * R }
+    requires room { digit_count R number ≤ length buffer.old }
+    ensures digits { WritesDigits R number buffer.old buffer.new result }
+    ensures turns { turns.new ≡ turns.old ++ slow_notes R number }
+{
+    let count = count_one_or_two(number, R, turns);
+    if count == 1 {
+        buffer[0] = table.pairs[2 * number as usize + 1];
+        return 1;
+    }
+    table.write(number, buffer, 0);
+    2
+}
+
+// Counts up to eight digits by division, and writes them. One or two digits are apart, since their code is short enough
+// to be in each caller, and such numbers are frequent.
+pub(super) fn count_and_write_short<const R: u32>(
+    value: u64,
+    table: RadixTable<'_, R>,
+    buffer: &mut [u8],
+    turns: &mut Turns,
+    written: &mut Turns,
+) -> usize
+    requires short { value < R ^ 8 }
+    requires room { digit_count R value ≤ length buffer.old }
+    ensures digits { WritesDigits R value buffer.old buffer.new result }
+    ensures turns { turns.new ≡ turns.old ++ slow_notes R value }
+    ensures written { written.new ≡ written.old ++ loop_notes R value }
+{
+    if value < u64::from(R * R) {
+        return count_and_write_one_or_two(value as u32, table, buffer, turns);
+    }
+    count_and_write_up_to_eight(value, table, buffer, turns, written)
+}
+
 // Returns the eighth power of the radix.
 pub(super) fn eighth_power(radix: u32) -> u64
     requires { IsRadix radix }

@@ -20,7 +20,7 @@ returns g c =
           let all = w.write_after_count-count.ensures in
           (rw (w.buffer-is, w.count-is) all.digits, rw w.turns-is all.turns, rw w.written-is (rw none at all.written))
       | else-counts_at_once+then-number-eighth_power w ↦
-          let all = w.count_and_write_up_to_eight.ensures in (
+          let all = w.count_and_write_short.ensures in (
             rw (w.buffer-is, w.count-is) all.digits,
             rw w.turns-is (slow_noted r n old _ (sym w.if-counts_at_once.ensures) all.turns),
             rw w.written-is (rw none at all.written),

@@ -82,7 +82,7 @@ pub(super) fn write_after_count<const R: u32>(
 }
 
 // Returns how many digits a number of one or two digits has, by a division.
-#[inline]
+#[inline(always)]
 fn count_one_or_two(number: u32, radix: u32) -> usize {
     let left = number / radix;
     if left == 0 {
@@ -131,6 +131,36 @@ pub(super) fn count_and_write_up_to_eight<const R: u32>(
     let last = value - left * fourth_power(R);
     write_four(last as u32, table, buffer, head);
     head + 4
+}
+
+// Counts the one or two digits of a number by division, and writes them.
+#[inline(always)]
+fn count_and_write_one_or_two<const R: u32>(
+    number: u32,
+    table: RadixTable<'_, R>,
+    buffer: &mut [u8],
+) -> usize {
+    let count = count_one_or_two(number, R);
+    if count == 1 {
+        buffer[0] = table.pairs[2 * number as usize + 1];
+        return 1;
+    }
+    table.write(number, buffer, 0);
+    2
+}
+
+// Counts up to eight digits by division, and writes them. One or two digits are apart, since their code is short enough
+// to be in each caller, and such numbers are frequent.
+#[inline(always)]
+pub(super) fn count_and_write_short<const R: u32>(
+    value: u64,
+    table: RadixTable<'_, R>,
+    buffer: &mut [u8],
+) -> usize {
+    if value < u64::from(R * R) {
+        return count_and_write_one_or_two(value as u32, table, buffer);
+    }
+    count_and_write_up_to_eight(value, table, buffer)
 }
 
 // Returns the eighth power of the radix.
