@@ -112,7 +112,11 @@ impl NumberFormat {
         ensures { result ≡ grouped_length self.now.digit_grouping count }
     {
         match self.digit_grouping() {
-            Some((size, _)) => count + count.saturating_sub(1) / size as usize,
+            Some((size, _)) => {
+                // In Rust nothing else refuses a sum that wraps.
+                prove!(count < 9_223_372_036_854_775_808);
+                count + count.saturating_sub(1) / size as usize
+            }
             None => count,
         }
     }

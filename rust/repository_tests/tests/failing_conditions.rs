@@ -135,6 +135,7 @@ fn messages() {
         "n < 10_000_000_000": jeaiii::fixed_8_wide(10_000_000_000);
         "value < 256": <u8 as UnsignedInteger>::from_u32(256);
         "value < 65_536": <u16 as UnsignedInteger>::from_u32(65_536);
+        "count < 9_223_372_036_854_775_808": builder.digit_grouping(1, b',').build_strict().grouped_len(1 << 63);
         "number < 4_294_967_296": 0x1_0000_0000u64.as_u32();
     }
 }

@@ -92,7 +92,11 @@ impl NumberFormat {
     #[inline]
     pub const fn grouped_len(&self, count: usize) -> usize {
         match self.digit_grouping() {
-            Some((size, _)) => count + count.saturating_sub(1) / size as usize,
+            Some((size, _)) => {
+                // In Rust nothing else refuses a sum that wraps.
+                assert!(count < 9_223_372_036_854_775_808);
+                count + count.saturating_sub(1) / size as usize
+            }
             None => count,
         }
     }
