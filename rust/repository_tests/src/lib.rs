@@ -3,5 +3,9 @@
 extern crate self as repository_tests;
 
 pub mod runtime;
-#[rustfmt::skip]
-pub mod uses;
+
+/// The callers of `crates/uses`.
+#[allow(unused, clippy::all, reason = "they are written for Rattle")]
+pub mod uses {
+    include!(concat!(env!("OUT_DIR"), "/uses/main.rs"));
+}

@@ -3,22 +3,29 @@
 //! The sources are laid out by `rt fmt`. So each of these begins a line, and has the next lines that have more indent
 //! or that begin with a bracket. The comments and the attributes before it are left out with it.
 
+use crate::functions::functions;
 use crate::packages::{Source, has};
+use std::collections::BTreeSet;
 
 /// A line with one of these words begins what is left out: contracts, types without data, and what only contracts use.
 const WORDS: &str = "ghost requires ensures tactic DECIMAL Model Trace Turns";
 
-/// So does a line that imports, declares or calls one of these functions: laws, and functions that only record. A
-/// variable may have the same name.
-const FUNCTIONS: &str = "
-    note_put record_flush record_up_to_eight
-    in_range fits_bits text_is_utf8 rooms_at_most same_rest formatted_room_suffices size_suffices sizes_suffice
-    digit_count_is_least digit_count_at_most digit_count_within_bits digits_computed digits_equal_iff different_digits
-    equal_digits equal_padded equal_texts padded_order text_computed text_is_ascii text_is_decimal text_length
-    texts_equal_iff same_counter same_link same_user different_codes";
-
-/// So does a line with one of these texts: a module of laws, and calls that only record.
+/// So does a line with one of these texts: a module of laws, and calls that only record. And so does a line that imports,
+/// declares or calls a law, but not one with a variable that has its name.
 const TEXTS: [&str; 5] = ["::laws::", "turns.tick", "turns.append", "written.tick", "self.trace."];
+
+/// The names of laws, and of functions that only record.
+pub(crate) type Laws = BTreeSet<String>;
+
+/// What a counter or a trace is.
+const GHOSTS: [&str; 3] = ["&mut Turns", "&mut Trace", "&mut GhostLog"];
+
+/// Returns the laws of a text: functions that return nothing and change nothing but a counter or a trace.
+pub(crate) fn laws(text: &str) -> Laws {
+    let without_ghosts = |text: &str| GHOSTS.iter().fold(text.to_owned(), |text, ghost| text.replace(ghost, ""));
+    let is_law = |signature: &str| !signature.contains(") -> ") && !without_ghosts(signature).contains("&mut ");
+    functions(text).into_iter().filter(|function| is_law(&function.signature)).map(|function| function.name).collect()
+}
 
 /// The words of what a Rust program does not have, and the folder of the crates. No made line may have one.
 const UNKNOWN: &str = "
@@ -26,12 +33,12 @@ const UNKNOWN: &str = "
     trace Trace turns Turns crates";
 
 /// Returns the text without what is left out, laid out as by a person who never wrote that.
-pub(crate) fn without_left_out(text: &str, source: &Source) -> String {
-    let text = without_imports(text);
+pub(crate) fn without_left_out(text: &str, source: &Source, laws: &Laws) -> String {
+    let text = without_imports(text, laws);
     let lines: Vec<&str> = text.lines().filter(|line| !line.trim_start().starts_with("#[tactic(")).collect();
     let (mut kept, mut rest, mut is_after) = (String::new(), lines.as_slice(), true);
     while let Some(line) = rest.first() {
-        let count = count_left_out(rest, source);
+        let count = count_left_out(rest, source, laws);
         let mut codes = rest[..count].iter().map(|line| line.trim_start());
         let is_clause = codes.find(|code| !code.starts_with("//")).is_some_and(|code| code.starts_with("ensures "));
         if count == 0 {
@@ -46,14 +53,14 @@ pub(crate) fn without_left_out(text: &str, source: &Source) -> String {
     kept.trim_end().to_owned() + "\n"
 }
 
-/// Returns the text without the words and the functions that are in an import with other names.
-fn without_imports(text: &str) -> String {
+/// Returns the text without the words and the laws that are in an import with other names.
+fn without_imports(text: &str, laws: &Laws) -> String {
     let (mut kept, mut is_inside) = (String::with_capacity(text.len()), false);
     for line in text.lines() {
         let mut line = line.to_owned();
         is_inside |= is_import(&line);
         if is_inside {
-            for word in WORDS.split_whitespace().chain(FUNCTIONS.split_whitespace()) {
+            for word in WORDS.split_whitespace().chain(laws.iter().map(String::as_str)) {
                 line = line.replace(&format!(", {word},"), ",").replace(&format!(", {word}}}"), "}");
             }
             is_inside = !line.ends_with(';');
@@ -68,11 +75,11 @@ fn is_import(code: &str) -> bool {
 }
 
 /// Returns how many of the lines are left out together with the first one, which may be a comment before it.
-fn count_left_out(lines: &[&str], source: &Source) -> usize {
+fn count_left_out(lines: &[&str], source: &Source, laws: &Laws) -> usize {
     let is_comment = |code: &str| code.starts_with("//") && !code.starts_with("//!");
     let is_before = |code: &str| is_comment(code) || code.starts_with("#[");
     let first = lines.iter().take_while(|line| is_before(line.trim_start())).count();
-    let Some(line) = lines.get(first).filter(|line| is_left_out(line, source)) else {
+    let Some(line) = lines.get(first).filter(|line| is_left_out(line, source, laws)) else {
         return 0;
     };
     let indent = &line[..line.len() - line.trim_start().len()];
@@ -83,25 +90,25 @@ fn count_left_out(lines: &[&str], source: &Source) -> usize {
 }
 
 /// Returns whether a line begins what is left out. What is after a call does not count, since that may have an effect.
-fn is_left_out(line: &str, source: &Source) -> bool {
+fn is_left_out(line: &str, source: &Source, laws: &Laws) -> bool {
     let code = line.split(['/', '"']).next().unwrap_or_default();
     let is_call = |before: &str| before.ends_with(char::is_alphanumeric) && !before.ends_with("pub");
     let call = code.match_indices('(').map(|(at, _)| &code[..at]).find(|before| is_call(before));
-    let is_function = is_of_function(code, call.map_or(code.len(), str::len));
+    let is_of_law = is_of_law(code, call.map_or(code.len(), str::len), laws);
     let code = call.unwrap_or(code);
     let is_module = |path: &str| code.ends_with(&format!("mod {};", path.rsplit('/').next().unwrap_or_default()));
-    is_function
+    is_of_law
         || words(code).any(|word| has(WORDS, word))
         || TEXTS.iter().any(|text| code.contains(text))
         || source.left_out.split_whitespace().any(is_module)
 }
 
-/// Returns whether code imports, declares or calls one of the functions, whose name ends at this index or before it.
-fn is_of_function(code: &str, end: usize) -> bool {
+/// Returns whether code imports, declares or calls a law, whose name ends at this index or before it.
+fn is_of_law(code: &str, end: usize, laws: &Laws) -> bool {
     let is_end =
         |rest: &str| is_import(code) || rest.starts_with('(') || rest.trim_start_matches("::").starts_with('<');
-    FUNCTIONS.split_whitespace().any(|name| {
-        code[..end].match_indices(name).any(|(at, _)| {
+    laws.iter().any(|name| {
+        code[..end].match_indices(name.as_str()).any(|(at, _)| {
             let is_start = !code[..at].ends_with(|c: char| c.is_alphanumeric() || c == '_');
             is_start && is_end(&code[at + name.len()..])
         })

@@ -6,11 +6,15 @@
 #![forbid(unsafe_code)]
 
 mod additions;
+mod conditions;
 mod counted;
+mod functions;
 mod left_out;
+mod lost;
 mod packages;
 mod replaced;
 
+use left_out::Laws;
 use packages::{SOURCES, Source};
 use std::collections::BTreeMap;
 use std::path::{Path, PathBuf};
@@ -19,42 +23,108 @@ use std::{fs, io};
 /// What each made file begins with.
 const START: &str = "// Made by `strip` from ";
 
+/// The file of what is left out of the bodies of functions.
+const LEFT_OUT: &str = "rust/strip/left_out.txt";
+
+/// What is read before the files.
+pub(crate) struct Known {
+    pub laws: Laws,
+    /// The page of the conditions that the package does not check.
+    pub page: String,
+}
+
 /// Returns the path and the text of each file that is made of the repository in this folder.
 fn made(top: &Path) -> Result<BTreeMap<PathBuf, String>, String> {
-    let mut made = BTreeMap::new();
+    let (mut made, mut left_out) = (BTreeMap::new(), String::new());
+    let known = known(top)?;
     for source in SOURCES {
-        let folder = Path::new("crates").join(source.name).join("src");
-        let mut all = String::new();
-        for file in files(top, &folder, "rt")? {
-            let name = file.strip_prefix(&folder).unwrap_or(&file).to_string_lossy().into_owned();
-            let text = read(&top.join(&file))?;
-            if let Some(path) = source.made_of(&name) {
-                let text = made_text(&text, &name, source).map_err(|what| format!("{}: {what}", file.display()))?;
-                made.insert(path, format!("{START}{}. Edit that file, not this one.\n\n{text}", file.display()));
-            }
-            all += &format!("{name} {text}");
-        }
-        if let Some(missing) = source.missing(&all) {
-            return Err(format!("{}: the crate does not have {missing}", folder.display()));
+        let (files, lines) = made_of(top, source, &known)?;
+        left_out += &lines;
+        if !source.is_test() {
+            made.extend(files);
         }
     }
+    made.insert(LEFT_OUT.into(), left_out);
     for name in ["LICENSE-APACHE", "LICENSE-MIT"] {
         made.insert(Path::new("rust/cojimuran").join(name), read(&top.join(name))?);
     }
     Ok(made)
 }
 
-/// Returns what is made of the text of a file of a source, a path in its `src`.
-fn made_text(text: &str, file: &str, source: &Source) -> Result<String, String> {
-    let text = counted::without_counted(&left_out::without_left_out(&source.replaced(text), source));
-    let text = with_sorted_imports(&text);
-    let allowed = "#![allow(unused, clippy::all, reason = \"these are tests of Rattle\")]\n\n";
-    match (left_out::unknown(&text), file) {
-        (_, "lib.rt") if source.is_test() => Ok(allowed.to_owned() + &text),
-        _ if source.is_test() => Ok(text),
-        (Some(line), _) => Err(format!("a word that only Rattle has: {line}")),
-        (None, _) => Ok(additions::with_additions(&text, file, source)),
+/// Returns what is known of all crates. What tests call for an assertion returns nothing either, so no law is searched
+/// in theirs.
+fn known(top: &Path) -> Result<Known, String> {
+    let (mut laws, mut others) = (Laws::new(), Laws::new());
+    for source in SOURCES.iter().filter(|source| !source.name.ends_with("_tests")) {
+        for file in files(top, &source.folder_of_crate(), "rt")? {
+            let text = read(&top.join(file))?;
+            let found = left_out::laws(&text);
+            let names = functions::functions(&text).into_iter().map(|function| function.name);
+            others.extend(names.filter(|name| !found.contains(name)));
+            laws.extend(found);
+        }
     }
+    match laws.intersection(&others).next() {
+        Some(name) => Err(format!("{name} is a law, and also the name of another function")),
+        None => Ok(Known { laws, page: read(&top.join("rust/cojimuran/CONDITIONS.md"))? }),
+    }
+}
+
+/// Returns the path and the text of each file that is made of a source, and a line for each text that is left out of the
+/// body of a function.
+fn made_of(top: &Path, source: &Source, known: &Known) -> Result<(BTreeMap<PathBuf, String>, String), String> {
+    let folder = source.folder_of_crate();
+    let (mut made, mut left_out, mut all) = (BTreeMap::new(), String::new(), String::new());
+    let mut paths = files(top, &folder, "rt")?;
+    paths.sort();
+    for file in paths {
+        let name = file.strip_prefix(&folder).unwrap_or(&file).to_string_lossy().into_owned();
+        let text = read(&top.join(&file))?;
+        if let Some(path) = source.made_of(&name) {
+            let result = made_text(&text, &name, source, known);
+            let (text, lines) = result.map_err(|what| format!("{}: {what}", file.display()))?;
+            made.insert(path, format!("{START}{}. Edit that file, not this one.\n\n{text}", file.display()));
+            left_out.extend(lines.iter().map(|line| format!("{}/{name} {line}\n", source.name)));
+        }
+        all += &format!("{name} {text}");
+    }
+    match source.missing(&all) {
+        Some(missing) => Err(format!("{}: the crate does not have {missing}", folder.display())),
+        None => Ok((made, left_out)),
+    }
+}
+
+/// Returns what is made of the text of a file of a source, a path in its `src`, and what its functions lack.
+fn made_text(text: &str, file: &str, source: &Source, known: &Known) -> Result<(String, Vec<String>), String> {
+    let made = left_out::without_left_out(&source.replaced(text, source.replaced), source, &known.laws);
+    let allowed = if source.is_test() { replaced::IN_TESTS } else { &[] };
+    let lines = lost::left_out(&source.replaced(text, allowed), &made);
+    let made = with_sorted_imports(&counted::without_counted(&made)?);
+    let made = match left_out::unknown(&made) {
+        // Its documentation is that of the file that includes it.
+        _ if source.is_test() && file == "lib.rt" => without_documentation(&made),
+        _ if source.is_test() => made,
+        Some(line) => return Err(format!("a word that only Rattle has: {line}")),
+        None => additions::with_additions(&made, text, file, source, known)?,
+    };
+    Ok((made, lines))
+}
+
+/// Writes the tests that are made of the crates to a folder.
+pub fn make_tests(top: &Path, folder: &Path) -> Result<(), String> {
+    let known = known(top)?;
+    for source in SOURCES.iter().filter(|source| source.is_test()) {
+        for (path, text) in made_of(top, source, &known)?.0 {
+            let file = folder.join(&path);
+            let written = fs::create_dir_all(file.parent().unwrap_or(folder)).and_then(|()| fs::write(&file, text));
+            written.map_err(|error| message(&path, error))?;
+        }
+    }
+    Ok(())
+}
+
+fn without_documentation(text: &str) -> String {
+    text.lines().filter(|line| !line.starts_with("//!")).map(|line| format!("{line}\n")).collect()
 }
 
 /// Returns the text with the imports next to one another in the order of rustfmt: `super` and `crate` precede names.
@@ -89,7 +159,7 @@ fn files(top: &Path, folder: &Path, extension: &str) -> Result<Vec<PathBuf>, Str
 fn changes(top: &Path) -> Result<Vec<(PathBuf, Option<String>)>, String> {
     let made = made(top)?;
     let mut changes = Vec::new();
-    for folder in ["rust/cojimuran", "rust/lexical_c/src", "rust/repository_tests"] {
+    for folder in ["rust/cojimuran", "rust/lexical_c/src"] {
         for path in files(top, Path::new(folder), "rs")? {
             if !made.contains_key(&path) && read(&top.join(&path))?.starts_with(START) {
                 changes.push((path, None));

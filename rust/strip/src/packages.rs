@@ -9,7 +9,8 @@ use std::path::{Path, PathBuf};
 pub(crate) struct Source {
     /// The name of the crate.
     pub name: &'static str,
-    /// The folder of the made files, in `rust`.
+    /// The folder of the made files, in `rust`, or empty for tests and what only they call, which are made where cargo
+    /// builds `repository_tests`.
     pub folder: &'static str,
     /// The file of the root, without `.rs`: that of a module, `main`, or empty if none is made.
     pub root: &'static str,
@@ -18,9 +19,6 @@ pub(crate) struct Source {
     pub attributes: Listed,
     /// The names of public functions that are `const fn`.
     pub constant: &'static str,
-    /// When public functions panic whose condition is neither on a radix nor on a buffer, and their names, or
-    /// `FILE:NAME` if functions of other files have the same name.
-    pub panics: Listed,
     /// The modules of which nothing is made, as paths in `src`: only proofs need them, or only Rattle has them.
     pub left_out: &'static str,
     /// What is written in Rattle, and what is written in its place.
@@ -31,9 +29,14 @@ pub(crate) struct Source {
 pub(crate) type Listed = &'static [(&'static str, &'static str)];
 
 impl Source {
+    /// Returns the folder of its sources.
+    pub fn folder_of_crate(&self) -> PathBuf {
+        Path::new("crates").join(self.name).join("src")
+    }
+
     /// Returns whether these are tests, or what only they call.
     pub fn is_test(&self) -> bool {
-        self.folder.starts_with("repository_tests")
+        self.folder.is_empty()
     }
 
     /// Returns whether the crate is a module of what is made.
@@ -48,10 +51,13 @@ impl Source {
 
     /// Returns the path of what is made of a file, a path in `src`, or `None` if nothing is.
     pub fn made_of(&self, file: &str) -> Option<PathBuf> {
-        let folder = Path::new("rust").join(self.folder);
+        let made = Path::new("rust").join(self.folder);
+        let folder = if self.is_test() { Path::new(self.name) } else { made.as_path() };
         let is_in = |module: &str| file.strip_prefix(module).is_some_and(|rest| rest.starts_with(['.', '/']));
         match file {
             _ if self.left_out.split_whitespace().any(is_in) => None,
+            "lib.rt" if self.is_test() => Some(folder.join("main.rs")),
+            _ if self.is_test() => Some(folder.join(file).with_extension("rs")),
             "lib.rt" if self.root.is_empty() => None,
             "lib.rt" => Some(folder.join(self.root).with_extension("rs")),
             _ if self.is_module() => Some(folder.join(self.root).join(file).with_extension("rs")),
@@ -59,13 +65,14 @@ impl Source {
         }
     }
 
-    /// Returns a text of the crate as it is written in Rust, with the paths of the package.
-    pub fn replaced(&self, text: &str) -> String {
+    /// Returns a text of the crate with the paths of the package, and with these texts of it and those of every crate
+    /// as they are written in Rust.
+    pub fn replaced(&self, text: &str, replaced: Replaced) -> String {
         let mut text = text.to_owned();
         if self.is_module() {
             text = text.replace("crate::", &format!("crate::{}::", self.root));
         }
-        for (from, to) in self.replaced.iter().chain(EVERYWHERE) {
+        for (from, to) in replaced.iter().chain(EVERYWHERE) {
             text = text.replace(from, to);
         }
         for module in SOURCES.iter().filter(|source| source.folder == LIBRARY.folder) {
@@ -78,13 +85,11 @@ impl Source {
 
     /// Returns a name or a text of the lists that a crate with these names of files and texts does not have.
     pub fn missing(&self, files: &str) -> Option<&'static str> {
-        let listed = self.attributes.iter().chain(self.panics).map(|(_, names)| *names);
+        let listed = self.attributes.iter().map(|(_, names)| *names);
         let names = listed.chain([self.constant, self.left_out]).flat_map(str::split_whitespace);
         // The rules for tests are one list for all of them.
         let replaced = self.replaced.iter().filter(|_| !self.is_test()).map(|(from, _)| *from);
-        names.chain(replaced).find(|name| {
-            !name.split_once(".rt:").map_or(vec![*name], |(a, b)| vec![a, b]).iter().all(|part| files.contains(part))
-        })
+        names.chain(replaced).find(|name| !files.contains(name))
     }
 }
 
@@ -93,16 +98,8 @@ pub(crate) fn has(list: &str, name: &str) -> bool {
     list.split_whitespace().any(|listed| listed == name)
 }
 
-const LIBRARY: Source = Source {
-    name: "",
-    folder: "cojimuran/src",
-    root: "",
-    attributes: &[],
-    constant: "",
-    panics: &[],
-    left_out: "",
-    replaced: &[],
-};
+const LIBRARY: Source =
+    Source { name: "", folder: "cojimuran/src", root: "", attributes: &[], constant: "", left_out: "", replaced: &[] };
 
 /// The crates of which files are made.
 pub(crate) const SOURCES: &[Source] = &[
@@ -113,14 +110,6 @@ pub(crate) const SOURCES: &[Source] = &[
             digit_to_char is_radix is_group_size is_mark are_valid new binary from_radix radix mantissa_radix
             exponent_radix required_mantissa_sign digit_grouping grouped_len is_valid build build_strict
             build_unchecked buffer_size_const builder rebuild",
-        panics: &[
-            ("the number is 2^32 or above", "as_u32"),
-            ("a part is invalid: then `build` returns an error", "format_builder.rt:build_strict"),
-            ("the radix is not from 2 to 36", "format_builder.rt:from_radix"),
-            ("the digit is 36 or above", "digit_to_char"),
-            ("`by` is 0", "div_rem"),
-            ("the type does not have the number", "from_u32"),
-        ],
         left_out: "ghost_log",
         ..LIBRARY
     },
@@ -147,13 +136,6 @@ pub(crate) const SOURCES: &[Source] = &[
                 count_one_or_two count_and_write_one_or_two count_and_write_short",
             ),
         ],
-        panics: &[
-            ("the table does not begin with the digit pairs of the radix", "algorithm"),
-            ("the number is 10^19 or above", "decimal_signed from_i64"),
-            ("the number is not in this range", "fixed_2 fixed_4 fixed_6 fixed_8_nine fixed_8_ten fixed_8_wide"),
-            ("the radix is 10 and the number is 10^19 or above", "write_integer_signed"),
-            ("the number has more digits than the buffer has bytes", "write_padded"),
-        ],
         left_out: "laws turns",
         replaced: replaced::WRITE_INTEGER,
         ..LIBRARY
@@ -164,10 +146,6 @@ pub(crate) const SOURCES: &[Source] = &[
         // A tuple of parts and what it often contains. So the texts and the widths that are constant in a caller are
         // known.
         attributes: &[("#[inline(always)]", "tuples.rt joined.rt integers.rt number.rt text.rt")],
-        panics: &[
-            ("the part is not valid", "room to_text try_write_to write_to"),
-            ("the part is not valid, or its text is not UTF-8", "to_str try_to_str"),
-        ],
         left_out: "equal",
         replaced: replaced::PARTS,
         ..LIBRARY
@@ -192,16 +170,10 @@ pub(crate) const SOURCES: &[Source] = &[
         replaced: replaced::FOR_C,
         ..LIBRARY
     },
-    Source {
-        name: "uses",
-        folder: "repository_tests/src",
-        root: "uses",
-        left_out: "refused_calls/clones turn_lists",
-        ..TESTS
-    },
-    Source { name: "uses_tests", folder: "repository_tests/tests/uses_tests", root: "main", ..TESTS },
-    Source { name: "library_tests", folder: "repository_tests/tests/library_tests", root: "main", ..TESTS },
+    Source { name: "uses", root: "uses", left_out: "refused_calls/clones turn_lists", ..TESTS },
+    Source { name: "uses_tests", ..TESTS },
+    Source { name: "library_tests", ..TESTS },
 ];
 
 /// What calls the libraries as the repository's tests do.
-const TESTS: Source = Source { replaced: replaced::IN_TESTS, ..LIBRARY };
+const TESTS: Source = Source { folder: "", replaced: replaced::IN_TESTS, ..LIBRARY };

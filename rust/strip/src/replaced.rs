@@ -162,10 +162,7 @@ pub(crate) const IN_TESTS: Replaced = &[
     ("Formatted(amount, format).to_string(alloc)", "repository_tests::format_in!(\"{}\", Formatted(amount, format))"),
     ("io::writer(&rt)", "io::stdout()"),
     ("rt.reader()", "io::stdin()"),
-    ("use lexical_write_integer::laws::order;\n", ""),
-    ("    order(a, b, &STANDARD);\n", ""),
-    ("where\n    F::Err: Drop,\n", ""),
-    ("where\n    T::Err: Drop,\n", ""),
+    ("::Err: Drop", "::Err: Sized"),
     // Rust has this method since 1.87.
     (".cast_signed()", " as i64"),
 ];

@@ -1,19 +1,23 @@
 //! What is refused, and forms of the sources that must not be mistaken for one another. The made files, which are
 //! compared, show the others.
 
-use crate::left_out::without_left_out;
-use crate::made_text;
+use crate::left_out::{Laws, laws, without_left_out};
 use crate::packages::SOURCES;
+use crate::{Known, made_text};
+
+fn some_laws() -> Laws {
+    laws("fn in_range(a: u8)\n    ensures { c };\nfn text_length() {}\nfn fits_bits(self) {}")
+}
 
 fn check(text: &str, expected: &str) {
-    assert_eq!(without_left_out(text, &SOURCES[0]).trim_end(), expected, "in {text:?}");
+    assert_eq!(without_left_out(text, &SOURCES[0], &some_laws()).trim_end(), expected, "in {text:?}");
 }
 
 #[test]
 fn refused_words() {
     for line in ["// A law of b.", "/// Of the crates.", "f(a, &mut turns);", "f(&mut Trace::new());"] {
         let refused = Err(format!("a word that only Rattle has: {line}"));
-        assert_eq!(made_text(&format!("a;\n    {line}\nc;"), "a.rt", &SOURCES[0]), refused);
+        assert_eq!(made(&format!("a;\n    {line}\nc;"), 0).map(|made| made.0), refused);
     }
 }
 
@@ -45,7 +49,65 @@ fn rust_stays() {
     }
 }
 
+/// Returns what is made of a text of a source, and what that lacks.
+fn made(text: &str, source: usize) -> Result<(String, Vec<String>), String> {
+    let known = Known { laws: some_laws(), page: "`named`".to_owned() };
+    made_text(text, "a.rt", &SOURCES[source], &known)
+}
+
+/// Returns what the made file lacks of a function of the source of `write_integer`.
+fn lost(function: &str) -> Vec<String> {
+    made(function, 2).unwrap().1
+}
+
+#[test]
+fn variables_are_not_lost() {
+    let parse = "fn parse() -> Option<u8> {\n    let in_range = kind.holds(minus, magnitude);\n    if !in_range {\n        \
+        return None;\n    }\n    b\n}";
+    let text = "fn f() -> &[u8] {\n    let text_length = a.min(b.len());\n    &b[..text_length]\n}";
+    for function in [parse, text] {
+        assert_eq!(lost(function), Vec::<String>::new());
+        check(function, function);
+    }
+}
+
+#[test]
+fn what_is_left_out_of_a_body() {
+    let body = |lines: &str| lost(&format!("fn f(a: u8, turns: &mut Turns) -> u8 {{\n{lines}\n}}"));
+    assert_eq!(body("    // Of it.\n    in_range(a);\n    b"), ["f: in_range(a);"]);
+    assert_eq!(body("    if in_range(a) {\n        b;\n    }\n    c"), ["f: if in_range(a) { b; }"]);
+    assert_eq!(body("    turns.tick(a);\n    g(a, turns);\n    b"), ["f: turns.tick(a);", "f: , turns"]);
+    assert_eq!(body("    g(a, &mut Turns::new())"), ["f: , &mut Turns::new()"]);
+    assert_eq!(body("    let mut t = Turns::new();\n    b"), ["f: let mut t = Turns::new();"]);
+    assert_eq!(body("    self.trace.fault();\n    b"), ["f: self.trace.fault();"]);
+    assert_eq!(body("    unreachable!(\"a\")"), ["f: unreachable => panic"]);
+    assert_eq!(lost("fn in_range(a: u8) {\n    fits_bits(a);\n}"), ["in_range: fits_bits(a);"]);
+}
+
+#[test]
+fn conditions() {
+    let made = |function: &str| made(&format!("{function}\n{{\n    c\n}}"), 0).map(|made| made.0);
+    let listed = made("pub fn a(radix: u32) -> u8\n    requires radix { IsRadix radix }\n    ensures { b }").unwrap();
+    assert!(listed.contains("/// If the radix is not from 2 to 36.\n"), "{listed}");
+    assert!(!made("pub fn named(a: &mut u8) -> u8\n    requires some { 1 ≤ count }").unwrap().contains("Panics"));
+    for (name, condition) in [("other", "1 ≤ count"), ("named", "radix < 36")] {
+        let refused = format!("{name} requires what is neither checked nor named: {condition}");
+        assert_eq!(made(&format!("pub fn {name}(a: u8) -> u8\n    requires {{ {condition} }}")), Err(refused));
+    }
+}
+
+#[test]
+fn functions_with_and_without_a_counter() {
+    let two = |arguments: &str| {
+        let with = "fn a_counted(n: u8, turns: &mut Turns) -> u8 {\n    n\n}";
+        made(&format!("pub fn a(n: u8) -> u8 {{\n    {arguments}\n}}\n\npub {with}"), 2)
+    };
+    assert!(two("a_counted(n, &mut Turns::new())").unwrap().0.ends_with("pub fn a(n: u8) -> u8 {\n    n\n}\n"));
+    let error = "a function with a counter: pub fn a_counted(n: u8) -> u8 {";
+    assert_eq!(two("a_counted(n + 1, &mut Turns::new())"), Err(error.to_owned()));
+}
+
 #[test]
 fn names_of_a_list_that_a_crate_does_not_have() {
-    assert_eq!(SOURCES[0].missing("as_u32"), Some("format_builder.rt:build_strict"));
+    assert_eq!(SOURCES[0].missing("is_radix"), Some("digit_to_char"));
 }

@@ -54,6 +54,7 @@ impl<K: BlockSink, const SIZE: usize> BlockWriter<K, SIZE> {
           failures = K.failures sink;
         } }
     {
+        prove!(0 < SIZE);
         BlockWriter {
             sink,
             block: [0; SIZE],

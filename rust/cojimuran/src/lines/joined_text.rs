@@ -15,7 +15,7 @@ use crate::write_integer::buffer::front_mut;
 ///
 /// # Panics
 ///
-/// If the buffer is too short, except perhaps when the text fits.
+/// If the buffer is [too short](crate#conditions).
 #[inline]
 pub fn write_joined<T: ToLexicalWithOptions>(
     values: &[T],
@@ -45,7 +45,7 @@ pub fn write_joined<T: ToLexicalWithOptions>(
 ///
 /// # Panics
 ///
-/// If the buffer is too short, except perhaps when the text fits.
+/// If the buffer is [too short](crate#conditions).
 #[inline]
 pub fn join<'a, T: ToLexicalWithOptions>(
     values: &[T],

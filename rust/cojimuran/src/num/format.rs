@@ -88,6 +88,10 @@ impl NumberFormat {
 
     /// Returns the number of bytes that `count` digits take in the format. If the digits are grouped,
     /// a separator precedes each group but the first. The count is below 2^63.
+    ///
+    /// # Panics
+    ///
+    /// If the digits are grouped and the count is 2^63 or above.
     #[must_use]
     #[inline]
     pub const fn grouped_len(&self, count: usize) -> usize {

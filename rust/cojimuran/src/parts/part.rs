@@ -30,7 +30,7 @@ pub trait Part: Copy {
     /// # Panics
     ///
     /// If the part is not valid,
-    /// or if the buffer is too short, except perhaps when the text fits.
+    /// or if the buffer is [too short](crate#conditions).
     fn write_to(self, buffer: &mut [u8]) -> usize;
 
     /// Writes the text to the start of the buffer, and returns those bytes of the buffer, which the
@@ -40,7 +40,7 @@ pub trait Part: Copy {
     /// # Panics
     ///
     /// If the part is not valid,
-    /// or if the buffer is too short, except perhaps when the text fits.
+    /// or if the buffer is [too short](crate#conditions).
     #[inline]
     fn to_text(self, buffer: &mut [u8]) -> &mut [u8] {
         let count = self.write_to(buffer);
@@ -72,8 +72,9 @@ pub trait Part: Copy {
     ///
     /// # Panics
     ///
-    /// If the part is not valid, or its text is not UTF-8,
-    /// or if the buffer is too short, except perhaps when the text fits.
+    /// If the part is not valid,
+    /// or if the text of the part is not UTF-8,
+    /// or if the buffer is [too short](crate#conditions).
     #[inline]
     fn to_str(self, buffer: &mut [u8]) -> &str {
         from_utf8(self.to_text(buffer)).unwrap()
@@ -86,7 +87,8 @@ pub trait Part: Copy {
     ///
     /// # Panics
     ///
-    /// If the part is not valid, or its text is not UTF-8.
+    /// If the part is not valid,
+    /// or if the text of the part is not UTF-8.
     #[inline]
     fn try_to_str(self, buffer: &mut [u8]) -> Option<&str> {
         if self.room() <= buffer.len() {

@@ -7,7 +7,7 @@
 ///
 /// # Panics
 ///
-/// If the buffer is too short, except perhaps when the text fits.
+/// If the buffer is [too short](crate#conditions).
 #[inline(always)]
 pub fn copy_to_front(text: &[u8], buffer: &mut [u8]) -> usize {
     let count = text.len();
@@ -20,7 +20,7 @@ pub fn copy_to_front(text: &[u8], buffer: &mut [u8]) -> usize {
 ///
 /// # Panics
 ///
-/// If the buffer is too short, except perhaps when the text fits.
+/// If the buffer is [too short](crate#conditions).
 #[inline(always)]
 pub fn front_mut(buffer: &mut [u8], count: usize) -> &mut [u8] {
     &mut buffer[..count]

@@ -21,9 +21,14 @@ pub struct BlockWriter<K: BlockSink, const SIZE: usize> {
 
 impl<K: BlockSink, const SIZE: usize> BlockWriter<K, SIZE> {
     /// Returns a writer with an empty block. `SIZE` must not be 0.
+    ///
+    /// # Panics
+    ///
+    /// If `SIZE` is 0.
     #[must_use]
     #[inline]
     pub fn new(sink: K) -> BlockWriter<K, SIZE> {
+        assert!(0 < SIZE);
         BlockWriter {
             sink,
             block: [0; SIZE],

@@ -21,7 +21,7 @@ pub trait Decimal: DecimalCount {
     ///
     /// # Panics
     ///
-    /// If the buffer is too short, except perhaps when the text fits.
+    /// If the buffer is [too short](crate#conditions).
     #[inline(always)]
     fn decimal(self, buffer: &mut [u8]) -> usize {
         write_decimal(self, Self::DECIMAL_WIDTH, buffer)
@@ -34,7 +34,7 @@ pub trait Decimal: DecimalCount {
     /// # Panics
     ///
     /// If the number is 10^19 or above,
-    /// or if the buffer is too short, except perhaps when the text fits.
+    /// or if the buffer is [too short](crate#conditions).
     #[inline(always)]
     fn decimal_signed(self, buffer: &mut [u8]) -> usize {
         let number = self.as_usize() as u64;

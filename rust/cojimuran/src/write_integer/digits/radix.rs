@@ -74,7 +74,7 @@ pub trait Radix: UnsignedInteger {
     /// # Panics
     ///
     /// If the radix is not from 2 to 36,
-    /// or if the buffer is too short, except perhaps when the text fits.
+    /// or if the buffer is [too short](crate#conditions).
     #[inline(always)]
     fn radix(self, radix: u32, buffer: &mut [u8]) -> usize {
         algorithm(self, radix, get_table(radix), buffer)

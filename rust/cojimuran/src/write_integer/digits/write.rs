@@ -49,7 +49,7 @@ pub trait WriteInteger: Decimal + Radix {
     /// # Panics
     ///
     /// If the radix is not from 2 to 36,
-    /// or if the buffer is too short, except perhaps when the text fits.
+    /// or if the buffer is [too short](crate#conditions).
     #[inline(always)]
     fn write_integer(self, radix: u32, buffer: &mut [u8]) -> usize {
         write_integer(self, radix, buffer)
@@ -61,7 +61,7 @@ pub trait WriteInteger: Decimal + Radix {
     ///
     /// If the radix is not from 2 to 36,
     /// or if the radix is 10 and the number is 10^19 or above,
-    /// or if the buffer is too short, except perhaps when the text fits.
+    /// or if the buffer is [too short](crate#conditions).
     #[inline(always)]
     fn write_integer_signed(self, radix: u32, buffer: &mut [u8]) -> usize {
         let number = self.as_usize() as u64;
@@ -73,7 +73,7 @@ pub trait WriteInteger: Decimal + Radix {
     ///
     /// # Panics
     ///
-    /// If the buffer is too short, except perhaps when the text fits.
+    /// If the buffer is [too short](crate#conditions).
     #[inline(always)]
     fn write_mantissa(self, format: &NumberFormat, buffer: &mut [u8]) -> usize {
         self.write_integer(format.mantissa_radix(), buffer)
@@ -83,7 +83,8 @@ pub trait WriteInteger: Decimal + Radix {
     ///
     /// # Panics
     ///
-    /// If the buffer is too short, except perhaps when the text fits.
+    /// If the radix is 10 and the number is 10^19 or above,
+    /// or if the buffer is [too short](crate#conditions).
     #[inline(always)]
     fn write_mantissa_signed(self, format: &NumberFormat, buffer: &mut [u8]) -> usize {
         self.write_integer_signed(format.mantissa_radix(), buffer)
@@ -93,7 +94,7 @@ pub trait WriteInteger: Decimal + Radix {
     ///
     /// # Panics
     ///
-    /// If the buffer is too short, except perhaps when the text fits.
+    /// If the buffer is [too short](crate#conditions).
     #[inline(always)]
     fn write_exponent(self, format: &NumberFormat, buffer: &mut [u8]) -> usize {
         self.write_integer(format.exponent_radix(), buffer)
@@ -103,7 +104,8 @@ pub trait WriteInteger: Decimal + Radix {
     ///
     /// # Panics
     ///
-    /// If the buffer is too short, except perhaps when the text fits.
+    /// If the radix is 10 and the number is 10^19 or above,
+    /// or if the buffer is [too short](crate#conditions).
     #[inline(always)]
     fn write_exponent_signed(self, format: &NumberFormat, buffer: &mut [u8]) -> usize {
         self.write_integer_signed(format.exponent_radix(), buffer)

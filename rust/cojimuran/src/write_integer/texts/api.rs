@@ -17,7 +17,7 @@ pub trait ToLexical: LexicalInteger + FormattedSize {
     ///
     /// # Panics
     ///
-    /// If the buffer is too short, except perhaps when the text fits.
+    /// If the buffer is [too short](crate#conditions).
     #[inline(always)]
     fn write_lexical(self, buffer: &mut [u8]) -> usize {
         self.write_text(buffer, &STANDARD)
@@ -29,7 +29,7 @@ pub trait ToLexical: LexicalInteger + FormattedSize {
     ///
     /// # Panics
     ///
-    /// If the buffer is too short, except perhaps when the text fits.
+    /// If the buffer is [too short](crate#conditions).
     fn write_magnitude(self, format: &NumberFormat, buffer: &mut [u8]) -> usize;
 
     /// Returns the number of digits of the absolute value in the radix, which is from 2 to 36.
@@ -46,7 +46,7 @@ pub trait ToLexical: LexicalInteger + FormattedSize {
     ///
     /// # Panics
     ///
-    /// If the buffer is too short, except perhaps when the text fits.
+    /// If the buffer is [too short](crate#conditions).
     #[inline(always)]
     fn write_text(self, buffer: &mut [u8], format: &NumberFormat) -> usize {
         let sign = write_sign_before_digits(self, buffer, format);
@@ -61,7 +61,7 @@ pub trait ToLexical: LexicalInteger + FormattedSize {
     ///
     /// # Panics
     ///
-    /// If the buffer is too short, except perhaps when the text fits.
+    /// If the buffer is [too short](crate#conditions).
     #[inline(always)]
     fn to_lexical(self, buffer: &mut [u8]) -> &mut [u8] {
         let count = self.write_lexical(buffer);
@@ -85,7 +85,7 @@ pub trait ToLexicalWithOptions: ToLexical {
     ///
     /// # Panics
     ///
-    /// If the buffer is too short, except perhaps when the text fits.
+    /// If the buffer is [too short](crate#conditions).
     #[inline(always)]
     fn write_lexical_with_options(
         self,
@@ -117,7 +117,7 @@ pub trait ToLexicalWithOptions: ToLexical {
     ///
     /// # Panics
     ///
-    /// If the buffer is too short, except perhaps when the text fits.
+    /// If the buffer is [too short](crate#conditions).
     #[inline(always)]
     fn to_lexical_with_options<'a>(
         self,
@@ -168,7 +168,7 @@ pub fn sign_len<T: LexicalInteger>(number: T, format: &NumberFormat) -> usize {
 ///
 /// # Panics
 ///
-/// If the buffer is too short, except perhaps when the text fits.
+/// If the buffer is [too short](crate#conditions).
 #[inline(always)]
 pub fn write_sign<T: LexicalInteger>(number: T, buffer: &mut [u8], format: &NumberFormat) -> usize {
     let is_negative = number.is_negative();

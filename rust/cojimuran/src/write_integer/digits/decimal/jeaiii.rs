@@ -83,7 +83,7 @@ pub(crate) fn write_decimal<T: UnsignedInteger>(
 ///
 /// # Panics
 ///
-/// If the buffer is too short, except perhaps when the text fits.
+/// If the buffer is [too short](crate#conditions).
 #[inline(always)]
 pub fn from_u8(n: u8, buffer: &mut [u8]) -> usize {
     write_32(u32::from(n), buffer)
@@ -94,7 +94,7 @@ pub fn from_u8(n: u8, buffer: &mut [u8]) -> usize {
 ///
 /// # Panics
 ///
-/// If the buffer is too short, except perhaps when the text fits.
+/// If the buffer is [too short](crate#conditions).
 #[inline(always)]
 pub fn from_u16(n: u16, buffer: &mut [u8]) -> usize {
     write_32(u32::from(n), buffer)
@@ -105,7 +105,7 @@ pub fn from_u16(n: u16, buffer: &mut [u8]) -> usize {
 ///
 /// # Panics
 ///
-/// If the buffer is too short, except perhaps when the text fits.
+/// If the buffer is [too short](crate#conditions).
 #[inline(always)]
 pub fn from_u32(n: u32, buffer: &mut [u8]) -> usize {
     write_32(n, buffer)
@@ -116,7 +116,7 @@ pub fn from_u32(n: u32, buffer: &mut [u8]) -> usize {
 ///
 /// # Panics
 ///
-/// If the buffer is too short, except perhaps when the text fits.
+/// If the buffer is [too short](crate#conditions).
 #[inline(always)]
 pub fn from_u64(n: u64, buffer: &mut [u8]) -> usize {
     write_64(n, buffer)
@@ -128,7 +128,7 @@ pub fn from_u64(n: u64, buffer: &mut [u8]) -> usize {
 /// # Panics
 ///
 /// If the number is 10^19 or above,
-/// or if the buffer is too short, except perhaps when the text fits.
+/// or if the buffer is [too short](crate#conditions).
 #[inline(always)]
 pub fn from_i64(n: u64, buffer: &mut [u8]) -> usize {
     assert!(n < 10_000_000_000_000_000_000);
