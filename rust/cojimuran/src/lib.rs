@@ -16,8 +16,6 @@
 //!   in another radix, with a required `+`, or in groups of digits. A buffer of
 //!   [`FormattedSize::FORMATTED_SIZE_DECIMAL`] bytes is enough in decimal, and [`BUFFER_SIZE`] always.
 //! - [`parts`] has tuples of parts that are written as one text, as in a log line.
-//! - `lines` and `streams`, with the feature `std`, answer lines that request numbers, and join
-//!   numbers. All else needs no std.
 //! - [`write_integer`], [`num`] and [`tables`] have what these are made of, such as the writers of
 //!   digits without a sign.
 //!
@@ -29,36 +27,18 @@
 //! A version 0.x.0 may change names and conditions, as the changelog of the repository lists, and
 //! 0.x.y changes none.
 #![no_std]
-#![cfg_attr(docsrs, feature(doc_cfg))]
 #![forbid(unsafe_code)]
 #![warn(missing_docs)]
 
 #[cfg(not(target_pointer_width = "64"))]
 compile_error!("this package needs pointers of 64 bits: with others its texts would be wrong");
 
-#[cfg(feature = "std")]
-extern crate std;
-
-#[cfg(feature = "std")]
-#[cfg_attr(docsrs, doc(cfg(feature = "std")))]
-#[allow(
-    clippy::new_without_default,
-    reason = "an answerer is at the start of an input"
-)]
-#[allow(
-    clippy::len_without_is_empty,
-    reason = "the length of what a sink took is not that of a collection"
-)]
-pub mod lines;
 #[allow(
     clippy::module_inception,
     reason = "the module of the integer types has the name of its crate"
 )]
 pub mod num;
 pub mod parts;
-#[cfg(feature = "std")]
-#[cfg_attr(docsrs, doc(cfg(feature = "std")))]
-pub mod streams;
 pub mod tables;
 pub mod write_integer;
 

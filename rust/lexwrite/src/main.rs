@@ -11,8 +11,8 @@ fn main() -> ExitCode {
 /// was. It also repeats an interrupted write, and writes once more at the end of a process whose write failed.
 #[cfg(unix)]
 fn answer_lines() -> std::io::Result<u8> {
-    use cojimuran::lines::{BlockWriter, Writing};
-    use cojimuran::streams::answer_reader;
+    use lexwrite::lines::{BlockWriter, Writing};
+    use lexwrite::streams::answer_reader;
     use std::fs::File;
     use std::os::fd::AsFd;
 
@@ -25,5 +25,5 @@ fn answer_lines() -> std::io::Result<u8> {
 /// Answers the lines, if the standard streams are no files.
 #[cfg(not(unix))]
 fn answer_lines() -> std::io::Result<u8> {
-    Ok(cojimuran::streams::answer_lines())
+    Ok(lexwrite::streams::answer_lines())
 }

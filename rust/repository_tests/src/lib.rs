@@ -7,5 +7,5 @@ pub mod runtime;
 /// The callers of `crates/uses`.
 #[allow(unused, clippy::all, reason = "they are written for Rattle")]
 pub mod uses {
-    include!(concat!(env!("OUT_DIR"), "/uses/main.rs"));
+    include!(concat!(env!("OUT_DIR"), "/uses/lib.rs"));
 }

@@ -4,4 +4,4 @@
 // A test that returns before its end would pass.
 #![deny(unreachable_code)]
 
-include!(concat!(env!("OUT_DIR"), "/library_tests/main.rs"));
+include!(concat!(env!("OUT_DIR"), "/library_tests/lib.rs"));

@@ -47,8 +47,8 @@ fn additions(
     let Function { name, signature, body, .. } = function;
     let (parameters, result) = signature.trim_end_matches(';').rsplit_once(") -> ").unwrap_or((signature, ""));
     let mut lines = Vec::new();
-    if function.is_public && source.library() == "crate" {
-        let panics = conditions::panics(required, &known.page)?;
+    if function.is_public && source.is_documented() {
+        let panics = conditions::panics(required, &known.pages)?;
         if !panics.is_empty() {
             lines.push(format!("///\n/// # Panics\n///\n/// If {}.", panics.join(",\n/// or if ")));
         }

@@ -7,7 +7,7 @@ use crate::functions::Function;
 enum Broken {
     /// The call panics, with the words after "If".
     Panics(&'static str),
-    /// The page `CONDITIONS.md` of the package names the function.
+    /// The page of the conditions of the package names the function.
     IsNamed,
     /// Only the package itself calls the function.
     IsPrivate,
@@ -62,8 +62,8 @@ const CONDITIONS: &[(&str, Broken)] = &[
     ("IfSome line (λ bytes. length bytes.now ≤ 64)", IsPrivate),
 ];
 
-/// Returns when a function panics, or an error if a condition of it is neither checked nor named on the page.
-pub(crate) fn panics(function: &Function, page: &str) -> Result<Vec<&'static str>, String> {
+/// Returns when a function panics, or an error if a condition of it is neither checked nor named on a page.
+pub(crate) fn panics(function: &Function, pages: &str) -> Result<Vec<&'static str>, String> {
     let mut found = Vec::new();
     for condition in &function.conditions {
         let (_, text) = condition.split_once("{ ").unwrap_or_default();
@@ -71,7 +71,7 @@ pub(crate) fn panics(function: &Function, page: &str) -> Result<Vec<&'static str
         match CONDITIONS.iter().find(|(end, _)| text.ends_with(end)) {
             Some((_, Panics(when))) if !found.contains(when) => found.push(*when),
             Some((_, Panics(_) | IsPrivate)) => {}
-            Some((_, IsNamed)) if page.contains(&format!("`{}`", function.name)) => {}
+            Some((_, IsNamed)) if pages.contains(&format!("`{}`", function.name)) => {}
             _ => return Err(format!("{} requires what is neither checked nor named: {text}", function.name)),
         }
     }

@@ -26,11 +26,14 @@ const START: &str = "// Made by `strip` from ";
 /// The file of what is left out of the bodies of functions.
 const LEFT_OUT: &str = "rust/strip/left_out.txt";
 
+/// What names the conditions that a package does not check.
+const PAGES: [&str; 2] = ["rust/cojimuran/CONDITIONS.md", "rust/lexwrite/src/lib.rs"];
+
 /// What is read before the files.
 pub(crate) struct Known {
     pub laws: Laws,
-    /// The page of the conditions that the package does not check.
-    pub page: String,
+    /// The pages of the conditions that a package does not check.
+    pub pages: String,
 }
 
 /// Returns the path and the text of each file that is made of the repository in this folder.
@@ -40,7 +43,7 @@ fn made(top: &Path) -> Result<BTreeMap<PathBuf, String>, String> {
     for source in SOURCES {
         let (files, lines) = made_of(top, source, &known)?;
         left_out += &lines;
-        if !source.is_test() {
+        if source.is_committed() {
             made.extend(files);
         }
     }
@@ -66,7 +69,9 @@ fn known(top: &Path) -> Result<Known, String> {
     }
     match laws.intersection(&others).next() {
         Some(name) => Err(format!("{name} is a law, and also the name of another function")),
-        None => Ok(Known { laws, page: read(&top.join("rust/cojimuran/CONDITIONS.md"))? }),
+        None => {
+            Ok(Known { laws, pages: PAGES.map(|page| read(&top.join(page))).into_iter().collect::<Result<_, _>>()? })
+        }
     }
 }
 
@@ -101,8 +106,6 @@ fn made_text(text: &str, file: &str, source: &Source, known: &Known) -> Result<(
     let lines = lost::left_out(&source.replaced(text, allowed), &made);
     let made = with_sorted_imports(&counted::without_counted(&made)?);
     let made = match left_out::unknown(&made) {
-        // Its documentation is that of the file that includes it.
-        _ if source.is_test() && file == "lib.rt" => without_documentation(&made),
         _ if source.is_test() => made,
         Some(line) => return Err(format!("a word that only Rattle has: {line}")),
         None => additions::with_additions(&made, text, file, source, known)?,
@@ -110,21 +113,25 @@ fn made_text(text: &str, file: &str, source: &Source, known: &Known) -> Result<(
     Ok((made, lines))
 }
 
-/// Writes the tests that are made of the crates to a folder.
-pub fn make_tests(top: &Path, folder: &Path) -> Result<(), String> {
+/// Makes the files of a package that are not committed, in the folder of what its build script makes. The documentation
+/// of a root is apart: what includes a file cannot have that of it.
+pub fn make_built(top: &Path, package: &str, folder: &Path) -> Result<(), String> {
     let known = known(top)?;
-    for source in SOURCES.iter().filter(|source| source.is_test()) {
+    for source in SOURCES.iter().filter(|source| source.package == package) {
         for (path, text) in made_of(top, source, &known)?.0 {
+            let (documentation, code): (Vec<&str>, Vec<&str>) = text.lines().partition(|line| line.starts_with("//!"));
             let file = folder.join(&path);
-            let written = fs::create_dir_all(file.parent().unwrap_or(folder)).and_then(|()| fs::write(&file, text));
-            written.map_err(|error| message(&path, error))?;
+            if path.ends_with("lib.rs") {
+                let lines = documentation.iter().map(|line| line.trim_start_matches("//!").trim_start_matches(' '));
+                write(&file.with_extension("md"), &lines.collect::<Vec<_>>().join("\n"))?;
+                write(&file, &code.join("\n"))?;
+            } else {
+                write(&file, &text)?;
+            }
         }
+        println!("cargo::rerun-if-changed={}", top.join(source.folder_of_crate()).display());
     }
     Ok(())
-}
-
-fn without_documentation(text: &str) -> String {
-    text.lines().filter(|line| !line.starts_with("//!")).map(|line| format!("{line}\n")).collect()
 }
 
 /// Returns the text with the imports next to one another in the order of rustfmt: `super` and `crate` precede names.
@@ -175,11 +182,10 @@ fn changes(top: &Path) -> Result<Vec<(PathBuf, Option<String>)>, String> {
 pub fn make(top: &Path) -> Result<(), String> {
     for (path, text) in changes(top)? {
         let file = top.join(&path);
-        let written = match text {
-            Some(text) => fs::create_dir_all(file.parent().unwrap_or(top)).and_then(|()| fs::write(&file, text)),
-            None => fs::remove_file(&file),
-        };
-        written.map_err(|error| message(&path, error))?;
+        match text {
+            Some(text) => write(&file, &text)?,
+            None => fs::remove_file(&file).map_err(|error| message(&path, error))?,
+        }
     }
     Ok(())
 }
@@ -196,6 +202,12 @@ pub fn check(top: &Path) -> Result<(), String> {
     };
     let wrong: Vec<String> = changes(top)?.into_iter().map(wrong).collect();
     if wrong.is_empty() { Ok(()) } else { Err(wrong.join("\n")) }
+}
+
+/// Writes a file, in a folder that may be new.
+fn write(file: &Path, text: &str) -> Result<(), String> {
+    let folder = file.parent().unwrap_or(file);
+    fs::create_dir_all(folder).and_then(|()| fs::write(file, text)).map_err(|error| message(file, error))
 }
 
 fn read(path: &Path) -> Result<String, String> {

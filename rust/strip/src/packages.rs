@@ -9,11 +9,10 @@ use std::path::{Path, PathBuf};
 pub(crate) struct Source {
     /// The name of the crate.
     pub name: &'static str,
-    /// The folder of the made files, in `rust`, or empty for tests and what only they call, which are made where cargo
-    /// builds `repository_tests`.
-    pub folder: &'static str,
-    /// The file of the root, without `.rs`: that of a module, `main`, or empty if none is made.
-    pub root: &'static str,
+    /// The package that the made files are of.
+    pub package: &'static str,
+    /// The module of the package that is made of the crate, or empty for its root.
+    pub module: &'static str,
     /// Attributes other than `#[inline]`, each with its functions, and the files, paths in `src`, whose functions have
     /// it. The first that names a function counts.
     pub attributes: Listed,
@@ -36,32 +35,30 @@ impl Source {
 
     /// Returns whether these are tests, or what only they call.
     pub fn is_test(&self) -> bool {
-        self.folder.is_empty()
+        self.package == TESTS.package
     }
 
-    /// Returns whether the crate is a module of what is made.
-    pub fn is_module(&self) -> bool {
-        !matches!(self.root, "" | "main")
+    /// Returns whether the made files are committed. The others are made when cargo builds their package.
+    pub fn is_committed(&self) -> bool {
+        matches!(self.package, "cojimuran" | "lexical_c")
     }
 
-    /// Returns how a path names the library.
-    pub fn library(&self) -> &'static str {
-        if self.folder == LIBRARY.folder { "crate" } else { "cojimuran" }
+    /// Returns whether the made files have a documentation for users.
+    pub fn is_documented(&self) -> bool {
+        matches!(self.package, "cojimuran" | "lexwrite")
     }
 
-    /// Returns the path of what is made of a file, a path in `src`, or `None` if nothing is.
+    /// Returns the path of what is made of a file, a path in `src`, or `None` if nothing is. It begins in the folder of
+    /// the repository, or in that of what cargo builds.
     pub fn made_of(&self, file: &str) -> Option<PathBuf> {
-        let made = Path::new("rust").join(self.folder);
-        let folder = if self.is_test() { Path::new(self.name) } else { made.as_path() };
         let is_in = |module: &str| file.strip_prefix(module).is_some_and(|rest| rest.starts_with(['.', '/']));
+        let folder = Path::new("rust").join(self.package).join("src");
         match file {
             _ if self.left_out.split_whitespace().any(is_in) => None,
-            "lib.rt" if self.is_test() => Some(folder.join("main.rs")),
-            _ if self.is_test() => Some(folder.join(file).with_extension("rs")),
-            "lib.rt" if self.root.is_empty() => None,
-            "lib.rt" => Some(folder.join(self.root).with_extension("rs")),
-            _ if self.is_module() => Some(folder.join(self.root).join(file).with_extension("rs")),
-            _ => Some(folder.join(file).with_extension("rs")),
+            _ if !self.is_committed() => Some(Path::new(self.name).join(file).with_extension("rs")),
+            "lib.rt" if self.module.is_empty() => None,
+            "lib.rt" => Some(folder.join(self.module).with_extension("rs")),
+            _ => Some(folder.join(self.module).join(file).with_extension("rs")),
         }
     }
 
@@ -69,18 +66,19 @@ impl Source {
     /// as they are written in Rust.
     pub fn replaced(&self, text: &str, replaced: Replaced) -> String {
         let mut text = text.to_owned();
-        if self.is_module() {
-            text = text.replace("crate::", &format!("crate::{}::", self.root));
+        if !self.module.is_empty() {
+            text = text.replace("crate::", &format!("crate::{}::", self.module));
         }
         for (from, to) in replaced.iter().chain(EVERYWHERE) {
             text = text.replace(from, to);
         }
-        for module in SOURCES.iter().filter(|source| source.folder == LIBRARY.folder) {
-            let path = format!("{}::{}::", self.library(), module.root);
-            text = text.replace(&format!("{}::", module.name), &path).replace(module.name, module.root);
+        for other in SOURCES.iter().filter(|other| other.is_documented()) {
+            let package = if other.package == self.package { "crate" } else { other.package };
+            let path = format!("{package}::{}::", other.module);
+            text = text.replace(&format!("{}::", other.name), &path).replace(other.name, other.module);
         }
-        // Only the modules that need std use `io`.
-        if self.is_test() { text } else { text.replace(" std::", " core::").replace(" core::io", " std::io") }
+        // The others need std.
+        if self.is_committed() { text.replace(" std::", " core::") } else { text }
     }
 
     /// Returns a name or a text of the lists that a crate with these names of files and texts does not have.
@@ -99,13 +97,19 @@ pub(crate) fn has(list: &str, name: &str) -> bool {
 }
 
 const LIBRARY: Source =
-    Source { name: "", folder: "cojimuran/src", root: "", attributes: &[], constant: "", left_out: "", replaced: &[] };
+    Source { name: "", package: "cojimuran", module: "", attributes: &[], constant: "", left_out: "", replaced: &[] };
+
+/// The lines and the streams of the program.
+const PROGRAM: Source = Source { package: "lexwrite", ..LIBRARY };
+
+/// What calls the libraries as the repository's tests do.
+const TESTS: Source = Source { package: "repository_tests", replaced: replaced::IN_TESTS, ..LIBRARY };
 
 /// The crates of which files are made.
 pub(crate) const SOURCES: &[Source] = &[
     Source {
         name: "lexical_num",
-        root: "num",
+        module: "num",
         constant: "
             digit_to_char is_radix is_group_size is_mark are_valid new binary from_radix radix mantissa_radix
             exponent_radix required_mantissa_sign digit_grouping grouped_len is_valid build build_strict
@@ -113,10 +117,10 @@ pub(crate) const SOURCES: &[Source] = &[
         left_out: "ghost_log",
         ..LIBRARY
     },
-    Source { name: "lexical_tables", root: "tables", ..LIBRARY },
+    Source { name: "lexical_tables", module: "tables", ..LIBRARY },
     Source {
         name: "lexical_write_integer",
-        root: "write_integer",
+        module: "write_integer",
         attributes: &[
             // For a library that calls each writer once, as the one for C.
             (
@@ -142,7 +146,7 @@ pub(crate) const SOURCES: &[Source] = &[
     },
     Source {
         name: "lexical_parts",
-        root: "parts",
+        module: "parts",
         // A tuple of parts and what it often contains. So the texts and the widths that are constant in a caller are
         // known.
         attributes: &[("#[inline(always)]", "tuples.rt joined.rt integers.rt number.rt text.rt")],
@@ -152,15 +156,15 @@ pub(crate) const SOURCES: &[Source] = &[
     },
     Source {
         name: "lexical_lines",
-        root: "lines",
+        module: "lines",
         left_out: "devices/trace laws",
         replaced: replaced::LINES,
-        ..LIBRARY
+        ..PROGRAM
     },
-    Source { name: "lexical_streams", root: "streams", replaced: replaced::STREAMS, ..LIBRARY },
+    Source { name: "lexical_streams", module: "streams", replaced: replaced::STREAMS, ..PROGRAM },
     Source {
         name: "lexical_c",
-        folder: "lexical_c/src",
+        package: "lexical_c",
         attributes: &[
             // If rustc inlined it, it would be in the code of each type twice.
             ("#[inline(never)]", "write_digits"),
@@ -170,10 +174,7 @@ pub(crate) const SOURCES: &[Source] = &[
         replaced: replaced::FOR_C,
         ..LIBRARY
     },
-    Source { name: "uses", root: "uses", left_out: "refused_calls/clones turn_lists", ..TESTS },
+    Source { name: "uses", module: "uses", left_out: "refused_calls/clones turn_lists", ..TESTS },
     Source { name: "uses_tests", ..TESTS },
     Source { name: "library_tests", ..TESTS },
 ];
-
-/// What calls the libraries as the repository's tests do.
-const TESTS: Source = Source { folder: "", replaced: replaced::IN_TESTS, ..LIBRARY };

@@ -83,6 +83,7 @@ pub(crate) const PARTS: Replaced = &[
 ];
 
 pub(crate) const LINES: Replaced = &[
+    ("//! use lexical_lines::", "//! use lexwrite::lines::"),
     // What only contracts use.
     ("{ByteSink, note_put}", "ByteSink"),
     ("{ToLexical, ToLexicalWithOptions}", "ToLexicalWithOptions"),
@@ -109,6 +110,8 @@ pub(crate) const LINES: Replaced = &[
 
 /// In Rattle the runtime permits input and output, and returns their streams.
 pub(crate) const STREAMS: Replaced = &[
+    ("//! use lexical_lines::", "//! use lexwrite::lines::"),
+    ("//! use lexical_streams::", "//! use lexwrite::streams::"),
     ("(rt: HostRuntime)", "()"),
     ("rt.reader()", "io::stdin().lock()"),
     ("io::writer(&rt)", "io::stdout().lock()"),

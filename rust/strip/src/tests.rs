@@ -51,7 +51,7 @@ fn rust_stays() {
 
 /// Returns what is made of a text of a source, and what that lacks.
 fn made(text: &str, source: usize) -> Result<(String, Vec<String>), String> {
-    let known = Known { laws: some_laws(), page: "`named`".to_owned() };
+    let known = Known { laws: some_laws(), pages: "`named`".to_owned() };
     made_text(text, "a.rt", &SOURCES[source], &known)
 }
 

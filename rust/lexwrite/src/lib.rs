@@ -1,0 +1,25 @@
+//! Answers lines that request numbers as text, in blocks of bytes, over any reader and writer. The program `lexwrite`
+//! does so over the standard streams. `build.rs` makes the modules of the sources that are proved.
+//!
+//! # Conditions
+//!
+//! With a buffer that is too short, a call panics, or its text fits all the same and is right. These conditions are not
+//! checked:
+//!
+//! - The block of `read_block` is not empty. Otherwise it returns 0, as at the end of the input.
+//! - Neither device of `answer_stream` has been used before, and the writer of `answer_reader` has not failed. Otherwise
+//!   only the rest of the input is answered, after what the writer has taken.
+
+#![forbid(unsafe_code)]
+
+#[doc = include_str!(concat!(env!("OUT_DIR"), "/lexical_lines/lib.md"))]
+#[allow(clippy::new_without_default, reason = "an answerer is at the start of an input")]
+#[allow(clippy::len_without_is_empty, reason = "the length of what a sink took is not that of a collection")]
+pub mod lines {
+    include!(concat!(env!("OUT_DIR"), "/lexical_lines/lib.rs"));
+}
+
+#[doc = include_str!(concat!(env!("OUT_DIR"), "/lexical_streams/lib.md"))]
+pub mod streams {
+    include!(concat!(env!("OUT_DIR"), "/lexical_streams/lib.rs"));
+}
