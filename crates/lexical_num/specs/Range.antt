@@ -1,5 +1,6 @@
 -- The smallest and the largest number of each integer type.
-use Rattle.std.specs.Prelude.{◌≡◌, ℕ, ◌-◌, ◌^◌, Bool, true, false, ℤ, pos, negsuc}
+use Rattle.std.specs.Prelude.{◌≡◌, ℕ, ◌-◌, ◌^◌, Bool, true, false, ℤ, pos, negsuc, unsigned_abs}
+use Rattle.std.proofs.Common.{ap}
 use Rattle.lexical_num.specs.BitWidth.{IsBitWidth}
 
 -- the smallest number of an unsigned or a signed type with this number of bits
@@ -17,3 +18,7 @@ pub record IsUnsigned (bits : ℕ) (least greatest : ℤ) : Type 0 where
   pub width : IsBitWidth bits
   pub from_zero : least ≡ pos 0
   pub to_greatest : greatest ≡ pos (2 ^ bits - 1)
+
+-- two numbers from 0 are equal if they are equal as integers
+pub equal_by_pos : (x y : ℕ) → pos x ≡ pos y → x ≡ y
+equal_by_pos x y same = ap unsigned_abs same

@@ -10,7 +10,7 @@ use std::marker::Model;
 /// The parts of a format, valid or not: the radices of the mantissa and of the exponent, whether a
 /// `+` precedes a number that is not negative, and, if the digits are grouped, the number of digits
 /// of a group and the mark, which is the separator between two groups.
-#[derive(Clone, Copy, PartialEq, Eq, Debug)]
+#[derive(Clone, Copy, PartialEq, Eq, Hash, Debug)]
 pub(crate) struct Parts {
     pub mantissa_radix: u8,
     pub exponent_radix: u8,
@@ -37,7 +37,7 @@ impl Parts {
 /// digits, and the separator is a printable ASCII character other than a letter, a digit or a sign.
 ///
 /// `NumberFormatBuilder` builds a format; the documentation of this crate has examples.
-#[derive(Clone, Copy, PartialEq, Eq, Debug)]
+#[derive(Clone, Copy, PartialEq, Eq, Hash, Debug)]
 pub struct NumberFormat {
     pub(crate) parts: Parts,
 }

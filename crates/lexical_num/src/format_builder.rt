@@ -12,7 +12,7 @@ use std::marker::Model;
 /// A builder of formats. Its parts may be any bytes until a format is built from them.
 ///
 /// The documentation of this crate has examples.
-#[derive(Clone, Copy, PartialEq, Eq, Debug)]
+#[derive(Clone, Copy, PartialEq, Eq, Hash, Debug)]
 pub struct NumberFormatBuilder {
     parts: Parts,
 }
@@ -102,9 +102,12 @@ impl NumberFormatBuilder {
         self
     }
 
-    /// Returns the format with these parts, or an error that names the first invalid part. The
-    /// mantissa radix is checked first, then the exponent radix, then the group size, then the
-    /// separator. The builder is unchanged.
+    /// Returns the format with these parts. The builder is unchanged.
+    ///
+    /// # Errors
+    ///
+    /// An error that names the first invalid part: the mantissa radix is checked first, then the
+    /// exponent radix, then the group size, then the separator.
     pub fn build(&self) -> Result<NumberFormat>
         ensures valid { IsOk result ↔ IsValid self.now }
         ensures format { IfOk result (λ format. format ≡ self.now) }
@@ -144,7 +147,13 @@ impl NumberFormatBuilder {
         requires { IsValid self.now }
         ensures { result ≡ self.now }
     {
-        prove!(self.parts.are_valid());
+        // In Rust one of these says which part is invalid.
+        prove!(is_radix(self.parts.mantissa_radix as u64));
+        prove!(is_radix(self.parts.exponent_radix as u64));
+        if let Some((size, mark)) = self.parts.digit_grouping {
+            prove!(is_group_size(size as u64));
+            prove!(is_mark(mark as u64));
+        }
         NumberFormat { parts: self.parts }
     }
 }

@@ -3,9 +3,9 @@
 
 ghost use Rattle.std.specs.Prelude.{◌≡◌, ℕ, ◌-◌, ◌/◌, ◌%◌, ◌^◌, ◌<◌, ◌≤◌, ◌↔◌, IsTrue, refl};
 ghost use Rattle.std.specs.Prelude.{Bool, true, false, ℤ, pos, ◌≤ℤ◌, ◌<ℤ◌};
-ghost use Rattle.std.proofs.Common.{rules, lit≤};
+ghost use Rattle.std.proofs.Common.{lit≤};
 ghost use Rattle.lexical_num.specs.DecimalWidth.{IsDecimalWidth, is_decimal_width};
-ghost use Rattle.lexical_num.specs.Range.{IsUnsigned, greatest_of, least_of};
+ghost use Rattle.lexical_num.specs.Range.{IsUnsigned, equal_by_pos, greatest_of, least_of};
 ghost use Rattle.lexical_num.specs.BitWidth.{IsBitWidth, is_8, is_16, is_32, is_64};
 
 /// An integer type whose numbers can be written.
@@ -371,7 +371,7 @@ impl UnsignedInteger for u8 {
 
     ghost range = { record { width = is_8; from_zero = refl; to_greatest = refl } };
 
-    ghost equal_by_number = { Prim.search rules };
+    ghost equal_by_number = { equal_by_pos };
 
     fn from_u32(value: u32) -> u8 {
         prove!(value < 256);
@@ -398,7 +398,7 @@ impl UnsignedInteger for u16 {
 
     ghost range = { record { width = is_16; from_zero = refl; to_greatest = refl } };
 
-    ghost equal_by_number = { Prim.search rules };
+    ghost equal_by_number = { equal_by_pos };
 
     fn from_u32(value: u32) -> u16 {
         prove!(value < 65_536);
@@ -425,7 +425,7 @@ impl UnsignedInteger for u32 {
 
     ghost range = { record { width = is_32; from_zero = refl; to_greatest = refl } };
 
-    ghost equal_by_number = { Prim.search rules };
+    ghost equal_by_number = { equal_by_pos };
 
     fn from_u32(value: u32) -> u32 {
         value
@@ -451,7 +451,7 @@ impl UnsignedInteger for u64 {
 
     ghost range = { record { width = is_64; from_zero = refl; to_greatest = refl } };
 
-    ghost equal_by_number = { Prim.search rules };
+    ghost equal_by_number = { equal_by_pos };
 
     fn from_u32(value: u32) -> u64 {
         value as u64
@@ -478,7 +478,7 @@ impl UnsignedInteger for usize {
 
     ghost range = { record { width = is_64; from_zero = refl; to_greatest = refl } };
 
-    ghost equal_by_number = { Prim.search rules };
+    ghost equal_by_number = { equal_by_pos };
 
     fn from_u32(value: u32) -> usize {
         value as usize

@@ -135,7 +135,11 @@ impl OptionsBuilder {
         self.build_unchecked()
     }
 
-    /// Returns the options. It never returns an error.
+    /// Returns the options.
+    ///
+    /// # Errors
+    ///
+    /// None: options have one value.
     pub fn build(&self) -> Result<Options>
         ensures { IsOk result }
     {

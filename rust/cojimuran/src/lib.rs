@@ -28,7 +28,7 @@
 //! 0.x.y changes none.
 #![no_std]
 #![forbid(unsafe_code)]
-#![warn(missing_docs)]
+#![warn(missing_docs, clippy::missing_errors_doc)]
 
 #[cfg(not(target_pointer_width = "64"))]
 compile_error!("this package needs pointers of 64 bits: with others its texts would be wrong");

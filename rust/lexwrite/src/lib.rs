@@ -11,6 +11,7 @@
 //!   only the rest of the input is answered, after what the writer has taken.
 
 #![forbid(unsafe_code)]
+#![warn(missing_docs, clippy::missing_errors_doc)]
 
 #[doc = include_str!(concat!(env!("OUT_DIR"), "/lexical_lines/lib.md"))]
 #[allow(clippy::new_without_default, reason = "an answerer is at the start of an input")]

@@ -2,20 +2,25 @@
 //! buffer that it was passed. Those that would return a wrong result panic in every build, and name the condition.
 
 use cojimuran::algorithm::algorithm;
+use cojimuran::buffer::{copy_to_front, front_mut};
 use cojimuran::compact::Compact;
 use cojimuran::decimal::Decimal as _;
 use cojimuran::digit_count::DigitCount;
-use cojimuran::num::UnsignedInteger;
+use cojimuran::format::STANDARD;
+use cojimuran::num::{UnsignedInteger, digit_to_char};
 use cojimuran::padded::write_padded;
 use cojimuran::parts::{Decimal, Digits, Fixed, Joined, Padded, PaddedDigits, Part};
 use cojimuran::radix::Radix;
 use cojimuran::write::WriteInteger;
-use cojimuran::{NumberFormatBuilder, Options, ToLexical, ToLexicalWithOptions, jeaiii, table};
+use cojimuran::{
+    NumberFormatBuilder, Options, ToLexical, ToLexicalWithOptions, group_digits, jeaiii, table, write_sign,
+};
 use lexwrite::lines::join;
 use std::panic::{AssertUnwindSafe, catch_unwind};
+use std::path::Path;
 use std::sync::mpsc;
-use std::thread;
 use std::time::Duration;
+use std::{fs, thread};
 
 /// Runs the calls of a test in a thread. Fails unless all return or panic within a second for each.
 fn check(name: &str, calls: u32, run: impl FnOnce() + Send + 'static) {
@@ -51,6 +56,73 @@ fn short_buffers() {
             }
         }
     });
+}
+
+/// Calls with buffers that are too short, or just long enough. A call panics, or writes the text that fits all the same.
+fn check_short(text: &[u8], call: impl Fn(&mut [u8]) -> usize) {
+    for length in 0..=text.len() {
+        let mut buffer = [7; 100];
+        let result = catch_unwind(AssertUnwindSafe(|| call(&mut buffer[..length])));
+        assert!(result.is_err() || buffer[..length] == *text, "{length} bytes for {text:?}");
+    }
+    let mut buffer = [7; 100];
+    assert_eq!((call(&mut buffer), &buffer[..text.len()]), (text.len(), text));
+}
+
+/// Checks several calls whose text is the same.
+macro_rules! check_each_short {
+    ($($text:expr => $($call:expr),+;)+) => { $($(check_short($text, $call);)+)+ };
+}
+
+#[test]
+fn short_buffers_of_each_function() {
+    let hexadecimal = NumberFormatBuilder::from_radix(16);
+    let thousands = NumberFormatBuilder::new().digit_grouping(3, b',').build_strict();
+    let options = Options::new();
+    let digits = &b"18446744073709551615"[..];
+    let table = table::get_table;
+    check_each_short! {
+        b"abc" => |b| copy_to_front(b"abc", b);
+        &[7; 9] => |b| front_mut(b, 9).len();
+        &[7, b',', 7, 7, 7] => |b| group_digits(4, &thousands, b);
+        b"255" => |b| 255u8.decimal(b), |b| jeaiii::from_u8(255, b), |b| 255u8.write_lexical(b);
+        b"65535" => |b| 65535u16.decimal(b), |b| jeaiii::from_u16(65535, b), |b| 65535u16.write_text(b, &STANDARD);
+        b"4294967295" => |b| u32::MAX.decimal(b), |b| jeaiii::from_u32(u32::MAX, b), |b| u32::MAX.write_integer(10, b);
+        digits => |b| u64::MAX.decimal(b), |b| jeaiii::from_u64(u64::MAX, b), |b| u64::MAX.write_magnitude(&STANDARD, b),
+            |b| u64::MAX.write_mantissa(&STANDARD, b), |b| u64::MAX.write_exponent(&STANDARD, b),
+            |b| Decimal(u64::MAX).write_to(b), |b| Decimal(u64::MAX).to_str(b).len();
+        &digits[..19] => |b| 1844674407370955161u64.decimal_signed(b), |b| jeaiii::from_i64(1844674407370955161, b),
+            |b| 1844674407370955161u64.write_integer_signed(10, b),
+            |b| 1844674407370955161u64.write_mantissa_signed(&STANDARD, b),
+            |b| 1844674407370955161u64.write_exponent_signed(&STANDARD, b);
+        b"-9223372036854775808" => |b| i64::MIN.to_lexical(b).len(), |b| Decimal(i64::MIN).to_text(b).len();
+        b"-FFFF" => |b| (-65535i32).to_lexical_with_options(b, &hexadecimal, &options).len(),
+            |b| (-65535i32).write_lexical_with_options(b, &hexadecimal, &options);
+        b"FFFF" => |b| 65535u32.radix(16, b), |b| 65535u32.compact(16, b), |b| 65535u32.write_integer(16, b),
+            |b| algorithm(65535u32, 16, table(16), b), |b| 65535u32.write_integer_signed(16, b);
+        b"-" => |b| write_sign(-1i8, b, &STANDARD);
+    }
+}
+
+#[test]
+fn each_function_that_panics_is_called_here() {
+    let here = include_str!("failing_conditions.rs");
+    let mut folders = vec![Path::new(env!("CARGO_MANIFEST_DIR")).join("../cojimuran/src")];
+    let mut count = 0;
+    while let Some(folder) = folders.pop() {
+        for path in fs::read_dir(folder).unwrap().map(|entry| entry.unwrap().path()) {
+            if path.is_dir() {
+                folders.push(path);
+                continue;
+            }
+            for after in fs::read_to_string(&path).unwrap().split("# Panics\n").skip(1) {
+                let name = after.split_once("fn ").unwrap().1.split(['(', '<']).next().unwrap();
+                assert!(here.contains(&format!("{name}(")), "{name} of {}", path.display());
+                count += 1;
+            }
+        }
+    }
+    assert!(count > 40);
 }
 
 #[test]
@@ -108,12 +180,15 @@ fn messages() {
     let table = table::get_table;
     check_messages! {
         "is_radix(radix": NumberFormatBuilder::from_radix(37), NumberFormatBuilder::from_radix(1);
-        "are_valid()": builder.radix(37).build_strict(), builder.exponent_radix(1).build_strict(),
-            builder.digit_grouping(0, b',').build_strict(), builder.digit_grouping(3, b'0').build_strict();
+        "is_radix(self.parts.mantissa_radix": builder.radix(37).build_strict();
+        "is_radix(self.parts.exponent_radix": builder.exponent_radix(1).build_strict();
+        "is_group_size(size": builder.digit_grouping(0, b',').build_strict();
+        "is_mark(mark": builder.digit_grouping(3, b'0').build_strict();
         "is_radix(radix": 255u8.digit_count(u32::MAX), 255u8.slow_digit_count(1), u64::MAX.digit_count(0);
         "radix": 7u32.write_integer(0, buffer), 7u8.radix(1, buffer), 7u64.compact(37, buffer),
             7u16.write_integer(255, buffer), 7u64.radix(u32::MAX, buffer), Digits(1, 7u8).write_to(buffer);
-        "self.1 <= 19": Fixed(7i64, 20).to_text(buffer), Fixed(7u8, usize::MAX).room(), Fixed(7u8, 90).to_str(buffer);
+        "20 decimals, but at most 19": Fixed(7i64, 20).to_text(buffer), Fixed(7u8, 20).room();
+        "90 decimals, but at most 19": Fixed(7u8, 90).to_str(buffer), Fixed(7u8, 90).try_write_to(buffer);
         "radix <= 36": table(37);
         "radix >= 2": table(1);
         "fits_decimal_width(": Padded(2026u16, 2).to_text(buffer), Padded(15u8, 1).try_to_str(buffer),
@@ -137,5 +212,9 @@ fn messages() {
         "value < 65_536": <u16 as UnsignedInteger>::from_u32(65_536);
         "count < 9_223_372_036_854_775_808": builder.digit_grouping(1, b',').build_strict().grouped_len(1 << 63);
         "number < 4_294_967_296": 0x1_0000_0000u64.as_u32();
+        "out of bounds": digit_to_char(36), digit_to_char(u32::MAX);
+        "by zero": 7u8.div_rem(0), 7u64.div_rem(0);
+        "is_radix(radix": 7i8.magnitude_digits(1), 7u64.magnitude_digits(37);
+        "is_radix(u64::from(radix))": write_padded(0u8, 37, &mut []);
     }
 }

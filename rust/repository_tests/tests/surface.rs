@@ -27,6 +27,7 @@ use lexwrite::lines::{
 };
 use lexwrite::streams::{answer_lines, answer_reader, answer_stream};
 use std::fmt::{Debug, Display};
+use std::hash::Hash;
 use std::panic::{RefUnwindSafe, UnwindSafe};
 
 fn value<T: Copy + Debug + Send + Sync + Unpin + UnwindSafe + RefUnwindSafe + 'static>() {}
@@ -49,9 +50,11 @@ fn numbers() {
 #[test]
 fn formats() {
     fn ordered<T: Clone + Debug + Ord + Default + Send + Sync>() {}
-    fn error<E: std::error::Error + Send + Sync + 'static>() {}
+    fn hashed<T: Eq + Hash>() {}
+    fn error<E: std::error::Error + Copy + Eq + Send + Sync + 'static>() {}
     fn options<T: WriteOptions>() {}
     check!(value: NumberFormat, NumberFormatBuilder);
+    check!(hashed: NumberFormat, NumberFormatBuilder);
     check!(ordered: Options, OptionsBuilder);
     error::<Error>();
     options::<Options>();
@@ -73,9 +76,11 @@ fn parts() {
 
 #[test]
 fn devices() {
-    fn source<S: BlockSource + Send>() {}
-    fn sink<K: BlockSink + Send>() {}
-    fn bytes<S: ByteSource, K: ByteSink>() {}
+    fn source<S: BlockSource + Debug + Send>() {}
+    fn sink<K: BlockSink + Debug + Send>() {}
+    fn bytes<S: ByteSource + Debug, K: ByteSink + Debug>() {}
+    fn shown<T: Debug>() {}
+    shown::<Answerer>();
     source::<Reading<&[u8]>>();
     sink::<Writing<Vec<u8>>>();
     bytes::<SliceSource, SliceSink>();

@@ -3,7 +3,7 @@
 //! The sources are laid out by `rt fmt`. So each of these begins a line, and has the next lines that have more indent
 //! or that begin with a bracket. The comments and the attributes before it are left out with it.
 
-use crate::functions::functions;
+use crate::functions::{Function, functions};
 use crate::packages::{Source, has};
 use std::collections::BTreeSet;
 
@@ -20,11 +20,15 @@ pub(crate) type Laws = BTreeSet<String>;
 /// What a counter or a trace is.
 const GHOSTS: [&str; 3] = ["&mut Turns", "&mut Trace", "&mut GhostLog"];
 
-/// Returns the laws of a text: functions that return nothing and change nothing but a counter or a trace.
+/// Returns the laws of a text: functions that return nothing, check nothing and change nothing but a counter or a trace.
 pub(crate) fn laws(text: &str) -> Laws {
     let without_ghosts = |text: &str| GHOSTS.iter().fold(text.to_owned(), |text, ghost| text.replace(ghost, ""));
-    let is_law = |signature: &str| !signature.contains(") -> ") && !without_ghosts(signature).contains("&mut ");
-    functions(text).into_iter().filter(|function| is_law(&function.signature)).map(|function| function.name).collect()
+    let is_law = |function: &Function| {
+        let checks = function.body.iter().flatten().any(|line| line.contains("prove!("));
+        let signature = without_ghosts(&function.signature);
+        !checks && !signature.contains(") -> ") && !signature.contains("&mut ")
+    };
+    functions(text).into_iter().filter(is_law).map(|function| function.name).collect()
 }
 
 /// The words of what a Rust program does not have, and the folder of the crates. No made line may have one.

@@ -71,6 +71,8 @@ pub(crate) const WRITE_INTEGER: Replaced = &[
 ];
 
 pub(crate) const PARTS: Replaced = &[
+    // The name of a field says nothing in a message.
+    ("prove!(self.1 <= 19)", "assert!(self.1 <= 19, \"{} decimals, but at most 19 are possible\", self.1)"),
     // What only contracts use.
     ("{Joined, rooms_at_most}", "Joined"),
     ("::DigitCount;\nuse lexical_write_integer::format::STANDARD;", "::DigitCount;"),

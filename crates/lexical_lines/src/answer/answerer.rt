@@ -46,6 +46,10 @@ impl Answerer {
     }
 
     /// Takes the next byte. If it is a newline, the answer to the line that it ends is written to `sink`.
+    ///
+    /// # Errors
+    ///
+    /// An error of the sink at this answer.
     pub fn push<K: ByteSink>(&mut self, byte: u8, sink: &mut K) -> io::Result<()>
         // After an error nothing is promised of the answers.
         ensures ok { OnOk result ((before read : List ℕ)
@@ -59,8 +63,11 @@ impl Answerer {
         self.push_all(&[byte], sink)
     }
 
-    /// Takes the next bytes, as a call of `push` for each of them would, and stops at the first error,
-    /// which is an error of the sink at the answer to a line that ends in `bytes`.
+    /// Takes the next bytes, as a call of `push` for each of them would, and stops at the first error.
+    ///
+    /// # Errors
+    ///
+    /// An error of the sink at the answer to a line that ends in `bytes`.
     pub fn push_all<K: ByteSink>(&mut self, bytes: &[u8], sink: &mut K) -> io::Result<()>
         ensures ok { OnOk result ((before read : List ℕ)
             → HasAnswered before read (K.taken sink.old) self.old
@@ -103,6 +110,10 @@ impl Answerer {
 
     /// Ends the input, and returns whether all lines are valid. If there are bytes after the last
     /// newline, they are a line too, and the answer to it is written first.
+    ///
+    /// # Errors
+    ///
+    /// An error of the sink at this answer.
     pub fn finish<K: ByteSink>(mut self, sink: &mut K) -> io::Result<bool>
         ensures ok { OnOk result ((before read : List ℕ)
             → HasAnswered before read (K.taken sink.old) self

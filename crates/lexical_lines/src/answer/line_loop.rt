@@ -20,7 +20,9 @@ use std::io;
 /// text of a number that is not negative begins with that sign. The answer to any other line is
 /// `bad line ` and the number of the line; the first line is line 1. Each answer ends with a newline.
 ///
-/// The first failure of a device ends the run, and its error is returned.
+/// # Errors
+///
+/// The error of the first failure of a device, which ends the run.
 #[tactic(auto, using(crate::proofs::Added::grown))]
 pub fn run<S: ByteSource, K: ByteSink>(source: &mut S, sink: &mut K) -> io::Result<bool>
     // The run only appends to what the source has yielded and to what the sink has taken.

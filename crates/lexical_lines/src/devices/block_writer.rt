@@ -75,9 +75,12 @@ impl<K: BlockSink, const SIZE: usize> BlockWriter<K, SIZE> {
         sink
     }
 
-    /// Writes the bytes in the block to the sink, and then flushes the sink once. If it returns an error,
-    /// the bytes that were not written are still in the block, and nothing is called after the call that
-    /// failed.
+    /// Writes the bytes in the block to the sink, and then flushes the sink once.
+    ///
+    /// # Errors
+    ///
+    /// An error of the sink. The bytes that were not written are still in the block, and nothing is called
+    /// after the call that failed.
     pub fn flush(&mut self) -> io::Result<()>
         ensures ok { OnOk result (IsFlushed self.new) }
         ensures flushes { self.new.flushes + failures_of result ≡ self.old.flushes + 1 }

@@ -20,8 +20,12 @@ pub trait ByteSink {
     // What calls leave unchanged, as a relation between the states before and after any calls.
     ghost keeps: { Self → Self → Type 0 };
 
-    /// Takes a prefix of `bytes`, and returns its length. If it returns an `Err`, it took no bytes. An
-    /// `Err` is a failure, and so is `Ok(0)` if `bytes` is not empty; nothing else is a failure.
+    /// Takes a prefix of `bytes`, and returns its length. An `Err` is a failure, and so is `Ok(0)` if
+    /// `bytes` is not empty; nothing else is a failure.
+    ///
+    /// # Errors
+    ///
+    /// An error of the device. Then no bytes were taken.
     fn put(&mut self, bytes: &[u8]) -> io::Result<usize>
         ensures within { IfOk result (λ count. count ≤ length bytes.now) }
         ensures taken { taken self.new ≡ taken self.old ++ take (taken_by result) bytes.now }
@@ -44,8 +48,11 @@ pub trait BlockSink: ByteSink {
     // The number of flushes that succeeded.
     ghost flushes: { Self → ℕ };
 
-    /// Passes the bytes taken on to where they are read, if the sink has a buffer of its own. An `Err` is
-    /// a failure.
+    /// Passes the bytes taken on to where they are read, if the sink has a buffer of its own.
+    ///
+    /// # Errors
+    ///
+    /// An error of the device, which is a failure.
     fn flush(&mut self) -> io::Result<()>
         ensures ok { OnOk result (unflushed self.new ≡ []) }
         ensures taken { Self.taken self.new ≡ Self.taken self.old }

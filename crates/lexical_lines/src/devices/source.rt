@@ -24,8 +24,11 @@ pub trait ByteSource {
     // What calls leave unchanged, as a relation between the states before and after any calls.
     ghost keeps: { Self → Self → Type 0 };
 
-    /// Returns the next byte, or `None` at the end; only `None` reports the end. An `Err` yields no
-    /// byte and is a failure; nothing else is a failure.
+    /// Returns the next byte, or `None` at the end; only `None` reports the end.
+    ///
+    /// # Errors
+    ///
+    /// An error of the device, which is a failure and yields no byte. Nothing else is a failure.
     fn next(&mut self) -> io::Result<Option<u8>>
         ensures yielded { yielded self.new ≡ yielded self.old ++ yielded_by result }
         ensures ended { is_ended self.new ≡ (is_ended self.old || reports_end result) }
@@ -44,7 +47,11 @@ pub trait BlockSource: ByteSource {
     ghost unread: { Self → Option (List ℕ) };
 
     /// Reads bytes to the start of `block`, which must not be empty, and returns their number; only
-    /// `Ok(0)` reports the end. An `Err` yields no bytes and is a failure; nothing else is a failure.
+    /// `Ok(0)` reports the end.
+    ///
+    /// # Errors
+    ///
+    /// An error of the device, which is a failure and yields no bytes. Nothing else is a failure.
     fn read_block(&mut self, block: &mut [u8]) -> io::Result<usize>
         requires { 1 ≤ length block.old }
         ensures within { IfOk result (λ count. count ≤ length block.new) }

@@ -8,6 +8,7 @@ ghost use Rattle.lexical_write_integer.specs.Digits.Padded.{IsPadded};
 use super::count::DigitCount;
 use super::decimal::decimal_pairs::write_decimal_block;
 use super::radix::Radix;
+use lexical_num::limits::is_radix;
 
 // Writes the character `0` to each byte of the buffer.
 fn write_zeros(buffer: &mut [u8])
@@ -42,7 +43,7 @@ pub fn write_padded<T: DigitCount + Radix>(value: T, radix: u32, buffer: &mut [u
     }
     if buffer.is_empty() {
         // The digit of 0 does not fit, and no other number is without digits.
-        prove!(number == 0);
+        prove!(number == 0 && is_radix(u64::from(radix)));
         return 0;
     }
     let count = value.digit_count(radix);

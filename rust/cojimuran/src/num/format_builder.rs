@@ -9,7 +9,7 @@ use crate::num::limits::{is_group_size, is_mark, is_radix};
 /// A builder of formats. Its parts may be any bytes until a format is built from them.
 ///
 /// The documentation of this module has examples.
-#[derive(Clone, Copy, PartialEq, Eq, Debug)]
+#[derive(Clone, Copy, PartialEq, Eq, Hash, Debug)]
 pub struct NumberFormatBuilder {
     parts: Parts,
 }
@@ -92,9 +92,12 @@ impl NumberFormatBuilder {
         self
     }
 
-    /// Returns the format with these parts, or an error that names the first invalid part. The
-    /// mantissa radix is checked first, then the exponent radix, then the group size, then the
-    /// separator. The builder is unchanged.
+    /// Returns the format with these parts. The builder is unchanged.
+    ///
+    /// # Errors
+    ///
+    /// An error that names the first invalid part: the mantissa radix is checked first, then the
+    /// exponent radix, then the group size, then the separator.
     #[inline]
     pub const fn build(&self) -> Result<NumberFormat> {
         if !is_radix(self.parts.mantissa_radix as u64) {
@@ -124,7 +127,13 @@ impl NumberFormatBuilder {
     #[must_use]
     #[inline]
     pub const fn build_strict(&self) -> NumberFormat {
-        assert!(self.parts.are_valid());
+        // In Rust one of these says which part is invalid.
+        assert!(is_radix(self.parts.mantissa_radix as u64));
+        assert!(is_radix(self.parts.exponent_radix as u64));
+        if let Some((size, mark)) = self.parts.digit_grouping {
+            assert!(is_group_size(size as u64));
+            assert!(is_mark(mark as u64));
+        }
         NumberFormat { parts: self.parts }
     }
 }

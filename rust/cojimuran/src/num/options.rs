@@ -126,7 +126,11 @@ impl OptionsBuilder {
         self.build_unchecked()
     }
 
-    /// Returns the options. It never returns an error.
+    /// Returns the options.
+    ///
+    /// # Errors
+    ///
+    /// None: options have one value.
     #[inline]
     pub const fn build(&self) -> Result<Options> {
         Ok(self.build_unchecked())

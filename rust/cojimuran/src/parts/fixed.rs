@@ -70,14 +70,22 @@ pub struct GroupedFixed<'a, T>(pub T, pub usize, pub &'a NumberFormat);
 impl<T: ToLexicalWithOptions> Part for GroupedFixed<'_, T> {
     #[inline]
     fn room(self) -> usize {
-        assert!(self.1 <= 19);
+        assert!(
+            self.1 <= 19,
+            "{} decimals, but at most 19 are possible",
+            self.1
+        );
         let whole = T::DECIMAL_WIDTH.max(self.1 + 1) - self.1;
         usize::from(T::IS_SIGNED) + self.2.grouped_len(whole) + self.1 + self.1.min(1)
     }
 
     #[inline]
     fn write_to(self, buffer: &mut [u8]) -> usize {
-        assert!(self.1 <= 19);
+        assert!(
+            self.1 <= 19,
+            "{} decimals, but at most 19 are possible",
+            self.1
+        );
         let start = Sign(self.0, false).write_to(buffer);
         start + write_grouped_units(self.0, self.1, self.2, &mut buffer[start..])
     }

@@ -5,6 +5,7 @@
 use super::count::DigitCount;
 use super::decimal::decimal_pairs::write_decimal_block;
 use super::radix::Radix;
+use crate::num::limits::is_radix;
 
 // Writes the character `0` to each byte of the buffer.
 #[inline]
@@ -36,7 +37,7 @@ pub fn write_padded<T: DigitCount + Radix>(value: T, radix: u32, buffer: &mut [u
     }
     if buffer.is_empty() {
         // The digit of 0 does not fit, and no other number is without digits.
-        assert!(number == 0);
+        assert!(number == 0 && is_radix(u64::from(radix)));
         return 0;
     }
     let count = value.digit_count(radix);
