@@ -14,6 +14,7 @@
 #![warn(missing_docs, clippy::missing_errors_doc)]
 
 #[doc = include_str!(concat!(env!("OUT_DIR"), "/lexical_lines/lib.md"))]
+#[allow(unused_imports, reason = "only contracts use the methods of some traits")]
 #[allow(clippy::new_without_default, reason = "an answerer is at the start of an input")]
 #[allow(clippy::len_without_is_empty, reason = "the length of what a sink took is not that of a collection")]
 pub mod lines {

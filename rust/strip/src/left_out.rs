@@ -4,15 +4,16 @@
 //! or that begin with a bracket. The comments and the attributes before it are left out with it.
 
 use crate::functions::{Function, functions};
+use crate::imports;
 use crate::packages::{Source, has};
 use std::collections::BTreeSet;
 
 /// A line with one of these words begins what is left out: contracts, types without data, and what only contracts use.
 const WORDS: &str = "ghost requires ensures tactic DECIMAL Model Trace Turns";
 
-/// So does a line with one of these texts: a module of laws, and calls that only record. And so does a line that imports,
-/// declares or calls a law, but not one with a variable that has its name.
-const TEXTS: [&str; 5] = ["::laws::", "turns.tick", "turns.append", "written.tick", "self.trace."];
+/// So does a line with one of these texts, calls that only record, and a line that declares or calls a law, but not one
+/// with a variable that has its name.
+const TEXTS: [&str; 4] = ["turns.tick", "turns.append", "written.tick", "self.trace."];
 
 /// The names of laws, and of functions that only record.
 pub(crate) type Laws = BTreeSet<String>;
@@ -38,7 +39,6 @@ const UNKNOWN: &str = "
 
 /// Returns the text without what is left out, laid out as by a person who never wrote that.
 pub(crate) fn without_left_out(text: &str, source: &Source, laws: &Laws) -> String {
-    let text = without_imports(text, laws);
     let lines: Vec<&str> = text.lines().filter(|line| !line.trim_start().starts_with("#[tactic(")).collect();
     let (mut kept, mut rest, mut is_after) = (String::new(), lines.as_slice(), true);
     while let Some(line) = rest.first() {
@@ -54,28 +54,10 @@ pub(crate) fn without_left_out(text: &str, source: &Source, laws: &Laws) -> Stri
         is_after = count > 0 || is_after && line.is_empty();
         rest = &rest[count.max(1)..];
     }
-    kept.trim_end().to_owned() + "\n"
-}
-
-/// Returns the text without the words and the laws that are in an import with other names.
-fn without_imports(text: &str, laws: &Laws) -> String {
-    let (mut kept, mut is_inside) = (String::with_capacity(text.len()), false);
-    for line in text.lines() {
-        let mut line = line.to_owned();
-        is_inside |= is_import(&line);
-        if is_inside {
-            for word in WORDS.split_whitespace().chain(laws.iter().map(String::as_str)) {
-                line = line.replace(&format!(", {word},"), ",").replace(&format!(", {word}}}"), "}");
-            }
-            is_inside = !line.ends_with(';');
-        }
-        kept += &(line + "\n");
-    }
-    kept
-}
-
-fn is_import(code: &str) -> bool {
-    code.trim_start().trim_start_matches("pub ").starts_with("use ")
+    let is_left_out = |name: &str| has(WORDS, name) || laws.contains(name);
+    // Tests may import what they do not use.
+    let named_in = if source.is_test() { "" } else { text };
+    imports::without_unused(kept.trim_end(), named_in, is_left_out).trim_end().to_owned() + "\n"
 }
 
 /// Returns how many of the lines are left out together with the first one, which may be a comment before it.
@@ -95,6 +77,9 @@ fn count_left_out(lines: &[&str], source: &Source, laws: &Laws) -> usize {
 
 /// Returns whether a line begins what is left out. What is after a call does not count, since that may have an effect.
 fn is_left_out(line: &str, source: &Source, laws: &Laws) -> bool {
+    if imports::is_import(line) {
+        return false;
+    }
     let code = line.split(['/', '"']).next().unwrap_or_default();
     let is_call = |before: &str| before.ends_with(char::is_alphanumeric) && !before.ends_with("pub");
     let call = code.match_indices('(').map(|(at, _)| &code[..at]).find(|before| is_call(before));
@@ -107,10 +92,9 @@ fn is_left_out(line: &str, source: &Source, laws: &Laws) -> bool {
         || source.left_out.split_whitespace().any(is_module)
 }
 
-/// Returns whether code imports, declares or calls a law, whose name ends at this index or before it.
+/// Returns whether code declares or calls a law, whose name ends at this index or before it.
 fn is_of_law(code: &str, end: usize, laws: &Laws) -> bool {
-    let is_end =
-        |rest: &str| is_import(code) || rest.starts_with('(') || rest.trim_start_matches("::").starts_with('<');
+    let is_end = |rest: &str| rest.starts_with('(') || rest.trim_start_matches("::").starts_with('<');
     laws.iter().any(|name| {
         code[..end].match_indices(name.as_str()).any(|(at, _)| {
             let is_start = !code[..at].ends_with(|c: char| c.is_alphanumeric() || c == '_');

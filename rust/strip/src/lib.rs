@@ -9,6 +9,7 @@ mod additions;
 mod conditions;
 mod counted;
 mod functions;
+mod imports;
 mod left_out;
 mod lost;
 mod packages;

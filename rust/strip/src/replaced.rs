@@ -31,10 +31,9 @@ pub(crate) const WRITE_INTEGER: Replaced = &[
     ("use lexical_tables as", "use crate::tables as"),
     ("unreachable!(\"", "panic!(\""),
     ("//!\n//! Each `_counted` function writes what the function without that suffix writes.\n", ""),
-    // What only contracts use.
+    // The methods of these traits that only contracts use.
     ("::write_decimal;\nuse lexical_num::num::{LexicalInteger, UnsignedInteger};", "::write_decimal;"),
     ("::num::{LexicalInteger, UnsignedInteger};", "::num::UnsignedInteger;"),
-    ("{first_pair, remove_four}", "remove_four"),
     // Without a counter there is room on one line.
     (
         "<T: UnsignedInteger>(\n    value: T,\n    radix: u32,\n    buffer: &mut [u8],\n    turns: &mut Turns,\n)",
@@ -72,10 +71,10 @@ pub(crate) const WRITE_INTEGER: Replaced = &[
 
 pub(crate) const PARTS: Replaced = &[
     // The name of a field says nothing in a message.
-    ("prove!(self.1 <= 19)", "assert!(self.1 <= 19, \"{} decimals, but at most 19 are possible\", self.1)"),
-    // What only contracts use.
-    ("{Joined, rooms_at_most}", "Joined"),
-    ("::DigitCount;\nuse lexical_write_integer::format::STANDARD;", "::DigitCount;"),
+    (
+        "prove!(self.1 <= 19)",
+        "assert!(\n            self.1 <= 19,\n            \"{} decimals, but at most 19 are possible\",\n            self.1\n        )",
+    ),
     // rustfmt writes the brace after a long `impl` on a line of its own.
     (", H) {", ", H)\n{"),
     (", I) {", ", I)\n{"),
@@ -86,23 +85,6 @@ pub(crate) const PARTS: Replaced = &[
 
 pub(crate) const LINES: Replaced = &[
     ("//! use lexical_lines::", "//! use lexwrite::lines::"),
-    // What only contracts use.
-    ("{ByteSink, note_put}", "ByteSink"),
-    ("{ToLexical, ToLexicalWithOptions}", "ToLexicalWithOptions"),
-    ("constants::FormattedSize;\nuse lexical_num::format::NumberFormat;", "format::NumberFormat;"),
-    ("num::LexicalInteger;\nuse lexical_num::options::WriteOptions;", "options::WriteOptions;"),
-    // With its brace this is too long for one line.
-    (
-        "(number: T, buffer: &mut [u8], format: &NumberFormat)",
-        "(\n    number: T,\n    buffer: &mut [u8],\n    format: &NumberFormat,\n)",
-    ),
-    // Without a trace there is room on one line.
-    (
-        "{\n            buffer,\n            count: 0,\n            trace: Trace::new(),\n        }",
-        "{ buffer, count: 0 }",
-    ),
-    ("{\n            writer,\n            trace: Trace::new(),\n        }", "{ writer }"),
-    ("{\n                self.trace.fault();\n                Err(error)\n            }", "Err(error),"),
     // What is recorded before it is returned.
     ("let Writing { writer, trace } = self;\n        drop(trace);\n        writer", "self.writer"),
     ("let outcome = ", ""),
@@ -124,8 +106,6 @@ pub(crate) const FOR_C: Replaced = &[
     // A slice has no C ABI in rustc. So the root exports functions with the names of the writers, which call these.
     ("#[unsafe(no_mangle)]\npub extern \"C\" fn lexical_write_", "pub fn lexical_write_"),
     ("#[unsafe(no_mangle)]\npub extern \"C\" fn lexical_decimal_", "pub fn lexical_decimal_"),
-    // Only contracts use it.
-    ("CInteger;\nuse lexical_num::format::STANDARD;", "CInteger;"),
     // With its brace this is too long for one line.
     (
         "fn write_uppercase<T: ToLexicalWithOptions>(value: T, format: &CFormat, buffer: &mut [u8])",

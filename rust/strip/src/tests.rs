@@ -27,7 +27,7 @@ fn contracts() {
     check("fn f()\n    // Of a clause.\n    ensures* lends { sem }\n    requires a {\n        b }\n{}", "fn f() {}");
     check("struct S {\n    a: u8,\n    pub(crate) ghost n: { ℕ },\n    ghost m: a\n}", "struct S {\n    a: u8,\n}");
     check("// Of it.\n// So.\nghost N: {\n  a\n} = { b };\n\n// Not this.\n\nghost «M»: { ℕ };", "// Not this.");
-    check("use a;\n\nimpl<T> Model for S<T> {\n    ghost a = { b };\n}\n\nimpl S {}", "use a;\n\nimpl S {}");
+    check("use c;\n\nimpl<T> Model for S<T> {\n    ghost a = { b };\n}\n\nimpl S {}", "use c;\n\nimpl S {}");
     check("//! a\n// Of it.\n#![tactic(auto)]\n\n/// b\n#[tactic(auto)]\nstruct S;", "//! a\n\n/// b\nstruct S;");
 }
 
@@ -35,7 +35,12 @@ fn contracts() {
 fn laws_and_values() {
     check("/// Of it.\n#[b]\nfn in_range(a: u8)\n    ensures { c };\n\n/// Not so.\nfn d();", "/// Not so.\nfn d();");
     check("if a {\n    b;\n}\n// For a proof.\na::in_range(1);\n(a, b).fits_bits();\nc();", "if a {\n    b;\n}\nc();");
-    check("use a::{B, in_range, C};\nuse b::Turns;\nuse c::laws::{\n    d,\n};", "use a::{B, C};");
+    check("use a::{B, in_range, C};\nuse b::Turns;\nuse c::laws::{\n    text_length,\n};", "use a::{B, C};");
+    check(
+        "use a::{\n    B, C, D,\n};\nfn f()\n    requires { B C }\n{\n    C;\n}",
+        "use a::{\n    C, D,\n};\nfn f() {\n    C;\n}",
+    );
+    check("pub use a::{B, fits_bits};\nfn f()\n    requires { B }\n{}", "pub use a::B;\nfn f() {}");
     check("a;\nlet mut t = Turns::new();\nturns.tick(a);\nb(t);", "a;\nb(t);");
 }
 
