@@ -16,8 +16,7 @@
 //!   in another radix, with a required `+`, or in groups of digits. A buffer of
 //!   [`FormattedSize::FORMATTED_SIZE_DECIMAL`] bytes is enough in decimal, and [`BUFFER_SIZE`] always.
 //! - [`parts`] has tuples of parts that are written as one text, as in a log line.
-//! - [`write_integer`], [`num`] and [`tables`] have what these are made of, such as the writers of
-//!   digits without a sign.
+//! - The other modules have what these are made of, such as the writers of digits without a sign.
 //!
 //! The names are those of the Rust crate `lexical-write-integer`.
 #![doc = include_str!("../CONDITIONS.md")]
@@ -33,22 +32,120 @@
 #[cfg(not(target_pointer_width = "64"))]
 compile_error!("this package needs pointers of 64 bits: with others its texts would be wrong");
 
+// The sources in Rattle, as `strip` makes them: what users have of them is exported below.
 #[allow(
+    unused_imports,
     clippy::module_inception,
-    reason = "the module of the integer types has the name of its crate"
+    reason = "the modules and their exports are those of the crates of Rattle"
 )]
-pub mod num;
+mod num;
 pub mod parts;
-pub mod tables;
-pub mod write_integer;
+mod tables;
+#[allow(
+    unused_imports,
+    reason = "its exports are those of the crate of Rattle"
+)]
+mod write_integer;
 
-#[doc(inline)]
-pub use write_integer::{
-    BUFFER_SIZE, Error, FormattedSize, NumberFormat, NumberFormatBuilder, Options, OptionsBuilder,
-    Result, ToLexical, ToLexicalWithOptions, WriteOptions, group_digits, write_sign,
+pub use num::options::{Options, OptionsBuilder, WriteOptions};
+pub use num::{
+    BUFFER_SIZE, Error, FormattedSize, LexicalInteger, NumberFormat, NumberFormatBuilder, Result,
+    UnsignedInteger,
 };
-#[doc(no_inline)]
-pub use write_integer::{
-    algorithm, buffer, compact, decimal, digit_count, format, jeaiii, options, padded, radix,
-    table, write,
-};
+pub use write_integer::{ToLexical, ToLexicalWithOptions, group_digits, sign_len, write_sign};
+
+pub mod algorithm {
+    //! Writing the digits of a number, four at a time, with the digit pairs of a table.
+    pub use crate::write_integer::algorithm::algorithm;
+}
+
+pub mod buffer {
+    //! The start of a buffer.
+    pub use crate::write_integer::buffer::{copy_to_front, front_mut};
+}
+
+pub mod compact {
+    //! Writing the digits of a number in little code, with one division for each digit.
+    pub use crate::write_integer::compact::Compact;
+}
+
+pub mod decimal {
+    //! Writing and counting the digits of a number in radix 10.
+    pub use crate::write_integer::decimal::{
+        Decimal, DecimalCount, fallback_digit_count, fast_digit_count, fast_log10,
+    };
+}
+
+pub mod digit_count {
+    //! Counting the digits of a number in any radix.
+    pub use crate::write_integer::digit_count::{DigitCount, fast_log2};
+}
+
+pub mod format {
+    //! The standard format, and what the parts of a format may be.
+    pub use crate::num::format::STANDARD;
+    pub use crate::num::limits::{is_group_size, is_mark, is_radix};
+}
+
+pub mod jeaiii {
+    //! The decimal writer of each type. It multiplies the number to get a fraction, from which products by
+    //! 100 take two digits at a time, so no digit needs a division. The algorithm is James Anhalt's jeaiii
+    //! (<https://github.com/jeaiii/itoa>); Lemire, Kaser and Kurz, "Faster Remainder by Direct
+    //! Computation" (2019), describe how a product with a reciprocal has the digits in its fraction.
+    #[doc(hidden)]
+    pub use crate::write_integer::jeaiii::{
+        fixed_2, fixed_4, fixed_6, fixed_8_nine, fixed_8_ten, fixed_8_wide, next2,
+    };
+    pub use crate::write_integer::jeaiii::{from_i64, from_u8, from_u16, from_u32, from_u64};
+}
+
+pub mod options {
+    //! The standard options.
+    pub use crate::num::options::STANDARD;
+}
+
+pub mod padded {
+    //! Numbers with leading zeros, as in dates and times.
+    pub use crate::write_integer::padded::write_padded;
+}
+
+pub mod radix {
+    //! Writing the digits of a number in any radix, and the character of a digit.
+    pub use crate::num::digit_to_char;
+    pub use crate::write_integer::radix::Radix;
+}
+
+pub mod table {
+    //! Tables of digit pairs, one for each radix. A table holds the characters of the two digits of each
+    //! number below the square of its radix, so a writer gets two digits from one look-up. Here a byte is
+    //! written in hexadecimal:
+    //!
+    //! ```
+    //! use cojimuran::table::get_table;
+    //!
+    //! let table = get_table(16);
+    //! let pair = 2 * 0xA7;
+    //! assert_eq!([table[pair], table[pair + 1]], *b"A7");
+    //! ```
+    pub use crate::tables::get_table;
+    #[doc(hidden)]
+    pub use crate::tables::{
+        DIGIT_TO_BASE2_SQUARED, DIGIT_TO_BASE3_SQUARED, DIGIT_TO_BASE4_SQUARED,
+        DIGIT_TO_BASE5_SQUARED, DIGIT_TO_BASE6_SQUARED, DIGIT_TO_BASE7_SQUARED,
+        DIGIT_TO_BASE8_SQUARED, DIGIT_TO_BASE9_SQUARED, DIGIT_TO_BASE10_SQUARED,
+        DIGIT_TO_BASE11_SQUARED, DIGIT_TO_BASE12_SQUARED, DIGIT_TO_BASE13_SQUARED,
+        DIGIT_TO_BASE14_SQUARED, DIGIT_TO_BASE15_SQUARED, DIGIT_TO_BASE16_SQUARED,
+        DIGIT_TO_BASE17_SQUARED, DIGIT_TO_BASE18_SQUARED, DIGIT_TO_BASE19_SQUARED,
+        DIGIT_TO_BASE20_SQUARED, DIGIT_TO_BASE21_SQUARED, DIGIT_TO_BASE22_SQUARED,
+        DIGIT_TO_BASE23_SQUARED, DIGIT_TO_BASE24_SQUARED, DIGIT_TO_BASE25_SQUARED,
+        DIGIT_TO_BASE26_SQUARED, DIGIT_TO_BASE27_SQUARED, DIGIT_TO_BASE28_SQUARED,
+        DIGIT_TO_BASE29_SQUARED, DIGIT_TO_BASE30_SQUARED, DIGIT_TO_BASE31_SQUARED,
+        DIGIT_TO_BASE32_SQUARED, DIGIT_TO_BASE33_SQUARED, DIGIT_TO_BASE34_SQUARED,
+        DIGIT_TO_BASE35_SQUARED, DIGIT_TO_BASE36_SQUARED,
+    };
+}
+
+pub mod write {
+    //! Writing the digits of a mantissa or of an exponent, without a sign.
+    pub use crate::write_integer::write::WriteInteger;
+}

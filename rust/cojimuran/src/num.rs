@@ -5,7 +5,7 @@
 //! A builder makes a format. `build` returns an error if a part of the format is invalid:
 //!
 //! ```
-//! use cojimuran::num::{NumberFormat, NumberFormatBuilder, Result};
+//! use cojimuran::{NumberFormat, NumberFormatBuilder, Result};
 //!
 //! fn float_format(mantissa_radix: u8, exponent_radix: u8) -> Result<NumberFormat> {
 //!     NumberFormatBuilder::new()
@@ -18,7 +18,7 @@
 //! `build_strict` requires valid parts, and returns the format itself:
 //!
 //! ```
-//! use cojimuran::num::NumberFormatBuilder;
+//! use cojimuran::NumberFormatBuilder;
 //!
 //! let thousands = NumberFormatBuilder::new()
 //!     .digit_grouping(3, b',')

@@ -6,7 +6,7 @@
 //! radix, so a writer gets two digits from one look-up. Here a byte is written in hexadecimal:
 //!
 //! ```
-//! use cojimuran::tables::get_table;
+//! use cojimuran::table::get_table;
 //!
 //! let table = get_table(16);
 //! let pair = 2 * 0xA7;

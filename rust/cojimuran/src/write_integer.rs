@@ -44,7 +44,6 @@ pub use crate::num::format;
 pub use crate::num::format::NumberFormat;
 pub use crate::num::format_builder::NumberFormatBuilder;
 pub use crate::num::options::{Options, OptionsBuilder, WriteOptions};
-pub use crate::tables as table;
 pub use digits::decimal::jeaiii;
 pub use digits::radix::{algorithm, compact};
 pub use digits::{count as digit_count, decimal, padded, radix, write};

@@ -3,7 +3,7 @@
 //! The sizes of buffers that are enough for every number of a type.
 
 use crate::format::{CFormat, number_format};
-use cojimuran::write_integer::{Options, ToLexicalWithOptions, WriteOptions};
+use cojimuran::{Options, ToLexicalWithOptions, WriteOptions};
 
 // Returns a buffer size that is enough for every number of the type in the format, or 0 if the format
 // is invalid.

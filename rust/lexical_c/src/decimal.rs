@@ -4,8 +4,8 @@
 //! returns 0 and leaves the buffer unchanged if the text does not fit.
 
 use crate::integer::CInteger;
-use cojimuran::write_integer::buffer::copy_to_front;
-use cojimuran::write_integer::{BUFFER_SIZE, ToLexicalWithOptions};
+use cojimuran::buffer::copy_to_front;
+use cojimuran::{BUFFER_SIZE, ToLexicalWithOptions};
 
 /// Writes a number in decimal to the buffer, and returns the length of its text, or 0 if the text does not fit.
 #[inline]

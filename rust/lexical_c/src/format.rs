@@ -2,8 +2,8 @@
 
 //! The format that a C caller passes, and the check whether it is valid.
 
-use cojimuran::num::limits::{is_group_size, is_mark, is_radix};
-use cojimuran::write_integer::{NumberFormat, NumberFormatBuilder};
+use cojimuran::format::{is_group_size, is_mark, is_radix};
+use cojimuran::{NumberFormat, NumberFormatBuilder};
 
 /// A format as C passes it, `struct lexical_format` of the header. Each field may hold any value. If
 /// `required_sign` is not 0, a `+` is written before numbers that are not negative. If `group_size` is

@@ -3,8 +3,8 @@
 //! Writes a number whose text may not fit, or whose format may have groups, a required sign or lowercase.
 
 use crate::format::{CFormat, number_format};
-use cojimuran::write_integer::buffer::copy_to_front;
-use cojimuran::write_integer::{BUFFER_SIZE, Options, ToLexicalWithOptions, WriteOptions};
+use cojimuran::buffer::copy_to_front;
+use cojimuran::{BUFFER_SIZE, Options, ToLexicalWithOptions, WriteOptions};
 
 /// Writes the number to the start of the buffer, and returns the length of its text. Returns 0 and
 /// leaves the buffer unchanged if the format is invalid or the text does not fit.

@@ -3,9 +3,9 @@
 //! Writes a number in radix 16 in lowercase.
 
 use crate::integer::WideInteger;
-use cojimuran::num::format::STANDARD;
-use cojimuran::write_integer::digit_count::DigitCount;
-use cojimuran::write_integer::sign_len;
+use cojimuran::digit_count::DigitCount;
+use cojimuran::format::STANDARD;
+use cojimuran::sign_len;
 
 // The characters of the digits, in order.
 const CHARACTERS: [u8; 16] = *b"0123456789abcdef";

@@ -2,7 +2,7 @@
 
 //! The integer types whose numbers are written.
 
-use cojimuran::write_integer::ToLexicalWithOptions;
+use cojimuran::ToLexicalWithOptions;
 
 /// An integer type of 64 bits. Two copies are made of code for these types, in place of nine.
 pub trait WideInteger: ToLexicalWithOptions {

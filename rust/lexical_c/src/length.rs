@@ -3,7 +3,7 @@
 //! The lengths of the texts of numbers.
 
 use crate::format::{CFormat, number_format};
-use cojimuran::write_integer::{ToLexical, sign_len};
+use cojimuran::{ToLexical, sign_len};
 
 // Returns the length of the text of the number, or 0 if the format is invalid.
 #[inline]

@@ -4,8 +4,8 @@
 //! every number of the type.
 
 use crate::format::CFormat;
-use cojimuran::num::limits::is_radix;
-use cojimuran::write_integer::{
+use cojimuran::format::is_radix;
+use cojimuran::{
     FormattedSize, NumberFormat, NumberFormatBuilder, ToLexical, write_sign,
 };
 

@@ -1,6 +1,7 @@
 //! Formats and lengths of buffers that are constants.
 
-use cojimuran::num::{digit_to_char, limits};
+use cojimuran::format::is_mark;
+use cojimuran::radix::digit_to_char;
 use cojimuran::{NumberFormat, NumberFormatBuilder, Options, OptionsBuilder, Result, ToLexicalWithOptions};
 
 const OPTIONS: Options = OptionsBuilder::new().build_strict();
@@ -22,7 +23,7 @@ fn texts_in_constant_formats() {
 #[test]
 fn constants() {
     const { assert!(SIZE == 128 && BINARY.mantissa_radix() == 2 && THOUSANDS.grouped_len(7) == 9) };
-    const { assert!(THOUSANDS.is_valid() && THOUSANDS.digit_grouping().is_some() && limits::is_mark(32)) };
+    const { assert!(THOUSANDS.is_valid() && THOUSANDS.digit_grouping().is_some() && is_mark(32)) };
     const { assert!(digit_to_char(35) == b'Z' && OPTIONS.rebuild().is_valid()) };
     assert_eq!(REFUSED.unwrap_err().to_string(), "invalid exponent radix 37");
 }

@@ -7,13 +7,13 @@ use cojimuran::compact::Compact;
 use cojimuran::decimal::Decimal as _;
 use cojimuran::digit_count::DigitCount;
 use cojimuran::format::STANDARD;
-use cojimuran::num::{UnsignedInteger, digit_to_char};
 use cojimuran::padded::write_padded;
 use cojimuran::parts::{Decimal, Digits, Fixed, Joined, Padded, PaddedDigits, Part};
-use cojimuran::radix::Radix;
+use cojimuran::radix::{Radix, digit_to_char};
 use cojimuran::write::WriteInteger;
 use cojimuran::{
-    NumberFormatBuilder, Options, ToLexical, ToLexicalWithOptions, group_digits, jeaiii, table, write_sign,
+    NumberFormatBuilder, Options, ToLexical, ToLexicalWithOptions, UnsignedInteger, group_digits, jeaiii, table,
+    write_sign,
 };
 use lexwrite::lines::join;
 use std::panic::{AssertUnwindSafe, catch_unwind};

@@ -9,17 +9,16 @@ use cojimuran::jeaiii::{
     fixed_2, fixed_4, fixed_6, fixed_8_nine, fixed_8_ten, fixed_8_wide, from_i64, from_u8, from_u16, from_u32,
     from_u64, next2,
 };
-use cojimuran::num::limits::{is_group_size, is_mark, is_radix};
-use cojimuran::num::{LexicalInteger, UnsignedInteger, digit_to_char};
 use cojimuran::parts::{
     Binary, Byte, Bytes, Center, Decimal, Digits, Fixed, Formatted, GroupedFixed, Hex, HexBytes, Joined, Left, Lower,
     Padded, PaddedDigits, Part, Plus, Right, Scientific, Sign, ZeroPadded,
 };
 use cojimuran::table::{DIGIT_TO_BASE2_SQUARED, DIGIT_TO_BASE36_SQUARED, get_table};
 use cojimuran::{
-    BUFFER_SIZE, Error, FormattedSize, NumberFormat, NumberFormatBuilder, Options, OptionsBuilder, Result, ToLexical,
-    ToLexicalWithOptions, WriteOptions, algorithm::algorithm, compact::Compact, format::STANDARD, group_digits,
-    padded::write_padded, radix::Radix, write::WriteInteger, write_sign,
+    BUFFER_SIZE, Error, FormattedSize, LexicalInteger, NumberFormat, NumberFormatBuilder, Options, OptionsBuilder,
+    Result, ToLexical, ToLexicalWithOptions, UnsignedInteger, WriteOptions, algorithm::algorithm, compact::Compact,
+    format::STANDARD, format::is_group_size, format::is_mark, format::is_radix, group_digits, options,
+    padded::write_padded, radix::Radix, radix::digit_to_char, sign_len, write::WriteInteger, write_sign,
 };
 use lexwrite::lines::{
     Answerer, BlockSink, BlockSource, BlockWriter, ByteSink, ByteSource, Reading, SliceSink, SliceSource, Writing,

@@ -1,6 +1,6 @@
 //! Which crate becomes which files, and what the files have that the crate does not say.
 
-use crate::replaced::{self, EVERYWHERE, Replaced};
+use crate::replaced::{self, EVERYWHERE, EXPORTS, Replaced};
 use std::path::{Path, PathBuf};
 
 /// A crate of Rattle, and the files that are made of it. rustc checks what is added. White space parts the names of a
@@ -72,13 +72,23 @@ impl Source {
         for (from, to) in replaced.iter().chain(EVERYWHERE) {
             text = text.replace(from, to);
         }
-        for other in SOURCES.iter().filter(|other| other.is_documented()) {
-            let package = if other.package == self.package { "crate" } else { other.package };
-            let path = format!("{package}::{}::", other.module);
-            text = text.replace(&format!("{}::", other.name), &path).replace(other.name, other.module);
-        }
+        text = text.split_inclusive('\n').map(|line| self.with_paths(line)).collect();
         // The others need std.
         if self.is_committed() { text.replace(" std::", " core::") } else { text }
+    }
+
+    /// Returns a line with the paths of the package. An example of its documentation has those of a user.
+    fn with_paths(&self, line: &str) -> String {
+        let is_example = ["//! use ", "/// use "].iter().any(|start| line.trim_start().starts_with(start));
+        let libraries = || SOURCES.iter().filter(|source| source.is_documented());
+        let mut line = line.to_owned();
+        for own in libraries().filter(|own| own.package == self.package && !is_example) {
+            line = line.replace(&format!("{}::", own.name), &format!("crate::{}::", own.module));
+        }
+        for (from, to) in EXPORTS {
+            line = line.replace(from, to);
+        }
+        libraries().fold(line, |line, library| line.replace(library.name, library.module))
     }
 
     /// Returns a name or a text of the lists that a crate with these names of files and texts does not have.

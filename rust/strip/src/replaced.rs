@@ -21,14 +21,33 @@ pub(crate) const EVERYWHERE: Replaced = &[
     // An assertion takes the runtime, and a vector its allocator.
     ("!(rt; ", "!("),
     ("Vec::new(alloc)", "Vec::new()"),
-    // The names of `write_integer` are also those of the root.
-    ("//! use lexical_write_integer::", "//! use cojimuran::"),
-    ("//! use lexical_", "//! use cojimuran::"),
     ("this crate", "this module"),
 ];
 
+/// The paths under which the packages export what the crates have.
+pub(crate) const EXPORTS: Replaced = &[
+    ("lexical_num::options::{self,", "cojimuran::{options,"),
+    ("lexical_num::options::STANDARD", "cojimuran::options::STANDARD"),
+    ("lexical_num::format::{NumberFormat, STANDARD}", "cojimuran::{NumberFormat, format::STANDARD}"),
+    ("lexical_num::format::STANDARD", "cojimuran::format::STANDARD"),
+    ("lexical_num::format::", "cojimuran::"),
+    ("lexical_num::limits::", "cojimuran::format::"),
+    ("lexical_num::digit::", "cojimuran::radix::"),
+    ("lexical_num::num::", "cojimuran::"),
+    ("lexical_num::constants::", "cojimuran::"),
+    ("lexical_num::error::", "cojimuran::"),
+    ("lexical_num::format_builder::", "cojimuran::"),
+    ("lexical_num::options::", "cojimuran::"),
+    ("lexical_num::", "cojimuran::"),
+    ("lexical_write_integer::", "cojimuran::"),
+    ("lexical_tables::", "cojimuran::table::"),
+    ("lexical_parts::", "cojimuran::parts::"),
+    ("lexical_lines::", "lexwrite::lines::"),
+    ("lexical_streams::", "lexwrite::streams::"),
+];
+
 pub(crate) const WRITE_INTEGER: Replaced = &[
-    ("use lexical_tables as", "use crate::tables as"),
+    ("pub use lexical_tables as table;\n", ""),
     ("unreachable!(\"", "panic!(\""),
     ("//!\n//! Each `_counted` function writes what the function without that suffix writes.\n", ""),
     // The methods of these traits that only contracts use.
@@ -84,7 +103,6 @@ pub(crate) const PARTS: Replaced = &[
 ];
 
 pub(crate) const LINES: Replaced = &[
-    ("//! use lexical_lines::", "//! use lexwrite::lines::"),
     // What is recorded before it is returned.
     ("let Writing { writer, trace } = self;\n        drop(trace);\n        writer", "self.writer"),
     ("let outcome = ", ""),
@@ -94,8 +112,6 @@ pub(crate) const LINES: Replaced = &[
 
 /// In Rattle the runtime permits input and output, and returns their streams.
 pub(crate) const STREAMS: Replaced = &[
-    ("//! use lexical_lines::", "//! use lexwrite::lines::"),
-    ("//! use lexical_streams::", "//! use lexwrite::streams::"),
     ("(rt: HostRuntime)", "()"),
     ("rt.reader()", "io::stdin().lock()"),
     ("io::writer(&rt)", "io::stdout().lock()"),
