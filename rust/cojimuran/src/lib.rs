@@ -145,6 +145,17 @@ pub mod table {
     };
 }
 
+mod sealed {
+    /// The integer types. Only they implement `LexicalInteger`, so it may get further methods.
+    pub trait Sealed {}
+
+    macro_rules! seal {
+        ($($number:ty)*) => { $(impl Sealed for $number {})* };
+    }
+
+    seal! { u8 u16 u32 u64 usize i8 i16 i32 i64 isize }
+}
+
 pub mod write {
     //! Writing the digits of a mantissa or of an exponent, without a sign.
     pub use crate::write_integer::write::WriteInteger;

@@ -125,6 +125,7 @@ pub(crate) const SOURCES: &[Source] = &[
             exponent_radix required_mantissa_sign digit_grouping grouped_len is_valid build build_strict
             build_unchecked buffer_size_const builder rebuild",
         left_out: "ghost_log",
+        replaced: replaced::NUM,
         ..LIBRARY
     },
     Source { name: "lexical_tables", module: "tables", ..LIBRARY },

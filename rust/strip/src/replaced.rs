@@ -24,6 +24,12 @@ pub(crate) const EVERYWHERE: Replaced = &[
     ("this crate", "this module"),
 ];
 
+pub(crate) const NUM: Replaced = &[
+    // So neither a new method nor a new error breaks a user.
+    ("pub trait LexicalInteger: Copy {", "pub trait LexicalInteger: Copy + crate::sealed::Sealed {"),
+    ("pub enum Error {", "#[non_exhaustive]\npub enum Error {"),
+];
+
 /// The paths under which the packages export what the crates have.
 pub(crate) const EXPORTS: Replaced = &[
     ("lexical_num::options::{self,", "cojimuran::{options,"),
@@ -164,6 +170,8 @@ pub(crate) const IN_TESTS: Replaced = &[
     ("io::writer(&rt)", "io::stdout()"),
     ("rt.reader()", "io::stdin()"),
     ("::Err: Drop", "::Err: Sized"),
+    // In the package the errors are non-exhaustive.
+    ("Some((\"group mark\", byte)),\n    }", "Some((\"group mark\", byte)),\n        _ => None,\n    }"),
     // Rust has this method since 1.87.
     (".cast_signed()", " as i64"),
 ];

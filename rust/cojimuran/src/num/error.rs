@@ -9,6 +9,7 @@ pub type Result<T> = core::result::Result<T, Error>;
 
 /// The first part of a format that is invalid, with the invalid byte.
 #[derive(Clone, Copy, PartialEq, Eq, Debug)]
+#[non_exhaustive]
 pub enum Error {
     /// The mantissa radix is below 2 or above 36.
     InvalidMantissaRadix(u8),

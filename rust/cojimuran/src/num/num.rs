@@ -3,7 +3,7 @@
 //! The traits of the integer types, for generic code.
 
 /// An integer type whose numbers can be written.
-pub trait LexicalInteger: Copy {
+pub trait LexicalInteger: Copy + crate::sealed::Sealed {
     /// The number of bits of the type.
     const BITS: usize;
 
