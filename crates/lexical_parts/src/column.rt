@@ -38,7 +38,7 @@ impl<P: Part> Part for Left<P> {
 }
 
 /// A part that is aligned to the right of a column: a byte, often a space, is added before its text, up
-/// to the width. `Right(Decimal(42), 4, b' ')` writes two spaces and `42`. Nothing is added to a text
+/// to the width. `Right(Decimal(42), 4, b'.')` writes `..42`. Nothing is added to a text
 /// longer than the width.
 #[derive(Clone, Copy, Debug, Drop)]
 pub struct Right<P>(pub P, pub usize, pub u8);

@@ -9,7 +9,7 @@ use lexical_num::num::LexicalInteger;
 use lexical_write_integer::buffer::copy_to_front;
 
 /// The sign of a number: `-` if it is below 0, and otherwise nothing, or a `+` if one is required. Before
-/// other parts, `Sign(-5, false)` and `Sign(-5, true)` write `-`, and `Sign(5, true)` writes `+`.
+/// other parts, `Sign(-5, false)` writes `-`, as `Sign(-5, true)` does, and `Sign(5, true)` writes `+`.
 #[derive(Clone, Copy, Debug, Drop)]
 pub struct Sign<T>(pub T, pub bool);
 

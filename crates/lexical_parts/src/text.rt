@@ -24,7 +24,7 @@ impl Part for &str {
     fn text_is_utf8(self) {}
 }
 
-/// A part whose text is the bytes of a slice.
+/// A part whose text is the bytes of a slice: `Bytes(b"ab")` writes `ab`.
 #[derive(Clone, Copy, Debug, Drop)]
 pub struct Bytes<'a>(pub &'a [u8]);
 
@@ -46,7 +46,7 @@ impl Part for Bytes<'_> {
     fn text_is_utf8(self) {}
 }
 
-/// A part whose text is one byte.
+/// A part whose text is one byte: `Byte(b'a')` writes `a`.
 #[derive(Clone, Copy, Debug, Drop)]
 pub struct Byte(pub u8);
 

@@ -19,12 +19,34 @@
 //! - The other modules have what these are made of, such as the writers of digits without a sign.
 //!
 //! The names are those of the Rust crate `lexical-write-integer`.
+//!
+//! # A `&str`, a `Vec` or a `String`
+//!
+//! [`Part::to_str`](parts::Part::to_str) returns a `&str`. Its cost beside that of
+//! [`Part::to_text`](parts::Part::to_text) is the check of std that the bytes are UTF-8, 60 to 120 instructions:
+//! only `unsafe` code would avoid that, and here is none. To append a part to a `Vec`, write it to the end
+//! of one that is long enough:
+//!
+//! ```
+//! use cojimuran::parts::{Decimal, Part};
+//!
+//! let mut buffer = [0; 20];
+//! let text: &str = Decimal(-12i64).to_str(&mut buffer);
+//! assert_eq!(text.to_owned() + " kg", "-12 kg");
+//!
+//! let (part, mut bytes) = ((7u8, " apples"), b"We have ".to_vec());
+//! let start = bytes.len();
+//! bytes.resize(start + part.room(), 0);
+//! let count = part.write_to(&mut bytes[start..]);
+//! bytes.truncate(start + count);
+//! assert_eq!(bytes, b"We have 7 apples");
+//! ```
 #![doc = include_str!("../CONDITIONS.md")]
 //!
 //! # Versions
 //!
-//! A version 0.x.0 may change names and conditions, as the changelog of the repository lists, and
-//! 0.x.y changes none.
+//! A version 0.x.0 may change names and conditions, as the changelog lists, and 0.x.y changes none. The
+//! integer traits are sealed, so they may get methods in 0.x.y.
 #![no_std]
 #![forbid(unsafe_code)]
 #![warn(missing_docs, clippy::missing_errors_doc)]

@@ -5,9 +5,7 @@
 
 use crate::format::CFormat;
 use cojimuran::format::is_radix;
-use cojimuran::{
-    FormattedSize, NumberFormat, NumberFormatBuilder, ToLexical, write_sign,
-};
+use cojimuran::{FormattedSize, NumberFormat, NumberFormatBuilder, ToLexical, write_sign};
 
 /// Returns whether every field but the radix, the mark and lowercase is 0. No field is tested by itself, so
 /// that one branch is enough.

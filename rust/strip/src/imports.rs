@@ -12,7 +12,7 @@ pub(crate) fn without_unused(text: &str, source: &str, is_left_out: impl Fn(&str
             let is_only_left_out = named.contains(name) && !used.contains(name);
             is_left_out(name) || is_only_left_out && !statement.trim_start().starts_with("pub ")
         };
-        kept += &if is_import(&statement) { import_without(&statement, is_unused) } else { statement };
+        kept += &if is_import(&statement) { in_a_line(import_without(&statement, is_unused)) } else { statement };
     }
     kept
 }
@@ -40,6 +40,13 @@ fn words_in_use(text: &str) -> BTreeSet<String> {
     let is_other = |statement: &String| !is_import(statement);
     let words = |text: String| text.split(|c: char| !c.is_alphanumeric() && c != '_').map(str::to_owned).collect();
     statements(text).into_iter().filter(is_other).flat_map::<Vec<String>, _>(words).collect()
+}
+
+/// Returns an import in one line if that has room for it.
+fn in_a_line(import: String) -> String {
+    let line = import.split_whitespace().collect::<Vec<_>>().join(" ");
+    let line = line.replace("{ ", "{").replace(", }", "}") + "\n";
+    if import.lines().count() > 1 && line.len() <= 100 { line } else { import }
 }
 
 /// Returns an import without some names, or nothing if none is left.

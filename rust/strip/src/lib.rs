@@ -8,9 +8,11 @@
 mod additions;
 mod conditions;
 mod counted;
+mod examples;
 mod functions;
 mod imports;
 mod left_out;
+mod links;
 mod lost;
 mod packages;
 mod replaced;
@@ -48,11 +50,37 @@ fn made(top: &Path) -> Result<BTreeMap<PathBuf, String>, String> {
             made.extend(files);
         }
     }
+    document(top, &mut made)?;
     made.insert(LEFT_OUT.into(), left_out);
-    for name in ["LICENSE-APACHE", "LICENSE-MIT"] {
+    for name in ["LICENSE-APACHE", "LICENSE-MIT", "CHANGELOG.md"] {
         made.insert(Path::new("rust/cojimuran").join(name), read(&top.join(name))?);
     }
     Ok(made)
+}
+
+/// Adds links to the documentation of the package, of which each part and each item of the root has an example.
+fn document(top: &Path, made: &mut BTreeMap<PathBuf, String>) -> Result<(), String> {
+    let root = read(&top.join("rust/cojimuran/src/lib.rs"))?;
+    let of_root = links::exports(&root, "crate");
+    let names: Vec<&str> = of_root
+        .iter()
+        .filter(|(name, path)| **path == format!("crate::{name}"))
+        .map(|(name, _)| name.as_str())
+        .collect();
+    let is_of_package = |path: &Path| path.starts_with("rust/cojimuran");
+    let all: String = made.iter().filter(|(path, _)| is_of_package(path)).map(|(_, text)| text.as_str()).collect();
+    if let Some(name) = examples::missing(&all.replace("/// ", ""), &names) {
+        return Err(format!("{name} has no example"));
+    }
+    let parts = links::exports(&made[Path::new("rust/cojimuran/src/parts.rs")], "crate::parts");
+    let mut exports = of_root;
+    exports.extend(parts);
+    links::add_methods(&all, &mut exports, &mut Default::default());
+    for (_, text) in made.iter_mut().filter(|(path, _)| is_of_package(path) && path.extension() == Some("rs".as_ref()))
+    {
+        *text = links::with_links(text, &exports);
+    }
+    Ok(())
 }
 
 /// Returns what is known of all crates. What tests call for an assertion returns nothing either, so no law is searched
@@ -111,6 +139,7 @@ fn made_text(text: &str, file: &str, source: &Source, known: &Known) -> Result<(
         Some(line) => return Err(format!("a word that only Rattle has: {line}")),
         None => additions::with_additions(&made, text, file, source, known)?,
     };
+    let made = if source.package == "cojimuran" { examples::with_examples(&made, source.module)? } else { made };
     Ok((made, lines))
 }
 

@@ -38,7 +38,7 @@ fn laws_and_values() {
     check("use a::{B, in_range, C};\nuse b::Turns;\nuse c::laws::{\n    text_length,\n};", "use a::{B, C};");
     check(
         "use a::{\n    B, C, D,\n};\nfn f()\n    requires { B C }\n{\n    C;\n}",
-        "use a::{\n    C, D,\n};\nfn f() {\n    C;\n}",
+        "use a::{C, D};\nfn f() {\n    C;\n}",
     );
     check("pub use a::{B, fits_bits};\nfn f()\n    requires { B }\n{}", "pub use a::B;\nfn f() {}");
     check("a;\nlet mut t = Turns::new();\nturns.tick(a);\nb(t);", "a;\nb(t);");

@@ -5,10 +5,24 @@
 use crate::num::num::LexicalInteger;
 
 /// The length of a buffer that is long enough for every number of every type in every format.
+///
+/// ```
+/// use cojimuran::{BUFFER_SIZE, ToLexical};
+///
+/// let mut buffer = [0; BUFFER_SIZE];
+/// assert_eq!(i64::MIN.to_lexical(&mut buffer), b"-9223372036854775808");
+/// ```
 pub const BUFFER_SIZE: usize = 128;
 
-/// An integer type with two buffer lengths, between which `buffer_size` of the options chooses. The length is
+/// An integer type with two buffer lengths, between which [`buffer_size`](crate::WriteOptions::buffer_size) of the options chooses. The length is
 /// enough for each number of the type.
+///
+/// ```
+/// use cojimuran::{FormattedSize, ToLexical};
+///
+/// let mut buffer = [0; u64::FORMATTED_SIZE_DECIMAL];
+/// assert_eq!(u64::MAX.to_lexical(&mut buffer), b"18446744073709551615");
+/// ```
 pub trait FormattedSize: LexicalInteger {
     /// The buffer length in a radix other than 10, with a sign and with groups.
     const FORMATTED_SIZE: usize;

@@ -5,9 +5,26 @@
 use core::fmt;
 
 /// The result of building: the value, or the error.
+///
+/// ```
+/// use cojimuran::{NumberFormat, NumberFormatBuilder, Result};
+///
+/// fn format(radix: u8) -> Result<NumberFormat> {
+///     NumberFormatBuilder::new().mantissa_radix(radix).build()
+/// }
+/// assert!(format(36).is_ok() && format(37).is_err());
+/// ```
 pub type Result<T> = core::result::Result<T, Error>;
 
 /// The first part of a format that is invalid, with the invalid byte.
+///
+/// ```
+/// use cojimuran::{Error, NumberFormatBuilder};
+///
+/// let error = NumberFormatBuilder::new().mantissa_radix(37).build().unwrap_err();
+/// assert_eq!(error, Error::InvalidMantissaRadix(37));
+/// assert_eq!(error.to_string(), "invalid mantissa radix 37");
+/// ```
 #[derive(Clone, Copy, PartialEq, Eq, Debug)]
 #[non_exhaustive]
 pub enum Error {

@@ -9,13 +9,22 @@ use crate::num::limits::{is_group_size, is_mark, is_radix};
 /// A builder of formats. Its parts may be any bytes until a format is built from them.
 ///
 /// The documentation of this module has examples.
+///
+/// ```
+/// use cojimuran::{NumberFormatBuilder, Options, ToLexicalWithOptions};
+///
+/// let thousands = NumberFormatBuilder::new().digit_grouping(3, b',').build_strict();
+/// let mut buffer = [0; 32];
+/// let text = 1234567u64.to_lexical_with_options(&mut buffer, &thousands, &Options::new());
+/// assert_eq!(text, b"1,234,567");
+/// ```
 #[derive(Clone, Copy, PartialEq, Eq, Hash, Debug)]
 pub struct NumberFormatBuilder {
     parts: Parts,
 }
 
 impl NumberFormatBuilder {
-    /// Returns a builder with the parts of `STANDARD`: both radices are 10, no sign is required, and
+    /// Returns a builder with the parts of [`STANDARD`](crate::options::STANDARD): both radices are 10, no sign is required, and
     /// the digits are not grouped.
     #[must_use]
     #[inline]

@@ -3,6 +3,15 @@
 //! The traits of the integer types, for generic code.
 
 /// An integer type whose numbers can be written.
+///
+/// ```
+/// use cojimuran::LexicalInteger;
+///
+/// fn is_below_zero<T: LexicalInteger>(number: T) -> bool {
+///     number.is_negative()
+/// }
+/// assert!(is_below_zero(-5i8) && !is_below_zero(5u8));
+/// ```
 pub trait LexicalInteger: Copy + crate::sealed::Sealed {
     /// The number of bits of the type.
     const BITS: usize;
@@ -150,7 +159,16 @@ impl LexicalInteger for isize {
 }
 
 /// An unsigned integer type, with the arithmetic that is needed to write digits. The writers of
-/// `write_integer` are generic over it, such as `compact`.
+/// [`write_integer`](crate::write::WriteInteger::write_integer) are generic over it, such as `compact`.
+///
+/// ```
+/// use cojimuran::UnsignedInteger;
+///
+/// fn last_digit<T: UnsignedInteger>(number: T) -> T {
+///     number.div_rem(T::from_u32(10)).1
+/// }
+/// assert_eq!(last_digit(1234u16), 4);
+/// ```
 pub trait UnsignedInteger: LexicalInteger {
     /// Returns the number as a value of this type, which it fits.
     ///

@@ -7,6 +7,15 @@ use crate::num::error::Result;
 use crate::num::format::NumberFormat;
 
 /// The options of writing a number: whether they are valid, and how long a buffer they require.
+///
+/// ```
+/// use cojimuran::{FormattedSize, NumberFormat, Options, WriteOptions};
+///
+/// fn size_of<T: FormattedSize>(format: &NumberFormat) -> usize {
+///     Options::new().buffer_size::<T>(format)
+/// }
+/// assert_eq!(size_of::<u8>(&cojimuran::format::STANDARD), 3);
+/// ```
 pub trait WriteOptions {
     /// Returns whether numbers can be written with the options.
     #[must_use]
@@ -20,6 +29,13 @@ pub trait WriteOptions {
 }
 
 /// The options of writing an integer. They have no fields yet, so all values are equal.
+///
+/// ```
+/// use cojimuran::{Options, format::STANDARD};
+///
+/// const SIZE: usize = Options::new().buffer_size_const::<i32>(&STANDARD);
+/// assert_eq!(SIZE, 11);
+/// ```
 #[derive(Debug, Clone, PartialEq, Eq, PartialOrd, Ord)]
 pub struct Options {}
 
@@ -48,7 +64,7 @@ impl Options {
         true
     }
 
-    /// Returns the size of the type in the format, as `buffer_size` does.
+    /// Returns the size of the type in the format, as [`buffer_size`](crate::WriteOptions::buffer_size) does.
     #[must_use]
     #[inline]
     pub const fn buffer_size_const<T: FormattedSize>(&self, format: &NumberFormat) -> usize {
@@ -94,6 +110,12 @@ impl WriteOptions for Options {
 }
 
 /// A builder of options. It has nothing to set yet, so all values are equal.
+///
+/// ```
+/// use cojimuran::{Options, OptionsBuilder};
+///
+/// assert_eq!(OptionsBuilder::new().build(), Ok(Options::new()));
+/// ```
 #[derive(Debug, Clone, PartialEq, Eq, PartialOrd, Ord)]
 pub struct OptionsBuilder {}
 

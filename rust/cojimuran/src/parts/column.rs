@@ -8,6 +8,12 @@ use crate::parts::part::Part;
 /// A part that is aligned to the left of a column: a byte, often a space, is added after its text, up to
 /// the width. `Left(Decimal(12), 4, b'.')` writes `12..`. Nothing is added to a text longer than the
 /// width.
+///
+/// ```
+/// use cojimuran::parts::{Decimal, Left, Part};
+///
+/// assert_eq!(Left(Decimal(12), 4, b'.').to_text(&mut [0; 64]), b"12..");
+/// ```
 #[derive(Clone, Copy, Debug)]
 pub struct Left<P>(pub P, pub usize, pub u8);
 
@@ -25,8 +31,14 @@ impl<P: Part> Part for Left<P> {
 }
 
 /// A part that is aligned to the right of a column: a byte, often a space, is added before its text, up
-/// to the width. `Right(Decimal(42), 4, b' ')` writes two spaces and `42`. Nothing is added to a text
+/// to the width. `Right(Decimal(42), 4, b'.')` writes `..42`. Nothing is added to a text
 /// longer than the width.
+///
+/// ```
+/// use cojimuran::parts::{Decimal, Part, Right};
+///
+/// assert_eq!(Right(Decimal(42), 4, b'.').to_text(&mut [0; 64]), b"..42");
+/// ```
 #[derive(Clone, Copy, Debug)]
 pub struct Right<P>(pub P, pub usize, pub u8);
 
@@ -48,6 +60,12 @@ impl<P: Part> Part for Right<P> {
 /// A part in the centre of a column: a byte, often a space, is added before and after its text, up to
 /// the width. Of an odd number of bytes the larger half is after the text, as with `{:^6}` in Rust:
 /// `Center(Decimal(-12), 6, b'*')` writes `*-12**`. Nothing is added to a text longer than the width.
+///
+/// ```
+/// use cojimuran::parts::{Center, Decimal, Part};
+///
+/// assert_eq!(Center(Decimal(-12), 6, b'*').to_text(&mut [0; 64]), b"*-12**");
+/// ```
 #[derive(Clone, Copy, Debug)]
 pub struct Center<P>(pub P, pub usize, pub u8);
 

@@ -24,6 +24,13 @@ pub(crate) fn write_next<P: Part>(
 /// The parts of a slice, with the separator between adjacent parts: `Joined(&[-1, 20], ", ")` writes
 /// `-1, 20`. An array of other values becomes parts by `map`: `Joined(&[10u8, 2].map(Hex), ":")` writes
 /// `A:2`.
+///
+/// ```
+/// use cojimuran::parts::{Hex, Joined, Part};
+///
+/// assert_eq!(Joined(&[-1, 20], ", ").to_text(&mut [0; 64]), b"-1, 20");
+/// assert_eq!(Joined(&[10u8, 2].map(Hex), ":").to_text(&mut [0; 64]), b"A:2");
+/// ```
 #[derive(Clone, Copy, Debug)]
 pub struct Joined<'a, P>(pub &'a [P], pub &'a str);
 

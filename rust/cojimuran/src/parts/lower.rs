@@ -6,6 +6,12 @@ use crate::parts::part::Part;
 
 /// A part in lowercase: its text with `A` to `Z` as `a` to `z`, and every other byte unchanged.
 /// `Lower(PaddedDigits(16, 255u32, 4))` writes `00ff`.
+///
+/// ```
+/// use cojimuran::parts::{Lower, PaddedDigits, Part};
+///
+/// assert_eq!(Lower(PaddedDigits(16, 255u32, 4)).to_text(&mut [0; 64]), b"00ff");
+/// ```
 #[derive(Clone, Copy, Debug)]
 pub struct Lower<P>(pub P);
 

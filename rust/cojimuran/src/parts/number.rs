@@ -9,6 +9,12 @@ use crate::write_integer::{NumberFormat, ToLexicalWithOptions};
 
 /// A number in decimal, with a `-` if it is negative: `Decimal(-5)` writes `-5`, as the part `-5` does. It
 /// is for generic code, in which the number has a type parameter.
+///
+/// ```
+/// use cojimuran::parts::{Decimal, Part};
+///
+/// assert_eq!(Decimal(-5).to_text(&mut [0; 64]), b"-5");
+/// ```
 #[derive(Clone, Copy, Debug)]
 pub struct Decimal<T>(pub T);
 
@@ -25,6 +31,12 @@ impl<T: ToLexicalWithOptions> Part for Decimal<T> {
 }
 
 /// The digits of an unsigned number in a radix from 2 to 36: `Digits(16, 255u32)` writes `FF`.
+///
+/// ```
+/// use cojimuran::parts::{Digits, Part};
+///
+/// assert_eq!(Digits(16, 255u32).to_text(&mut [0; 64]), b"FF");
+/// ```
 #[derive(Clone, Copy, Debug)]
 pub struct Digits<T>(pub u32, pub T);
 
@@ -53,6 +65,13 @@ fn largest_magnitude<T: ToLexicalWithOptions>() -> u64 {
 
 /// A number in a format, with its sign and its groups: in a format with groups of three digits and
 /// the separator `,`, `Formatted(1234567, &format)` writes `1,234,567`.
+///
+/// ```
+/// use cojimuran::parts::{Formatted, Part};
+///
+/// let format = cojimuran::NumberFormatBuilder::new().digit_grouping(3, b',').build_strict();
+/// assert_eq!(Formatted(1234567, &format).to_text(&mut [0; 64]), b"1,234,567");
+/// ```
 #[derive(Clone, Copy, Debug)]
 pub struct Formatted<'a, T>(pub T, pub &'a NumberFormat);
 

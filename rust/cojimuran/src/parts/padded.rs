@@ -9,6 +9,12 @@ use crate::write_integer::radix::Radix;
 
 /// The digits of an unsigned number in a radix from 2 to 36, with leading zeros up to the width:
 /// `PaddedDigits(16, 1u8, 2)` writes `01`. The number must be below `radix.pow(width)`.
+///
+/// ```
+/// use cojimuran::parts::{PaddedDigits, Part};
+///
+/// assert_eq!(PaddedDigits(16, 1u8, 2).to_text(&mut [0; 64]), b"01");
+/// ```
 #[derive(Clone, Copy, Debug)]
 pub struct PaddedDigits<T>(pub u32, pub T, pub usize);
 
@@ -28,8 +34,15 @@ impl<T: DigitCount + Radix> Part for PaddedDigits<T> {
 }
 
 /// An unsigned number in decimal, with leading zeros up to the width: `Padded(3u8, 2)` writes `03`.
-/// The number must be below `10.pow(width)`. `ZeroPadded` writes every number: `ZeroPadded(123u8, 2)`
+/// The number must be below `10.pow(width)`. [`ZeroPadded`](crate::parts::ZeroPadded) writes every number: `ZeroPadded(123u8, 2)`
 /// writes `123`.
+///
+/// ```
+/// use cojimuran::parts::{Padded, Part, ZeroPadded};
+///
+/// assert_eq!(Padded(3u8, 2).to_text(&mut [0; 64]), b"03");
+/// assert_eq!(ZeroPadded(123u8, 2).to_text(&mut [0; 64]), b"123");
+/// ```
 #[derive(Clone, Copy, Debug)]
 pub struct Padded<T>(pub T, pub usize);
 

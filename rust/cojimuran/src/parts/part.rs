@@ -14,6 +14,12 @@ use core::str::from_utf8;
 /// A part is *valid* if it meets the condition of its type: a radix is from 2 to 36, and a padded number
 /// fits in its width. A part that contains parts is valid if they are valid. A part without a condition is
 /// always valid.
+///
+/// ```
+/// use cojimuran::parts::{Part};
+///
+/// assert_eq!((250, " g").to_text(&mut [0; 64]), b"250 g");
+/// ```
 pub trait Part: Copy {
     /// Returns a number of bytes that is enough for the text, or `usize::MAX` if that number does not
     /// fit in a `usize`. The part must be valid.
@@ -63,11 +69,11 @@ pub trait Part: Copy {
     }
 
     /// Writes the text into the buffer, and returns it as a `&str`, which borrows the buffer. What the buffer holds
-    /// afterwards is not promised. The part must be valid, each `Byte` in it and each byte of a column must be below
-    /// 128, each `Bytes` in it must be UTF-8, and the buffer must have `room` bytes or more.
+    /// afterwards is not promised. The part must be valid, each [`Byte`](crate::parts::Byte) in it and each byte of a column must be below
+    /// 128, each [`Bytes`](crate::parts::Bytes) in it must be UTF-8, and the buffer must have `room` bytes or more.
     ///
-    /// At run time this is `to_text` and then a call of `std::str::from_utf8`, which reads the text
-    /// once and cannot fail; if rustc compiles a caller with a `Bytes` that is not UTF-8, it panics. The standard
+    /// At run time this is [`to_text`](crate::parts::Part::to_text) and then a call of `std::str::from_utf8`, which reads the text
+    /// once and cannot fail; if rustc compiles a caller with a [`Bytes`](crate::parts::Bytes) that is not UTF-8, it panics. The standard
     /// library has no call that returns a `&mut str`.
     ///
     /// # Panics
@@ -80,9 +86,9 @@ pub trait Part: Copy {
         from_utf8(self.to_text(buffer)).unwrap()
     }
 
-    /// If the buffer has `room` bytes or more, returns the text as `to_str` does, at the same cost.
-    /// Otherwise returns `None`. Only the room is tested: the part must be valid, each `Byte` in it and each byte of
-    /// a column must be below 128, and each `Bytes` in it must be UTF-8: otherwise it panics if rustc compiles the
+    /// If the buffer has `room` bytes or more, returns the text as [`to_str`](crate::parts::Part::to_str) does, at the same cost.
+    /// Otherwise returns `None`. Only the room is tested: the part must be valid, each [`Byte`](crate::parts::Byte) in it and each byte of
+    /// a column must be below 128, and each [`Bytes`](crate::parts::Bytes) in it must be UTF-8: otherwise it panics if rustc compiles the
     /// caller.
     ///
     /// # Panics

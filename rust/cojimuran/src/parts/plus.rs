@@ -9,6 +9,14 @@ use crate::write_integer::format::STANDARD;
 
 /// A number in decimal with a sign in each case, `+` if it is not negative: `Plus(5u8)` writes `+5`, and
 /// `Plus(-5)` writes `-5`. `ZeroPadded(Plus(42), 8)` writes `+0000042`, as `{:+08}` does in Rust.
+///
+/// ```
+/// use cojimuran::parts::{Part, Plus, ZeroPadded};
+///
+/// assert_eq!(Plus(5u8).to_text(&mut [0; 64]), b"+5");
+/// assert_eq!(Plus(-5).to_text(&mut [0; 64]), b"-5");
+/// assert_eq!(ZeroPadded(Plus(42), 8).to_text(&mut [0; 64]), b"+0000042");
+/// ```
 #[derive(Clone, Copy, Debug)]
 pub struct Plus<T>(pub T);
 

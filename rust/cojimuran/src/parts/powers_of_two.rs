@@ -9,6 +9,12 @@ use crate::write_integer::radix::Radix;
 
 /// The digits of an unsigned number in radix 16, without a prefix: `Hex(255u32)` writes `FF`. Its room
 /// is that of its type: 2 bytes for a `u8`, and 16 for a `u64`.
+///
+/// ```
+/// use cojimuran::parts::{Hex, Part};
+///
+/// assert_eq!(Hex(255u32).to_text(&mut [0; 64]), b"FF");
+/// ```
 #[derive(Clone, Copy, Debug)]
 pub struct Hex<T>(pub T);
 
@@ -26,6 +32,12 @@ impl<T: Radix> Part for Hex<T> {
 
 /// The digits of an unsigned number in radix 2, without a prefix: `Binary(5u8)` writes `101`. Its room
 /// is that of its type: 8 bytes for a `u8`, and 64 for a `u64`.
+///
+/// ```
+/// use cojimuran::parts::{Binary, Part};
+///
+/// assert_eq!(Binary(5u8).to_text(&mut [0; 64]), b"101");
+/// ```
 #[derive(Clone, Copy, Debug)]
 pub struct Binary<T>(pub T);
 
@@ -63,6 +75,13 @@ impl Part for HexByte {
 
 /// The bytes of a slice in radix 16, each in two digits, with a separator between adjacent bytes:
 /// `HexBytes(&[1, 255], "")` writes `01FF`, and `HexBytes(&[1, 255], ":")` writes `01:FF`.
+///
+/// ```
+/// use cojimuran::parts::{HexBytes, Part};
+///
+/// assert_eq!(HexBytes(&[1, 255], "").to_text(&mut [0; 64]), b"01FF");
+/// assert_eq!(HexBytes(&[1, 255], ":").to_text(&mut [0; 64]), b"01:FF");
+/// ```
 #[derive(Clone, Copy, Debug)]
 pub struct HexBytes<'a>(pub &'a [u8], pub &'a str);
 

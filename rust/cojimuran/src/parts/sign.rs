@@ -7,7 +7,14 @@ use crate::parts::part::Part;
 use crate::write_integer::buffer::copy_to_front;
 
 /// The sign of a number: `-` if it is below 0, and otherwise nothing, or a `+` if one is required. Before
-/// other parts, `Sign(-5, false)` and `Sign(-5, true)` write `-`, and `Sign(5, true)` writes `+`.
+/// other parts, `Sign(-5, false)` writes `-`, as `Sign(-5, true)` does, and `Sign(5, true)` writes `+`.
+///
+/// ```
+/// use cojimuran::parts::{Part, Sign};
+///
+/// assert_eq!(Sign(-5, false).to_text(&mut [0; 64]), b"-");
+/// assert_eq!(Sign(5, true).to_text(&mut [0; 64]), b"+");
+/// ```
 #[derive(Clone, Copy, Debug)]
 pub struct Sign<T>(pub T, pub bool);
 

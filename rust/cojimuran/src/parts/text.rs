@@ -17,7 +17,13 @@ impl Part for &str {
     }
 }
 
-/// A part whose text is the bytes of a slice.
+/// A part whose text is the bytes of a slice: `Bytes(b"ab")` writes `ab`.
+///
+/// ```
+/// use cojimuran::parts::{Bytes, Part};
+///
+/// assert_eq!(Bytes(b"ab").to_text(&mut [0; 64]), b"ab");
+/// ```
 #[derive(Clone, Copy, Debug)]
 pub struct Bytes<'a>(pub &'a [u8]);
 
@@ -33,7 +39,13 @@ impl Part for Bytes<'_> {
     }
 }
 
-/// A part whose text is one byte.
+/// A part whose text is one byte: `Byte(b'a')` writes `a`.
+///
+/// ```
+/// use cojimuran::parts::{Byte, Part};
+///
+/// assert_eq!(Byte(b'a').to_text(&mut [0; 64]), b"a");
+/// ```
 #[derive(Clone, Copy, Debug)]
 pub struct Byte(pub u8);
 

@@ -15,8 +15,14 @@ fn length_of_sign(text: &[u8]) -> usize {
 }
 
 /// A part with zeros after its sign, up to the width: `ZeroPadded(Decimal(-42), 6)` writes `-00042`, as
-/// `{:06}` does in Rust. A text longer than the width has no zeros. `Padded` has a width that the number
+/// `{:06}` does in Rust. A text longer than the width has no zeros. [`Padded`](crate::parts::Padded) has a width that the number
 /// must fit.
+///
+/// ```
+/// use cojimuran::parts::{Decimal, Part, ZeroPadded};
+///
+/// assert_eq!(ZeroPadded(Decimal(-42), 6).to_text(&mut [0; 64]), b"-00042");
+/// ```
 #[derive(Clone, Copy, Debug)]
 pub struct ZeroPadded<P>(pub P, pub usize);
 

@@ -10,6 +10,13 @@ use crate::num::options::WriteOptions;
 use crate::write_integer::buffer::front_mut;
 
 /// An integer type whose numbers are written in decimal. The documentation of this module has examples.
+///
+/// ```
+/// use cojimuran::ToLexical;
+///
+/// let mut buffer = [0; 20];
+/// assert_eq!((-1234i64).to_lexical(&mut buffer), b"-1234");
+/// ```
 pub trait ToLexical: LexicalInteger + FormattedSize {
     /// Writes the number in decimal to the start of the buffer, and returns the length of its text: a
     /// `-` if it is below 0, and then the digits. Every byte after the text is unchanged. The buffer
@@ -55,7 +62,7 @@ pub trait ToLexical: LexicalInteger + FormattedSize {
         sign + group_digits(count, format, digits)
     }
 
-    /// Writes the number as `write_lexical` does, under the same condition, and returns its text: a
+    /// Writes the number as [`write_lexical`](crate::ToLexical::write_lexical) does, under the same condition, and returns its text: a
     /// mutable slice of the first bytes of the buffer. What the caller then writes to the slice
     /// changes those bytes, and every other byte of the buffer is unchanged.
     ///
@@ -71,6 +78,15 @@ pub trait ToLexical: LexicalInteger + FormattedSize {
 
 /// An integer type whose numbers are written in any format. The documentation of this module has
 /// examples.
+///
+/// ```
+/// use cojimuran::{NumberFormatBuilder, Options, ToLexicalWithOptions};
+///
+/// let radix_36 = NumberFormatBuilder::from_radix(36);
+/// let mut buffer = [0; 13];
+/// let text = u64::MAX.to_lexical_with_options(&mut buffer, &radix_36, &Options::new());
+/// assert_eq!(text, b"3W5E11264SGSF");
+/// ```
 pub trait ToLexicalWithOptions: ToLexical {
     /// The type of the options. Options have no effect yet.
     type Options: WriteOptions;
@@ -79,7 +95,7 @@ pub trait ToLexicalWithOptions: ToLexical {
     /// the sign, and then the digits in the mantissa radix, in the groups of the format. Every byte
     /// after the text is unchanged. The options have no effect.
     ///
-    /// The buffer must have room for the number of bytes that `required_len` returns, which is enough
+    /// The buffer must have room for the number of bytes that [`required_len`](crate::ToLexicalWithOptions::required_len) returns, which is enough
     /// for the sign, the digits and the separators between their groups. In radix 10 it is enough for
     /// `DECIMAL_WIDTH` digits, even if the number has fewer.
     ///
@@ -98,7 +114,7 @@ pub trait ToLexicalWithOptions: ToLexical {
     }
 
     /// Returns the required length, which is the length of the shortest buffer that
-    /// `write_lexical_with_options` accepts. It is at most `BUFFER_SIZE`.
+    /// [`write_lexical_with_options`](crate::ToLexicalWithOptions::write_lexical_with_options) accepts. It is at most [`BUFFER_SIZE`](crate::BUFFER_SIZE).
     #[must_use]
     #[inline(always)]
     fn required_len(self, format: &NumberFormat) -> usize {
@@ -111,7 +127,7 @@ pub trait ToLexicalWithOptions: ToLexical {
         sign_len(self, format) + format.grouped_len(digits)
     }
 
-    /// Writes the number as `write_lexical_with_options` does, under the same condition, and returns
+    /// Writes the number as [`write_lexical_with_options`](crate::ToLexicalWithOptions::write_lexical_with_options) does, under the same condition, and returns
     /// its text: a mutable slice of the first bytes of the buffer. What the caller then writes to the
     /// slice changes those bytes, and every other byte of the buffer is unchanged.
     ///
@@ -157,6 +173,12 @@ fn write_sign_before_digits<T: LexicalInteger>(
 }
 
 /// Returns the length of the sign of the number in the format, 0 or 1.
+///
+/// ```
+/// use cojimuran::{format::STANDARD, sign_len};
+///
+/// assert_eq!((sign_len(-5, &STANDARD), sign_len(5, &STANDARD)), (1, 0));
+/// ```
 #[must_use]
 #[inline(always)]
 pub fn sign_len<T: LexicalInteger>(number: T, format: &NumberFormat) -> usize {
@@ -169,6 +191,13 @@ pub fn sign_len<T: LexicalInteger>(number: T, format: &NumberFormat) -> usize {
 /// # Panics
 ///
 /// If the buffer is [too short](crate#conditions).
+///
+/// ```
+/// use cojimuran::{format::STANDARD, write_sign};
+///
+/// let mut buffer = [0; 1];
+/// assert_eq!((write_sign(-5, &mut buffer, &STANDARD), buffer), (1, *b"-"));
+/// ```
 #[inline(always)]
 pub fn write_sign<T: LexicalInteger>(number: T, buffer: &mut [u8], format: &NumberFormat) -> usize {
     let is_negative = number.is_negative();

@@ -19,6 +19,15 @@ use crate::num::format::NumberFormat;
 /// # Panics
 ///
 /// If the buffer is [too short](crate#conditions).
+///
+/// ```
+/// use cojimuran::{NumberFormatBuilder, group_digits};
+///
+/// let thousands = NumberFormatBuilder::new().digit_grouping(3, b',').build_strict();
+/// let mut buffer = *b"1234567..";
+/// assert_eq!(group_digits(7, &thousands, &mut buffer), 9);
+/// assert_eq!(buffer, *b"1,234,567");
+/// ```
 #[inline]
 pub fn group_digits(count: usize, format: &NumberFormat, buffer: &mut [u8]) -> usize {
     let Some((size, mark)) = format.digit_grouping() else {

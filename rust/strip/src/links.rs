@@ -1,0 +1,73 @@
+//! Links of the documentation of the package: names in backquotes.
+
+use std::collections::{BTreeMap, BTreeSet};
+
+/// What the package exports: each name with its path.
+pub(crate) type Exports = BTreeMap<String, String>;
+
+/// Returns the exports of a module, whose file has this text. Those of inner modules have their paths too. A name that
+/// is hidden, or that could be another word, is left out.
+pub(crate) fn exports(text: &str, path: &str) -> Exports {
+    let (mut found, mut module, mut is_hidden) = (Exports::new(), path.to_owned(), false);
+    let mut statement = String::new();
+    for line in text.lines() {
+        let code = line.trim();
+        if let Some(name) = code.strip_prefix("pub mod ").and_then(|rest| rest.strip_suffix(" {")) {
+            module = format!("{path}::{name}");
+        } else if line == "}" {
+            path.clone_into(&mut module);
+        } else if code.starts_with("pub use ") || !statement.is_empty() {
+            statement += code;
+            if code.ends_with(';') {
+                let list = statement.rsplit(['{', ':']).next().unwrap_or_default();
+                let is_name = |name: &&str| name.contains('_') || name.starts_with(char::is_uppercase);
+                let names = list.split(|c: char| !c.is_alphanumeric() && c != '_').filter(is_name);
+                let names = names.filter(|_| !is_hidden);
+                found.extend(names.map(|name| (name.to_owned(), format!("{module}::{name}"))));
+                statement.clear();
+            }
+        }
+        is_hidden = code == "#[doc(hidden)]" || is_hidden && !statement.is_empty();
+    }
+    found
+}
+
+/// Adds the methods of the exported traits of a file. A name that several things have becomes none.
+pub(crate) fn add_methods(text: &str, exports: &mut Exports, names: &mut BTreeSet<String>) {
+    let mut path = None;
+    for line in text.lines() {
+        if let Some(code) = line.strip_prefix("pub trait ") {
+            path = code.split([':', ' ', '<']).next().and_then(|name| exports.get(name)).cloned();
+        } else if line == "}" {
+            path = None;
+        } else if let Some((name, path)) = crate::functions::name(line).zip(path.as_ref()) {
+            if name.contains('_') && names.insert(name.to_owned()) {
+                exports.entry(name.to_owned()).or_insert(format!("{path}::{name}"));
+            }
+        }
+    }
+}
+
+/// Returns the text with links in its documentation.
+pub(crate) fn with_links(text: &str, exports: &Exports) -> String {
+    let (mut linked, mut is_code) = (String::with_capacity(2 * text.len()), false);
+    for line in text.split_inclusive('\n') {
+        let code = line.trim_start();
+        let is_comment = code.starts_with("///") || code.starts_with("//!");
+        is_code ^= is_comment && code.contains("```");
+        let quoted: Vec<&str> = line.split('`').collect();
+        if !is_comment || is_code || quoted.len() < 3 || line.contains("```") {
+            linked += line;
+            continue;
+        }
+        for (i, part) in quoted.iter().enumerate() {
+            let is_link = quoted[i.saturating_sub(1)].ends_with('[');
+            linked += &match exports.get(*part).filter(|_| i % 2 == 1 && !is_link) {
+                Some(path) => format!("[`{part}`]({path})"),
+                None if i % 2 == 1 => format!("`{part}`"),
+                None => (*part).to_owned(),
+            };
+        }
+    }
+    linked
+}
