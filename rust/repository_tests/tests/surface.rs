@@ -17,7 +17,7 @@ use cojimuran::num::limits::{is_group_size, is_mark, is_radix};
 use cojimuran::num::{LexicalInteger, UnsignedInteger, digit_to_char};
 use cojimuran::parts::{
     Binary, Byte, Bytes, Center, Decimal, Digits, Fixed, Formatted, GroupedFixed, Hex, HexBytes, Joined, Left, Lower,
-    Padded, PaddedDigits, Part, Plus, Right, Scientific, Sign, ZeroPadded,
+    OrElse, Padded, PaddedDigits, Part, Plus, Right, Scientific, Sign, ZeroPadded, write_with_length,
 };
 use cojimuran::streams::{answer_lines, answer_reader, answer_stream};
 use cojimuran::table::{DIGIT_TO_BASE2_SQUARED, DIGIT_TO_BASE36_SQUARED, get_table};
@@ -63,6 +63,7 @@ fn formats() {
 fn parts() {
     type U = Decimal<u64>;
     check!(part: &str, Byte, Bytes, Option<U>, Joined<U>, Lower<U>, Left<U>, Right<U>, Center<U>, ZeroPadded<U>);
+    check!(part: OrElse<U, U>, &U);
     check!(part: Sign<i8>, Digits<u8>, Padded<u8>, PaddedDigits<u8>, HexBytes);
     check!(part: Fixed<i64>, GroupedFixed<i64>, Scientific<i64>);
     check!(shown: Decimal<i8>, Formatted<i8>, Plus<i8>, Hex<u8>, Binary<u8>);

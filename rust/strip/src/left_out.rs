@@ -12,10 +12,13 @@ const WORDS: &str = "ghost requires ensures tactic DECIMAL Model Trace Turns";
 /// variable may have the same name.
 const FUNCTIONS: &str = "
     note_put record_flush record_up_to_eight
-    in_range fits_bits text_is_utf8 rooms_at_most same_rest formatted_room_suffices size_suffices sizes_suffice
-    digit_count_is_least digit_count_at_most digit_count_within_bits digits_computed digits_equal_iff different_digits
-    equal_digits equal_padded equal_texts padded_order text_computed text_is_ascii text_is_decimal text_length
-    texts_equal_iff same_counter same_link same_user different_codes";
+    in_range fits_bits text_is_utf8 rooms_at_most formatted_room_suffices size_suffices sizes_suffice
+    byte_starts_at part_starts_at padded_decides same_parts same_split
+    decimal_then_padded different_digits digit_count_at_most digit_count_is_least digit_count_within_bits
+    digits_computed digits_equal_iff digits_read_back digits_then_padded equal_digits equal_padded equal_texts
+    padded_length padded_order padded_read_back padded_then_padded text_computed text_has_no text_is_ascii
+    text_is_decimal text_length text_read_back texts_equal_iff
+    different_codes same_address same_counter same_link same_timed same_user sorts_by_time";
 
 /// So does a line with one of these texts: a module of laws, and calls that only record.
 const TEXTS: [&str; 5] = ["::laws::", "turns.tick", "turns.append", "written.tick", "self.trace."];

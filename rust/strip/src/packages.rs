@@ -165,10 +165,11 @@ pub(crate) const SOURCES: &[Source] = &[
         // known.
         attributes: &[("#[inline(always)]", "tuples.rt joined.rt integers.rt number.rt text.rt")],
         panics: &[
-            ("the part is not valid", "room to_text try_write_to write_to"),
+            ("the part is not valid", "room to_text try_write_to write_at write_to write_with_length"),
+            ("the length has more digits than `width`", "write_with_length"),
             ("the part is not valid, or its text is not UTF-8", "to_str try_to_str"),
         ],
-        left_out: "equal",
+        left_out: "equal positions",
         replaced: replaced::PARTS,
         ..LIBRARY
     },

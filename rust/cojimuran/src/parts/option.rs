@@ -22,3 +22,23 @@ impl<P: Part> Part for Option<P> {
         }
     }
 }
+
+/// A part that may be absent, and the part that is written in its place: `OrElse(Some(5u8), "n/a")` writes `5`, and
+/// `OrElse(None::<u8>, "n/a")` writes `n/a`. Both must be valid.
+#[derive(Clone, Copy, Debug)]
+pub struct OrElse<P, Q>(pub Option<P>, pub Q);
+
+impl<P: Part, Q: Part> Part for OrElse<P, Q> {
+    #[inline]
+    fn room(self) -> usize {
+        self.0.room().max(self.1.room())
+    }
+
+    #[inline]
+    fn write_to(self, buffer: &mut [u8]) -> usize {
+        match self.0 {
+            Some(part) => part.write_to(buffer),
+            None => self.1.write_to(buffer),
+        }
+    }
+}
