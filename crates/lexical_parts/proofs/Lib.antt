@@ -28,3 +28,9 @@ pub mod Scientifics
 pub mod GroupedUnits
 -- numbers in format strings
 pub mod ShownNumbers
+-- what equal texts in a row have in common
+pub mod Splits
+-- texts of equal widths with separators between them
+pub mod EqualWidths
+-- texts at an index of a buffer
+pub mod Places

@@ -7,6 +7,11 @@ abbrev pub IsOptional : {P : Type 0} → (P → List ℕ → Type 0) → Option 
 IsOptional IsOf (Some part) = IsOf part
 IsOptional IsOf None = IsExactly []
 
+-- the text of the part, or one of another kind for `None`
+abbrev pub IsOrElse : {P : Type 0} → (P → List ℕ → Type 0) → (List ℕ → Type 0) → Option P → List ℕ → Type 0
+IsOrElse IsOf IsOther (Some part) = IsOf part
+IsOrElse IsOf IsOther None = IsOther
+
 -- the part, if there is one, is valid
 abbrev pub IsValidOptional : {P : Type 0} → (P → Type 0) → Option P → Type 0
 IsValidOptional IsValid (Some part) = IsValid part

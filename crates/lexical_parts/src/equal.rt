@@ -1,16 +1,44 @@
-//! A law about texts that begin alike.
+//! Laws on texts in a row: what equal texts have in common, and which of two texts is the earlier one.
 
-ghost use Rattle.std.specs.Prelude.{◌≡◌, List, ℕ, length};
+ghost use Rattle.std.specs.Prelude.{◌≡◌, ◌≢◌, ◌<◌, ◌∷◌, [], All, List, ℕ, length};
+ghost use Rattle.lexical_write_integer.specs.Order.{IsEarlier};
+ghost use Rattle.lexical_write_integer.specs.Padded.{IsPadded};
+ghost use Rattle.lexical_write_integer.specs.Sequence.{IsExactly};
 ghost use Rattle.lexical_parts.specs.Sequence.{◌then◌};
 
 use crate::part::Part;
 
-/// A law: if a text consists of the first part and then of `a`, and also of the first part and then of `b`,
-/// the rest is a text of both. All texts of the first part have this length. With a law that says which `a`
-/// and `b` have the same text, different numbers have different links, names or keys.
-pub fn same_rest<F: Part, P: Part>(first: F, count: usize, a: P, b: P)
-    requires { (text : List ℕ) → F.is_text first text → length text ≡ count }
-    ensures { (text : List ℕ) → (F.is_text first then P.is_text a) text
-        → (F.is_text first then P.is_text b) text
-        → (rest : List ℕ) × P.is_text a rest × P.is_text b rest }
+/// A law: if each text of `a` and of `b` has `count` bytes, and a text is `a` and then `p`, and also `b` and then `q`,
+/// then `a` and `b` have a text in common, and so have `p` and `q`. With a law that says which numbers have the same
+/// text, different numbers have different links, names or keys.
+pub fn same_parts<A: Part, B: Part, P: Part, Q: Part>(a: A, b: B, count: usize, p: P, q: Q)
+    requires a { (text : List ℕ) → A.is_text a text → length text ≡ count }
+    requires b { (text : List ℕ) → B.is_text b text → length text ≡ count }
+    ensures first { (text : List ℕ) → (A.is_text a then P.is_text p) text
+        → (B.is_text b then Q.is_text q) text
+        → (first : List ℕ) × A.is_text a first × B.is_text b first }
+    ensures rest { (text : List ℕ) → (A.is_text a then P.is_text p) text
+        → (B.is_text b then Q.is_text q) text
+        → (rest : List ℕ) × P.is_text p rest × Q.is_text q rest }
+{}
+
+/// A law: if no text of `a` and of `b` has the separator, and a text is `a`, the separator and `p`, and also `b`, the
+/// separator and `q`, then `a` and `b` have a text in common, and so have `p` and `q`.
+pub fn same_split<A: Part, B: Part, P: Part, Q: Part>(a: A, b: B, separator: u8, p: P, q: Q)
+    requires a { (text : List ℕ) → A.is_text a text → All (λ byte. byte ≢ separator) text }
+    requires b { (text : List ℕ) → B.is_text b text → All (λ byte. byte ≢ separator) text }
+    ensures first { (text : List ℕ) → (A.is_text a then IsExactly (separator ∷ []) then P.is_text p) text
+        → (B.is_text b then IsExactly (separator ∷ []) then Q.is_text q) text
+        → (first : List ℕ) × A.is_text a first × B.is_text b first }
+    ensures rest { (text : List ℕ) → (A.is_text a then IsExactly (separator ∷ []) then P.is_text p) text
+        → (B.is_text b then IsExactly (separator ∷ []) then Q.is_text q) text
+        → (rest : List ℕ) × P.is_text p rest × Q.is_text q rest }
+{}
+
+/// A law: of two texts that begin with different numbers of this width in a radix, with leading zeros, that of the
+/// smaller number is the earlier one in the order of bytes.
+pub fn padded_decides<P: Part, Q: Part>(radix: u32, width: usize, a: u64, b: u64, p: P, q: Q)
+    requires { a < b }
+    ensures { (s t : List ℕ) → (IsPadded radix width a then P.is_text p) s
+        → (IsPadded radix width b then Q.is_text q) t → IsEarlier s t }
 {}

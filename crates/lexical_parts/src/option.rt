@@ -1,7 +1,8 @@
 //! Parts that may be absent: the text of `Some(part)` is that of the part, and `None` has no bytes.
 #![tactic(auto, using(crate::proofs::Utf8Texts::kinds, crate::proofs::Utf8Changes::changes))]
 
-ghost use Rattle.lexical_parts.specs.Optional.{IsOptional, IsValidOptional, optional_room};
+ghost use Rattle.std.specs.Prelude.{max};
+ghost use Rattle.lexical_parts.specs.Optional.{IsOptional, IsOrElse, IsValidOptional, optional_room};
 
 use crate::part::Part;
 use lexical_write_integer::buffer::copy_to_front;
@@ -32,6 +33,39 @@ impl<P: Part> Part for Option<P> {
     fn text_is_utf8(self) {
         if let Some(part) = self {
             part.text_is_utf8();
+        }
+    }
+}
+
+/// A part that may be absent, and the part that is written in its place: `OrElse(Some(5u8), "n/a")` writes `5`, and
+/// `OrElse(None::<u8>, "n/a")` writes `n/a`. Both must be valid.
+#[derive(Clone, Copy, Debug, Drop)]
+pub struct OrElse<P, Q>(pub Option<P>, pub Q);
+
+impl<P: Part, Q: Part> Part for OrElse<P, Q> {
+    ghost is_text = { λ part. IsOrElse P.is_text (Q.is_text part.1) part.0 };
+
+    ghost is_valid = { λ part. IsValidOptional P.is_valid part.0 × Q.is_valid part.1 };
+
+    ghost room = { λ part. max (optional_room P.room part.0) (Q.room part.1) };
+
+    ghost is_utf8 = { λ part. IsValidOptional P.is_utf8 part.0 × Q.is_utf8 part.1 };
+
+    fn room(self) -> usize {
+        self.0.room().max(self.1.room())
+    }
+
+    fn write_to(self, buffer: &mut [u8]) -> usize {
+        match self.0 {
+            Some(part) => part.write_to(buffer),
+            None => self.1.write_to(buffer),
+        }
+    }
+
+    fn text_is_utf8(self) {
+        match self.0 {
+            Some(part) => part.text_is_utf8(),
+            None => self.1.text_is_utf8(),
         }
     }
 }

@@ -1,9 +1,12 @@
 //! The trait that each part of a text implements.
 
-ghost use Rattle.std.specs.Prelude.{◌≡◌, ◌↔◌, ◌≤◌, List, ℕ, IfNone, IfSome, IsSome, length, min, ⊤};
+ghost use Rattle.std.specs.Prelude.{◌≡◌, ◌↔◌, ◌+◌, ◌≤◌, List, ℕ, drop, length, min, slice_range, take, ⊤};
+ghost use Rattle.std.specs.Prelude.{IfNone, IfSome, IsSome};
 ghost use Rattle.std.specs.Borrow.{sem};
 ghost use Rattle.lexical_write_integer.specs.Buffer.{Writes};
 ghost use Rattle.lexical_write_integer.specs.Lending.{LendsFront};
+ghost use Rattle.lexical_write_integer.specs.Sequence.{IsExactly};
+ghost use Rattle.lexical_parts.specs.Sequence.{◌then◌};
 ghost use Rattle.lexical_parts.specs.Utf8.{AreUtf8};
 
 use lexical_write_integer::buffer::front_mut;
@@ -63,6 +66,23 @@ pub trait Part: Copy {
     {
         let count = self.write_to(buffer);
         front_mut(buffer, count)
+    }
+
+    /// Writes the text to the buffer from `index` on, and returns the index after the text. Every other byte is
+    /// unchanged. The part must be valid, and the buffer must have `room` bytes or more from `index` on.
+    final fn write_at(self, index: usize, buffer: &mut [u8]) -> usize
+        requires valid { is_valid self }
+        requires room { index + room self ≤ length buffer.old }
+        ensures text { Writes (IsExactly (take index buffer.old) then is_text self) buffer.old buffer.new result }
+        ensures front { (IsExactly (take index buffer.old) then is_text self) (take result buffer.new) }
+        ensures before { take index buffer.new ≡ take index buffer.old }
+        ensures there { is_text self (slice_range buffer.new index result) }
+        ensures after { drop result buffer.new ≡ drop result buffer.old }
+        ensures some { index ≤ result }
+        ensures short { result ≤ index + room self }
+        ensures same_length { length buffer.new ≡ length buffer.old }
+    {
+        index + self.write_to(&mut buffer[index..])
     }
 
     /// If the buffer has `room` bytes or more, writes the text to its start, and returns the length of

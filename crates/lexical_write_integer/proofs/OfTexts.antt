@@ -9,6 +9,9 @@ pub mod Orders
 pub mod Comparisons
 pub mod ComputedTexts
 pub mod PrintedTexts
+pub mod ReadTexts
+pub mod Separators
 -- texts in a row
 pub mod Sequences
 pub mod Joins
+pub mod Appended

@@ -17,5 +17,6 @@ pub use Rattle.lexical_write_integer.specs.Texts.Computed
 pub use Rattle.lexical_write_integer.specs.Texts.Groups
 pub use Rattle.lexical_write_integer.specs.Texts.Lowercase
 pub use Rattle.lexical_write_integer.specs.Texts.Order
+pub use Rattle.lexical_write_integer.specs.Texts.Read
 pub use Rattle.lexical_write_integer.specs.Texts.Sequence
 pub use Rattle.lexical_write_integer.specs.Texts.Text

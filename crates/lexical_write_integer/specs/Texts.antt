@@ -5,3 +5,4 @@ pub mod Computed
 pub mod Lowercase
 pub mod Order
 pub mod Sequence
+pub mod Read

@@ -8,12 +8,17 @@ ghost use Rattle.lexical_write_integer.specs.Digits.Numeral.{IsNumeral, IsNumera
 ghost use Rattle.lexical_write_integer.specs.Texts.Order.{ComesBefore};
 ghost use Rattle.lexical_write_integer.specs.Texts.Text.{IsDigits, IsText};
 
+mod appended;
 mod bytes;
 mod comparison;
 mod groups;
+mod reading;
 mod room;
 
-pub use bytes::{digits_computed, padded_computed, text_computed, text_is_ascii, text_is_decimal};
+pub use appended::{decimal_then_padded, digits_then_padded, padded_then_padded};
+pub use bytes::{
+    digits_computed, padded_computed, text_computed, text_has_no, text_is_ascii, text_is_decimal,
+};
 pub use comparison::{
     different_digits, different_padded, different_texts, digits_equal_iff, equal_padded,
     padded_equal_iff, padded_order, texts_equal_iff,
@@ -21,7 +26,8 @@ pub use comparison::{
 pub use groups::text_in_groups;
 use lexical_num::format::NumberFormat;
 use lexical_num::num::{LexicalInteger, UnsignedInteger};
-pub use room::{size_suffices, sizes_suffice, text_length};
+pub use reading::{digits_read_back, padded_read_back, text_read_back};
+pub use room::{padded_length, size_suffices, sizes_suffice, text_length};
 
 /// A law: the digit count of a number is the smallest count, not 0, such that the number is below the
 /// radix to that power. It is at most 64.

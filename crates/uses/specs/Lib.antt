@@ -1,9 +1,14 @@
+pub mod Accounted
+pub mod Address
 pub mod CsvRow
 pub mod DateTime
 pub mod DumpLine
 pub mod Ipv6
+pub mod Limbs
 pub mod Link
 pub mod LogLine
+pub mod Packet
 pub mod Reading
+pub mod Timed
 pub mod TurnLists
 pub mod Uuid

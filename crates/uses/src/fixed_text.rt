@@ -1,9 +1,10 @@
 //! Texts whose bytes the contract states as an equation.
 
-ghost use Rattle.std.specs.Prelude.{◌≡◌, ◌<◌, ◌++◌, codes};
-ghost use Rattle.lexical_write_integer.specs.Computed.{padded_text};
+ghost use Rattle.std.specs.Prelude.{◌≡◌, ◌<◌, ◌++◌, codes, pos};
+ghost use Rattle.lexical_num.specs.Format.{standard};
+ghost use Rattle.lexical_write_integer.specs.Computed.{digits_text, padded_text, text_of};
 
-use lexical_parts::{Padded, Part};
+use lexical_parts::{Hex, Padded, Part};
 use lexical_write_integer::laws::text_computed;
 use lexical_write_integer::{NumberFormatBuilder, Options, ToLexicalWithOptions};
 
@@ -27,4 +28,11 @@ pub fn year_month(year: u16, month: u8, buffer: &mut [u8; 7]) -> &[u8]
     ensures { result.now ≡ padded_text 10 4 year ++ codes "-" ++ padded_text 10 2 month }
 {
     (Padded(year, 4), "-", Padded(month, 2)).to_text(buffer)
+}
+
+/// Returns the number and the mask, such as `7 0xFF`, which borrow the array.
+pub fn number_and_mask(number: u32, mask: u16, buffer: &mut [u8; 17]) -> &[u8]
+    ensures { result.now ≡ text_of (pos number) standard ++ (codes " 0x" ++ digits_text 16 mask) }
+{
+    (number, " 0x", Hex(mask)).to_text(buffer)
 }

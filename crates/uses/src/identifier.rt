@@ -5,7 +5,7 @@ ghost use Rattle.lexical_write_integer.specs.Padded.{IsPadded};
 ghost use Rattle.lexical_write_integer.specs.Text.{IsDigits};
 ghost use Rattle.uses.specs.Link.{IsLink, IsUserLink};
 
-use lexical_parts::{Digits, PaddedDigits, Part, same_rest};
+use lexical_parts::{Digits, PaddedDigits, Part, same_parts};
 use lexical_write_integer::laws::{
     different_digits, digit_count_at_most, digits_equal_iff, equal_digits, equal_padded,
     padded_order,
@@ -41,7 +41,7 @@ pub fn link(counter: u64, buffer: &mut [u8; 16]) -> &str
 pub fn same_link(a: u64, b: u64)
     ensures { (link : List ℕ) → IsLink a link → IsLink b link → a ≡ b }
 {
-    same_rest("/l/", 3, Digits(36, a), Digits(36, b));
+    same_parts("/l/", "/l/", 3, Digits(36, a), Digits(36, b));
     same_counter(a, b);
 }
 
@@ -49,7 +49,13 @@ pub fn same_link(a: u64, b: u64)
 pub fn same_user(a: u64, b: u64)
     ensures { (link : List ℕ) → IsUserLink a link → IsUserLink b link → a ≡ b }
 {
-    same_rest("/u/", 3, PaddedDigits(36, a, 8), PaddedDigits(36, b, 8));
+    same_parts(
+        "/u/",
+        "/u/",
+        3,
+        PaddedDigits(36, a, 8),
+        PaddedDigits(36, b, 8),
+    );
     equal_padded(36, 8, a, b);
 }
 

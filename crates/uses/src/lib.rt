@@ -3,6 +3,9 @@
 //! conditions only just hold.
 #![tactic(auto)]
 
+pub mod accounted;
+pub mod addresses;
+pub mod alternatives;
 pub mod amount;
 pub mod answers;
 pub mod any_format;
@@ -11,6 +14,7 @@ pub mod csv_row;
 pub mod date_time;
 pub mod digest;
 pub mod digit_pair;
+pub mod dump;
 pub mod dump_line;
 pub mod equality;
 pub mod fixed_text;
@@ -20,13 +24,20 @@ pub mod identifier;
 pub mod integer_types;
 pub mod ipv6;
 pub mod key_value;
+pub mod limb;
+pub mod limbs;
+pub mod line_block;
 pub mod log_lines;
+pub mod packet;
 pub mod printed;
+pub mod read_back;
 pub mod reading;
 pub mod refused_calls;
+pub mod slots;
 pub mod sorted_keys;
 pub mod table_row;
 pub mod tar_header;
 pub mod time_of_day;
+pub mod timed;
 pub mod turn_lists;
 pub mod uuid;

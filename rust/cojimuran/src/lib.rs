@@ -10,6 +10,27 @@
 //!
 //! It prints the lines `1234`, `3W5E11264SGSF`, `2026-11-03 -12 kg` and `1,-2,3`.
 //!
+//! # What is written is read back
+//!
+//! `from_str_radix` of the standard library, and in decimal `parse`, reads each number back from its text in every
+//! format without groups:
+//!
+//! ```
+//! use cojimuran::{NumberFormatBuilder, Options, ToLexical, ToLexicalWithOptions};
+//! use std::str::from_utf8;
+//!
+//! let mut buffer = [0; 64];
+//! let text = (-1234i32).to_lexical(&mut buffer);
+//! assert_eq!(from_utf8(text).unwrap().parse(), Ok(-1234));
+//!
+//! let text = u64::MAX.to_lexical_with_options(
+//!     &mut buffer,
+//!     &NumberFormatBuilder::from_radix(36),
+//!     &Options::new(),
+//! );
+//! assert_eq!(u64::from_str_radix(from_utf8(text).unwrap(), 36), Ok(u64::MAX));
+//! ```
+//!
 //! # What is where
 //!
 //! - [`ToLexical`] and [`ToLexicalWithOptions`] write one number, in decimal or in a [`NumberFormat`]:

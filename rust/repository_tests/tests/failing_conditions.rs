@@ -8,7 +8,7 @@ use cojimuran::decimal::Decimal as _;
 use cojimuran::digit_count::DigitCount;
 use cojimuran::format::STANDARD;
 use cojimuran::padded::write_padded;
-use cojimuran::parts::{Decimal, Digits, Fixed, Joined, Padded, PaddedDigits, Part};
+use cojimuran::parts::{Decimal, Digits, Fixed, Joined, Padded, PaddedDigits, Part, write_with_length};
 use cojimuran::radix::{Radix, digit_to_char};
 use cojimuran::write::WriteInteger;
 use cojimuran::{
@@ -101,6 +101,8 @@ fn short_buffers_of_each_function() {
         b"FFFF" => |b| 65535u32.radix(16, b), |b| 65535u32.compact(16, b), |b| 65535u32.write_integer(16, b),
             |b| algorithm(65535u32, 16, table(16), b), |b| 65535u32.write_integer_signed(16, b);
         b"-" => |b| write_sign(-1i8, b, &STANDARD);
+        &[7, b'-', b'5'] => |b| Decimal(-5).write_at(1, b);
+        b"05hello" => |b| 2 + write_with_length("hello", 10, 2, 0, b);
     }
 }
 
@@ -193,7 +195,8 @@ fn messages() {
         "radix >= 2": table(1);
         "fits_decimal_width(": Padded(2026u16, 2).to_text(buffer), Padded(15u8, 1).try_to_str(buffer),
             Padded(1234567u32, 3).to_str(buffer), write_padded(10u8, 10, &mut buffer[..1]);
-        "count <= buffer.len()": PaddedDigits(16, 256u32, 2).to_text(buffer);
+        "count <= buffer.len()": PaddedDigits(16, 256u32, 2).to_text(buffer), write_with_length("hello", 16, 2, 251, buffer);
+        "count <= usize::MAX - extra": write_with_length("hello", 16, 2, usize::MAX, buffer);
         "number == 0": write_padded(1u8, 16, &mut []);
         "begins_with_pairs(": algorithm(7u32, 16, &table(16)[..511], buffer), algorithm(7u32, 12, table(13), buffer),
             algorithm(7u32, 13, table(12), buffer), algorithm(7u32, 2, table(36), buffer);

@@ -11,7 +11,7 @@ use cojimuran::jeaiii::{
 };
 use cojimuran::parts::{
     Binary, Byte, Bytes, Center, Decimal, Digits, Fixed, Formatted, GroupedFixed, Hex, HexBytes, Joined, Left, Lower,
-    Padded, PaddedDigits, Part, Plus, Right, Scientific, Sign, ZeroPadded,
+    OrElse, Padded, PaddedDigits, Part, Plus, Right, Scientific, Sign, ZeroPadded, write_with_length,
 };
 use cojimuran::table::{DIGIT_TO_BASE2_SQUARED, DIGIT_TO_BASE36_SQUARED, get_table};
 use cojimuran::{
@@ -65,6 +65,7 @@ fn formats() {
 fn parts() {
     type U = Decimal<u64>;
     check!(part: &str, Byte, Bytes, Option<U>, Joined<U>, Lower<U>, Left<U>, Right<U>, Center<U>, ZeroPadded<U>);
+    check!(part: OrElse<U, U>, &U);
     check!(part: Sign<i8>, Digits<u8>, Padded<u8>, PaddedDigits<u8>, HexBytes);
     check!(part: Fixed<i64>, GroupedFixed<i64>, Scientific<i64>);
     check!(shown: Decimal<i8>, Formatted<i8>, Plus<i8>, Hex<u8>, Binary<u8>);

@@ -52,6 +52,9 @@ const CONDITIONS: &[(&str, Broken)] = &[
     ("IsPowersOfTen (2 ^ T.BITS) (map T.magnitude table.now)", IsNamed),
     // Parts.
     ("is_valid self", Panics("the part is not valid")),
+    ("P.is_valid part", Panics("the part is not valid")),
+    ("extra + P.room part < radix ^ width", Panics("the length has more digits than `width`")),
+    ("extra + P.room part < 2 ^ 64", Panics("the length and `extra` together are 2^64 or above")),
     ("is_utf8 self", Panics("the text of the part is not UTF-8")),
     // Devices and lines.
     ("0 < SIZE", Panics("`SIZE` is 0")),

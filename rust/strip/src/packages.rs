@@ -161,7 +161,7 @@ pub(crate) const SOURCES: &[Source] = &[
         // A tuple of parts and what it often contains. So the texts and the widths that are constant in a caller are
         // known.
         attributes: &[("#[inline(always)]", "tuples.rt joined.rt integers.rt number.rt text.rt")],
-        left_out: "equal",
+        left_out: "equal positions",
         replaced: replaced::PARTS,
         ..LIBRARY
     },

@@ -55,7 +55,7 @@ IsNumeralOf-zero : (r : ℕ) → 0 < r → IsNumeralOf r 0 (0 ∷ [])
 IsNumeralOf-zero r some = grind arith
 
 -- digits after the numeral of a number that is not 0
-IsNumeralOf-append : {r count q m : ℕ} {xs ys : List ℕ} → 0 < q → IsNumeralOf r q xs → IsBlockOf r count m ys → IsNumeralOf r (q * r ^ count + m) (xs ++ ys)
+pub IsNumeralOf-append : {r count q m : ℕ} {xs ys : List ℕ} → 0 < q → IsNumeralOf r q xs → IsBlockOf r count m ys → IsNumeralOf r (q * r ^ count + m) (xs ++ ys)
 IsNumeralOf-append {r} {count} {q} {m} {xs} {ys} pos p b =
     grind (arith, common_steps, value_of-append)
 

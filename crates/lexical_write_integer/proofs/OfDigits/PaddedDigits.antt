@@ -1,7 +1,7 @@
 -- Numbers with leading zeros: zeros, and then the digits.
-use Rattle.std.proofs.Common.{◌≡◌, ℕ, zero, suc, ◌+◌, ◌*◌, ◌/◌, ◌%◌, ◌^◌, ◌<◌, ◌≤◌, ◌↔◌, List, [], ◌∷◌, ◌++◌, map, replicate, refl, sym, ap, ◌∙◌, arith}
+use Rattle.std.proofs.Common.{◌≡◌, ℕ, zero, suc, ◌+◌, ◌*◌, ◌/◌, ◌%◌, ◌^◌, ◌<◌, ◌≤◌, ◌↔◌, List, [], ◌∷◌, ◌++◌, length, map, replicate, refl, sym, ap, ◌∙◌, arith}
 use Rattle.std.proofs.Math.Nat.{pow-zero, pow-suc, mod-lt, div-add-mod', div-lt_iff_lt-mul}
-use Rattle.std.proofs.lemmas.List.{length-replicate, map-append}
+use Rattle.std.proofs.lemmas.List.{length-map, length-replicate, map-append}
 use Rattle.std.proofs.lemmas.List.Elements.{All-nil, All-replicate}
 use Rattle.lexical_num.specs.Digit.{digit_char}
 use Rattle.lexical_write_integer.specs.Texts.Computed.{padded_text}
@@ -31,6 +31,9 @@ IsPadded-zeros r width some = record {
   block = IsBlockOf-zeros r width some;
   characters = sym (map-zeros width);
 }
+
+pub length-IsPadded : (r width number : ℕ) (text : List ℕ) → IsPadded r width number text → length text ≡ width
+length-IsPadded r width number text is = ap length is.characters ∙ length-map is.digits digit_char ∙ is.block.counted
 
 -- zeros before the digits of the number
 pub IsPadded-digits : (r n zeros width : ℕ) (text : List ℕ)

@@ -1,6 +1,7 @@
 //! Laws on the bytes of a text.
 
-ghost use Rattle.std.specs.Prelude.{◌≡◌, ◌^◌, ◌<◌, ◌↔◌};
+ghost use Rattle.std.specs.Prelude.{◌≡◌, ◌≢◌, ◌^◌, ◌<◌, ◌↔◌, All, List, None, ℕ};
+ghost use Rattle.std.specs.Char.{IsNotAsciiAlphanumeric};
 ghost use Rattle.std.specs.Fmt.{signed_decimal};
 ghost use Rattle.std.specs.Str.{IsAscii, IsUtf8};
 ghost use Rattle.lexical_num.specs.Format.{IsRadix, standard};
@@ -16,6 +17,19 @@ pub fn text_is_ascii<T: LexicalInteger>(number: T, format: &NumberFormat, text: 
     requires { IsText (T.number number) format.now text.now }
     ensures ascii { IsAscii text.now }
     ensures utf8 { IsUtf8 text.now }
+{
+    format.in_range();
+}
+
+/// A law: the text of a number in a format without groups does not have the separator, which is neither a letter,
+/// a digit nor a sign.
+pub fn text_has_no<T: LexicalInteger>(number: T, format: &NumberFormat, separator: u8)
+    requires groups { format.now.digit_grouping ≡ None }
+    requires other { IsNotAsciiAlphanumeric separator }
+    requires plus { separator ≢ 43 }
+    requires minus { separator ≢ 45 }
+    ensures { (text : List ℕ) → IsText (T.number number) format.now text
+        → All (λ byte. byte ≢ separator) text }
 {
     format.in_range();
 }

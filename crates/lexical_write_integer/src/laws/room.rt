@@ -7,6 +7,7 @@ ghost use Rattle.lexical_num.specs.Sign.{sign_of};
 ghost use Rattle.lexical_num.specs.Size.{size_in};
 ghost use Rattle.lexical_num.specs.declared.constants.TheConstants.{BUFFER_SIZE};
 ghost use Rattle.lexical_write_integer.specs.Digits.DigitCount.{digit_count};
+ghost use Rattle.lexical_write_integer.specs.Digits.Padded.{IsPadded};
 ghost use Rattle.lexical_write_integer.specs.Texts.Text.{IsText, need};
 
 use lexical_num::constants::FormattedSize;
@@ -44,3 +45,8 @@ pub fn text_length<T: LexicalInteger>(number: T, format: &NumberFormat)
 {
     format.in_range();
 }
+
+/// A law: the text of each number with leading zeros has as many bytes as its width.
+pub fn padded_length(radix: u32, width: usize)
+    ensures { (number : ℕ) (text : List ℕ) → IsPadded radix width number text → length text ≡ width }
+{}

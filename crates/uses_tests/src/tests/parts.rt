@@ -2,8 +2,8 @@
 
 use super::{check, check_buffer, check_part, check_room, check_str};
 use lexical_parts::{
-    Binary, Center, Decimal, Fixed, Formatted, GroupedFixed, Hex, Left, Lower, PaddedDigits, Part,
-    Plus, Right, Sign, ZeroPadded,
+    Binary, Center, Decimal, Fixed, Formatted, GroupedFixed, Hex, Left, Lower, OrElse,
+    PaddedDigits, Part, Plus, Right, Sign, ZeroPadded,
 };
 use lexical_write_integer::format::STANDARD;
 use lexical_write_integer::{NumberFormat, NumberFormatBuilder};
@@ -41,6 +41,16 @@ fn numbers_with_the_room_of_their_type(rt: HostRuntime) {
     check_room(&rt, Hex(1u64), 16);
     check_room(&rt, Binary(1u8), 8);
     check_room(&rt, Binary(1u64), 64);
+}
+
+#[test]
+fn parts_in_place_of_others(rt: HostRuntime) {
+    check_part(&rt, OrElse(Some(5u8), "n/a"), b"5");
+    check_part(&rt, OrElse(None::<u8>, "n/a"), b"n/a");
+    check_part(&rt, ("-", OrElse(None::<u8>, Decimal(-5i8)), "*"), b"--5*");
+    check_room(&rt, OrElse(Some(5u8), "*"), 3);
+    check_room(&rt, OrElse(None::<u8>, "none"), 4);
+    check_str(&rt, OrElse(None::<u8>, "\u{e9}"), &mut [7; 40], "\u{e9}");
 }
 
 #[test]

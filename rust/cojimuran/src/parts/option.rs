@@ -22,3 +22,30 @@ impl<P: Part> Part for Option<P> {
         }
     }
 }
+
+/// A part that may be absent, and the part that is written in its place: `OrElse(Some(5u8), "n/a")` writes `5`, and
+/// `OrElse(None::<u8>, "n/a")` writes `n/a`. Both must be valid.
+///
+/// ```
+/// use cojimuran::parts::{None, OrElse, Part, Some};
+///
+/// assert_eq!(OrElse(Some(5u8), "n/a").to_text(&mut [0; 64]), b"5");
+/// assert_eq!(OrElse(None::<u8>, "n/a").to_text(&mut [0; 64]), b"n/a");
+/// ```
+#[derive(Clone, Copy, Debug)]
+pub struct OrElse<P, Q>(pub Option<P>, pub Q);
+
+impl<P: Part, Q: Part> Part for OrElse<P, Q> {
+    #[inline]
+    fn room(self) -> usize {
+        self.0.room().max(self.1.room())
+    }
+
+    #[inline]
+    fn write_to(self, buffer: &mut [u8]) -> usize {
+        match self.0 {
+            Some(part) => part.write_to(buffer),
+            None => self.1.write_to(buffer),
+        }
+    }
+}

@@ -53,6 +53,18 @@ pub trait Part: Copy {
         front_mut(buffer, count)
     }
 
+    /// Writes the text to the buffer from `index` on, and returns the index after the text. Every other byte is
+    /// unchanged. The part must be valid, and the buffer must have `room` bytes or more from `index` on.
+    ///
+    /// # Panics
+    ///
+    /// If the part is not valid,
+    /// or if the buffer is [too short](crate#conditions).
+    #[inline]
+    fn write_at(self, index: usize, buffer: &mut [u8]) -> usize {
+        index + self.write_to(&mut buffer[index..])
+    }
+
     /// If the buffer has `room` bytes or more, writes the text to its start, and returns the length of
     /// the text; every byte after the text is unchanged. Otherwise returns `None`, and the buffer is
     /// unchanged. Only the room is tested: the part must be valid.

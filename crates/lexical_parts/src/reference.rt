@@ -1,0 +1,26 @@
+//! References to parts, which have the text of the part.
+#![tactic(auto, using(crate::proofs::Utf8Texts::kinds, crate::proofs::Utf8Changes::changes))]
+
+use crate::part::Part;
+
+impl<P: Part> Part for &P {
+    ghost is_text = { λ part. P.is_text part.now };
+
+    ghost is_valid = { λ part. P.is_valid part.now };
+
+    ghost room = { λ part. P.room part.now };
+
+    ghost is_utf8 = { λ part. P.is_utf8 part.now };
+
+    fn room(self) -> usize {
+        (*self).room()
+    }
+
+    fn write_to(self, buffer: &mut [u8]) -> usize {
+        (*self).write_to(buffer)
+    }
+
+    fn text_is_utf8(self) {
+        (*self).text_is_utf8();
+    }
+}

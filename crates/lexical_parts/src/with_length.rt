@@ -1,0 +1,36 @@
+//! A text with its length before it.
+
+ghost use Rattle.std.specs.Prelude.{◌+◌, ◌^◌, ◌<◌, ◌≤◌, length};
+ghost use Rattle.lexical_num.specs.Format.{IsRadix};
+ghost use Rattle.lexical_write_integer.specs.Buffer.{Writes};
+ghost use Rattle.lexical_write_integer.specs.Padded.{IsPadded};
+ghost use Rattle.lexical_parts.specs.Sequence.{◌then◌};
+
+use crate::part::Part;
+use lexical_write_integer::padded::write_padded;
+
+/// Writes the text of a part after its length, to which `extra` is added, in `width` digits of the radix. Returns the
+/// length of the text, without these digits: with an `extra` of 4 in radix 16 and four digits, `"done\n"` is written as
+/// `0009done\n`. Every byte after the text is unchanged. The part must be valid, the buffer must have `width` bytes and
+/// the `room` of the part, and the sum of this room and `extra` must have at most `width` digits.
+pub fn write_with_length<P: Part>(
+    part: P,
+    radix: u32,
+    width: usize,
+    extra: usize,
+    buffer: &mut [u8],
+) -> usize
+    requires valid { P.is_valid part }
+    requires radix { IsRadix radix }
+    requires room { width + P.room part ≤ length buffer.old }
+    requires fits { extra + P.room part < radix ^ width }
+    requires sum { extra + P.room part < 2 ^ 64 }
+    ensures text { Writes (IsPadded radix width (extra + result) then P.is_text part)
+        buffer.old buffer.new (width + result) }
+    ensures short { result ≤ P.room part }
+{
+    let count = part.write_to(&mut buffer[width..]);
+    prove!(count <= usize::MAX - extra);
+    write_padded(extra + count, radix, &mut buffer[..width]);
+    count
+}

@@ -1,0 +1,85 @@
+//! Writes a number, and reads it back by `parse` or `from_str_radix` of the standard library: the result is the number.
+
+ghost use Rattle.std.specs.Prelude.{◌≡◌, ◌^◌, ◌<◌, None, Ok, pos};
+
+use lexical_parts::{Digits, Formatted, Lower, Padded, Part};
+use lexical_write_integer::format::STANDARD;
+use lexical_write_integer::laws::{
+    digit_count_at_most, digits_read_back, padded_read_back, size_suffices, text_is_ascii,
+    text_read_back,
+};
+use lexical_write_integer::{
+    BUFFER_SIZE, NumberFormat, NumberFormatBuilder, Options, ToLexical, ToLexicalWithOptions,
+};
+use std::num::ParseIntError;
+use std::str::from_utf8;
+
+/// Reads back the text of a number in decimal.
+pub fn in_decimal(number: i32) -> Result<i32, ParseIntError>
+    ensures { result ≡ Ok number }
+{
+    let mut buffer = [0; 11];
+    let text = number.to_lexical(&mut buffer);
+    text_is_ascii(number, &STANDARD, text);
+    text_read_back(number, &STANDARD);
+    from_utf8(text).unwrap().parse::<i32>()
+}
+
+/// Reads back the text of a number in any format without groups, of any radix and with a required sign or without.
+pub fn in_any_format(number: i64, format: &NumberFormat) -> Result<i64, ParseIntError>
+    requires { format.now.digit_grouping ≡ None }
+    ensures { result ≡ Ok number }
+{
+    let mut buffer = [0; BUFFER_SIZE];
+    size_suffices(number, format);
+    let text = number.to_lexical_with_options(&mut buffer, format, &Options::new());
+    text_is_ascii(number, format, text);
+    text_read_back(number, format);
+    i64::from_str_radix(from_utf8(text).unwrap(), format.mantissa_radix())
+}
+
+/// Does the same with an unsigned number.
+pub fn unsigned_in_any_format(number: u64, format: &NumberFormat) -> Result<u64, ParseIntError>
+    requires { format.now.digit_grouping ≡ None }
+    ensures { result ≡ Ok number }
+{
+    let mut buffer = [0; BUFFER_SIZE];
+    size_suffices(number, format);
+    let text = number.to_lexical_with_options(&mut buffer, format, &Options::new());
+    text_is_ascii(number, format, text);
+    text_read_back(number, format);
+    u64::from_str_radix(from_utf8(text).unwrap(), format.mantissa_radix())
+}
+
+/// Reads back the digits of a number in radix 36.
+pub fn in_radix_36(number: u64) -> Result<u64, ParseIntError>
+    ensures { result ≡ Ok number }
+{
+    let mut buffer = [0; 13];
+    digit_count_at_most(36, number, 13);
+    let text = Digits(36, number).to_str(&mut buffer);
+    digits_read_back(36, number);
+    u64::from_str_radix(text, 36)
+}
+
+/// Reads back a number in radix 16 in lowercase, with its sign, such as `-7f`.
+pub fn in_lowercase(number: i16) -> Result<i16, ParseIntError>
+    ensures { result ≡ Ok number }
+{
+    let format = NumberFormatBuilder::from_radix(16);
+    let mut buffer = [0; 5];
+    let text = Lower(Formatted(number, &format)).to_str(&mut buffer);
+    text_read_back(number, &format);
+    i16::from_str_radix(text, 16)
+}
+
+/// Reads back a number in eight digits, in which zeros may be before the number.
+pub fn in_eight_digits(number: u32) -> Result<i32, ParseIntError>
+    requires { number < 10 ^ 8 }
+    ensures { result ≡ Ok (pos number) }
+{
+    let mut buffer = [0; 8];
+    let text = Padded(number, 8).to_str(&mut buffer);
+    padded_read_back(10, 8, u64::from(number));
+    text.parse::<i32>()
+}

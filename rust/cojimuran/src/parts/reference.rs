@@ -1,0 +1,17 @@
+// Made by `strip` from crates/lexical_parts/src/reference.rt. Edit that file, not this one.
+
+//! References to parts, which have the text of the part.
+
+use crate::parts::part::Part;
+
+impl<P: Part> Part for &P {
+    #[inline]
+    fn room(self) -> usize {
+        (*self).room()
+    }
+
+    #[inline]
+    fn write_to(self, buffer: &mut [u8]) -> usize {
+        (*self).write_to(buffer)
+    }
+}

@@ -1,0 +1,32 @@
+// Made by `strip` from crates/lexical_parts/src/with_length.rt. Edit that file, not this one.
+
+//! A text with its length before it.
+
+use crate::parts::part::Part;
+use crate::write_integer::padded::write_padded;
+
+/// Writes the text of a part after its length, to which `extra` is added, in `width` digits of the radix. Returns the
+/// length of the text, without these digits: with an `extra` of 4 in radix 16 and four digits, `"done\n"` is written as
+/// `0009done\n`. Every byte after the text is unchanged. The part must be valid, the buffer must have `width` bytes and
+/// the `room` of the part, and the sum of this room and `extra` must have at most `width` digits.
+///
+/// # Panics
+///
+/// If the part is not valid,
+/// or if the radix is not from 2 to 36,
+/// or if the buffer is [too short](crate#conditions),
+/// or if the length has more digits than `width`,
+/// or if the length and `extra` together are 2^64 or above.
+#[inline]
+pub fn write_with_length<P: Part>(
+    part: P,
+    radix: u32,
+    width: usize,
+    extra: usize,
+    buffer: &mut [u8],
+) -> usize {
+    let count = part.write_to(&mut buffer[width..]);
+    assert!(count <= usize::MAX - extra);
+    write_padded(extra + count, radix, &mut buffer[..width]);
+    count
+}
