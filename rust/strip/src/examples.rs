@@ -172,7 +172,9 @@ fn example(name: &str, comment: &str, module: &str) -> Result<Option<String>, St
     let (mut names, mut code) = (BTreeSet::from(["Part"]), String::new());
     for part in calls {
         let words = part[0].split(|c: char| !c.is_alphanumeric());
-        names.extend(words.filter(|word| word.len() > 1 && word.starts_with(char::is_uppercase)));
+        let is_part =
+            |word: &&str| word.len() > 1 && word.starts_with(char::is_uppercase) && !matches!(*word, "Some" | "None");
+        names.extend(words.filter(is_part));
         code += &format!("\nassert_eq!({}.to_text(&mut [0; 64]), b\"{}\");", part[0], part[2]);
     }
     if code.is_empty() {

@@ -27,7 +27,7 @@ impl<P: Part> Part for Option<P> {
 /// `OrElse(None::<u8>, "n/a")` writes `n/a`. Both must be valid.
 ///
 /// ```
-/// use cojimuran::parts::{None, OrElse, Part, Some};
+/// use cojimuran::parts::{OrElse, Part};
 ///
 /// assert_eq!(OrElse(Some(5u8), "n/a").to_text(&mut [0; 64]), b"5");
 /// assert_eq!(OrElse(None::<u8>, "n/a").to_text(&mut [0; 64]), b"n/a");
