@@ -38,7 +38,7 @@
 //! `write_joined` writes several numbers, and `join` returns their text.
 
 // The lines above are in `crates/library_tests/src/line_answers/answers.rt`, and `length_of_joined_texts` in
-// `crates/uses/src/refused_calls/texts.rt` calls `join`.
+// `crates/contract_tests/src/refused_calls/texts.rt` calls `join`.
 #![tactic(auto)]
 
 // Several numbers with a separator between them.

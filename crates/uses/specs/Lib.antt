@@ -10,5 +10,4 @@ pub mod LogLine
 pub mod Packet
 pub mod Reading
 pub mod Timed
-pub mod TurnLists
 pub mod Uuid

@@ -1,6 +1,5 @@
 //! Examples of callers. Each module writes something that a program may need, and is proved from
-//! nothing but the contracts of the functions that it calls. The module `refused_calls` has calls whose
-//! conditions only just hold.
+//! nothing but the contracts of the functions that it calls.
 #![tactic(auto)]
 
 pub mod accounted;
@@ -21,7 +20,6 @@ pub mod fixed_text;
 pub mod float_parts;
 pub mod hexadecimal;
 pub mod identifier;
-pub mod integer_types;
 pub mod ipv6;
 pub mod key_value;
 pub mod limb;
@@ -32,12 +30,10 @@ pub mod packet;
 pub mod printed;
 pub mod read_back;
 pub mod reading;
-pub mod refused_calls;
 pub mod slots;
 pub mod sorted_keys;
 pub mod table_row;
 pub mod tar_header;
 pub mod time_of_day;
 pub mod timed;
-pub mod turn_lists;
 pub mod uuid;

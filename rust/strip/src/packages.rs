@@ -185,7 +185,8 @@ pub(crate) const SOURCES: &[Source] = &[
         replaced: replaced::FOR_C,
         ..LIBRARY
     },
-    Source { name: "uses", module: "uses", left_out: "refused_calls/clones turn_lists", ..TESTS },
+    Source { name: "uses", module: "uses", ..TESTS },
+    Source { name: "contract_tests", module: "contract_tests", left_out: "refused_calls/clones turn_lists", ..TESTS },
     Source { name: "uses_tests", ..TESTS },
     Source { name: "library_tests", ..TESTS },
 ];

@@ -151,6 +151,7 @@ pub(crate) const IN_TESTS: Replaced = &[
     ),
     ("rt: HostRuntime) ->", "rt: repository_tests::runtime::HostRuntime) ->"),
     ("use uses::", "use repository_tests::uses::"),
+    ("use contract_tests::", "use repository_tests::contract_tests::"),
     ("use std::process::Abort;", "use repository_tests::runtime::Abort;"),
     ("use std::alloc::{Alloc, Global};", "use repository_tests::runtime::Global;"),
     ("use std::alloc::", "use repository_tests::runtime::"),

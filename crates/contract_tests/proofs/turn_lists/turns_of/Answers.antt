@@ -1,6 +1,6 @@
 use Rattle.std.proofs.Common.{◌∙◌, arith}
 use Rattle.lexical_write_integer.proofs.OfDigits.Count.DigitCounts.{digit_count-is}
-use Rattle.uses.proofs.turn_lists.turns_of.Goals as goal
+use Rattle.contract_tests.proofs.turn_lists.turns_of.Goals as goal
 
 pub returns-clause-turns : goal.returns-clause-turns
 returns-clause-turns g c =

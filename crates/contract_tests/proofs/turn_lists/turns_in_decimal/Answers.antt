@@ -1,4 +1,4 @@
-use Rattle.uses.proofs.turn_lists.turns_in_decimal.Goals as goal
+use Rattle.contract_tests.proofs.turn_lists.turns_in_decimal.Goals as goal
 
 -- the check finds this proof by itself, but with an answer the refusal of a mistake says what is wrong
 pub returns-clause-three_digits : goal.returns-clause-three_digits

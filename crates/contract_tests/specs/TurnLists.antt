@@ -1,6 +1,6 @@
 -- The loop iterations that calls record.
 use Rattle.std.specs.Prelude.{◌≡◌, ℕ, length}
-use Rattle.uses.specs.declared.turn_lists.Recorded.{Recorded}
+use Rattle.contract_tests.specs.declared.turn_lists.Recorded.{Recorded}
 
 -- how many iterations are recorded: those of `write_integer`, of the table writer, of the slow digit count, and of the
 -- compact writer

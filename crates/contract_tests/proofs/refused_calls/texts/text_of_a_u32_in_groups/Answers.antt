@@ -1,5 +1,5 @@
 use Rattle.std.proofs.Common.{arith}
-use Rattle.uses.proofs.refused_calls.texts.text_of_a_u32_in_groups.Goals as goal
+use Rattle.contract_tests.proofs.refused_calls.texts.text_of_a_u32_in_groups.Goals as goal
 
 -- the check finds this proof by itself, but with an answer the refusal of a mistake says what is wrong
 pub write_lexical_with_options-requires : goal.write_lexical_with_options-requires

@@ -1,4 +1,4 @@
-use Rattle.uses.proofs.turn_lists.turns_without_the_fourth_power.Goals as goal
+use Rattle.contract_tests.proofs.turn_lists.turns_without_the_fourth_power.Goals as goal
 
 -- the check finds this proof by itself, but with an answer the refusal of a mistake says what is wrong
 pub returns-clause-byte_in_radix_4 : goal.returns-clause-byte_in_radix_4

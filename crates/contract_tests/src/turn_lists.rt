@@ -8,7 +8,7 @@ ghost use Rattle.lexical_num.specs.Format.{IsRadix};
 ghost use Rattle.lexical_write_integer.specs.DecimalTurns.{write_notes, write_turns};
 ghost use Rattle.lexical_write_integer.specs.LoopTurns.{compact_notes, compact_turns, slow_notes};
 ghost use Rattle.lexical_write_integer.specs.LoopTurns.{slow_turns, table_notes, table_turns};
-ghost use Rattle.uses.specs.TurnLists.{HasTurns};
+ghost use Rattle.contract_tests.specs.TurnLists.{HasTurns};
 
 use lexical_num::num::{LexicalInteger, UnsignedInteger};
 use lexical_write_integer::algorithm::algorithm_counted;

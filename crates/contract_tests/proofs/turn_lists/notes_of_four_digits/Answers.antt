@@ -1,5 +1,5 @@
 use Rattle.lexical_write_integer.specs.DecimalTurns.{decimal_notes_32}
-use Rattle.uses.proofs.turn_lists.notes_of_four_digits.Goals as goal
+use Rattle.contract_tests.proofs.turn_lists.notes_of_four_digits.Goals as goal
 
 -- the check finds this proof by itself, but with an answer the refusal of a mistake says what is wrong
 pub returns : goal.returns

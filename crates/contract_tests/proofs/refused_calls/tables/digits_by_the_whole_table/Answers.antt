@@ -1,7 +1,7 @@
 use Rattle.std.proofs.Common.{◌≡◌, ap, sym, ◌∙◌, arith}
 use Rattle.std.specs.Prelude.{take}
 use Rattle.std.proofs.lemmas.List.{length-take-le, take_all}
-use Rattle.uses.proofs.refused_calls.tables.digits_by_the_whole_table.Goals as goal
+use Rattle.contract_tests.proofs.refused_calls.tables.digits_by_the_whole_table.Goals as goal
 
 pub slice_bounds-algorithm-end : goal.slice_bounds-algorithm-end
 slice_bounds-algorithm-end c = sym (length-take-le _ _ (omega (arith, c.get_table.ensures.length)))
