@@ -40,8 +40,8 @@ pub fn has_letters(format: &CFormat) -> bool
     format.radix > 10
 }
 
-/// Returns the format of this radix without a required sign and groups if the radix is valid and not 10, and a buffer of
-/// `room` bytes is enough for every number of the type. Otherwise returns `None`.
+/// Returns the format of this radix without a required sign and groups if the radix is valid and not 10, and a buffer
+/// of `room` bytes is enough for every number of the type. Otherwise returns `None`.
 pub fn fitting_format<T: FormattedSize>(radix: u32, room: usize) -> Option<NumberFormat>
     ensures format { IfSome result (λ plain. plain ≡ record standard { mantissa_radix = radix }) }
     ensures radix { IfSome result (λ plain. IsRadix radix) }
