@@ -2,20 +2,32 @@
 /*
  * lexical.h: converts integers to text, in every radix from 2 to 36.
  *
+ * Examples. This writes 48879 to the buffer and returns 5:
+ *
  *     char buffer[LEXICAL_BUFFER_SIZE];
  *     size_t count = lexical_decimal_u32(48879, buffer, sizeof buffer);
  *
- * writes 48879 to the buffer and returns 5, and
+ * This writes BEEF and returns 4:
  *
  *     const struct lexical_format hexadecimal = LEXICAL_RADIX(16);
  *     count = lexical_write_u32(48879, &hexadecimal, buffer, sizeof buffer);
  *
- * writes BEEF and returns 4. A test of the library has the examples.
+ * For a string, reserve a further byte, which is not part of `length`:
  *
- * Each function is proved for all arguments that meet the conditions below
- * under "Format" and "Buffer". A function that writes a number writes its text
- * and nothing else, or it returns 0 and leaves the buffer unchanged. The proof
- * does not cover the caller's code.
+ *     char text[LEXICAL_BUFFER_SIZE_DECIMAL_I32 + 1];
+ *     size_t count = lexical_decimal_i32(-42, text, sizeof text - 1);
+ *     text[count] = '\0';
+ *
+ * For a width of 8, write an unsigned number after 8 zeros:
+ *
+ *     char text[8 + LEXICAL_BUFFER_SIZE_DECIMAL_U32];
+ *     memset(text, '0', 8);
+ *     size_t count = lexical_decimal_u32(42, text + 8, sizeof text - 8);
+ *
+ * The 8 bytes at text + count are 00000042. A test of the library has the examples.
+ *
+ * Proof. Each function is proved for all arguments that meet the conditions below
+ * under "Format" and "Buffer". The proof does not cover the caller's code.
  *
  * Text. The text begins with a sign: '-' for a negative number, and '+' for any
  * other number if the format requires a sign. Then come the digits, '0' to '9'
@@ -24,8 +36,7 @@
  * separator (its mark) is written between groups of digits.
  *
  * Format. `format` points to a struct lexical_format, which the call only
- * reads. The pointer must not be NULL. The fields may hold any numbers: if one
- * is invalid, lexical_check_format says which one, and the other calls return 0.
+ * reads. The pointer must not be NULL. The fields may hold any numbers.
  *
  * Buffer. `buffer` points to `length` bytes that the call may write. They must
  * not overlap the format, and no other thread may use them during the call. The
@@ -34,32 +45,24 @@
  * on what the buffer held, which may be uninitialized; a call may load a byte and
  * store it back. It writes nothing outside the buffer, and keeps no pointer to it.
  *
- * Length of the buffer. A call writes if the text fits the buffer, and
- * otherwise returns 0; lexical_length returns the length that the text has.
- * LEXICAL_BUFFER_SIZE bytes are enough for every number of every type in every
- * format. lexical_decimal is the fastest call. lexical_write is fastest if the
- * format has no groups and no required sign. Both are fastest if the buffer is
- * long enough for every number of the type (the constants below). In other cases
- * the text may be written to an array on the stack first; LEXICAL_BUFFER_SIZE
+ * Length of the buffer. LEXICAL_BUFFER_SIZE bytes are enough for every number of
+ * every type in every format. lexical_decimal is the fastest call. lexical_write is
+ * fastest if the format has no groups and no required sign. Both are fastest if the
+ * buffer is long enough for every number of the type (the constants below). In other
+ * cases the text may be written to an array on the stack first; LEXICAL_BUFFER_SIZE
  * bytes always avoid that.
  *
- * Strings. No terminating 0 is written; the result of the call is the length of
- * the text. For a string, reserve a further byte, which is not part of `length`:
+ * Return value. lexical_decimal and lexical_write return the length of the text that
+ * they have written, without a terminating 0, and lexical_length the length that the
+ * text has. lexical_buffer_size returns a size that is enough. None of them is 0.
+ * lexical_check_format returns 0 for a valid format.
  *
- *     char text[LEXICAL_BUFFER_SIZE_DECIMAL_I32 + 1];
- *     size_t count = lexical_decimal_i32(-42, text, sizeof text - 1);
- *     text[count] = '\0';
+ * Errors. If the text does not fit the buffer or the format is not valid, the buffer
+ * is unchanged and the call returns 0. lexical_check_format then returns a number that
+ * names the first invalid field. No call changes errno.
  *
- * Zeros. For a width of 8, write an unsigned number after 8 zeros:
- *
- *     char text[8 + LEXICAL_BUFFER_SIZE_DECIMAL_U32];
- *     memset(text, '0', 8);
- *     size_t count = lexical_decimal_u32(42, text + 8, sizeof text - 8);
- *
- * The 8 bytes at text + count are 00000042.
- *
- * Threads and signals. The functions have no state, allocate nothing, and do
- * not change errno: any thread and any signal handler may call them.
+ * Threads and signals. The functions have no state and allocate nothing: any thread
+ * and any signal handler may call them.
  */
 #ifndef LEXICAL_H
 #define LEXICAL_H
@@ -101,6 +104,34 @@
 #define LEXICAL_READS(n)                                                       \
     LEXICAL_HAS((nothrow, pure, nonnull(n), warn_unused_result))               \
     LEXICAL_ACCESS((read_only, n))
+
+/* The radix of LEXICAL_RADIX as a field. An array of a negative size does not compile. */
+#if defined(__cplusplus) && __cplusplus >= 201103L
+extern "C++" {
+template <typename T>
+constexpr uint32_t
+lexical_radix(T number) noexcept
+{
+    return number < 2 || number > 36 ? 0 : static_cast<uint32_t>(number);
+}
+}
+#elif defined(__cplusplus)
+#define lexical_radix(number) static_cast<uint32_t>(number)
+#else
+#define lexical_radix(number) (uint32_t)(number)
+#endif
+#if !defined(__GNUC__)
+#define LEXICAL_FROM_2_TO_36(number) lexical_radix(number)
+#else
+#if defined(__cplusplus)
+#define LEXICAL_IS_WRONG(number) (__builtin_constant_p(number) && ((number) < 2 || (number) > 36))
+#else
+#define LEXICAL_IS_WRONG(number)                                               \
+    __builtin_choose_expr(__builtin_constant_p(number), (number) < 2 || (number) > 36, 0)
+#endif
+#define LEXICAL_FROM_2_TO_36(number)                                           \
+    (__extension__ sizeof(char[LEXICAL_IS_WRONG(number) ? -1 : 1]) ? lexical_radix(number) : 0)
+#endif
 
 #ifdef __cplusplus
 extern "C" {
@@ -203,8 +234,13 @@ struct lexical_format {
     uint32_t reserved[2] LEXICAL_DEFAULT({}); /* 0, for fields of a later version */
 };
 
-/* The format of a radix, as an initializer: with no '+' and no groups, in uppercase. */
-#define LEXICAL_RADIX(radix) { radix, 0, 0, 0, 0, { 0, 0 } }
+/*
+ * The format of a radix, as an initializer: with no '+' and no groups, in uppercase.
+ * With gcc and clang a constant that is not from 2 to 36 does not compile. A variable
+ * may have any integer type: in C++11 and later a number that is not from 2 to 36
+ * becomes 0, which is not valid, and otherwise the number is converted to uint32_t.
+ */
+#define LEXICAL_RADIX(radix) { LEXICAL_FROM_2_TO_36(radix), 0, 0, 0, 0, { 0, 0 } }
 
 /*
  * The standard format, as an initializer and as an object: decimal, with no '+'

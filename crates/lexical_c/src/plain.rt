@@ -40,20 +40,15 @@ pub fn has_letters(format: &CFormat) -> bool
     format.radix > 10
 }
 
-/// Returns the format of this radix without a required sign and groups if the radix is valid and not 10, and
-/// above 10 if `LETTERS` is true, and a buffer of `room` bytes is enough for every number of the type. Otherwise
-/// returns `None`.
-pub fn fitting_format<T: FormattedSize, const LETTERS: bool>(
-    radix: u32,
-    room: usize,
-) -> Option<NumberFormat>
+/// Returns the format of this radix without a required sign and groups if the radix is valid and not 10, and a buffer
+/// of `room` bytes is enough for every number of the type. Otherwise returns `None`.
+pub fn fitting_format<T: FormattedSize>(radix: u32, room: usize) -> Option<NumberFormat>
     ensures format { IfSome result (λ plain. plain ≡ record standard { mantissa_radix = radix }) }
     ensures radix { IfSome result (λ plain. IsRadix radix) }
     ensures room { IfSome result (λ plain.
         size_in T.FORMATTED_SIZE T.FORMATTED_SIZE_DECIMAL plain ≤ room) }
 {
-    let is_wanted = if LETTERS { radix > 10 } else { radix != 10 };
-    if is_wanted && is_radix(u64::from(radix)) && T::FORMATTED_SIZE <= room {
+    if radix != 10 && is_radix(u64::from(radix)) && T::FORMATTED_SIZE <= room {
         let builder = NumberFormatBuilder::new().mantissa_radix(radix as u8);
         Some(builder.build_strict())
     } else {

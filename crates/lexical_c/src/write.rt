@@ -66,7 +66,7 @@ fn write_in_radix<T: CInteger>(value: T, format: &CFormat, buffer: &mut [u8]) ->
     ensures { WritesOrRefuses (T.number value) format.now buffer.old buffer.new result }
 {
     value.in_range();
-    match fitting_format::<T, false>(format.radix, buffer.len()) {
+    match fitting_format::<T>(format.radix, buffer.len()) {
         Some(plain) => {
             size_suffices(value, &plain);
             write_plain(value, &plain, buffer)
@@ -84,7 +84,7 @@ fn write_in_lowercase<T: CInteger>(value: T, format: &CFormat, buffer: &mut [u8]
     ensures { WritesOrRefuses (T.number value) format.now buffer.old buffer.new result }
 {
     value.in_range();
-    match fitting_format::<T, true>(format.radix, buffer.len()) {
+    match fitting_format::<T>(format.radix, buffer.len()) {
         Some(plain) => {
             size_suffices(value, &plain);
             let count = write_plain(value, &plain, buffer);

@@ -30,6 +30,13 @@ static int is_wrong(size_t count, const char *wanted)
 
 static const struct lexical_format HEXADECIMAL = LEXICAL_RADIX(16), BINARY = FORMAT(2, 1, 4, '_');
 
+/* The format of a radix, as an argument. */
+#ifdef __cplusplus
+#define RADIX(number) LEXICAL_RADIX(number)
+#else
+#define RADIX(number) &(const struct lexical_format)LEXICAL_RADIX(number)
+#endif
+
 /* In C++ a format may also be an object. */
 #ifdef __cplusplus
 #define WRITE_IN(number, format) \
@@ -85,6 +92,10 @@ int main(void)
     TRY(unsigned long long, -1, "18446744073709551615", "FFFFFFFFFFFFFFFF", "+" ONES_64)
     TRY(long long, -4611686018427387904LL, "-4611686018427387904", "-4000000000000000",
         "-100_0000_0000" ZEROS_12 ZEROS_12 ZEROS_12 "_0000_0000_0000_0000")
+#endif
+#if !defined(__cplusplus) || __cplusplus >= 201103L
+    wrong += lexical_length(100, RADIX(2)) != 7;
+    wrong += lexical_length(100, RADIX(36)) != 2;
 #endif
 #ifdef REFUSED
     wrong += REFUSED != 0;

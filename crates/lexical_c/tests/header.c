@@ -143,6 +143,60 @@ static int check_examples(void)
     return wrong + is_wrong(count == 4 && memcmp(buffer, "BEEF", 4) == 0, "a format as an argument");
 }
 
+/* A call reads the format that it is passed: a compiler does not take the result of an earlier call with the pointer. */
+static int check_changes(void)
+{
+    struct lexical_format format = LEXICAL_RADIX(10);
+    size_t lengths, sizes;
+    int wrong = 0;
+#define CHANGES(NAME, CONSTANT, TYPE)                                          \
+    format.radix = 10;                                                         \
+    lengths = lexical_length_##NAME(100, &format);                             \
+    sizes = lexical_buffer_size_##NAME(&format);                               \
+    format.radix = 2;                                                          \
+    lengths = lengths * 10 + lexical_length_##NAME(100, &format);              \
+    wrong += is_wrong(lengths == 37, "lexical_length_" #NAME " of a changed format"); \
+    wrong += is_wrong(sizes < lexical_buffer_size_##NAME(&format), "lexical_buffer_size_" #NAME " of a changed format");
+    FOR_EACH_TYPE(CHANGES)
+#ifdef __cplusplus
+    lengths = lexical_length(100, format) * 10 + lexical_length(100, &format);
+    format.radix = 10;
+    wrong += is_wrong(lengths + lexical_length(100, format) + lexical_length(100, &format) == 83, "lexical_length");
+#endif
+    wrong += is_wrong(lexical_check_format(&format) == 0, "a valid format");
+    format.radix = 1;
+    return wrong + is_wrong(lexical_check_format(&format) != 0, "lexical_check_format of a changed format");
+}
+
+/* A buffer of length 0 may be at the format, and no compiler warns of it, as it would of `restrict`. */
+static int check_equal_pointers(void)
+{
+    struct lexical_format format = LEXICAL_RADIX(10);
+    size_t count = lexical_write_u8(7, &format, (char *)&format, 0) + lexical_write_i64(7, &format, (char *)&format, 0);
+    return is_wrong(count == 0 && format.radix == 10, "a buffer of length 0 at the format");
+}
+
+/* A radix that is no constant may have any type, is evaluated once, and is valid or refused. */
+static int check_radices(void)
+{
+    static const int INVALID[] = { -1, 0, 1, 37, 74, 266, 2147483647 };
+    unsigned char byte = 36;
+    long number = 16;
+    int count = 2, wrong = 0;
+    struct lexical_format base_36 = LEXICAL_RADIX(byte), base_16 = LEXICAL_RADIX(number), base_2 = LEXICAL_RADIX(count++);
+    wrong += is_wrong(base_36.radix == 36 && base_16.radix == 16 && base_2.radix == 2 && count == 3, "a variable radix");
+    for (count = 0; count < 7; count++) {
+        struct lexical_format format = LEXICAL_RADIX(INVALID[count]);
+        wrong += is_wrong(check_format(&format) == LEXICAL_INVALID_RADIX, "a variable radix that is invalid");
+    }
+#ifdef __cplusplus
+    number = 4294967296 + 10;
+    base_16 = lexical_format(LEXICAL_RADIX(number));
+    wrong += is_wrong(check_format(&base_16) == LEXICAL_INVALID_RADIX, "a radix of more than 32 bits");
+#endif
+    return wrong;
+}
+
 /* The example of a string. */
 static int check_string(void)
 {
@@ -204,6 +258,7 @@ static int check_cpp(void)
 int main(void)
 {
     int wrong = check_sizes() + check_formats() + check_fields() + check_zero_format();
+    wrong += check_changes() + check_equal_pointers() + check_radices();
     wrong += check_examples() + check_string() + check_zeros() + check_version() + check_cpp();
     return wrong == 0 ? EXIT_SUCCESS : EXIT_FAILURE;
 }

@@ -10,7 +10,7 @@ check_header() {
   for compiler in "$CC" $(others "$CC" gcc clang); do
     ! compiles_32_bits "$compiler" || expect "32 bits are refused by $compiler" refuses_32_bits "$compiler"
   done
-  for level in -O0 -O2; do
+  for level in -O0 -O2 '-O2 -fno-inline'; do
     for compiler in "$CC" $(others "$CC" gcc clang); do
       expect "header.c as C99 by $compiler $level" runs_with "$crate/include" "$compiler" "-std=c99 $level" "$crate/tests/header.c"
     done
@@ -38,6 +38,9 @@ refuses() {
   done
 }
 
+# Prints calls with a constant radix that is not from 2 to 36.
+refused_radices() { for radix in -1 0 1 37 74 266; do echo "lexical_length(1,RADIX($radix))"; done; }
+
 # refused_calls TYPE: prints a call of each function with a value of this type.
 refused_calls() {
   echo "lexical_decimal(($1)1,text,room) lexical_write(($1)1,&HEXADECIMAL,text,room) lexical_length(($1)1,&HEXADECIMAL)"
@@ -48,8 +51,19 @@ refused_in() {
   refused_calls char
   echo 'lexical_write((char)1,HEXADECIMAL,text,room)' 'lexical_length((bool)1,HEXADECIMAL)'
   echo 'lexical_decimal((bool)1,text,room)' 'lexical_length((wchar_t)1,&HEXADECIMAL)'
-  case $1 in c++98) ;; *) echo 'lexical_write((char16_t)1,&HEXADECIMAL,text,room)' 'lexical_length((char32_t)1,&HEXADECIMAL)' ;; esac
+  case $1 in c++98) ;; *) refused_radices; echo 'lexical_write((char16_t)1,&HEXADECIMAL,text,room)' 'lexical_length((char32_t)1,&HEXADECIMAL)' ;; esac
   case $1 in c++2?) echo 'lexical_length((char8_t)1,&HEXADECIMAL)' ;; esac
+}
+
+# other_macros COMPILER FLAGS: prints the macros that are defined behind the header, but those that it explains and
+# those that they use.
+other_macros() {
+  echo '#include "lexical.h"' > "$work/macros.c"
+  # shellcheck disable=SC2086
+  $1 $2 -I"$crate/include" -E -dM "$work/macros.c" | sed -n 's/^#define \([Ll][Ee][Xx][A-Za-z0-9_]*\).*/\1/p' |
+    sed '/^LEXICAL_BUFFER_SIZE/d; /^LEXICAL_VERSION/d; /^LEXICAL_INVALID_/d; /^LEXICAL_H$/d; /^LEXICAL_STANDARD_FORMAT$/d
+      /^LEXICAL_RADIX$/d; /^LEXICAL_FROM_2_TO_36$/d; /^LEXICAL_IS_WRONG$/d; /^lexical_radix$/d
+      /^LEXICAL_FOR_TYPE$/d; /^lexical_decimal$/d; /^lexical_write$/d; /^lexical_length$/d'
 }
 
 # Every standard that a compiler has compiles the header, and from C11 and C++98 on a function is chosen by the type.
@@ -61,19 +75,25 @@ check_standards() {
     for standard in c89 c99 c11 c17 c2x; do
       ! compiles "$compiler" c "-std=$standard" || expect "the header as $standard by $compiler" compiles_with "$compiler" "-std=$standard" "$work/standard.c"
     done
+    for standard in c99 c11; do
+      expect "the macros behind the header as $standard by $compiler" prints '' other_macros "$compiler" "-std=$standard"
+    done
     expect "choice.c as C11 by $compiler" runs_with "$crate/include" "$compiler" -std=c11 "$crate/tests/choice.c"
     # shellcheck disable=SC2046
     expect "choice.c as C11 refuses a char and a _Bool by $compiler" refuses "$compiler" -std=c11 $(refused_calls char) $(refused_calls _Bool)
+    # shellcheck disable=SC2046
+    expect "choice.c as C11 refuses a radix by $compiler" refuses "$compiler" -std=c11 $(refused_radices)
   done
   has_cpp || return
   for compiler in "$CXX" $(others "$CXX" g++ clang++); do
     for standard in c++98 c++11 c++14 c++17 c++20 c++2b; do
       ! compiles "$compiler" c++ "-std=$standard" || {
+        expect "the macros behind the header as $standard by $compiler" prints '' other_macros "$compiler" "-x c++ -std=$standard"
         expect "the header as $standard by $compiler" compiles_with "$compiler" "-x c++ -std=$standard" "$work/standard.c"
         expect "the header in extern \"C\" as $standard by $compiler" compiles_with "$compiler" "-x c++ -std=$standard" "$work/inside.c"
         expect "choice.c as $standard by $compiler" runs_with "$crate/include" "$compiler" "-x c++ -std=$standard" "$crate/tests/choice.c"
         # shellcheck disable=SC2046
-        expect "choice.c as $standard refuses a bool and characters by $compiler" refuses "$compiler" "-x c++ -std=$standard" $(refused_in "$standard")
+        expect "choice.c as $standard refuses a bool, characters and a radix by $compiler" refuses "$compiler" "-x c++ -std=$standard" $(refused_in "$standard")
       }
     done
   done
@@ -136,18 +156,28 @@ check_objects() {
 # warns COMPILER CALL MISUSE WARNING: whether a compiler reports the misuse in a call, with this warning.
 warns() {
   # shellcheck disable=SC2086
-  fails $1 -std=c99 -O1 -Werror="$4" -I"$crate/include" -DCALL="$2" -DMISUSE="$3" -c -o "$work/misuse.o" "$crate/tests/misuse.c" 2> "$work/said" &&
+  fails $1 -O1 -Werror="$4" -I"$crate/include" -DCALL="$2" -DMISUSE="$3" -c -o "$work/misuse.o" "$crate/tests/misuse.c" 2> "$work/said" &&
     grep -q "[W=]$4" "$work/said"
 }
 
-# warns_of_each COMPILER MISUSE WARNING: whether a compiler reports the misuse of each writer.
+# warns_of_each COMPILER MISUSE WARNING: whether a C compiler reports the misuse of each function.
 warns_of_each() {
   for type in u8 u16 u32 u64 size i8 i16 i32 i64; do
     for call in "lexical_write_$type(1,format,buffer,length)" "lexical_decimal_$type(1,buffer,length)" \
       "lexical_length_$type(1,format)" "lexical_buffer_size_$type(format)" 'lexical_check_format(format)'; do
       case $2$call in NO_FORMATlexical_decimal* | LENGTH*lexical_[lbc]*) continue ;; esac
-      warns "$1" "$call" "$2" "$3" || { echo "no warning: $call"; return 1; }
+      warns "$1 -std=c99" "$call" "$2" "$3" || { echo "no warning: $call"; return 1; }
     done
+  done
+}
+
+# warns_in_cpp COMPILER: whether a C++ compiler reports an unused result of each function that the type chooses. Of a
+# function that only reads, g++ says that the statement has no effect.
+warns_in_cpp() {
+  for call in 'lexical_decimal(1,buffer,length)' 'lexical_write(1,format,buffer,length)' 'lexical_length(1,format)' \
+    'lexical_write(1,*format,buffer,length)' 'lexical_length(1,*format)'; do
+    warns "$1 -x c++ -std=c++17 -Werror=unused-value" "$call" UNUSED_RESULT unused-result ||
+      grep -q 'statement has no effect' "$work/said" || { echo "no warning: $call"; return 1; }
   done
 }
 
@@ -161,5 +191,8 @@ check_attributes() {
   for compiler in $(find_access); do
     expect "a length past the array by $compiler" warns_of_each "$compiler" LENGTH_PAST_THE_ARRAY stringop-overflow
   done
+  has_cpp || return
+  for compiler in "$CXX" $(others "$CXX" g++ clang++); do
+    expect "an unused result in C++ by $compiler" warns_in_cpp "$compiler"
+  done
 }
-

@@ -443,13 +443,15 @@ static void check_every_length(void)
             }
 }
 
-/* Checks buffers that are longer than 4 KiB and 4 GiB, of which only the first page may be accessed. */
+/* Checks buffers of more than 4 KiB and of 4 GiB, of which only the first page may be accessed. */
 static void check_long_buffers(void)
 {
     static const size_t LENGTHS[] = { 4097, 65536, (size_t)1 << 32 };
     char *map = (char *)mmap(NULL, LENGTHS[2], PROT_NONE, MAP_PRIVATE | MAP_ANONYMOUS | MAP_NORESERVE, -1, 0);
-    if (map == (char *)MAP_FAILED || mprotect(map, (size_t)sysconf(_SC_PAGESIZE), PROT_READ | PROT_WRITE) != 0)
-        exit(EXIT_FAILURE);
+    if (map == (char *)MAP_FAILED || mprotect(map, (size_t)sysconf(_SC_PAGESIZE), PROT_READ | PROT_WRITE) != 0) {
+        check(false, "4 GiB of addresses");
+        return;
+    }
     for (size_t t = 0; t < TYPE_COUNT; t++)
         for (size_t i = 0; i < 3; i++) {
             memset(map, 0, 2);

@@ -29,16 +29,11 @@ pub fn has_letters(format: &CFormat) -> bool {
     format.radix > 10
 }
 
-/// Returns the format of this radix without a required sign and groups if the radix is valid and not 10, and
-/// above 10 if `LETTERS` is true, and a buffer of `room` bytes is enough for every number of the type. Otherwise
-/// returns `None`.
+/// Returns the format of this radix without a required sign and groups if the radix is valid and not 10, and a buffer
+/// of `room` bytes is enough for every number of the type. Otherwise returns `None`.
 #[inline(always)]
-pub fn fitting_format<T: FormattedSize, const LETTERS: bool>(
-    radix: u32,
-    room: usize,
-) -> Option<NumberFormat> {
-    let is_wanted = if LETTERS { radix > 10 } else { radix != 10 };
-    if is_wanted && is_radix(u64::from(radix)) && T::FORMATTED_SIZE <= room {
+pub fn fitting_format<T: FormattedSize>(radix: u32, room: usize) -> Option<NumberFormat> {
+    if radix != 10 && is_radix(u64::from(radix)) && T::FORMATTED_SIZE <= room {
         let builder = NumberFormatBuilder::new().mantissa_radix(radix as u8);
         Some(builder.build_strict())
     } else {

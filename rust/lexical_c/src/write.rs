@@ -53,7 +53,7 @@ fn write_digits<T: CInteger>(value: T, format: &CFormat, buffer: &mut [u8]) -> u
 // Does what `write_digits` does, under the same conditions.
 #[inline]
 fn write_in_radix<T: CInteger>(value: T, format: &CFormat, buffer: &mut [u8]) -> usize {
-    match fitting_format::<T, false>(format.radix, buffer.len()) {
+    match fitting_format::<T>(format.radix, buffer.len()) {
         Some(plain) => write_plain(value, &plain, buffer),
         None => write_if_it_fits(value.widen(), format, buffer),
     }
@@ -64,7 +64,7 @@ fn write_in_radix<T: CInteger>(value: T, format: &CFormat, buffer: &mut [u8]) ->
 #[cold]
 #[inline]
 fn write_in_lowercase<T: CInteger>(value: T, format: &CFormat, buffer: &mut [u8]) -> usize {
-    match fitting_format::<T, true>(format.radix, buffer.len()) {
+    match fitting_format::<T>(format.radix, buffer.len()) {
         Some(plain) => {
             let count = write_plain(value, &plain, buffer);
             set_lowercase_bit(&mut buffer[..count]);

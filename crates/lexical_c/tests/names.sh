@@ -1,0 +1,66 @@
+# Tests of the names of the libraries and of the nodes in which they are, which tests/run reads.
+# shellcheck shell=sh disable=SC2154
+
+# Prints the names of the functions that the header declares. lexical_write and others without a type choose one.
+header_names() {
+  sed -n '/^inline/d; s/^\([^ ].*\)\{0,1\}_t \(lexical_[a-z0-9_]*\)(.*/\2/p' "$crate/include/lexical.h" | sort -u
+}
+
+# Prints the names that the archive uses and does not define.
+undefined_names() { nm -u "$library" | sed -n 's/^ *U //p' | sort; }
+
+# exported_names LIBRARY: prints the names that a shared library exports, with their versions.
+exported_names() { nm -D --defined-only --with-symbol-versions "$1" | sed -n 's/^[0-9a-f]* [TDBRVW] //p' | sort; }
+
+# The archive, the shared library and the header have the same names, and the archive uses only memcpy and abort. What
+# 3.1 has added is in two nodes: that of 3.0 is for programs that were linked before there was another.
+check_names() {
+  node=LEXICAL_C_$major
+  header_names > "$work/header"
+  nm "$library" | sed -n 's/^[0-9a-f]* [TDBRV] //p' | sort > "$work/archive"
+  sed "/_decimal_/!s/\$/@@$node/; s/.*_decimal_.*/&@$node &@@$node.1/" "$work/header" | tr ' ' '\n' | sort > "$work/versions"
+  exported_names "$1/lib/liblexical_c.so" > "$work/shared"
+  expect 'the names of the header are those of the archive' diff "$work/header" "$work/archive"
+  expect 'the names of the shared library are those of the header, with versions' diff "$work/versions" "$work/shared"
+  expect 'the archive uses only memcpy, and abort if it has panics' prints "$imported" undefined_names
+}
+
+# link_older NAMES: makes an older shared library, which has these names of the archive in one node.
+link_older() {
+  mkdir -p "$work/older"
+  echo "LEXICAL_C_$major { global: $1; local: *; };" > "$work/older.map"
+  $CC -shared -Wl,-soname,"liblexical_c.so.$major" -Wl,--version-script="$work/older.map" -Wl,--whole-archive "$library" \
+    -Wl,--no-whole-archive -o "$work/older/liblexical_c.so" && cp "$work/older/liblexical_c.so" "$work/older/liblexical_c.so.$major"
+}
+
+# starts CALL LINKED RUN: whether a program with a call, linked to the library of one folder, starts with another's.
+starts() {
+  $CC -Wl,-z,lazy -DCALL="$1" -I"$crate/include" -o "$work/starts" "$work/starts.c" -L"$2" -llexical_c || exit
+  prints started env LD_LIBRARY_PATH="$3" "$work/starts"
+}
+
+# has_nodes FOLDER: whether a program that needs what 3.1 has added does not start with a library of 3.0, but one that
+# does not need it does, and one that was linked to a library with one node starts with that of the folder.
+has_nodes() {
+  decimal='lexical_decimal_u8(1, buffer, 3)' write='lexical_write_u8(1, &lexical_standard_format, buffer, 3)'
+  echo '#include <lexical.h>
+#include <stdio.h>
+int main(void) { char buffer[3]; puts("started"); fflush(stdout); return CALL == 0; }' > "$work/starts.c"
+  link_older 'lexical_[!d]*' && fails starts "$decimal" "$1" "$work/older" 2> "$work/said" &&
+    grep "LEXICAL_C_$major.1' not found" "$work/said" && [ ! -s "$work/printed" ] && starts "$write" "$1" "$work/older" &&
+    link_older 'lexical_*' && starts "$decimal" "$work/older" "$1"
+}
+
+# is_hardened LIBRARY: whether the dynamic linker resolves all names of it first, and then makes their table read-only,
+# and neither its stack is executable nor its code changed.
+is_hardened() {
+  readelf -lW "$1" | grep -q GNU_RELRO && readelf -dW "$1" | grep -q 'FLAGS_1.*NOW' &&
+    ! readelf -lW "$1" | grep -q 'GNU_STACK.*E' && ! readelf -dW "$1" | grep -q TEXTREL
+}
+
+# check_libraries PREFIX: tests the libraries that are installed there.
+check_libraries() {
+  expect 'the node of each version' has_nodes "$1/lib"
+  if has nm; then check_names "$1"; fi
+  if has readelf; then expect 'relro and now' is_hardened "$1/lib/liblexical_c.so"; fi
+}
