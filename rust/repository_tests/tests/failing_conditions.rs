@@ -8,7 +8,7 @@ use cojimuran::digit_count::DigitCount;
 use cojimuran::lines::join;
 use cojimuran::num::UnsignedInteger;
 use cojimuran::padded::write_padded;
-use cojimuran::parts::{Decimal, Digits, Fixed, Joined, Padded, PaddedDigits, Part};
+use cojimuran::parts::{Decimal, Digits, Fixed, Joined, Padded, PaddedDigits, Part, write_with_length};
 use cojimuran::radix::Radix;
 use cojimuran::write::WriteInteger;
 use cojimuran::{NumberFormatBuilder, Options, ToLexical, ToLexicalWithOptions, jeaiii, table};
@@ -116,7 +116,10 @@ fn messages() {
         "self.1 <= 19": Fixed(7i64, 20).to_text(buffer), Fixed(7u8, usize::MAX).room(), Fixed(7u8, 90).to_str(buffer);
         "radix <= 36": table(37);
         "radix >= 2": table(1);
-        "fits_decimal_width(": Padded(2026u16, 2).to_text(buffer), Padded(15u8, 1).try_to_str(buffer),
+        "count <= usize::MAX - extra": write_with_length("ab", 10, 20, usize::MAX - 1, buffer);
+        "out of range": "ab".write_at(129, buffer), write_with_length("ab", 10, 129, 0, buffer);
+        "fits_decimal_width(": write_with_length("0123456789", 10, 1, 0, buffer),
+            Padded(2026u16, 2).to_text(buffer), Padded(15u8, 1).try_to_str(buffer),
             Padded(1234567u32, 3).to_str(buffer), write_padded(10u8, 10, &mut buffer[..1]);
         "count <= buffer.len()": PaddedDigits(16, 256u32, 2).to_text(buffer);
         "number == 0": write_padded(1u8, 16, &mut []);

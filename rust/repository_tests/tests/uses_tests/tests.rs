@@ -5,6 +5,7 @@
 mod joined;
 mod lines;
 mod parts;
+mod positions;
 mod scientific;
 mod shown;
 mod streams;
