@@ -33,4 +33,4 @@ pub mod Splits
 -- texts of equal widths with separators between them
 pub mod EqualWidths
 -- texts at an index of a buffer
-pub mod Places
+pub mod TextsAtIndex

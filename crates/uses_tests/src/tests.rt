@@ -5,6 +5,7 @@ ghost use Rattle.std.specs.Prelude.{◌≤◌, length};
 mod joined;
 mod lines;
 mod parts;
+mod positions;
 mod scientific;
 mod shown;
 mod streams;

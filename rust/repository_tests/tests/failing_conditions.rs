@@ -193,10 +193,12 @@ fn messages() {
         "90 decimals, but at most 19": Fixed(7u8, 90).to_str(buffer), Fixed(7u8, 90).try_write_to(buffer);
         "radix <= 36": table(37);
         "radix >= 2": table(1);
-        "fits_decimal_width(": Padded(2026u16, 2).to_text(buffer), Padded(15u8, 1).try_to_str(buffer),
+        "count <= usize::MAX - extra": write_with_length("ab", 10, 20, usize::MAX - 1, buffer);
+        "out of range": "ab".write_at(129, buffer), write_with_length("ab", 10, 129, 0, buffer);
+        "fits_decimal_width(": write_with_length("0123456789", 10, 1, 0, buffer),
+            Padded(2026u16, 2).to_text(buffer), Padded(15u8, 1).try_to_str(buffer),
             Padded(1234567u32, 3).to_str(buffer), write_padded(10u8, 10, &mut buffer[..1]);
-        "count <= buffer.len()": PaddedDigits(16, 256u32, 2).to_text(buffer), write_with_length("hello", 16, 2, 251, buffer);
-        "count <= usize::MAX - extra": write_with_length("hello", 16, 2, usize::MAX, buffer);
+        "count <= buffer.len()": PaddedDigits(16, 256u32, 2).to_text(buffer);
         "number == 0": write_padded(1u8, 16, &mut []);
         "begins_with_pairs(": algorithm(7u32, 16, &table(16)[..511], buffer), algorithm(7u32, 12, table(13), buffer),
             algorithm(7u32, 13, table(12), buffer), algorithm(7u32, 2, table(36), buffer);

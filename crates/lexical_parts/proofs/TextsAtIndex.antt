@@ -1,4 +1,4 @@
--- Texts at a place of a buffer.
+-- Texts at an index of a buffer.
 use Rattle.std.proofs.Common.{◌≡◌, ℕ, ◌+◌, ◌-◌, ◌≤◌, List, ◌++◌, length, take, drop, slice_range, refl, sym, ap, ◌∙◌, arith, length-append, append_assoc}
 use Rattle.std.proofs.lemmas.List.{take_at, take_all, drop_at, length-take-le, length-drop, take-append-drop}
 use Rattle.lexical_write_integer.specs.Buffer.{Front, Writes}
