@@ -25,7 +25,7 @@ has_contents() {
   cmp "$crate/include/lexical.h" "$1/include/lexical.h" && cmp "$library" "$1/lib/liblexical_c.a" &&
     cmp "$crate/../../LICENSE-APACHE" "$1/share/lexical_c/LICENSE-APACHE" &&
     cmp "$crate/../../LICENSE-MIT" "$1/share/lexical_c/LICENSE-MIT" &&
-    [ "$(find "$1" -type f ! -perm 644)" = "$(find "$1" -name "liblexical_c.so.$version" -perm 755)" ]
+    prints "$1/lib/liblexical_c.so.$version" find "$1" -type f ! -perm 644 && prints "$1/lib/liblexical_c.so.$version" find "$1" -type f -perm 755
 }
 
 # man_finds PREFIX: whether man finds the page by the name of each function.
@@ -45,7 +45,8 @@ shows_all() {
     printf '%s\n' "lexical_c $version" LIBRARY 'RETURN VALUE lexical' 'ERRORS If' 'EXAMPLES This' 'DESCRIPTION lexical.h'
     header_names | sed 's/$/(/'
     sed -n 's/^\(#define LEXICAL_[A-Z0-9_]* ["0-9].*\)/\1/p; s/^ \* *\([A-Z][a-z ]*\. \)*//p
-      s/^    \(uint32_t [a-z_]*\).*/\1/p' "$crate/include/lexical.h"
+      s/^    \(uint32_t [a-z_]*\).*/\1/p
+      /^extern "C" {/,/for a type/s/^\/\* \([^-][^*]*[^* ]\).*/\1/p' "$crate/include/lexical.h"
   } | while read -r words; do grep -q -F -e "$words" "$work/words" || { echo "no '$words'"; exit 1; }; done
 }
 

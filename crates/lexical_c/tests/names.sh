@@ -54,13 +54,13 @@ int main(void) { char buffer[3]; puts("started"); fflush(stdout); return CALL ==
 # is_hardened LIBRARY: whether the dynamic linker resolves all names of it first, and then makes their table read-only,
 # and neither its stack is executable nor its code changed.
 is_hardened() {
-  readelf -lW "$1" | grep -q GNU_RELRO && readelf -dW "$1" | grep -q 'FLAGS_1.*NOW' &&
-    ! readelf -lW "$1" | grep -q 'GNU_STACK.*E' && ! readelf -dW "$1" | grep -q TEXTREL
+  readelf -lW "$1" > "$work/segments" && readelf -dW "$1" > "$work/dynamic" && grep -q GNU_RELRO "$work/segments" &&
+    grep -q 'GNU_STACK.* RW ' "$work/segments" && grep -q 'FLAGS_1.*NOW' "$work/dynamic" && fails grep TEXTREL "$work/dynamic"
 }
 
 # check_libraries PREFIX: tests the libraries that are installed there.
 check_libraries() {
   expect 'the node of each version' has_nodes "$1/lib"
   if has nm; then check_names "$1"; fi
-  if has readelf; then expect 'relro and now' is_hardened "$1/lib/liblexical_c.so"; fi
+  if has readelf; then expect 'the hardening of the shared library' is_hardened "$1/lib/liblexical_c.so"; fi
 }
