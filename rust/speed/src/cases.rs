@@ -1,0 +1,177 @@
+//! What is written, and where to: each loop is a function of its own, so neither it nor the call in it is shared.
+
+use cojimuran::parts::{Hex, Part};
+use cojimuran::{NumberFormat, NumberFormatBuilder, Options, ToLexical, ToLexicalWithOptions};
+use std::hint::black_box;
+use std::io::Write;
+
+/// A text with a number.
+pub trait Case {
+    const NAME: &str;
+    /// The length of the longest text.
+    const ROOM: usize;
+
+    /// Writes the text to a buffer, and returns its length.
+    fn write(number: u64, buffer: &mut [u8]) -> usize;
+
+    /// Writes the text with the standard library. It has none in radix 36.
+    fn write_by_std(number: u64, output: impl Write) -> Option<()>;
+}
+
+pub struct Decimal;
+pub struct Hexadecimal;
+pub struct Radix36;
+pub struct Line;
+
+const RADIX_16: NumberFormat = NumberFormatBuilder::from_radix(16);
+const RADIX_36: NumberFormat = NumberFormatBuilder::from_radix(36);
+
+impl Case for Decimal {
+    const NAME: &str = "decimal";
+    const ROOM: usize = 20;
+
+    #[inline(always)]
+    fn write(number: u64, buffer: &mut [u8]) -> usize {
+        number.to_lexical(buffer).len()
+    }
+
+    #[inline(always)]
+    fn write_by_std(number: u64, mut output: impl Write) -> Option<()> {
+        write!(output, "{number}").ok()
+    }
+}
+
+impl Case for Hexadecimal {
+    const NAME: &str = "radix 16";
+    const ROOM: usize = 16;
+
+    #[inline(always)]
+    fn write(number: u64, buffer: &mut [u8]) -> usize {
+        number.to_lexical_with_options(buffer, &RADIX_16, &Options::new()).len()
+    }
+
+    #[inline(always)]
+    fn write_by_std(number: u64, mut output: impl Write) -> Option<()> {
+        write!(output, "{number:X}").ok()
+    }
+}
+
+impl Case for Radix36 {
+    const NAME: &str = "radix 36";
+    const ROOM: usize = 13;
+
+    #[inline(always)]
+    fn write(number: u64, buffer: &mut [u8]) -> usize {
+        number.to_lexical_with_options(buffer, &RADIX_36, &Options::new()).len()
+    }
+
+    fn write_by_std(_: u64, _: impl Write) -> Option<()> {
+        None
+    }
+}
+
+impl Case for Line {
+    const NAME: &str = "`id=N flags=0xN`";
+    const ROOM: usize = 3 + 20 + 9 + 4 + 1;
+
+    #[inline(always)]
+    fn write(number: u64, buffer: &mut [u8]) -> usize {
+        ("id=", number, " flags=0x", Hex(number as u16), "\n").write_to(buffer)
+    }
+
+    #[inline(always)]
+    fn write_by_std(number: u64, mut output: impl Write) -> Option<()> {
+        writeln!(output, "id={number} flags=0x{:X}", number as u16).ok()
+    }
+}
+
+/// Where the texts go.
+pub const TARGETS: [&str; 3] = ["an array", "a slice", "a `Vec`"];
+
+/// The length of the arrays and slices.
+const SIZE: usize = 64;
+
+/// Writes the text of each number to a target, and returns how many bytes that were.
+pub fn write_all<C: Case>(target: usize, numbers: &[u64]) -> usize {
+    match target {
+        0 => to_array::<C>(numbers),
+        1 => to_slice::<C>(numbers, black_box(&mut [0; SIZE])),
+        _ => to_vector::<C>(numbers),
+    }
+}
+
+/// Does what `write_all` does, with the standard library.
+pub fn write_all_by_std<C: Case>(target: usize, numbers: &[u64]) -> usize {
+    match target {
+        0 => to_array_by_std::<C>(numbers),
+        1 => to_slice_by_std::<C>(numbers, black_box(&mut [0; SIZE])),
+        _ => to_vector_by_std::<C>(numbers),
+    }
+}
+
+#[inline(never)]
+fn to_array<C: Case>(numbers: &[u64]) -> usize {
+    let mut buffer = [0; SIZE];
+    let write = |number: &u64| {
+        let count = C::write(black_box(*number), &mut buffer);
+        black_box(&buffer);
+        count
+    };
+    numbers.iter().map(write).sum()
+}
+
+#[inline(never)]
+fn to_slice<C: Case>(numbers: &[u64], buffer: &mut [u8]) -> usize {
+    let write = |number: &u64| {
+        let count = C::write(black_box(*number), buffer);
+        black_box(&buffer);
+        count
+    };
+    numbers.iter().map(write).sum()
+}
+
+#[inline(never)]
+fn to_vector<C: Case>(numbers: &[u64]) -> usize {
+    let mut bytes = Vec::new();
+    for number in numbers {
+        let start = bytes.len();
+        bytes.resize(start + C::ROOM, 0);
+        let count = C::write(black_box(*number), &mut bytes[start..]);
+        bytes.truncate(start + count);
+    }
+    black_box(&bytes).len()
+}
+
+#[inline(never)]
+fn to_array_by_std<C: Case>(numbers: &[u64]) -> usize {
+    let mut buffer = [0; SIZE];
+    let write = |number: &u64| {
+        let mut rest = &mut buffer[..];
+        C::write_by_std(black_box(*number), &mut rest);
+        let count = SIZE - rest.len();
+        black_box(&buffer);
+        count
+    };
+    numbers.iter().map(write).sum()
+}
+
+#[inline(never)]
+fn to_slice_by_std<C: Case>(numbers: &[u64], buffer: &mut [u8]) -> usize {
+    let write = |number: &u64| {
+        let mut rest = &mut *buffer;
+        C::write_by_std(black_box(*number), &mut rest);
+        let count = SIZE - rest.len();
+        black_box(&buffer);
+        count
+    };
+    numbers.iter().map(write).sum()
+}
+
+#[inline(never)]
+fn to_vector_by_std<C: Case>(numbers: &[u64]) -> usize {
+    let mut bytes = Vec::new();
+    for number in numbers {
+        C::write_by_std(black_box(*number), &mut bytes);
+    }
+    black_box(&bytes).len()
+}

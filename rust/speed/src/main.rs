@@ -1,0 +1,156 @@
+//! Measures the package beside the formatting of the standard library, and prints a table:
+//! `cargo run --release -p speed`. With `-- --counts` it counts instructions, with valgrind; with `-- --passes N` it
+//! measures each row N times, and otherwise 200 times.
+
+mod cases;
+
+use cases::{Case, Decimal, Hexadecimal, Line, Radix36, TARGETS, write_all, write_all_by_std};
+use std::hint::black_box;
+use std::io::IsTerminal;
+use std::process::{Command, ExitCode};
+use std::time::Instant;
+
+/// How many numbers a pass writes.
+const COUNT: usize = 2048;
+
+/// The numbers of a pass: small, of any length in bits, and of any value.
+const DISTRIBUTIONS: [&str; 3] = ["below 1000", "of 1 to 64 bits", "of 64 bits"];
+
+fn numbers(distribution: usize) -> Vec<u64> {
+    let mut state = 0x9e37_79b9_7f4a_7c15_u64;
+    let mut random = || {
+        state ^= state << 13;
+        state ^= state >> 7;
+        state ^= state << 17;
+        state
+    };
+    let mut number = || match distribution {
+        0 => random() % 1000,
+        1 => random() >> (random() % 64),
+        _ => random(),
+    };
+    (0..COUNT).map(|_| number()).collect()
+}
+
+/// Writes the numbers to a target, and returns how many bytes that were.
+type Pass = fn(usize, &[u64]) -> usize;
+
+/// A row of the table: what is written, and the passes of the package and of the standard library.
+struct Row {
+    name: &'static str,
+    ours: Pass,
+    std: Option<Pass>,
+}
+
+fn row<C: Case>() -> Row {
+    let has_std = C::write_by_std(0, &mut Vec::new()).is_some();
+    Row { name: C::NAME, ours: write_all::<C>, std: has_std.then_some(write_all_by_std::<C>) }
+}
+
+fn rows() -> [Row; 4] {
+    [row::<Decimal>(), row::<Hexadecimal>(), row::<Radix36>(), row::<Line>()]
+}
+
+/// The best of some times, and how much the median is above it, in nanoseconds of a number.
+fn text_of(mut times: Vec<f64>) -> (f64, String) {
+    times.sort_by(f64::total_cmp);
+    (times[0], format!("{:.1} (+{:.1})", times[0], times[times.len() / 2] - times[0]))
+}
+
+/// Returns the times of interleaved passes.
+fn measure(passes: &[Pass], target: usize, numbers: &[u64], count: usize) -> Vec<Vec<f64>> {
+    let mut times = vec![Vec::new(); passes.len()];
+    for _ in 0..count {
+        for (pass, times) in passes.iter().zip(&mut times) {
+            let start = Instant::now();
+            black_box(pass(target, numbers));
+            times.push(start.elapsed().as_secs_f64() * 1e9 / COUNT as f64);
+        }
+    }
+    times
+}
+
+/// Shows a line on a terminal in place of the last one.
+fn show_progress(line: &str) {
+    if std::io::stderr().is_terminal() {
+        eprint!("\r{line:45}\r");
+    }
+}
+
+fn print_times(count: usize) -> Result<(), String> {
+    println!("| text | numbers | to | here, ns | std, ns | ratio |\n|---|---|---|---|---|---|");
+    for row in rows() {
+        for (distribution, name) in DISTRIBUTIONS.iter().enumerate() {
+            let numbers = numbers(distribution);
+            for (target, to) in TARGETS.iter().enumerate() {
+                show_progress(&format!("measuring {} to {to}", row.name));
+                let passes: Vec<Pass> = std::iter::once(row.ours).chain(row.std).collect();
+                let lengths: Vec<usize> = passes.iter().map(|pass| pass(target, &numbers)).collect();
+                assert!(lengths.iter().all(|length| *length == lengths[0]), "texts of other lengths: {lengths:?}");
+                let mut found = measure(&passes, target, &numbers, count).into_iter().map(text_of);
+                let ours = found.next().unwrap_or_default();
+                let (std, ratio) = found
+                    .next()
+                    .map_or(("-".to_owned(), "-".to_owned()), |(best, text)| (text, format!("{:.2}", ours.0 / best)));
+                show_progress("");
+                println!("| {} | {name} | {to} | {} | {std} | {ratio} |", row.name, ours.1);
+            }
+        }
+    }
+    Ok(())
+}
+
+/// Returns how many instructions a run of this program with these words takes.
+fn instructions(words: [usize; 4]) -> Result<u64, String> {
+    let program = std::env::current_exe().map_err(|error| error.to_string())?;
+    let mut command = Command::new("valgrind");
+    command.args(["--tool=callgrind", "--callgrind-out-file=/dev/null"]).arg(program).arg("--run");
+    let output = command.args(words.map(|word| word.to_string())).output();
+    let output = output.map_err(|error| format!("valgrind: {error}"))?;
+    let text = String::from_utf8_lossy(&output.stderr);
+    let count = text.lines().find_map(|line| line.split_once("Collected : ")).map(|(_, count)| count.trim().parse());
+    count.and_then(Result::ok).ok_or_else(|| format!("valgrind: {text}"))
+}
+
+fn print_counts() -> Result<(), String> {
+    println!("| text | numbers | here, instructions | std, instructions | ratio |\n|---|---|---|---|---|");
+    for (index, row) in rows().iter().enumerate() {
+        for (distribution, name) in DISTRIBUTIONS.iter().enumerate() {
+            show_progress(&format!("counting {}", row.name));
+            let empty = instructions([index, distribution, 2, 0])?;
+            let of = |which: usize| instructions([index, distribution, which, 1]).map(|count| (count - empty) as f64);
+            let ours = of(0)? / COUNT as f64;
+            let std = if row.std.is_some() { Some(of(1)? / COUNT as f64) } else { None };
+            let text = std.map_or("- | -".to_owned(), |std| format!("{std:.0} | {:.2}", ours / std));
+            show_progress("");
+            println!("| {} | {name} | {ours:.0} | {text} |", row.name);
+        }
+    }
+    Ok(())
+}
+
+/// Writes the numbers of a distribution to an array: with the package, with the standard library, or not at all.
+fn run(words: &[String]) -> Result<(), String> {
+    let words: Vec<usize> = words.iter().filter_map(|word| word.parse().ok()).collect();
+    let (row, numbers) = (&rows()[words[0]], numbers(words[1]));
+    let pass = if words[2] == 1 { row.std.unwrap_or(row.ours) } else { row.ours };
+    black_box(pass(0, &numbers[..COUNT * words[3]]));
+    Ok(())
+}
+
+fn main() -> ExitCode {
+    let words: Vec<String> = std::env::args().skip(1).collect();
+    let result = match words.iter().map(String::as_str).collect::<Vec<_>>()[..] {
+        [] => print_times(200),
+        ["--passes", count] if count.parse().is_ok_and(|count: usize| count > 0) => {
+            print_times(count.parse().unwrap_or(1))
+        }
+        ["--counts"] => print_counts(),
+        ["--run", _, _, _, _] => run(&words[1..]),
+        _ => Err("use: cargo run --release -p speed [-- --counts | --passes N]".to_owned()),
+    };
+    if let Err(message) = &result {
+        eprintln!("{message}");
+    }
+    ExitCode::from(u8::from(result.is_err()))
+}
