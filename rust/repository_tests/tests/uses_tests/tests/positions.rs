@@ -15,6 +15,7 @@ use repository_tests::uses::line_block::LineBlock;
 use repository_tests::uses::packet::write_want;
 use repository_tests::uses::read_back;
 use repository_tests::uses::slots::write_slot;
+use repository_tests::uses::time_of_day::hour_and_minute;
 use repository_tests::uses::timed::timed_identifier;
 
 #[test]
@@ -103,6 +104,7 @@ fn parts_of_a_caller_and_by_reference() {
 #[test]
 fn texts_that_tell_their_numbers() {
     let rt = repository_tests::runtime::HostRuntime;
+    check_bytes(&rt, hour_and_minute(7, 5, &mut [7; 5]), b"07:05");
     check_bytes(&rt, address(10, 80, &mut [7; 16]), b"10:80");
     check_bytes(
         &rt,
