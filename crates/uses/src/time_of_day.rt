@@ -1,10 +1,11 @@
-//! Writes a time of day by calls that each write after the one before.
+//! Writes a time of day by calls that each write after the one before, and by a tuple that has a tuple.
 
 ghost use Rattle.std.specs.Prelude.{◌≡◌, ◌/◌, ◌%◌, ◌<◌, ◌≤◌, length};
 ghost use Rattle.lexical_write_integer.specs.Buffer.{Writes};
 ghost use Rattle.lexical_write_integer.specs.Padded.{IsPadded};
 ghost use Rattle.lexical_parts.specs.Sequence.{◌then◌, IsStr};
 
+use lexical_parts::{Padded, Part};
 use lexical_write_integer::buffer::copy_to_front;
 use lexical_write_integer::padded::write_padded;
 
@@ -30,4 +31,15 @@ pub fn write_time(minutes: u32, time: &mut [u8; 6]) -> usize
     let end = end + copy_to_front(b":", &mut time[end..]);
     let end = end + write_two(minutes % 60, &mut time[end..]);
     end + copy_to_front(b"Z", &mut time[end..])
+}
+
+/// Returns the hour and the minute, such as `07:05`, which borrow the array. The tuple is in another one, so the proof
+/// needs one line.
+pub fn hour_and_minute(hour: u8, minute: u8, buffer: &mut [u8; 5]) -> &[u8]
+    requires hour { hour < 24 }
+    requires minute { minute < 60 }
+    ensures { (IsPadded 10 2 hour then IsStr ":" then IsPadded 10 2 minute) result.now }
+{
+    let hour = (Padded(hour, 2), ":");
+    (hour, Padded(minute, 2)).to_text(buffer)
 }

@@ -13,6 +13,7 @@ use uses::line_block::LineBlock;
 use uses::packet::write_want;
 use uses::read_back;
 use uses::slots::write_slot;
+use uses::time_of_day::hour_and_minute;
 use uses::timed::timed_identifier;
 
 #[test]
@@ -96,6 +97,7 @@ fn parts_of_a_caller_and_by_reference(rt: HostRuntime) {
 
 #[test]
 fn texts_that_tell_their_numbers(rt: HostRuntime) {
+    check_bytes(&rt, hour_and_minute(7, 5, &mut [7; 5]), b"07:05");
     check_bytes(&rt, address(10, 80, &mut [7; 16]), b"10:80");
     check_bytes(
         &rt,
