@@ -35,7 +35,7 @@ link_older() {
 
 # starts CALL LINKED RUN: whether a program with a call, linked to the library of one folder, starts with another's.
 starts() {
-  $CC -Wl,-z,lazy -DCALL="$1" -I"$crate/include" -o "$work/starts" "$work/starts.c" -L"$2" -llexical_c || exit
+  $CC -Wl,-z,lazy -DCALL="$1" -I"$crate/include" -o "$work/starts" "$work/starts.c" -L"$2" -llexical_c || return 1
   prints started env LD_LIBRARY_PATH="$3" "$work/starts"
 }
 
