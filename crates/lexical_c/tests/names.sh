@@ -35,7 +35,7 @@ link_older() {
 
 # starts CALL LINKED RUN: whether a program with a call, linked to the library of one folder, starts with another's.
 starts() {
-  $CC -Wl,-z,lazy -DCALL="$1" -I"$crate/include" -o "$work/starts" "$work/starts.c" -L"$2" -llexical_c || exit
+  $CC -Wl,-z,lazy -DCALL="$1" -I"$crate/include" -o "$work/starts" "$work/starts.c" -L"$2" -llexical_c || return 1
   prints started env LD_LIBRARY_PATH="$3" "$work/starts"
 }
 
@@ -58,9 +58,15 @@ is_hardened() {
     grep -q 'GNU_STACK.* RW ' "$work/segments" && grep -q 'FLAGS_1.*NOW' "$work/dynamic" && fails grep TEXTREL "$work/dynamic"
 }
 
+# inherits LIBRARY: whether the node of 3.1 inherits from that of 3.0.
+inherits() { readelf -VW "$1" | grep -A 1 "Name: LEXICAL_C_$major.1\$" | grep -q "Parent 1: LEXICAL_C_$major\$"; }
+
 # check_libraries PREFIX: tests the libraries that are installed there.
 check_libraries() {
   expect 'the node of each version' has_nodes "$1/lib"
   if has nm; then check_names "$1"; fi
-  if has readelf; then expect 'the hardening of the shared library' is_hardened "$1/lib/liblexical_c.so"; fi
+  if has readelf; then
+    expect 'the hardening of the shared library' is_hardened "$1/lib/liblexical_c.so"
+    expect 'a node inherits from the earlier one' inherits "$1/lib/liblexical_c.so"
+  fi
 }
