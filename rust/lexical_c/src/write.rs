@@ -51,7 +51,7 @@ fn write_digits<T: CInteger>(value: T, format: &CFormat, buffer: &mut [u8]) -> u
 }
 
 // Does what `write_digits` does, under the same conditions.
-#[inline]
+#[inline(never)]
 fn write_in_radix<T: CInteger>(value: T, format: &CFormat, buffer: &mut [u8]) -> usize {
     match fitting_format::<T>(format.radix, buffer.len()) {
         Some(plain) => write_plain(value, &plain, buffer),

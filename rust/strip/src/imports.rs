@@ -37,7 +37,7 @@ fn statements(text: &str) -> Vec<String> {
 
 /// Returns the words of a text that are not in an import.
 fn words_in_use(text: &str) -> BTreeSet<String> {
-    let is_other = |statement: &String| !is_import(statement);
+    let is_other = |statement: &String| !is_import(statement.trim_start().trim_start_matches("ghost "));
     let words = |text: String| text.split(|c: char| !c.is_alphanumeric() && c != '_').map(str::to_owned).collect();
     statements(text).into_iter().filter(is_other).flat_map::<Vec<String>, _>(words).collect()
 }

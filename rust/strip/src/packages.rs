@@ -133,22 +133,17 @@ pub(crate) const SOURCES: &[Source] = &[
         name: "lexical_write_integer",
         module: "write_integer",
         attributes: &[
-            // For a library that calls each writer once, as the one for C.
-            (
-                "#[cfg_attr(feature = \"inline-more\", inline(always))]\n\
-                 #[cfg_attr(not(feature = \"inline-more\"), inline)]",
-                "write_in_radix count_and_write_up_to_eight",
-            ),
-            // What chooses a writer, the decimal writer, and the writer of a number whose digits are counted at once.
-            // If the format is constant in a caller, so is the choice. The others would make the code of a caller long
-            // if its radix is known only at run time.
+            // What chooses a writer, the decimal writer, the writer of a number whose digits are counted at once, and what
+            // `write_apart` calls. If the format is constant in a caller, so is the choice. The others would make the
+            // code of a caller long if its radix is known only at run time.
             (
                 "#[inline(always)]",
                 "buffer.rt texts/api.rt texts/integers.rt digits/write.rt digits/decimal.rt digits/pairs.rt
                 digits/decimal/jeaiii.rt digits/decimal/kernels.rt digits/decimal/decimal_pairs.rt
-                write_digits write_by_table radix_counted radix digit_count fast_log2 write_after_count
-                last_four write_four write_up_to_four first_pair remove_four fourth_power
-                count_one_or_two count_and_write_one_or_two count_and_write_short",
+                write_digits write_at_once write_by_table radix_counted radix digit_count fast_log2 write_after_count
+                last_four write_four write_up_to_four write_three_or_four write_one_or_two write_short first_pair
+                remove_four fourth_power count_short count_one_or_two count_three_or_four
+                count_and_write_one_or_two count_and_write_up_to_four count_and_write_up_to_eight",
             ),
         ],
         left_out: "laws turns",
@@ -177,8 +172,9 @@ pub(crate) const SOURCES: &[Source] = &[
         name: "lexical_c",
         package: "lexical_c",
         attributes: &[
-            // If rustc inlined it, it would be in the code of each type twice.
-            ("#[inline(never)]", "write_digits"),
+            // If rustc inlined the first, it would be in the code of each type twice, and with the second a call in decimal
+            // would save registers that only this needs.
+            ("#[inline(never)]", "write_digits write_in_radix"),
             // If the length of the buffer is known to suffice, the writers have fewer checks.
             ("#[inline(always)]", "plain.rt"),
         ],

@@ -66,6 +66,10 @@ pub(crate) const WRITE_INTEGER: Replaced = &[
     ),
     ("(\n    value: T,\n    buffer: &mut [u8],\n    turns: &mut Turns,\n)", "(value: T, buffer: &mut [u8])"),
     (
+        "(\n    number: u64,\n    table: &[u8],\n    buffer: &mut [u8],\n    turns: &mut Turns,\n)",
+        "(number: u64, table: &[u8], buffer: &mut [u8])",
+    ),
+    (
         "(\n    fraction: u64,\n    pair_count: usize,\n    buffer: &mut [u8],\n    turns: &mut Turns,\n)",
         "(fraction: u64, pair_count: usize, buffer: &mut [u8])",
     ),
@@ -74,11 +78,14 @@ pub(crate) const WRITE_INTEGER: Replaced = &[
     ("(copy_to_front(&digits[index..], buffer), turns)", "copy_to_front(&digits[index..], buffer)"),
     ("let (count, noted) = write_in(", "write_in("),
     (";\n    turns.append(&noted);\n    count", ""),
-    ("let count = if counts_at_once", "if counts_at_once"),
+    ("let count = if number < eighth", "if number < eighth"),
     (";\n    turns.append(&written);\n    count", ""),
     ("let left = value / fourth_power(R);\n    written.tick(left);\n    left", "value / fourth_power(R)"),
     ("let pair = number / (R * R);\n", "number / (R * R)\n"),
     ("    if pair > 0 {\n        turns.tick(u64::from(pair));\n    }\n    pair\n", ""),
+    // What is only recorded.
+    ("        first_pair::<R>(left as u32, written);\n", ""),
+    ("    if left > 0 {\n        turns.tick(u64::from(left));\n    }\n", ""),
     // With this attribute rustc would save registers here.
     (
         "// It is cold, and so not inlined: otherwise each call for a shorter number would save registers that only this needs.\n#[cold]\n",

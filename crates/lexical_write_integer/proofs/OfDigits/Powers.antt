@@ -10,6 +10,9 @@ pow-one r = rw (pow-suc r 0, pow-zero) (omega arith)
 pub pow-two : (r : ℕ) → r ^ 2 ≡ r * r
 pow-two r = rw (pow-suc r 1, pow-one) refl
 
+pub pow-three : (r : ℕ) → r ^ 3 ≡ r * r * r
+pow-three r = rw (pow-suc r 2, pow-two) refl
+
 pub pow-four : (r : ℕ) → r ^ 4 ≡ r * r * (r * r)
 pow-four r = rw (pow-add r 2 2, pow-two) refl
 

@@ -1,10 +1,10 @@
 //! Writing the digits of a number in any radix, from the tables of digit pairs.
 
-ghost use Rattle.std.specs.Prelude.{◌≡◌, ◌≤◌, ◌++◌, length};
+ghost use Rattle.std.specs.Prelude.{true, ◌≡◌, ◌*◌, ◌<◌, ◌≤◌, ◌++◌, length};
 ghost use Rattle.lexical_num.specs.Format.{IsRadix};
 ghost use Rattle.lexical_write_integer.specs.Buffer.{WritesDigits};
 ghost use Rattle.lexical_write_integer.specs.Digits.DigitCount.{digit_count};
-ghost use Rattle.lexical_write_integer.specs.Digits.LoopTurns.{table_notes};
+ghost use Rattle.lexical_write_integer.specs.Digits.LoopTurns.{is_counted_at_once, table_notes};
 ghost use Rattle.lexical_write_integer.specs.Digits.Table.{BeginsWithPairs};
 
 pub mod algorithm;
@@ -21,7 +21,34 @@ use binary_words::write_binary;
 use by_radix::by_radix;
 use lexical_num::num::UnsignedInteger;
 use lexical_tables::get_table;
-use table_writer::{count_and_write_more, count_and_write_short, eighth_power, write_after_count};
+use table_writer::{
+    count_and_write_more, count_and_write_up_to_eight, eighth_power, write_after_count, write_short,
+};
+
+// Writes a number in the radix `R`, whose digits are counted without division, with a table that begins with the digit
+// pairs of that radix.
+fn write_at_once<const R: u32>(
+    number: u64,
+    table: &[u8],
+    buffer: &mut [u8],
+    turns: &mut Turns,
+) -> usize
+    requires radix { IsRadix R }
+    requires at_once { is_counted_at_once R ≡ true }
+    requires table { BeginsWithPairs R table.now }
+    requires room { digit_count R number ≤ length buffer.old }
+    ensures digits { WritesDigits R number buffer.old buffer.new result }
+    ensures notes { turns.new ≡ turns.old ++ table_notes R number }
+{
+    let table = RadixTable::<R> { pairs: table };
+    if number < u64::from(R * R) {
+        write_short(number as u32, table, buffer, turns)
+    } else if R == 2 && number >= 256 {
+        write_binary(number, buffer, turns)
+    } else {
+        write_after_count(number, table, buffer, turns)
+    }
+}
 
 // Writes a number in the radix `R`, with a table that begins with the digit pairs of that radix: after the count of
 // the digits if that needs no division, and otherwise while they are counted.
@@ -40,16 +67,14 @@ fn write_digits<T: UnsignedInteger, const R: u32>(
 {
     value.fits_bits();
     let number = value.as_usize() as u64;
-    if R == 2 && number >= 256 {
-        return write_binary(number, buffer, turns);
+    if counts_at_once(R) {
+        return write_at_once::<R>(number, table, buffer, turns);
     }
     let table = RadixTable::<R> { pairs: table };
     let mut written = Turns::new();
-    let count = if counts_at_once(R) {
-        write_after_count(number, table, buffer, turns, &mut written)
-    } else if number < eighth_power(R) {
+    let count = if number < eighth_power(R) {
         // This is known of each number of 8 bits, so their code has nothing else.
-        count_and_write_short(number, table, buffer, turns, &mut written)
+        count_and_write_up_to_eight(number, table, buffer, turns, &mut written)
     } else {
         count_and_write_more(number, table, buffer, turns, &mut written)
     };
@@ -71,24 +96,42 @@ fn write_by_table<T: UnsignedInteger, const R: u32>(
     write_digits::<T, R>(value, get_table(R), buffer, turns)
 }
 
-// Writes the digits with the table of the radix. The radix is looked at only once, since the code of each radix names
-// its table.
-fn write_in_radix<T: UnsignedInteger>(
+// Writes a number as `write_by_table` does, but is called: its code is too long for each caller.
+fn write_apart<T: UnsignedInteger, const R: u32>(
     value: T,
-    radix: u32,
     buffer: &mut [u8],
     turns: &mut Turns,
 ) -> usize
-    requires radix { IsRadix radix }
-    requires room { digit_count radix (T.magnitude value) ≤ length buffer.old }
-    ensures digits { WritesDigits radix (T.magnitude value) buffer.old buffer.new result }
-    ensures notes { turns.new ≡ turns.old ++ table_notes radix (T.magnitude value) }
+    requires radix { IsRadix R }
+    requires room { digit_count R (T.magnitude value) ≤ length buffer.old }
+    ensures digits { WritesDigits R (T.magnitude value) buffer.old buffer.new result }
+    ensures notes { turns.new ≡ turns.old ++ table_notes R (T.magnitude value) }
 {
-    by_radix!(radix, write_by_table::<T>(value, buffer, turns))
+    write_by_table::<T, R>(value, buffer, turns)
 }
 
-// Writes the digits as `write_in_radix` does. Radix 16 is apart, since its code is short enough to be in each caller.
-// It is cold, so its choice of a radix is not made one jump with the test for radix 10 before it.
+// Writes a number as `write_by_table` does: one or two digits, which are frequent, in each caller.
+fn write_short_or_apart<T: UnsignedInteger, const R: u32>(
+    value: T,
+    buffer: &mut [u8],
+    turns: &mut Turns,
+) -> usize
+    requires radix { IsRadix R }
+    requires room { digit_count R (T.magnitude value) ≤ length buffer.old }
+    ensures digits { WritesDigits R (T.magnitude value) buffer.old buffer.new result }
+    ensures notes { turns.new ≡ turns.old ++ table_notes R (T.magnitude value) }
+{
+    value.fits_bits();
+    let number = value.as_usize() as u64;
+    if number < u64::from(R * R) {
+        return write_short(number as u32, RadixTable::<R>::new(), buffer, turns);
+    }
+    write_apart::<T, R>(value, buffer, turns)
+}
+
+// Writes the digits with the table of the radix, by the code of the radix, which names its table. In a power of 2 it is
+// short enough to be in each caller. It is cold, so its choice of a radix is not made one jump with the test for radix 10
+// before it.
 #[cold]
 pub(crate) fn radix_counted<T: UnsignedInteger>(
     value: T,
@@ -101,11 +144,7 @@ pub(crate) fn radix_counted<T: UnsignedInteger>(
     ensures digits { WritesDigits radix (T.magnitude value) buffer.old buffer.new result }
     ensures notes { turns.new ≡ turns.old ++ table_notes radix (T.magnitude value) }
 {
-    if radix == 16 {
-        write_by_table::<T, 16>(value, buffer, turns)
-    } else {
-        write_in_radix(value, radix, buffer, turns)
-    }
+    by_radix!(radix, write_by_table or write_short_or_apart::<T>(value, buffer, turns))
 }
 
 /// An unsigned integer type whose digits are written in every radix by the table writer.

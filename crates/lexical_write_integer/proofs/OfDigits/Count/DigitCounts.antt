@@ -1,5 +1,6 @@
 -- How many digits a number has: the least exponent, from both sides, and what a division by a power of the radix leaves.
-use Rattle.std.proofs.Common.{◌≡◌, ℕ, zero, suc, ◌+◌, ◌-◌, ◌*◌, ◌/◌, ◌^◌, ◌<◌, ◌≤◌, ℤ, pos, ◌≤ℤ◌, List, ltb, sym, inl, inr, arith}
+use mir.Val.{bool_byte}
+use Rattle.std.proofs.Common.{◌≡◌, ℕ, zero, suc, ◌+◌, ◌-◌, ◌*◌, ◌/◌, ◌^◌, ◌<◌, ◌≤◌, ℤ, pos, ◌≤ℤ◌, List, Bool, true, false, ltb, refl, sym, ◌∙◌, inl, inr, arith}
 use Rattle.std.proofs.Math.Nat.{pow-zero, pow-le-pow_right, mul-le-mul_right, one-le-pow, div-lt_iff_lt-mul, div-mul-le_self, div-one}
 use Rattle.std.proofs.lemmas.Bool.{cases_lt, ltb-true, cond_both}
 use Rattle.std.proofs.lemmas.Nat.{pow-add}
@@ -97,6 +98,16 @@ digit_count-more r count n two long = omega (arith, digit_count-split r count n 
 -- a number of two digits
 pub digit_count-two : (r n : ℕ) → 2 ≤ r → r ≤ n → n < r ^ 2 → digit_count r n ≡ 2
 digit_count-two r n two more less = digit_count-is r n 2 two (omega arith) less (λ long. rw pow-one more)
+
+-- a number of `k` digits, or of one more if a test says so
+pub digit_count-tested : (test : Bool) (r n k : ℕ)
+    → 2 ≤ r → 1 ≤ k → (1 < k → r ^ (k - 1) ≤ n) → n < r ^ (k + 1) → (test ≡ true → r ^ k ≤ n) → (test ≡ false → n < r ^ k)
+    → k + bool_byte test ≡ digit_count r n
+digit_count-tested true r n k two some low high more fewer =
+    let order : k + 1 - 1 ≡ k = omega arith in
+    sym (digit_count-is r n (k + 1) two (omega arith) high (λ _. rw order (more refl)))
+digit_count-tested false r n k two some low high more fewer =
+    let none : k + 0 ≡ k = omega arith in none ∙ sym (digit_count-is r n k two some (fewer refl) low)
 
 -- ---- the numbers of a type
 

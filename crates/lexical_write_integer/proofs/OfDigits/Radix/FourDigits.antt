@@ -94,3 +94,39 @@ WritesBlock-four r n count list two short is room =
         ]
       ]
     ]
+
+pub WritesBlock-three_or_four : (r n count : ℕ) (list : List ℕ) {a b c d : ℕ}
+    → 2 ≤ r → n < r ^ 4 → 3 ≤ count → count ≤ 4 → count ≡ digit_count r n → count ≤ length list
+    → a ≡ digit_char (n / (r * r) / r) → b ≡ digit_char (n / (r * r) % r)
+    → c ≡ digit_char (n % (r * r) / r) → d ≡ digit_char (n % (r * r) % r)
+    → WritesBlock r count n 0 list (set (set (set (set list 0 a) (count - 3) b) (count - 2) c) (count - 1) d)
+WritesBlock-three_or_four r n count list two short more few is room first second third fourth =
+    let index : count / 4 ≡ count - 3 = omega arith in
+    rw (first, second, third, fourth, ← index) (WritesBlock-four r n count list two short is room)
+
+-- ---- numbers of one or two digits
+
+single_of : (r n : ℕ) → 2 ≤ r → n < r ^ 1 → IsBlockOf r 1 n (n % r ∷ [])
+single_of r n two short = grind (arith, pow-one, mod-eq_of_lt, IsBlockOf-one)
+
+last_of_one : (list : List ℕ) (a b : ℕ) → 1 ≤ length list → set (set list 0 a) 0 b ≡ b ∷ drop 1 list
+last_of_one list a b room = grind arith
+
+last_of_two : (list : List ℕ) (a b : ℕ) → 2 ≤ length list → set (set list 0 a) 1 b ≡ a ∷ b ∷ drop 2 list
+last_of_two list a b room = grind arith
+
+pub WritesBlock-one_or_two : (r n count : ℕ) (list : List ℕ) {a b : ℕ}
+    → 2 ≤ r → n < r * r → count ≡ digit_count r n → count ≤ length list → a ≡ digit_char (n / r) → b ≡ digit_char (n % r)
+    → WritesBlock r count n 0 list (set (set list 0 a) (count - 1) b)
+WritesBlock-one_or_two r n count list two short is room first second =
+    let few = digit_count-le r n 2 (omega arith) (rw pow-two short) in
+    let some = digit_count-pos r n in
+    let fits : n < r ^ count = rw is (digit_count-fits r n two) in
+    elim (cases_eq count 2) [
+      | inl twice ↦
+          rw (first, second, twice)
+          (record { digits = _; block = IsBlockOf-pair r n (omega arith) short; written = last_of_two list _ _ (omega arith); kept = refl })
+      | inr not_two ↦
+          let one : count ≡ 1 = omega arith in
+          rw (first, second, one) (record { digits = _; block = single_of r n two (rw one at fits); written = last_of_one list _ _ (omega arith); kept = refl })
+    ]

@@ -6,9 +6,9 @@ ghost use Rattle.std.specs.Prelude.{◌≡◌, ◌+◌, ◌-◌, ◌*◌, ◌/�
 ghost use Rattle.lexical_num.specs.Format.{IsRadix};
 ghost use Rattle.lexical_write_integer.specs.Buffer.{WritesBlock, WritesDigits};
 ghost use Rattle.lexical_write_integer.specs.Digits.DigitCount.{digit_count};
-ghost use Rattle.lexical_write_integer.specs.Digits.LoopTurns.{count_notes, loop_notes, slow_notes};
+ghost use Rattle.lexical_write_integer.specs.Digits.LoopTurns.{count_notes, loop_notes, slow_notes, table_notes};
 
-use crate::digits::count::digit_count_counted;
+use crate::digits::count::{DigitCount, counts_at_once, fast_log2};
 use crate::digits::pairs::RadixTable;
 use crate::turns::Turns;
 
@@ -100,21 +100,65 @@ pub(super) fn write_up_to_four<const R: u32>(
     buffer[digits - 1] = table.pairs[last + 1];
 }
 
-// Writes a number whose digits are counted without division: the count first, then four digits per iteration
-// while more than four are left, and then the others.
+// Returns how many digits a number of three or four digits has.
+fn count_three_or_four(number: u32, radix: u32) -> usize
+    requires radix { IsRadix radix }
+    requires more { radix ^ 2 ≤ number }
+    requires short { number < radix ^ 4 }
+    ensures count { result ≡ digit_count radix number }
+    ensures three { 3 ≤ result }
+    ensures four { result ≤ 4 }
+{
+    3 + usize::from(number >= radix * radix * radix)
+}
+
+// Writes the three or four digits of a number to the start of the buffer, and returns how many there are: the first pair
+// as two characters, of which the first is written over if it is a leading zero, and then the last pair.
+fn write_three_or_four<const R: u32>(
+    number: u32,
+    table: RadixTable<'_, R>,
+    buffer: &mut [u8],
+    turns: &mut Turns,
+) -> usize
+    requires more { R ^ 2 ≤ number }
+    requires short { number < R ^ 4 }
+    requires room { digit_count R number ≤ length buffer.old }
+    ensures digits { WritesDigits R number buffer.old buffer.new result }
+    ensures notes { turns.new ≡ turns.old ++ loop_notes R number }
+{
+    let count = count_three_or_four(number, R);
+    // So rustc tests the end of the buffer once.
+    prove!(count <= buffer.len());
+    let first = 2 * first_pair::<R>(number, turns) as usize;
+    let pair = 2 * (number % (R * R)) as usize;
+    buffer[0] = table.pairs[first];
+    buffer[count - 3] = table.pairs[first + 1];
+    // Both bytes are read first, so a compiler moves them as one number.
+    let (third, fourth) = (table.pairs[pair], table.pairs[pair + 1]);
+    buffer[count - 2] = third;
+    buffer[count - 1] = fourth;
+    count
+}
+
+// Writes a number of three digits or more: first it counts them, and then it writes four per iteration while more than
+// four are left. In a power of 2 the first four digits of the number are then written, and otherwise those that are left.
 pub(super) fn write_after_count<const R: u32>(
     value: u64,
     table: RadixTable<'_, R>,
     buffer: &mut [u8],
-    turns: &mut Turns,
     written: &mut Turns,
 ) -> usize
+    requires more { R ^ 2 ≤ value }
     requires room { digit_count R value ≤ length buffer.old }
     ensures digits { WritesDigits R value buffer.old buffer.new result }
-    ensures turns { turns.new ≡ turns.old ++ count_notes R value }
     ensures written { written.new ≡ written.old ++ loop_notes R value }
 {
-    let count = digit_count_counted(value, R, turns);
+    if value < fourth_power(R) {
+        return write_three_or_four(value as u32, table, buffer, written);
+    }
+    let count = value.digit_count(R);
+    // So rustc tests the end of the buffer once.
+    prove!(count <= buffer.len());
     let mut left = value;
     let mut at = count;
     while at > 4 {
@@ -122,9 +166,16 @@ pub(super) fn write_after_count<const R: u32>(
         write_four(last_four::<R>(left), table, buffer, at);
         left = remove_four::<R>(left, written);
     }
-    // This is 2 less, or 0 if that is less, in fewer instructions.
-    let third = at * at / 8;
-    write_up_to_four(left as u32, at, third, table, buffer, written);
+    let bits = fast_log2(R);
+    if R == 1 << bits {
+        first_pair::<R>(left as u32, written);
+        let first = last_four::<R>(value >> (bits * (count - 4)));
+        write_four(first, table, buffer, 0);
+    } else {
+        // This is 2 less, or 0 if that is less, in fewer instructions.
+        let third = at * at / 8;
+        write_up_to_four(left as u32, at, third, table, buffer, written);
+    }
     count
 }
 
@@ -136,25 +187,62 @@ fn count_one_or_two(number: u32, radix: u32, turns: &mut Turns) -> usize
     ensures turns { turns.new ≡ turns.old ++ slow_notes radix number }
 {
     let left = number / radix;
-    if left == 0 {
-        return 1;
+    if left > 0 {
+        turns.tick(u64::from(left));
     }
-    turns.tick(u64::from(left));
-    2
+    1 + usize::from(left > 0)
 }
 
-// Returns how many digits a number of up to four digits has, by division.
-fn count_up_to_four<const R: u32>(number: u32, turns: &mut Turns) -> usize
-    requires radix { IsRadix R }
-    requires short { number < R ^ 4 }
-    ensures count { result ≡ digit_count R number }
-    ensures turns { turns.new ≡ turns.old ++ slow_notes R number }
+// Returns how many digits a number of one or two digits has: by a division unless the digits in the radix are counted at
+// once.
+fn count_short(number: u32, radix: u32, turns: &mut Turns) -> usize
+    requires radix { IsRadix radix }
+    requires short { number < radix ^ 2 }
+    ensures count { result ≡ digit_count radix number }
+    ensures notes { turns.new ≡ turns.old ++ count_notes radix number }
 {
-    let pair = first_pair::<R>(number, turns);
-    if pair == 0 {
-        return count_one_or_two(number, R, turns);
+    if counts_at_once(radix) {
+        1 + usize::from(number >= radix)
+    } else {
+        count_one_or_two(number, radix, turns)
     }
-    2 + count_one_or_two(pair, R, turns)
+}
+
+// Writes the one or two digits of a number, which are counted, to the start of the buffer: two characters, of which the
+// first is written over if it is a leading zero.
+fn write_one_or_two<const R: u32>(
+    number: u32,
+    digits: usize,
+    table: RadixTable<'_, R>,
+    buffer: &mut [u8],
+)
+    requires short { number < R * R }
+    requires digits { digits ≡ digit_count R number }
+    requires room { digits ≤ length buffer.old }
+    ensures { WritesDigits R number buffer.old buffer.new digits }
+{
+    // So rustc tests the end of the buffer once.
+    prove!(digits <= buffer.len());
+    let pair = 2 * number as usize;
+    buffer[0] = table.pairs[pair];
+    buffer[digits - 1] = table.pairs[pair + 1];
+}
+
+// Counts the one or two digits of a number, and writes them.
+pub(super) fn write_short<const R: u32>(
+    number: u32,
+    table: RadixTable<'_, R>,
+    buffer: &mut [u8],
+    turns: &mut Turns,
+) -> usize
+    requires short { number < R * R }
+    requires room { digit_count R number ≤ length buffer.old }
+    ensures digits { WritesDigits R number buffer.old buffer.new result }
+    ensures notes { turns.new ≡ turns.old ++ table_notes R number }
+{
+    let count = count_short(number, R, turns);
+    write_one_or_two(number, count, table, buffer);
+    count
 }
 
 // Counts the one to four digits of a number by division, and writes them.
@@ -171,10 +259,14 @@ fn count_and_write_up_to_four<const R: u32>(
     ensures turns { turns.new ≡ turns.old ++ slow_notes R number }
     ensures written { written.new ≡ written.old ++ loop_notes R number }
 {
-    let count = count_up_to_four::<R>(number, turns);
-    let third = count.saturating_sub(2);
-    write_up_to_four(number, count, third, table, buffer, written);
-    count
+    let pair = first_pair::<R>(number, written);
+    if pair == 0 {
+        return count_and_write_one_or_two(number, table, buffer, turns);
+    }
+    turns.tick(u64::from(pair));
+    let head = count_and_write_one_or_two(pair, table, buffer, turns);
+    table.write(number % (R * R), buffer, head);
+    head + 2
 }
 
 // Counts up to eight digits by division, and writes them.
@@ -216,33 +308,8 @@ fn count_and_write_one_or_two<const R: u32>(
     ensures turns { turns.new ≡ turns.old ++ slow_notes R number }
 {
     let count = count_one_or_two(number, R, turns);
-    if count == 1 {
-        buffer[0] = table.pairs[2 * number as usize + 1];
-        return 1;
-    }
-    table.write(number, buffer, 0);
-    2
-}
-
-// Counts up to eight digits by division, and writes them. One or two digits are apart, since their code is short enough
-// to be in each caller, and such numbers are frequent.
-pub(super) fn count_and_write_short<const R: u32>(
-    value: u64,
-    table: RadixTable<'_, R>,
-    buffer: &mut [u8],
-    turns: &mut Turns,
-    written: &mut Turns,
-) -> usize
-    requires short { value < R ^ 8 }
-    requires room { digit_count R value ≤ length buffer.old }
-    ensures digits { WritesDigits R value buffer.old buffer.new result }
-    ensures turns { turns.new ≡ turns.old ++ slow_notes R value }
-    ensures written { written.new ≡ written.old ++ loop_notes R value }
-{
-    if value < u64::from(R * R) {
-        return count_and_write_one_or_two(value as u32, table, buffer, turns);
-    }
-    count_and_write_up_to_eight(value, table, buffer, turns, written)
+    write_one_or_two(number, count, table, buffer);
+    count
 }
 
 // Returns the eighth power of the radix.

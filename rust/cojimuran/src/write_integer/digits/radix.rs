@@ -15,7 +15,23 @@ use crate::write_integer::digits::pairs::RadixTable;
 use algorithm::algorithm;
 use binary_words::write_binary;
 use by_radix::by_radix;
-use table_writer::{count_and_write_more, count_and_write_short, eighth_power, write_after_count};
+use table_writer::{
+    count_and_write_more, count_and_write_up_to_eight, eighth_power, write_after_count, write_short,
+};
+
+// Writes a number in the radix `R`, whose digits are counted without division, with a table that begins with the digit
+// pairs of that radix.
+#[inline(always)]
+fn write_at_once<const R: u32>(number: u64, table: &[u8], buffer: &mut [u8]) -> usize {
+    let table = RadixTable::<R> { pairs: table };
+    if number < u64::from(R * R) {
+        write_short(number as u32, table, buffer)
+    } else if R == 2 && number >= 256 {
+        write_binary(number, buffer)
+    } else {
+        write_after_count(number, table, buffer)
+    }
+}
 
 // Writes a number in the radix `R`, with a table that begins with the digit pairs of that radix: after the count of
 // the digits if that needs no division, and otherwise while they are counted.
@@ -26,15 +42,13 @@ fn write_digits<T: UnsignedInteger, const R: u32>(
     buffer: &mut [u8],
 ) -> usize {
     let number = value.as_usize() as u64;
-    if R == 2 && number >= 256 {
-        return write_binary(number, buffer);
+    if counts_at_once(R) {
+        return write_at_once::<R>(number, table, buffer);
     }
     let table = RadixTable::<R> { pairs: table };
-    if counts_at_once(R) {
-        write_after_count(number, table, buffer)
-    } else if number < eighth_power(R) {
+    if number < eighth_power(R) {
         // This is known of each number of 8 bits, so their code has nothing else.
-        count_and_write_short(number, table, buffer)
+        count_and_write_up_to_eight(number, table, buffer)
     } else {
         count_and_write_more(number, table, buffer)
     }
@@ -46,24 +60,29 @@ fn write_by_table<T: UnsignedInteger, const R: u32>(value: T, buffer: &mut [u8])
     write_digits::<T, R>(value, get_table(R), buffer)
 }
 
-// Writes the digits with the table of the radix. The radix is looked at only once, since the code of each radix names
-// its table.
-#[cfg_attr(feature = "inline-more", inline(always))]
-#[cfg_attr(not(feature = "inline-more"), inline)]
-fn write_in_radix<T: UnsignedInteger>(value: T, radix: u32, buffer: &mut [u8]) -> usize {
-    by_radix!(radix, write_by_table::<T>(value, buffer))
+// Writes a number as `write_by_table` does, but is called: its code is too long for each caller.
+#[inline]
+fn write_apart<T: UnsignedInteger, const R: u32>(value: T, buffer: &mut [u8]) -> usize {
+    write_by_table::<T, R>(value, buffer)
 }
 
-// Writes the digits as `write_in_radix` does. Radix 16 is apart, since its code is short enough to be in each caller.
-// It is cold, so its choice of a radix is not made one jump with the test for radix 10 before it.
+// Writes a number as `write_by_table` does: one or two digits, which are frequent, in each caller.
+#[inline]
+fn write_short_or_apart<T: UnsignedInteger, const R: u32>(value: T, buffer: &mut [u8]) -> usize {
+    let number = value.as_usize() as u64;
+    if number < u64::from(R * R) {
+        return write_short(number as u32, RadixTable::<R>::new(), buffer);
+    }
+    write_apart::<T, R>(value, buffer)
+}
+
+// Writes the digits with the table of the radix, by the code of the radix, which names its table. In a power of 2 it is
+// short enough to be in each caller. It is cold, so its choice of a radix is not made one jump with the test for radix 10
+// before it.
 #[cold]
 #[inline(always)]
 pub(crate) fn radix_counted<T: UnsignedInteger>(value: T, radix: u32, buffer: &mut [u8]) -> usize {
-    if radix == 16 {
-        write_by_table::<T, 16>(value, buffer)
-    } else {
-        write_in_radix(value, radix, buffer)
-    }
+    by_radix!(radix, write_by_table or write_short_or_apart::<T>(value, buffer))
 }
 
 /// An unsigned integer type whose digits are written in every radix by the table writer.

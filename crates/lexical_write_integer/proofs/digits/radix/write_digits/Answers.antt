@@ -3,34 +3,25 @@ use Rattle.lexical_write_integer.specs.Buffer.{WritesDigits}
 use Rattle.lexical_write_integer.specs.Digits.LoopTurns.{count_notes, loop_notes}
 use Rattle.lexical_write_integer.proofs.OfDigits.Radix.Loops.Records.{slow_noted, table_notes-are}
 use Rattle.lexical_write_integer.proofs.digits.radix.write_digits.Goals as goal
-use Rattle.lexical_write_integer.proofs.digits.radix.write_digits.Goals.{then-counts_at_once, else-counts_at_once+then-number-eighth_power}
-use Rattle.lexical_write_integer.proofs.digits.radix.write_digits.Goals.{else-counts_at_once+else-number-eighth_power}
+use Rattle.lexical_write_integer.proofs.digits.radix.write_digits.Goals.{then-number-eighth_power, else-number-eighth_power}
 
 pub returns : goal.returns
 returns g c =
     let r = g.row.R in
     let n = c.as_usize-number.result in
     let old = c.args.turns.now in
-    let after = c.if-counts_at_once in
+    let after = c.if-number-eighth_power in
     let turns = after.turns in
     let none = c.new-written.ensures in
+    let by_turns = sym c.if-counts_at_once.ensures in
     let all : WritesDigits r n c.args.buffer.now after.buffer after.count × (turns ≡ old ++ count_notes r n) × (after.written ≡ loop_notes r n) =
     elim after.branch [
-      | then-counts_at_once w ↦
-          let all = w.write_after_count-count.ensures in
-          (rw (w.buffer-is, w.count-is) all.digits, rw w.turns-is all.turns, rw w.written-is (rw none at all.written))
-      | else-counts_at_once+then-number-eighth_power w ↦
-          let all = w.count_and_write_short.ensures in (
-            rw (w.buffer-is, w.count-is) all.digits,
-            rw w.turns-is (slow_noted r n old _ (sym w.if-counts_at_once.ensures) all.turns),
-            rw w.written-is (rw none at all.written),
-          )
-      | else-counts_at_once+else-number-eighth_power w ↦
-          let all = w.count_and_write_more.ensures in (
-            rw (w.buffer-is, w.count-is) all.digits,
-            rw w.turns-is (slow_noted r n old _ (sym w.if-counts_at_once.ensures) all.turns),
-            rw w.written-is (rw none at all.written),
-          )
+      | then-number-eighth_power w ↦
+          let all = w.count_and_write_up_to_eight-count.ensures in
+          (rw (w.buffer-is, w.count-is) all.digits, rw w.turns-is (slow_noted r n old _ by_turns all.turns), rw w.written-is (rw none at all.written))
+      | else-number-eighth_power w ↦
+          let all = w.count_and_write_more-count.ensures in
+          (rw (w.buffer-is, w.count-is) all.digits, rw w.turns-is (slow_noted r n old _ by_turns all.turns), rw w.written-is (rw none at all.written))
     ] in
     rw (← c.as_usize-number.ensures, c.append.ensures)
     (record { digits = all.0; notes = table_notes-are r n old turns _ all.1 (ap (λ ys. turns ++ ys) all.2) })

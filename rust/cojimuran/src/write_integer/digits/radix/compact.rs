@@ -40,8 +40,7 @@ fn write_to_end<const RADIX: u32>(value: u64, buffer: &mut [u8]) -> usize {
 }
 
 // Writes the digits of a number to the start of the buffer. Returns how many there are.
-#[cfg_attr(feature = "inline-more", inline(always))]
-#[cfg_attr(not(feature = "inline-more"), inline)]
+#[inline]
 fn write_in_radix<const RADIX: u32>(value: u64, buffer: &mut [u8]) -> usize {
     // The last digit is computed first, so the digits go to a temporary array.
     let mut digits = [0u8; MAX_DIGITS];

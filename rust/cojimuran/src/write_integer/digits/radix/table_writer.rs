@@ -2,7 +2,7 @@
 
 // Writing the digits of a number, four at a time, from a table of the digit pairs of the radix.
 
-use crate::write_integer::digits::count::digit_count;
+use crate::write_integer::digits::count::{DigitCount, counts_at_once, fast_log2};
 use crate::write_integer::digits::pairs::RadixTable;
 
 // Returns the fourth power of the radix: the divisor that removes four digits.
@@ -59,15 +59,48 @@ pub(super) fn write_up_to_four<const R: u32>(
     buffer[digits - 1] = table.pairs[last + 1];
 }
 
-// Writes a number whose digits are counted without division: the count first, then four digits per iteration
-// while more than four are left, and then the others.
+// Returns how many digits a number of three or four digits has.
+#[inline(always)]
+fn count_three_or_four(number: u32, radix: u32) -> usize {
+    3 + usize::from(number >= radix * radix * radix)
+}
+
+// Writes the three or four digits of a number to the start of the buffer, and returns how many there are: the first pair
+// as two characters, of which the first is written over if it is a leading zero, and then the last pair.
+#[inline(always)]
+fn write_three_or_four<const R: u32>(
+    number: u32,
+    table: RadixTable<'_, R>,
+    buffer: &mut [u8],
+) -> usize {
+    let count = count_three_or_four(number, R);
+    // So rustc tests the end of the buffer once.
+    assert!(count <= buffer.len());
+    let first = 2 * first_pair::<R>(number) as usize;
+    let pair = 2 * (number % (R * R)) as usize;
+    buffer[0] = table.pairs[first];
+    buffer[count - 3] = table.pairs[first + 1];
+    // Both bytes are read first, so a compiler moves them as one number.
+    let (third, fourth) = (table.pairs[pair], table.pairs[pair + 1]);
+    buffer[count - 2] = third;
+    buffer[count - 1] = fourth;
+    count
+}
+
+// Writes a number of three digits or more: first it counts them, and then it writes four per iteration while more than
+// four are left. In a power of 2 the first four digits of the number are then written, and otherwise those that are left.
 #[inline(always)]
 pub(super) fn write_after_count<const R: u32>(
     value: u64,
     table: RadixTable<'_, R>,
     buffer: &mut [u8],
 ) -> usize {
-    let count = digit_count(value, R);
+    if value < fourth_power(R) {
+        return write_three_or_four(value as u32, table, buffer);
+    }
+    let count = value.digit_count(R);
+    // So rustc tests the end of the buffer once.
+    assert!(count <= buffer.len());
     let mut left = value;
     let mut at = count;
     while at > 4 {
@@ -75,9 +108,15 @@ pub(super) fn write_after_count<const R: u32>(
         write_four(last_four::<R>(left), table, buffer, at);
         left = remove_four::<R>(left);
     }
-    // This is 2 less, or 0 if that is less, in fewer instructions.
-    let third = at * at / 8;
-    write_up_to_four(left as u32, at, third, table, buffer);
+    let bits = fast_log2(R);
+    if R == 1 << bits {
+        let first = last_four::<R>(value >> (bits * (count - 4)));
+        write_four(first, table, buffer, 0);
+    } else {
+        // This is 2 less, or 0 if that is less, in fewer instructions.
+        let third = at * at / 8;
+        write_up_to_four(left as u32, at, third, table, buffer);
+    }
     count
 }
 
@@ -85,38 +124,66 @@ pub(super) fn write_after_count<const R: u32>(
 #[inline(always)]
 fn count_one_or_two(number: u32, radix: u32) -> usize {
     let left = number / radix;
-    if left == 0 {
-        return 1;
-    }
-    2
+    1 + usize::from(left > 0)
 }
 
-// Returns how many digits a number of up to four digits has, by division.
-#[inline]
-fn count_up_to_four<const R: u32>(number: u32) -> usize {
-    let pair = first_pair::<R>(number);
-    if pair == 0 {
-        return count_one_or_two(number, R);
+// Returns how many digits a number of one or two digits has: by a division unless the digits in the radix are counted at
+// once.
+#[inline(always)]
+fn count_short(number: u32, radix: u32) -> usize {
+    if counts_at_once(radix) {
+        1 + usize::from(number >= radix)
+    } else {
+        count_one_or_two(number, radix)
     }
-    2 + count_one_or_two(pair, R)
+}
+
+// Writes the one or two digits of a number, which are counted, to the start of the buffer: two characters, of which the
+// first is written over if it is a leading zero.
+#[inline(always)]
+fn write_one_or_two<const R: u32>(
+    number: u32,
+    digits: usize,
+    table: RadixTable<'_, R>,
+    buffer: &mut [u8],
+) {
+    // So rustc tests the end of the buffer once.
+    assert!(digits <= buffer.len());
+    let pair = 2 * number as usize;
+    buffer[0] = table.pairs[pair];
+    buffer[digits - 1] = table.pairs[pair + 1];
+}
+
+// Counts the one or two digits of a number, and writes them.
+#[inline(always)]
+pub(super) fn write_short<const R: u32>(
+    number: u32,
+    table: RadixTable<'_, R>,
+    buffer: &mut [u8],
+) -> usize {
+    let count = count_short(number, R);
+    write_one_or_two(number, count, table, buffer);
+    count
 }
 
 // Counts the one to four digits of a number by division, and writes them.
-#[inline]
+#[inline(always)]
 fn count_and_write_up_to_four<const R: u32>(
     number: u32,
     table: RadixTable<'_, R>,
     buffer: &mut [u8],
 ) -> usize {
-    let count = count_up_to_four::<R>(number);
-    let third = count.saturating_sub(2);
-    write_up_to_four(number, count, third, table, buffer);
-    count
+    let pair = first_pair::<R>(number);
+    if pair == 0 {
+        return count_and_write_one_or_two(number, table, buffer);
+    }
+    let head = count_and_write_one_or_two(pair, table, buffer);
+    table.write(number % (R * R), buffer, head);
+    head + 2
 }
 
 // Counts up to eight digits by division, and writes them.
-#[cfg_attr(feature = "inline-more", inline(always))]
-#[cfg_attr(not(feature = "inline-more"), inline)]
+#[inline(always)]
 pub(super) fn count_and_write_up_to_eight<const R: u32>(
     value: u64,
     table: RadixTable<'_, R>,
@@ -141,26 +208,8 @@ fn count_and_write_one_or_two<const R: u32>(
     buffer: &mut [u8],
 ) -> usize {
     let count = count_one_or_two(number, R);
-    if count == 1 {
-        buffer[0] = table.pairs[2 * number as usize + 1];
-        return 1;
-    }
-    table.write(number, buffer, 0);
-    2
-}
-
-// Counts up to eight digits by division, and writes them. One or two digits are apart, since their code is short enough
-// to be in each caller, and such numbers are frequent.
-#[inline(always)]
-pub(super) fn count_and_write_short<const R: u32>(
-    value: u64,
-    table: RadixTable<'_, R>,
-    buffer: &mut [u8],
-) -> usize {
-    if value < u64::from(R * R) {
-        return count_and_write_one_or_two(value as u32, table, buffer);
-    }
-    count_and_write_up_to_eight(value, table, buffer)
+    write_one_or_two(number, count, table, buffer);
+    count
 }
 
 // Returns the eighth power of the radix.

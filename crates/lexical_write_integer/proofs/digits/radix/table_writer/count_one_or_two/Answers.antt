@@ -1,25 +1,27 @@
-use Rattle.std.proofs.Common.{◌≡◌, ◌/◌, ◌<◌, sym, arith}
+use Rattle.std.proofs.Common.{◌/◌, ltb, arith}
+use Rattle.std.proofs.lemmas.Bool.{ltb-true, ltb-false}
 use Rattle.std.proofs.lemmas.List.{append-nil}
-use Rattle.lexical_write_integer.proofs.OfDigits.Count.DigitCounts.{digit_count-one, digit_count-two}
+use Rattle.lexical_write_integer.proofs.OfDigits.Count.DigitCounts.{digit_count-tested}
+use Rattle.lexical_write_integer.proofs.OfDigits.Powers.{pow-one}
 use Rattle.lexical_write_integer.proofs.OfDigits.Radix.Loops.Records.{slow_notes-one, slow_notes-two}
 use Rattle.lexical_write_integer.proofs.OfDigits.Radix.Loops.ShortNumbers.{quotient-some, quotient-none}
 use Rattle.lexical_write_integer.proofs.digits.radix.table_writer.count_one_or_two.Goals as goal
-use Rattle.lexical_write_integer.proofs.digits.radix.table_writer.count_one_or_two.Goals.{Start}
+use Rattle.lexical_write_integer.proofs.digits.radix.table_writer.count_one_or_two.Goals.{then-left-gt0, else-left-gt0}
 
--- the quotient is recorded if it is not 0
-single : (c : Start) → c.args.number / c.args.radix ≡ 0 → c.args.number < c.args.radix
-single c none = quotient-none c.args.radix c.args.number (omega (arith, c.requires.radix.at_least_two)) (omega (arith, none))
-
-pub returns-then-left-eq0-clause-count : goal.returns-then-left-eq0-clause-count
-returns-then-left-eq0-clause-count c =
-    sym (digit_count-one c.args.radix c.args.number c.requires.radix.at_least_two
-    (single (goal.at.returns-then-left-eq0-clause-count c).Start c.if-left-eq0.true))
-
-pub returns-then-left-eq0-clause-turns : goal.returns-then-left-eq0-clause-turns
-returns-then-left-eq0-clause-turns c = grind (arith, slow_notes-one, append-nil)
-
+-- the quotient is 0 if there is one digit
 pub returns-clause-count : goal.returns-clause-count
-returns-clause-count c = grind (arith, digit_count-two)
+returns-clause-count c =
+    let r = c.args.radix in
+    let n = c.args.number in
+    let two = c.requires.radix.at_least_two in
+    rw c.from-2.ensures
+    (digit_count-tested (ltb 0 (n / r)) r n 1 two (omega arith) (λ more. absurd (omega arith)) c.requires.short
+    (λ e. rw pow-one (quotient-some r n (ltb-true 0 (n / r) e))) (λ e. rw pow-one (quotient-none r n (omega arith) (ltb-false 0 (n / r) e))))
 
+-- and then it is not recorded
 pub returns-clause-turns : goal.returns-clause-turns
-returns-clause-turns c = grind (arith, quotient-some, slow_notes-two)
+returns-clause-turns c =
+    elim c.if-left-gt0.branch [
+      | then-left-gt0 w ↦ rw w.turns-is (grind (arith, quotient-some, slow_notes-two))
+      | else-left-gt0 w ↦ rw w.turns-is (grind (arith, quotient-none, slow_notes-one, append-nil))
+    ]
