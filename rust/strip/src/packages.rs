@@ -137,10 +137,12 @@ pub(crate) const SOURCES: &[Source] = &[
             // `write_apart` calls. If the format is constant in a caller, so is the choice. The others would make the
             // code of a caller long if its radix is known only at run time.
             (
+                "#[inline(always)]\n#[track_caller]",
+                "buffer.rt texts/api.rt texts/integers.rt digits/write.rt digits/decimal.rt digits/decimal/jeaiii.rt",
+            ),
+            (
                 "#[inline(always)]",
-                "buffer.rt texts/api.rt texts/integers.rt digits/write.rt digits/decimal.rt digits/pairs.rt
-                digits/decimal/jeaiii.rt digits/decimal/kernels.rt digits/decimal/decimal_pairs.rt
-                write_digits write_at_once write_by_table radix_counted radix digit_count fast_log2 write_after_count
+                "digits/pairs.rt digits/decimal/kernels.rt digits/decimal/decimal_pairs.rt write_digits write_at_once write_by_table radix_counted radix digit_count fast_log2 write_after_count
                 last_four write_four write_up_to_four write_three_or_four write_one_or_two write_short first_pair
                 remove_four fourth_power count_short count_one_or_two count_three_or_four
                 count_and_write_one_or_two count_and_write_up_to_four count_and_write_up_to_eight",

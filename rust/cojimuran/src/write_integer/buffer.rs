@@ -9,6 +9,7 @@
 ///
 /// If the buffer is [too short](crate#conditions).
 #[inline(always)]
+#[track_caller]
 pub fn copy_to_front(text: &[u8], buffer: &mut [u8]) -> usize {
     let count = text.len();
     buffer[..count].copy_from_slice(text);
@@ -22,6 +23,7 @@ pub fn copy_to_front(text: &[u8], buffer: &mut [u8]) -> usize {
 ///
 /// If the buffer is [too short](crate#conditions).
 #[inline(always)]
+#[track_caller]
 pub fn front_mut(buffer: &mut [u8], count: usize) -> &mut [u8] {
     &mut buffer[..count]
 }

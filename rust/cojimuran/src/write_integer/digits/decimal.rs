@@ -23,6 +23,7 @@ pub trait Decimal: DecimalCount {
     ///
     /// If the buffer is [too short](crate#conditions).
     #[inline(always)]
+    #[track_caller]
     fn decimal(self, buffer: &mut [u8]) -> usize {
         write_decimal(self, Self::DECIMAL_WIDTH, buffer)
     }
@@ -36,6 +37,7 @@ pub trait Decimal: DecimalCount {
     /// If the number is 10^19 or above,
     /// or if the buffer is [too short](crate#conditions).
     #[inline(always)]
+    #[track_caller]
     fn decimal_signed(self, buffer: &mut [u8]) -> usize {
         let number = self.as_usize() as u64;
         assert!(number < 10_000_000_000_000_000_000);

@@ -13,6 +13,7 @@ use crate::num::num::UnsignedInteger;
 // Writes the digits of a number to the start of the buffer, and returns how many there are. In radix 10 they are at
 // most `width`, and the buffer has room for so many.
 #[inline(always)]
+#[track_caller]
 fn write_numeral<T: UnsignedInteger>(
     value: T,
     radix: u32,
@@ -29,6 +30,7 @@ fn write_numeral<T: UnsignedInteger>(
 /// Writes the digits of the number to the start of the buffer, and returns how many there are. The radix is
 /// from 2 to 36. The buffer has room for `DECIMAL_WIDTH` bytes in radix 10, and for the digits in another radix.
 #[inline(always)]
+#[track_caller]
 pub(crate) fn write_integer<T: Decimal + DigitCount>(
     value: T,
     radix: u32,
@@ -51,6 +53,7 @@ pub trait WriteInteger: Decimal + Radix {
     /// If the radix is not from 2 to 36,
     /// or if the buffer is [too short](crate#conditions).
     #[inline(always)]
+    #[track_caller]
     fn write_integer(self, radix: u32, buffer: &mut [u8]) -> usize {
         write_integer(self, radix, buffer)
     }
@@ -63,6 +66,7 @@ pub trait WriteInteger: Decimal + Radix {
     /// or if the radix is 10 and the number is 10^19 or above,
     /// or if the buffer is [too short](crate#conditions).
     #[inline(always)]
+    #[track_caller]
     fn write_integer_signed(self, radix: u32, buffer: &mut [u8]) -> usize {
         let number = self.as_usize() as u64;
         assert!(radix != 10 || number < 10_000_000_000_000_000_000);
@@ -75,6 +79,7 @@ pub trait WriteInteger: Decimal + Radix {
     ///
     /// If the buffer is [too short](crate#conditions).
     #[inline(always)]
+    #[track_caller]
     fn write_mantissa(self, format: &NumberFormat, buffer: &mut [u8]) -> usize {
         self.write_integer(format.mantissa_radix(), buffer)
     }
@@ -86,6 +91,7 @@ pub trait WriteInteger: Decimal + Radix {
     /// If the radix is 10 and the number is 10^19 or above,
     /// or if the buffer is [too short](crate#conditions).
     #[inline(always)]
+    #[track_caller]
     fn write_mantissa_signed(self, format: &NumberFormat, buffer: &mut [u8]) -> usize {
         self.write_integer_signed(format.mantissa_radix(), buffer)
     }
@@ -96,6 +102,7 @@ pub trait WriteInteger: Decimal + Radix {
     ///
     /// If the buffer is [too short](crate#conditions).
     #[inline(always)]
+    #[track_caller]
     fn write_exponent(self, format: &NumberFormat, buffer: &mut [u8]) -> usize {
         self.write_integer(format.exponent_radix(), buffer)
     }
@@ -107,6 +114,7 @@ pub trait WriteInteger: Decimal + Radix {
     /// If the radix is 10 and the number is 10^19 or above,
     /// or if the buffer is [too short](crate#conditions).
     #[inline(always)]
+    #[track_caller]
     fn write_exponent_signed(self, format: &NumberFormat, buffer: &mut [u8]) -> usize {
         self.write_integer_signed(format.exponent_radix(), buffer)
     }

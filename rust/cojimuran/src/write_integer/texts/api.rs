@@ -26,6 +26,7 @@ pub trait ToLexical: LexicalInteger + FormattedSize {
     ///
     /// If the buffer is [too short](crate#conditions).
     #[inline(always)]
+    #[track_caller]
     fn write_lexical(self, buffer: &mut [u8]) -> usize {
         self.write_text(buffer, &STANDARD)
     }
@@ -55,6 +56,7 @@ pub trait ToLexical: LexicalInteger + FormattedSize {
     ///
     /// If the buffer is [too short](crate#conditions).
     #[inline(always)]
+    #[track_caller]
     fn write_text(self, buffer: &mut [u8], format: &NumberFormat) -> usize {
         let sign = write_sign_before_digits(self, buffer, format);
         let digits = &mut buffer[sign..];
@@ -70,6 +72,7 @@ pub trait ToLexical: LexicalInteger + FormattedSize {
     ///
     /// If the buffer is [too short](crate#conditions).
     #[inline(always)]
+    #[track_caller]
     fn to_lexical(self, buffer: &mut [u8]) -> &mut [u8] {
         let count = self.write_lexical(buffer);
         front_mut(buffer, count)
@@ -103,6 +106,7 @@ pub trait ToLexicalWithOptions: ToLexical {
     ///
     /// If the buffer is [too short](crate#conditions).
     #[inline(always)]
+    #[track_caller]
     fn write_lexical_with_options(
         self,
         buffer: &mut [u8],
@@ -117,6 +121,7 @@ pub trait ToLexicalWithOptions: ToLexical {
     /// [`write_lexical_with_options`](crate::ToLexicalWithOptions::write_lexical_with_options) accepts. It is at most [`BUFFER_SIZE`](crate::BUFFER_SIZE).
     #[must_use]
     #[inline(always)]
+    #[track_caller]
     fn required_len(self, format: &NumberFormat) -> usize {
         let radix = format.mantissa_radix();
         let digits = if radix == 10 {
@@ -135,6 +140,7 @@ pub trait ToLexicalWithOptions: ToLexical {
     ///
     /// If the buffer is [too short](crate#conditions).
     #[inline(always)]
+    #[track_caller]
     fn to_lexical_with_options<'a>(
         self,
         buffer: &'a mut [u8],
@@ -148,6 +154,7 @@ pub trait ToLexicalWithOptions: ToLexical {
 
 // Returns the character of the sign: `-` for a negative number, and `+` for another one if it is required.
 #[inline(always)]
+#[track_caller]
 fn sign_character(is_negative: bool, is_required: bool) -> u8 {
     match (is_required, is_negative) {
         (true, false) => b'+',
@@ -158,6 +165,7 @@ fn sign_character(is_negative: bool, is_required: bool) -> u8 {
 // Writes the sign as `write_sign` does. If there is no sign, the first byte may change: the first digit is then written
 // to it.
 #[inline(always)]
+#[track_caller]
 fn write_sign_before_digits<T: LexicalInteger>(
     number: T,
     buffer: &mut [u8],
@@ -181,6 +189,7 @@ fn write_sign_before_digits<T: LexicalInteger>(
 /// ```
 #[must_use]
 #[inline(always)]
+#[track_caller]
 pub fn sign_len<T: LexicalInteger>(number: T, format: &NumberFormat) -> usize {
     usize::from(number.is_negative() || format.required_mantissa_sign())
 }
@@ -199,6 +208,7 @@ pub fn sign_len<T: LexicalInteger>(number: T, format: &NumberFormat) -> usize {
 /// assert_eq!((write_sign(-5, &mut buffer, &STANDARD), buffer), (1, *b"-"));
 /// ```
 #[inline(always)]
+#[track_caller]
 pub fn write_sign<T: LexicalInteger>(number: T, buffer: &mut [u8], format: &NumberFormat) -> usize {
     let is_negative = number.is_negative();
     let is_required = format.required_mantissa_sign();

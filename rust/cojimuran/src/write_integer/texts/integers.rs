@@ -12,11 +12,13 @@ use crate::write_integer::digits::write::WriteInteger;
 
 impl<T: Decimal + FormattedSize> ToLexical for T {
     #[inline(always)]
+    #[track_caller]
     fn write_magnitude(self, format: &NumberFormat, buffer: &mut [u8]) -> usize {
         self.write_mantissa(format, buffer)
     }
 
     #[inline(always)]
+    #[track_caller]
     fn magnitude_digits(self, radix: u32) -> usize {
         self.digit_count(radix)
     }
@@ -24,12 +26,14 @@ impl<T: Decimal + FormattedSize> ToLexical for T {
 
 impl ToLexical for i8 {
     #[inline(always)]
+    #[track_caller]
     fn write_magnitude(self, format: &NumberFormat, buffer: &mut [u8]) -> usize {
         // The magnitude of the smallest value, 128, is no `i8`.
         self.unsigned_abs().write_mantissa_signed(format, buffer)
     }
 
     #[inline(always)]
+    #[track_caller]
     fn magnitude_digits(self, radix: u32) -> usize {
         self.unsigned_abs().digit_count(radix)
     }
@@ -37,12 +41,14 @@ impl ToLexical for i8 {
 
 impl ToLexical for i16 {
     #[inline(always)]
+    #[track_caller]
     fn write_magnitude(self, format: &NumberFormat, buffer: &mut [u8]) -> usize {
         // The magnitude 32,768 is no `i16`.
         self.unsigned_abs().write_mantissa_signed(format, buffer)
     }
 
     #[inline(always)]
+    #[track_caller]
     fn magnitude_digits(self, radix: u32) -> usize {
         self.unsigned_abs().digit_count(radix)
     }
@@ -50,11 +56,13 @@ impl ToLexical for i16 {
 
 impl ToLexical for i32 {
     #[inline(always)]
+    #[track_caller]
     fn write_magnitude(self, format: &NumberFormat, buffer: &mut [u8]) -> usize {
         self.unsigned_abs().write_mantissa_signed(format, buffer)
     }
 
     #[inline(always)]
+    #[track_caller]
     fn magnitude_digits(self, radix: u32) -> usize {
         self.unsigned_abs().digit_count(radix)
     }
@@ -62,11 +70,13 @@ impl ToLexical for i32 {
 
 impl ToLexical for i64 {
     #[inline(always)]
+    #[track_caller]
     fn write_magnitude(self, format: &NumberFormat, buffer: &mut [u8]) -> usize {
         self.unsigned_abs().write_mantissa_signed(format, buffer)
     }
 
     #[inline(always)]
+    #[track_caller]
     fn magnitude_digits(self, radix: u32) -> usize {
         self.unsigned_abs().digit_count(radix)
     }
@@ -74,11 +84,13 @@ impl ToLexical for i64 {
 
 impl ToLexical for isize {
     #[inline(always)]
+    #[track_caller]
     fn write_magnitude(self, format: &NumberFormat, buffer: &mut [u8]) -> usize {
         self.unsigned_abs().write_mantissa_signed(format, buffer)
     }
 
     #[inline(always)]
+    #[track_caller]
     fn magnitude_digits(self, radix: u32) -> usize {
         self.unsigned_abs().digit_count(radix)
     }

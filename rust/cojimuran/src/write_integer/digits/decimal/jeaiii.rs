@@ -14,6 +14,7 @@ use crate::num::num::UnsignedInteger;
 
 // Writes the digits of a number of up to 32 bits.
 #[inline(always)]
+#[track_caller]
 fn write_32(n: u32, buffer: &mut [u8]) -> usize {
     if n < 100 {
         write_one_or_two(n, buffer)
@@ -36,6 +37,7 @@ fn write_32(n: u32, buffer: &mut [u8]) -> usize {
 
 // Writes the digits of a number of more than ten digits: the last ten by division, after the digits before them.
 #[inline(always)]
+#[track_caller]
 fn write_more_than_ten(n: u64, buffer: &mut [u8]) -> usize {
     let front = write_32((n / 10_000_000_000) as u32, buffer);
     write_last_ten(n, buffer, front);
@@ -44,6 +46,7 @@ fn write_more_than_ten(n: u64, buffer: &mut [u8]) -> usize {
 
 // Writes the digits of a number of up to 64 bits.
 #[inline(always)]
+#[track_caller]
 fn write_64(n: u64, buffer: &mut [u8]) -> usize {
     // Short numbers are tested first, as in `write_32`: that mispredicts the fewest branches.
     if n < 10_000 {
@@ -64,6 +67,7 @@ fn write_64(n: u64, buffer: &mut [u8]) -> usize {
 // Writes the digits of a number of any type, of which there are at most `width`, to the first `width` bytes of the
 // buffer.
 #[inline(always)]
+#[track_caller]
 pub(crate) fn write_decimal<T: UnsignedInteger>(
     value: T,
     width: usize,
@@ -85,6 +89,7 @@ pub(crate) fn write_decimal<T: UnsignedInteger>(
 ///
 /// If the buffer is [too short](crate#conditions).
 #[inline(always)]
+#[track_caller]
 pub fn from_u8(n: u8, buffer: &mut [u8]) -> usize {
     write_32(u32::from(n), buffer)
 }
@@ -96,6 +101,7 @@ pub fn from_u8(n: u8, buffer: &mut [u8]) -> usize {
 ///
 /// If the buffer is [too short](crate#conditions).
 #[inline(always)]
+#[track_caller]
 pub fn from_u16(n: u16, buffer: &mut [u8]) -> usize {
     write_32(u32::from(n), buffer)
 }
@@ -107,6 +113,7 @@ pub fn from_u16(n: u16, buffer: &mut [u8]) -> usize {
 ///
 /// If the buffer is [too short](crate#conditions).
 #[inline(always)]
+#[track_caller]
 pub fn from_u32(n: u32, buffer: &mut [u8]) -> usize {
     write_32(n, buffer)
 }
@@ -118,6 +125,7 @@ pub fn from_u32(n: u32, buffer: &mut [u8]) -> usize {
 ///
 /// If the buffer is [too short](crate#conditions).
 #[inline(always)]
+#[track_caller]
 pub fn from_u64(n: u64, buffer: &mut [u8]) -> usize {
     write_64(n, buffer)
 }
@@ -130,6 +138,7 @@ pub fn from_u64(n: u64, buffer: &mut [u8]) -> usize {
 /// If the number is 10^19 or above,
 /// or if the buffer is [too short](crate#conditions).
 #[inline(always)]
+#[track_caller]
 pub fn from_i64(n: u64, buffer: &mut [u8]) -> usize {
     assert!(n < 10_000_000_000_000_000_000);
     write_64(n, buffer)

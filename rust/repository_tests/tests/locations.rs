@@ -1,0 +1,25 @@
+//! A panic of a buffer that is too short names the line of the caller.
+
+use cojimuran::{NumberFormatBuilder, Options, ToLexical, ToLexicalWithOptions};
+use std::panic::{AssertUnwindSafe, catch_unwind};
+use std::sync::Mutex;
+
+static FILE: Mutex<String> = Mutex::new(String::new());
+
+#[test]
+fn callers_of_short_buffers() {
+    std::panic::set_hook(Box::new(|panic| {
+        *FILE.lock().unwrap() = panic.location().map_or(String::new(), |location| location.file().to_owned());
+    }));
+    let format = NumberFormatBuilder::new().digit_grouping(3, b',').build_strict();
+    let calls: [&dyn Fn(&mut [u8]) -> usize; 3] =
+        [&|buffer| 1234u64.to_lexical(buffer).len(), &|buffer| (-1234i32).to_lexical(buffer).len(), &|buffer| {
+            1234u16.to_lexical_with_options(buffer, &format, &Options::new()).len()
+        }];
+    for call in calls {
+        FILE.lock().unwrap().clear();
+        assert!(catch_unwind(AssertUnwindSafe(|| call(&mut [0; 3]))).is_err());
+        let file = FILE.lock().unwrap().clone();
+        assert!(file.ends_with("locations.rs"), "{file}");
+    }
+}
