@@ -97,6 +97,8 @@ fn write_by_table<T: UnsignedInteger, const R: u32>(
 }
 
 // Writes a number as `write_by_table` does, but is called: its code is too long for each caller.
+// It is cold, and so not inlined: otherwise each call for a shorter number would save registers that only this needs.
+#[cold]
 fn write_apart<T: UnsignedInteger, const R: u32>(
     value: T,
     buffer: &mut [u8],
