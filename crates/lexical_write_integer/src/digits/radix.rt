@@ -41,10 +41,10 @@ fn write_at_once<const R: u32>(
     ensures notes { turns.new ≡ turns.old ++ table_notes R number }
 {
     let table = RadixTable::<R> { pairs: table };
-    if number < u64::from(R * R) {
-        write_short(number as u32, table, buffer, turns)
-    } else if R == 2 && number >= 256 {
+    if R == 2 && number >= 256 {
         write_binary(number, buffer, turns)
+    } else if number < u64::from(R * R) {
+        write_short(number as u32, table, buffer, turns)
     } else {
         write_after_count(number, table, buffer, turns)
     }
@@ -97,6 +97,8 @@ fn write_by_table<T: UnsignedInteger, const R: u32>(
 }
 
 // Writes a number as `write_by_table` does, but is called: its code is too long for each caller.
+// It is cold, and so not inlined: otherwise each call for a shorter number would save registers that only this needs.
+#[cold]
 fn write_apart<T: UnsignedInteger, const R: u32>(
     value: T,
     buffer: &mut [u8],

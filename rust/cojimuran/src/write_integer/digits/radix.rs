@@ -24,10 +24,10 @@ use table_writer::{
 #[inline(always)]
 fn write_at_once<const R: u32>(number: u64, table: &[u8], buffer: &mut [u8]) -> usize {
     let table = RadixTable::<R> { pairs: table };
-    if number < u64::from(R * R) {
-        write_short(number as u32, table, buffer)
-    } else if R == 2 && number >= 256 {
+    if R == 2 && number >= 256 {
         write_binary(number, buffer)
+    } else if number < u64::from(R * R) {
+        write_short(number as u32, table, buffer)
     } else {
         write_after_count(number, table, buffer)
     }

@@ -5,7 +5,7 @@ pub returns-then-number-from-clause-digits : goal.returns-then-number-from-claus
 returns-then-number-from-clause-digits g c = c.write_short.ensures.digits
 
 -- the count records nothing
-pub returns-else-this-eq2-clause-notes : goal.returns-else-this-eq2-clause-notes
-returns-else-this-eq2-clause-notes g c =
+pub returns-else-number-from-clause-notes : goal.returns-else-number-from-clause-notes
+returns-else-number-from-clause-notes g c =
     let old = c.args.turns.now in
     table_notes-are g.row.R c.args.number old old _ (none_noted g.row.R c.args.number old c.requires.at_once) c.write_after_count.ensures.written
