@@ -112,8 +112,8 @@ fn count_three_or_four(number: u32, radix: u32) -> usize
     3 + usize::from(number >= radix * radix * radix)
 }
 
-// Writes the three or four digits of a number to the start of the buffer, and returns how many there are: the first pair
-// as two characters, of which the first is written over if it is a leading zero, and then the last pair.
+// Writes the three or four digits of a number to the start of the buffer, and returns how many there are: the first
+// pair as two characters, of which the first is written over if it is a leading zero, and then the last pair.
 fn write_three_or_four<const R: u32>(
     number: u32,
     table: RadixTable<'_, R>,
@@ -141,7 +141,8 @@ fn write_three_or_four<const R: u32>(
 }
 
 // Writes a number of three digits or more: first it counts them, and then it writes four per iteration while more than
-// four are left. In a power of 2 the first four digits of the number are then written, and otherwise those that are left.
+// four are left. In a power of 2 the first four digits of the number are then written, and otherwise those that are
+// left.
 pub(super) fn write_after_count<const R: u32>(
     value: u64,
     table: RadixTable<'_, R>,
@@ -193,8 +194,8 @@ fn count_one_or_two(number: u32, radix: u32, turns: &mut Turns) -> usize
     1 + usize::from(left > 0)
 }
 
-// Returns how many digits a number of one or two digits has: by a division unless the digits in the radix are counted at
-// once.
+// Returns how many digits a number of one or two digits has: by a division unless the digits in the radix are counted
+// at once.
 fn count_short(number: u32, radix: u32, turns: &mut Turns) -> usize
     requires radix { IsRadix radix }
     requires short { number < radix ^ 2 }

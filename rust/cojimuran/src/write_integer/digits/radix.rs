@@ -77,8 +77,8 @@ fn write_short_or_apart<T: UnsignedInteger, const R: u32>(value: T, buffer: &mut
 }
 
 // Writes the digits with the table of the radix, by the code of the radix, which names its table. In a power of 2 it is
-// short enough to be in each caller. It is cold, so its choice of a radix is not made one jump with the test for radix 10
-// before it.
+// short enough to be in each caller. It is cold, so its choice of a radix is not made one jump with the test for radix
+// 10 before it.
 #[cold]
 #[inline(always)]
 pub(crate) fn radix_counted<T: UnsignedInteger>(value: T, radix: u32, buffer: &mut [u8]) -> usize {
