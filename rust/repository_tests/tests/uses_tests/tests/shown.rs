@@ -3,7 +3,7 @@
 // Parts in format strings, and texts in a `Vec` and a `String`.
 
 use super::check;
-use cojimuran::parts::{Binary, Decimal, Formatted, Hex, Plus};
+use cojimuran::parts::{Binary, Decimal, Fixed, Formatted, GroupedFixed, Hex, Plus};
 use cojimuran::write_integer::NumberFormatBuilder;
 use repository_tests::runtime::Abort;
 use repository_tests::runtime::Fail;
@@ -57,6 +57,27 @@ fn numbers_in_format_strings() {
         rt.alloc(),
         format_args!("{:12}|{:.3}", number, Decimal(98765u64)),
         "  -1,234,567|98765",
+    );
+}
+
+#[test]
+fn decimals_in_format_strings() {
+    let rt = repository_tests::runtime::HostRuntime;
+    let thousands = NumberFormatBuilder::new()
+        .digit_grouping(3, b',')
+        .build_strict();
+    check_shown(
+        &rt,
+        rt.alloc(),
+        format_args!(
+            "{}|{:8}|{:08}|{:+}|{:*<10}|",
+            Fixed(-5i8, 2),
+            Fixed(1234u32, 3),
+            Fixed(-1234, 2),
+            Fixed(7u64, 0),
+            GroupedFixed(-123456, 2, &thousands)
+        ),
+        "-0.05|   1.234|-0012.34|+7|-1,234.56*|",
     );
 }
 
