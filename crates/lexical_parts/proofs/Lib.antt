@@ -34,3 +34,5 @@ pub mod Splits
 pub mod EqualWidths
 -- texts at an index of a buffer
 pub mod TextsAtIndex
+-- numbers of units as the prover computes their texts
+pub mod FixedTexts

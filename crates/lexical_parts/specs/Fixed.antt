@@ -1,8 +1,9 @@
 -- Numbers of units of a power of ten, with a decimal point.
 use Rattle.std.specs.Prelude.{ℕ, zero, suc, ◌+◌, ◌-◌, ◌/◌, ◌%◌, ◌^◌, ◌<◌, ◌≤◌, max, min, ℤ, pos, unsigned_abs}
-use Rattle.std.specs.Prelude.{List, [], length, take, drop, Bool, false, Option, if◌then◌else◌}
+use Rattle.std.specs.Prelude.{List, [], ◌++◌, codes, length, take, drop, Bool, false, Option, if◌then◌else◌}
 use Rattle.lexical_num.specs.Format.{grouped_length, standard}
 use Rattle.lexical_num.specs.Sign.{sign_of}
+use Rattle.lexical_write_integer.specs.Computed.{padded_text, text_of}
 use Rattle.lexical_write_integer.specs.Padded.{IsPadded}
 use Rattle.lexical_write_integer.specs.Sequence.{IsExactly}
 use Rattle.lexical_write_integer.specs.Text.{IsDigits, IsText}
@@ -37,6 +38,19 @@ IsGroupedUnits grouping decimals units =
 abbrev pub IsGroupedFixed : Option (ℕ × ℕ) → ℕ → ℤ → List ℕ → Type 0
 IsGroupedFixed grouping decimals number =
     IsExactly (sign_of number false) then IsGroupedUnits grouping decimals (unsigned_abs number)
+
+-- the same texts as the prover computes them: the fraction, all but the sign, and all
+abbrev pub fraction_text : ℕ → ℕ → List ℕ
+fraction_text zero units = []
+fraction_text (suc decimals) units = codes "." ++ padded_text 10 (suc decimals) units
+
+abbrev pub units_text : Option (ℕ × ℕ) → ℕ → ℕ → List ℕ
+units_text grouping decimals units =
+    text_of (pos (units / 10 ^ decimals)) (record standard { digit_grouping = grouping })
+    ++ fraction_text decimals (units % 10 ^ decimals)
+
+abbrev pub fixed_text : Option (ℕ × ℕ) → ℕ → ℤ → List ℕ
+fixed_text grouping decimals number = sign_of number false ++ units_text grouping decimals (unsigned_abs number)
 
 -- the bytes for the digits, the separators and the point
 abbrev pub grouped_units_room : Option (ℕ × ℕ) → ℕ → ℕ → ℕ

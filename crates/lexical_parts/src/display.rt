@@ -1,12 +1,16 @@
-//! Parts in a format string: `{}` of a part writes its text, with the sign, the width and the fill of the format.
+//! Parts in a format string: `{}` of a part writes its text, with the sign, the width and the fill of the format. A
+//! `Fixed` or `GroupedFixed` with more than 19 decimals is an error.
 
-ghost use Rattle.std.specs.Prelude.{◌≡◌, Some, true, false, [], ◌∷◌, ◌++◌, drop, length, unsigned_abs, if◌then◌else◌};
+ghost use Rattle.std.specs.Prelude.{◌≡◌, None, Some, true, false, nat_lt, [], ◌∷◌, ◌++◌};
+ghost use Rattle.std.specs.Prelude.{drop, length, unsigned_abs, if◌then◌else◌};
 ghost use Rattle.std.specs.Fmt.{WritesOnOk, WritesStyledOnOk, formatter_spec, padded_integral, sign_text_with};
 ghost use Rattle.std.specs.Int.{is_negative};
 ghost use Rattle.lexical_num.specs.Format.{standard};
 ghost use Rattle.lexical_write_integer.specs.Computed.{digits_text, text_of};
 ghost use Rattle.lexical_write_integer.specs.Groups.{grouped};
+ghost use Rattle.lexical_parts.specs.Fixed.{fixed_text, units_text};
 
+use crate::fixed::{Fixed, GroupedFixed};
 use crate::number::{Decimal, Formatted, formatted_room_suffices};
 use crate::part::Part;
 use crate::plus::Plus;
@@ -136,5 +140,40 @@ impl<T: Radix> fmt::Display for Binary<T> {
         let text = Binary(self.0).to_str(&mut buffer);
         digits_computed(2, self.0.as_usize() as u64, text.as_bytes());
         pad_number(f, false, false, text)
+    }
+}
+
+impl<T: ToLexicalWithOptions> fmt::Display for GroupedFixed<'_, T> {
+    ghost output = { λ part. if nat_lt part.1 20
+        then Some (fixed_text part.2.now.digit_grouping part.1 (T.number part.0)) else None };
+
+    ghost styled_output = { λ part spec. if nat_lt part.1 20
+        then Some (padded_integral spec (is_negative (T.number part.0)) []
+        (units_text part.2.now.digit_grouping part.1 (unsigned_abs (T.number part.0)))) else None };
+
+    fn fmt<W: fmt::Write>(&self, f: &mut fmt::Formatter<W>) -> fmt::Result {
+        if self.1 >= 20 {
+            return Err(fmt::Error);
+        }
+        let part = GroupedFixed(self.0, self.1, self.2);
+        self.0.in_range();
+        // The longest text, of a `u64` in groups of one digit, has 39 bytes.
+        match part.try_to_str(&mut [0; 39]) {
+            Some(text) => pad_number(f, self.0.is_negative(), false, text),
+            None => Err(fmt::Error),
+        }
+    }
+}
+
+impl<T: ToLexicalWithOptions> fmt::Display for Fixed<T> {
+    ghost output = { λ part. if nat_lt part.1 20
+        then Some (fixed_text None part.1 (T.number part.0)) else None };
+
+    ghost styled_output = { λ part spec. if nat_lt part.1 20
+        then Some (padded_integral spec (is_negative (T.number part.0)) []
+        (units_text None part.1 (unsigned_abs (T.number part.0)))) else None };
+
+    fn fmt<W: fmt::Write>(&self, f: &mut fmt::Formatter<W>) -> fmt::Result {
+        fmt::Display::fmt(&GroupedFixed(self.0, self.1, &STANDARD), f)
     }
 }

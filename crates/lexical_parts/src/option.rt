@@ -57,14 +57,14 @@ impl<P: Part, Q: Part> Part for OrElse<P, Q> {
 
     fn write_to(self, buffer: &mut [u8]) -> usize {
         match self.0 {
-            Some(part) => part.write_to(buffer),
+            Some(present) => present.write_to(buffer),
             None => self.1.write_to(buffer),
         }
     }
 
     fn text_is_utf8(self) {
         match self.0 {
-            Some(part) => part.text_is_utf8(),
+            Some(present) => present.text_is_utf8(),
             None => self.1.text_is_utf8(),
         }
     }

@@ -1,7 +1,7 @@
 //! Parts in format strings, against what the standard library writes of its own integers: for the
 //! longest texts and some others, in each width up to three more than the text.
 
-use cojimuran::parts::{Binary, Decimal, Formatted, Hex, Plus};
+use cojimuran::parts::{Binary, Decimal, Fixed, Formatted, GroupedFixed, Hex, Plus};
 use cojimuran::{NumberFormat, NumberFormatBuilder};
 
 /// Compares a part with an integer, with the same options. The second one may have more of them.
@@ -76,4 +76,45 @@ fn numbers_in_formats() {
         .build_strict();
     assert_eq!(format!("{:>130}", Formatted(i64::MIN, &longest)).trim_start().len(), 128);
     assert_eq!(format!("{:0130}", Formatted(u64::MAX, &longest)).matches('0').count(), 2);
+}
+
+/// Returns a number of units of 10^-`decimals`.
+fn units(number: i128, decimals: usize) -> String {
+    let digits = format!("{:0>width$}", number.unsigned_abs(), width = decimals + 1);
+    let (whole, rest) = digits.split_at(digits.len() - decimals);
+    let (sign, point) = (if number < 0 { "-" } else { "" }, if decimals > 0 { "." } else { "" });
+    format!("{sign}{whole}{point}{rest}")
+}
+
+macro_rules! check_decimals {
+    ($($number:ty),+) => { $(
+        for number in [<$number>::MIN, <$number>::MAX, 0, 1, 99, <$number>::MAX / 7] {
+            for decimals in 0..=19 {
+                let (part, text) = (Fixed(number, decimals), units(number.into(), decimals));
+                assert_eq!(format!("{part}|{part:30}|{part:*^30}"), format!("{text}|{text:>30}|{text:*^30}"));
+                let zeros = "0".repeat(30 - text.len());
+                let padded = text.strip_prefix('-').map_or(format!("{zeros}{text}"), |rest| format!("-{zeros}{rest}"));
+                assert_eq!(format!("{part:030}"), padded);
+            }
+        }
+    )+ };
+}
+
+#[test]
+fn decimals() {
+    check_decimals!(u8, u16, u32, u64, i8, i16, i32, i64);
+    let ones = NumberFormatBuilder::new().digit_grouping(1, b',').build_strict();
+    let longest = |decimals| GroupedFixed(u64::MAX, decimals, &ones).to_string();
+    assert_eq!((0..=19).map(|decimals| longest(decimals).len()).max(), Some(39));
+    for decimals in 0..=19 {
+        assert_eq!(longest(decimals).replace(',', ""), units(u64::MAX.into(), decimals));
+        let signed = GroupedFixed(i64::MIN, decimals, &ones).to_string();
+        assert_eq!(signed.replace(',', ""), units(i64::MIN.into(), decimals));
+    }
+}
+
+#[test]
+#[should_panic]
+fn twenty_decimals() {
+    drop(Fixed(7u8, 20).to_string());
 }

@@ -1,7 +1,7 @@
 // Parts in format strings, and texts in a `Vec` and a `String`.
 
 use super::check;
-use lexical_parts::{Binary, Decimal, Formatted, Hex, Plus};
+use lexical_parts::{Binary, Decimal, Fixed, Formatted, GroupedFixed, Hex, Plus};
 use lexical_write_integer::NumberFormatBuilder;
 use std::alloc::{Alloc, Global};
 use std::fmt::Display;
@@ -52,6 +52,26 @@ fn numbers_in_format_strings(rt: HostRuntime) {
         rt.alloc(),
         format_args!("{:12}|{:.3}", number, Decimal(98765u64)),
         "  -1,234,567|98765",
+    );
+}
+
+#[test]
+fn decimals_in_format_strings(rt: HostRuntime) {
+    let thousands = NumberFormatBuilder::new()
+        .digit_grouping(3, b',')
+        .build_strict();
+    check_shown(
+        &rt,
+        rt.alloc(),
+        format_args!(
+            "{}|{:8}|{:08}|{:+}|{:*<10}|",
+            Fixed(-5i8, 2),
+            Fixed(1234u32, 3),
+            Fixed(-1234, 2),
+            Fixed(7u64, 0),
+            GroupedFixed(-123456, 2, &thousands)
+        ),
+        "-0.05|   1.234|-0012.34|+7|-1,234.56*|",
     );
 }
 

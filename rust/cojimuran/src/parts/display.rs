@@ -1,7 +1,9 @@
 // Made by `strip` from crates/lexical_parts/src/display.rt. Edit that file, not this one.
 
-//! Parts in a format string: `{}` of a part writes its text, with the sign, the width and the fill of the format.
+//! Parts in a format string: `{}` of a part writes its text, with the sign, the width and the fill of the format. A
+//! [`Fixed`](crate::parts::Fixed) or [`GroupedFixed`](crate::parts::GroupedFixed) with more than 19 decimals is an error.
 
+use crate::parts::fixed::{Fixed, GroupedFixed};
 use crate::parts::number::{Decimal, Formatted};
 use crate::parts::part::Part;
 use crate::parts::plus::Plus;
@@ -95,5 +97,27 @@ impl<T: Radix> fmt::Display for Binary<T> {
         let mut buffer = [0; 64];
         let text = Binary(self.0).to_str(&mut buffer);
         pad_number(f, false, false, text)
+    }
+}
+
+impl<T: ToLexicalWithOptions> fmt::Display for GroupedFixed<'_, T> {
+    #[inline]
+    fn fmt(&self, f: &mut fmt::Formatter<'_>) -> fmt::Result {
+        if self.1 >= 20 {
+            return Err(fmt::Error);
+        }
+        let part = GroupedFixed(self.0, self.1, self.2);
+        // The longest text, of a `u64` in groups of one digit, has 39 bytes.
+        match part.try_to_str(&mut [0; 39]) {
+            Some(text) => pad_number(f, self.0.is_negative(), false, text),
+            None => Err(fmt::Error),
+        }
+    }
+}
+
+impl<T: ToLexicalWithOptions> fmt::Display for Fixed<T> {
+    #[inline]
+    fn fmt(&self, f: &mut fmt::Formatter<'_>) -> fmt::Result {
+        fmt::Display::fmt(&GroupedFixed(self.0, self.1, &STANDARD), f)
     }
 }

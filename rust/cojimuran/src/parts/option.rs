@@ -44,7 +44,7 @@ impl<P: Part, Q: Part> Part for OrElse<P, Q> {
     #[inline]
     fn write_to(self, buffer: &mut [u8]) -> usize {
         match self.0 {
-            Some(part) => part.write_to(buffer),
+            Some(present) => present.write_to(buffer),
             None => self.1.write_to(buffer),
         }
     }
