@@ -1,5 +1,5 @@
 # Tests of what install writes and of how it fails, which tests/run reads.
-# shellcheck shell=sh disable=SC2154
+# shellcheck shell=sh disable=SC2086,SC2154,SC2016
 
 # ---- what is installed
 
@@ -54,19 +54,16 @@ shows_all() {
 needs_soname() { objdump -p "$1" | grep -q "NEEDED *liblexical_c.so.$major\$"; }
 
 # links_with_pkg_config PREFIX FOLDER: whether the flags of pkg-config link the C example, shared and static.
-# shellcheck disable=SC2086
-links_with_pkg_config() {
-  (
-    folder=$1/$2
-    export PKG_CONFIG_PATH="$folder/pkgconfig"
-    [ "$(pkg-config --variable=libdir lexical_c)" = "$folder" ] || exit 1
-    # pkg-config writes a backslash before a space, for a shell.
-    eval "set -- $(pkg-config --cflags --libs lexical_c)"
-    $CC -o "$work/shared" "$work/example.c" "$@" -Wl,-rpath,"$folder" && prints "$c_lines" "$work/shared" || exit 1
-    eval "set -- $(pkg-config --cflags lexical_c)"
-    $CC -o "$work/static" "$work/example.c" "$@" "$(pkg-config --variable=static lexical_c)" && prints "$c_lines" "$work/static"
-  )
-}
+links_with_pkg_config() (
+  folder=$1/$2
+  export PKG_CONFIG_PATH="$folder/pkgconfig"
+  [ "$(pkg-config --variable=libdir lexical_c)" = "$folder" ] || exit 1
+  # pkg-config writes a backslash before a space, for a shell.
+  eval "set -- $(pkg-config --cflags --libs lexical_c)"
+  $CC -o "$work/shared" "$work/example.c" "$@" -Wl,-rpath,"$folder" && prints "$c_lines" "$work/shared" || exit 1
+  eval "set -- $(pkg-config --cflags lexical_c)"
+  $CC -o "$work/static" "$work/example.c" "$@" "$(pkg-config --variable=static lexical_c)" && prints "$c_lines" "$work/static"
+)
 
 # C and C++ programs are compiled with the flags of pkg-config, and linked shared and static.
 check_pkg_config() {
@@ -75,7 +72,6 @@ check_pkg_config() {
   export PKG_CONFIG_PATH="$1/lib/pkgconfig"
   expect 'the version of pkg-config' prints "$version" pkg-config --modversion lexical_c
   includes=$(pkg-config --cflags lexical_c) archive=$(pkg-config --variable=static lexical_c)
-  # shellcheck disable=SC2086
   for standard in 17 20; do
     has_cpp || continue
     for flags in "$(pkg-config --libs lexical_c) -Wl,-rpath,$1/lib" "$archive"; do
@@ -84,7 +80,6 @@ check_pkg_config() {
     done
   done
   if has nm; then
-    # shellcheck disable=SC2086
     expect 'a library with the archive inside' $CC -fPIC -shared $includes "$work/inside.c" "$archive" -o "$work/libinside.so"
     expect 'it exports only its own name' prints inside exported_names "$work/libinside.so"
   fi
@@ -218,8 +213,7 @@ installs_for_all() {
 
 # later_version VERSION: makes the checkout of a later version, of the same files.
 later_version() {
-  rm -rf "$work/later"
-  mkdir -p "$later/include" "$later/out"
+  rm -rf "$work/later" && mkdir -p "$later/include" "$later/out"
   cp -R "$crate/install" "$crate/uninstall" "$crate/manual" "$crate/package" "$later"
   cp "$crate"/../../LICENSE-* "$work/later"
   cp "$library" "$later/out/liblexical_c.a"
@@ -270,12 +264,10 @@ check_versions() {
 # ---- what is refused, and what is removed
 
 # contents FOLDER: prints what is in a folder, with the contents of the files.
-contents() {
-  (
-    cd "$1" && find . -type d | sort && find . -type f -exec cksum {} + | sort &&
-      find . -type l -exec ls -l {} + | sed 's/.* \.\//.\//' | sort
-  )
-}
+contents() (
+  cd "$1" && find . -type d | sort && find . -type f -exec cksum {} + | sort &&
+    find . -type l -exec ls -l {} + | sed 's/.* \.\//.\//' | sort
+)
 
 # refuses_with STATUS WORDS COMMAND..: whether a command ends with this status, says these words, and leaves $work/here
 # unchanged.
@@ -375,12 +367,21 @@ END
 # linked and runs if there is a header.
 is_sound() {
   program=$work/early_program
-  if [ ! -e "$work/state/prefix" ]; then
+  [ -e "$work/state/prefix" ] || {
     [ -e "$tried/include/lexical.h" ] || return 0
-    program=$work/linked
-    $CC -o "$program" -I"$tried/include" "$work/example.c" -L"$tried/lib" -llexical_c || return 1
-  fi
+    program=$work/linked && $CC -o "$program" -I"$tried/include" "$work/example.c" -L"$tried/lib" -llexical_c || return 1
+  }
   prints "$c_lines" env LD_LIBRARY_PATH="$tried/lib" "$program"
+}
+
+# keeps COMMAND..: whether a command, whose status is $status, writes to no file of $work/tried that is not hidden.
+keeps() {
+  rm -rf "$work/kept" && cp -al "$work/tried" "$work/kept" && find "$work/kept" -name '.*.new' -exec rm {} + || return 1
+  contents "$work/kept" > "$work/before"
+  "$@" "$tried" > "$work/said" 2>&1
+  status=$?
+  cat "$work/said"
+  contents "$work/kept" | diff "$work/before" -
 }
 
 # survives WORDS COMMAND..: whether programs run after a command that installs the later version and fails with these
@@ -389,14 +390,12 @@ is_sound() {
 survives() {
   words=$1; shift
   rm -rf "$work/tried" "$work/temporary" && cp -a "$work/state" "$work/tried" && mkdir "$work/temporary" || return 1
-  env TMPDIR="$work/temporary" "$@" "$tried" > "$work/said" 2>&1
-  status=$?
-  cat "$work/said"
-  is_sound || return 1
+  keeps env TMPDIR="$work/temporary" "$@" && is_sound || return 1
   if [ "$status" -eq 0 ]; then [ "$step" -gt 50 ]; else grep -q "$words" "$work/said"; fi || return 1
   ! grep -q 'nothing has changed' "$work/said" || contents "$work/tried" | diff "$work/contents" - || return 1
   [ "$FAULT" = KILL ] || rmdir "$work/temporary" || return 1
-  [ "$FAULT" = TERM ] || { "$later/install" "$tried" && has_links "$tried/lib" 3.9.0 && is_sound; } || return 1
+  ended=$status
+  [ "$FAULT" = TERM ] || { keeps "$later/install" && has_links "$tried/lib" 3.9.0 && is_sound; } || return 1
   [ ! -e "$tried/share/lexical_c/manifest" ] || "$later/uninstall" "$tried" || return 1
   [ ! -e "$tried" ] || { [ "$FAULT" = KILL ] && [ -z "$(find "$tried" ! -type d)" ]; }
 }
@@ -406,14 +405,13 @@ survives_fault() {
   step=$1
   echo 1 > "$work/faulty/calls"
   case $FAULT in KILL) words= ;; *) words='nothing has changed\|to install again completes it' ;; esac
-  # shellcheck disable=SC2086
   survives "$words" env $default PATH="$work/faulty:$PATH" FAULT_AT="$step" "$later/install"
 }
 
 # survives_each_step: whether that holds of each step, and of some where only manual pages are installed.
 survives_each_step() {
-  step=0 status=1
-  while [ "$status" -ne 0 ]; do
+  step=0 ended=1
+  while [ "$ended" -ne 0 ]; do
     case $FAULT$step in fail?? | *[A-Z][1-4]?) step=$((step + 6)) ;; *) step=$((step + 1)) ;; esac
     survives_fault "$step" || { echo "at step $step"; return 1; }
   done
@@ -431,7 +429,6 @@ check_failures() {
   FAULT='' step=0
   expect "$1 without a compiler" survives 'nothing has changed' env CC=false "$later/install"
   expect "$1 without a temporary folder" survives 'nothing has changed' env TMPDIR="$work/none" "$later/install"
-  # shellcheck disable=SC2016
   for output in '&-' /dev/full; do expect "$1 with its output $output" survives '' sh -c '"$@" >'"$output" sh "$later/install"; done
 }
 
@@ -444,7 +441,6 @@ check_all_failures() {
   mkdir "$work/state"
   check_failures 'a first install'
   expect 'installing the first version' "$crate/install" --from "$library" "$first"
-  # shellcheck disable=SC2086
   expect 'the early program' $CC -o "$work/early_program" -I"$first/include" "$work/example.c" -L"$first/lib" -llexical_c
   check_failures 'an upgrade'
 }
