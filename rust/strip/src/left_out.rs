@@ -13,7 +13,7 @@ const WORDS: &str = "ghost requires ensures tactic DECIMAL Model Trace Turns";
 
 /// So does a line with one of these texts, calls that only record, and a line that declares or calls a law, but not one
 /// with a variable that has its name.
-const TEXTS: [&str; 4] = ["turns.tick", "turns.append", "written.tick", "self.trace."];
+const TEXTS: [&str; 4] = ["turns.tick", "turns.append", "loop_turns.tick", "self.trace."];
 
 /// The names of laws, and of functions that only record.
 pub(crate) type Laws = BTreeSet<String>;

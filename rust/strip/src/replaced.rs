@@ -79,8 +79,8 @@ pub(crate) const WRITE_INTEGER: Replaced = &[
     ("let (count, noted) = write_in(", "write_in("),
     (";\n    turns.append(&noted);\n    count", ""),
     ("let count = if number < eighth", "if number < eighth"),
-    (";\n    turns.append(&written);\n    count", ""),
-    ("let left = value / fourth_power(R);\n    written.tick(left);\n    left", "value / fourth_power(R)"),
+    (";\n    turns.append(&loop_turns);\n    count", ""),
+    ("let left = value / fourth_power(R);\n    loop_turns.tick(left);\n    left", "value / fourth_power(R)"),
     ("let pair = number / (R * R);\n", "number / (R * R)\n"),
     ("    if pair > 0 {\n        turns.tick(u64::from(pair));\n    }\n    pair\n", ""),
     // What is only recorded.
@@ -93,11 +93,11 @@ pub(crate) const WRITE_INTEGER: Replaced = &[
     ),
     // The counters are the last parameters.
     (", turns: &mut Turns)", ")"),
-    (", written: &mut Turns)", ")"),
+    (", loop_turns: &mut Turns)", ")"),
     (", &mut Turns::new())", ")"),
     (", &mut turns)", ")"),
-    (", &mut written)", ")"),
-    (", written)", ")"),
+    (", &mut loop_turns)", ")"),
+    (", loop_turns)", ")"),
     (", turns)", ")"),
 ];
 

@@ -49,7 +49,14 @@ fn rust_stays() {
     let variables =
         "let in_range = a < 2;\nif !in_range {\n    return b[..text_length];\n}\nc(&[a, text_length, b], in_range);";
     check(variables, variables);
-    for same in ["// ensures { a", "a(\"ghost\");", "a / in_range", "in_range_of", "b_in_range(a);", "if a\n    && b\n{\n    c;\n}"] {
+    for same in [
+        "// ensures { a",
+        "a(\"ghost\");",
+        "a / in_range",
+        "in_range_of",
+        "b_in_range(a);",
+        "if a\n    && b\n{\n    c;\n}",
+    ] {
         check(same, same);
     }
 }

@@ -33,7 +33,7 @@ fn power_of<T: UnsignedInteger>(radix: u32, exponent: u32) -> Option<T>
 }
 
 // Returns the quotient of the number and a power of the radix.
-fn divide_and_record<T: UnsignedInteger>(number: T, power: T, turns: &mut Turns) -> T
+fn quotient<T: UnsignedInteger>(number: T, power: T, turns: &mut Turns) -> T
     requires { 0 < T.magnitude power }
     ensures left { T.magnitude result ≡ T.magnitude number / T.magnitude power }
     // The counter records the quotient.
@@ -60,7 +60,7 @@ fn take_digits<T: UnsignedInteger>(value: T, radix: u32, step: u32, turns: &mut 
     let mut left = value;
     let mut taken = 0;
     while left.is_at_least(power) {
-        left = divide_and_record(left, power, turns);
+        left = quotient(left, power, turns);
         taken += step as usize;
     }
     (left, taken)

@@ -71,14 +71,14 @@ fn write_digits<T: UnsignedInteger, const R: u32>(
         return write_at_once::<R>(number, table, buffer, turns);
     }
     let table = RadixTable::<R> { pairs: table };
-    let mut written = Turns::new();
+    let mut loop_turns = Turns::new();
     let count = if number < eighth_power(R) {
         // This is known of each number of 8 bits, so their code has nothing else.
-        count_and_write_up_to_eight(number, table, buffer, turns, &mut written)
+        count_and_write_up_to_eight(number, table, buffer, turns, &mut loop_turns)
     } else {
-        count_and_write_more(number, table, buffer, turns, &mut written)
+        count_and_write_more(number, table, buffer, turns, &mut loop_turns)
     };
-    turns.append(&written);
+    turns.append(&loop_turns);
     count
 }
 

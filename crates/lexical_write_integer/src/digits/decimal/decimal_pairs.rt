@@ -97,7 +97,7 @@ pub(crate) fn write_pairs(
 }
 
 // Writes the two digits of a number below 100 at index `at`.
-fn write_and_record_pair(pair: u32, buffer: &mut [u8], at: usize, turns: &mut Turns)
+fn write_pair_at(pair: u32, buffer: &mut [u8], at: usize, turns: &mut Turns)
     requires pair { pair < 100 }
     requires room { at + 2 ≤ length buffer.old }
     ensures block { WritesBlock 10 2 pair at buffer.old buffer.new }
@@ -109,15 +109,15 @@ fn write_and_record_pair(pair: u32, buffer: &mut [u8], at: usize, turns: &mut Tu
 }
 
 // Writes a number below 10000 as four digits at index `at`, with leading zeros. The last pair is first.
-fn write_and_record_four(number: u32, buffer: &mut [u8], at: usize, turns: &mut Turns)
+fn write_four_at(number: u32, buffer: &mut [u8], at: usize, turns: &mut Turns)
     requires number { number < 10 ^ 4 }
     requires room { at + 4 ≤ length buffer.old }
     ensures block { WritesBlock 10 4 number at buffer.old buffer.new }
     // The counter records each of its two pairs.
     ensures notes { turns.new ≡ turns.old ++ pairs_from_back number 2 }
 {
-    write_and_record_pair(number % 100, buffer, at + 2, turns);
-    write_and_record_pair(number / 100, buffer, at, turns);
+    write_pair_at(number % 100, buffer, at + 2, turns);
+    write_pair_at(number / 100, buffer, at, turns);
 }
 
 /// Writes the last ten digits of a number at index `at`. The last pair is first.
@@ -129,9 +129,9 @@ pub(crate) fn write_last_ten(number: u64, buffer: &mut [u8], at: usize, turns: &
 {
     let low = number % 10_000_000_000;
     let front = (low / 10_000) as u32;
-    write_and_record_four((low % 10_000) as u32, buffer, at + 6, turns);
-    write_and_record_four(front % 10_000, buffer, at + 2, turns);
-    write_and_record_pair(front / 10_000, buffer, at, turns);
+    write_four_at((low % 10_000) as u32, buffer, at + 6, turns);
+    write_four_at(front % 10_000, buffer, at + 2, turns);
+    write_pair_at(front / 10_000, buffer, at, turns);
 }
 
 /// Writes the digits of a number with leading zeros over the whole buffer, two at a time and the last ones first. The

@@ -1,6 +1,6 @@
 // Writing the digits of a number, four at a time, from a table of the digit pairs of the radix.
 
-// `written` is the counter of the writer's loop. A writer that counts the digits by division records those quotients in
+// `loop_turns` is the counter of the writer's loop. A writer that counts the digits by division records those quotients in
 // a second counter, `turns`.
 ghost use Rattle.std.specs.Prelude.{◌≡◌, ◌+◌, ◌-◌, ◌*◌, ◌/◌, ◌%◌, ◌^◌, ◌<◌, ◌≤◌, ◌++◌, length};
 ghost use Rattle.lexical_num.specs.Format.{IsRadix};
@@ -23,17 +23,17 @@ fn fourth_power(radix: u32) -> u64
 }
 
 // Returns the number without its last four digits.
-pub(super) fn remove_four<const R: u32>(value: u64, written: &mut Turns) -> u64
+pub(super) fn remove_four<const R: u32>(value: u64, loop_turns: &mut Turns) -> u64
     requires radix { IsRadix R }
     requires long { R ^ 4 ≤ value }
     ensures left { result ≡ value / R ^ 4 }
     ensures smaller { result < value }
     ensures digits { digit_count R result + 4 ≡ digit_count R value }
     // The counter records this quotient.
-    ensures written { written.new ++ loop_notes R result ≡ written.old ++ loop_notes R value }
+    ensures loop_turns { loop_turns.new ++ loop_notes R result ≡ loop_turns.old ++ loop_notes R value }
 {
     let left = value / fourth_power(R);
-    written.tick(left);
+    loop_turns.tick(left);
     left
 }
 
@@ -147,15 +147,15 @@ pub(super) fn write_after_count<const R: u32>(
     value: u64,
     table: RadixTable<'_, R>,
     buffer: &mut [u8],
-    written: &mut Turns,
+    loop_turns: &mut Turns,
 ) -> usize
     requires more { R ^ 2 ≤ value }
     requires room { digit_count R value ≤ length buffer.old }
     ensures digits { WritesDigits R value buffer.old buffer.new result }
-    ensures written { written.new ≡ written.old ++ loop_notes R value }
+    ensures loop_turns { loop_turns.new ≡ loop_turns.old ++ loop_notes R value }
 {
     if value < fourth_power(R) {
-        return write_three_or_four(value as u32, table, buffer, written);
+        return write_three_or_four(value as u32, table, buffer, loop_turns);
     }
     let count = value.digit_count(R);
     // So rustc tests the end of the buffer once.
@@ -165,17 +165,17 @@ pub(super) fn write_after_count<const R: u32>(
     while at > 4 {
         at -= 4;
         write_four(last_four::<R>(left), table, buffer, at);
-        left = remove_four::<R>(left, written);
+        left = remove_four::<R>(left, loop_turns);
     }
     let bits = fast_log2(R);
     if R == 1 << bits {
-        first_pair::<R>(left as u32, written);
+        first_pair::<R>(left as u32, loop_turns);
         let first = last_four::<R>(value >> (bits * (count - 4)));
         write_four(first, table, buffer, 0);
     } else {
         // This is 2 less, or 0 if that is less, in fewer instructions.
         let third = at * at / 8;
-        write_up_to_four(left as u32, at, third, table, buffer, written);
+        write_up_to_four(left as u32, at, third, table, buffer, loop_turns);
     }
     count
 }
@@ -252,15 +252,15 @@ fn count_and_write_up_to_four<const R: u32>(
     table: RadixTable<'_, R>,
     buffer: &mut [u8],
     turns: &mut Turns,
-    written: &mut Turns,
+    loop_turns: &mut Turns,
 ) -> usize
     requires short { number < R ^ 4 }
     requires room { digit_count R number ≤ length buffer.old }
     ensures digits { WritesDigits R number buffer.old buffer.new result }
     ensures turns { turns.new ≡ turns.old ++ slow_notes R number }
-    ensures written { written.new ≡ written.old ++ loop_notes R number }
+    ensures loop_turns { loop_turns.new ≡ loop_turns.old ++ loop_notes R number }
 {
-    let pair = first_pair::<R>(number, written);
+    let pair = first_pair::<R>(number, loop_turns);
     if pair == 0 {
         return count_and_write_one_or_two(number, table, buffer, turns);
     }
@@ -276,20 +276,20 @@ pub(super) fn count_and_write_up_to_eight<const R: u32>(
     table: RadixTable<'_, R>,
     buffer: &mut [u8],
     turns: &mut Turns,
-    written: &mut Turns,
+    loop_turns: &mut Turns,
 ) -> usize
     requires short { value < R ^ 8 }
     requires room { digit_count R value ≤ length buffer.old }
     ensures digits { WritesDigits R value buffer.old buffer.new result }
     ensures turns { turns.new ≡ turns.old ++ slow_notes R value }
-    ensures written { written.new ≡ written.old ++ loop_notes R value }
+    ensures loop_turns { loop_turns.new ≡ loop_turns.old ++ loop_notes R value }
 {
     if value < fourth_power(R) {
-        return count_and_write_up_to_four(value as u32, table, buffer, turns, written);
+        return count_and_write_up_to_four(value as u32, table, buffer, turns, loop_turns);
     }
-    let left = remove_four::<R>(value, written);
+    let left = remove_four::<R>(value, loop_turns);
     turns.tick(left);
-    let head = count_and_write_up_to_four(left as u32, table, buffer, turns, written);
+    let head = count_and_write_up_to_four(left as u32, table, buffer, turns, loop_turns);
     // With `last_four` LLVM would not inline this function for numbers of 8 bits.
     let last = value - left * fourth_power(R);
     write_four(last as u32, table, buffer, head);
@@ -328,22 +328,22 @@ pub(super) fn count_and_write_more<const R: u32>(
     table: RadixTable<'_, R>,
     buffer: &mut [u8],
     turns: &mut Turns,
-    written: &mut Turns,
+    loop_turns: &mut Turns,
 ) -> usize
     requires long { R ^ 8 ≤ value }
     requires room { digit_count R value ≤ length buffer.old }
     ensures digits { WritesDigits R value buffer.old buffer.new result }
     ensures turns { turns.new ≡ turns.old ++ slow_notes R value }
-    ensures written { written.new ≡ written.old ++ loop_notes R value }
+    ensures loop_turns { loop_turns.new ≡ loop_turns.old ++ loop_notes R value }
 {
-    let first = remove_four::<R>(value, written);
-    let second = remove_four::<R>(first, written);
+    let first = remove_four::<R>(value, loop_turns);
+    let second = remove_four::<R>(first, loop_turns);
     turns.tick(first);
     turns.tick(second);
     let head = if second < eighth_power(R) {
-        count_and_write_up_to_eight(second, table, buffer, turns, written)
+        count_and_write_up_to_eight(second, table, buffer, turns, loop_turns)
     } else {
-        count_and_write_more(second, table, buffer, turns, written)
+        count_and_write_more(second, table, buffer, turns, loop_turns)
     };
     write_four(last_four::<R>(first), table, buffer, head);
     write_four(last_four::<R>(value), table, buffer, head + 4);

@@ -16,8 +16,8 @@ returns-in_default g c =
 pub loop-power-init : goal.loop-power-init
 loop-power-init g c = IsDivided-start
 
-pub divide_and_record-left-requires : goal.divide_and_record-left-requires
-divide_and_record-left-requires g c = omega (arith, c.in-Some.ensures.power, power-gt_one _ _ c.requires.radix.at_least_two c.requires.step)
+pub quotient-left-requires : goal.quotient-left-requires
+quotient-left-requires g c = omega (arith, c.in-Some.ensures.power, power-gt_one _ _ c.requires.radix.at_least_two c.requires.step)
 
 pub overflow_add-taken : goal.overflow_add-taken
 overflow_add-taken g c =

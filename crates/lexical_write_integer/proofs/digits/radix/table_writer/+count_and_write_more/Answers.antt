@@ -37,11 +37,11 @@ pub returns-clause-turns : goal.returns-clause-turns
 returns-clause-turns g t c = grind (arith, HasEight-of, slow_notes-after)
 
 -- the check finds this proof by itself, but with an answer the refusal of a mistake says what is wrong
-pub returns-clause-written : goal.returns-clause-written
-returns-clause-written g t c =
-    let before : c.if-second-eighth_power.written ≡ c.remove_four-second.new.written ++ loop_notes g.row.R c.remove_four-second.result =
+pub returns-clause-loop_turns : goal.returns-clause-loop_turns
+returns-clause-loop_turns g t c =
+    let before : c.if-second-eighth_power.loop_turns ≡ c.remove_four-second.new.loop_turns ++ loop_notes g.row.R c.remove_four-second.result =
     elim c.if-second-eighth_power.branch [
-      | then-second-eighth_power w ↦ rw w.written-is w.count_and_write_up_to_eight-head.ensures.written
-      | else-second-eighth_power w ↦ rw w.written-is w.count_and_write_more-head.ensures.written
+      | then-second-eighth_power w ↦ rw w.loop_turns-is w.count_and_write_up_to_eight-head.ensures.loop_turns
+      | else-second-eighth_power w ↦ rw w.loop_turns-is w.count_and_write_more-head.ensures.loop_turns
     ] in
-    before ∙ c.remove_four-second.ensures.written ∙ c.remove_four-first.ensures.written
+    before ∙ c.remove_four-second.ensures.loop_turns ∙ c.remove_four-first.ensures.loop_turns

@@ -59,5 +59,5 @@ pub returns-clause-turns : goal.returns-clause-turns
 returns-clause-turns g c = grind (arith, slow_notes-after, long)
 
 -- the check finds this proof by itself, but with an answer the refusal of a mistake says what is wrong
-pub returns-clause-written : goal.returns-clause-written
-returns-clause-written g c = c.count_and_write_up_to_four-head.ensures.written ∙ c.remove_four-left.ensures.written
+pub returns-clause-loop_turns : goal.returns-clause-loop_turns
+returns-clause-loop_turns g c = c.count_and_write_up_to_four-head.ensures.loop_turns ∙ c.remove_four-left.ensures.loop_turns

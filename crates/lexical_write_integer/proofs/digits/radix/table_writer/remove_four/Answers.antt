@@ -5,8 +5,8 @@ use Rattle.lexical_write_integer.proofs.OfDigits.Radix.Loops.Divisions.{left-sma
 use Rattle.lexical_write_integer.proofs.OfDigits.Radix.Loops.Records.{loop_notes-after}
 use Rattle.lexical_write_integer.proofs.digits.radix.table_writer.remove_four.Goals as goal
 
-pub returns-clause-written : goal.returns-clause-written
-returns-clause-written g c = grind (arith, loop_notes-after)
+pub returns-clause-loop_turns : goal.returns-clause-loop_turns
+returns-clause-loop_turns g c = grind (arith, loop_notes-after)
 
 pub returns-clause-smaller : goal.returns-clause-smaller
 returns-clause-smaller g c =

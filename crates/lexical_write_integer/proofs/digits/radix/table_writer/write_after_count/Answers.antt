@@ -16,7 +16,7 @@ long : (g : _) (c : In-loop-at g) → g.row.R ^ 4 ≤ c.loop-at.left
 long g c =
     let counts =
     IsWrittenBack-left c.args.table.is_radix.at_least_two c.digit_count-count.ensures.count c.loop-at.invariant.within
-    c.loop-at.invariant.written in
+    c.loop-at.invariant.loop_turns in
     longer-than g.row.R c.loop-at.left 4 (omega arith) (omega (arith, counts, c.loop-at-test.true))
 
 pub remove_four-left-requires-clause-long : goal.remove_four-left-requires-clause-long
@@ -30,9 +30,9 @@ loop-at-preserved g c =
     let order : 4 + (count - at) ≡ count - (at - 4) = omega (arith, c.loop-at-test.true, c.loop-at.invariant.within) in
     let place : at ≡ at - 4 + 4 = omega (arith, c.loop-at-test.true) in
     record {
-      noted = c.remove_four-left.ensures.written ∙ c.loop-at.invariant.noted;
-      written = rw order at (IsWrittenBack-more c.args.table.is_radix.at_least_two (long g c') c.remove_four-left.ensures.left
-          (IsWrittenBack-at place c.loop-at.invariant.written) (rw c.last_four.ensures.digits at c.write_four.ensures));
+      noted = c.remove_four-left.ensures.loop_turns ∙ c.loop-at.invariant.noted;
+      loop_turns = rw order at (IsWrittenBack-more c.args.table.is_radix.at_least_two (long g c') c.remove_four-left.ensures.left
+          (IsWrittenBack-at place c.loop-at.invariant.loop_turns) (rw c.last_four.ensures.digits at c.write_four.ensures));
       within = omega (arith, c.loop-at.invariant.within);
       room = c.write_four.auto.buffer ∙ c.loop-at.invariant.room;
     }
@@ -40,7 +40,7 @@ loop-at-preserved g c =
 -- the remaining digits, at most four
 count_left : (g : _) (c : After-loop-at g) → digit_count g.row.R c.loop-at.left ≡ c.loop-at.at
 count_left g c =
-    IsWrittenBack-left c.args.table.is_radix.at_least_two c.digit_count-count.ensures.count c.loop-at.invariant.within c.loop-at.invariant.written
+    IsWrittenBack-left c.args.table.is_radix.at_least_two c.digit_count-count.ensures.count c.loop-at.invariant.within c.loop-at.invariant.loop_turns
 
 short : (g : _) (c : After-loop-at g) → c.loop-at.left < g.row.R ^ 4
 short g c = fits-within g.row.R c.loop-at.left 4 c.args.table.is_radix.at_least_two (omega (arith, count_left g c))
@@ -65,7 +65,7 @@ write_up_to_four-requires g c =
 pub loop-at-init : goal.loop-at-init
 loop-at-init g c =
     let none : c.digit_count-count.result - c.digit_count-count.result ≡ 0 = omega arith in
-    record { noted = refl; written = rw none IsWrittenBack-start; within = omega arith; room = refl }
+    record { noted = refl; loop_turns = rw none IsWrittenBack-start; within = omega arith; room = refl }
 
 pub overflow_cast-value : goal.overflow_cast-value
 overflow_cast-value g c =
@@ -118,7 +118,7 @@ returns-then-bits-clause-digits g c =
     c.last_four-first.ensures.digits
     ∙ first_four r c.fast_log2-bits.result n count two c.if-bits.true c.fast_log2-bits.ensures.within is (more g c') in
     WritesDigits-block two (sym is) (omega (arith, is, c.requires.room))
-    (WritesBlock-first r n at 4 (count - at) (count - 4) count two c.loop-at-test.false whole all c.loop-at.invariant.written.block
+    (WritesBlock-first r n at 4 (count - at) (count - 4) count two c.loop-at-test.false whole all c.loop-at.invariant.loop_turns.block
     (rw first at c.write_four-then-bits.ensures))
 
 -- ---- the digits that are left, in another radix
@@ -133,5 +133,5 @@ returns-else-bits-clause-digits g c =
     let is = c.digit_count-count.ensures.count in
     let whole : c.loop-at.at + (count - c.loop-at.at) ≡ count = omega (arith, c.loop-at.invariant.within) in
     let place : c.loop-at.at ≡ 0 + c.loop-at.at = omega arith in
-    let block = IsWrittenBack-last (IsWrittenBack-at place c.loop-at.invariant.written) c.write_up_to_four.ensures.written in
+    let block = IsWrittenBack-last (IsWrittenBack-at place c.loop-at.invariant.loop_turns) c.write_up_to_four.ensures.written in
     WritesDigits-block c.args.table.is_radix.at_least_two (sym is) (omega (arith, is, c.requires.room)) (rw whole at block)

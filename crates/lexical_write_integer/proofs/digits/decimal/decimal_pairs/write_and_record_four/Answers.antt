@@ -1,6 +1,0 @@
-use Rattle.std.proofs.Common.{refl}
-use Rattle.lexical_write_integer.proofs.Buffers.Blocks.{WritesBlock-whole}
-use Rattle.lexical_write_integer.proofs.digits.decimal.decimal_pairs.write_and_record_four.Goals as goal
-
-pub returns-clause-block : goal.returns-clause-block
-returns-clause-block c = WritesBlock-whole {n = c.args.number} refl c.write_and_record_pair.ensures.block c.write_and_record_pair-2.ensures.block
