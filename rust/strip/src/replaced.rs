@@ -67,6 +67,10 @@ pub(crate) const WRITE_INTEGER: Replaced = &[
         "// It is cold, and so not inlined: otherwise each call for a shorter number would save registers that only this needs.\n#[cold]\n",
         "",
     ),
+    (
+        "// It is cold, and so not inlined: otherwise a call in each radix would save registers that only this needs.\n#[cold]\n",
+        "",
+    ),
     // The counters are the last parameters.
     (", turns: &mut Turns)", ")"),
     (", written: &mut Turns)", ")"),
