@@ -27,8 +27,6 @@ use table_writer::{
 
 // Writes a number in the radix `R`, whose digits are counted without division, with a table that begins with the digit
 // pairs of that radix.
-// It is cold, and so not inlined: otherwise a call in each radix would save registers that only this needs.
-#[cold]
 fn write_at_once<const R: u32>(
     number: u64,
     table: &[u8],

@@ -158,6 +158,8 @@ fn count_some(value: u64, radix: u32) -> usize
 // Writes a number of three digits or more: first it counts them, and then it writes four per iteration while more than
 // four are left. In a power of 2 the first four digits of the number are then written, and otherwise those that are
 // left.
+// It is cold, and so not inlined: otherwise a call in each radix would save registers that only this needs.
+#[cold]
 pub(super) fn write_after_count<const R: u32>(
     value: u64,
     table: RadixTable<'_, R>,
