@@ -84,11 +84,15 @@ pub(crate) const WRITE_INTEGER: Replaced = &[
     ("let pair = number / (R * R);\n", "number / (R * R)\n"),
     ("    if pair > 0 {\n        turns.tick(u64::from(pair));\n    }\n    pair\n", ""),
     // What is only recorded.
-    ("        first_pair::<R>(left as u32, written);\n", ""),
+    ("        first_pair::<R>(left as u32, loop_turns);\n", ""),
     ("    if left > 0 {\n        turns.tick(u64::from(left));\n    }\n", ""),
     // With this attribute rustc would save registers here.
     (
         "// It is cold, and so not inlined: otherwise each call for a shorter number would save registers that only this needs.\n#[cold]\n",
+        "",
+    ),
+    (
+        "// It is cold, and so not inlined: otherwise a call in each radix would save registers that only this needs.\n#[cold]\n",
         "",
     ),
     // The counters are the last parameters.

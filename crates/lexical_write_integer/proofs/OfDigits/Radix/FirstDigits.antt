@@ -19,7 +19,7 @@ use Rattle.lexical_write_integer.proofs.OfDigits.Powers.{pow-pow, pow-lt_more}
 -- ---- the first four digits, as a number
 
 -- the remainder that a shift to the left computes
-power_of_two : (r bits : ℕ) → r ≡ 1 * 2 ^ bits % 4294967296 → bits < 32 → r ≡ 2 ^ bits
+pub power_of_two : (r bits : ℕ) → r ≡ 1 * 2 ^ bits % 4294967296 → bits < 32 → r ≡ 2 ^ bits
 power_of_two r bits is few =
     let small = pow-lt_more 2 bits 32 (omega arith) few in
     let same : 1 * 2 ^ bits ≡ 2 ^ bits = omega arith in

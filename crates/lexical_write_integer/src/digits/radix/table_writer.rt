@@ -140,9 +140,26 @@ fn write_three_or_four<const R: u32>(
     count
 }
 
+// Returns how many digits a number has that is not 0. Its logarithm is one instruction, which that of 0 is not.
+fn count_some(value: u64, radix: u32) -> usize
+    requires radix { IsRadix radix }
+    requires some { 0 < value }
+    ensures count { result ≡ digit_count radix value }
+    ensures at_most_64 { result ≤ 64 }
+{
+    let bits = fast_log2(radix);
+    if radix == 1 << bits {
+        value.ilog2() as usize / bits + 1
+    } else {
+        value.digit_count(radix)
+    }
+}
+
 // Writes a number of three digits or more: first it counts them, and then it writes four per iteration while more than
 // four are left. In a power of 2 the first four digits of the number are then written, and otherwise those that are
 // left.
+// It is cold, and so not inlined: otherwise a call in each radix would save registers that only this needs.
+#[cold]
 pub(super) fn write_after_count<const R: u32>(
     value: u64,
     table: RadixTable<'_, R>,
@@ -157,7 +174,7 @@ pub(super) fn write_after_count<const R: u32>(
     if value < fourth_power(R) {
         return write_three_or_four(value as u32, table, buffer, loop_turns);
     }
-    let count = value.digit_count(R);
+    let count = count_some(value, R);
     // So rustc tests the end of the buffer once.
     prove!(count <= buffer.len());
     let mut left = value;

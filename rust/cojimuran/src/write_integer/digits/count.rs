@@ -24,7 +24,7 @@ fn power_of<T: UnsignedInteger>(radix: u32, exponent: u32) -> Option<T> {
 
 // Returns the quotient of the number and a power of the radix.
 #[inline]
-fn divide_and_record<T: UnsignedInteger>(number: T, power: T) -> T {
+fn quotient<T: UnsignedInteger>(number: T, power: T) -> T {
     let (left, _) = number.div_rem(power);
     left
 }
@@ -39,7 +39,7 @@ fn take_digits<T: UnsignedInteger>(value: T, radix: u32, step: u32) -> (T, usize
     let mut left = value;
     let mut taken = 0;
     while left.is_at_least(power) {
-        left = divide_and_record(left, power);
+        left = quotient(left, power);
         taken += step as usize;
     }
     (left, taken)

@@ -65,15 +65,15 @@ pub(crate) fn write_pairs(fraction: u64, pair_count: usize, buffer: &mut [u8]) -
 
 // Writes the two digits of a number below 100 at index `at`.
 #[inline(always)]
-fn write_and_record_pair(pair: u32, buffer: &mut [u8], at: usize) {
+fn write_pair_at(pair: u32, buffer: &mut [u8], at: usize) {
     RadixTable::<10>::new().write(pair, buffer, at);
 }
 
 // Writes a number below 10000 as four digits at index `at`, with leading zeros. The last pair is first.
 #[inline(always)]
-fn write_and_record_four(number: u32, buffer: &mut [u8], at: usize) {
-    write_and_record_pair(number % 100, buffer, at + 2);
-    write_and_record_pair(number / 100, buffer, at);
+fn write_four_at(number: u32, buffer: &mut [u8], at: usize) {
+    write_pair_at(number % 100, buffer, at + 2);
+    write_pair_at(number / 100, buffer, at);
 }
 
 /// Writes the last ten digits of a number at index `at`. The last pair is first.
@@ -81,9 +81,9 @@ fn write_and_record_four(number: u32, buffer: &mut [u8], at: usize) {
 pub(crate) fn write_last_ten(number: u64, buffer: &mut [u8], at: usize) {
     let low = number % 10_000_000_000;
     let front = (low / 10_000) as u32;
-    write_and_record_four((low % 10_000) as u32, buffer, at + 6);
-    write_and_record_four(front % 10_000, buffer, at + 2);
-    write_and_record_pair(front / 10_000, buffer, at);
+    write_four_at((low % 10_000) as u32, buffer, at + 6);
+    write_four_at(front % 10_000, buffer, at + 2);
+    write_pair_at(front / 10_000, buffer, at);
 }
 
 /// Writes the digits of a number with leading zeros over the whole buffer, two at a time and the last ones first. The

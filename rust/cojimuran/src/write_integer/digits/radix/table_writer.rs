@@ -87,6 +87,17 @@ fn write_three_or_four<const R: u32>(
     count
 }
 
+// Returns how many digits a number has that is not 0. Its logarithm is one instruction, which that of 0 is not.
+#[inline(always)]
+fn count_some(value: u64, radix: u32) -> usize {
+    let bits = fast_log2(radix);
+    if radix == 1 << bits {
+        value.ilog2() as usize / bits + 1
+    } else {
+        value.digit_count(radix)
+    }
+}
+
 // Writes a number of three digits or more: first it counts them, and then it writes four per iteration while more than
 // four are left. In a power of 2 the first four digits of the number are then written, and otherwise those that are
 // left.
@@ -99,7 +110,7 @@ pub(super) fn write_after_count<const R: u32>(
     if value < fourth_power(R) {
         return write_three_or_four(value as u32, table, buffer);
     }
-    let count = value.digit_count(R);
+    let count = count_some(value, R);
     // So rustc tests the end of the buffer once.
     assert!(count <= buffer.len());
     let mut left = value;

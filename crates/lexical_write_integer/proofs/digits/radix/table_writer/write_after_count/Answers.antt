@@ -15,8 +15,8 @@ use Rattle.lexical_write_integer.proofs.digits.radix.table_writer.write_after_co
 long : (g : _) (c : In-loop-at g) → g.row.R ^ 4 ≤ c.loop-at.left
 long g c =
     let counts =
-    IsWrittenBack-left c.args.table.is_radix.at_least_two c.digit_count-count.ensures.count c.loop-at.invariant.within
-    c.loop-at.invariant.loop_turns in
+    IsWrittenBack-left c.args.table.is_radix.at_least_two c.count_some-count.ensures.count c.loop-at.invariant.within
+    c.loop-at.invariant.written in
     longer-than g.row.R c.loop-at.left 4 (omega arith) (omega (arith, counts, c.loop-at-test.true))
 
 pub remove_four-left-requires-clause-long : goal.remove_four-left-requires-clause-long
@@ -26,13 +26,13 @@ pub loop-at-preserved : goal.loop-at-preserved
 loop-at-preserved g c =
     let c' = (goal.at.loop-at-preserved g c).In-loop-at in
     let at = c.loop-at.at in
-    let count = c.digit_count-count.result in
+    let count = c.count_some-count.result in
     let order : 4 + (count - at) ≡ count - (at - 4) = omega (arith, c.loop-at-test.true, c.loop-at.invariant.within) in
     let place : at ≡ at - 4 + 4 = omega (arith, c.loop-at-test.true) in
     record {
       noted = c.remove_four-left.ensures.loop_turns ∙ c.loop-at.invariant.noted;
-      loop_turns = rw order at (IsWrittenBack-more c.args.table.is_radix.at_least_two (long g c') c.remove_four-left.ensures.left
-          (IsWrittenBack-at place c.loop-at.invariant.loop_turns) (rw c.last_four.ensures.digits at c.write_four.ensures));
+      written = rw order at (IsWrittenBack-more c.args.table.is_radix.at_least_two (long g c') c.remove_four-left.ensures.left
+          (IsWrittenBack-at place c.loop-at.invariant.written) (rw c.last_four.ensures.digits at c.write_four.ensures));
       within = omega (arith, c.loop-at.invariant.within);
       room = c.write_four.auto.buffer ∙ c.loop-at.invariant.room;
     }
@@ -40,7 +40,7 @@ loop-at-preserved g c =
 -- the remaining digits, at most four
 count_left : (g : _) (c : After-loop-at g) → digit_count g.row.R c.loop-at.left ≡ c.loop-at.at
 count_left g c =
-    IsWrittenBack-left c.args.table.is_radix.at_least_two c.digit_count-count.ensures.count c.loop-at.invariant.within c.loop-at.invariant.loop_turns
+    IsWrittenBack-left c.args.table.is_radix.at_least_two c.count_some-count.ensures.count c.loop-at.invariant.within c.loop-at.invariant.written
 
 short : (g : _) (c : After-loop-at g) → c.loop-at.left < g.row.R ^ 4
 short g c = fits-within g.row.R c.loop-at.left 4 c.args.table.is_radix.at_least_two (omega (arith, count_left g c))
@@ -58,14 +58,14 @@ overflow_cast-left g c =
 pub write_up_to_four-requires : goal.write_up_to_four-requires
 write_up_to_four-requires g c =
     let c' = (goal.at.write_up_to_four-requires g c).After-loop-at in
-    let is = c.digit_count-count.ensures.count in
+    let is = c.count_some-count.ensures.count in
     let third = third-is c.loop-at.at (some_left g c') c.loop-at-test.false in
     (lit< tt, (short g c', (sym (count_left g c'), (third, omega (arith, is, c.requires.room, c.loop-at.invariant)))))
 
 pub loop-at-init : goal.loop-at-init
 loop-at-init g c =
-    let none : c.digit_count-count.result - c.digit_count-count.result ≡ 0 = omega arith in
-    record { noted = refl; loop_turns = rw none IsWrittenBack-start; within = omega arith; room = refl }
+    let none : c.count_some-count.result - c.count_some-count.result ≡ 0 = omega arith in
+    record { noted = refl; written = rw none IsWrittenBack-start; within = omega arith; room = refl }
 
 pub overflow_cast-value : goal.overflow_cast-value
 overflow_cast-value g c =
@@ -74,10 +74,10 @@ overflow_cast-value g c =
 -- ---- the first four digits, in a power of 2
 
 -- there are more than four digits
-more : (g : _) (c : After-loop-at g) → 4 < c.digit_count-count.result
+more : (g : _) (c : After-loop-at g) → 4 < c.count_some-count.result
 more g c =
     let long : g.row.R ^ 4 ≤ c.args.value = omega (arith, c.if-value-fourth_power.false, c.fourth_power.ensures.power) in
-    omega (arith, c.digit_count-count.ensures.count, digit_count-more g.row.R 4 c.args.value c.args.table.is_radix.at_least_two long)
+    omega (arith, c.count_some-count.ensures.count, digit_count-more g.row.R 4 c.args.value c.args.table.is_radix.at_least_two long)
 
 pub first_pair-requires-clause-short : goal.first_pair-requires-clause-short
 first_pair-requires-clause-short g c = short g (goal.at.first_pair-requires-clause-short g c).After-loop-at
@@ -88,8 +88,8 @@ overflow_sub-count g c = omega (arith, more g (goal.at.overflow_sub-count g c).A
 pub overflow_shr-value : goal.overflow_shr-value
 overflow_shr-value g c =
     let c' = (goal.at.overflow_shr-value g c).After-loop-at in
-    let taken = c.digit_count-count.result - 4 in
-    let some : taken < digit_count g.row.R c.args.value = omega (arith, more g c', c.digit_count-count.ensures.count) in
+    let taken = c.count_some-count.result - 4 in
+    let some : taken < digit_count g.row.R c.args.value = omega (arith, more g c', c.count_some-count.ensures.count) in
     shift-lt g.row.R c.fast_log2-bits.result c.args.value taken c.if-bits.true c.fast_log2-bits.ensures.within
     (omega (arith, c.ranges.value.fits)) (longer-than g.row.R c.args.value taken (omega (arith, more g c')) some)
 
@@ -99,7 +99,7 @@ write_four-requires-then-bits g c =
       lit< tt,
       (
         c.last_four-first.ensures.short,
-        omega (arith, more g c', c.digit_count-count.ensures.count, c.requires.room, c.loop-at.invariant.room),
+        omega (arith, more g c', c.count_some-count.ensures.count, c.requires.room, c.loop-at.invariant.room),
       ),
     )
 
@@ -109,16 +109,16 @@ returns-then-bits-clause-digits g c =
     let r = g.row.R in
     let n = c.args.value in
     let two = c.args.table.is_radix.at_least_two in
-    let count = c.digit_count-count.result in
+    let count = c.count_some-count.result in
     let at = c.loop-at.at in
-    let is = c.digit_count-count.ensures.count in
+    let is = c.count_some-count.ensures.count in
     let whole : at + (count - at) ≡ count = omega (arith, c.loop-at.invariant.within) in
     let all : 4 + (count - 4) ≡ count = omega (arith, more g c') in
     let first =
     c.last_four-first.ensures.digits
     ∙ first_four r c.fast_log2-bits.result n count two c.if-bits.true c.fast_log2-bits.ensures.within is (more g c') in
     WritesDigits-block two (sym is) (omega (arith, is, c.requires.room))
-    (WritesBlock-first r n at 4 (count - at) (count - 4) count two c.loop-at-test.false whole all c.loop-at.invariant.loop_turns.block
+    (WritesBlock-first r n at 4 (count - at) (count - 4) count two c.loop-at-test.false whole all c.loop-at.invariant.written.block
     (rw first at c.write_four-then-bits.ensures))
 
 -- ---- the digits that are left, in another radix
@@ -129,9 +129,9 @@ overflow_cast-left-else-bits g c =
 
 pub returns-else-bits-clause-digits : goal.returns-else-bits-clause-digits
 returns-else-bits-clause-digits g c =
-    let count = c.digit_count-count.result in
-    let is = c.digit_count-count.ensures.count in
+    let count = c.count_some-count.result in
+    let is = c.count_some-count.ensures.count in
     let whole : c.loop-at.at + (count - c.loop-at.at) ≡ count = omega (arith, c.loop-at.invariant.within) in
     let place : c.loop-at.at ≡ 0 + c.loop-at.at = omega arith in
-    let block = IsWrittenBack-last (IsWrittenBack-at place c.loop-at.invariant.loop_turns) c.write_up_to_four.ensures.written in
+    let block = IsWrittenBack-last (IsWrittenBack-at place c.loop-at.invariant.written) c.write_up_to_four.ensures.written in
     WritesDigits-block c.args.table.is_radix.at_least_two (sym is) (omega (arith, is, c.requires.room)) (rw whole at block)

@@ -6,7 +6,7 @@ use Rattle.lexical_write_integer.proofs.digits.radix.table_writer.write_after_co
 abbrev pub invariant-loop-at : goal.invariant-loop-at
 invariant-loop-at g l = record {
   noted : l.loop_turns ++ loop_notes g.row.R l.left ≡ l.fn.loop_turns ++ loop_notes g.row.R l.fn.value;
-  loop_turns : IsWrittenBack g.row.R l.fn.value (l.count - l.at) l.left l.at l.fn.buffer l.buffer;
+  written : IsWrittenBack g.row.R l.fn.value (l.count - l.at) l.left l.at l.fn.buffer l.buffer;
   within : l.at ≤ l.count;
   room : length l.buffer ≡ length l.fn.buffer;
 }
