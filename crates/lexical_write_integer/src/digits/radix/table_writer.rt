@@ -1,7 +1,7 @@
 // Writing the digits of a number, four at a time, from a table of the digit pairs of the radix.
 
-// `loop_turns` is the counter of the writer's loop. A writer that counts the digits by division records those quotients in
-// a second counter, `turns`.
+// `loop_turns` is the counter of the writer's loop. A writer that counts the digits by division records those quotients
+// in a second counter, `turns`.
 ghost use Rattle.std.specs.Prelude.{◌≡◌, ◌+◌, ◌-◌, ◌*◌, ◌/◌, ◌%◌, ◌^◌, ◌<◌, ◌≤◌, ◌++◌, length};
 ghost use Rattle.lexical_num.specs.Format.{IsRadix};
 ghost use Rattle.lexical_write_integer.specs.Buffer.{WritesBlock, WritesDigits};
