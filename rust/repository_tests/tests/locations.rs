@@ -4,6 +4,9 @@ use cojimuran::{NumberFormatBuilder, Options, ToLexical, ToLexicalWithOptions};
 use std::panic::{AssertUnwindSafe, catch_unwind};
 use std::sync::Mutex;
 
+/// A call that writes a text to a buffer.
+type Call = fn(&mut [u8]) -> usize;
+
 static FILE: Mutex<String> = Mutex::new(String::new());
 
 #[test]
@@ -11,11 +14,14 @@ fn callers_of_short_buffers() {
     std::panic::set_hook(Box::new(|panic| {
         *FILE.lock().unwrap() = panic.location().map_or(String::new(), |location| location.file().to_owned());
     }));
-    let format = NumberFormatBuilder::new().digit_grouping(3, b',').build_strict();
-    let calls: [&dyn Fn(&mut [u8]) -> usize; 3] =
-        [&|buffer| 1234u64.to_lexical(buffer).len(), &|buffer| (-1234i32).to_lexical(buffer).len(), &|buffer| {
+    let calls: [Call; 3] = [
+        |buffer| 1234u64.to_lexical(buffer).len(),
+        |buffer| (-1234i32).to_lexical(buffer).len(),
+        |buffer| {
+            let format = NumberFormatBuilder::new().digit_grouping(3, b',').build_strict();
             1234u16.to_lexical_with_options(buffer, &format, &Options::new()).len()
-        }];
+        },
+    ];
     for call in calls {
         FILE.lock().unwrap().clear();
         assert!(catch_unwind(AssertUnwindSafe(|| call(&mut [0; 3]))).is_err());
