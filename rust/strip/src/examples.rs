@@ -3,7 +3,7 @@
 
 use std::collections::BTreeSet;
 
-/// The code of the examples of what the root exports, a line for each statement.
+/// The code of the examples of what the root exports, and of the functions of parts, a line for each statement.
 const ROOT: &[(&str, &str)] = &[
     (
         "BUFFER_SIZE",
@@ -124,6 +124,14 @@ assert_eq!(buffer, *b\"1,234,567\");",
 assert_eq!((sign_len(-5, &STANDARD), sign_len(5, &STANDARD)), (1, 0));",
     ),
     (
+        "write_with_length",
+        "use cojimuran::parts::write_with_length;
+
+let mut buffer = [0; 9];
+assert_eq!(write_with_length(\"done\\n\", 16, 4, 4, &mut buffer), 5);
+assert_eq!(buffer, *b\"0009done\\n\");",
+    ),
+    (
         "write_sign",
         "use cojimuran::{format::STANDARD, write_sign};
 
@@ -195,11 +203,11 @@ fn lines(example: Option<String>) -> String {
     })
 }
 
-/// Returns a name that the root exports and that has no example, or whose example no made file has.
-pub(crate) fn missing(made: &str, root: &[&str]) -> Option<String> {
+/// Returns an export that has no example, or whose example no made file has.
+pub(crate) fn missing(made: &str, exports: &[String]) -> Option<String> {
     let has_example = |name: &str| {
         let last = ROOT.iter().find(|(item, _)| *item == name).and_then(|(_, code)| code.lines().next_back());
         last.is_some_and(|line| made.contains(line))
     };
-    root.iter().find(|name| !has_example(name)).map(|name| (*name).to_owned())
+    exports.iter().find(|name| !has_example(name)).cloned()
 }

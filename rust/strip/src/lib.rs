@@ -62,17 +62,17 @@ fn made(top: &Path) -> Result<BTreeMap<PathBuf, String>, String> {
 fn document(top: &Path, made: &mut BTreeMap<PathBuf, String>) -> Result<(), String> {
     let root = read(&top.join("rust/cojimuran/src/lib.rs"))?;
     let of_root = links::exports(&root, "crate");
-    let names: Vec<&str> = of_root
-        .iter()
-        .filter(|(name, path)| **path == format!("crate::{name}"))
-        .map(|(name, _)| name.as_str())
-        .collect();
+    let parts = links::exports(&made[Path::new("rust/cojimuran/src/parts.rs")], "crate::parts");
+    // The types of parts have an example by themselves.
+    let is_function = |name: &str| name.starts_with(char::is_lowercase);
+    let names = of_root.iter().filter(|(name, path)| **path == format!("crate::{name}"));
+    let names = names.chain(parts.iter().filter(|(name, _)| is_function(name)));
+    let names: Vec<String> = names.map(|(name, _)| name.clone()).collect();
     let is_of_package = |path: &Path| path.starts_with("rust/cojimuran");
     let all: String = made.iter().filter(|(path, _)| is_of_package(path)).map(|(_, text)| text.as_str()).collect();
     if let Some(name) = examples::missing(&all.replace("/// ", ""), &names) {
         return Err(format!("{name} has no example"));
     }
-    let parts = links::exports(&made[Path::new("rust/cojimuran/src/parts.rs")], "crate::parts");
     let mut exports = of_root;
     exports.extend(parts);
     links::add_methods(&all, &mut exports, &mut Default::default());

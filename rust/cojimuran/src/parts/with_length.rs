@@ -17,6 +17,14 @@ use crate::write_integer::padded::write_padded;
 /// or if the buffer is [too short](crate#conditions),
 /// or if the length has more digits than `width`,
 /// or if the length and `extra` together are 2^64 or above.
+///
+/// ```
+/// use cojimuran::parts::write_with_length;
+///
+/// let mut buffer = [0; 9];
+/// assert_eq!(write_with_length("done\n", 16, 4, 4, &mut buffer), 5);
+/// assert_eq!(buffer, *b"0009done\n");
+/// ```
 #[inline]
 pub fn write_with_length<P: Part>(
     part: P,
