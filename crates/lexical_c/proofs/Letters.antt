@@ -45,6 +45,9 @@ or_32 c =
     let both : bit_and c 32 ≡ c / 32 % 2 * 32 = and_pow c 5 in
     omega (arith, or_add_and c 32, both)
 
+pub lowered_twice : (c : ℕ) → bit_or (bit_or c 32) 32 ≡ bit_or c 32
+lowered_twice c = omega (arith, or_32 c, or_32 (bit_or c 32))
+
 digit_char-lowered : (d : ℕ) → d < 36 → bit_or (digit_char d) 32 ≡ to_ascii_lowercase (digit_char d)
 digit_char-lowered d small = grind (arith, cases_lt, nat_tests, or_32, lowercase_is)
 

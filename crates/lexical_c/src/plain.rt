@@ -1,7 +1,7 @@
 //! Writes a number in a format without groups and required signs, to a buffer that is long enough for
 //! every number of the type.
 
-ghost use Rattle.std.specs.Prelude.{◌≡◌, ◌<◌, ◌≤◌, ◌↔◌, IsTrue, length, map, false, None, IfSome};
+ghost use Rattle.std.specs.Prelude.{◌≡◌, ◌*◌, ◌<◌, ◌≤◌, ◌↔◌, IsTrue, length, map, false, None, IfSome};
 ghost use Rattle.std.specs.Int.Bits.{bit_or};
 ghost use Rattle.lexical_num.specs.Format.{IsRadix, standard};
 ghost use Rattle.lexical_num.specs.Size.{size_in};
@@ -56,13 +56,39 @@ pub fn fitting_format<T: FormattedSize>(radix: u32, room: usize) -> Option<Numbe
     }
 }
 
+// Sets the bit 32 in each byte of a text.
+fn set_bit_in_each(text: &mut [u8])
+    ensures { text.new ≡ map (λ byte. bit_or byte 32) text.old }
+{
+    for byte in text.iter_mut() {
+        *byte |= 32;
+    }
+}
+
+// Sets the bit in the first `SIZE` bytes of a text and in the last `SIZE`, which together are all bytes. If they
+// overlap, it is set twice. A compiler makes one operation of a constant number of bytes.
+fn set_bit_in_halves<const SIZE: usize>(text: &mut [u8])
+    requires ends { SIZE ≤ length text.old }
+    requires all { length text.old ≤ 2 * SIZE }
+    ensures { text.new ≡ map (λ byte. bit_or byte 32) text.old }
+{
+    set_bit_in_each(&mut text[..SIZE]);
+    let start = text.len() - SIZE;
+    set_bit_in_each(&mut text[start..]);
+}
+
 /// Sets the bit 32 in each byte of a text. Of the bytes of digits and signs only uppercase letters lack this bit, which
 /// is all that distinguishes them from lowercase letters.
 pub fn set_lowercase_bit(text: &mut [u8])
     ensures { text.new ≡ map (λ byte. bit_or byte 32) text.old }
 {
-    for byte in text.iter_mut() {
-        *byte |= 32;
+    match text.len() {
+        0 => {}
+        1..=2 => set_bit_in_halves::<1>(text),
+        3..=4 => set_bit_in_halves::<2>(text),
+        5..=8 => set_bit_in_halves::<4>(text),
+        9..=16 => set_bit_in_halves::<8>(text),
+        _ => set_bit_in_each(text),
     }
 }
 

@@ -41,12 +41,34 @@ pub fn fitting_format<T: FormattedSize>(radix: u32, room: usize) -> Option<Numbe
     }
 }
 
+// Sets the bit 32 in each byte of a text.
+#[inline(always)]
+fn set_bit_in_each(text: &mut [u8]) {
+    for byte in text.iter_mut() {
+        *byte |= 32;
+    }
+}
+
+// Sets the bit in the first `SIZE` bytes of a text and in the last `SIZE`, which together are all bytes. If they
+// overlap, it is set twice. A compiler makes one operation of a constant number of bytes.
+#[inline(always)]
+fn set_bit_in_halves<const SIZE: usize>(text: &mut [u8]) {
+    set_bit_in_each(&mut text[..SIZE]);
+    let start = text.len() - SIZE;
+    set_bit_in_each(&mut text[start..]);
+}
+
 /// Sets the bit 32 in each byte of a text. Of the bytes of digits and signs only uppercase letters lack this bit, which
 /// is all that distinguishes them from lowercase letters.
 #[inline(always)]
 pub fn set_lowercase_bit(text: &mut [u8]) {
-    for byte in text.iter_mut() {
-        *byte |= 32;
+    match text.len() {
+        0 => {}
+        1..=2 => set_bit_in_halves::<1>(text),
+        3..=4 => set_bit_in_halves::<2>(text),
+        5..=8 => set_bit_in_halves::<4>(text),
+        9..=16 => set_bit_in_halves::<8>(text),
+        _ => set_bit_in_each(text),
     }
 }
 

@@ -2,7 +2,7 @@ use Rattle.std.proofs.Common.{get_or, arith}
 use Rattle.std.proofs.lemmas.List.{get_or_default}
 use Rattle.std.proofs.lemmas.List.Edits.{map_over_more}
 use Rattle.std.specs.Int.Bits.{bit_or}
-use Rattle.lexical_c.proofs.plain.set_lowercase_bit.Goals as goal
+use Rattle.lexical_c.proofs.plain.set_bit_in_each.Goals as goal
 
 pub loop-byte-preserved : goal.loop-byte-preserved
 loop-byte-preserved c =
