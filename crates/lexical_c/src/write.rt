@@ -75,9 +75,7 @@ fn write_in_radix<T: CInteger>(value: T, format: &CFormat, buffer: &mut [u8]) ->
     }
 }
 
-// Does what `write` does in a format that has only a radix and lowercase. It is cold too: otherwise the calls without
-// letters would save registers for it.
-#[cold]
+// Does what `write` does in a format that has only a radix and lowercase.
 fn write_in_lowercase<T: CInteger>(value: T, format: &CFormat, buffer: &mut [u8]) -> usize
     requires only { HasOnlyRadixAndCase format.now }
     requires lowercase { format.now.lowercase ≢ 0 }

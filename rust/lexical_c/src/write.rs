@@ -59,9 +59,7 @@ fn write_in_radix<T: CInteger>(value: T, format: &CFormat, buffer: &mut [u8]) ->
     }
 }
 
-// Does what `write` does in a format that has only a radix and lowercase. It is cold too: otherwise the calls without
-// letters would save registers for it.
-#[cold]
+// Does what `write` does in a format that has only a radix and lowercase.
 #[inline]
 fn write_in_lowercase<T: CInteger>(value: T, format: &CFormat, buffer: &mut [u8]) -> usize {
     match fitting_format::<T>(format.radix, buffer.len()) {
