@@ -37,7 +37,7 @@
 //!
 //! `write_joined` writes several numbers, and `join` returns their text.
 
-// The lines above are in `crates/library_tests/src/line_answers/answers.rt`, and `length_of_joined_texts` in
+// The lines above are in `crates/line_tests/src/answers.rt`, and `length_of_joined_texts` in
 // `crates/contract_tests/src/refused_calls/texts.rt` calls `join`.
 #![tactic(auto)]
 

@@ -1,4 +1,4 @@
-//! Tests of the libraries against known values: formats, tables, digit counts, writers, and answers to lines.
+//! Tests of the libraries against known values: formats, tables, digit counts and writers.
 #![tactic(auto)]
 
 // The first test of the project.
@@ -29,8 +29,6 @@ mod formats;
 mod kernel_values;
 #[cfg(test)]
 mod known_texts;
-#[cfg(test)]
-mod line_answers;
 #[cfg(test)]
 mod lines;
 #[cfg(test)]

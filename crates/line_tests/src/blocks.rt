@@ -3,9 +3,8 @@ mod std_devices;
 
 ghost use Rattle.std.specs.Prelude.{◌≤◌, length, IfOk};
 
-use crate::checks::check_equal;
-use crate::line_answers::checks::kind_of;
-use crate::line_answers::devices::Taker;
+use crate::checks::{check_equal, kind_of};
+use crate::devices::Taker;
 use lexical_lines::{BlockWriter, ByteSink, Writing};
 use std::cell::Cell;
 use std::io::ErrorKind;

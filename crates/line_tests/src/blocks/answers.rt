@@ -1,7 +1,7 @@
 // Lines of a reader are answered to a writer, and one of the two may fail at one of its calls.
 
 use crate::checks::check_equal;
-use crate::line_answers::devices::{Giver, NEVER, Taker};
+use crate::devices::{Giver, NEVER, Taker};
 use lexical_lines::{BlockWriter, Reading, Writing};
 use lexical_streams::answer_stream;
 use std::cell::Cell;

@@ -4,7 +4,7 @@ ghost use Rattle.std.specs.Prelude.{◌≡◌, ℕ, ◌+◌, ◌-◌, ◌≤◌,
 ghost use Rattle.lexical_lines.specs.Sink.{taken_by, put_failures};
 ghost use Rattle.lexical_lines.specs.Source.{yielded_by, reports_end, failures_of};
 
-use crate::line_answers::devices::NEVER;
+use crate::devices::NEVER;
 use lexical_lines::{ByteSink, ByteSource, Trace};
 use std::io;
 use std::io::ErrorKind;

@@ -1,10 +1,9 @@
 // Runs over devices that fail after each number of bytes: a run ends at the first failure, and no byte
 // is lost or written twice.
 
-use crate::checks::check_equal;
-use crate::line_answers::checks::{Outcome, UNCHANGED, check_buffer, check_outcome, check_run};
-use crate::line_answers::devices::{Giver, NEVER, Taker};
-use crate::line_answers::failing::{FailingSink, FailingSource};
+use crate::checks::{Outcome, UNCHANGED, check_buffer, check_equal, check_outcome, check_run};
+use crate::devices::{Giver, NEVER, Taker};
+use crate::failing::{FailingSink, FailingSource};
 use lexical_lines::{Reading, SliceSource, Writing, run};
 use std::cell::Cell;
 use std::io::ErrorKind;

@@ -1,6 +1,6 @@
 // The answers to known lines.
 
-use crate::line_answers::checks::check_slice;
+use crate::checks::check_slice;
 use std::io::ErrorKind;
 
 // Inputs, their answers, and whether all lines are valid.

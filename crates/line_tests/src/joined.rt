@@ -3,8 +3,7 @@
 ghost use Rattle.std.specs.Prelude.{◌+◌, ◌*◌, ◌≤◌, length};
 ghost use Rattle.lexical_num.specs.Size.{size_in};
 
-use crate::checks::check_equal;
-use crate::line_answers::checks::{UNCHANGED, check_buffer};
+use crate::checks::{UNCHANGED, check_buffer, check_equal};
 use lexical_lines::{join, write_joined};
 use lexical_num::format::{NumberFormat, STANDARD};
 use lexical_num::format_builder::NumberFormatBuilder;

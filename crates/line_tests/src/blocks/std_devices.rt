@@ -1,8 +1,7 @@
 // A `Reading` and a `Writing` call their reader and their writer once for each call, also after an error.
 
-use crate::checks::check_equal;
-use crate::line_answers::checks::{check_put, check_taker, kind_of};
-use crate::line_answers::devices::{Giver, Taker};
+use crate::checks::{check_equal, check_put, check_taker, kind_of};
+use crate::devices::{Giver, Taker};
 use lexical_lines::{BlockSink, BlockSource, Reading, Writing};
 use std::cell::Cell;
 use std::io::ErrorKind;

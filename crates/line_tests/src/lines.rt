@@ -1,6 +1,6 @@
 // Hostile lines: single bytes, a valid line with one byte changed, and one with an additional byte.
 
-use crate::line_answers::checks::check_slice;
+use crate::checks::check_slice;
 use std::process::Abort;
 
 const BAD: &[u8] = b"bad line 1\n";
