@@ -97,7 +97,7 @@ fn write_by_table<T: UnsignedInteger, const R: u32>(
 }
 
 // Writes a number as `write_by_table` does, but is called: its code is too long for each caller.
-// It is cold, and so not inlined: otherwise each call for a shorter number would save registers that only this needs.
+// It is cold: otherwise each call for a shorter number would save registers that only this needs.
 #[cold]
 fn write_apart<T: UnsignedInteger, const R: u32>(
     value: T,
@@ -112,7 +112,8 @@ fn write_apart<T: UnsignedInteger, const R: u32>(
     write_by_table::<T, R>(value, buffer, turns)
 }
 
-// Writes a number as `write_by_table` does: one or two digits, which are frequent, in each caller.
+// Writes a number as `write_by_table` does: one or two digits, which are frequent, in each caller, and each number of a
+// type of 8 or 16 bits, whose code is short.
 fn write_short_or_apart<T: UnsignedInteger, const R: u32>(
     value: T,
     buffer: &mut [u8],
@@ -127,6 +128,9 @@ fn write_short_or_apart<T: UnsignedInteger, const R: u32>(
     let number = value.as_usize() as u64;
     if number < u64::from(R * R) {
         return write_short(number as u32, RadixTable::<R>::new(), buffer, turns);
+    }
+    if T::BITS < 32 {
+        return write_by_table::<T, R>(value, buffer, turns);
     }
     write_apart::<T, R>(value, buffer, turns)
 }

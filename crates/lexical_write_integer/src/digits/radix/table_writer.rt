@@ -246,6 +246,29 @@ fn write_one_or_two<const R: u32>(
     buffer[digits - 1] = table.pairs[pair + 1];
 }
 
+// Writes the one or two digits of a number as `write_one_or_two` does. It reads both characters as one number, in one
+// instruction, but into one of few registers, so it writes no part of a longer number.
+fn write_one_pair<const R: u32>(
+    number: u32,
+    digits: usize,
+    table: RadixTable<'_, R>,
+    buffer: &mut [u8],
+)
+    requires short { number < R * R }
+    requires digits { digits ≡ digit_count R number }
+    requires room { digits ≤ length buffer.old }
+    ensures { WritesDigits R number buffer.old buffer.new digits }
+{
+    // So rustc tests the end of the buffer once.
+    prove!(digits <= buffer.len());
+    let index = 2 * number as usize;
+    let mut pair = [0; 2];
+    pair.copy_from_slice(&table.pairs[index..index + 2]);
+    let characters = u16::from_le_bytes(pair);
+    buffer[0] = (characters % 256) as u8;
+    buffer[digits - 1] = (characters / 256) as u8;
+}
+
 // Counts the one or two digits of a number, and writes them.
 pub(super) fn write_short<const R: u32>(
     number: u32,
@@ -259,7 +282,7 @@ pub(super) fn write_short<const R: u32>(
     ensures notes { turns.new ≡ turns.old ++ table_notes R number }
 {
     let count = count_short(number, R, turns);
-    write_one_or_two(number, count, table, buffer);
+    write_one_pair(number, count, table, buffer);
     count
 }
 

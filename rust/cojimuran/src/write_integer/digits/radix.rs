@@ -61,17 +61,23 @@ fn write_by_table<T: UnsignedInteger, const R: u32>(value: T, buffer: &mut [u8])
 }
 
 // Writes a number as `write_by_table` does, but is called: its code is too long for each caller.
+// It is cold: otherwise each call for a shorter number would save registers that only this needs.
+#[cold]
 #[inline]
 fn write_apart<T: UnsignedInteger, const R: u32>(value: T, buffer: &mut [u8]) -> usize {
     write_by_table::<T, R>(value, buffer)
 }
 
-// Writes a number as `write_by_table` does: one or two digits, which are frequent, in each caller.
+// Writes a number as `write_by_table` does: one or two digits, which are frequent, in each caller, and each number of a
+// type of 8 or 16 bits, whose code is short.
 #[inline]
 fn write_short_or_apart<T: UnsignedInteger, const R: u32>(value: T, buffer: &mut [u8]) -> usize {
     let number = value.as_usize() as u64;
     if number < u64::from(R * R) {
         return write_short(number as u32, RadixTable::<R>::new(), buffer);
+    }
+    if T::BITS < 32 {
+        return write_by_table::<T, R>(value, buffer);
     }
     write_apart::<T, R>(value, buffer)
 }

@@ -166,6 +166,25 @@ fn write_one_or_two<const R: u32>(
     buffer[digits - 1] = table.pairs[pair + 1];
 }
 
+// Writes the one or two digits of a number as `write_one_or_two` does. It reads both characters as one number, in one
+// instruction, but into one of few registers, so it writes no part of a longer number.
+#[inline(always)]
+fn write_one_pair<const R: u32>(
+    number: u32,
+    digits: usize,
+    table: RadixTable<'_, R>,
+    buffer: &mut [u8],
+) {
+    // So rustc tests the end of the buffer once.
+    assert!(digits <= buffer.len());
+    let index = 2 * number as usize;
+    let mut pair = [0; 2];
+    pair.copy_from_slice(&table.pairs[index..index + 2]);
+    let characters = u16::from_le_bytes(pair);
+    buffer[0] = (characters % 256) as u8;
+    buffer[digits - 1] = (characters / 256) as u8;
+}
+
 // Counts the one or two digits of a number, and writes them.
 #[inline(always)]
 pub(super) fn write_short<const R: u32>(
@@ -174,7 +193,7 @@ pub(super) fn write_short<const R: u32>(
     buffer: &mut [u8],
 ) -> usize {
     let count = count_short(number, R);
-    write_one_or_two(number, count, table, buffer);
+    write_one_pair(number, count, table, buffer);
     count
 }
 
