@@ -146,7 +146,8 @@ pub(crate) const SOURCES: &[Source] = &[
                 last_four write_four write_up_to_four write_three_or_four write_one_or_two write_one_pair write_short
                 first_pair
                 remove_four fourth_power count_short count_one_or_two count_three_or_four count_some
-                count_and_write_one_or_two count_and_write_up_to_four count_and_write_up_to_eight",
+                count_and_write_one_or_two count_and_write_up_to_four count_and_write_five_to_eight
+                count_and_write_up_to_eight",
             ),
         ],
         left_out: "laws turns",

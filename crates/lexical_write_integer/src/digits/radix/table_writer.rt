@@ -13,7 +13,7 @@ use crate::digits::pairs::RadixTable;
 use crate::turns::Turns;
 
 // Returns the fourth power of the radix: the divisor that removes four digits.
-fn fourth_power(radix: u32) -> u64
+pub(super) fn fourth_power(radix: u32) -> u64
     requires { IsRadix radix }
     ensures power { result ≡ radix ^ 4 }
     ensures some { 0 < result }
@@ -287,7 +287,7 @@ pub(super) fn write_short<const R: u32>(
 }
 
 // Counts the one to four digits of a number by division, and writes them.
-fn count_and_write_up_to_four<const R: u32>(
+pub(super) fn count_and_write_up_to_four<const R: u32>(
     number: u32,
     table: RadixTable<'_, R>,
     buffer: &mut [u8],
@@ -310,8 +310,32 @@ fn count_and_write_up_to_four<const R: u32>(
     head + 2
 }
 
+// Counts five to eight digits by division, and writes them.
+pub(super) fn count_and_write_five_to_eight<const R: u32>(
+    value: u64,
+    table: RadixTable<'_, R>,
+    buffer: &mut [u8],
+    turns: &mut Turns,
+    loop_turns: &mut Turns,
+) -> usize
+    requires more { R ^ 4 ≤ value }
+    requires short { value < R ^ 8 }
+    requires room { digit_count R value ≤ length buffer.old }
+    ensures digits { WritesDigits R value buffer.old buffer.new result }
+    ensures turns { turns.new ≡ turns.old ++ slow_notes R value }
+    ensures loop_turns { loop_turns.new ≡ loop_turns.old ++ loop_notes R value }
+{
+    let left = remove_four::<R>(value, loop_turns);
+    turns.tick(left);
+    let head = count_and_write_up_to_four(left as u32, table, buffer, turns, loop_turns);
+    // With `last_four` LLVM would not inline this function for numbers of 8 bits.
+    let last = value - left * fourth_power(R);
+    write_four(last as u32, table, buffer, head);
+    head + 4
+}
+
 // Counts up to eight digits by division, and writes them.
-pub(super) fn count_and_write_up_to_eight<const R: u32>(
+fn count_and_write_up_to_eight<const R: u32>(
     value: u64,
     table: RadixTable<'_, R>,
     buffer: &mut [u8],
@@ -325,15 +349,10 @@ pub(super) fn count_and_write_up_to_eight<const R: u32>(
     ensures loop_turns { loop_turns.new ≡ loop_turns.old ++ loop_notes R value }
 {
     if value < fourth_power(R) {
-        return count_and_write_up_to_four(value as u32, table, buffer, turns, loop_turns);
+        count_and_write_up_to_four(value as u32, table, buffer, turns, loop_turns)
+    } else {
+        count_and_write_five_to_eight(value, table, buffer, turns, loop_turns)
     }
-    let left = remove_four::<R>(value, loop_turns);
-    turns.tick(left);
-    let head = count_and_write_up_to_four(left as u32, table, buffer, turns, loop_turns);
-    // With `last_four` LLVM would not inline this function for numbers of 8 bits.
-    let last = value - left * fourth_power(R);
-    write_four(last as u32, table, buffer, head);
-    head + 4
 }
 
 // Counts the one or two digits of a number by division, and writes them.

@@ -7,7 +7,7 @@ use crate::write_integer::digits::pairs::RadixTable;
 
 // Returns the fourth power of the radix: the divisor that removes four digits.
 #[inline(always)]
-fn fourth_power(radix: u32) -> u64 {
+pub(super) fn fourth_power(radix: u32) -> u64 {
     let square = u64::from(radix * radix);
     square * square
 }
@@ -199,7 +199,7 @@ pub(super) fn write_short<const R: u32>(
 
 // Counts the one to four digits of a number by division, and writes them.
 #[inline(always)]
-fn count_and_write_up_to_four<const R: u32>(
+pub(super) fn count_and_write_up_to_four<const R: u32>(
     number: u32,
     table: RadixTable<'_, R>,
     buffer: &mut [u8],
@@ -213,22 +213,33 @@ fn count_and_write_up_to_four<const R: u32>(
     head + 2
 }
 
-// Counts up to eight digits by division, and writes them.
+// Counts five to eight digits by division, and writes them.
 #[inline(always)]
-pub(super) fn count_and_write_up_to_eight<const R: u32>(
+pub(super) fn count_and_write_five_to_eight<const R: u32>(
     value: u64,
     table: RadixTable<'_, R>,
     buffer: &mut [u8],
 ) -> usize {
-    if value < fourth_power(R) {
-        return count_and_write_up_to_four(value as u32, table, buffer);
-    }
     let left = remove_four::<R>(value);
     let head = count_and_write_up_to_four(left as u32, table, buffer);
     // With `last_four` LLVM would not inline this function for numbers of 8 bits.
     let last = value - left * fourth_power(R);
     write_four(last as u32, table, buffer, head);
     head + 4
+}
+
+// Counts up to eight digits by division, and writes them.
+#[inline(always)]
+fn count_and_write_up_to_eight<const R: u32>(
+    value: u64,
+    table: RadixTable<'_, R>,
+    buffer: &mut [u8],
+) -> usize {
+    if value < fourth_power(R) {
+        count_and_write_up_to_four(value as u32, table, buffer)
+    } else {
+        count_and_write_five_to_eight(value, table, buffer)
+    }
 }
 
 // Counts the one or two digits of a number by division, and writes them.
