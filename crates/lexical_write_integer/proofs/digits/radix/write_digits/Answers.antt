@@ -4,7 +4,9 @@ use Rattle.lexical_write_integer.specs.Digits.LoopTurns.{count_notes, loop_notes
 use Rattle.lexical_write_integer.proofs.OfDigits.Count.RadixPowers.{power-small}
 use Rattle.lexical_write_integer.proofs.OfDigits.Radix.Loops.Records.{slow_noted, table_notes-are}
 use Rattle.lexical_write_integer.proofs.digits.radix.write_digits.Goals as goal
-use Rattle.lexical_write_integer.proofs.digits.radix.write_digits.Goals.{then-number-fourth_power, else-number-fourth_power+then-number-eighth_power, else-number-fourth_power+else-number-eighth_power}
+use Rattle.lexical_write_integer.proofs.digits.radix.write_digits.Goals.{then-number-fourth_power}
+use Rattle.lexical_write_integer.proofs.digits.radix.write_digits.Goals.{else-number-fourth_power+then-number-eighth_power}
+use Rattle.lexical_write_integer.proofs.digits.radix.write_digits.Goals.{else-number-fourth_power+else-number-eighth_power}
 
 pub overflow_cast-number : goal.overflow_cast-number
 overflow_cast-number g c =
