@@ -78,7 +78,7 @@ pub(crate) const WRITE_INTEGER: Replaced = &[
     ("(copy_to_front(&digits[index..], buffer), turns)", "copy_to_front(&digits[index..], buffer)"),
     ("let (count, noted) = write_in(", "write_in("),
     (";\n    turns.append(&noted);\n    count", ""),
-    ("let count = if number < eighth", "if number < eighth"),
+    ("let count = if number < fourth", "if number < fourth"),
     (";\n    turns.append(&loop_turns);\n    count", ""),
     ("let left = value / fourth_power(R);\n    loop_turns.tick(left);\n    left", "value / fourth_power(R)"),
     ("let pair = number / (R * R);\n", "number / (R * R)\n"),

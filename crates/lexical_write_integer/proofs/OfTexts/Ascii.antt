@@ -19,7 +19,7 @@ AllAscii = All (λ b. b < 128)
 AllAscii-one : (b : ℕ) → b < 128 → AllAscii (b ∷ [])
 AllAscii-one b small = All-cons (λ b. b < 128) b [] small (All-nil (λ b. b < 128))
 
-digit_char-ascii : (d : ℕ) → d < 36 → digit_char d < 128
+pub digit_char-ascii : (d : ℕ) → d < 36 → digit_char d < 128
 digit_char-ascii d small = grind (arith, nat_tests)
 
 AllAscii-digit_chars : (r : ℕ) (digits : List ℕ) → r ≤ 36 → All (λ d. d < r) digits → AllAscii (map digit_char digits)

@@ -22,7 +22,8 @@ use by_radix::by_radix;
 use lexical_num::num::UnsignedInteger;
 use lexical_tables::get_table;
 use table_writer::{
-    count_and_write_more, count_and_write_up_to_eight, eighth_power, write_after_count, write_short,
+    count_and_write_five_to_eight, count_and_write_more, count_and_write_up_to_four, eighth_power,
+    fourth_power, write_after_count, write_short,
 };
 
 // Writes a number in the radix `R`, whose digits are counted without division, with a table that begins with the digit
@@ -72,9 +73,11 @@ fn write_digits<T: UnsignedInteger, const R: u32>(
     }
     let table = RadixTable::<R> { pairs: table };
     let mut loop_turns = Turns::new();
-    let count = if number < eighth_power(R) {
-        // This is known of each number of 8 bits, so their code has nothing else.
-        count_and_write_up_to_eight(number, table, buffer, turns, &mut loop_turns)
+    let count = if number < fourth_power(R) {
+        // This is known of each number of 8 bits from radix 4 on, so their code has nothing else.
+        count_and_write_up_to_four(number as u32, table, buffer, turns, &mut loop_turns)
+    } else if number < eighth_power(R) {
+        count_and_write_five_to_eight(number, table, buffer, turns, &mut loop_turns)
     } else {
         count_and_write_more(number, table, buffer, turns, &mut loop_turns)
     };
@@ -97,7 +100,7 @@ fn write_by_table<T: UnsignedInteger, const R: u32>(
 }
 
 // Writes a number as `write_by_table` does, but is called: its code is too long for each caller.
-// It is cold, and so not inlined: otherwise each call for a shorter number would save registers that only this needs.
+// It is cold: otherwise each call for a shorter number would save registers that only this needs.
 #[cold]
 fn write_apart<T: UnsignedInteger, const R: u32>(
     value: T,
@@ -112,7 +115,8 @@ fn write_apart<T: UnsignedInteger, const R: u32>(
     write_by_table::<T, R>(value, buffer, turns)
 }
 
-// Writes a number as `write_by_table` does: one or two digits, which are frequent, in each caller.
+// Writes a number as `write_by_table` does: one or two digits, which are frequent, in each caller, and each number of a
+// type of 8 or 16 bits, whose code is short.
 fn write_short_or_apart<T: UnsignedInteger, const R: u32>(
     value: T,
     buffer: &mut [u8],
@@ -127,6 +131,9 @@ fn write_short_or_apart<T: UnsignedInteger, const R: u32>(
     let number = value.as_usize() as u64;
     if number < u64::from(R * R) {
         return write_short(number as u32, RadixTable::<R>::new(), buffer, turns);
+    }
+    if T::BITS < 32 {
+        return write_by_table::<T, R>(value, buffer, turns);
     }
     write_apart::<T, R>(value, buffer, turns)
 }

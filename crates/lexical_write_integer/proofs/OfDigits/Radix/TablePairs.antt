@@ -1,6 +1,7 @@
 -- Pairs of digits, which are read from a table that begins with the pairs of the radix.
 use Rattle.std.proofs.Common.{◌≡◌, ℕ, suc, ◌+◌, ◌-◌, ◌*◌, ◌/◌, ◌%◌, ◌^◌, ◌<◌, ◌≤◌, List, [], ◌∷◌, length, get_or, take, drop, map, set, refl, ap, subst}
 use Rattle.std.proofs.Common.{length-take, arith}
+use Rattle.std.specs.Int.{w16, from_le_bytes}
 use Rattle.std.proofs.Math.Nat.{div-add-mod'}
 use Rattle.std.proofs.Math.Seq.{drop-cons}
 use Rattle.std.proofs.lemmas.List.{get_or-take}
@@ -40,6 +41,10 @@ characters-pair r k table t small =
     let first = drop-cons table (2 * k) 0 (omega arith) in
     let second = drop-cons table (suc (2 * k)) 0 (omega arith) in
     rw (count, first, second, next, pair_first r k table t small, pair_second r k table t small) refl
+
+-- both, as the low and the high byte of a number
+pub joined : (first second n : ℕ) → first < 256 → n ≡ from_le_bytes w16 (first ∷ second ∷ []) → (n % 256 ≡ first) × (n / 256 ≡ second)
+joined first second n small is = (omega (arith, is, small), omega (arith, is, small))
 
 -- the second is stored at index 1 of a part of the buffer, and then the first at index 0
 pub set-pair : (part : List ℕ) (first second : ℕ) → length part ≡ 2 → set (set part 1 second) 0 first ≡ first ∷ second ∷ []

@@ -13,7 +13,7 @@ use crate::digits::pairs::RadixTable;
 use crate::turns::Turns;
 
 // Returns the fourth power of the radix: the divisor that removes four digits.
-fn fourth_power(radix: u32) -> u64
+pub(super) fn fourth_power(radix: u32) -> u64
     requires { IsRadix radix }
     ensures power { result ≡ radix ^ 4 }
     ensures some { 0 < result }
@@ -246,6 +246,29 @@ fn write_one_or_two<const R: u32>(
     buffer[digits - 1] = table.pairs[pair + 1];
 }
 
+// Writes the one or two digits of a number as `write_one_or_two` does. It reads both characters as one number, in one
+// instruction, but into one of few registers, so it writes no part of a longer number.
+fn write_one_pair<const R: u32>(
+    number: u32,
+    digits: usize,
+    table: RadixTable<'_, R>,
+    buffer: &mut [u8],
+)
+    requires short { number < R * R }
+    requires digits { digits ≡ digit_count R number }
+    requires room { digits ≤ length buffer.old }
+    ensures { WritesDigits R number buffer.old buffer.new digits }
+{
+    // So rustc tests the end of the buffer once.
+    prove!(digits <= buffer.len());
+    let index = 2 * number as usize;
+    let mut pair = [0; 2];
+    pair.copy_from_slice(&table.pairs[index..index + 2]);
+    let characters = u16::from_le_bytes(pair);
+    buffer[0] = (characters % 256) as u8;
+    buffer[digits - 1] = (characters / 256) as u8;
+}
+
 // Counts the one or two digits of a number, and writes them.
 pub(super) fn write_short<const R: u32>(
     number: u32,
@@ -259,12 +282,12 @@ pub(super) fn write_short<const R: u32>(
     ensures notes { turns.new ≡ turns.old ++ table_notes R number }
 {
     let count = count_short(number, R, turns);
-    write_one_or_two(number, count, table, buffer);
+    write_one_pair(number, count, table, buffer);
     count
 }
 
 // Counts the one to four digits of a number by division, and writes them.
-fn count_and_write_up_to_four<const R: u32>(
+pub(super) fn count_and_write_up_to_four<const R: u32>(
     number: u32,
     table: RadixTable<'_, R>,
     buffer: &mut [u8],
@@ -287,8 +310,32 @@ fn count_and_write_up_to_four<const R: u32>(
     head + 2
 }
 
+// Counts five to eight digits by division, and writes them.
+pub(super) fn count_and_write_five_to_eight<const R: u32>(
+    value: u64,
+    table: RadixTable<'_, R>,
+    buffer: &mut [u8],
+    turns: &mut Turns,
+    loop_turns: &mut Turns,
+) -> usize
+    requires more { R ^ 4 ≤ value }
+    requires short { value < R ^ 8 }
+    requires room { digit_count R value ≤ length buffer.old }
+    ensures digits { WritesDigits R value buffer.old buffer.new result }
+    ensures turns { turns.new ≡ turns.old ++ slow_notes R value }
+    ensures loop_turns { loop_turns.new ≡ loop_turns.old ++ loop_notes R value }
+{
+    let left = remove_four::<R>(value, loop_turns);
+    turns.tick(left);
+    let head = count_and_write_up_to_four(left as u32, table, buffer, turns, loop_turns);
+    // With `last_four` LLVM would not inline this function for numbers of 8 bits.
+    let last = value - left * fourth_power(R);
+    write_four(last as u32, table, buffer, head);
+    head + 4
+}
+
 // Counts up to eight digits by division, and writes them.
-pub(super) fn count_and_write_up_to_eight<const R: u32>(
+fn count_and_write_up_to_eight<const R: u32>(
     value: u64,
     table: RadixTable<'_, R>,
     buffer: &mut [u8],
@@ -302,15 +349,10 @@ pub(super) fn count_and_write_up_to_eight<const R: u32>(
     ensures loop_turns { loop_turns.new ≡ loop_turns.old ++ loop_notes R value }
 {
     if value < fourth_power(R) {
-        return count_and_write_up_to_four(value as u32, table, buffer, turns, loop_turns);
+        count_and_write_up_to_four(value as u32, table, buffer, turns, loop_turns)
+    } else {
+        count_and_write_five_to_eight(value, table, buffer, turns, loop_turns)
     }
-    let left = remove_four::<R>(value, loop_turns);
-    turns.tick(left);
-    let head = count_and_write_up_to_four(left as u32, table, buffer, turns, loop_turns);
-    // With `last_four` LLVM would not inline this function for numbers of 8 bits.
-    let last = value - left * fourth_power(R);
-    write_four(last as u32, table, buffer, head);
-    head + 4
 }
 
 // Counts the one or two digits of a number by division, and writes them.

@@ -16,7 +16,8 @@ use algorithm::algorithm;
 use binary_words::write_binary;
 use by_radix::by_radix;
 use table_writer::{
-    count_and_write_more, count_and_write_up_to_eight, eighth_power, write_after_count, write_short,
+    count_and_write_five_to_eight, count_and_write_more, count_and_write_up_to_four, eighth_power,
+    fourth_power, write_after_count, write_short,
 };
 
 // Writes a number in the radix `R`, whose digits are counted without division, with a table that begins with the digit
@@ -46,9 +47,11 @@ fn write_digits<T: UnsignedInteger, const R: u32>(
         return write_at_once::<R>(number, table, buffer);
     }
     let table = RadixTable::<R> { pairs: table };
-    if number < eighth_power(R) {
-        // This is known of each number of 8 bits, so their code has nothing else.
-        count_and_write_up_to_eight(number, table, buffer)
+    if number < fourth_power(R) {
+        // This is known of each number of 8 bits from radix 4 on, so their code has nothing else.
+        count_and_write_up_to_four(number as u32, table, buffer)
+    } else if number < eighth_power(R) {
+        count_and_write_five_to_eight(number, table, buffer)
     } else {
         count_and_write_more(number, table, buffer)
     }
@@ -61,17 +64,23 @@ fn write_by_table<T: UnsignedInteger, const R: u32>(value: T, buffer: &mut [u8])
 }
 
 // Writes a number as `write_by_table` does, but is called: its code is too long for each caller.
+// It is cold: otherwise each call for a shorter number would save registers that only this needs.
+#[cold]
 #[inline]
 fn write_apart<T: UnsignedInteger, const R: u32>(value: T, buffer: &mut [u8]) -> usize {
     write_by_table::<T, R>(value, buffer)
 }
 
-// Writes a number as `write_by_table` does: one or two digits, which are frequent, in each caller.
+// Writes a number as `write_by_table` does: one or two digits, which are frequent, in each caller, and each number of a
+// type of 8 or 16 bits, whose code is short.
 #[inline]
 fn write_short_or_apart<T: UnsignedInteger, const R: u32>(value: T, buffer: &mut [u8]) -> usize {
     let number = value.as_usize() as u64;
     if number < u64::from(R * R) {
         return write_short(number as u32, RadixTable::<R>::new(), buffer);
+    }
+    if T::BITS < 32 {
+        return write_by_table::<T, R>(value, buffer);
     }
     write_apart::<T, R>(value, buffer)
 }

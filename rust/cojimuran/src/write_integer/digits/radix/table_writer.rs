@@ -7,7 +7,7 @@ use crate::write_integer::digits::pairs::RadixTable;
 
 // Returns the fourth power of the radix: the divisor that removes four digits.
 #[inline(always)]
-fn fourth_power(radix: u32) -> u64 {
+pub(super) fn fourth_power(radix: u32) -> u64 {
     let square = u64::from(radix * radix);
     square * square
 }
@@ -166,6 +166,25 @@ fn write_one_or_two<const R: u32>(
     buffer[digits - 1] = table.pairs[pair + 1];
 }
 
+// Writes the one or two digits of a number as `write_one_or_two` does. It reads both characters as one number, in one
+// instruction, but into one of few registers, so it writes no part of a longer number.
+#[inline(always)]
+fn write_one_pair<const R: u32>(
+    number: u32,
+    digits: usize,
+    table: RadixTable<'_, R>,
+    buffer: &mut [u8],
+) {
+    // So rustc tests the end of the buffer once.
+    assert!(digits <= buffer.len());
+    let index = 2 * number as usize;
+    let mut pair = [0; 2];
+    pair.copy_from_slice(&table.pairs[index..index + 2]);
+    let characters = u16::from_le_bytes(pair);
+    buffer[0] = (characters % 256) as u8;
+    buffer[digits - 1] = (characters / 256) as u8;
+}
+
 // Counts the one or two digits of a number, and writes them.
 #[inline(always)]
 pub(super) fn write_short<const R: u32>(
@@ -174,13 +193,13 @@ pub(super) fn write_short<const R: u32>(
     buffer: &mut [u8],
 ) -> usize {
     let count = count_short(number, R);
-    write_one_or_two(number, count, table, buffer);
+    write_one_pair(number, count, table, buffer);
     count
 }
 
 // Counts the one to four digits of a number by division, and writes them.
 #[inline(always)]
-fn count_and_write_up_to_four<const R: u32>(
+pub(super) fn count_and_write_up_to_four<const R: u32>(
     number: u32,
     table: RadixTable<'_, R>,
     buffer: &mut [u8],
@@ -194,22 +213,33 @@ fn count_and_write_up_to_four<const R: u32>(
     head + 2
 }
 
-// Counts up to eight digits by division, and writes them.
+// Counts five to eight digits by division, and writes them.
 #[inline(always)]
-pub(super) fn count_and_write_up_to_eight<const R: u32>(
+pub(super) fn count_and_write_five_to_eight<const R: u32>(
     value: u64,
     table: RadixTable<'_, R>,
     buffer: &mut [u8],
 ) -> usize {
-    if value < fourth_power(R) {
-        return count_and_write_up_to_four(value as u32, table, buffer);
-    }
     let left = remove_four::<R>(value);
     let head = count_and_write_up_to_four(left as u32, table, buffer);
     // With `last_four` LLVM would not inline this function for numbers of 8 bits.
     let last = value - left * fourth_power(R);
     write_four(last as u32, table, buffer, head);
     head + 4
+}
+
+// Counts up to eight digits by division, and writes them.
+#[inline(always)]
+fn count_and_write_up_to_eight<const R: u32>(
+    value: u64,
+    table: RadixTable<'_, R>,
+    buffer: &mut [u8],
+) -> usize {
+    if value < fourth_power(R) {
+        count_and_write_up_to_four(value as u32, table, buffer)
+    } else {
+        count_and_write_five_to_eight(value, table, buffer)
+    }
 }
 
 // Counts the one or two digits of a number by division, and writes them.

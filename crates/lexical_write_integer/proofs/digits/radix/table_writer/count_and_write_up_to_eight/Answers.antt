@@ -1,63 +1,8 @@
-use Rattle.std.proofs.Common.{◌≡◌, ◌+◌, ◌-◌, ◌*◌, ◌%◌, ◌^◌, ◌<◌, ◌≤◌, ◌∙◌, lit<, arith}
-use Rattle.std.proofs.Math.Nat.{mod-lt, div-add-mod'}
-use Rattle.std.proofs.lemmas.Nat.{div_below, pow-add}
+use Rattle.std.proofs.Common.{arith}
 use Rattle.lexical_write_integer.specs.Digits.LoopTurns.{takes_four}
-use Rattle.lexical_write_integer.proofs.Buffers.BlocksAfter.{WritesDigits-after}
-use Rattle.lexical_write_integer.proofs.OfDigits.Count.RadixPowers.{power-small, power-gt_one}
-use Rattle.lexical_write_integer.proofs.OfDigits.Radix.Loops.Records.{slow_notes-after}
+use Rattle.lexical_write_integer.proofs.OfDigits.Count.RadixPowers.{power-small}
 use Rattle.lexical_write_integer.proofs.digits.radix.table_writer.count_and_write_up_to_eight.Goals as goal
-use Rattle.lexical_write_integer.proofs.digits.radix.table_writer.count_and_write_up_to_eight.Goals.{After-remove_four-left, After-fourth_power-2}
-
--- ---- up to four digits
 
 pub overflow_cast-value : goal.overflow_cast-value
 overflow_cast-value g c =
     omega (arith, c.if-value-fourth_power.true, c.fourth_power.ensures.power, power-small g.row.R 4 c.args.table.is_radix.at_most_36 takes_four)
-
--- ---- more than four digits
-
-long : (g : _) (c : After-remove_four-left g) → g.row.R ^ 4 ≤ c.args.value
-long g c = omega (arith, c.if-value-fourth_power.false, c.fourth_power.ensures.power)
-
--- the number without its last four digits has at most four
-left_short : (g : _) (c : After-remove_four-left g) → c.remove_four-left.result < g.row.R ^ 4
-left_short g c =
-    let some : 0 < g.row.R ^ 4 = omega (arith, power-gt_one g.row.R 4 c.args.table.is_radix.at_least_two takes_four) in
-    rw c.remove_four-left.ensures.left (div_below c.args.value (g.row.R ^ 4) (g.row.R ^ 4) some (rw (pow-add g.row.R 4 4) at c.requires.short))
-
-pub overflow_cast-left : goal.overflow_cast-left
-overflow_cast-left g c =
-    omega (
-      arith,
-      left_short g (goal.at.overflow_cast-left g c).After-remove_four-left,
-      power-small g.row.R 4 c.args.table.is_radix.at_most_36 takes_four,
-    )
-
-pub count_and_write_up_to_four-head-requires : goal.count_and_write_up_to_four-head-requires
-count_and_write_up_to_four-head-requires g c =
-    let c' = (goal.at.count_and_write_up_to_four-head-requires g c).After-remove_four-left in
-    (lit< tt, (left_short g c', omega (arith, c.remove_four-left.ensures.digits, c.requires.room)))
-
-parts : (g : _) (c : After-fourth_power-2 g) → c.remove_four-left.result * c.fourth_power-2.result + c.args.value % g.row.R ^ 4 ≡ c.args.value
-parts g c = rw (c.remove_four-left.ensures.left, c.fourth_power-2.ensures.power) (div-add-mod' c.args.value (g.row.R ^ 4))
-
-last_short : (g : _) (c : After-fourth_power-2 g) → c.args.value - c.remove_four-left.result * c.fourth_power-2.result < g.row.R ^ 4
-last_short g c = omega (arith, parts g c, mod-lt c.args.value c.fourth_power-2.ensures.some, c.fourth_power-2.ensures.power)
-
-pub overflow_cast-last : goal.overflow_cast-last
-overflow_cast-last g c =
-    let below = last_short g (goal.at.overflow_cast-last g c).After-fourth_power-2 in
-    omega (arith, below, power-small g.row.R 4 c.args.table.is_radix.at_most_36 takes_four)
-
-pub returns-clause-digits : goal.returns-clause-digits
-returns-clause-digits g c =
-    let last : c.args.value - c.remove_four-left.result * c.fourth_power-2.result ≡ c.args.value % g.row.R ^ 4 =
-    omega (arith, parts g (goal.at.returns-clause-digits g c).After-fourth_power-2) in
-    grind (arith, WritesDigits-after)
-
-pub returns-clause-turns : goal.returns-clause-turns
-returns-clause-turns g c = grind (arith, slow_notes-after, long)
-
--- the check finds this proof by itself, but with an answer the refusal of a mistake says what is wrong
-pub returns-clause-loop_turns : goal.returns-clause-loop_turns
-returns-clause-loop_turns g c = c.count_and_write_up_to_four-head.ensures.loop_turns ∙ c.remove_four-left.ensures.loop_turns
