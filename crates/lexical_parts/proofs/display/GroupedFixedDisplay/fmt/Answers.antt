@@ -8,8 +8,10 @@ use Rattle.lexical_parts.proofs.display.GroupedFixedDisplay.fmt.Goals as goal
 
 pub returns-in-Some-clause-writes : goal.returns-in-Some-clause-writes
 returns-in-Some-clause-writes g c =
-    let small = magnitude-small _ g.met.T.LexicalInteger.bit_width _ c.in_range.ensures.at_least c.in_range.ensures.at_most in
-    rw (← fixed_is _ _ _ c.in-Some.text.now small c.in-Some.ensures.text) c.pad_number.ensures.writes
+    let number = g.T.LexicalInteger.number c.args.self.now.0 in
+    let small = magnitude-small _ g.met.T.LexicalInteger.bit_width number c.in_range.ensures.at_least c.in_range.ensures.at_most in
+    let same = fixed_is c.args.self.now.2.now.digit_grouping c.args.self.now.1 number c.in-Some.text.now small c.in-Some.ensures.text in
+    rw (← same) c.pad_number.ensures.writes
 
 pub returns-in-Some-clause-styled : goal.returns-in-Some-clause-styled
 returns-in-Some-clause-styled g c =
