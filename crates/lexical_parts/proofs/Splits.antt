@@ -1,51 +1,28 @@
 -- What two texts in a row have in common if they are equal, and which of two texts is the earlier one.
-use Rattle.std.proofs.lemmas.Grind.{common_steps}
-use Rattle.std.proofs.Common.{◌≡◌, ℕ, ◌<◌, List, [], ◌∷◌, ◌++◌, length, take, drop, get_or, refl, sym, ap, ◌∙◌, arith}
+use Rattle.std.proofs.Common.{◌≡◌, ℕ, List, [], ◌∷◌, ◌++◌, length, take, drop, get_or, refl, sym, ap, ◌∙◌, arith}
 use Rattle.std.specs.Prelude.{◌≢◌}
 use Rattle.std.specs.List.{All}
 use Rattle.std.specs.Cmp.Lexicographic.{slice_cmp}
 use Rattle.std.specs.Ordering.{nat_cmp, ordering_then}
 use Rattle.std.specs.declared.cmp.Ordering.{Ordering}
 use Rattle.std.specs.declared.cmp.Ordering.TheVariants.{Less, Equal, Greater}
-use Rattle.std.proofs.Math.Seq.{drop-append_seam, take-append_seam}
+use Rattle.std.proofs.lemmas.List.{drop_at, take_at}
 use Rattle.std.proofs.lemmas.List.Elements.{All-head, All-tail}
 use Rattle.lexical_write_integer.specs.Order.{IsEarlier}
-use Rattle.lexical_write_integer.specs.Padded.{IsPadded}
 use Rattle.lexical_write_integer.specs.Sequence.{IsExactly, Then}
-use Rattle.lexical_write_integer.proofs.OfTexts.Orders.{IsEarlier-IsPadded}
+use Rattle.lexical_parts.specs.InCommon.{HaveInCommon}
 
 -- ---- texts whose first parts have the same width
 
-first_is : (text first second : List ℕ) (count : ℕ) → text ≡ first ++ second → length first ≡ count → first ≡ take count text
-first_is text first second count whole long =
-    sym (take-append_seam first second) ∙ ap (λ n. take n (first ++ second)) long ∙ ap (take count) (sym whole)
-
-second_is : (text first second : List ℕ) (count : ℕ) → text ≡ first ++ second → length first ≡ count → second ≡ drop count text
-second_is text first second count whole long =
-    sym (drop-append_seam first second) ∙ ap (λ n. drop n (first ++ second)) long ∙ ap (drop count) (sym whole)
-
-module _ {A B P Q : List ℕ → Type 0} (count : ℕ)
-    (a : (text : List ℕ) → A text → length text ≡ count) (b : (text : List ℕ) → B text → length text ≡ count)
-    (text : List ℕ) (s : Then A P text) (t : Then B Q text) where
-  one : length s.first ≡ count
-  one = a s.first s.is_first
-
-  other : length t.first ≡ count
-  other = b t.first t.is_first
-
-  pub same_first : (first : List ℕ) × A first × B first
-  same_first = (
-    s.first,
-    s.is_first,
-    rw (first_is text t.first t.second count t.whole other ∙ sym (first_is text s.first s.second count s.whole one)) at t.is_first,
-  )
-
-  pub same_second : (rest : List ℕ) × P rest × Q rest
-  same_second = (
-    s.second,
-    s.is_second,
-    rw (second_is text t.first t.second count t.whole other ∙ sym (second_is text s.first s.second count s.whole one)) at t.is_second,
-  )
+pub same_parts : {A B P Q : List ℕ → Type 0} (text : List ℕ) (s : Then A P text) (t : Then B Q text)
+    → length s.first ≡ length t.first → HaveInCommon A B × HaveInCommon P Q
+same_parts text s t long =
+    let whole : s.first ++ s.second ≡ t.first ++ t.second = sym s.whole ∙ t.whole in
+    let first : s.first ≡ t.first =
+    sym (take_at s.first s.second _ refl) ∙ ap (take (length s.first)) whole ∙ take_at t.first t.second _ (sym long) in
+    let rest : s.second ≡ t.second =
+    sym (drop_at s.first s.second _ refl) ∙ ap (drop (length s.first)) whole ∙ drop_at t.first t.second _ (sym long) in
+    (record { text = s.first; is = s.is_first; also = rw first t.is_first }, record { text = s.second; is = s.is_second; also = rw rest t.is_second })
 
 -- ---- texts that are split at their first separator p
 
@@ -67,15 +44,15 @@ module _ {A B P Q : List ℕ → Type 0} (p : ℕ) (a : (text : List ℕ) → A 
   same = split p s.first t.first s.is_second.second t.is_second.second (a s.first s.is_first) (b t.first t.is_first)
       (ap (λ l. s.first ++ l) (sym (separated s.is_second)) ∙ sym s.whole ∙ t.whole ∙ ap (λ l. t.first ++ l) (separated t.is_second))
 
-  pub split_first : (first : List ℕ) × A first × B first
-  split_first = (s.first, s.is_first, rw same.0 t.is_first)
-
-  pub split_rest : (rest : List ℕ) × P rest × Q rest
-  split_rest = (s.is_second.second, s.is_second.is_second, rw same.1 t.is_second.is_second)
+  pub same_split : HaveInCommon A B × HaveInCommon P Q
+  same_split = (
+    record { text = s.first; is = s.is_first; also = rw same.0 t.is_first },
+    record { text = s.is_second.second; is = s.is_second.is_second; also = rw same.1 t.is_second.is_second },
+  )
 
 -- ---- numbers with leading zeros that decide an order
 
-earlier_before : (s t p q : List ℕ) → length s ≡ length t → IsEarlier s t → IsEarlier (s ++ p) (t ++ q)
+pub earlier_before : (s t p q : List ℕ) → length s ≡ length t → IsEarlier s t → IsEarlier (s ++ p) (t ++ q)
 earlier_before [] [] p q long less = absurd (cc)
 earlier_before [] (d ∷ t) p q long less = absurd (omega arith)
 earlier_before (c ∷ s) [] p q long less = absurd (omega arith)
@@ -86,10 +63,3 @@ earlier_before (c ∷ s) (d ∷ t) p q long less =
     by Less x y less more = refl
     by Equal x y less more = more less
     by Greater x y less more = less
-
-pub padded_decides : {P Q : List ℕ → Type 0} (r width m n : ℕ) (s t : List ℕ) → m < n
-    → Then (IsPadded r width m) P s → Then (IsPadded r width n) Q t → IsEarlier s t
-padded_decides r width m n s t less p q =
-    let earlier = (IsEarlier-IsPadded r width m n p.first q.first p.is_first q.is_first).0 less in
-    let long : length p.first ≡ length q.first = grind (arith, common_steps) in
-    rw (p.whole, q.whole) (earlier_before p.first q.first p.second q.second long earlier)

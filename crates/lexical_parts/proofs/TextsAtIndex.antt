@@ -49,15 +49,11 @@ module _ {Is : List ℕ → Type 0} (a : ℕ) (xs zs : List ℕ) (end : ℕ) (in
   pub after_at : drop end zs ≡ drop end xs
   after_at = ap (drop end) w.front.written ∙ drop_at w.text unused end (sym w.count) ∙ ap (λ n. drop n xs) (sym w.count)
 
-  same_length : length zs ≡ length xs
-  same_length =
-      omega (arith, ap length w.front.written, length-append w.text unused, length-drop (length w.text) xs, w.front.fits)
-
   -- a padded number that is then written over the first a bytes
   module _ {r n : ℕ} (part : List ℕ) (count : ℕ) (p : Writes (IsPadded r (length (take a zs)) n) (take a zs) part count)
       (over : count ≡ length (take a zs)) where
     wide : length (take a zs) ≡ a
-    wide = length-take-le a zs (omega (arith, same_length))
+    wide = ap length before_at ∙ long
 
     part_long : length part ≡ a
     part_long =

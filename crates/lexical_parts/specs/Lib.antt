@@ -1,6 +1,7 @@
 pub mod Column
 pub mod Fixed
 pub mod Formatted
+pub mod InCommon
 pub mod Joined
 pub mod Optional
 pub mod Plus

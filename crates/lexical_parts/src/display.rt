@@ -1,20 +1,22 @@
 //! Parts in a format string: `{}` of a part writes its text, with the sign, the width and the fill of the format. A
-//! `Fixed` or `GroupedFixed` with more than 19 decimals is an error.
+//! part that is not valid is an error, and so is a `Padded` in no digits, or in more than 64.
 
-ghost use Rattle.std.specs.Prelude.{◌≡◌, None, Some, true, false, nat_lt, [], ◌∷◌, ◌++◌};
-ghost use Rattle.std.specs.Prelude.{drop, length, unsigned_abs, if◌then◌else◌};
+ghost use Rattle.std.specs.Prelude.{◌≡◌, None, Some, true, false, [], ◌∷◌, ◌++◌, drop, length, unsigned_abs};
+ghost use Rattle.std.specs.Prelude.{if◌then◌else◌};
 ghost use Rattle.std.specs.Fmt.{WritesOnOk, WritesStyledOnOk, formatter_spec, padded_integral, sign_text_with};
 ghost use Rattle.std.specs.Int.{is_negative};
 ghost use Rattle.lexical_num.specs.Format.{standard};
-ghost use Rattle.lexical_write_integer.specs.Computed.{digits_text, text_of};
+ghost use Rattle.lexical_write_integer.specs.Computed.{digits_text, padded_text, text_of};
 ghost use Rattle.lexical_write_integer.specs.Groups.{grouped};
 ghost use Rattle.lexical_parts.specs.Fixed.{fixed_text, units_text};
 
 use crate::fixed::{Fixed, GroupedFixed};
 use crate::number::{Decimal, Formatted, formatted_room_suffices};
+use crate::padded::Padded;
 use crate::part::Part;
 use crate::plus::Plus;
 use crate::powers_of_two::{Binary, Hex};
+use lexical_write_integer::digit_count::DigitCount;
 use lexical_write_integer::format::STANDARD;
 use lexical_write_integer::laws::{digits_computed, text_computed};
 use lexical_write_integer::radix::Radix;
@@ -143,22 +145,35 @@ impl<T: Radix> fmt::Display for Binary<T> {
     }
 }
 
-impl<T: ToLexicalWithOptions> fmt::Display for GroupedFixed<'_, T> {
-    ghost output = { λ part. if nat_lt part.1 20
-        then Some (fixed_text part.2.now.digit_grouping part.1 (T.number part.0)) else None };
+impl<T: DigitCount + Radix> fmt::Display for Padded<T> {
+    ghost output = { λ part. Some (padded_text 10 part.1 (T.magnitude part.0)) };
 
-    ghost styled_output = { λ part spec. if nat_lt part.1 20
-        then Some (padded_integral spec (is_negative (T.number part.0)) []
-        (units_text part.2.now.digit_grouping part.1 (unsigned_abs (T.number part.0)))) else None };
+    ghost styled_output = { λ part spec. Some (padded_integral spec false []
+        (padded_text 10 part.1 (T.magnitude part.0))) };
+
+    fn fmt<W: fmt::Write>(&self, f: &mut fmt::Formatter<W>) -> fmt::Result {
+        if 64 < self.1 || self.1 < self.0.digit_count(10) {
+            return Err(fmt::Error);
+        }
+        let mut buffer = [0; 64];
+        let text = Padded(self.0, self.1).to_str(&mut buffer);
+        pad_number(f, false, false, text)
+    }
+}
+
+impl<T: ToLexicalWithOptions> fmt::Display for GroupedFixed<'_, T> {
+    ghost output = { λ part. Some (fixed_text part.2.now.digit_grouping part.1 (T.number part.0)) };
+
+    ghost styled_output = { λ part spec. Some (padded_integral spec (is_negative (T.number part.0)) []
+        (units_text part.2.now.digit_grouping part.1 (unsigned_abs (T.number part.0)))) };
 
     fn fmt<W: fmt::Write>(&self, f: &mut fmt::Formatter<W>) -> fmt::Result {
         if self.1 >= 20 {
             return Err(fmt::Error);
         }
-        let part = GroupedFixed(self.0, self.1, self.2);
         self.0.in_range();
         // The longest text, of a `u64` in groups of one digit, has 39 bytes.
-        match part.try_to_str(&mut [0; 39]) {
+        match GroupedFixed(self.0, self.1, self.2).try_to_str(&mut [0; 39]) {
             Some(text) => pad_number(f, self.0.is_negative(), false, text),
             None => Err(fmt::Error),
         }
@@ -166,12 +181,10 @@ impl<T: ToLexicalWithOptions> fmt::Display for GroupedFixed<'_, T> {
 }
 
 impl<T: ToLexicalWithOptions> fmt::Display for Fixed<T> {
-    ghost output = { λ part. if nat_lt part.1 20
-        then Some (fixed_text None part.1 (T.number part.0)) else None };
+    ghost output = { λ part. Some (fixed_text None part.1 (T.number part.0)) };
 
-    ghost styled_output = { λ part spec. if nat_lt part.1 20
-        then Some (padded_integral spec (is_negative (T.number part.0)) []
-        (units_text None part.1 (unsigned_abs (T.number part.0)))) else None };
+    ghost styled_output = { λ part spec. Some (padded_integral spec (is_negative (T.number part.0)) []
+        (units_text None part.1 (unsigned_abs (T.number part.0)))) };
 
     fn fmt<W: fmt::Write>(&self, f: &mut fmt::Formatter<W>) -> fmt::Result {
         fmt::Display::fmt(&GroupedFixed(self.0, self.1, &STANDARD), f)

@@ -4,6 +4,7 @@ ghost use Rattle.std.specs.Prelude.{◌≡◌, ◌≢◌, ◌<◌, ◌∷◌, []
 ghost use Rattle.lexical_write_integer.specs.Order.{IsEarlier};
 ghost use Rattle.lexical_write_integer.specs.Padded.{IsPadded};
 ghost use Rattle.lexical_write_integer.specs.Sequence.{IsExactly};
+ghost use Rattle.lexical_parts.specs.InCommon.{HaveInCommon};
 ghost use Rattle.lexical_parts.specs.Sequence.{◌then◌};
 
 use crate::part::Part;
@@ -14,12 +15,8 @@ use crate::part::Part;
 pub fn same_parts<A: Part, B: Part, P: Part, Q: Part>(a: A, b: B, count: usize, p: P, q: Q)
     requires a { (text : List ℕ) → A.is_text a text → length text ≡ count }
     requires b { (text : List ℕ) → B.is_text b text → length text ≡ count }
-    ensures first { (text : List ℕ) → (A.is_text a then P.is_text p) text
-        → (B.is_text b then Q.is_text q) text
-        → (first : List ℕ) × A.is_text a first × B.is_text b first }
-    ensures rest { (text : List ℕ) → (A.is_text a then P.is_text p) text
-        → (B.is_text b then Q.is_text q) text
-        → (rest : List ℕ) × P.is_text p rest × Q.is_text q rest }
+    ensures { (text : List ℕ) → (A.is_text a then P.is_text p) text → (B.is_text b then Q.is_text q) text
+        → HaveInCommon (A.is_text a) (B.is_text b) × HaveInCommon (P.is_text p) (Q.is_text q) }
 {}
 
 /// A law: if no text of `a` and of `b` has the separator, and a text is `a`, the separator and `p`, and also `b`, the
@@ -27,12 +24,9 @@ pub fn same_parts<A: Part, B: Part, P: Part, Q: Part>(a: A, b: B, count: usize, 
 pub fn same_split<A: Part, B: Part, P: Part, Q: Part>(a: A, b: B, separator: u8, p: P, q: Q)
     requires a { (text : List ℕ) → A.is_text a text → All (λ byte. byte ≢ separator) text }
     requires b { (text : List ℕ) → B.is_text b text → All (λ byte. byte ≢ separator) text }
-    ensures first { (text : List ℕ) → (A.is_text a then IsExactly (separator ∷ []) then P.is_text p) text
+    ensures { (text : List ℕ) → (A.is_text a then IsExactly (separator ∷ []) then P.is_text p) text
         → (B.is_text b then IsExactly (separator ∷ []) then Q.is_text q) text
-        → (first : List ℕ) × A.is_text a first × B.is_text b first }
-    ensures rest { (text : List ℕ) → (A.is_text a then IsExactly (separator ∷ []) then P.is_text p) text
-        → (B.is_text b then IsExactly (separator ∷ []) then Q.is_text q) text
-        → (rest : List ℕ) × P.is_text p rest × Q.is_text q rest }
+        → HaveInCommon (A.is_text a) (B.is_text b) × HaveInCommon (P.is_text p) (Q.is_text q) }
 {}
 
 /// A law: of two texts that begin with different numbers of this width in a radix, with leading zeros, that of the

@@ -9,10 +9,9 @@ ghost use Rattle.lexical_parts.specs.Sequence.{◌then◌};
 use crate::part::Part;
 use lexical_write_integer::padded::write_padded;
 
-/// Writes the text of a part after its length, to which `extra` is added, in `width` digits of the radix. Returns the
-/// length of the text, without these digits: with an `extra` of 4 in radix 16 and four digits, `"done\n"` is written as
-/// `0009done\n`. Every byte after the text is unchanged. The part must be valid, the buffer must have `width` bytes and
-/// the `room` of the part, and the sum of this room and `extra` must have at most `width` digits.
+/// Writes the length of a part plus `extra` in `width` digits of the radix, and then the part, and returns its length:
+/// with an `extra` of 4 in radix 16, `"done\n"` after four digits is `0009done\n`. Later bytes are unchanged. The part
+/// must be valid, its room plus `extra` below `radix^width`, and the buffer as long as `width` and the room.
 pub fn write_with_length<P: Part>(
     part: P,
     radix: u32,

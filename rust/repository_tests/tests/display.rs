@@ -1,8 +1,9 @@
 //! Parts in format strings, against what the standard library writes of its own integers: for the
 //! longest texts and some others, in each width up to three more than the text.
 
-use cojimuran::parts::{Binary, Decimal, Fixed, Formatted, GroupedFixed, Hex, Plus};
+use cojimuran::parts::{Binary, Decimal, Fixed, Formatted, GroupedFixed, Hex, Padded, Plus};
 use cojimuran::{NumberFormat, NumberFormatBuilder};
+use std::fmt::Write;
 
 /// Compares a part with an integer, with the same options. The second one may have more of them.
 macro_rules! check_options {
@@ -110,6 +111,22 @@ fn decimals() {
         assert_eq!(longest(decimals).replace(',', ""), units(u64::MAX.into(), decimals));
         let signed = GroupedFixed(i64::MIN, decimals, &ones).to_string();
         assert_eq!(signed.replace(',', ""), units(i64::MIN.into(), decimals));
+    }
+}
+
+#[test]
+fn padded_numbers() {
+    for number in [0, 9, 10, 12345, u64::MAX] {
+        let digits = number.to_string().len();
+        for width in digits..=64 {
+            let (part, text) = (Padded(number, width), format!("{number:0width$}"));
+            assert_eq!(format!("{part}|{part:70}|{part:*^70}"), format!("{text}|{text:>70}|{text:*^70}"));
+        }
+    }
+    assert_eq!(format!("{:05}|{:+}|{}", Padded(7u8, 3), Padded(7u16, 3), Padded(7u32, 3)), "00007|+007|007");
+    // The type of the width bounds no room.
+    for refused in [Padded(10u64, 1), Padded(0, 0), Padded(7, 65), Padded(7, usize::MAX)] {
+        assert!(write!(String::new(), "{refused}").is_err());
     }
 }
 

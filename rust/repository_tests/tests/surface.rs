@@ -66,9 +66,9 @@ fn parts() {
     type U = Decimal<u64>;
     check!(part: &str, Byte, Bytes, Option<U>, Joined<U>, Lower<U>, Left<U>, Right<U>, Center<U>, ZeroPadded<U>);
     check!(part: OrElse<U, U>, &U);
-    check!(part: Sign<i8>, Digits<u8>, Padded<u8>, PaddedDigits<u8>, HexBytes);
+    check!(part: Sign<i8>, Digits<u8>, PaddedDigits<u8>, HexBytes);
     check!(part: Scientific<i64>);
-    check!(shown: Fixed<i64>, GroupedFixed<i64>, Decimal<i8>, Formatted<i8>, Plus<i8>, Hex<u8>, Binary<u8>);
+    check!(shown: Fixed<i64>, GroupedFixed<i64>, Decimal<i8>, Formatted<i8>, Plus<i8>, Hex<u8>, Binary<u8>, Padded<u8>);
     check!(part: (U, U), (U, U, U), (U, U, U, U), (U, U, U, U, U), (U, U, U, U, U, U), (U, U, U, U, U, U, U));
     check!(part: (U, U, U, U, U, U, U, U), (U, U, U, U, U, U, U, U, U), (U, U, U, U, U, U, U, U, U, U));
     check!(part: (U, U, U, U, U, U, U, U, U, U, U), (U, U, U, U, U, U, U, U, U, U, U, U));

@@ -1,14 +1,13 @@
 -- Digits before a number with leading zeros, which are the digits of one number.
-use Rattle.std.proofs.Common.{◌≡◌, ℕ, ◌+◌, ◌*◌, ◌^◌, ◌<◌, List, ◌++◌, map, sym, ap, ◌∙◌, arith, pos}
+use Rattle.std.proofs.Common.{◌≡◌, ℕ, ◌+◌, ◌*◌, ◌^◌, ◌<◌, List, ◌++◌, map, sym, ap, ◌∙◌}
 use Rattle.std.proofs.lemmas.List.{map-append}
 use Rattle.lexical_num.specs.Digit.{digit_char}
-use Rattle.lexical_num.specs.Format.{standard}
 use Rattle.lexical_write_integer.specs.Digits.Padded.{IsPadded}
 use Rattle.lexical_write_integer.specs.Texts.Sequence.{Then}
-use Rattle.lexical_write_integer.specs.Texts.Text.{IsDigits, IsText}
-use Rattle.lexical_write_integer.proofs.OfDigits.Numerals.{IsNumeralOf-append, IsBlockOf-append}
+use Rattle.lexical_write_integer.specs.Texts.Text.{IsDigits}
+use Rattle.lexical_write_integer.proofs.OfDigits.Numerals.{IsNumeralOf-append}
 
-characters_of : (text first second : List ℕ) (xs ys : List ℕ) → text ≡ first ++ second → first ≡ map digit_char xs → second ≡ map digit_char ys
+pub characters_of : (text first second : List ℕ) (xs ys : List ℕ) → text ≡ first ++ second → first ≡ map digit_char xs → second ≡ map digit_char ys
     → text ≡ map digit_char (xs ++ ys)
 characters_of text first second xs ys whole one other =
     whole ∙ ap (λ t. t ++ second) one ∙ ap (λ t. map digit_char xs ++ t) other ∙ sym (map-append digit_char xs ys)
@@ -20,24 +19,3 @@ digits_then_padded r high width low text some is = record {
   numeral = IsNumeralOf-append some is.is_first.numeral is.is_second.block;
   characters = characters_of _ _ _ _ _ is.whole is.is_first.characters is.is_second.characters;
 }
-
-pub padded_then_padded : (r first high width low : ℕ) (text : List ℕ) → Then (IsPadded r first high) (IsPadded r width low) text
-    → IsPadded r (first + width) (high * r ^ width + low) text
-padded_then_padded r first high width low text is = record {
-  digits = is.is_first.digits ++ is.is_second.digits;
-  block = IsBlockOf-append is.is_first.block is.is_second.block;
-  characters = characters_of _ _ _ _ _ is.whole is.is_first.characters is.is_second.characters;
-}
-
-pub decimal_then_padded : (high width low : ℕ) (text : List ℕ) → 0 < high → Then (IsText (pos high) standard) (IsPadded 10 width low) text
-    → IsText (pos (high * 10 ^ width + low)) standard text
-decimal_then_padded high width low text some is =
-    let first = is.is_first in
-    let both : Then (IsDigits 10 high) (IsPadded 10 width low) text = record {
-      first = is.first;
-      second = is.second;
-      is_first = rw first.whole first.magnitude;
-      is_second = is.is_second;
-      whole = is.whole;
-    } in
-    record { digits = text; magnitude = digits_then_padded 10 high width low text some both; whole = search arith }

@@ -1,32 +1,23 @@
 -- Numbers without groups have no byte that is neither a letter, a digit nor a sign.
-use Rattle.std.proofs.Common.{◌≡◌, ℕ, ◌<◌, ◌≤◌, Bool, true, false, List, [], sym, arith, ℤ, pos, negsuc}
-use Rattle.std.specs.Prelude.{◌≢◌, None, unsigned_abs}
+use Rattle.std.proofs.Common.{ℕ, ◌<◌, ◌≤◌, Bool, true, false, List, [], sym, arith, ℤ, pos, negsuc}
+use Rattle.std.specs.Prelude.{◌≢◌}
 use Rattle.std.specs.List.{All}
 use Rattle.std.specs.Char.{IsNotAsciiAlphanumeric}
-use Rattle.std.proofs.lemmas.List.Elements.{All-nil, All-cons, All-append, All-map}
+use Rattle.std.proofs.lemmas.List.Elements.{All-nil, All-cons, All-map}
 use Rattle.lexical_num.specs.Digit.{digit_char}
-use Rattle.lexical_num.specs.Format.{Format}
 use Rattle.lexical_num.specs.Sign.{sign_of}
-use Rattle.lexical_write_integer.specs.Texts.Text.{IsDigits, IsText}
-use Rattle.lexical_write_integer.proofs.OfTexts.ReadTexts.{bare}
+use Rattle.lexical_write_integer.specs.Texts.Text.{IsDigits}
 
 digit_is_none : (p d : ℕ) → IsNotAsciiAlphanumeric p → d < 36 → digit_char d ≢ p
 digit_is_none p d other small same = grind arith
 
-sign_is_none : (p : ℕ) (x : ℤ) (required : Bool) → p ≢ 43 → p ≢ 45 → All (λ b. b ≢ p) (sign_of x required)
+pub sign_is_none : (p : ℕ) (x : ℤ) (required : Bool) → p ≢ 43 → p ≢ 45 → All (λ b. b ≢ p) (sign_of x required)
 sign_is_none p (negsuc n) required plus minus = All-cons (λ b. b ≢ p) 45 [] (λ e. minus (sym e)) (All-nil (λ b. b ≢ p))
 sign_is_none p (pos n) true plus minus = All-cons (λ b. b ≢ p) 43 [] (λ e. plus (sym e)) (All-nil (λ b. b ≢ p))
 sign_is_none p (pos n) false plus minus = All-nil (λ b. b ≢ p)
 
-digits_have_no : (p r n : ℕ) (text : List ℕ) → r ≤ 36 → IsNotAsciiAlphanumeric p → IsDigits r n text → All (λ b. b ≢ p) text
+pub digits_have_no : (p r n : ℕ) (text : List ℕ) → r ≤ 36 → IsNotAsciiAlphanumeric p → IsDigits r n text → All (λ b. b ≢ p) text
 digits_have_no p r n text few other is =
     let below = is.numeral.numeral.below_radix in
     let all : All (λ d. digit_char d ≢ p) is.digits = λ k d l. digit_is_none p _ other (omega (arith, below k d l)) in
     rw is.characters (All-map (λ b. b ≢ p) digit_char is.digits all)
-
-pub text_has_no : (p : ℕ) (x : ℤ) (f : Format) (text : List ℕ) → f.mantissa_radix ≤ 36 → f.digit_grouping ≡ None
-    → IsNotAsciiAlphanumeric p → p ≢ 43 → p ≢ 45 → IsText x f text → All (λ b. b ≢ p) text
-text_has_no p x f text few none other plus minus is =
-    rw (bare x f text none is) (All-append (λ b. b ≢ p) (sign_of x f.required_mantissa_sign) is.digits
-    (sign_is_none p x f.required_mantissa_sign plus minus)
-    (digits_have_no p f.mantissa_radix (unsigned_abs x) is.digits few other is.magnitude))

@@ -1,7 +1,8 @@
 -- Texts that std's `from_str_radix` reads as a number, in the words of its contract. In radix 10 `parse` does the same.
-use Rattle.std.specs.Prelude.{◌≡◌, ℕ, List, ℤ}
+use Rattle.std.specs.Prelude.{◌≡◌, ℕ, List, ℤ, pos}
 use Rattle.std.specs.Str.Parse.{IsNumeral, digits_value, signed_digits_value}
 use Rattle.std.specs.Str.Parse.{without_leading_plus, without_leading_sign}
+use Rattle.lexical_write_integer.specs.Texts.Lowercase.{IsLowercase}
 
 -- at a signed type: digits after any sign, which write the number
 pub record IsReadAsSigned (radix : ℕ) (number : ℤ) (text : List ℕ) : Type 0 where
@@ -12,3 +13,11 @@ pub record IsReadAsSigned (radix : ℕ) (number : ℤ) (text : List ℕ) : Type 
 pub record IsReadAsUnsigned (radix number : ℕ) (text : List ℕ) : Type 0 where
   pub numeral : IsNumeral radix (without_leading_plus text)
   pub value : digits_value radix (without_leading_plus text) ≡ number
+
+-- texts of the kind P, and the same in lowercase, at each type that has the number
+pub record AreReadAs (radix : ℕ) (number : ℤ) (P : List ℕ → Type 0) : Type 0 where
+  pub signed : (text : List ℕ) → P text → IsReadAsSigned radix number text
+  pub unsigned : (n : ℕ) → number ≡ pos n → (text : List ℕ) → P text → IsReadAsUnsigned radix n text
+  pub lowercase : (text : List ℕ) → IsLowercase P text → IsReadAsSigned radix number text
+  pub unsigned_lowercase : (n : ℕ) → number ≡ pos n
+      → (text : List ℕ) → IsLowercase P text → IsReadAsUnsigned radix n text

@@ -1,7 +1,7 @@
 // Parts in format strings, and texts in a `Vec` and a `String`.
 
 use super::check;
-use lexical_parts::{Binary, Decimal, Fixed, Formatted, GroupedFixed, Hex, Plus};
+use lexical_parts::{Binary, Decimal, Fixed, Formatted, GroupedFixed, Hex, Padded, Plus};
 use lexical_write_integer::NumberFormatBuilder;
 use std::alloc::{Alloc, Global};
 use std::fmt::Display;
@@ -72,6 +72,24 @@ fn decimals_in_format_strings(rt: HostRuntime) {
             GroupedFixed(-123456, 2, &thousands)
         ),
         "-0.05|   1.234|-0012.34|+7|-1,234.56*|",
+    );
+}
+
+#[test]
+fn padded_numbers_in_format_strings(rt: HostRuntime) {
+    check_shown(
+        &rt,
+        rt.alloc(),
+        format_args!(
+            "{}|{:6}|{:<5}|{:06}|{:+}|{}",
+            Padded(7u8, 3),
+            Padded(7u32, 3),
+            Padded(42u64, 2),
+            Padded(7usize, 3),
+            Padded(0u16, 1),
+            Padded(65535u16, 8)
+        ),
+        "007|   007|42   |000007|+0|00065535",
     );
 }
 

@@ -1,13 +1,15 @@
 // Made by `strip` from crates/lexical_parts/src/display.rt. Edit that file, not this one.
 
 //! Parts in a format string: `{}` of a part writes its text, with the sign, the width and the fill of the format. A
-//! [`Fixed`](crate::parts::Fixed) or [`GroupedFixed`](crate::parts::GroupedFixed) with more than 19 decimals is an error.
+//! part that is not valid is an error, and so is a [`Padded`](crate::parts::Padded) in no digits, or in more than 64.
 
 use crate::parts::fixed::{Fixed, GroupedFixed};
 use crate::parts::number::{Decimal, Formatted};
+use crate::parts::padded::Padded;
 use crate::parts::part::Part;
 use crate::parts::plus::Plus;
 use crate::parts::powers_of_two::{Binary, Hex};
+use crate::write_integer::digit_count::DigitCount;
 use crate::write_integer::format::STANDARD;
 use crate::write_integer::radix::Radix;
 use crate::write_integer::{BUFFER_SIZE, NumberFormatBuilder, ToLexicalWithOptions};
@@ -100,15 +102,26 @@ impl<T: Radix> fmt::Display for Binary<T> {
     }
 }
 
+impl<T: DigitCount + Radix> fmt::Display for Padded<T> {
+    #[inline]
+    fn fmt(&self, f: &mut fmt::Formatter<'_>) -> fmt::Result {
+        if 64 < self.1 || self.1 < self.0.digit_count(10) {
+            return Err(fmt::Error);
+        }
+        let mut buffer = [0; 64];
+        let text = Padded(self.0, self.1).to_str(&mut buffer);
+        pad_number(f, false, false, text)
+    }
+}
+
 impl<T: ToLexicalWithOptions> fmt::Display for GroupedFixed<'_, T> {
     #[inline]
     fn fmt(&self, f: &mut fmt::Formatter<'_>) -> fmt::Result {
         if self.1 >= 20 {
             return Err(fmt::Error);
         }
-        let part = GroupedFixed(self.0, self.1, self.2);
         // The longest text, of a `u64` in groups of one digit, has 39 bytes.
-        match part.try_to_str(&mut [0; 39]) {
+        match GroupedFixed(self.0, self.1, self.2).try_to_str(&mut [0; 39]) {
             Some(text) => pad_number(f, self.0.is_negative(), false, text),
             None => Err(fmt::Error),
         }

@@ -85,8 +85,7 @@ pub trait Part: Copy {
     /// 128, each [`Bytes`](crate::parts::Bytes) in it must be UTF-8, and the buffer must have `room` bytes or more.
     ///
     /// At run time this is [`to_text`](crate::parts::Part::to_text) and then a call of `std::str::from_utf8`, which reads the text
-    /// once and cannot fail; if rustc compiles a caller with a [`Bytes`](crate::parts::Bytes) that is not UTF-8, it panics. The standard
-    /// library has no call that returns a `&mut str`.
+    /// once and cannot fail; if rustc compiles a caller with a [`Bytes`](crate::parts::Bytes) that is not UTF-8, it panics.
     ///
     /// # Panics
     ///
@@ -98,10 +97,8 @@ pub trait Part: Copy {
         from_utf8(self.to_text(buffer)).unwrap()
     }
 
-    /// If the buffer has `room` bytes or more, returns the text as [`to_str`](crate::parts::Part::to_str) does, at the same cost.
-    /// Otherwise returns `None`. Only the room is tested: the part must be valid, each [`Byte`](crate::parts::Byte) in it and each byte of
-    /// a column must be below 128, and each [`Bytes`](crate::parts::Bytes) in it must be UTF-8: otherwise it panics if rustc compiles the
-    /// caller.
+    /// If the buffer has `room` bytes or more, returns the text as [`to_str`](crate::parts::Part::to_str) does, at the same cost. Otherwise returns
+    /// `None`. Only the room is tested: the part must meet the other conditions of [`to_str`](crate::parts::Part::to_str).
     ///
     /// # Panics
     ///

@@ -1,8 +1,6 @@
-use Rattle.lexical_parts.proofs.Splits.{same_first, same_second}
+use Rattle.std.proofs.Common.{sym, ◌∙◌}
+use Rattle.lexical_parts.proofs.Splits.{same_parts}
 use Rattle.lexical_parts.proofs.equal.same_parts.Goals as goal
 
-pub returns-clause-first : goal.returns-clause-first
-returns-clause-first g c text s t = same_first _ c.requires.a c.requires.b text s t
-
-pub returns-clause-rest : goal.returns-clause-rest
-returns-clause-rest g c text s t = same_second _ c.requires.a c.requires.b text s t
+pub returns : goal.returns
+returns g c text s t = same_parts text s t (c.requires.a _ s.is_first ∙ sym (c.requires.b _ t.is_first))
