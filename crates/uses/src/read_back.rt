@@ -1,6 +1,7 @@
 //! Writes a number, and reads it back by `parse` or `from_str_radix` of the standard library: the result is the number.
 
-ghost use Rattle.std.specs.Prelude.{◌≡◌, ◌^◌, ◌<◌, None, Ok, pos};
+ghost use Rattle.std.specs.Prelude.{◌≡◌, ◌^◌, ◌<◌, List, ℕ, None, Ok, Result, pos};
+ghost use Rattle.lexical_write_integer.specs.Read.{IsReadAsSigned, IsReadAsUnsigned};
 
 use lexical_parts::{Digits, Formatted, Lower, Padded, Part};
 use lexical_write_integer::format::STANDARD;
@@ -12,7 +13,7 @@ use lexical_write_integer::{
     BUFFER_SIZE, NumberFormat, NumberFormatBuilder, Options, ToLexical, ToLexicalWithOptions,
 };
 use std::num::ParseIntError;
-use std::str::from_utf8;
+use std::str::{FromStr, from_utf8};
 
 /// Reads back the text of a number in decimal.
 pub fn in_decimal(number: i32) -> Result<i32, ParseIntError>
@@ -82,4 +83,27 @@ pub fn in_eight_digits(number: u32) -> Result<i32, ParseIntError>
     let text = Padded(number, 8).to_str(&mut buffer);
     padded_read_back(10, 8, u64::from(number));
     text.parse::<i32>()
+}
+
+/// Reads back the text of a number of any type in decimal, if `parse` of the type returns the number for each text that
+/// the standard library reads as the number.
+pub fn of_any_type<T: ToLexicalWithOptions + FromStr>(number: T) -> Result<T, T::Err>
+    requires { (text : List ℕ) (read : Result T T.Err) → IsReadAsSigned 10 (T.number number) text
+        → ((n : ℕ) → T.number number ≡ pos n → IsReadAsUnsigned 10 n text)
+        → T.from_str_gives text read → read ≡ Ok number }
+    ensures { result ≡ Ok number }
+{
+    let mut buffer = [0; BUFFER_SIZE];
+    size_suffices(number, &STANDARD);
+    let text = number.to_lexical(&mut buffer);
+    text_is_ascii(number, &STANDARD, text);
+    text_read_back(number, &STANDARD);
+    from_utf8(text).unwrap().parse::<T>()
+}
+
+/// Calls it with an unsigned number.
+pub fn of_one_type(number: u64) -> Result<u64, ParseIntError>
+    ensures { result ≡ Ok number }
+{
+    of_any_type(number)
 }
