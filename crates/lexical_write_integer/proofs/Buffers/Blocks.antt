@@ -30,6 +30,11 @@ pub WritesBlock-part : (at_index : ℕ) {r count n : ℕ} {before part : List �
     → WritesBlock r count n at_index before (put_mid at_index (at_index + count - at_index) before part)
 WritesBlock-part at_index {count = count} {before = before} room b = grind (arith, length-take-le, length-drop, drop_all, WritesBlock-copied, append-nil)
 
+-- a block that is written to the first bytes alone
+pub WritesBlock-first : {r count n : ℕ} {before part : List ℕ}
+    → count ≤ length before → WritesBlock r count n 0 (take count before) part → WritesBlock r count n 0 before (part ++ drop count before)
+WritesBlock-first {count = count} {before = before} room b = grind (arith, length-take-le, drop_all, append-nil)
+
 -- a block before one that is written
 pub WritesBlock-front : {r i j m n at : ℕ} {before between after : List ℕ}
     → WritesBlock r j n (at + i) before between → WritesBlock r i m at between after → WritesBlock r (i + j) (m * r ^ j + n) at before after

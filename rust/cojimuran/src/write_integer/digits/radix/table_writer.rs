@@ -74,16 +74,16 @@ fn write_three_or_four<const R: u32>(
     buffer: &mut [u8],
 ) -> usize {
     let count = count_three_or_four(number, R);
-    // So rustc tests the end of the buffer once.
-    assert!(count <= buffer.len());
+    // rustc tests the end of these bytes once.
+    let written = &mut buffer[..count];
     let first = 2 * first_pair::<R>(number) as usize;
     let pair = 2 * (number % (R * R)) as usize;
-    buffer[0] = table.pairs[first];
-    buffer[count - 3] = table.pairs[first + 1];
+    written[0] = table.pairs[first];
+    written[count - 3] = table.pairs[first + 1];
     // Both bytes are read first, so a compiler moves them as one number.
     let (third, fourth) = (table.pairs[pair], table.pairs[pair + 1]);
-    buffer[count - 2] = third;
-    buffer[count - 1] = fourth;
+    written[count - 2] = third;
+    written[count - 1] = fourth;
     count
 }
 
@@ -175,14 +175,14 @@ fn write_one_pair<const R: u32>(
     table: RadixTable<'_, R>,
     buffer: &mut [u8],
 ) {
-    // So rustc tests the end of the buffer once.
-    assert!(digits <= buffer.len());
+    // rustc tests the end of these bytes once.
+    let written = &mut buffer[..digits];
     let index = 2 * number as usize;
     let mut pair = [0; 2];
     pair.copy_from_slice(&table.pairs[index..index + 2]);
     let characters = u16::from_le_bytes(pair);
-    buffer[0] = (characters % 256) as u8;
-    buffer[digits - 1] = (characters / 256) as u8;
+    written[0] = (characters % 256) as u8;
+    written[digits - 1] = (characters / 256) as u8;
 }
 
 // Counts the one or two digits of a number, and writes them.

@@ -1,6 +1,7 @@
-use Rattle.std.proofs.Common.{sym, ◌/◌, ◌%◌, ◌∙◌, arith, length-set}
+use Rattle.std.proofs.Common.{sym, ◌/◌, ◌%◌, ◌∙◌, arith, length-set, length-take-le}
 use Rattle.std.proofs.lemmas.Nat.{div_below}
 use Rattle.lexical_num.specs.Digit.{digit_char}
+use Rattle.lexical_write_integer.proofs.Buffers.Blocks.{WritesBlock-first}
 use Rattle.lexical_write_integer.proofs.Buffers.BlocksAfter.{WritesDigits-block}
 use Rattle.lexical_write_integer.proofs.OfDigits.Count.DigitCounts.{digit_count-pos}
 use Rattle.lexical_write_integer.proofs.OfDigits.Radix.FourDigits.{WritesBlock-one_or_two}
@@ -11,14 +12,14 @@ use Rattle.lexical_write_integer.proofs.digits.radix.table_writer.write_one_pair
 pub slice_bounds-copy_from_slice-end-2 : goal.slice_bounds-copy_from_slice-end-2
 slice_bounds-copy_from_slice-end-2 g c = omega (arith, c.requires.short, length-table g.row.R c.args.table.pairs.now c.args.table.begins)
 
-pub bounds-buffer-0 : goal.bounds-buffer-0
-bounds-buffer-0 g c = omega (arith, c.requires.digits, digit_count-pos g.row.R c.args.number, c.requires.room)
+pub bounds-written-0 : goal.bounds-written-0
+bounds-written-0 g c = rw (length-take-le _ _ c.requires.room) (omega (arith, c.requires.digits, digit_count-pos g.row.R c.args.number))
 
-pub overflow_sub-buffer : goal.overflow_sub-buffer
-overflow_sub-buffer g c = omega (arith, c.requires.digits, digit_count-pos g.row.R c.args.number)
+pub overflow_sub-written : goal.overflow_sub-written
+overflow_sub-written g c = omega (arith, c.requires.digits, digit_count-pos g.row.R c.args.number)
 
-pub bounds-buffer-digits : goal.bounds-buffer-digits
-bounds-buffer-digits g c = rw length-set (omega (arith, c.requires.digits, digit_count-pos g.row.R c.args.number, c.requires.room))
+pub bounds-written-digits : goal.bounds-written-digits
+bounds-written-digits g c = rw (length-set, length-take-le _ _ c.requires.room) (omega (arith, c.requires.digits, digit_count-pos g.row.R c.args.number))
 
 pub returns : goal.returns
 returns g c =
@@ -30,4 +31,4 @@ returns g c =
     let low = digit_char-ascii (n / r) (omega (arith, high, c.args.table.is_radix.at_most_36)) in
     let bytes = joined (digit_char (n / r)) (digit_char (n % r)) _ (omega (arith, low)) (rw pair at c.from_le_bytes-characters.ensures) in
     WritesDigits-block two (sym c.requires.digits) c.requires.room
-    (WritesBlock-one_or_two r n _ c.args.buffer.now two c.requires.short c.requires.digits c.requires.room bytes.0 bytes.1)
+    (WritesBlock-first c.requires.room (WritesBlock-one_or_two r n _ _ two c.requires.short c.requires.digits (rw (length-take-le _ _ c.requires.room) (omega arith)) bytes.0 bytes.1))

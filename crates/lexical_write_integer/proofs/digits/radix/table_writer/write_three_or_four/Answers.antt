@@ -1,14 +1,15 @@
-use Rattle.std.proofs.Common.{◌*◌, ◌/◌, ◌%◌, ◌<◌, ◌≤◌, length, sym, arith, length-set}
+use Rattle.std.proofs.Common.{◌*◌, ◌/◌, ◌%◌, ◌<◌, ◌≤◌, length, sym, arith, length-set, length-take-le}
 use Rattle.std.proofs.Math.Nat.{mod-lt}
 use Rattle.std.proofs.lemmas.Nat.{div_below}
 use Rattle.lexical_write_integer.specs.Digits.LoopTurns.{takes_two}
+use Rattle.lexical_write_integer.proofs.Buffers.Blocks.{WritesBlock-first}
 use Rattle.lexical_write_integer.proofs.Buffers.BlocksAfter.{WritesDigits-block}
 use Rattle.lexical_write_integer.proofs.OfDigits.Count.RadixPowers.{power-gt_one}
 use Rattle.lexical_write_integer.proofs.OfDigits.Powers.{pow-two, pow-four}
 use Rattle.lexical_write_integer.proofs.OfDigits.Radix.FourDigits.{WritesBlock-three_or_four}
 use Rattle.lexical_write_integer.proofs.OfDigits.Radix.TablePairs.{length-table, pair_first, pair_second}
 use Rattle.lexical_write_integer.proofs.digits.radix.table_writer.write_three_or_four.Goals as goal
-use Rattle.lexical_write_integer.proofs.digits.radix.table_writer.write_three_or_four.Goals.{Start}
+use Rattle.lexical_write_integer.proofs.digits.radix.table_writer.write_three_or_four.Goals.{Start, After-count_three_or_four-count}
 
 some : (g : _) (c : Start g) → 0 < g.row.R * g.row.R
 some g c = omega (arith, pow-two g.row.R, power-gt_one g.row.R 2 c.args.table.is_radix.at_least_two takes_two)
@@ -37,21 +38,22 @@ bounds-table-pair g c = grind (arith, length-table)
 pub bounds-table-pair-2 : goal.bounds-table-pair-2
 bounds-table-pair-2 g c = grind (arith, length-table)
 
-pub bounds-buffer-0 : goal.bounds-buffer-0
-bounds-buffer-0 g c = omega (arith, c.count_three_or_four-count.ensures.count, c.count_three_or_four-count.ensures.three, c.requires.room)
+-- the digits have room
+room : (g : _) (c : After-count_three_or_four-count g) → c.count_three_or_four-count.result ≤ length c.args.buffer.now
+room g c = omega (arith, c.count_three_or_four-count.ensures.count, c.requires.room)
 
-pub bounds-buffer-count : goal.bounds-buffer-count
-bounds-buffer-count g c =
-    rw length-set (omega (arith, c.count_three_or_four-count.ensures.count, c.count_three_or_four-count.ensures.three, c.requires.room))
+pub bounds-written-0 : goal.bounds-written-0
+bounds-written-0 g c = rw (length-take-le _ _ (room g (goal.at.bounds-written-0 g c).After-count_three_or_four-count)) (omega (arith, c.count_three_or_four-count.ensures.three))
 
-pub bounds-buffer-count-2 : goal.bounds-buffer-count-2
-bounds-buffer-count-2 g c =
-    rw (length-set, length-set) (omega (arith, c.count_three_or_four-count.ensures.count, c.count_three_or_four-count.ensures.three, c.requires.room))
+pub bounds-written-count : goal.bounds-written-count
+bounds-written-count g c = rw (length-set, length-take-le _ _ (room g (goal.at.bounds-written-count g c).After-count_three_or_four-count)) (omega (arith, c.count_three_or_four-count.ensures.three))
 
-pub bounds-buffer-count-3 : goal.bounds-buffer-count-3
-bounds-buffer-count-3 g c =
-    rw (length-set, length-set, length-set)
-    (omega (arith, c.count_three_or_four-count.ensures.count, c.count_three_or_four-count.ensures.three, c.requires.room))
+pub bounds-written-count-2 : goal.bounds-written-count-2
+bounds-written-count-2 g c = rw (length-set, length-set, length-take-le _ _ (room g (goal.at.bounds-written-count-2 g c).After-count_three_or_four-count)) (omega (arith, c.count_three_or_four-count.ensures.three))
+
+pub bounds-written-count-3 : goal.bounds-written-count-3
+bounds-written-count-3 g c =
+    rw (length-set, length-set, length-set, length-take-le _ _ (room g (goal.at.bounds-written-count-3 g c).After-count_three_or_four-count)) (omega (arith, c.count_three_or_four-count.ensures.three))
 
 pub returns-clause-digits : goal.returns-clause-digits
 returns-clause-digits g c =
@@ -65,9 +67,10 @@ returns-clause-digits g c =
     let lo = n % (r * r) in
     let counted = c.count_three_or_four-count.ensures in
     let count = c.count_three_or_four-count.result in
-    let room : count ≤ length c.args.buffer.now = omega (arith, counted.count, c.requires.room) in
-    WritesDigits-block two (sym counted.count) room
+    let fits = room g (goal.at.returns-clause-digits g c).After-count_three_or_four-count in
+    WritesDigits-block two (sym counted.count) fits
+    (WritesBlock-first fits
     (rw c.first_pair.ensures.pair
-    (WritesBlock-three_or_four r n count c.args.buffer.now two c.requires.short counted.three counted.four counted.count room
+    (WritesBlock-three_or_four r n count _ two c.requires.short counted.three counted.four counted.count (rw (length-take-le _ _ fits) (omega arith))
     (pair_first r hi pairs begins (first g c')) (pair_second r hi pairs begins (first g c'))
-    (pair_first r lo pairs begins (last g c')) (pair_second r lo pairs begins (last g c'))))
+    (pair_first r lo pairs begins (last g c')) (pair_second r lo pairs begins (last g c')))))
