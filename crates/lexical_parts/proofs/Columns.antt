@@ -41,7 +41,7 @@ pub written_center : {Is : List ℕ → Type 0} {width fill added : ℕ} {before
     Writes (IsCentered width fill Is) before (take (added / 2 + count) moved ++ (part ++ drop room (drop (added / 2 + count) moved)))
     (added / 2 + count + more)
 written_center {width = width} {fill} {added} {before} {moved = moved} {part} {count} {more} room written is_added filled_before filled_after =
-    let low = written_before {IsWhole = IsExactly (replicate (added / 2) fill ++ written.text)} fill (added / 2) written filled_before refl in
+    let before_and_text = written_before {IsWhole = IsExactly (replicate (added / 2) fill ++ written.text)} fill (added / 2) written filled_before refl in
     let whole = ap (λ added. (replicate (added / 2) fill ++ written.text) ++ replicate (added - added / 2) fill)
     (is_added ∙ ap (λ count. width - count) written.count) in
     grind (arith, Writes-after)
