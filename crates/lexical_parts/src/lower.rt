@@ -28,8 +28,4 @@ impl<P: Part> Part for Lower<P> {
         buffer[..count].make_ascii_lowercase();
         count
     }
-
-    fn text_is_utf8(self) {
-        self.0.text_is_utf8();
-    }
 }

@@ -30,6 +30,4 @@ impl<T: ToLexicalWithOptions> Part for Plus<T> {
         let start = Sign(self.0, true).write_to(buffer);
         start + self.0.write_magnitude(&STANDARD, &mut buffer[start..])
     }
-
-    fn text_is_utf8(self) {}
 }

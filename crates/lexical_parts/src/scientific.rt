@@ -109,6 +109,4 @@ impl<T: ToLexicalWithOptions> Part for Scientific<T> {
         let start = Sign(self.0, false).write_to(buffer);
         start + write_magnitude(self.0, self.1, &mut buffer[start..])
     }
-
-    fn text_is_utf8(self) {}
 }

@@ -31,6 +31,4 @@ impl<T: LexicalInteger> Part for Sign<T> {
             0
         }
     }
-
-    fn text_is_utf8(self) {}
 }

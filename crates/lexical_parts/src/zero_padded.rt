@@ -44,8 +44,4 @@ impl<P: Part> Part for ZeroPadded<P> {
         insert_fill(b'0', zeros, count - sign, &mut buffer[sign..]);
         zeros + count
     }
-
-    fn text_is_utf8(self) {
-        self.0.text_is_utf8();
-    }
 }
