@@ -1,11 +1,10 @@
 -- The texts of parts are UTF-8.
-use Rattle.std.proofs.Common.{Bool, true, ℕ, zero, suc, ◌-◌, ◌/◌, ◌<◌, ◌≤◌, List, [], ◌∷◌, ◌++◌, false, length, refl, replicate, arith, rules, ℤ, pos, negsuc}
+use Rattle.std.proofs.Common.{Bool, true, ℕ, zero, suc, ◌-◌, ◌/◌, ◌<◌, ◌≤◌, List, [], ◌∷◌, ◌++◌, false, length, replicate, arith, rules, ℤ, pos, negsuc}
 use Rattle.std.specs.List.{All}
 use Rattle.std.specs.Option.{ForSome}
 use Rattle.std.specs.Str.{IsUtf8}
-use Rattle.std.proofs.lemmas.List.{drop_at, length-append, take_at}
 use Rattle.std.proofs.lemmas.List.Elements.{All-head, All-tail, All-replicate}
-use Rattle.std.proofs.lemmas.Str.{IsUtf8-nil, IsUtf8-from_ascii, IsUtf8-append, IsUtf8-drop, IsCharBoundary-from_take}
+use Rattle.std.proofs.lemmas.Str.{IsUtf8-nil, IsUtf8-from_ascii, IsUtf8-append}
 use Rattle.std.proofs.lemmas.Str.Ascii.{IsAscii-from_all}
 use Rattle.lexical_num.specs.Format.{Format, IsGrouping, standard}
 use Rattle.lexical_num.specs.Sign.{sign_of}
@@ -38,15 +37,6 @@ decimal_is_utf8 number required = text_is_utf8 number _ (omega arith) (λ groupi
 pub then_is_utf8 : {First Second : List ℕ → Type 0} → AreUtf8 First → AreUtf8 Second → AreUtf8 (Then First Second)
 then_is_utf8 first second = record {
   each = λ text is. rw is.whole (IsUtf8-append is.first is.second (first.each is.first is.is_first) (second.each is.second is.is_second));
-}
-
--- what follows UTF-8 in UTF-8
-pub rest_is_utf8 : {Rest : List ℕ → Type 0} (start : List ℕ) → IsUtf8 start → AreUtf8 (Then (IsExactly start) Rest) → AreUtf8 Rest
-rest_is_utf8 start before both = record {
-  each = λ text is.
-      let u = both.each (start ++ text) (record { first = start; second = text; is_first = refl; is_second = is; whole = refl }) in
-      let cut = IsCharBoundary-from_take _ (length start) u (omega (arith, length-append start text)) (rw (take_at start text (length start) refl) before) in
-      rw (drop_at start text (length start) refl) at (IsUtf8-drop _ (length start) u cut);
 }
 
 pub joined_is_utf8 : {A : Type 0} (IsOf : A → List ℕ → Type 0) (separator : List ℕ) (xs : List A) →

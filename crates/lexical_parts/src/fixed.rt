@@ -1,5 +1,5 @@
 //! Numbers with a fixed number of decimals.
-#![tactic(auto, using(crate::proofs::Utf8Texts::kinds, crate::proofs::Utf8Changes::changes))]
+#![tactic(auto, using(crate::proofs::Utf8Texts::kinds))]
 
 ghost use Rattle.std.specs.Prelude.{◌≡◌, ◌+◌, ◌-◌, ◌≤◌, length, take, drop, replicate, unsigned_abs, if◌then◌else◌};
 ghost use Rattle.lexical_write_integer.specs.Buffer.{Writes};

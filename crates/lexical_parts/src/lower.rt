@@ -1,5 +1,5 @@
 //! Parts in lowercase.
-#![tactic(auto, using(crate::proofs::Utf8Texts::kinds, crate::proofs::Utf8Changes::changes))]
+#![tactic(auto, using(crate::proofs::Utf8Changes::changes))]
 
 ghost use Rattle.lexical_write_integer.specs.Lowercase.{IsLowercase};
 

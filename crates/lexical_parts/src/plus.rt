@@ -1,5 +1,5 @@
 //! Numbers with a sign in each case.
-#![tactic(auto, using(crate::proofs::Utf8Texts::kinds, crate::proofs::Utf8Changes::changes))]
+#![tactic(auto, using(crate::proofs::Utf8Texts::kinds))]
 
 ghost use Rattle.std.specs.Prelude.{◌+◌};
 ghost use Rattle.lexical_parts.specs.Plus.{IsPlus};

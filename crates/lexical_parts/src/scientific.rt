@@ -1,5 +1,5 @@
 //! Numbers in scientific notation.
-#![tactic(auto, using(crate::proofs::Utf8Texts::kinds, crate::proofs::Utf8Changes::changes))]
+#![tactic(auto, using(crate::proofs::Utf8Texts::kinds))]
 
 ghost use Rattle.std.specs.Prelude.{◌≡◌, ◌≢◌, ℕ, ◌+◌, ◌-◌, ◌^◌, ◌<◌, ◌≤◌, length, drop, replicate};
 ghost use Rattle.std.specs.Prelude.{slice_index, unsigned_abs};

@@ -1,5 +1,5 @@
 //! Parts that are strings or bytes, whose text is the same bytes.
-#![tactic(auto, using(crate::proofs::Utf8Texts::kinds, crate::proofs::Utf8Changes::changes))]
+#![tactic(auto, using(crate::proofs::Utf8Texts::kinds))]
 
 ghost use Rattle.std.specs.Prelude.{ℕ, [], ◌∷◌, ◌<◌, length};
 ghost use Rattle.std.specs.Str.{IsUtf8};

@@ -1,5 +1,5 @@
 //! Numbers with leading zeros, up to at least a width.
-#![tactic(auto, using(crate::proofs::Utf8Texts::kinds, crate::proofs::Utf8Changes::changes))]
+#![tactic(auto, using(crate::proofs::Utf8Changes::changes))]
 
 ghost use Rattle.std.specs.Prelude.{◌≡◌, ◌≤◌, length, max};
 ghost use Rattle.lexical_parts.specs.ZeroPadded.{IsZeroPadded, sign_length};
