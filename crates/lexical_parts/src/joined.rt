@@ -12,6 +12,7 @@ use crate::text::str_is_utf8;
 
 // Writes what precedes the part at the index, which is nothing before the first part and otherwise the separator, and
 // then the part. Returns their length.
+#[tactic(auto, using(lexical_write_integer::proofs::OfTexts::Sequences::written_then))]
 pub(crate) fn write_next<P: Part>(
     index: usize,
     separator: &str,
