@@ -1,5 +1,5 @@
 //! Parts that are padded to the width of a column.
-#![tactic(auto, using(crate::proofs::Utf8Texts::kinds, crate::proofs::Utf8Changes::changes))]
+#![tactic(auto, using(crate::proofs::Utf8Texts::kinds))]
 
 ghost use Rattle.std.specs.Prelude.{max, ◌<◌};
 ghost use Rattle.lexical_parts.specs.Column.{IsAtLeft, IsAtRight, IsCentered};
@@ -31,10 +31,6 @@ impl<P: Part> Part for Left<P> {
         let count = self.0.write_to(buffer);
         count + write_fill(self.2, self.1.saturating_sub(count), &mut buffer[count..])
     }
-
-    fn text_is_utf8(self) {
-        self.0.text_is_utf8();
-    }
 }
 
 /// A part that is aligned to the right of a column: a byte, often a space, is added before its text, up
@@ -61,10 +57,6 @@ impl<P: Part> Part for Right<P> {
         let added = self.1.saturating_sub(count);
         insert_fill(self.2, added, count, buffer);
         added + count
-    }
-
-    fn text_is_utf8(self) {
-        self.0.text_is_utf8();
     }
 }
 
@@ -94,9 +86,5 @@ impl<P: Part> Part for Center<P> {
         insert_fill(self.2, before, count, buffer);
         let end = before + count;
         end + write_fill(self.2, added - before, &mut buffer[end..])
-    }
-
-    fn text_is_utf8(self) {
-        self.0.text_is_utf8();
     }
 }

@@ -1,5 +1,5 @@
 //! Numbers with a fixed number of decimals.
-#![tactic(auto, using(crate::proofs::Utf8Texts::kinds, crate::proofs::Utf8Changes::changes))]
+#![tactic(auto, using(crate::proofs::Utf8Texts::kinds))]
 
 ghost use Rattle.std.specs.Prelude.{◌≡◌, ◌+◌, ◌-◌, ◌≤◌, length, take, drop, replicate, unsigned_abs, if◌then◌else◌};
 ghost use Rattle.lexical_write_integer.specs.Buffer.{Writes};
@@ -82,8 +82,6 @@ impl<T: ToLexicalWithOptions> Part for Fixed<T> {
     fn write_to(self, buffer: &mut [u8]) -> usize {
         GroupedFixed(self.0, self.1, &STANDARD).write_to(buffer)
     }
-
-    fn text_is_utf8(self) {}
 }
 
 /// A number as `Fixed` writes it, with its whole part in the groups of the format, and nothing else of it:
@@ -107,13 +105,10 @@ impl<T: ToLexicalWithOptions> Part for GroupedFixed<'_, T> {
     }
 
     fn write_to(self, buffer: &mut [u8]) -> usize {
+        self.2.in_range();
         prove!(self.1 <= 19);
         size_suffices(self.0, &STANDARD);
         let start = Sign(self.0, false).write_to(buffer);
         start + write_grouped_units(self.0, self.1, self.2, &mut buffer[start..])
-    }
-
-    fn text_is_utf8(self) {
-        self.2.in_range();
     }
 }

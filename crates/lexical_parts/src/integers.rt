@@ -1,5 +1,4 @@
 //! The integer types, which are parts: the text of a number is the number in decimal.
-#![tactic(auto, using(crate::proofs::Utf8Texts::kinds, crate::proofs::Utf8Changes::changes))]
 
 ghost use Rattle.std.specs.Prelude.{pos};
 ghost use Rattle.lexical_parts.specs.Sequence.{IsDecimal};
@@ -19,8 +18,6 @@ impl Part for u8 {
     fn write_to(self, buffer: &mut [u8]) -> usize {
         Decimal(self).write_to(buffer)
     }
-
-    fn text_is_utf8(self) {}
 }
 
 impl Part for u16 {
@@ -35,8 +32,6 @@ impl Part for u16 {
     fn write_to(self, buffer: &mut [u8]) -> usize {
         Decimal(self).write_to(buffer)
     }
-
-    fn text_is_utf8(self) {}
 }
 
 impl Part for u32 {
@@ -51,8 +46,6 @@ impl Part for u32 {
     fn write_to(self, buffer: &mut [u8]) -> usize {
         Decimal(self).write_to(buffer)
     }
-
-    fn text_is_utf8(self) {}
 }
 
 impl Part for u64 {
@@ -67,8 +60,6 @@ impl Part for u64 {
     fn write_to(self, buffer: &mut [u8]) -> usize {
         Decimal(self).write_to(buffer)
     }
-
-    fn text_is_utf8(self) {}
 }
 
 impl Part for usize {
@@ -83,8 +74,6 @@ impl Part for usize {
     fn write_to(self, buffer: &mut [u8]) -> usize {
         Decimal(self).write_to(buffer)
     }
-
-    fn text_is_utf8(self) {}
 }
 
 impl Part for i8 {
@@ -99,8 +88,6 @@ impl Part for i8 {
     fn write_to(self, buffer: &mut [u8]) -> usize {
         Decimal(self).write_to(buffer)
     }
-
-    fn text_is_utf8(self) {}
 }
 
 impl Part for i16 {
@@ -115,8 +102,6 @@ impl Part for i16 {
     fn write_to(self, buffer: &mut [u8]) -> usize {
         Decimal(self).write_to(buffer)
     }
-
-    fn text_is_utf8(self) {}
 }
 
 impl Part for i32 {
@@ -131,8 +116,6 @@ impl Part for i32 {
     fn write_to(self, buffer: &mut [u8]) -> usize {
         Decimal(self).write_to(buffer)
     }
-
-    fn text_is_utf8(self) {}
 }
 
 impl Part for i64 {
@@ -147,8 +130,6 @@ impl Part for i64 {
     fn write_to(self, buffer: &mut [u8]) -> usize {
         Decimal(self).write_to(buffer)
     }
-
-    fn text_is_utf8(self) {}
 }
 
 impl Part for isize {
@@ -163,6 +144,4 @@ impl Part for isize {
     fn write_to(self, buffer: &mut [u8]) -> usize {
         Decimal(self).write_to(buffer)
     }
-
-    fn text_is_utf8(self) {}
 }

@@ -1,16 +1,18 @@
 //! The parts of a slice, with a separator between adjacent parts.
-#![tactic(auto, using(crate::proofs::Utf8Texts::kinds, crate::proofs::Utf8Changes::changes))]
 
 ghost use Rattle.std.specs.Prelude.{◌≡◌, ◌+◌, ◌*◌, ◌≤◌, All, length, sum_by};
 ghost use Rattle.lexical_write_integer.specs.Buffer.{Writes};
 ghost use Rattle.lexical_write_integer.specs.Sequence.{AreJoined, IsExactly};
 ghost use Rattle.lexical_parts.specs.Joined.{joined_room, lead};
 ghost use Rattle.lexical_parts.specs.Sequence.{◌then◌};
+ghost use Rattle.lexical_parts.specs.Utf8.{AreUtf8};
 
 use crate::part::Part;
+use crate::text::str_is_utf8;
 
 // Writes what precedes the part at the index, which is nothing before the first part and otherwise the separator, and
 // then the part. Returns their length.
+#[tactic(auto, using(lexical_write_integer::proofs::OfTexts::Sequences::written_then))]
 pub(crate) fn write_next<P: Part>(
     index: usize,
     separator: &str,
@@ -22,12 +24,14 @@ pub(crate) fn write_next<P: Part>(
     ensures text { Writes (IsExactly (lead index separator.now) then P.is_text part)
         buffer.old buffer.new result }
     ensures short { result ≤ length (lead index separator.now) + P.room part }
+    ensures utf8 { P.is_utf8 part → AreUtf8 (P.is_text part) }
 {
     // A branch, since a copy of a length that is not known is a call of memcpy.
     if index == 0 {
         part.write_to(buffer)
     } else {
-        (separator, part).write_to(buffer)
+        let start = separator.write_to(buffer);
+        start + part.write_to(&mut buffer[start..])
     }
 }
 
@@ -56,18 +60,12 @@ impl<P: Part> Part for Joined<'_, P> {
     }
 
     fn write_to(self, buffer: &mut [u8]) -> usize {
+        str_is_utf8(self.1);
         let mut count = 0;
         for (index, part) in self.0.iter().enumerate() {
             count += write_next(index, self.1, *part, &mut buffer[count..]);
         }
         count
-    }
-
-    fn text_is_utf8(self) {
-        self.1.text_is_utf8();
-        for part in self.0 {
-            part.text_is_utf8();
-        }
     }
 }
 

@@ -1,5 +1,5 @@
 //! Parts in lowercase.
-#![tactic(auto, using(crate::proofs::Utf8Texts::kinds, crate::proofs::Utf8Changes::changes))]
+#![tactic(auto, using(crate::proofs::Utf8Changes::changes))]
 
 ghost use Rattle.lexical_write_integer.specs.Lowercase.{IsLowercase};
 
@@ -27,9 +27,5 @@ impl<P: Part> Part for Lower<P> {
         let count = self.0.write_to(buffer);
         buffer[..count].make_ascii_lowercase();
         count
-    }
-
-    fn text_is_utf8(self) {
-        self.0.text_is_utf8();
     }
 }

@@ -1,5 +1,5 @@
 //! Parts that are one number.
-#![tactic(auto, using(crate::proofs::Utf8Texts::kinds, crate::proofs::Utf8Changes::changes))]
+#![tactic(auto, using(crate::proofs::Utf8Texts::kinds))]
 
 ghost use Rattle.std.specs.Prelude.{◌≡◌, ◌≤◌};
 ghost use Rattle.lexical_num.specs.Format.{IsRadix, standard};
@@ -33,8 +33,6 @@ impl<T: ToLexicalWithOptions> Part for Decimal<T> {
         size_suffices(self.0, &STANDARD);
         self.0.write_lexical(buffer)
     }
-
-    fn text_is_utf8(self) {}
 }
 
 /// The digits of an unsigned number in a radix from 2 to 36: `Digits(16, 255u32)` writes `FF`.
@@ -55,8 +53,6 @@ impl<T: Radix + DigitCount> Part for Digits<T> {
     fn write_to(self, buffer: &mut [u8]) -> usize {
         self.1.radix(self.0, buffer)
     }
-
-    fn text_is_utf8(self) {}
 }
 
 // Returns the largest absolute value of a number of the type.
@@ -100,10 +96,7 @@ impl<T: ToLexicalWithOptions> Part for Formatted<'_, T> {
 
     fn write_to(self, buffer: &mut [u8]) -> usize {
         formatted_room_suffices(self.0, self.1);
-        self.0.write_text(buffer, self.1)
-    }
-
-    fn text_is_utf8(self) {
         self.1.in_range();
+        self.0.write_text(buffer, self.1)
     }
 }

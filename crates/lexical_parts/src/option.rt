@@ -1,5 +1,4 @@
 //! Parts that may be absent: the text of `Some(part)` is that of the part, and `None` has no bytes.
-#![tactic(auto, using(crate::proofs::Utf8Texts::kinds, crate::proofs::Utf8Changes::changes))]
 
 ghost use Rattle.std.specs.Prelude.{max};
 ghost use Rattle.lexical_parts.specs.Optional.{IsOptional, IsOrElse, IsValidOptional, optional_room};
@@ -29,12 +28,6 @@ impl<P: Part> Part for Option<P> {
             None => copy_to_front(b"", buffer),
         }
     }
-
-    fn text_is_utf8(self) {
-        if let Some(part) = self {
-            part.text_is_utf8();
-        }
-    }
 }
 
 /// A part that may be absent, and the part that is written in its place: `OrElse(Some(5u8), "n/a")` writes `5`, and
@@ -59,13 +52,6 @@ impl<P: Part, Q: Part> Part for OrElse<P, Q> {
         match self.0 {
             Some(present) => present.write_to(buffer),
             None => self.1.write_to(buffer),
-        }
-    }
-
-    fn text_is_utf8(self) {
-        match self.0 {
-            Some(present) => present.text_is_utf8(),
-            None => self.1.text_is_utf8(),
         }
     }
 }

@@ -1,5 +1,5 @@
 //! Numbers with leading zeros, up to a fixed width.
-#![tactic(auto, using(crate::proofs::Utf8Texts::kinds, crate::proofs::Utf8Changes::changes))]
+#![tactic(auto, using(crate::proofs::Utf8Texts::kinds))]
 
 ghost use Rattle.std.specs.Prelude.{◌^◌, ◌<◌};
 ghost use Rattle.lexical_num.specs.Format.{IsRadix};
@@ -32,8 +32,6 @@ impl<T: DigitCount + Radix> Part for PaddedDigits<T> {
         // and with it the position of the next part.
         self.2
     }
-
-    fn text_is_utf8(self) {}
 }
 
 /// An unsigned number in decimal, with leading zeros up to the width: `Padded(3u8, 2)` writes `03`.
@@ -56,6 +54,4 @@ impl<T: DigitCount + Radix> Part for Padded<T> {
     fn write_to(self, buffer: &mut [u8]) -> usize {
         PaddedDigits(10, self.0, self.1).write_to(buffer)
     }
-
-    fn text_is_utf8(self) {}
 }

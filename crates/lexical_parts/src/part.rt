@@ -46,13 +46,8 @@ pub trait Part: Copy {
         requires valid { is_valid self }
         requires room { room self ≤ length buffer.old }
         ensures text { Writes (is_text self) buffer.old buffer.new result }
-        ensures short { result ≤ room self };
-
-    /// A law: the text of the part is UTF-8.
-    fn text_is_utf8(self)
-        requires valid { is_valid self }
-        requires utf8 { is_utf8 self }
-        ensures { AreUtf8 (is_text self) };
+        ensures short { result ≤ room self }
+        ensures utf8 { is_utf8 self → AreUtf8 (is_text self) };
 
     /// Writes the text to the start of the buffer, and returns those bytes of the buffer, which the
     /// caller may read and change. Every byte after the text is unchanged. The part must be valid,
@@ -63,6 +58,7 @@ pub trait Part: Copy {
         ensures* lends { sem 𝓛 (LendsFront buffer.entry (length result.now) result) }
         ensures text { is_text self result.now }
         ensures short { length result.now ≤ room self }
+        ensures utf8 { is_utf8 self → AreUtf8 (is_text self) }
     {
         let count = self.write_to(buffer);
         front_mut(buffer, count)
@@ -80,6 +76,7 @@ pub trait Part: Copy {
         ensures after { drop result buffer.new ≡ drop result buffer.old }
         ensures some { index ≤ result }
         ensures short { result ≤ index + room self }
+        ensures utf8 { is_utf8 self → AreUtf8 (is_text self) }
         ensures same_length { length buffer.new ≡ length buffer.old }
     {
         index + self.write_to(&mut buffer[index..])
@@ -93,6 +90,7 @@ pub trait Part: Copy {
         ensures fits { IsSome result ↔ (room self ≤ length buffer.old) }
         ensures text { IfSome result (Writes (is_text self) buffer.old buffer.new) }
         ensures short { IfSome result (λ count. count ≤ room self) }
+        ensures utf8 { IfSome result (λ _. is_utf8 self → AreUtf8 (is_text self)) }
         ensures none { IfNone result (buffer.new ≡ buffer.old) }
     {
         if buffer.len() < self.room() {
@@ -114,7 +112,6 @@ pub trait Part: Copy {
         ensures text { is_text self result.now }
         ensures short { length result.now ≤ room self }
     {
-        self.text_is_utf8();
         from_utf8(self.to_text(buffer)).unwrap()
     }
 

@@ -1,5 +1,5 @@
 //! Numbers with a sign in each case.
-#![tactic(auto, using(crate::proofs::Utf8Texts::kinds, crate::proofs::Utf8Changes::changes))]
+#![tactic(auto, using(crate::proofs::Utf8Texts::kinds))]
 
 ghost use Rattle.std.specs.Prelude.{◌+◌};
 ghost use Rattle.lexical_parts.specs.Plus.{IsPlus};
@@ -30,6 +30,4 @@ impl<T: ToLexicalWithOptions> Part for Plus<T> {
         let start = Sign(self.0, true).write_to(buffer);
         start + self.0.write_magnitude(&STANDARD, &mut buffer[start..])
     }
-
-    fn text_is_utf8(self) {}
 }

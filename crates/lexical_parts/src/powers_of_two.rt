@@ -1,5 +1,5 @@
 //! Unsigned numbers in radix 16 and in radix 2, in the room of their type, and bytes in radix 16.
-#![tactic(auto, using(crate::proofs::Utf8Texts::kinds, crate::proofs::Utf8Changes::changes))]
+#![tactic(auto, using(crate::proofs::Utf8Texts::kinds))]
 
 ghost use Rattle.std.specs.Prelude.{◌+◌, ◌-◌, ◌*◌, ◌/◌, length};
 ghost use Rattle.lexical_write_integer.specs.Padded.{IsPadded};
@@ -8,6 +8,7 @@ ghost use Rattle.lexical_write_integer.specs.Text.{IsDigits};
 
 use crate::joined::write_next;
 use crate::part::Part;
+use crate::text::str_is_utf8;
 use lexical_tables::get_table;
 use lexical_write_integer::laws::digit_count_within_bits;
 use lexical_write_integer::radix::Radix;
@@ -30,8 +31,6 @@ impl<T: Radix> Part for Hex<T> {
         self.0.fits_bits();
         self.0.radix(16, buffer)
     }
-
-    fn text_is_utf8(self) {}
 }
 
 /// The digits of an unsigned number in radix 2, without a prefix: `Binary(5u8)` writes `101`. Its room
@@ -52,8 +51,6 @@ impl<T: Radix> Part for Binary<T> {
         digit_count_within_bits(2, self.0);
         self.0.radix(2, buffer)
     }
-
-    fn text_is_utf8(self) {}
 }
 
 // The two digits of a byte in radix 16.
@@ -76,8 +73,6 @@ impl Part for HexByte {
         buffer[1] = table[index + 1];
         2
     }
-
-    fn text_is_utf8(self) {}
 }
 
 /// The bytes of a slice in radix 16, each in two digits, with a separator between adjacent bytes:
@@ -97,15 +92,12 @@ impl Part for HexBytes<'_> {
     }
 
     fn write_to(self, buffer: &mut [u8]) -> usize {
+        str_is_utf8(self.1);
         // The loop of `Joined`, whose slice contains the parts: here each byte becomes one.
         let mut count = 0;
         for (index, byte) in self.0.iter().enumerate() {
             count += write_next(index, self.1, HexByte(*byte), &mut buffer[count..]);
         }
         count
-    }
-
-    fn text_is_utf8(self) {
-        self.1.text_is_utf8();
     }
 }

@@ -1,5 +1,4 @@
 //! References to parts, which have the text of the part.
-#![tactic(auto, using(crate::proofs::Utf8Texts::kinds, crate::proofs::Utf8Changes::changes))]
 
 use crate::part::Part;
 
@@ -18,9 +17,5 @@ impl<P: Part> Part for &P {
 
     fn write_to(self, buffer: &mut [u8]) -> usize {
         (*self).write_to(buffer)
-    }
-
-    fn text_is_utf8(self) {
-        (*self).text_is_utf8();
     }
 }

@@ -1,5 +1,5 @@
 //! Numbers in scientific notation.
-#![tactic(auto, using(crate::proofs::Utf8Texts::kinds, crate::proofs::Utf8Changes::changes))]
+#![tactic(auto, using(crate::proofs::Utf8Texts::kinds))]
 
 ghost use Rattle.std.specs.Prelude.{◌≡◌, ◌≢◌, ℕ, ◌+◌, ◌-◌, ◌^◌, ◌<◌, ◌≤◌, length, drop, replicate};
 ghost use Rattle.std.specs.Prelude.{slice_index, unsigned_abs};
@@ -109,6 +109,4 @@ impl<T: ToLexicalWithOptions> Part for Scientific<T> {
         let start = Sign(self.0, false).write_to(buffer);
         start + write_magnitude(self.0, self.1, &mut buffer[start..])
     }
-
-    fn text_is_utf8(self) {}
 }

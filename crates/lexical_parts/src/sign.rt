@@ -1,5 +1,5 @@
 //! The sign of a number, as a part of its own.
-#![tactic(auto, using(crate::proofs::Utf8Texts::kinds, crate::proofs::Utf8Changes::changes))]
+#![tactic(auto, using(crate::proofs::Utf8Texts::kinds))]
 
 ghost use Rattle.lexical_num.specs.Sign.{sign_of};
 ghost use Rattle.lexical_write_integer.specs.Sequence.{IsExactly};
@@ -31,6 +31,4 @@ impl<T: LexicalInteger> Part for Sign<T> {
             0
         }
     }
-
-    fn text_is_utf8(self) {}
 }

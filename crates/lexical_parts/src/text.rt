@@ -1,12 +1,18 @@
 //! Parts that are strings or bytes, whose text is the same bytes.
-#![tactic(auto, using(crate::proofs::Utf8Texts::kinds, crate::proofs::Utf8Changes::changes))]
+#![tactic(auto, using(crate::proofs::Utf8Texts::kinds))]
 
 ghost use Rattle.std.specs.Prelude.{ℕ, [], ◌∷◌, ◌<◌, length};
 ghost use Rattle.std.specs.Str.{IsUtf8};
 ghost use Rattle.lexical_write_integer.specs.Sequence.{IsExactly};
+ghost use Rattle.lexical_parts.specs.Utf8.{AreUtf8};
 
 use crate::part::Part;
 use lexical_write_integer::buffer::copy_to_front;
+
+// A law: the bytes of a `str` are UTF-8.
+pub(crate) fn str_is_utf8(text: &str)
+    ensures { AreUtf8 (IsExactly text.now) }
+{}
 
 impl Part for &str {
     ghost is_text = { λ part. IsExactly part.now };
@@ -20,8 +26,6 @@ impl Part for &str {
     fn write_to(self, buffer: &mut [u8]) -> usize {
         copy_to_front(self.as_bytes(), buffer)
     }
-
-    fn text_is_utf8(self) {}
 }
 
 /// A part whose text is the bytes of a slice: `Bytes(b"ab")` writes `ab`.
@@ -42,8 +46,6 @@ impl Part for Bytes<'_> {
     fn write_to(self, buffer: &mut [u8]) -> usize {
         copy_to_front(self.0, buffer)
     }
-
-    fn text_is_utf8(self) {}
 }
 
 /// A part whose text is one byte: `Byte(b'a')` writes `a`.
@@ -64,6 +66,4 @@ impl Part for Byte {
     fn write_to(self, buffer: &mut [u8]) -> usize {
         copy_to_front(&[self.0], buffer)
     }
-
-    fn text_is_utf8(self) {}
 }

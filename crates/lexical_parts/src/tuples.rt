@@ -1,5 +1,5 @@
 //! Tuples of two to twelve parts, whose text is the texts of their members in order.
-#![tactic(auto, using(crate::proofs::Utf8Texts::kinds, crate::proofs::Utf8Changes::changes))]
+#![tactic(auto, using(crate::proofs::Utf8Texts::kinds))]
 
 ghost use Rattle.std.specs.Prelude.{◌+◌};
 ghost use Rattle.lexical_parts.specs.Sequence.{◌then◌};
@@ -23,11 +23,6 @@ impl<A: Part, B: Part> Part for (A, B) {
         let first = self.0.write_to(buffer);
         first + self.1.write_to(&mut buffer[first..])
     }
-
-    fn text_is_utf8(self) {
-        self.0.text_is_utf8();
-        self.1.text_is_utf8();
-    }
 }
 
 impl<A: Part, B: Part, C: Part> Part for (A, B, C) {
@@ -46,10 +41,6 @@ impl<A: Part, B: Part, C: Part> Part for (A, B, C) {
     fn write_to(self, buffer: &mut [u8]) -> usize {
         (self.0, (self.1, self.2)).write_to(buffer)
     }
-
-    fn text_is_utf8(self) {
-        (self.0, (self.1, self.2)).text_is_utf8();
-    }
 }
 
 impl<A: Part, B: Part, C: Part, D: Part> Part for (A, B, C, D) {
@@ -67,10 +58,6 @@ impl<A: Part, B: Part, C: Part, D: Part> Part for (A, B, C, D) {
 
     fn write_to(self, buffer: &mut [u8]) -> usize {
         (self.0, (self.1, self.2, self.3)).write_to(buffer)
-    }
-
-    fn text_is_utf8(self) {
-        (self.0, (self.1, self.2, self.3)).text_is_utf8();
     }
 }
 
@@ -92,10 +79,6 @@ impl<A: Part, B: Part, C: Part, D: Part, E: Part> Part for (A, B, C, D, E) {
 
     fn write_to(self, buffer: &mut [u8]) -> usize {
         (self.0, (self.1, self.2, self.3, self.4)).write_to(buffer)
-    }
-
-    fn text_is_utf8(self) {
-        (self.0, (self.1, self.2, self.3, self.4)).text_is_utf8();
     }
 }
 
@@ -119,10 +102,6 @@ impl<A: Part, B: Part, C: Part, D: Part, E: Part, F: Part> Part for (A, B, C, D,
     fn write_to(self, buffer: &mut [u8]) -> usize {
         (self.0, (self.1, self.2, self.3, self.4, self.5)).write_to(buffer)
     }
-
-    fn text_is_utf8(self) {
-        (self.0, (self.1, self.2, self.3, self.4, self.5)).text_is_utf8();
-    }
 }
 
 impl<A: Part, B: Part, C: Part, D: Part, E: Part, F: Part, G: Part> Part for (A, B, C, D, E, F, G) {
@@ -144,10 +123,6 @@ impl<A: Part, B: Part, C: Part, D: Part, E: Part, F: Part, G: Part> Part for (A,
 
     fn write_to(self, buffer: &mut [u8]) -> usize {
         (self.0, (self.1, self.2, self.3, self.4, self.5, self.6)).write_to(buffer)
-    }
-
-    fn text_is_utf8(self) {
-        (self.0, (self.1, self.2, self.3, self.4, self.5, self.6)).text_is_utf8();
     }
 }
 
@@ -173,11 +148,6 @@ impl<A: Part, B: Part, C: Part, D: Part, E: Part, F: Part, G: Part, H: Part> Par
     fn write_to(self, buffer: &mut [u8]) -> usize {
         let (a, b, c, d, e, f, g, h) = self;
         (a, (b, c, d, e, f, g, h)).write_to(buffer)
-    }
-
-    fn text_is_utf8(self) {
-        let (a, b, c, d, e, f, g, h) = self;
-        (a, (b, c, d, e, f, g, h)).text_is_utf8();
     }
 }
 
@@ -207,11 +177,6 @@ impl<A: Part, B: Part, C: Part, D: Part, E: Part, F: Part, G: Part, H: Part, I: 
         let (a, b, c, d, e, f, g, h, i) = self;
         (a, (b, c, d, e, f, g, h, i)).write_to(buffer)
     }
-
-    fn text_is_utf8(self) {
-        let (a, b, c, d, e, f, g, h, i) = self;
-        (a, (b, c, d, e, f, g, h, i)).text_is_utf8();
-    }
 }
 
 impl<A: Part, B: Part, C: Part, D: Part, E: Part, F: Part, G: Part, H: Part, I: Part, J: Part> Part
@@ -239,11 +204,6 @@ impl<A: Part, B: Part, C: Part, D: Part, E: Part, F: Part, G: Part, H: Part, I: 
     fn write_to(self, buffer: &mut [u8]) -> usize {
         let (a, b, c, d, e, f, g, h, i, j) = self;
         (a, (b, c, d, e, f, g, h, i, j)).write_to(buffer)
-    }
-
-    fn text_is_utf8(self) {
-        let (a, b, c, d, e, f, g, h, i, j) = self;
-        (a, (b, c, d, e, f, g, h, i, j)).text_is_utf8();
     }
 }
 
@@ -285,11 +245,6 @@ impl<
         let (a, b, c, d, e, f, g, h, i, j, k) = self;
         (a, (b, c, d, e, f, g, h, i, j, k)).write_to(buffer)
     }
-
-    fn text_is_utf8(self) {
-        let (a, b, c, d, e, f, g, h, i, j, k) = self;
-        (a, (b, c, d, e, f, g, h, i, j, k)).text_is_utf8();
-    }
 }
 
 impl<
@@ -330,10 +285,5 @@ impl<
     fn write_to(self, buffer: &mut [u8]) -> usize {
         let (a, b, c, d, e, f, g, h, i, j, k, l) = self;
         (a, (b, c, d, e, f, g, h, i, j, k, l)).write_to(buffer)
-    }
-
-    fn text_is_utf8(self) {
-        let (a, b, c, d, e, f, g, h, i, j, k, l) = self;
-        (a, (b, c, d, e, f, g, h, i, j, k, l)).text_is_utf8();
     }
 }

@@ -5,6 +5,7 @@ ghost use Rattle.lexical_num.specs.Format.{IsRadix};
 ghost use Rattle.lexical_write_integer.specs.Buffer.{Writes};
 ghost use Rattle.lexical_write_integer.specs.Padded.{IsPadded};
 ghost use Rattle.lexical_parts.specs.Sequence.{◌then◌};
+ghost use Rattle.lexical_parts.specs.Utf8.{AreUtf8};
 
 use crate::part::Part;
 use lexical_write_integer::padded::write_padded;
@@ -27,6 +28,7 @@ pub fn write_with_length<P: Part>(
     ensures text { Writes (IsPadded radix width (extra + result) then P.is_text part)
         buffer.old buffer.new (width + result) }
     ensures short { result ≤ P.room part }
+    ensures utf8 { P.is_utf8 part → AreUtf8 (P.is_text part) }
 {
     let count = part.write_to(&mut buffer[width..]);
     prove!(count <= usize::MAX - extra);

@@ -1,5 +1,5 @@
 //! Numbers with leading zeros, up to at least a width.
-#![tactic(auto, using(crate::proofs::Utf8Texts::kinds, crate::proofs::Utf8Changes::changes))]
+#![tactic(auto, using(crate::proofs::Utf8Changes::changes))]
 
 ghost use Rattle.std.specs.Prelude.{◌≡◌, ◌≤◌, length, max};
 ghost use Rattle.lexical_parts.specs.ZeroPadded.{IsZeroPadded, sign_length};
@@ -43,9 +43,5 @@ impl<P: Part> Part for ZeroPadded<P> {
         let zeros = self.1.saturating_sub(count);
         insert_fill(b'0', zeros, count - sign, &mut buffer[sign..]);
         zeros + count
-    }
-
-    fn text_is_utf8(self) {
-        self.0.text_is_utf8();
     }
 }

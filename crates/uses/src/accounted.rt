@@ -1,7 +1,6 @@
-//! An amount of money as in accounts, as an example of a part of a text that no caller needs as a `&str`.
+//! An amount of money as in accounts, as an example of a part of a text that has two forms.
 
 ghost use Rattle.std.specs.Prelude.{ℤ};
-ghost use Rattle.lexical_parts.specs.Utf8.{AreUtf8};
 ghost use Rattle.uses.specs.Accounted.{IsAccounted};
 
 use lexical_parts::{Fixed, Part};
@@ -15,9 +14,6 @@ impl Part for Accounted {
 
     ghost room = { λ _. 23 };
 
-    // A caller of `to_str` would have to prove this.
-    ghost is_utf8 = { λ amount. AreUtf8 (IsAccounted amount.0) };
-
     fn room(self) -> usize {
         23
     }
@@ -30,6 +26,4 @@ impl Part for Accounted {
             cents.write_to(buffer)
         }
     }
-
-    fn text_is_utf8(self) {}
 }

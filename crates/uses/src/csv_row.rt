@@ -75,10 +75,6 @@ impl Part for Row<'_> {
     fn write_to(self, buffer: &mut [u8]) -> usize {
         Joined(self.0, ",").write_to(buffer)
     }
-
-    fn text_is_utf8(self) {
-        Joined(self.0, ",").text_is_utf8();
-    }
 }
 
 /// Writes the rows, with a newline after each, to the start of the buffer, and returns the number of bytes

@@ -29,7 +29,6 @@ pub struct DateTime {
     ghost second_fits: { second < 100 },
 }
 
-#[tactic(auto, using(lexical_parts::proofs::Utf8Texts::kinds))]
 impl Part for DateTime {
     ghost use Rattle.uses.specs.DateTime.{IsDateTime};
 
@@ -59,8 +58,6 @@ impl Part for DateTime {
         )
             .write_to(buffer)
     }
-
-    fn text_is_utf8(self) {}
 }
 
 /// The length of a timestamp.

@@ -28,8 +28,4 @@ impl Part for Limb {
     fn write_to(self, buffer: &mut [u8]) -> usize {
         Padded(self.value, 19).write_to(buffer)
     }
-
-    fn text_is_utf8(self) {
-        Padded(self.value, 19).text_is_utf8();
-    }
 }

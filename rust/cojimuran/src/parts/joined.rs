@@ -17,7 +17,8 @@ pub(crate) fn write_next<P: Part>(
     if index == 0 {
         part.write_to(buffer)
     } else {
-        (separator, part).write_to(buffer)
+        let start = separator.write_to(buffer);
+        start + part.write_to(&mut buffer[start..])
     }
 }
 

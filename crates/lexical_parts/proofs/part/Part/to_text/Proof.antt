@@ -11,6 +11,7 @@ use Rattle.lexical_write_integer.proofs.Reborrows.{lends, comes_back}
 use Rattle.lexical_write_integer.proofs.HandedFronts.{calls_front}
 use Rattle.lexical_write_integer.proofs.Buffers.Prefixes.{Writes-short}
 use Rattle.lexical_write_integer.proofs.buffer.front_mut.Met.{met as front_met}
+use Rattle.lexical_parts.specs.Utf8.{AreUtf8}
 use Rattle.lexical_parts.specs.contracts.part.Part.write_to as W
 use Rattle.lexical_parts.specs.contracts.part.Part.to_text as F
 use Rattle.lexical_parts.proofs.part.Part.to_text.Statement.{statement}
@@ -36,6 +37,7 @@ to_text_spec 𝓤 𝓛 𝓜 𝓡 wired X L C g d gc dc writes _ =
     -- the length of buffer that the call requires, and what a text of the part is
     let needed = g.room x in
     let Text : List ℕ → Type 0 = g.is_text x in
+    let IsUtf8 = g.is_utf8 x → AreUtf8 Text in
     qed 𝓛 (((‵ (flft κ q) ⊛ raw (toks 𝓛 1 κs.1 qs.1)) ⊛ (‵ (R.own_val x words.0) ⊛ ‵ ((MutSlice (named 0) κ u8).own_val self words.1.0) ⊛ ‵ ftrue))
     ∷ raw ((c κs a).requires tt) ∷ []) ∵ split ! $ split ! $ move ! (2 ∷ []) $ split3 ! $
     -- [the value; the slice; nothing; the token of κ; the other token; what is required]
@@ -53,10 +55,10 @@ to_text_spec 𝓤 𝓛 𝓜 𝓡 wired X L C g d gc dc writes _ =
     calls_at ! fm Writes writes.write_to z (and_then ! (get ! refl) (and_then ! (get ! refl) (no_more !))) (λ v.
     use1 𝓛 (later (some (λ (n : ℕ). ((‵ (flft (α ∷ []) full_share) ⊛ raw (toks 𝓛 1 κs.1 qs.1)) ⊛ ‵ (usize.own_val n (v ∷ []))) ⊛
     some (λ (ws : Unit {0} × (List ℕ × Unit {0})). ‵ (lasts (W.ended X g d gc dc) z.0.0 z.0.3 ws) ⊛
-    (raw (fact 𝓤 (Written Text self.now ws.1.0 n)) ⊛ raw (fact 𝓤 (n ≤ needed))))))) (id⊢ 𝓤 _) $
+    (raw (fact 𝓤 (Written Text self.now ws.1.0 n)) ⊛ raw (fact 𝓤 (n ≤ needed)) ⊛ raw (fact 𝓤 IsUtf8)))))) (id⊢ 𝓤 _) $
     await ! tt $ pick ! (λ n. split ! $ split ! $ split ! $ move ! (2 ∷ []) $ fsplit ! $ feq_l ! (λ is. flt_l ! (λ fits.
-    move ! (2 ∷ []) $ pick ! (λ ws. split3 ! $ move ! (1 ∷ []) $ heard ! _ (λ text. move ! (1 ∷ []) $ heard ! _ (λ short.
-    fsplit ! $ drop ! $ fsplit ! $ move ! (2 ∷ 4 ∷ 0 ∷ []) $ comes_back 𝓛 u8 (named 0) κ q self ! tt α δ ws.1.0 (λ long.
+    move ! (2 ∷ []) $ pick ! (λ ws. split3 ! $ move ! (1 ∷ []) $ heard ! _ (λ text. move ! (1 ∷ []) $ split ! $
+    heard ! _ (λ short. heard ! _ (λ utf8. fsplit ! $ drop ! $ fsplit ! $ move ! (2 ∷ 4 ∷ 0 ∷ []) $ comes_back 𝓛 u8 (named 0) κ q self ! tt α δ ws.1.0 (λ long.
     -- [the written slice; the token of κ; nothing; the other token]
     lands_as ! (ap only is) refl (tt, record { fits = fits }) $
     sets ! (addr ! (from ! (fld ! refl (hop ! (look_in_at ! 2 (sub ! 0 refl (whole !))) (stop !))))) refl (tt, tt) $
@@ -69,4 +71,5 @@ to_text_spec 𝓤 𝓛 𝓜 𝓡 wired X L C g d gc dc writes _ =
     returns ! (look_at ! 0 refl) $ free_all ! refl $
     suffices ! _ (ends_at 𝓛 T stayed c ((κs, qs, bounds, a, words), tt) (slice_val r.ref_ptr (length r.now)) r (tt, (tt, tt)) (tt, (tt, tt))) $
     keep ! (1 ∷ 4 ∷ 0 ∷ 2 ∷ []) $ join ! $ nothing ! $ nothing ! $ fjoin ! $ nothing ! $ fjoin ! $ move ! (0 ∷ 2 ∷ []) $ join ! $ move ! (1 ∷ []) $ join ! $
-    frame ! $ frame ! $ says ! handed.is.1 $ use0 𝓛 (raw (fact 𝓤 (Text r.now))) (fact_i 𝓤 _ (emp 𝓤) handed.is.0) $ done !))))))))))))
+    frame ! $ frame ! $ use0 𝓛 (raw (fact 𝓤 (Text r.now))) (fact_i 𝓤 _ (emp 𝓤) handed.is.0) $ frame ! $
+    says ! utf8 $ use0 𝓛 (raw (fact 𝓤 (length r.now ≤ needed))) (fact_i 𝓤 _ (emp 𝓤) handed.is.1) $ done !)))))))))))))

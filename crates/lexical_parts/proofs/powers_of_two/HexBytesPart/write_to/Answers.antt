@@ -3,6 +3,7 @@ use Rattle.std.proofs.lemmas.List.{get_or_default}
 use Rattle.lexical_write_integer.specs.Padded.{IsPadded}
 use Rattle.lexical_parts.proofs.Lists.{written_joined}
 use Rattle.lexical_parts.proofs.Rooms.{leads_at, joined_room-more, joined_room-take-le, two_each}
+use Rattle.lexical_parts.proofs.Utf8Texts.{joined_is_utf8, padded_is_utf8}
 use Rattle.lexical_parts.proofs.powers_of_two.HexBytesPart.write_to.Goals as goal
 
 pub write_next-count-requires-clause-room : goal.write_next-count-requires-clause-room
@@ -31,3 +32,6 @@ loop-index-preserved c =
 
 pub returns-clause-short : goal.returns-clause-short
 returns-clause-short c = grind (arith, joined_room-take-le, two_each)
+
+pub returns-clause-utf8 : goal.returns-clause-utf8
+returns-clause-utf8 c = λ _. joined_is_utf8 (IsPadded 16 2) _ _ (λ k d inside. padded_is_utf8 16 2 _ (omega arith)) c.str_is_utf8.ensures
