@@ -74,32 +74,6 @@ pub(super) fn first_pair<const R: u32>(number: u32, turns: &mut Turns) -> u32
     pair
 }
 
-// Writes the one to four digits of a number to the start of the buffer: four characters, each at its index or,
-// if it is a leading zero, at an index that a later one takes. This avoids branches. `third` is the index of the third
-// character.
-pub(super) fn write_up_to_four<const R: u32>(
-    number: u32,
-    digits: usize,
-    third: usize,
-    table: RadixTable<'_, R>,
-    buffer: &mut [u8],
-    turns: &mut Turns,
-)
-    requires short { number < R ^ 4 }
-    requires digits { digits ≡ digit_count R number }
-    requires third { third ≡ digits - 2 }
-    requires room { digits ≤ length buffer.old }
-    ensures written { WritesBlock R digits number 0 buffer.old buffer.new }
-    ensures notes { turns.new ≡ turns.old ++ loop_notes R number }
-{
-    let first = 2 * first_pair::<R>(number, turns) as usize;
-    let last = 2 * (number % (R * R)) as usize;
-    buffer[0] = table.pairs[first];
-    buffer[digits / 4] = table.pairs[first + 1];
-    buffer[third] = table.pairs[last];
-    buffer[digits - 1] = table.pairs[last + 1];
-}
-
 // Returns how many digits a number of three or four digits has.
 fn count_three_or_four(number: u32, radix: u32) -> usize
     requires radix { IsRadix radix }
@@ -189,10 +163,10 @@ pub(super) fn write_after_count<const R: u32>(
         first_pair::<R>(left as u32, loop_turns);
         let first = last_four::<R>(value >> (bits * (count - 4)));
         write_four(first, table, buffer, 0);
+    } else if at > 2 {
+        write_three_or_four(left as u32, table, buffer, loop_turns);
     } else {
-        // This is 2 less, or 0 if that is less, in fewer instructions.
-        let third = at * at / 8;
-        write_up_to_four(left as u32, at, third, table, buffer, loop_turns);
+        write_one_or_two(left as u32, at, table, buffer);
     }
     count
 }

@@ -40,25 +40,6 @@ pub(super) fn first_pair<const R: u32>(number: u32) -> u32 {
     number / (R * R)
 }
 
-// Writes the one to four digits of a number to the start of the buffer: four characters, each at its index or,
-// if it is a leading zero, at an index that a later one takes. This avoids branches. `third` is the index of the third
-// character.
-#[inline(always)]
-pub(super) fn write_up_to_four<const R: u32>(
-    number: u32,
-    digits: usize,
-    third: usize,
-    table: RadixTable<'_, R>,
-    buffer: &mut [u8],
-) {
-    let first = 2 * first_pair::<R>(number) as usize;
-    let last = 2 * (number % (R * R)) as usize;
-    buffer[0] = table.pairs[first];
-    buffer[digits / 4] = table.pairs[first + 1];
-    buffer[third] = table.pairs[last];
-    buffer[digits - 1] = table.pairs[last + 1];
-}
-
 // Returns how many digits a number of three or four digits has.
 #[inline(always)]
 fn count_three_or_four(number: u32, radix: u32) -> usize {
@@ -124,10 +105,10 @@ pub(super) fn write_after_count<const R: u32>(
     if R == 1 << bits {
         let first = last_four::<R>(value >> (bits * (count - 4)));
         write_four(first, table, buffer, 0);
+    } else if at > 2 {
+        write_three_or_four(left as u32, table, buffer);
     } else {
-        // This is 2 less, or 0 if that is less, in fewer instructions.
-        let third = at * at / 8;
-        write_up_to_four(left as u32, at, third, table, buffer);
+        write_one_or_two(left as u32, at, table, buffer);
     }
     count
 }

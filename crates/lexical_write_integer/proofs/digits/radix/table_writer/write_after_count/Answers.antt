@@ -1,11 +1,13 @@
-use Rattle.std.proofs.Common.{◌≡◌, ◌+◌, ◌-◌, ◌<◌, ◌≤◌, ◌^◌, refl, sym, ◌∙◌, lit<, arith}
+use Rattle.std.proofs.Common.{◌≡◌, ℕ, ◌+◌, ◌-◌, ◌*◌, ◌<◌, ◌≤◌, ◌^◌, List, length, refl, sym, ◌∙◌, lit<, arith}
+use Rattle.lexical_write_integer.specs.Buffer.{WritesDigits}
 use Rattle.lexical_write_integer.specs.Digits.DigitCount.{digit_count}
 use Rattle.lexical_write_integer.specs.Digits.LoopTurns.{takes_four}
 use Rattle.lexical_write_integer.proofs.Buffers.Blocks.{IsWrittenBack-start, IsWrittenBack-at, IsWrittenBack-left, IsWrittenBack-more, IsWrittenBack-last}
-use Rattle.lexical_write_integer.proofs.Buffers.BlocksAfter.{WritesDigits-block}
+use Rattle.lexical_write_integer.proofs.Buffers.BlocksAfter.{WritesBlock-digits, WritesDigits-block}
 use Rattle.lexical_write_integer.proofs.OfDigits.Count.DigitCounts.{digit_count-pos, digit_count-more}
 use Rattle.lexical_write_integer.proofs.OfDigits.Radix.FirstDigits.{WritesBlock-first, first_four, shift-lt}
-use Rattle.lexical_write_integer.proofs.OfDigits.Radix.FourDigits.{third-is}
+use Rattle.lexical_write_integer.proofs.OfDigits.Powers.{pow-two}
+use Rattle.lexical_write_integer.proofs.OfDigits.Radix.Loops.Records.{loop_notes-none}
 use Rattle.lexical_write_integer.proofs.OfDigits.Radix.Loops.ShortNumbers.{fits-within, longer-than}
 use Rattle.lexical_write_integer.proofs.OfDigits.Count.RadixPowers.{power-small}
 use Rattle.lexical_write_integer.proofs.digits.radix.table_writer.write_after_count.Goals as goal
@@ -48,19 +50,9 @@ short g c = fits-within g.row.R c.loop-at.left 4 c.args.table.is_radix.at_least_
 some_left : (g : _) (c : After-loop-at g) → 1 ≤ c.loop-at.at
 some_left g c = omega (arith, count_left g c, digit_count-pos g.row.R c.loop-at.left)
 
-pub overflow_mul-third : goal.overflow_mul-third
-overflow_mul-third g c = grind arith
-
 pub overflow_cast-left : goal.overflow_cast-left
 overflow_cast-left g c =
     omega (arith, short g (goal.at.overflow_cast-left g c).After-loop-at, power-small g.row.R 4 c.args.table.is_radix.at_most_36 takes_four)
-
-pub write_up_to_four-requires : goal.write_up_to_four-requires
-write_up_to_four-requires g c =
-    let c' = (goal.at.write_up_to_four-requires g c).After-loop-at in
-    let is = c.count_some-count.ensures.count in
-    let third = third-is c.loop-at.at (some_left g c') c.loop-at-test.false in
-    (lit< tt, (short g c', (sym (count_left g c'), (third, omega (arith, is, c.requires.room, c.loop-at.invariant)))))
 
 pub loop-at-init : goal.loop-at-init
 loop-at-init g c =
@@ -123,15 +115,59 @@ returns-then-bits-clause-digits g c =
 
 -- ---- the digits that are left, in another radix
 
-pub overflow_cast-left-else-bits : goal.overflow_cast-left-else-bits
-overflow_cast-left-else-bits g c =
-    omega (arith, short g (goal.at.overflow_cast-left-else-bits g c).After-loop-at, power-small g.row.R 4 c.args.table.is_radix.at_most_36 takes_four)
+cast-left : (g : _) (c : After-loop-at g) → c.loop-at.left < 2 ^ 32
+cast-left g c = omega (arith, short g c, power-small g.row.R 4 c.args.table.is_radix.at_most_36 takes_four)
 
-pub returns-else-bits-clause-digits : goal.returns-else-bits-clause-digits
-returns-else-bits-clause-digits g c =
+pub overflow_cast-left-then-at-gt2 : goal.overflow_cast-left-then-at-gt2
+overflow_cast-left-then-at-gt2 g c = omega (arith, cast-left g (goal.at.overflow_cast-left-then-at-gt2 g c).After-loop-at)
+
+pub overflow_cast-left-else-at-gt2 : goal.overflow_cast-left-else-at-gt2
+overflow_cast-left-else-at-gt2 g c = omega (arith, cast-left g (goal.at.overflow_cast-left-else-at-gt2 g c).After-loop-at)
+
+-- the buffer has room for them
+fits : (g : _) (c : After-loop-at g) → digit_count g.row.R c.loop-at.left ≤ length c.loop-at.buffer
+fits g c = omega (arith, count_left g c, c.count_some-count.ensures.count, c.requires.room, c.loop-at.invariant)
+
+pub write_three_or_four-requires-then-at-gt2 : goal.write_three_or_four-requires-then-at-gt2
+write_three_or_four-requires-then-at-gt2 g c =
+    let c' = (goal.at.write_three_or_four-requires-then-at-gt2 g c).After-loop-at in
+    let long = longer-than g.row.R c.loop-at.left 2 (omega arith) (omega (arith, count_left g c', c.if-at-gt2.true)) in
+    (lit< tt, (long, (short g c', fits g c')))
+
+-- at most two digits
+shorter : (g : _) (c : After-loop-at g) → c.loop-at.at ≤ 2 → c.loop-at.left < g.row.R ^ 2
+shorter g c few = fits-within g.row.R c.loop-at.left 2 c.args.table.is_radix.at_least_two (omega (arith, count_left g c, few))
+
+pub write_one_or_two-requires : goal.write_one_or_two-requires
+write_one_or_two-requires g c =
+    let c' = (goal.at.write_one_or_two-requires g c).After-loop-at in
+    let below : c.loop-at.left < g.row.R * g.row.R = rw pow-two at (shorter g c' (omega (arith, c.if-at-gt2.false))) in
+    (lit< tt, (below, (sym (count_left g c'), omega (arith, count_left g c', fits g c'))))
+
+-- after the digits that are left, all are written
+whole : (g : _) (c : After-loop-at g) {after : List ℕ}
+    → WritesDigits g.row.R c.loop-at.left c.loop-at.buffer after c.loop-at.at
+    → WritesDigits g.row.R c.args.value c.args.buffer.now after c.count_some-count.result
+whole g c written =
     let count = c.count_some-count.result in
     let is = c.count_some-count.ensures.count in
-    let whole : c.loop-at.at + (count - c.loop-at.at) ≡ count = omega (arith, c.loop-at.invariant.within) in
+    let all : c.loop-at.at + (count - c.loop-at.at) ≡ count = omega (arith, c.loop-at.invariant.within) in
     let place : c.loop-at.at ≡ 0 + c.loop-at.at = omega arith in
-    let block = IsWrittenBack-last (IsWrittenBack-at place c.loop-at.invariant.written) c.write_up_to_four.ensures.written in
-    WritesDigits-block c.args.table.is_radix.at_least_two (sym is) (omega (arith, is, c.requires.room)) (rw whole at block)
+    let block = IsWrittenBack-last (IsWrittenBack-at place c.loop-at.invariant.written) (WritesBlock-digits written) in
+    WritesDigits-block c.args.table.is_radix.at_least_two (sym is) (omega (arith, is, c.requires.room)) (rw all at block)
+
+pub returns-then-at-gt2-clause-digits : goal.returns-then-at-gt2-clause-digits
+returns-then-at-gt2-clause-digits g c =
+    let c' = (goal.at.returns-then-at-gt2-clause-digits g c).After-loop-at in
+    let written = c.write_three_or_four-then-at-gt2.ensures.digits in
+    let counted : c.write_three_or_four-then-at-gt2.result ≡ c.loop-at.at = omega (arith, written.count, count_left g c') in
+    whole g c' (rw counted at written)
+
+pub returns-else-at-gt2-clause-digits : goal.returns-else-at-gt2-clause-digits
+returns-else-at-gt2-clause-digits g c = whole g (goal.at.returns-else-at-gt2-clause-digits g c).After-loop-at c.write_one_or_two.ensures
+
+pub returns-else-at-gt2-clause-loop_turns : goal.returns-else-at-gt2-clause-loop_turns
+returns-else-at-gt2-clause-loop_turns g c =
+    let c' = (goal.at.returns-else-at-gt2-clause-loop_turns g c).After-loop-at in
+    let few = shorter g c' (omega (arith, c.if-at-gt2.false)) in
+    loop_notes-none g.row.R c.loop-at.left c.loop-at.loop_turns c.args.table.is_radix.at_least_two few ∙ c.loop-at.invariant.noted
