@@ -123,15 +123,42 @@ fn count_some(value: u64, radix: u32) -> usize
 {
     let bits = fast_log2(radix);
     if radix == 1 << bits {
-        value.ilog2() as usize / bits + 1
+        let log2 = value.ilog2() as usize;
+        // By 4, which is a shift, the sum first takes fewer instructions.
+        if radix == 16 {
+            (log2 + bits) / bits
+        } else {
+            log2 / bits + 1
+        }
     } else {
         value.digit_count(radix)
     }
 }
 
+// Writes the one to four digits of a number, which are counted, to the start of the buffer.
+fn write_counted<const R: u32>(
+    number: u32,
+    digits: usize,
+    table: RadixTable<'_, R>,
+    buffer: &mut [u8],
+    turns: &mut Turns,
+)
+    requires short { number < R ^ 4 }
+    requires digits { digits ≡ digit_count R number }
+    requires room { digits ≤ length buffer.old }
+    ensures digits { WritesDigits R number buffer.old buffer.new digits }
+    ensures notes { turns.new ≡ turns.old ++ loop_notes R number }
+{
+    if digits > 2 {
+        write_three_or_four(number, table, buffer, turns);
+    } else {
+        write_one_or_two(number, digits, table, buffer);
+    }
+}
+
 // Writes a number of three digits or more: first it counts them, and then it writes four per iteration while more than
-// four are left. In a power of 2 the first four digits of the number are then written, and otherwise those that are
-// left.
+// four are left. In a power of 2 the first four digits of the number are then written, which are found before the loop,
+// so that the number takes no register in it, and otherwise those that are left.
 // It is cold, and so not inlined: otherwise a call in each radix would save registers that only this needs.
 #[cold]
 pub(super) fn write_after_count<const R: u32>(
@@ -151,6 +178,12 @@ pub(super) fn write_after_count<const R: u32>(
     let count = count_some(value, R);
     // So rustc tests the end of the buffer once.
     prove!(count <= buffer.len());
+    let bits = fast_log2(R);
+    let first = if R == 1 << bits {
+        last_four::<R>(value >> (bits * (count - 4)))
+    } else {
+        0
+    };
     let mut left = value;
     let mut at = count;
     while at > 4 {
@@ -158,15 +191,11 @@ pub(super) fn write_after_count<const R: u32>(
         write_four(last_four::<R>(left), table, buffer, at);
         left = remove_four::<R>(left, loop_turns);
     }
-    let bits = fast_log2(R);
     if R == 1 << bits {
         first_pair::<R>(left as u32, loop_turns);
-        let first = last_four::<R>(value >> (bits * (count - 4)));
         write_four(first, table, buffer, 0);
-    } else if at > 2 {
-        write_three_or_four(left as u32, table, buffer, loop_turns);
     } else {
-        write_one_or_two(left as u32, at, table, buffer);
+        write_counted(left as u32, at, table, buffer, loop_turns);
     }
     count
 }
