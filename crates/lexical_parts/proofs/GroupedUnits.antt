@@ -2,13 +2,19 @@
 use Rattle.std.proofs.lemmas.Grind.{common_steps}
 use Rattle.std.proofs.Common.{◌≡◌, Option, ℕ, ◌+◌, ◌-◌, ◌/◌, ◌^◌, ◌≤◌, List, [], ◌++◌, length, length-append, take, drop, replicate, refl, sym, ap, ◌∙◌, pos}
 use Rattle.std.proofs.Common.{arith}
-use Rattle.std.specs.Prelude.{max, min}
+use Rattle.std.specs.Prelude.{Bool, true, false, if◌then◌else◌, max, min}
+use Rattle.std.proofs.Math.Nat.{pow-le-pow_right}
 use Rattle.std.proofs.Math.Seq.{take-append-add}
 use Rattle.std.proofs.lemmas.List.{append-nil, drop-replicate, length-replicate, take_at}
+use Rattle.lexical_num.specs.BitWidth.{IsBitWidth}
+use Rattle.lexical_num.specs.DecimalWidth.{IsDecimalWidth}
 use Rattle.lexical_num.specs.Format.{grouped_length, standard}
+use Rattle.lexical_num.specs.Range.{greatest_of, least_of}
+use Rattle.lexical_num.proofs.Magnitudes.{decimal_width-le_20}
 use Rattle.lexical_write_integer.specs.Buffer.{Front, Writes}
 use Rattle.lexical_write_integer.specs.Groups.{grouped}
-use Rattle.lexical_write_integer.proofs.OfTexts.SizeBounds.{grouped_length-more}
+use Rattle.lexical_write_integer.proofs.OfDigits.Count.DigitCounts.{width-le, width-le_64}
+use Rattle.lexical_write_integer.proofs.OfTexts.SizeBounds.{grouped_length-le, grouped_length-more}
 use Rattle.lexical_write_integer.specs.Text.{IsDigits, IsText}
 use borrow.Rule.Slice.PartMut.{put_mid}
 use Rattle.lexical_parts.specs.Fixed.{AreUnits, IsGroupedUnits, grouped_units_room}
@@ -41,6 +47,25 @@ pub grouped_units-le : {decimals units width : ℕ} {digits : List ℕ} (groupin
     → grouped_length grouping (length digits - decimals) + (decimals + min decimals 1) ≤ grouped_units_room grouping width decimals
 grouped_units-le {decimals} {width = width} {digits = digits} grouping are =
     omega (arith, grouped_length-more grouping (length digits - decimals) (max width (decimals + 1) - decimals) 0 (omega (arith, are.few)))
+
+-- a signed type has at most 19 decimal digits
+width-le_19 : {bits width : ℕ} → IsBitWidth bits → IsDecimalWidth (least_of bits true) (greatest_of bits true) width → width ≤ 19
+width-le_19 {bits} {width} of_type is =
+    let largest = pow-le-pow_right {n = 2} (omega arith) {i = bits - 1} {j = 63} (omega (arith, width-le_64 bits of_type)) in
+    width-le width 19 _ is.needed (omega (arith, largest))
+
+-- the longest text is that of a `u64` without decimals in groups of one digit
+pub grouped_fixed_room-le_39 : {bits width : ℕ} (is_signed : Bool) (grouping : Option (ℕ × ℕ)) (decimals : ℕ) → IsBitWidth bits
+    → IsDecimalWidth (least_of bits is_signed) (greatest_of bits is_signed) width → decimals ≤ 19
+    → (if is_signed then 1 else 0) + grouped_units_room grouping width decimals ≤ 39
+grouped_fixed_room-le_39 {width = width} false grouping decimals of_type is few =
+    let whole = max width (decimals + 1) - decimals in
+    let most = decimal_width-le_20 false of_type is in
+    omega (arith, most, grouped_length-le grouping whole whole (omega arith) (omega arith))
+grouped_fixed_room-le_39 {width = width} true grouping decimals of_type is few =
+    let whole = max width (decimals + 1) - decimals in
+    let most = width-le_19 of_type is in
+    omega (arith, most, grouped_length-le grouping whole whole (omega arith) (omega arith))
 
 -- ---- the text in the buffer
 

@@ -7,7 +7,7 @@ use Rattle.lexical_write_integer.proofs.Buffers.Prefixes.{Front-after}
 
 -- a text is written over a shorter one
 pub Front-over : {before between after s t : List ℕ} → Front before between s → Front between after t → length s ≤ length t → Front before after t
-Front-over {before} {between} {after} {s} {t} a b more = grind (arith, length-append, length-drop, drop-append-drop)
+Front-over {before} {between} {after} {s} {t} written over longer = grind (arith, length-append, length-drop, drop-append-drop)
 
 -- bytes are inserted after the first `at` bytes of a text, whose last `count` bytes move to the right
 pub Front-inserted : {before between part text : List ℕ} {count : ℕ} (bytes : List ℕ) (at room : ℕ) → Front before between text

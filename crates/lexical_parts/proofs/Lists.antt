@@ -36,11 +36,11 @@ pub written_each : {A : Type 0} (IsOf : A → List ℕ → Type 0) (xs : List A)
     i < length xs → Writes (AreEach IsOf (take i xs)) before between count →
     Writes (IsOf (get_or xs i d)) (take room (drop count between)) part more →
     Writes (AreEach IsOf (take (i + 1) xs)) before (take count between ++ (part ++ drop room (drop count between))) (count + more)
-written_each IsOf xs {i} d {before} {between} {part} {count} {more} room inside a b = rw (take_more xs i d inside) (record {
-  text = a.text ++ b.text;
-  is = AreEach-push IsOf (take i xs) (get_or xs i d) a.text b.text a.is b.is;
-  front = Front-after before between part a.text b.text count room a.count a.front b.front;
-  count = length-after a.text b.text count more a.count b.count;
+written_each IsOf xs {i} d {before} {between} {part} {count} {more} room inside texts added = rw (take_more xs i d inside) (record {
+  text = texts.text ++ added.text;
+  is = AreEach-push IsOf (take i xs) (get_or xs i d) texts.text added.text texts.is added.is;
+  front = Front-after before between part texts.text added.text count room texts.count texts.front added.front;
+  count = length-after texts.text added.text count more texts.count added.count;
 })
 
 -- element `i` is written after the texts of the elements before it, and after the separator unless it is the first
@@ -49,12 +49,12 @@ pub written_joined : {A : Type 0} (IsOf : A → List ℕ → Type 0) (separator 
     i < length xs → y ≡ get_or xs i y → Leads separator i lead → Writes (AreJoined IsOf separator (take i xs)) before between count →
     Writes (IsExactly lead then IsOf y) (take room (drop count between)) part more →
     Writes (AreJoined IsOf separator (take (i + 1) xs)) before (take count between ++ (part ++ drop room (drop count between))) (count + more)
-written_joined IsOf separator lead xs {i} {y} {before} {between} {part} {count} {more} room inside is leads a b =
+written_joined IsOf separator lead xs {i} {y} {before} {between} {part} {count} {more} room inside is leads texts added =
     let one_longer : take (i + 1) xs ≡ take i xs ++ y ∷ [] = take_more xs i y inside ∙ ap (λ x. take i xs ++ x ∷ []) (sym is) in
     let leads' : Leads separator (length (take i xs)) lead = rw (length-take-le i xs (omega arith)) leads in
     rw one_longer (record {
-      text = a.text ++ b.text;
-      is = AreJoined-push IsOf separator lead (take i xs) y a.text b.text leads' a.is b.is;
-      front = Front-after before between part a.text b.text count room a.count a.front b.front;
-      count = length-after a.text b.text count more a.count b.count;
+      text = texts.text ++ added.text;
+      is = AreJoined-push IsOf separator lead (take i xs) y texts.text added.text leads' texts.is added.is;
+      front = Front-after before between part texts.text added.text count room texts.count texts.front added.front;
+      count = length-after texts.text added.text count more texts.count added.count;
     })

@@ -27,21 +27,21 @@ same_parts text s t long =
 -- ---- texts that are split at their first separator p
 
 split : (p : ℕ) (f g r q : List ℕ) → All (λ b. b ≢ p) f → All (λ b. b ≢ p) g → f ++ p ∷ r ≡ g ++ p ∷ q → (f ≡ g) × (r ≡ q)
-split p [] [] r q a b e = (refl, ap (drop 1) e)
-split p [] (d ∷ g) r q a b e = absurd (All-head (λ c. c ≢ p) d g b (sym (ap (λ l. get_or l 0 0) e)))
-split p (c ∷ f) [] r q a b e = absurd (All-head (λ d. d ≢ p) c f a (ap (λ l. get_or l 0 0) e))
-split p (c ∷ f) (d ∷ g) r q a b e =
-    let rest = split p f g r q (All-tail (λ x. x ≢ p) c f a) (All-tail (λ x. x ≢ p) d g b) (ap (drop 1) e) in
-    (ap (λ x. x ∷ f) (ap (λ l. get_or l 0 0) e) ∙ ap (λ l. d ∷ l) rest.0, rest.1)
+split p [] [] r q none_in_f none_in_g same = (refl, ap (drop 1) same)
+split p [] (d ∷ g) r q none_in_f none_in_g same = absurd (All-head (λ c. c ≢ p) d g none_in_g (sym (ap (λ l. get_or l 0 0) same)))
+split p (c ∷ f) [] r q none_in_f none_in_g same = absurd (All-head (λ d. d ≢ p) c f none_in_f (ap (λ l. get_or l 0 0) same))
+split p (c ∷ f) (d ∷ g) r q none_in_f none_in_g same =
+    let rest = split p f g r q (All-tail (λ x. x ≢ p) c f none_in_f) (All-tail (λ x. x ≢ p) d g none_in_g) (ap (drop 1) same) in
+    (ap (λ x. x ∷ f) (ap (λ l. get_or l 0 0) same) ∙ ap (λ l. d ∷ l) rest.0, rest.1)
 
-module _ {A B P Q : List ℕ → Type 0} (p : ℕ) (a : (text : List ℕ) → A text → All (λ b. b ≢ p) text)
-    (b : (text : List ℕ) → B text → All (λ b. b ≢ p) text) (text : List ℕ)
+module _ {A B P Q : List ℕ → Type 0} (p : ℕ) (none_in_A : (text : List ℕ) → A text → All (λ b. b ≢ p) text)
+    (none_in_B : (text : List ℕ) → B text → All (λ b. b ≢ p) text) (text : List ℕ)
     (s : Then A (Then (IsExactly (p ∷ [])) P) text) (t : Then B (Then (IsExactly (p ∷ [])) Q) text) where
   separated : {R : List ℕ → Type 0} {rest : List ℕ} (x : Then (IsExactly (p ∷ [])) R rest) → rest ≡ p ∷ x.second
   separated x = x.whole ∙ ap (λ l. l ++ x.second) x.is_first
 
   same : (s.first ≡ t.first) × (s.is_second.second ≡ t.is_second.second)
-  same = split p s.first t.first s.is_second.second t.is_second.second (a s.first s.is_first) (b t.first t.is_first)
+  same = split p s.first t.first s.is_second.second t.is_second.second (none_in_A s.first s.is_first) (none_in_B t.first t.is_first)
       (ap (λ l. s.first ++ l) (sym (separated s.is_second)) ∙ sym s.whole ∙ t.whole ∙ ap (λ l. t.first ++ l) (separated t.is_second))
 
   pub same_split : HaveInCommon A B × HaveInCommon P Q

@@ -1,8 +1,8 @@
 //! Parts in a format string: `{}` of a part writes its text, with the sign, the width and the fill of the format. A
 //! part that is not valid is an error, and so is a `Padded` in no digits, or in more than 64.
 
-ghost use Rattle.std.specs.Prelude.{◌≡◌, None, Some, true, false, [], ◌∷◌, ◌++◌, drop, length, unsigned_abs};
-ghost use Rattle.std.specs.Prelude.{if◌then◌else◌};
+ghost use Rattle.std.specs.Prelude.{◌≡◌, ◌↔◌, ◌<◌, ◌≤◌, ◌^◌, None, Some, IfOk, IsOk, true, false, [], ◌∷◌, ◌++◌, drop};
+ghost use Rattle.std.specs.Prelude.{length, unsigned_abs, if◌then◌else◌};
 ghost use Rattle.std.specs.Fmt.{WritesOnOk, WritesStyledOnOk, formatter_spec, padded_integral, sign_text_with};
 ghost use Rattle.std.specs.Int.{is_negative};
 ghost use Rattle.lexical_num.specs.Format.{standard};
@@ -145,6 +145,19 @@ impl<T: Radix> fmt::Display for Binary<T> {
     }
 }
 
+impl<T: DigitCount + Radix> Padded<T> {
+    // Returns the text, or an error if the number does not fit in the width, or the width is not from 1 to 64.
+    fn shown(self, buffer: &mut [u8; 64]) -> Result<&str, fmt::Error>
+        ensures ok { IsOk result ↔ ((T.magnitude self.0 < 10 ^ self.1) × (1 ≤ self.1) × (self.1 ≤ 64)) }
+        ensures text { IfOk result (λ text. text.now ≡ padded_text 10 self.1 (T.magnitude self.0)) }
+    {
+        if 64 < self.1 || self.1 < self.0.digit_count(10) {
+            return Err(fmt::Error);
+        }
+        Ok(self.to_str(buffer))
+    }
+}
+
 impl<T: DigitCount + Radix> fmt::Display for Padded<T> {
     ghost output = { λ part. Some (padded_text 10 part.1 (T.magnitude part.0)) };
 
@@ -152,12 +165,26 @@ impl<T: DigitCount + Radix> fmt::Display for Padded<T> {
         (padded_text 10 part.1 (T.magnitude part.0))) };
 
     fn fmt<W: fmt::Write>(&self, f: &mut fmt::Formatter<W>) -> fmt::Result {
-        if 64 < self.1 || self.1 < self.0.digit_count(10) {
+        let mut buffer = [0; 64];
+        let text = Padded(self.0, self.1).shown(&mut buffer)?;
+        pad_number(f, false, false, text)
+    }
+}
+
+impl<T: ToLexicalWithOptions> GroupedFixed<'_, T> {
+    // Returns the text, or an error if there are more than 19 decimals. The longest text, of a `u64` in groups of one
+    // digit, has 39 bytes.
+    fn shown(self, buffer: &mut [u8; 39]) -> Result<&str, fmt::Error>
+        ensures ok { IsOk result ↔ (self.entry.1 ≤ 19) }
+        ensures text { IfOk result (λ text.
+            text.now ≡ fixed_text self.entry.2.now.digit_grouping self.entry.1 (T.number self.entry.0)) }
+    {
+        if self.1 > 19 {
             return Err(fmt::Error);
         }
-        let mut buffer = [0; 64];
-        let text = Padded(self.0, self.1).to_str(&mut buffer);
-        pad_number(f, false, false, text)
+        self.0.in_range();
+        let text = self.to_str(buffer);
+        Ok(text)
     }
 }
 
@@ -168,15 +195,9 @@ impl<T: ToLexicalWithOptions> fmt::Display for GroupedFixed<'_, T> {
         (units_text part.2.now.digit_grouping part.1 (unsigned_abs (T.number part.0)))) };
 
     fn fmt<W: fmt::Write>(&self, f: &mut fmt::Formatter<W>) -> fmt::Result {
-        if self.1 >= 20 {
-            return Err(fmt::Error);
-        }
-        self.0.in_range();
-        // The longest text, of a `u64` in groups of one digit, has 39 bytes.
-        match GroupedFixed(self.0, self.1, self.2).try_to_str(&mut [0; 39]) {
-            Some(text) => pad_number(f, self.0.is_negative(), false, text),
-            None => Err(fmt::Error),
-        }
+        let mut buffer = [0; 39];
+        let text = GroupedFixed(self.0, self.1, self.2).shown(&mut buffer)?;
+        pad_number(f, self.0.is_negative(), false, text)
     }
 }
 

@@ -102,29 +102,45 @@ impl<T: Radix> fmt::Display for Binary<T> {
     }
 }
 
-impl<T: DigitCount + Radix> fmt::Display for Padded<T> {
+impl<T: DigitCount + Radix> Padded<T> {
+    // Returns the text, or an error if the number does not fit in the width, or the width is not from 1 to 64.
     #[inline]
-    fn fmt(&self, f: &mut fmt::Formatter<'_>) -> fmt::Result {
+    fn shown(self, buffer: &mut [u8; 64]) -> Result<&str, fmt::Error> {
         if 64 < self.1 || self.1 < self.0.digit_count(10) {
             return Err(fmt::Error);
         }
+        Ok(self.to_str(buffer))
+    }
+}
+
+impl<T: DigitCount + Radix> fmt::Display for Padded<T> {
+    #[inline]
+    fn fmt(&self, f: &mut fmt::Formatter<'_>) -> fmt::Result {
         let mut buffer = [0; 64];
-        let text = Padded(self.0, self.1).to_str(&mut buffer);
+        let text = Padded(self.0, self.1).shown(&mut buffer)?;
         pad_number(f, false, false, text)
+    }
+}
+
+impl<T: ToLexicalWithOptions> GroupedFixed<'_, T> {
+    // Returns the text, or an error if there are more than 19 decimals. The longest text, of a `u64` in groups of one
+    // digit, has 39 bytes.
+    #[inline]
+    fn shown(self, buffer: &mut [u8; 39]) -> Result<&str, fmt::Error> {
+        if self.1 > 19 {
+            return Err(fmt::Error);
+        }
+        let text = self.to_str(buffer);
+        Ok(text)
     }
 }
 
 impl<T: ToLexicalWithOptions> fmt::Display for GroupedFixed<'_, T> {
     #[inline]
     fn fmt(&self, f: &mut fmt::Formatter<'_>) -> fmt::Result {
-        if self.1 >= 20 {
-            return Err(fmt::Error);
-        }
-        // The longest text, of a `u64` in groups of one digit, has 39 bytes.
-        match GroupedFixed(self.0, self.1, self.2).try_to_str(&mut [0; 39]) {
-            Some(text) => pad_number(f, self.0.is_negative(), false, text),
-            None => Err(fmt::Error),
-        }
+        let mut buffer = [0; 39];
+        let text = GroupedFixed(self.0, self.1, self.2).shown(&mut buffer)?;
+        pad_number(f, self.0.is_negative(), false, text)
     }
 }
 

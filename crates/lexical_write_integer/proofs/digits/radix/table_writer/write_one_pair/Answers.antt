@@ -31,4 +31,5 @@ returns g c =
     let low = digit_char-ascii (n / r) (omega (arith, high, c.args.table.is_radix.at_most_36)) in
     let bytes = joined (digit_char (n / r)) (digit_char (n % r)) _ (omega (arith, low)) (rw pair at c.from_le_bytes-characters.ensures) in
     WritesDigits-block two (sym c.requires.digits) c.requires.room
-    (WritesBlock-first c.requires.room (WritesBlock-one_or_two r n _ _ two c.requires.short c.requires.digits (rw (length-take-le _ _ c.requires.room) (omega arith)) bytes.0 bytes.1))
+    (WritesBlock-first c.requires.room
+    (WritesBlock-one_or_two r n _ _ two c.requires.short c.requires.digits (rw (length-take-le _ _ c.requires.room) (omega arith)) bytes.0 bytes.1))

@@ -1,4 +1,4 @@
-use Rattle.std.proofs.Common.{◌*◌, ◌/◌, ◌%◌, ◌<◌, ◌≤◌, length, sym, arith, length-set, length-take-le}
+use Rattle.std.proofs.Common.{◌*◌, ◌/◌, ◌%◌, ◌<◌, ◌≡◌, ◌≤◌, length, take, sym, arith, length-set, length-take-le}
 use Rattle.std.proofs.Math.Nat.{mod-lt}
 use Rattle.std.proofs.lemmas.Nat.{div_below}
 use Rattle.lexical_write_integer.specs.Digits.LoopTurns.{takes_two}
@@ -38,22 +38,33 @@ bounds-table-pair g c = grind (arith, length-table)
 pub bounds-table-pair-2 : goal.bounds-table-pair-2
 bounds-table-pair-2 g c = grind (arith, length-table)
 
--- the digits have room
+-- the digits have room, so their slice has their length
 room : (g : _) (c : After-count_three_or_four-count g) → c.count_three_or_four-count.result ≤ length c.args.buffer.now
 room g c = omega (arith, c.count_three_or_four-count.ensures.count, c.requires.room)
 
+slice : (g : _) (c : After-count_three_or_four-count g)
+    → length (take c.count_three_or_four-count.result c.args.buffer.now) ≡ c.count_three_or_four-count.result
+slice g c = length-take-le _ _ (room g c)
+
 pub bounds-written-0 : goal.bounds-written-0
-bounds-written-0 g c = rw (length-take-le _ _ (room g (goal.at.bounds-written-0 g c).After-count_three_or_four-count)) (omega (arith, c.count_three_or_four-count.ensures.three))
+bounds-written-0 g c =
+    let c' = (goal.at.bounds-written-0 g c).After-count_three_or_four-count in
+    rw (slice g c') (omega (arith, c.count_three_or_four-count.ensures.three))
 
 pub bounds-written-count : goal.bounds-written-count
-bounds-written-count g c = rw (length-set, length-take-le _ _ (room g (goal.at.bounds-written-count g c).After-count_three_or_four-count)) (omega (arith, c.count_three_or_four-count.ensures.three))
+bounds-written-count g c =
+    let c' = (goal.at.bounds-written-count g c).After-count_three_or_four-count in
+    rw (length-set, slice g c') (omega (arith, c.count_three_or_four-count.ensures.three))
 
 pub bounds-written-count-2 : goal.bounds-written-count-2
-bounds-written-count-2 g c = rw (length-set, length-set, length-take-le _ _ (room g (goal.at.bounds-written-count-2 g c).After-count_three_or_four-count)) (omega (arith, c.count_three_or_four-count.ensures.three))
+bounds-written-count-2 g c =
+    let c' = (goal.at.bounds-written-count-2 g c).After-count_three_or_four-count in
+    rw (length-set, length-set, slice g c') (omega (arith, c.count_three_or_four-count.ensures.three))
 
 pub bounds-written-count-3 : goal.bounds-written-count-3
 bounds-written-count-3 g c =
-    rw (length-set, length-set, length-set, length-take-le _ _ (room g (goal.at.bounds-written-count-3 g c).After-count_three_or_four-count)) (omega (arith, c.count_three_or_four-count.ensures.three))
+    let c' = (goal.at.bounds-written-count-3 g c).After-count_three_or_four-count in
+    rw (length-set, length-set, length-set, slice g c') (omega (arith, c.count_three_or_four-count.ensures.three))
 
 pub returns-clause-digits : goal.returns-clause-digits
 returns-clause-digits g c =
@@ -71,6 +82,7 @@ returns-clause-digits g c =
     WritesDigits-block two (sym counted.count) fits
     (WritesBlock-first fits
     (rw c.first_pair.ensures.pair
-    (WritesBlock-three_or_four r n count _ two c.requires.short counted.three counted.four counted.count (rw (length-take-le _ _ fits) (omega arith))
+    (WritesBlock-three_or_four r n count _ two c.requires.short counted.three counted.four counted.count
+    (rw (length-take-le _ _ fits) (omega arith))
     (pair_first r hi pairs begins (first g c')) (pair_second r hi pairs begins (first g c'))
     (pair_first r lo pairs begins (last g c')) (pair_second r lo pairs begins (last g c')))))
