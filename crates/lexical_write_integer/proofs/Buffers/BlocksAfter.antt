@@ -58,7 +58,7 @@ pub WritesDigits-block : {r n count : ℕ} {before after : List ℕ}
 WritesDigits-block {r} {n} {count} two few room b = grind (arith, length-map, IsNumeralOf-block)
 
 -- the digits of a number at the start of the buffer are a block
-WritesBlock-digits : {r n count : ℕ} {before after : List ℕ} → WritesDigits r n before after count → WritesBlock r count n 0 before after
+pub WritesBlock-digits : {r n count : ℕ} {before after : List ℕ} → WritesDigits r n before after count → WritesBlock r count n 0 before after
 WritesBlock-digits {count = count} written = grind (arith, length-map)
 
 -- the last digits of a number, after the digits of the number without them

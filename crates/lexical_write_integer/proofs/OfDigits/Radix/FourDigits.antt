@@ -62,10 +62,6 @@ stores_four list a b c d room = grind arith
 
 -- ---- the number
 
--- the index of the third of the four characters
-pub third-is : (count : ℕ) → 1 ≤ count → count ≤ 4 → count * count / 8 ≡ count - 2
-third-is count some few = grind arith
-
 pub WritesBlock-four : (r n count : ℕ) (list : List ℕ)
     → 2 ≤ r → n < r ^ 4 → count ≡ digit_count r n → count ≤ length list
     → WritesBlock r count n 0 list

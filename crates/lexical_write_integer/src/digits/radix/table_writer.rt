@@ -74,32 +74,6 @@ pub(super) fn first_pair<const R: u32>(number: u32, turns: &mut Turns) -> u32
     pair
 }
 
-// Writes the one to four digits of a number to the start of the buffer: four characters, each at its index or,
-// if it is a leading zero, at an index that a later one takes. This avoids branches. `third` is the index of the third
-// character.
-pub(super) fn write_up_to_four<const R: u32>(
-    number: u32,
-    digits: usize,
-    third: usize,
-    table: RadixTable<'_, R>,
-    buffer: &mut [u8],
-    turns: &mut Turns,
-)
-    requires short { number < R ^ 4 }
-    requires digits { digits ≡ digit_count R number }
-    requires third { third ≡ digits - 2 }
-    requires room { digits ≤ length buffer.old }
-    ensures written { WritesBlock R digits number 0 buffer.old buffer.new }
-    ensures notes { turns.new ≡ turns.old ++ loop_notes R number }
-{
-    let first = 2 * first_pair::<R>(number, turns) as usize;
-    let last = 2 * (number % (R * R)) as usize;
-    buffer[0] = table.pairs[first];
-    buffer[digits / 4] = table.pairs[first + 1];
-    buffer[third] = table.pairs[last];
-    buffer[digits - 1] = table.pairs[last + 1];
-}
-
 // Returns how many digits a number of three or four digits has.
 fn count_three_or_four(number: u32, radix: u32) -> usize
     requires radix { IsRadix radix }
@@ -149,15 +123,42 @@ fn count_some(value: u64, radix: u32) -> usize
 {
     let bits = fast_log2(radix);
     if radix == 1 << bits {
-        value.ilog2() as usize / bits + 1
+        let log2 = value.ilog2() as usize;
+        // By 4, which is a shift, the sum first takes fewer instructions.
+        if radix == 16 {
+            (log2 + bits) / bits
+        } else {
+            log2 / bits + 1
+        }
     } else {
         value.digit_count(radix)
     }
 }
 
+// Writes the one to four digits of a number, which are counted, to the start of the buffer.
+fn write_counted<const R: u32>(
+    number: u32,
+    digits: usize,
+    table: RadixTable<'_, R>,
+    buffer: &mut [u8],
+    turns: &mut Turns,
+)
+    requires short { number < R ^ 4 }
+    requires digits { digits ≡ digit_count R number }
+    requires room { digits ≤ length buffer.old }
+    ensures digits { WritesDigits R number buffer.old buffer.new digits }
+    ensures notes { turns.new ≡ turns.old ++ loop_notes R number }
+{
+    if digits > 2 {
+        write_three_or_four(number, table, buffer, turns);
+    } else {
+        write_one_or_two(number, digits, table, buffer);
+    }
+}
+
 // Writes a number of three digits or more: first it counts them, and then it writes four per iteration while more than
-// four are left. In a power of 2 the first four digits of the number are then written, and otherwise those that are
-// left.
+// four are left. In a power of 2 the first four digits of the number are then written, which are found before the loop,
+// so that the number takes no register in it, and otherwise those that are left.
 // It is cold, and so not inlined: otherwise a call in each radix would save registers that only this needs.
 #[cold]
 pub(super) fn write_after_count<const R: u32>(
@@ -177,6 +178,12 @@ pub(super) fn write_after_count<const R: u32>(
     let count = count_some(value, R);
     // So rustc tests the end of the buffer once.
     prove!(count <= buffer.len());
+    let bits = fast_log2(R);
+    let first = if R == 1 << bits {
+        last_four::<R>(value >> (bits * (count - 4)))
+    } else {
+        0
+    };
     let mut left = value;
     let mut at = count;
     while at > 4 {
@@ -184,15 +191,11 @@ pub(super) fn write_after_count<const R: u32>(
         write_four(last_four::<R>(left), table, buffer, at);
         left = remove_four::<R>(left, loop_turns);
     }
-    let bits = fast_log2(R);
     if R == 1 << bits {
         first_pair::<R>(left as u32, loop_turns);
-        let first = last_four::<R>(value >> (bits * (count - 4)));
         write_four(first, table, buffer, 0);
     } else {
-        // This is 2 less, or 0 if that is less, in fewer instructions.
-        let third = at * at / 8;
-        write_up_to_four(left as u32, at, third, table, buffer, loop_turns);
+        write_counted(left as u32, at, table, buffer, loop_turns);
     }
     count
 }

@@ -2,14 +2,14 @@ use Rattle.std.proofs.Common.{◌≡◌, ◌+◌, ◌-◌, ◌<◌, ◌≤◌, �
 use Rattle.lexical_write_integer.specs.Digits.DigitCount.{digit_count}
 use Rattle.lexical_write_integer.specs.Digits.LoopTurns.{takes_four}
 use Rattle.lexical_write_integer.proofs.Buffers.Blocks.{IsWrittenBack-start, IsWrittenBack-at, IsWrittenBack-left, IsWrittenBack-more, IsWrittenBack-last}
-use Rattle.lexical_write_integer.proofs.Buffers.BlocksAfter.{WritesDigits-block}
+use Rattle.lexical_write_integer.proofs.Buffers.BlocksAfter.{WritesBlock-digits, WritesDigits-block}
 use Rattle.lexical_write_integer.proofs.OfDigits.Count.DigitCounts.{digit_count-pos, digit_count-more}
 use Rattle.lexical_write_integer.proofs.OfDigits.Radix.FirstDigits.{WritesBlock-first, first_four, shift-lt}
-use Rattle.lexical_write_integer.proofs.OfDigits.Radix.FourDigits.{third-is}
 use Rattle.lexical_write_integer.proofs.OfDigits.Radix.Loops.ShortNumbers.{fits-within, longer-than}
 use Rattle.lexical_write_integer.proofs.OfDigits.Count.RadixPowers.{power-small}
 use Rattle.lexical_write_integer.proofs.digits.radix.table_writer.write_after_count.Goals as goal
-use Rattle.lexical_write_integer.proofs.digits.radix.table_writer.write_after_count.Goals.{In-loop-at, After-loop-at}
+use Rattle.lexical_write_integer.proofs.digits.radix.table_writer.write_after_count.Goals.{After-count_some-count, In-loop-at, After-loop-at}
+use Rattle.lexical_write_integer.proofs.digits.radix.table_writer.write_after_count.Goals.{Then-bits-2, then-bits, else-bits}
 
 -- in an iteration more than four digits are left
 long : (g : _) (c : In-loop-at g) → g.row.R ^ 4 ≤ c.loop-at.left
@@ -48,19 +48,9 @@ short g c = fits-within g.row.R c.loop-at.left 4 c.args.table.is_radix.at_least_
 some_left : (g : _) (c : After-loop-at g) → 1 ≤ c.loop-at.at
 some_left g c = omega (arith, count_left g c, digit_count-pos g.row.R c.loop-at.left)
 
-pub overflow_mul-third : goal.overflow_mul-third
-overflow_mul-third g c = grind arith
-
 pub overflow_cast-left : goal.overflow_cast-left
 overflow_cast-left g c =
     omega (arith, short g (goal.at.overflow_cast-left g c).After-loop-at, power-small g.row.R 4 c.args.table.is_radix.at_most_36 takes_four)
-
-pub write_up_to_four-requires : goal.write_up_to_four-requires
-write_up_to_four-requires g c =
-    let c' = (goal.at.write_up_to_four-requires g c).After-loop-at in
-    let is = c.count_some-count.ensures.count in
-    let third = third-is c.loop-at.at (some_left g c') c.loop-at-test.false in
-    (lit< tt, (short g c', (sym (count_left g c'), (third, omega (arith, is, c.requires.room, c.loop-at.invariant)))))
 
 pub loop-at-init : goal.loop-at-init
 loop-at-init g c =
@@ -74,7 +64,7 @@ overflow_cast-value g c =
 -- ---- the first four digits, in a power of 2
 
 -- there are more than four digits
-more : (g : _) (c : After-loop-at g) → 4 < c.count_some-count.result
+more : (g : _) (c : After-count_some-count g) → 4 < c.count_some-count.result
 more g c =
     let long : g.row.R ^ 4 ≤ c.args.value = omega (arith, c.if-value-fourth_power.false, c.fourth_power.ensures.power) in
     omega (arith, c.count_some-count.ensures.count, digit_count-more g.row.R 4 c.args.value c.args.table.is_radix.at_least_two long)
@@ -83,29 +73,36 @@ pub first_pair-requires-clause-short : goal.first_pair-requires-clause-short
 first_pair-requires-clause-short g c = short g (goal.at.first_pair-requires-clause-short g c).After-loop-at
 
 pub overflow_sub-count : goal.overflow_sub-count
-overflow_sub-count g c = omega (arith, more g (goal.at.overflow_sub-count g c).After-loop-at)
+overflow_sub-count g c = omega (arith, more g (goal.at.overflow_sub-count g c).After-count_some-count)
 
 pub overflow_shr-value : goal.overflow_shr-value
 overflow_shr-value g c =
-    let c' = (goal.at.overflow_shr-value g c).After-loop-at in
+    let c' = (goal.at.overflow_shr-value g c).After-count_some-count in
     let taken = c.count_some-count.result - 4 in
     let some : taken < digit_count g.row.R c.args.value = omega (arith, more g c', c.count_some-count.ensures.count) in
     shift-lt g.row.R c.fast_log2-bits.result c.args.value taken c.if-bits.true c.fast_log2-bits.ensures.within
     (omega (arith, c.ranges.value.fits)) (longer-than g.row.R c.args.value taken (omega (arith, more g c')) some)
 
-pub write_four-requires-then-bits : goal.write_four-requires-then-bits
-write_four-requires-then-bits g c =
-    let c' = (goal.at.write_four-requires-then-bits g c).After-loop-at in (
+-- what was found before the loop
+first_below : (g : _) (c : Then-bits-2 g) → c.if-bits.first < g.row.R ^ 4
+first_below g c = elim c.if-bits.branch [
+  | then-bits w ↦ rw w.first-is w.last_four-first.ensures.short
+  | else-bits w ↦ absurd (omega (arith, w.if-bits.false, c.if-bits-2.true))
+]
+
+pub write_four-requires-then-bits-2 : goal.write_four-requires-then-bits-2
+write_four-requires-then-bits-2 g c =
+    let long = more g (goal.at.write_four-requires-then-bits-2 g c).After-count_some-count in (
       lit< tt,
       (
-        c.last_four-first.ensures.short,
-        omega (arith, more g c', c.count_some-count.ensures.count, c.requires.room, c.loop-at.invariant.room),
+        first_below g (goal.at.write_four-requires-then-bits-2 g c).Then-bits-2,
+        omega (arith, long, c.count_some-count.ensures.count, c.requires.room, c.loop-at.invariant.room),
       ),
     )
 
-pub returns-then-bits-clause-digits : goal.returns-then-bits-clause-digits
-returns-then-bits-clause-digits g c =
-    let c' = (goal.at.returns-then-bits-clause-digits g c).After-loop-at in
+pub returns-then-bits-2-clause-digits : goal.returns-then-bits-2-clause-digits
+returns-then-bits-2-clause-digits g c =
+    let long = more g (goal.at.returns-then-bits-2-clause-digits g c).After-count_some-count in
     let r = g.row.R in
     let n = c.args.value in
     let two = c.args.table.is_radix.at_least_two in
@@ -113,25 +110,36 @@ returns-then-bits-clause-digits g c =
     let at = c.loop-at.at in
     let is = c.count_some-count.ensures.count in
     let whole : at + (count - at) ≡ count = omega (arith, c.loop-at.invariant.within) in
-    let all : 4 + (count - 4) ≡ count = omega (arith, more g c') in
-    let first =
-    c.last_four-first.ensures.digits
-    ∙ first_four r c.fast_log2-bits.result n count two c.if-bits.true c.fast_log2-bits.ensures.within is (more g c') in
-    WritesDigits-block two (sym is) (omega (arith, is, c.requires.room))
-    (WritesBlock-first r n at 4 (count - at) (count - 4) count two c.loop-at-test.false whole all c.loop-at.invariant.written.block
-    (rw first at c.write_four-then-bits.ensures))
+    let all : 4 + (count - 4) ≡ count = omega (arith, long) in
+    elim c.if-bits.branch [
+      | then-bits w ↦
+          let first =
+          w.first-is
+          ∙ w.last_four-first.ensures.digits
+          ∙ first_four r c.fast_log2-bits.result n count two w.if-bits.true c.fast_log2-bits.ensures.within is long in
+          WritesDigits-block two (sym is) (omega (arith, is, c.requires.room))
+          (WritesBlock-first r n at 4 (count - at) (count - 4) count two c.loop-at-test.false whole all c.loop-at.invariant.written.block
+          (rw first at c.write_four-then-bits-2.ensures))
+      | else-bits w ↦ absurd (omega (arith, w.if-bits.false, c.if-bits-2.true))
+    ]
 
 -- ---- the digits that are left, in another radix
 
-pub overflow_cast-left-else-bits : goal.overflow_cast-left-else-bits
-overflow_cast-left-else-bits g c =
-    omega (arith, short g (goal.at.overflow_cast-left-else-bits g c).After-loop-at, power-small g.row.R 4 c.args.table.is_radix.at_most_36 takes_four)
+pub overflow_cast-left-else-bits-2 : goal.overflow_cast-left-else-bits-2
+overflow_cast-left-else-bits-2 g c =
+    omega (arith, short g (goal.at.overflow_cast-left-else-bits-2 g c).After-loop-at, power-small g.row.R 4 c.args.table.is_radix.at_most_36 takes_four)
 
-pub returns-else-bits-clause-digits : goal.returns-else-bits-clause-digits
-returns-else-bits-clause-digits g c =
+pub write_counted-requires : goal.write_counted-requires
+write_counted-requires g c =
+    let c' = (goal.at.write_counted-requires g c).After-loop-at in
+    let is = c.count_some-count.ensures.count in
+    (lit< tt, (short g c', (sym (count_left g c'), omega (arith, is, c.requires.room, c.loop-at.invariant))))
+
+pub returns-else-bits-2-clause-digits : goal.returns-else-bits-2-clause-digits
+returns-else-bits-2-clause-digits g c =
     let count = c.count_some-count.result in
     let is = c.count_some-count.ensures.count in
     let whole : c.loop-at.at + (count - c.loop-at.at) ≡ count = omega (arith, c.loop-at.invariant.within) in
     let place : c.loop-at.at ≡ 0 + c.loop-at.at = omega arith in
-    let block = IsWrittenBack-last (IsWrittenBack-at place c.loop-at.invariant.written) c.write_up_to_four.ensures.written in
+    let block = IsWrittenBack-last (IsWrittenBack-at place c.loop-at.invariant.written) (WritesBlock-digits c.write_counted.ensures.digits) in
     WritesDigits-block c.args.table.is_radix.at_least_two (sym is) (omega (arith, is, c.requires.room)) (rw whole at block)
