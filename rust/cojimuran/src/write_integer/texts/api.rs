@@ -61,7 +61,10 @@ pub trait ToLexical: LexicalInteger + FormattedSize {
         let sign = write_sign_before_digits(self, buffer, format);
         let digits = &mut buffer[sign..];
         let count = self.write_magnitude(format, digits);
-        sign + group_digits(count, format, digits)
+        let total = group_digits(count, format, digits);
+        // So rustc tests the end of a text with a sign once.
+        assert!(total <= digits.len());
+        sign + total
     }
 
     /// Writes the number as [`write_lexical`](crate::ToLexical::write_lexical) does, under the same condition, and returns its text: a

@@ -11,8 +11,8 @@ use Rattle.lexical_write_integer.proofs.texts.api.ToLexical.write_text.Goals as 
 pub write_sign_before_digits-sign-requires : goal.write_sign_before_digits-sign-requires
 write_sign_before_digits-sign-requires g c = grind (arith, need-pos)
 
-pub group_digits-requires-clause-room : goal.group_digits-requires-clause-room
-group_digits-requires-clause-room g c =
+pub group_digits-total-requires-clause-room : goal.group_digits-total-requires-clause-room
+group_digits-total-requires-clause-room g c =
     let width = g.met.Self.LexicalInteger.decimal_width in
     let range = c.in_range.ensures in
     omega (arith, grouped_length-le_need c.args.format.now width range.at_least range.at_most c.write_magnitude-count.ensures.digits.count)
@@ -25,8 +25,8 @@ returns-clause-text g c =
     WritesText-over sign.ensures.sign sign.auto.buffer sign.ensures.rest (omega (arith, digits.count, some)) record {
       sign_count = c.write_sign_before_digits-sign.ensures.count;
       magnitude = digits;
-      groups = c.group_digits.ensures.groups;
-      total_count = c.group_digits.ensures.count;
+      groups = c.group_digits-total.ensures.groups;
+      total_count = c.group_digits-total.ensures.count;
     }
 
 pub returns-clause-short : goal.returns-clause-short
@@ -34,7 +34,7 @@ returns-clause-short g c =
     let width = g.met.Self.LexicalInteger.decimal_width in
     let range = c.in_range.ensures in
     let fits = grouped_length-le_need c.args.format.now width range.at_least range.at_most c.write_magnitude-count.ensures.digits.count in
-    omega (arith, c.write_sign_before_digits-sign.ensures.count, c.group_digits.ensures.total, fits)
+    omega (arith, c.write_sign_before_digits-sign.ensures.count, c.group_digits-total.ensures.total, fits)
 
 pub returns-clause-plain : goal.returns-clause-plain
 returns-clause-plain g c =
