@@ -48,7 +48,7 @@ fn count_three_or_four(number: u32, radix: u32) -> usize {
 
 // Writes the three or four digits of a number to the start of the buffer, and returns how many there are: the first
 // pair as two characters, of which the first is written over if it is a leading zero, and then the last pair.
-#[inline(always)]
+#[inline]
 fn write_three_or_four<const R: u32>(
     number: u32,
     table: RadixTable<'_, R>,
