@@ -12,7 +12,7 @@ pub(crate) fn without_unused(text: &str, source: &str, is_left_out: impl Fn(&str
             let is_only_left_out = named.contains(name) && !used.contains(name);
             is_left_out(name) || is_only_left_out && !statement.trim_start().starts_with("pub ")
         };
-        kept += &if is_import(&statement) { in_a_line(import_without(&statement, is_unused)) } else { statement };
+        kept += &if is_import(&statement) { import_without(&statement, is_unused) } else { statement };
     }
     kept
 }
@@ -42,13 +42,6 @@ fn words_in_use(text: &str) -> BTreeSet<String> {
     statements(text).into_iter().filter(is_other).flat_map::<Vec<String>, _>(words).collect()
 }
 
-/// Returns an import in one line if that has room for it.
-fn in_a_line(import: String) -> String {
-    let line = import.split_whitespace().collect::<Vec<_>>().join(" ");
-    let line = line.replace("{ ", "{").replace(", }", "}") + "\n";
-    if import.lines().count() > 1 && line.len() <= 100 { line } else { import }
-}
-
 /// Returns an import without some names, or nothing if none is left.
 fn import_without(import: &str, is_unused: impl Fn(&str) -> bool) -> String {
     let is_used = |path: &&str| {
@@ -63,9 +56,7 @@ fn import_without(import: &str, is_unused: impl Fn(&str) -> bool) -> String {
     let left: Vec<&str> = names.iter().copied().filter(|name| !name.is_empty()).filter(is_used).collect();
     match left[..] {
         [] => String::new(),
-        _ if left.len() == names.iter().filter(|name| !name.is_empty()).count() => import.to_owned(),
         [name] => format!("{path}{name};\n"),
-        _ if path.contains('\n') || import.lines().count() == 1 => format!("{path}{{{}}};\n", left.join(", ")),
-        _ => format!("{path}{{\n    {},\n}};\n", left.join(", ")),
+        _ => format!("{path}{{{}}};\n", left.join(", ")),
     }
 }

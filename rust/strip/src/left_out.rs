@@ -37,27 +37,73 @@ const UNKNOWN: &str = "
     Rattle contract contracts counter counters ghost law laws proof proofs prove proved prover record recorded records
     trace Trace turns Turns crates";
 
-/// Returns the text without what is left out, laid out as by a person who never wrote that.
+/// Returns the text without what is left out.
 pub(crate) fn without_left_out(text: &str, source: &Source, laws: &Laws) -> String {
+    let text = &without_counters(text);
     let lines: Vec<&str> = text.lines().filter(|line| !line.trim_start().starts_with("#[tactic(")).collect();
-    let (mut kept, mut rest, mut is_after) = (String::new(), lines.as_slice(), true);
+    let (mut kept, mut rest) = (String::new(), lines.as_slice());
     while let Some(line) = rest.first() {
         let count = count_left_out(rest, source, laws);
         let mut codes = rest[..count].iter().map(|line| line.trim_start());
         let is_clause = codes.find(|code| !code.starts_with("//")).is_some_and(|code| code.starts_with("ensures "));
         if count == 0 {
-            kept = with_line(&kept, line, is_after);
+            kept += &format!("{line}\n");
         } else if is_clause && rest[count - 1].ends_with(';') {
             // The last clause ended what only declares a function.
-            kept = with_line(&kept, ";", true);
+            kept += ";\n";
         }
-        is_after = count > 0 || is_after && line.is_empty();
         rest = &rest[count.max(1)..];
     }
     let is_left_out = |name: &str| has(WORDS, name) || laws.contains(name);
     // Tests may import what they do not use.
     let named_in = if source.is_test() { "" } else { text };
-    imports::without_unused(kept.trim_end(), named_in, is_left_out).trim_end().to_owned() + "\n"
+    imports::without_unused(&without_rests(&kept), named_in, is_left_out).trim_end().to_owned() + "\n"
+}
+
+/// Returns the text without parameters and arguments that are counters. They are the last ones.
+fn without_counters(text: &str) -> String {
+    let counters = [
+        "loop_turns: &mut Turns",
+        "turns: &mut Turns",
+        "&mut Turns::new()",
+        "&mut loop_turns",
+        "loop_turns",
+        "&mut turns",
+        "turns",
+    ];
+    counters.iter().fold(text.to_owned(), |text, counter| text.replace(&format!(", {counter})"), ")"))
+}
+
+/// Returns the text without what is left of a value that was recorded: an `if` with nothing in it, and the name of a
+/// variable that is only returned.
+fn without_rests(text: &str) -> String {
+    let mut lines: Vec<String> = Vec::new();
+    for line in text.lines() {
+        let indent = &line[..line.len() - line.trim_start().len()];
+        match lines.last() {
+            Some(open) if line.trim() == "}" && is_test_of_value(open) && open.starts_with(indent) => _ = lines.pop(),
+            _ => lines.push(line.to_owned()),
+        }
+    }
+    let variable = |line: &str| Some(line.trim_start().strip_prefix("let ")?.split_once(" = ")?.0.to_owned());
+    for at in (0..lines.len()).rev() {
+        let Some(name) = variable(&lines[at]) else { continue };
+        let indent = lines[at].len() - lines[at].trim_start().len();
+        let end = lines[at..].iter().position(|line| line.ends_with(';')).map_or(at, |count| at + count);
+        let returned = format!("{}{name}", &lines[at][..indent]);
+        if lines.get(end + 1) == Some(&returned) && lines.get(end + 2).is_some_and(|line| line.trim() == "}") {
+            lines.remove(end + 1);
+            lines[end].pop();
+            lines[at] = lines[at].replacen(&format!("let {name} = "), "", 1);
+        }
+    }
+    lines.join("\n") + "\n"
+}
+
+/// Returns whether a line begins an `if` whose condition calls nothing.
+fn is_test_of_value(line: &str) -> bool {
+    let code = line.trim_start();
+    code.starts_with("if ") && code.ends_with('{') && !code.contains('(')
 }
 
 /// Returns how many of the lines are left out together with the first one, which may be a comment before it.
@@ -101,23 +147,6 @@ fn is_of_law(code: &str, end: usize, laws: &Laws) -> bool {
             is_start && is_end(&code[at + name.len()..])
         })
     })
-}
-
-/// Returns the text with one more line. If it is after what is left out, a brace or a `;` ends the line before that,
-/// and one of the empty lines around that goes too.
-fn with_line(text: &str, line: &str, is_after: bool) -> String {
-    let code = line.trim_start();
-    let (before, space) = text.split_at(text.trim_end().len());
-    let is_open = before.ends_with('{');
-    match code.chars().next() {
-        _ if !is_after => format!("{text}{line}\n"),
-        None if is_open || before.is_empty() || space == "\n\n" => text.to_owned(),
-        Some('{') => format!("{before} {code}\n"),
-        Some(';') => format!("{before}{code}\n"),
-        Some('}') if is_open => format!("{before}{code}\n"),
-        Some('}') => format!("{before}\n{line}\n"),
-        _ => format!("{text}{line}\n"),
-    }
 }
 
 /// Returns the first line of a text that has a word of what a Rust program does not have.

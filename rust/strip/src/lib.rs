@@ -21,6 +21,7 @@ use left_out::Laws;
 use packages::{SOURCES, Source};
 use std::collections::BTreeMap;
 use std::path::{Path, PathBuf};
+use std::process::{Command, Stdio};
 use std::{fs, io};
 
 /// What each made file begins with.
@@ -47,7 +48,9 @@ fn made(top: &Path) -> Result<BTreeMap<PathBuf, String>, String> {
         let (files, lines) = made_of(top, source, &known)?;
         left_out += &lines;
         if source.is_committed() {
-            made.extend(files);
+            for (path, text) in files {
+                made.insert(path, formatted(&text, top)?);
+            }
         }
     }
     document(top, &mut made)?;
@@ -133,7 +136,7 @@ fn made_text(text: &str, file: &str, source: &Source, known: &Known) -> Result<(
     let made = left_out::without_left_out(&source.replaced(text, source.replaced), source, &known.laws);
     let allowed = if source.is_test() { replaced::IN_TESTS } else { &[] };
     let lines = lost::left_out(&source.replaced(text, allowed), &made);
-    let made = with_sorted_imports(&counted::without_counted(&made)?);
+    let made = counted::without_counted(&made)?;
     let made = match left_out::unknown(&made) {
         _ if source.is_test() => made,
         Some(line) => return Err(format!("a word that only Rattle has: {line}")),
@@ -164,18 +167,20 @@ pub fn make_built(top: &Path, package: &str, folder: &Path) -> Result<(), String
     Ok(())
 }
 
-/// Returns the text with the imports next to one another in the order of rustfmt: `super` and `crate` precede names.
-fn with_sorted_imports(text: &str) -> String {
-    let path = |line: &&str| {
-        let path = line.replace("pub use ", "use ").replace(';', "");
-        path.replace("use super:", "use 0:").replace("use crate:", "use 1:")
-    };
-    let is_import = |line: &&str| path(line).starts_with("use ") && line.ends_with(';');
-    let mut lines: Vec<&str> = text.lines().collect();
-    for imports in lines.chunk_by_mut(|a, b| is_import(a) && is_import(b)) {
-        imports.sort_by_key(path);
-    }
-    lines.join("\n") + "\n"
+/// Returns the text as rustfmt lays it out.
+fn formatted(text: &str, top: &Path) -> Result<String, String> {
+    let mut rustfmt = Command::new("rustfmt");
+    rustfmt
+        .args(["--edition=2024", "--emit=stdout", "--quiet", "--config-path"])
+        .arg(top.join("rust/cojimuran"))
+        .stdin(Stdio::piped())
+        .stdout(Stdio::piped());
+    let say = |error| format!("rustfmt: {error}");
+    let mut child = rustfmt.spawn().map_err(say)?;
+    io::Write::write_all(&mut child.stdin.take().expect("a pipe"), text.as_bytes()).map_err(say)?;
+    let output = child.wait_with_output().map_err(say)?;
+    let text = String::from_utf8_lossy(&output.stdout).into_owned();
+    if output.status.success() { Ok(text) } else { Err(format!("rustfmt cannot read what is made: {text}")) }
 }
 
 /// Returns the files with this extension in a folder of the repository and in the folders in it.

@@ -33,7 +33,6 @@ pub(crate) const NUM: Replaced = &[
 /// The paths under which the packages export what the crates have.
 pub(crate) const EXPORTS: Replaced = &[
     ("lexical_num::options::{self,", "cojimuran::{options,"),
-    ("lexical_num::options::STANDARD", "cojimuran::options::STANDARD"),
     ("lexical_num::format::{NumberFormat, STANDARD}", "cojimuran::{NumberFormat, format::STANDARD}"),
     ("lexical_num::format::STANDARD", "cojimuran::format::STANDARD"),
     ("lexical_num::format::", "cojimuran::"),
@@ -55,37 +54,6 @@ pub(crate) const EXPORTS: Replaced = &[
 pub(crate) const WRITE_INTEGER: Replaced = &[
     ("pub use lexical_tables as table;\n", ""),
     ("unreachable!(\"", "panic!(\""),
-    ("//!\n//! Each `_counted` function writes what the function without that suffix writes.\n", ""),
-    // The methods of these traits that only contracts use.
-    ("::write_decimal;\nuse lexical_num::num::{LexicalInteger, UnsignedInteger};", "::write_decimal;"),
-    ("::num::{LexicalInteger, UnsignedInteger};", "::num::UnsignedInteger;"),
-    // Without a counter there is room on one line.
-    (
-        "<T: UnsignedInteger>(\n    value: T,\n    radix: u32,\n    buffer: &mut [u8],\n    turns: &mut Turns,\n)",
-        "<T: UnsignedInteger>(value: T, radix: u32, buffer: &mut [u8])",
-    ),
-    ("(\n    value: T,\n    buffer: &mut [u8],\n    turns: &mut Turns,\n)", "(value: T, buffer: &mut [u8])"),
-    (
-        "(\n    number: u64,\n    table: &[u8],\n    buffer: &mut [u8],\n    turns: &mut Turns,\n)",
-        "(number: u64, table: &[u8], buffer: &mut [u8])",
-    ),
-    (
-        "(\n    fraction: u64,\n    pair_count: usize,\n    buffer: &mut [u8],\n    turns: &mut Turns,\n)",
-        "(fraction: u64, pair_count: usize, buffer: &mut [u8])",
-    ),
-    // What is recorded before it is returned.
-    (") -> (usize, Turns)", ") -> usize"),
-    ("(copy_to_front(&digits[index..], buffer), turns)", "copy_to_front(&digits[index..], buffer)"),
-    ("let (count, noted) = write_in(", "write_in("),
-    (";\n    turns.append(&noted);\n    count", ""),
-    ("let count = if number < fourth", "if number < fourth"),
-    (";\n    turns.append(&loop_turns);\n    count", ""),
-    ("let left = value / fourth_power(R);\n    loop_turns.tick(left);\n    left", "value / fourth_power(R)"),
-    ("let pair = number / (R * R);\n", "number / (R * R)\n"),
-    ("    if pair > 0 {\n        turns.tick(u64::from(pair));\n    }\n    pair\n", ""),
-    // What is only recorded.
-    ("        first_pair::<R>(left as u32, loop_turns);\n", ""),
-    ("    if left > 0 {\n        turns.tick(u64::from(left));\n    }\n", ""),
     // With this attribute rustc would save registers here.
     (
         "// It is cold, and so not inlined: otherwise each call for a shorter number would save registers that only this needs.\n#[cold]\n",
@@ -95,36 +63,16 @@ pub(crate) const WRITE_INTEGER: Replaced = &[
         "// It is cold, and so not inlined: otherwise a call in each radix would save registers that only this needs.\n#[cold]\n",
         "",
     ),
-    // The counters are the last parameters.
-    (", turns: &mut Turns)", ")"),
-    (", loop_turns: &mut Turns)", ")"),
-    (", &mut Turns::new())", ")"),
-    (", &mut turns)", ")"),
-    (", &mut loop_turns)", ")"),
-    (", loop_turns)", ")"),
-    (", turns)", ")"),
 ];
 
 pub(crate) const PARTS: Replaced = &[
     // The name of a field says nothing in a message.
-    (
-        "prove!(self.1 <= 19)",
-        "assert!(\n            self.1 <= 19,\n            \"{} decimals, but at most 19 are possible\",\n            self.1\n        )",
-    ),
-    // rustfmt writes the brace after a long `impl` on a line of its own.
-    (", H) {", ", H)\n{"),
-    (", I) {", ", I)\n{"),
-    (", J) {", ", J)\n{"),
-    (", K) {", ", K)\n{"),
-    (", L) {", ", L)\n{"),
+    ("prove!(self.1 <= 19)", "assert!(self.1 <= 19, \"{} decimals, but at most 19 are possible\", self.1)"),
 ];
 
 pub(crate) const LINES: Replaced = &[
     // What is recorded before it is returned.
     ("let Writing { writer, trace } = self;\n        drop(trace);\n        writer", "self.writer"),
-    ("let outcome = ", ""),
-    (";\n        note_put(&mut self.trace, bytes, &outcome);\n        outcome", ""),
-    (";\n        record_flush(&mut self.trace, &outcome);\n        outcome", ""),
 ];
 
 /// In Rattle the runtime permits input and output, and returns their streams.
@@ -139,16 +87,6 @@ pub(crate) const FOR_C: Replaced = &[
     // A slice has no C ABI in rustc. So the root exports functions with the names of the writers, which call these.
     ("#[unsafe(no_mangle)]\npub extern \"C\" fn lexical_write_", "pub fn lexical_write_"),
     ("#[unsafe(no_mangle)]\npub extern \"C\" fn lexical_decimal_", "pub fn lexical_decimal_"),
-    // With its brace this is too long for one line.
-    (
-        "fn write_uppercase<T: ToLexicalWithOptions>(value: T, format: &CFormat, buffer: &mut [u8])",
-        "fn write_uppercase<T: ToLexicalWithOptions>(\n    value: T,\n    format: &CFormat,\n    buffer: &mut [u8],\n)",
-    ),
-    // Without a law there is room on one line.
-    (
-        "{\n            size_suffices(value, &plain);\n            write_plain(value, &plain, buffer)\n        }",
-        "write_plain(value, &plain, buffer),",
-    ),
 ];
 
 /// What `repository_tests/src/runtime.rs` has in place of the runtime of Rattle. What is not known here, rustc refuses.
@@ -162,7 +100,6 @@ pub(crate) const IN_TESTS: Replaced = &[
     ),
     ("rt: HostRuntime) ->", "rt: repository_tests::runtime::HostRuntime) ->"),
     ("use uses::", "use repository_tests::uses::"),
-    ("use contract_tests::", "use repository_tests::contract_tests::"),
     ("use std::process::Abort;", "use repository_tests::runtime::Abort;"),
     ("use std::alloc::{Alloc, Global};", "use repository_tests::runtime::Global;"),
     ("use std::alloc::", "use repository_tests::runtime::"),

@@ -3,8 +3,6 @@
 //! digits, so no digit needs a division. The algorithm is James Anhalt's jeaiii
 //! (<https://github.com/jeaiii/itoa>); Lemire, Kaser and Kurz, "Faster Remainder by Direct Computation"
 //! (2019), describe how digits are obtained from the fraction of a product with a reciprocal.
-//!
-//! Each `_counted` function writes what the function without that suffix writes.
 
 // Each `_counted` function records in `turns` what an iteration computes: one number for each pair of digits after the
 // first, and at most 9. Examples of the writers are in `crates/library_tests/src/decimal_values.rt`, and

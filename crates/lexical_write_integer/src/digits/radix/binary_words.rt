@@ -5,7 +5,7 @@ ghost use Rattle.lexical_write_integer.specs.Buffer.{WritesBlock, WritesDigits};
 ghost use Rattle.lexical_write_integer.specs.Digits.DigitCount.{digit_count};
 ghost use Rattle.lexical_write_integer.specs.Digits.LoopTurns.{loop_notes, table_notes};
 
-use super::table_writer::{first_pair, remove_four};
+use super::table_writer::{remove_four, remove_two};
 use crate::digits::count::digit_count_counted;
 use crate::turns::Turns;
 
@@ -29,12 +29,12 @@ fn record_up_to_eight(number: u32, turns: &mut Turns)
     ensures { turns.new ≡ turns.old ++ loop_notes 2 number }
 {
     if number < 16 {
-        first_pair::<2>(number, turns);
+        remove_two::<2>(number, turns);
         return;
     }
     let left = number / 16;
     turns.tick(u64::from(left));
-    first_pair::<2>(left, turns);
+    remove_two::<2>(left, turns);
 }
 
 // Returns the number without its last eight digits.

@@ -57,28 +57,26 @@ fn write_to_end<const RADIX: u32>(value: u64, buffer: &mut [u8], turns: &mut Tur
 }
 
 // Writes the digits of a number to the start of the buffer. Returns how many there are.
-fn write_in_radix<const RADIX: u32>(value: u64, buffer: &mut [u8]) -> (usize, Turns)
+fn write_each_digit<const RADIX: u32>(value: u64, buffer: &mut [u8], turns: &mut Turns) -> usize
     requires radix { IsRadix RADIX }
     requires room { digit_count RADIX value ≤ length buffer.old }
-    ensures digits { WritesDigits RADIX value buffer.old buffer.new result.0 }
-    // The second part of the result is what a counter records.
-    ensures notes { result.1 ≡ compact_notes RADIX value }
+    ensures digits { WritesDigits RADIX value buffer.old buffer.new result }
+    ensures notes { turns.new ≡ turns.old ++ compact_notes RADIX value }
 {
-    let mut turns = Turns::new();
     // The last digit is computed first, so the digits go to a temporary array.
     let mut digits = [0u8; MAX_DIGITS];
-    let index = write_to_end::<RADIX>(value, &mut digits, &mut turns);
-    (copy_to_front(&digits[index..], buffer), turns)
+    let index = write_to_end::<RADIX>(value, &mut digits, turns);
+    copy_to_front(&digits[index..], buffer)
 }
 
-// Calls `write_in_radix` for a radix that is known only at run time.
-fn write_in(value: u64, radix: u32, buffer: &mut [u8]) -> (usize, Turns)
+// Calls `write_each_digit` for a radix that is known only at run time.
+fn write_each_digit_in(value: u64, radix: u32, buffer: &mut [u8], turns: &mut Turns) -> usize
     requires radix { IsRadix radix }
     requires room { digit_count radix value ≤ length buffer.old }
-    ensures digits { WritesDigits radix value buffer.old buffer.new result.0 }
-    ensures notes { result.1 ≡ compact_notes radix value }
+    ensures digits { WritesDigits radix value buffer.old buffer.new result }
+    ensures notes { turns.new ≡ turns.old ++ compact_notes radix value }
 {
-    by_radix!(radix, write_in_radix(value, buffer))
+    by_radix!(radix, write_each_digit(value, buffer, turns))
 }
 
 /// Writes the digits of the number to the start of the buffer, and returns how many there are. The radix is
@@ -98,9 +96,7 @@ pub fn compact_counted<T: UnsignedInteger>(
     ensures short { result ≤ T.BITS }
 {
     value.fits_bits();
-    let (count, noted) = write_in(value.as_usize() as u64, radix, buffer);
-    turns.append(&noted);
-    count
+    write_each_digit_in(value.as_usize() as u64, radix, buffer, turns)
 }
 
 /// An unsigned integer type whose digits are written by the compact writer.

@@ -59,12 +59,12 @@ fn write_four<const R: u32>(number: u32, table: RadixTable<'_, R>, buffer: &mut 
     table.write(number / square, four, 0);
 }
 
-// Returns the digits before the last two of a number of up to four digits.
-pub(super) fn first_pair<const R: u32>(number: u32, turns: &mut Turns) -> u32
+// Returns a number of up to four digits without its last two.
+pub(super) fn remove_two<const R: u32>(number: u32, turns: &mut Turns) -> u32
     requires radix { IsRadix R }
     requires short { number < R ^ 4 }
     ensures pair { result ≡ number / (R * R) }
-    // The counter records them if there are any.
+    // The counter records what is left, unless it is 0.
     ensures notes { turns.new ≡ turns.old ++ loop_notes R number }
 {
     let pair = number / (R * R);
@@ -72,6 +72,15 @@ pub(super) fn first_pair<const R: u32>(number: u32, turns: &mut Turns) -> u32
         turns.tick(u64::from(pair));
     }
     pair
+}
+
+// Records what is left of a number of up to four digits without its last two, as `remove_two` does.
+fn record_pair<const R: u32>(number: u32, turns: &mut Turns)
+    requires radix { IsRadix R }
+    requires short { number < R ^ 4 }
+    ensures { turns.new ≡ turns.old ++ loop_notes R number }
+{
+    remove_two::<R>(number, turns);
 }
 
 // Returns how many digits a number of three or four digits has.
@@ -103,7 +112,7 @@ fn write_three_or_four<const R: u32>(
     let count = count_three_or_four(number, R);
     // rustc tests the end of these bytes once.
     let written = &mut buffer[..count];
-    let first = 2 * first_pair::<R>(number, turns) as usize;
+    let first = 2 * remove_two::<R>(number, turns) as usize;
     let pair = 2 * (number % (R * R)) as usize;
     written[0] = table.pairs[first];
     written[count - 3] = table.pairs[first + 1];
@@ -192,7 +201,7 @@ pub(super) fn write_after_count<const R: u32>(
         left = remove_four::<R>(left, loop_turns);
     }
     if R == 1 << bits {
-        first_pair::<R>(left as u32, loop_turns);
+        record_pair::<R>(left as u32, loop_turns);
         write_four(first, table, buffer, 0);
     } else {
         write_counted(left as u32, at, table, buffer, loop_turns);
@@ -303,7 +312,7 @@ pub(super) fn count_and_write_up_to_four<const R: u32>(
     ensures turns { turns.new ≡ turns.old ++ slow_notes R number }
     ensures loop_turns { loop_turns.new ≡ loop_turns.old ++ loop_notes R number }
 {
-    let pair = first_pair::<R>(number, loop_turns);
+    let pair = remove_two::<R>(number, loop_turns);
     if pair == 0 {
         return count_and_write_one_or_two(number, table, buffer, turns);
     }

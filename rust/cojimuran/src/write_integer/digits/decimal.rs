@@ -8,6 +8,7 @@ mod kernels;
 
 pub use super::count::decimal_count::{DecimalCount, fallback_digit_count, fast_digit_count};
 pub use super::count::logarithm::fast_log10;
+use crate::num::num::{LexicalInteger, UnsignedInteger};
 use jeaiii::write_decimal;
 
 /// An unsigned integer type whose numbers are written in decimal, two digits at a time.

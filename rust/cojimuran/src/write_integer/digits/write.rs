@@ -8,7 +8,7 @@ use super::decimal::Decimal;
 use super::decimal::jeaiii::write_decimal;
 use super::radix::{Radix, radix_counted};
 use crate::num::format::NumberFormat;
-use crate::num::num::UnsignedInteger;
+use crate::num::num::{LexicalInteger, UnsignedInteger};
 
 // Writes the digits of a number to the start of the buffer, and returns how many there are. In radix 10 they are at
 // most `width`, and the buffer has room for so many.

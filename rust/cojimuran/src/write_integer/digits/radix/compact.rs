@@ -41,24 +41,24 @@ fn write_to_end<const RADIX: u32>(value: u64, buffer: &mut [u8]) -> usize {
 
 // Writes the digits of a number to the start of the buffer. Returns how many there are.
 #[inline]
-fn write_in_radix<const RADIX: u32>(value: u64, buffer: &mut [u8]) -> usize {
+fn write_each_digit<const RADIX: u32>(value: u64, buffer: &mut [u8]) -> usize {
     // The last digit is computed first, so the digits go to a temporary array.
     let mut digits = [0u8; MAX_DIGITS];
     let index = write_to_end::<RADIX>(value, &mut digits);
     copy_to_front(&digits[index..], buffer)
 }
 
-// Calls `write_in_radix` for a radix that is known only at run time.
+// Calls `write_each_digit` for a radix that is known only at run time.
 #[inline]
-fn write_in(value: u64, radix: u32, buffer: &mut [u8]) -> usize {
-    by_radix!(radix, write_in_radix(value, buffer))
+fn write_each_digit_in(value: u64, radix: u32, buffer: &mut [u8]) -> usize {
+    by_radix!(radix, write_each_digit(value, buffer))
 }
 
 /// Writes the digits of the number to the start of the buffer, and returns how many there are. The radix is
 /// from 2 to 36, and the buffer has room for the digits. There is one division for each digit after the first.
 #[inline]
 pub(crate) fn compact<T: UnsignedInteger>(value: T, radix: u32, buffer: &mut [u8]) -> usize {
-    write_in(value.as_usize() as u64, radix, buffer)
+    write_each_digit_in(value.as_usize() as u64, radix, buffer)
 }
 
 /// An unsigned integer type whose digits are written by the compact writer.

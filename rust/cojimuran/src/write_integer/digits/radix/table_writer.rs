@@ -34,9 +34,9 @@ fn write_four<const R: u32>(number: u32, table: RadixTable<'_, R>, buffer: &mut 
     table.write(number / square, four, 0);
 }
 
-// Returns the digits before the last two of a number of up to four digits.
+// Returns a number of up to four digits without its last two.
 #[inline(always)]
-pub(super) fn first_pair<const R: u32>(number: u32) -> u32 {
+pub(super) fn remove_two<const R: u32>(number: u32) -> u32 {
     number / (R * R)
 }
 
@@ -57,7 +57,7 @@ fn write_three_or_four<const R: u32>(
     let count = count_three_or_four(number, R);
     // rustc tests the end of these bytes once.
     let written = &mut buffer[..count];
-    let first = 2 * first_pair::<R>(number) as usize;
+    let first = 2 * remove_two::<R>(number) as usize;
     let pair = 2 * (number % (R * R)) as usize;
     written[0] = table.pairs[first];
     written[count - 3] = table.pairs[first + 1];
@@ -208,7 +208,7 @@ pub(super) fn count_and_write_up_to_four<const R: u32>(
     table: RadixTable<'_, R>,
     buffer: &mut [u8],
 ) -> usize {
-    let pair = first_pair::<R>(number);
+    let pair = remove_two::<R>(number);
     if pair == 0 {
         return count_and_write_one_or_two(number, table, buffer);
     }

@@ -69,8 +69,8 @@ more g c =
     let long : g.row.R ^ 4 ≤ c.args.value = omega (arith, c.if-value-fourth_power.false, c.fourth_power.ensures.power) in
     omega (arith, c.count_some-count.ensures.count, digit_count-more g.row.R 4 c.args.value c.args.table.is_radix.at_least_two long)
 
-pub first_pair-requires-clause-short : goal.first_pair-requires-clause-short
-first_pair-requires-clause-short g c = short g (goal.at.first_pair-requires-clause-short g c).After-loop-at
+pub record_pair-requires-clause-short : goal.record_pair-requires-clause-short
+record_pair-requires-clause-short g c = short g (goal.at.record_pair-requires-clause-short g c).After-loop-at
 
 pub overflow_sub-count : goal.overflow_sub-count
 overflow_sub-count g c = omega (arith, more g (goal.at.overflow_sub-count g c).After-count_some-count)

@@ -81,7 +81,7 @@ returns-clause-digits g c =
     let fits = room g (goal.at.returns-clause-digits g c).After-count_three_or_four-count in
     WritesDigits-block two (sym counted.count) fits
     (WritesBlock-first fits
-    (rw c.first_pair.ensures.pair
+    (rw c.remove_two.ensures.pair
     (WritesBlock-three_or_four r n count _ two c.requires.short counted.three counted.four counted.count
     (rw (length-take-le _ _ fits) (omega arith))
     (pair_first r hi pairs begins (first g c')) (pair_second r hi pairs begins (first g c'))

@@ -2,7 +2,7 @@ use Rattle.std.proofs.Common.{◌≡◌, ◌-◌, length, take, drop, ap, length
 use Rattle.std.proofs.lemmas.List.{take_all}
 use Rattle.lexical_num.specs.BitWidth.{is_64}
 use Rattle.lexical_write_integer.proofs.OfDigits.Count.DigitCounts.{digit_count-le_64}
-use Rattle.lexical_write_integer.proofs.digits.radix.compact.write_in_radix.Goals as goal
+use Rattle.lexical_write_integer.proofs.digits.radix.compact.write_each_digit.Goals as goal
 
 pub write_to_end-index-requires-clause-room : goal.write_to_end-index-requires-clause-room
 write_to_end-index-requires-clause-room g c =
