@@ -8,10 +8,24 @@ ghost use Rattle.lexical_num.specs.Size.{AreSizes, are_sizes};
 use crate::num::LexicalInteger;
 
 /// The length of a buffer that is long enough for every number of every type in every format.
+///
+/// ```
+/// use lexical_write_integer::{BUFFER_SIZE, ToLexical};
+///
+/// let mut buffer = [0; BUFFER_SIZE];
+/// assert_eq!(rt; i64::MIN.to_lexical(&mut buffer), b"-9223372036854775808");
+/// ```
 pub const BUFFER_SIZE: usize = 128;
 
 /// An integer type with two buffer lengths, between which `buffer_size` of the options chooses. The length is
 /// enough for each number of the type.
+///
+/// ```
+/// use lexical_write_integer::{FormattedSize, ToLexical};
+///
+/// let mut buffer = [0; u64::FORMATTED_SIZE_DECIMAL];
+/// assert_eq!(rt; u64::MAX.to_lexical(&mut buffer), b"18446744073709551615");
+/// ```
 pub trait FormattedSize: LexicalInteger {
     /// The buffer length in a radix other than 10, with a sign and with groups.
     const FORMATTED_SIZE: usize;

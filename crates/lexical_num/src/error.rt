@@ -3,9 +3,26 @@
 use std::fmt;
 
 /// The result of building: the value, or the error.
+///
+/// ```
+/// use lexical_write_integer::{NumberFormat, NumberFormatBuilder, Result};
+///
+/// fn format(radix: u8) -> Result<NumberFormat> {
+///     NumberFormatBuilder::new().mantissa_radix(radix).build()
+/// }
+/// assert!(rt; format(36).is_ok() && format(37).is_err());
+/// ```
 pub type Result<T> = std::result::Result<T, Error>;
 
 /// The first part of a format that is invalid, with the invalid byte.
+///
+/// ```
+/// use lexical_write_integer::{Error, NumberFormatBuilder};
+///
+/// let error = NumberFormatBuilder::new().mantissa_radix(37).build().unwrap_err();
+/// assert_eq!(rt; error, Error::InvalidMantissaRadix(37));
+/// assert_eq!(rt; error.to_string(), "invalid mantissa radix 37");
+/// ```
 #[derive(Clone, Copy, PartialEq, Eq, Debug, Drop)]
 pub enum Error {
     /// The mantissa radix is below 2 or above 36.

@@ -37,6 +37,13 @@ impl Parts {
 /// digits, and the separator is a printable ASCII character other than a letter, a digit or a sign.
 ///
 /// `NumberFormatBuilder` builds a format; the documentation of this crate has examples.
+///
+/// ```
+/// use lexical_write_integer::{NumberFormat, NumberFormatBuilder};
+///
+/// const HEXADECIMAL: NumberFormat = NumberFormatBuilder::from_radix(16);
+/// assert_eq!(rt; HEXADECIMAL.mantissa_radix(), 16);
+/// ```
 #[derive(Clone, Copy, PartialEq, Eq, Hash, Debug)]
 pub struct NumberFormat {
     pub(crate) parts: Parts,

@@ -12,6 +12,15 @@ use std::marker::Model;
 /// A builder of formats. Its parts may be any bytes until a format is built from them.
 ///
 /// The documentation of this crate has examples.
+///
+/// ```
+/// use lexical_write_integer::{NumberFormatBuilder, Options, ToLexicalWithOptions};
+///
+/// let thousands = NumberFormatBuilder::new().digit_grouping(3, b',').build_strict();
+/// let mut buffer = [0; 32];
+/// let text = 1234567u64.to_lexical_with_options(&mut buffer, &thousands, &Options::new());
+/// assert_eq!(rt; text, b"1,234,567");
+/// ```
 #[derive(Clone, Copy, PartialEq, Eq, Hash, Debug)]
 pub struct NumberFormatBuilder {
     parts: Parts,

@@ -9,6 +9,15 @@ ghost use Rattle.lexical_num.specs.Range.{IsUnsigned, equal_by_pos, greatest_of,
 ghost use Rattle.lexical_num.specs.BitWidth.{IsBitWidth, is_8, is_16, is_32, is_64};
 
 /// An integer type whose numbers can be written.
+///
+/// ```
+/// use lexical_num::LexicalInteger;
+///
+/// fn is_below_zero<T: LexicalInteger>(number: T) -> bool {
+///     number.is_negative()
+/// }
+/// assert!(rt; is_below_zero(-5i8) && !is_below_zero(5u8));
+/// ```
 pub trait LexicalInteger: Copy {
     /// The number of bits of the type.
     const BITS: usize;
@@ -306,6 +315,15 @@ impl LexicalInteger for isize {
 
 /// An unsigned integer type, with the arithmetic that is needed to write digits. The writers of
 /// `lexical_write_integer` are generic over it, such as `compact_counted`.
+///
+/// ```
+/// use lexical_num::UnsignedInteger;
+///
+/// fn last_digit<T: UnsignedInteger>(number: T) -> T {
+///     number.div_rem(T::from_u32(10)).1
+/// }
+/// assert_eq!(rt; last_digit(1234u16), 4);
+/// ```
 pub trait UnsignedInteger: LexicalInteger {
     // The value as a natural number without a range.
     ghost magnitude: { Self → ℕ };

@@ -8,6 +8,15 @@ use crate::error::Result;
 use crate::format::NumberFormat;
 
 /// The options of writing a number: whether they are valid, and how long a buffer they require.
+///
+/// ```
+/// use lexical_write_integer::{FormattedSize, NumberFormat, Options, WriteOptions, format::STANDARD};
+///
+/// fn size_of<T: FormattedSize>(format: &NumberFormat) -> usize {
+///     Options::new().buffer_size::<T>(format)
+/// }
+/// assert_eq!(rt; size_of::<u8>(&STANDARD), 3);
+/// ```
 pub trait WriteOptions {
     ghost is_valid: { Self → Bool };
 
@@ -24,6 +33,13 @@ pub trait WriteOptions {
 }
 
 /// The options of writing an integer. They have no fields yet, so all values are equal.
+///
+/// ```
+/// use lexical_write_integer::{Options, format::STANDARD};
+///
+/// const SIZE: usize = Options::new().buffer_size_const::<i32>(&STANDARD);
+/// assert_eq!(rt; SIZE, 11);
+/// ```
 #[derive(Debug, Clone, PartialEq, Eq, PartialOrd, Ord, Drop)]
 pub struct Options {}
 
@@ -100,6 +116,12 @@ impl WriteOptions for Options {
 }
 
 /// A builder of options. It has nothing to set yet, so all values are equal.
+///
+/// ```
+/// use lexical_write_integer::{Options, OptionsBuilder};
+///
+/// assert_eq!(rt; OptionsBuilder::new().build(), Ok(Options::new()));
+/// ```
 #[derive(Debug, Clone, PartialEq, Eq, PartialOrd, Ord, Drop)]
 pub struct OptionsBuilder {}
 

@@ -13,6 +13,14 @@ use lexical_write_integer::padded::write_padded;
 /// Writes the length of a part plus `extra` in `width` digits of the radix, and then the part, and returns its length:
 /// with an `extra` of 4 in radix 16, `"done\n"` after four digits is `0009done\n`. Later bytes are unchanged. The part
 /// must be valid, its room plus `extra` below `radix^width`, and the buffer as long as `width` and the room.
+///
+/// ```
+/// use lexical_parts::write_with_length;
+///
+/// let mut buffer = [0; 9];
+/// assert_eq!(rt; write_with_length("done\n", 16, 4, 4, &mut buffer), 5);
+/// assert_eq!(rt; buffer, *b"0009done\n");
+/// ```
 pub fn write_with_length<P: Part>(
     part: P,
     radix: u32,

@@ -1,150 +1,12 @@
-//! What the documentation of the package has besides that of the sources: an example of each type, which its tests run,
-//! and links.
+//! The examples of parts in the documentation of the package, which its tests run.
 
 use std::collections::BTreeSet;
-
-/// The code of the examples of what the root exports, and of the functions of parts, a line for each statement.
-const ROOT: &[(&str, &str)] = &[
-    (
-        "BUFFER_SIZE",
-        "use cojimuran::{BUFFER_SIZE, ToLexical};
-
-let mut buffer = [0; BUFFER_SIZE];
-assert_eq!(i64::MIN.to_lexical(&mut buffer), b\"-9223372036854775808\");",
-    ),
-    (
-        "Error",
-        "use cojimuran::{Error, NumberFormatBuilder};
-
-let error = NumberFormatBuilder::new().mantissa_radix(37).build().unwrap_err();
-assert_eq!(error, Error::InvalidMantissaRadix(37));
-assert_eq!(error.to_string(), \"invalid mantissa radix 37\");",
-    ),
-    (
-        "FormattedSize",
-        "use cojimuran::{FormattedSize, ToLexical};
-
-let mut buffer = [0; u64::FORMATTED_SIZE_DECIMAL];
-assert_eq!(u64::MAX.to_lexical(&mut buffer), b\"18446744073709551615\");",
-    ),
-    (
-        "LexicalInteger",
-        "use cojimuran::LexicalInteger;
-
-fn is_below_zero<T: LexicalInteger>(number: T) -> bool {
-    number.is_negative()
-}
-assert!(is_below_zero(-5i8) && !is_below_zero(5u8));",
-    ),
-    (
-        "NumberFormat",
-        "use cojimuran::{NumberFormat, NumberFormatBuilder};
-
-const HEXADECIMAL: NumberFormat = NumberFormatBuilder::from_radix(16);
-assert_eq!(HEXADECIMAL.mantissa_radix(), 16);",
-    ),
-    (
-        "NumberFormatBuilder",
-        "use cojimuran::{NumberFormatBuilder, Options, ToLexicalWithOptions};
-
-let thousands = NumberFormatBuilder::new().digit_grouping(3, b',').build_strict();
-let mut buffer = [0; 32];
-let text = 1234567u64.to_lexical_with_options(&mut buffer, &thousands, &Options::new());
-assert_eq!(text, b\"1,234,567\");",
-    ),
-    (
-        "Options",
-        "use cojimuran::{Options, format::STANDARD};
-
-const SIZE: usize = Options::new().buffer_size_const::<i32>(&STANDARD);
-assert_eq!(SIZE, 11);",
-    ),
-    (
-        "OptionsBuilder",
-        "use cojimuran::{Options, OptionsBuilder};
-
-assert_eq!(OptionsBuilder::new().build(), Ok(Options::new()));",
-    ),
-    (
-        "Result",
-        "use cojimuran::{NumberFormat, NumberFormatBuilder, Result};
-
-fn format(radix: u8) -> Result<NumberFormat> {
-    NumberFormatBuilder::new().mantissa_radix(radix).build()
-}
-assert!(format(36).is_ok() && format(37).is_err());",
-    ),
-    (
-        "ToLexical",
-        "use cojimuran::ToLexical;
-
-let mut buffer = [0; 20];
-assert_eq!((-1234i64).to_lexical(&mut buffer), b\"-1234\");",
-    ),
-    (
-        "ToLexicalWithOptions",
-        "use cojimuran::{NumberFormatBuilder, Options, ToLexicalWithOptions};
-
-let radix_36 = NumberFormatBuilder::from_radix(36);
-let mut buffer = [0; 13];
-let text = u64::MAX.to_lexical_with_options(&mut buffer, &radix_36, &Options::new());
-assert_eq!(text, b\"3W5E11264SGSF\");",
-    ),
-    (
-        "UnsignedInteger",
-        "use cojimuran::UnsignedInteger;
-
-fn last_digit<T: UnsignedInteger>(number: T) -> T {
-    number.div_rem(T::from_u32(10)).1
-}
-assert_eq!(last_digit(1234u16), 4);",
-    ),
-    (
-        "WriteOptions",
-        "use cojimuran::{FormattedSize, NumberFormat, Options, WriteOptions};
-
-fn size_of<T: FormattedSize>(format: &NumberFormat) -> usize {
-    Options::new().buffer_size::<T>(format)
-}
-assert_eq!(size_of::<u8>(&cojimuran::format::STANDARD), 3);",
-    ),
-    (
-        "group_digits",
-        "use cojimuran::{NumberFormatBuilder, group_digits};
-
-let thousands = NumberFormatBuilder::new().digit_grouping(3, b',').build_strict();
-let mut buffer = *b\"1234567..\";
-assert_eq!(group_digits(7, &thousands, &mut buffer), 9);
-assert_eq!(buffer, *b\"1,234,567\");",
-    ),
-    (
-        "sign_len",
-        "use cojimuran::{format::STANDARD, sign_len};
-
-assert_eq!((sign_len(-5, &STANDARD), sign_len(5, &STANDARD)), (1, 0));",
-    ),
-    (
-        "write_with_length",
-        "use cojimuran::parts::write_with_length;
-
-let mut buffer = [0; 9];
-assert_eq!(write_with_length(\"done\\n\", 16, 4, 4, &mut buffer), 5);
-assert_eq!(buffer, *b\"0009done\\n\");",
-    ),
-    (
-        "write_sign",
-        "use cojimuran::{format::STANDARD, write_sign};
-
-let mut buffer = [0; 1];
-assert_eq!((write_sign(-5, &mut buffer, &STANDARD), buffer), (1, *b\"-\"));",
-    ),
-];
 
 /// The format of an example.
 const FORMAT: &str = "\nlet format = cojimuran::NumberFormatBuilder::new().digit_grouping(3, b',').build_strict();";
 
-/// Returns the text of a file with an example at the end of the documentation of each type or function that has one. That
-/// of a part is made of the sentence `` `CALL` writes `TEXT` ``.
+/// Returns the text of a file with an example at the end of the documentation of each part, which is made of the
+/// sentence `` `CALL` writes `TEXT` ``.
 pub(crate) fn with_examples(text: &str, module: &str) -> Result<String, String> {
     let mut written = String::with_capacity(2 * text.len());
     let (mut comment, mut attributes) = (String::new(), String::new());
@@ -172,7 +34,7 @@ fn item(line: &str) -> Option<&str> {
 /// Returns the example of an item with this documentation, or an error if a part has none.
 fn example(name: &str, comment: &str, module: &str) -> Result<Option<String>, String> {
     if module != "parts" || !name.starts_with(char::is_uppercase) {
-        return Ok(ROOT.iter().find(|(item, _)| *item == name).map(|(_, code)| (*code).to_owned()));
+        return Ok(None);
     }
     let text = comment.replace("\n/// ", " ");
     let quoted: Vec<&str> = text.split('`').collect();
@@ -203,11 +65,19 @@ fn lines(example: Option<String>) -> String {
     })
 }
 
-/// Returns an export that has no example, or whose example no made file has.
-pub(crate) fn missing(made: &str, exports: &[String]) -> Option<String> {
-    let has_example = |name: &str| {
-        let last = ROOT.iter().find(|(item, _)| *item == name).and_then(|(_, code)| code.lines().next_back());
-        last.is_some_and(|line| made.contains(line))
-    };
-    exports.iter().find(|name| !has_example(name)).cloned()
+/// Returns a name that is exported and whose documentation has no example.
+pub(crate) fn missing<'a>(made: &str, mut names: impl Iterator<Item = &'a String>) -> Option<&'a String> {
+    let mut examples = BTreeSet::new();
+    let mut comment = String::new();
+    for line in made.lines() {
+        match line {
+            _ if line.starts_with("///") => comment += line,
+            _ if line.starts_with("#[") => {}
+            _ => {
+                examples.extend(item(line).filter(|_| comment.contains("```")));
+                comment.clear();
+            }
+        }
+    }
+    names.find(|name| !examples.contains(name.as_str()))
 }

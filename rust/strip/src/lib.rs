@@ -61,19 +61,15 @@ fn made(top: &Path) -> Result<BTreeMap<PathBuf, String>, String> {
     Ok(made)
 }
 
-/// Adds links to the documentation of the package, of which each part and each item of the root has an example.
+/// Adds links to the documentation of the package. Each part and each item of the root has an example.
 fn document(top: &Path, made: &mut BTreeMap<PathBuf, String>) -> Result<(), String> {
     let root = read(&top.join("rust/cojimuran/src/lib.rs"))?;
     let of_root = links::exports(&root, "crate");
     let parts = links::exports(&made[Path::new("rust/cojimuran/src/parts.rs")], "crate::parts");
-    // The types of parts have an example by themselves.
-    let is_function = |name: &str| name.starts_with(char::is_lowercase);
-    let names = of_root.iter().filter(|(name, path)| **path == format!("crate::{name}"));
-    let names = names.chain(parts.iter().filter(|(name, _)| is_function(name)));
-    let names: Vec<String> = names.map(|(name, _)| name.clone()).collect();
     let is_of_package = |path: &Path| path.starts_with("rust/cojimuran");
     let all: String = made.iter().filter(|(path, _)| is_of_package(path)).map(|(_, text)| text.as_str()).collect();
-    if let Some(name) = examples::missing(&all.replace("/// ", ""), &names) {
+    let of_package = of_root.iter().filter(|(name, path)| **path == format!("crate::{name}"));
+    if let Some(name) = examples::missing(&all, of_package.chain(&parts).map(|(name, _)| name)) {
         return Err(format!("{name} has no example"));
     }
     let mut exports = of_root;

@@ -20,6 +20,13 @@ use lexical_num::num::LexicalInteger;
 use lexical_num::options::WriteOptions;
 
 /// An integer type whose numbers are written in decimal. The documentation of this crate has examples.
+///
+/// ```
+/// use lexical_write_integer::ToLexical;
+///
+/// let mut buffer = [0; 20];
+/// assert_eq!(rt; (-1234i64).to_lexical(&mut buffer), b"-1234");
+/// ```
 pub trait ToLexical: LexicalInteger + FormattedSize {
     /// Writes the number in decimal to the start of the buffer, and returns the length of its text: a
     /// `-` if it is below 0, and then the digits. Every byte after the text is unchanged. The buffer
@@ -85,6 +92,15 @@ pub trait ToLexical: LexicalInteger + FormattedSize {
 
 /// An integer type whose numbers are written in any format. The documentation of this crate has
 /// examples.
+///
+/// ```
+/// use lexical_write_integer::{NumberFormatBuilder, Options, ToLexicalWithOptions};
+///
+/// let radix_36 = NumberFormatBuilder::from_radix(36);
+/// let mut buffer = [0; 13];
+/// let text = u64::MAX.to_lexical_with_options(&mut buffer, &radix_36, &Options::new());
+/// assert_eq!(rt; text, b"3W5E11264SGSF");
+/// ```
 pub trait ToLexicalWithOptions: ToLexical {
     /// The type of the options. Options have no effect yet.
     type Options: WriteOptions;
@@ -183,6 +199,12 @@ fn write_sign_before_digits<T: LexicalInteger>(
 }
 
 /// Returns the length of the sign of the number in the format, 0 or 1.
+///
+/// ```
+/// use lexical_write_integer::{format::STANDARD, sign_len};
+///
+/// assert_eq!(rt; (sign_len(-5, &STANDARD), sign_len(5, &STANDARD)), (1, 0));
+/// ```
 pub fn sign_len<T: LexicalInteger>(number: T, format: &NumberFormat) -> usize
     ensures { result ≡ length (sign_of (T.number number) format.now.required_mantissa_sign) }
 {
@@ -191,6 +213,13 @@ pub fn sign_len<T: LexicalInteger>(number: T, format: &NumberFormat) -> usize
 
 /// Writes the sign of the number, if it has one in the format, to the first byte of the buffer, which is
 /// not empty, and returns the length of the sign, 0 or 1. If there is no sign, the buffer is unchanged.
+///
+/// ```
+/// use lexical_write_integer::{format::STANDARD, write_sign};
+///
+/// let mut buffer = [0; 1];
+/// assert_eq!(rt; (write_sign(-5, &mut buffer, &STANDARD), buffer), (1, *b"-"));
+/// ```
 pub fn write_sign<T: LexicalInteger>(number: T, buffer: &mut [u8], format: &NumberFormat) -> usize
     requires { 1 ≤ length buffer.old }
     ensures sign { take result buffer.new ≡ sign_of (T.number number) format.now.required_mantissa_sign }

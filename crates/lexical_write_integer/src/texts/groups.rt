@@ -18,6 +18,15 @@ use lexical_num::format::NumberFormat;
 /// 12345,567    after four bytes
 /// 1,234,567    after all
 /// ```
+///
+/// ```
+/// use lexical_write_integer::{NumberFormatBuilder, group_digits};
+///
+/// let thousands = NumberFormatBuilder::new().digit_grouping(3, b',').build_strict();
+/// let mut buffer = *b"1234567..";
+/// assert_eq!(rt; group_digits(7, &thousands, &mut buffer), 9);
+/// assert_eq!(rt; buffer, *b"1,234,567");
+/// ```
 pub fn group_digits(count: usize, format: &NumberFormat, buffer: &mut [u8]) -> usize
     requires some { 1 ≤ count }
     requires room { grouped_length format.now.digit_grouping count ≤ length buffer.old }

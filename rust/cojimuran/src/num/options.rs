@@ -9,12 +9,12 @@ use crate::num::format::NumberFormat;
 /// The options of writing a number: whether they are valid, and how long a buffer they require.
 ///
 /// ```
-/// use cojimuran::{FormattedSize, NumberFormat, Options, WriteOptions};
+/// use cojimuran::{FormattedSize, NumberFormat, Options, WriteOptions, format::STANDARD};
 ///
 /// fn size_of<T: FormattedSize>(format: &NumberFormat) -> usize {
 ///     Options::new().buffer_size::<T>(format)
 /// }
-/// assert_eq!(size_of::<u8>(&cojimuran::format::STANDARD), 3);
+/// assert_eq!(size_of::<u8>(&STANDARD), 3);
 /// ```
 pub trait WriteOptions {
     /// Returns whether numbers can be written with the options.

@@ -9,14 +9,6 @@ use crate::write_integer::padded::write_padded;
 /// with an `extra` of 4 in radix 16, `"done\n"` after four digits is `0009done\n`. Later bytes are unchanged. The part
 /// must be valid, its room plus `extra` below `radix^width`, and the buffer as long as `width` and the room.
 ///
-/// # Panics
-///
-/// If the part is not valid,
-/// or if the radix is not from 2 to 36,
-/// or if the buffer is [too short](crate#conditions),
-/// or if the length has more digits than `width`,
-/// or if the length and `extra` together are 2^64 or above.
-///
 /// ```
 /// use cojimuran::parts::write_with_length;
 ///
@@ -24,6 +16,14 @@ use crate::write_integer::padded::write_padded;
 /// assert_eq!(write_with_length("done\n", 16, 4, 4, &mut buffer), 5);
 /// assert_eq!(buffer, *b"0009done\n");
 /// ```
+///
+/// # Panics
+///
+/// If the part is not valid,
+/// or if the radix is not from 2 to 36,
+/// or if the buffer is [too short](crate#conditions),
+/// or if the length has more digits than `width`,
+/// or if the length and `extra` together are 2^64 or above.
 #[inline]
 pub fn write_with_length<P: Part>(
     part: P,

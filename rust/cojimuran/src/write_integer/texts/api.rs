@@ -200,16 +200,16 @@ pub fn sign_len<T: LexicalInteger>(number: T, format: &NumberFormat) -> usize {
 /// Writes the sign of the number, if it has one in the format, to the first byte of the buffer, which is
 /// not empty, and returns the length of the sign, 0 or 1. If there is no sign, the buffer is unchanged.
 ///
-/// # Panics
-///
-/// If the buffer is [too short](crate#conditions).
-///
 /// ```
 /// use cojimuran::{format::STANDARD, write_sign};
 ///
 /// let mut buffer = [0; 1];
 /// assert_eq!((write_sign(-5, &mut buffer, &STANDARD), buffer), (1, *b"-"));
 /// ```
+///
+/// # Panics
+///
+/// If the buffer is [too short](crate#conditions).
 #[inline(always)]
 #[track_caller]
 pub fn write_sign<T: LexicalInteger>(number: T, buffer: &mut [u8], format: &NumberFormat) -> usize {

@@ -16,10 +16,6 @@ use crate::num::format::NumberFormat;
 /// 1,234,567    after all
 /// ```
 ///
-/// # Panics
-///
-/// If the buffer is [too short](crate#conditions).
-///
 /// ```
 /// use cojimuran::{NumberFormatBuilder, group_digits};
 ///
@@ -28,6 +24,10 @@ use crate::num::format::NumberFormat;
 /// assert_eq!(group_digits(7, &thousands, &mut buffer), 9);
 /// assert_eq!(buffer, *b"1,234,567");
 /// ```
+///
+/// # Panics
+///
+/// If the buffer is [too short](crate#conditions).
 #[inline]
 pub fn group_digits(count: usize, format: &NumberFormat, buffer: &mut [u8]) -> usize {
     let Some((size, mark)) = format.digit_grouping() else {
