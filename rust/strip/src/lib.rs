@@ -129,8 +129,10 @@ fn made_of(top: &Path, source: &Source, known: &Known) -> Result<(BTreeMap<PathB
 
 /// Returns what is made of the text of a file of a source, a path in its `src`, and what its functions lack.
 fn made_text(text: &str, file: &str, source: &Source, known: &Known) -> Result<(String, Vec<String>), String> {
-    let made = left_out::without_left_out(&source.replaced(text, source.replaced), source, &known.laws);
-    let allowed = if source.is_test() { replaced::IN_TESTS } else { &[] };
+    let replaced = [source.replaced, replaced::EVERYWHERE];
+    let made = left_out::without_left_out(&source.replaced(text, &replaced), source, &known.laws);
+    // What a rule replaces in a body is listed too, but for tests.
+    let allowed: &[_] = if source.is_test() { &replaced } else { &[] };
     let lines = lost::left_out(&source.replaced(text, allowed), &made);
     let made = counted::without_counted(&made)?;
     let made = match left_out::unknown(&made) {

@@ -1,6 +1,6 @@
 //! Which crate becomes which files, and what the files have that the crate does not say.
 
-use crate::replaced::{self, EVERYWHERE, EXPORTS, Replaced};
+use crate::replaced::{self, EXPORTS, Replaced};
 use std::path::{Path, PathBuf};
 
 /// A crate of Rattle, and the files that are made of it. rustc checks what is added. White space parts the names of a
@@ -62,14 +62,14 @@ impl Source {
         }
     }
 
-    /// Returns a text of the crate with the paths of the package, and with these texts of it and those of every crate
-    /// as they are written in Rust.
-    pub fn replaced(&self, text: &str, replaced: Replaced) -> String {
+    /// Returns a text of the crate with the paths of the package, and with the texts of these lists as they are written in
+    /// Rust.
+    pub fn replaced(&self, text: &str, lists: &[Replaced]) -> String {
         let mut text = text.to_owned();
         if !self.module.is_empty() {
             text = text.replace("crate::", &format!("crate::{}::", self.module));
         }
-        for (from, to) in replaced.iter().chain(EVERYWHERE) {
+        for (from, to) in lists.iter().copied().flatten() {
             text = text.replace(from, to);
         }
         text = text.split_inclusive('\n').map(|line| self.with_paths(line)).collect();

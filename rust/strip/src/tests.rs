@@ -96,6 +96,7 @@ fn what_is_left_out_of_a_body() {
     assert_eq!(body("    let mut t = Turns::new();\n    b"), ["f: let mut t = Turns::new();"]);
     assert_eq!(body("    self.trace.fault();\n    b"), ["f: self.trace.fault();"]);
     assert_eq!(body("    unreachable!(\"a\")"), ["f: unreachable => panic"]);
+    assert_eq!(body("    prove!(a > 0);\n    b"), ["f: prove => assert"]);
     assert_eq!(lost("fn in_range(a: u8) {\n    fits_bits(a);\n}"), ["in_range: fits_bits(a);"]);
 }
 
