@@ -36,7 +36,7 @@ impl Parts {
 /// A valid format. Both radices are from 2 to 36. If the digits are grouped, a group has from 1 to 64
 /// digits, and the separator is a printable ASCII character other than a letter, a digit or a sign.
 ///
-/// `NumberFormatBuilder` builds a format; the documentation of this crate has examples.
+/// `NumberFormatBuilder` builds a format.
 ///
 /// ```
 /// use lexical_write_integer::{NumberFormat, NumberFormatBuilder};

@@ -11,8 +11,6 @@ use std::marker::Model;
 
 /// A builder of formats. Its parts may be any bytes until a format is built from them.
 ///
-/// The documentation of this crate has examples.
-///
 /// ```
 /// use lexical_write_integer::{NumberFormatBuilder, Options, ToLexicalWithOptions};
 ///
@@ -37,7 +35,7 @@ impl Model for NumberFormatBuilder {
 }
 
 impl NumberFormatBuilder {
-    /// Returns a builder with the parts of `STANDARD`: both radices are 10, no sign is required, and
+    /// Returns a builder with the parts of `format::STANDARD`: both radices are 10, no sign is required, and
     /// the digits are not grouped.
     pub fn new() -> Self
         ensures { result ≡ standard }

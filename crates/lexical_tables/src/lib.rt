@@ -32,8 +32,7 @@ pub use digit_pairs::{
 };
 
 /// Returns the table of a radix from 2 to 36. It has two bytes for each number below the square of
-/// the radix: the bytes at `2 * i` and `2 * i + 1` are the characters of the two digits of `i`. The
-/// documentation of this crate has an example.
+/// the radix: the bytes at `2 * i` and `2 * i + 1` are the characters of the two digits of `i`.
 #[tactic(auto, using(crate::proofs::Pairs::reads))]
 pub fn get_table(radix: u32) -> &'static [u8]
     requires at_least_two { 2 ≤ radix }

@@ -20,6 +20,11 @@
 //! ```
 //!
 //! The calls are the methods of [`Part`]. The other types of this module are parts, and so are the integer types.
+//!
+//! [`Decimal`], [`Formatted`], [`Plus`], [`Hex`], [`Binary`], [`Padded`], [`Fixed`] and [`GroupedFixed`] also have
+//! `Display`: `{}` of such a part writes its text, with the sign, the width and the fill as of an integer, and `#` and
+//! a precision do nothing. It is an error if there are more than 19 decimals, or if a [`Padded`] has no digits, more
+//! than 64, or fewer than its number.
 
 mod column;
 mod display;

@@ -30,8 +30,7 @@ pub use digit_pairs::{
 };
 
 /// Returns the table of a radix from 2 to 36. It has two bytes for each number below the square of
-/// the radix: the bytes at `2 * i` and `2 * i + 1` are the characters of the two digits of `i`. The
-/// documentation of this module has an example.
+/// the radix: the bytes at `2 * i` and `2 * i + 1` are the characters of the two digits of `i`.
 ///
 /// # Panics
 ///

@@ -6,10 +6,10 @@ use std::collections::{BTreeMap, BTreeSet};
 pub(crate) type Exports = BTreeMap<String, String>;
 
 /// Returns the exports of a module, whose file has this text. Those of inner modules have their paths too. A name that
-/// is hidden, or that could be another word, is left out.
+/// is hidden, that could be another word, or that two modules have is left out.
 pub(crate) fn exports(text: &str, path: &str) -> Exports {
     let (mut found, mut module, mut is_hidden) = (Exports::new(), path.to_owned(), false);
-    let mut statement = String::new();
+    let (mut statement, mut several) = (String::new(), BTreeSet::new());
     for line in text.lines() {
         let code = line.trim();
         if let Some(name) = code.strip_prefix("pub mod ").and_then(|rest| rest.strip_suffix(" {")) {
@@ -23,12 +23,17 @@ pub(crate) fn exports(text: &str, path: &str) -> Exports {
                 let is_name = |name: &&str| name.contains('_') || name.starts_with(char::is_uppercase);
                 let names = list.split(|c: char| !c.is_alphanumeric() && c != '_').filter(is_name);
                 let names = names.filter(|_| !is_hidden);
-                found.extend(names.map(|name| (name.to_owned(), format!("{module}::{name}"))));
+                for name in names {
+                    if found.insert(name.to_owned(), format!("{module}::{name}")).is_some() {
+                        several.insert(name.to_owned());
+                    }
+                }
                 statement.clear();
             }
         }
         is_hidden = code == "#[doc(hidden)]" || is_hidden && !statement.is_empty();
     }
+    found.retain(|name, _| !several.contains(name));
     found
 }
 

@@ -19,7 +19,7 @@ use lexical_num::format::{NumberFormat, STANDARD};
 use lexical_num::num::LexicalInteger;
 use lexical_num::options::WriteOptions;
 
-/// An integer type whose numbers are written in decimal. The documentation of this crate has examples.
+/// An integer type whose numbers are written in decimal.
 ///
 /// ```
 /// use lexical_write_integer::ToLexical;
@@ -90,8 +90,7 @@ pub trait ToLexical: LexicalInteger + FormattedSize {
     }
 }
 
-/// An integer type whose numbers are written in any format. The documentation of this crate has
-/// examples.
+/// An integer type whose numbers are written in any format.
 ///
 /// ```
 /// use lexical_write_integer::{NumberFormatBuilder, Options, ToLexicalWithOptions};

@@ -8,8 +8,6 @@ use crate::num::limits::{is_group_size, is_mark, is_radix};
 
 /// A builder of formats. Its parts may be any bytes until a format is built from them.
 ///
-/// The documentation of this module has examples.
-///
 /// ```
 /// use cojimuran::{NumberFormatBuilder, Options, ToLexicalWithOptions};
 ///
@@ -24,7 +22,7 @@ pub struct NumberFormatBuilder {
 }
 
 impl NumberFormatBuilder {
-    /// Returns a builder with the parts of [`STANDARD`](crate::options::STANDARD): both radices are 10, no sign is required, and
+    /// Returns a builder with the parts of `format::STANDARD`: both radices are 10, no sign is required, and
     /// the digits are not grouped.
     #[must_use]
     #[inline]

@@ -9,7 +9,7 @@ use crate::num::num::LexicalInteger;
 use crate::num::options::WriteOptions;
 use crate::write_integer::buffer::front_mut;
 
-/// An integer type whose numbers are written in decimal. The documentation of this module has examples.
+/// An integer type whose numbers are written in decimal.
 ///
 /// ```
 /// use cojimuran::ToLexical;
@@ -82,8 +82,7 @@ pub trait ToLexical: LexicalInteger + FormattedSize {
     }
 }
 
-/// An integer type whose numbers are written in any format. The documentation of this module has
-/// examples.
+/// An integer type whose numbers are written in any format.
 ///
 /// ```
 /// use cojimuran::{NumberFormatBuilder, Options, ToLexicalWithOptions};
