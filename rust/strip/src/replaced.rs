@@ -28,6 +28,8 @@ pub(crate) const NUM: Replaced = &[
     // So neither a new method nor a new error breaks a user.
     ("pub trait LexicalInteger: Copy {", "pub trait LexicalInteger: Copy + crate::sealed::Sealed {"),
     ("pub enum Error {", "#[non_exhaustive]\npub enum Error {"),
+    // Nor does a field of the options or their builder.
+    ("pub struct Options", "#[non_exhaustive]\npub struct Options"),
 ];
 
 /// The paths under which the packages export what the crates have.

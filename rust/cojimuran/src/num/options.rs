@@ -37,6 +37,7 @@ pub trait WriteOptions {
 /// assert_eq!(SIZE, 11);
 /// ```
 #[derive(Debug, Clone, PartialEq, Eq, PartialOrd, Ord)]
+#[non_exhaustive]
 pub struct Options {}
 
 /// The standard options.
@@ -117,6 +118,7 @@ impl WriteOptions for Options {
 /// assert_eq!(OptionsBuilder::new().build(), Ok(Options::new()));
 /// ```
 #[derive(Debug, Clone, PartialEq, Eq, PartialOrd, Ord)]
+#[non_exhaustive]
 pub struct OptionsBuilder {}
 
 impl OptionsBuilder {
