@@ -58,7 +58,7 @@ impl NumberFormatBuilder {
         requires { IsRadix radix }
         ensures { result ≡ record standard { mantissa_radix = radix; exponent_radix = radix } }
     {
-        prove!(is_radix(radix as u64));
+        prove!(is_radix(radix as u64), "the radix is not from 2 to 36");
         NumberFormat {
             parts: Parts {
                 mantissa_radix: radix,
@@ -155,11 +155,23 @@ impl NumberFormatBuilder {
         ensures { result ≡ self.now }
     {
         // In Rust one of these says which part is invalid.
-        prove!(is_radix(self.parts.mantissa_radix as u64));
-        prove!(is_radix(self.parts.exponent_radix as u64));
+        prove!(
+            is_radix(self.parts.mantissa_radix as u64),
+            "the mantissa radix is not from 2 to 36"
+        );
+        prove!(
+            is_radix(self.parts.exponent_radix as u64),
+            "the exponent radix is not from 2 to 36"
+        );
         if let Some((size, mark)) = self.parts.digit_grouping {
-            prove!(is_group_size(size as u64));
-            prove!(is_mark(mark as u64));
+            prove!(
+                is_group_size(size as u64),
+                "the group size is not from 1 to 64"
+            );
+            prove!(
+                is_mark(mark as u64),
+                "the separator is a letter, a digit or a sign, or not printable ASCII"
+            );
         }
         NumberFormat { parts: self.parts }
     }

@@ -339,7 +339,7 @@ pub trait UnsignedInteger: LexicalInteger {
         ensures { result ≡ magnitude self }
     {
         let number = self.as_usize();
-        prove!(number < 4_294_967_296);
+        prove!(number < 4_294_967_296, "the number is 2^32 or above");
         number as u32
     }
 
@@ -392,7 +392,7 @@ impl UnsignedInteger for u8 {
     ghost equal_by_number = { equal_by_pos };
 
     fn from_u32(value: u32) -> u8 {
-        prove!(value < 256);
+        prove!(value < 256, "the type does not have the number");
         value as u8
     }
 
@@ -419,7 +419,7 @@ impl UnsignedInteger for u16 {
     ghost equal_by_number = { equal_by_pos };
 
     fn from_u32(value: u32) -> u16 {
-        prove!(value < 65_536);
+        prove!(value < 65_536, "the type does not have the number");
         value as u16
     }
 

@@ -98,7 +98,11 @@ impl<T: ToLexicalWithOptions> Part for GroupedFixed<'_, T> {
         + grouped_units_room part.2.now.digit_grouping T.DECIMAL_WIDTH part.1 };
 
     fn room(self) -> usize {
-        prove!(self.1 <= 19);
+        prove!(
+            self.1 <= 19,
+            "{} decimals, but at most 19 are possible",
+            self.1
+        );
         size_suffices(self.0, &STANDARD);
         let whole = T::DECIMAL_WIDTH.max(self.1 + 1) - self.1;
         usize::from(T::IS_SIGNED) + self.2.grouped_len(whole) + self.1 + self.1.min(1)
@@ -106,7 +110,11 @@ impl<T: ToLexicalWithOptions> Part for GroupedFixed<'_, T> {
 
     fn write_to(self, buffer: &mut [u8]) -> usize {
         self.2.in_range();
-        prove!(self.1 <= 19);
+        prove!(
+            self.1 <= 19,
+            "{} decimals, but at most 19 are possible",
+            self.1
+        );
         size_suffices(self.0, &STANDARD);
         let start = Sign(self.0, false).write_to(buffer);
         start + write_grouped_units(self.0, self.1, self.2, &mut buffer[start..])

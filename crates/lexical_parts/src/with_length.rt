@@ -39,7 +39,10 @@ pub fn write_with_length<P: Part>(
     ensures utf8 { P.is_utf8 part → AreUtf8 (P.is_text part) }
 {
     let count = part.write_to(&mut buffer[width..]);
-    prove!(count <= usize::MAX - extra);
+    prove!(
+        count <= usize::MAX - extra,
+        "the length and `extra` together are 2^64 or above"
+    );
     write_padded(extra + count, radix, &mut buffer[..width]);
     count
 }

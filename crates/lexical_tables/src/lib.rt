@@ -44,8 +44,8 @@ pub fn get_table(radix: u32) -> &'static [u8]
     ensures second { (i : ℕ) → i < radix * radix
         → slice_index result.now (2 * i + 1) ≡ digit_char (i % radix) }
 {
-    prove!(radix >= 2);
-    prove!(radix <= 36);
+    prove!(radix >= 2, "the radix is not from 2 to 36");
+    prove!(radix <= 36, "the radix is not from 2 to 36");
     table_of(radix)
 }
 

@@ -38,8 +38,8 @@ pub use digit_pairs::{
 #[must_use]
 #[inline]
 pub fn get_table(radix: u32) -> &'static [u8] {
-    assert!(radix >= 2);
-    assert!(radix <= 36);
+    assert!(radix >= 2, "the radix is not from 2 to 36");
+    assert!(radix <= 36, "the radix is not from 2 to 36");
     table_of(radix)
 }
 

@@ -181,30 +181,29 @@ fn messages() {
     let builder = NumberFormatBuilder::new();
     let table = table::get_table;
     check_messages! {
-        "is_radix(radix": NumberFormatBuilder::from_radix(37), NumberFormatBuilder::from_radix(1);
-        "is_radix(self.parts.mantissa_radix": builder.radix(37).build_strict();
-        "is_radix(self.parts.exponent_radix": builder.exponent_radix(1).build_strict();
-        "is_group_size(size": builder.digit_grouping(0, b',').build_strict();
-        "is_mark(mark": builder.digit_grouping(3, b'0').build_strict();
-        "is_radix(radix": 255u8.digit_count(u32::MAX), 255u8.slow_digit_count(1), u64::MAX.digit_count(0);
+        "the radix is not from 2 to 36": NumberFormatBuilder::from_radix(37), NumberFormatBuilder::from_radix(1);
+        "the mantissa radix is not from 2 to 36": builder.radix(37).build_strict();
+        "the exponent radix is not from 2 to 36": builder.exponent_radix(1).build_strict();
+        "the group size is not from 1 to 64": builder.digit_grouping(0, b',').build_strict();
+        "the separator is a letter, a digit or a sign": builder.digit_grouping(3, b'0').build_strict();
+        "the radix is not from 2 to 36": 255u8.digit_count(u32::MAX), 255u8.slow_digit_count(1), u64::MAX.digit_count(0);
         "radix": 7u32.write_integer(0, buffer), 7u8.radix(1, buffer), 7u64.compact(37, buffer),
             7u16.write_integer(255, buffer), 7u64.radix(u32::MAX, buffer), Digits(1, 7u8).write_to(buffer);
         "20 decimals, but at most 19": Fixed(7i64, 20).to_text(buffer), Fixed(7u8, 20).room();
         "90 decimals, but at most 19": Fixed(7u8, 90).to_str(buffer), Fixed(7u8, 90).try_write_to(buffer);
-        "radix <= 36": table(37);
-        "radix >= 2": table(1);
-        "count <= usize::MAX - extra": write_with_length("ab", 10, 20, usize::MAX - 1, buffer);
+        "the radix is not from 2 to 36": table(37), table(1);
+        "the length and `extra` together are 2^64 or above": write_with_length("ab", 10, 20, usize::MAX - 1, buffer);
         "out of range": "ab".write_at(129, buffer), write_with_length("ab", 10, 129, 0, buffer);
-        "fits_decimal_width(": write_with_length("0123456789", 10, 1, 0, buffer),
+        "the number has more digits than the width": write_with_length("0123456789", 10, 1, 0, buffer),
             Padded(2026u16, 2).to_text(buffer), Padded(15u8, 1).try_to_str(buffer),
             Padded(1234567u32, 3).to_str(buffer), write_padded(10u8, 10, &mut buffer[..1]);
-        "count <= buffer.len()": PaddedDigits(16, 256u32, 2).to_text(buffer);
-        "number == 0": write_padded(1u8, 16, &mut []);
-        "begins_with_pairs(": algorithm(7u32, 16, &table(16)[..511], buffer), algorithm(7u32, 12, table(13), buffer),
+        "the number has more digits than the width": PaddedDigits(16, 256u32, 2).to_text(buffer);
+        "the number has more digits than the width": write_padded(1u8, 16, &mut []);
+        "the table does not begin with the digit pairs of the radix": algorithm(7u32, 16, &table(16)[..511], buffer), algorithm(7u32, 12, table(13), buffer),
             algorithm(7u32, 13, table(12), buffer), algorithm(7u32, 2, table(36), buffer);
-        "number < 10_000_000_000_000_000_000": u64::MAX.decimal_signed(buffer), usize::MAX.decimal_signed(buffer);
-        "radix != 10 || number": u64::MAX.write_integer_signed(10, buffer);
-        "n < 10_000_000_000_000_000_000": jeaiii::from_i64(u64::MAX, buffer);
+        "the number is 10^19 or above": u64::MAX.decimal_signed(buffer), usize::MAX.decimal_signed(buffer);
+        "the number is 10^19 or above": u64::MAX.write_integer_signed(10, buffer);
+        "the number is 10^19 or above": jeaiii::from_i64(u64::MAX, buffer);
         "n < 10_000": jeaiii::fixed_2(10_000);
         "n < 1_000_000": jeaiii::fixed_4(1_000_000);
         "n >= 1_000_000": jeaiii::fixed_6(999_999);
@@ -213,13 +212,13 @@ fn messages() {
         "n < 1_000_000_000": jeaiii::fixed_8_nine(1_000_000_000);
         "n >= 1_000_000_000": jeaiii::fixed_8_ten(999_999_999), jeaiii::fixed_8_wide(999_999_999);
         "n < 10_000_000_000": jeaiii::fixed_8_wide(10_000_000_000);
-        "value < 256": <u8 as UnsignedInteger>::from_u32(256);
-        "value < 65_536": <u16 as UnsignedInteger>::from_u32(65_536);
-        "count < 9_223_372_036_854_775_808": builder.digit_grouping(1, b',').build_strict().grouped_len(1 << 63);
-        "number < 4_294_967_296": 0x1_0000_0000u64.as_u32();
+        "the type does not have the number": <u8 as UnsignedInteger>::from_u32(256);
+        "the type does not have the number": <u16 as UnsignedInteger>::from_u32(65_536);
+        "the count is 2^63 or above": builder.digit_grouping(1, b',').build_strict().grouped_len(1 << 63);
+        "the number is 2^32 or above": 0x1_0000_0000u64.as_u32();
         "out of bounds": digit_to_char(36), digit_to_char(u32::MAX);
         "by zero": 7u8.div_rem(0), 7u64.div_rem(0);
-        "is_radix(radix": 7i8.magnitude_digits(1), 7u64.magnitude_digits(37);
-        "is_radix(u64::from(radix))": write_padded(0u8, 37, &mut []);
+        "the radix is not from 2 to 36": 7i8.magnitude_digits(1), 7u64.magnitude_digits(37);
+        "the radix is not from 2 to 36": write_padded(0u8, 37, &mut []);
     }
 }

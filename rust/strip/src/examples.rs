@@ -53,8 +53,11 @@ fn example(name: &str, comment: &str, module: &str) -> Result<Option<String>, St
     if code.contains("&format") {
         code.insert_str(0, FORMAT);
     }
-    let names: Vec<&str> = names.into_iter().collect();
-    Ok(Some(format!("use cojimuran::parts::{{{}}};\n{code}", names.join(", "))))
+    let names = match &*Vec::from_iter(names) {
+        [name] => (*name).to_owned(),
+        names => format!("{{{}}}", names.join(", ")),
+    };
+    Ok(Some(format!("use cojimuran::parts::{names};\n{code}")))
 }
 
 /// Returns the lines of an example in a comment.

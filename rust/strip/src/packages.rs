@@ -161,7 +161,6 @@ pub(crate) const SOURCES: &[Source] = &[
         // known.
         attributes: &[("#[inline(always)]", "tuples.rt joined.rt integers.rt number.rt text.rt")],
         left_out: "equal positions",
-        replaced: replaced::PARTS,
         ..LIBRARY
     },
     Source {

@@ -67,11 +67,6 @@ pub(crate) const WRITE_INTEGER: Replaced = &[
     ),
 ];
 
-pub(crate) const PARTS: Replaced = &[
-    // The name of a field says nothing in a message.
-    ("prove!(self.1 <= 19)", "assert!(self.1 <= 19, \"{} decimals, but at most 19 are possible\", self.1)"),
-];
-
 pub(crate) const LINES: Replaced = &[
     // What is recorded before it is returned.
     ("let Writing { writer, trace } = self;\n        drop(trace);\n        writer", "self.writer"),

@@ -78,7 +78,7 @@ pub fn slow_digit_count_counted<T: UnsignedInteger>(x: T, radix: u32, turns: &mu
     ensures notes { turns.new ≡ turns.old ++ slow_notes radix (T.magnitude x) }
     ensures turns { length turns.new ≡ length turns.old + slow_turns result }
 {
-    prove!(is_radix(radix as u64));
+    prove!(is_radix(radix as u64), "the radix is not from 2 to 36");
     x.fits_bits();
     let (left, by_four) = take_digits(x, radix, 4, turns);
     let (left, by_two) = take_digits(left, radix, 2, turns);
@@ -106,7 +106,7 @@ pub fn digit_count_counted<T: DecimalCount>(x: T, radix: u32, turns: &mut Turns)
     ensures notes { turns.new ≡ turns.old ++ count_notes radix (T.magnitude x) }
     ensures turns { length turns.new ≡ length turns.old + count_turns radix result }
 {
-    prove!(is_radix(radix as u64));
+    prove!(is_radix(radix as u64), "the radix is not from 2 to 36");
     x.fits_bits();
     match radix {
         2 => fast_log2(x) + 1,

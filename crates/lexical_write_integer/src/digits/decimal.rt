@@ -47,7 +47,10 @@ pub trait Decimal: DecimalCount {
         ensures short { result ≤ SIGNED_WIDTH }
     {
         let number = self.as_usize() as u64;
-        prove!(number < 10_000_000_000_000_000_000);
+        prove!(
+            number < 10_000_000_000_000_000_000,
+            "the number is 10^19 or above"
+        );
         write_decimal(self, Self::SIGNED_WIDTH, buffer, &mut Turns::new())
     }
 

@@ -37,17 +37,24 @@ pub fn write_padded<T: DigitCount + Radix>(value: T, radix: u32, buffer: &mut [u
     value.fits_bits();
     let number = value.as_usize() as u64;
     if radix == 10 {
-        prove!(fits_decimal_width(number, buffer.len()));
+        prove!(
+            fits_decimal_width(number, buffer.len()),
+            "the number has more digits than the width"
+        );
         write_decimal_block(number, buffer);
         return buffer.len();
     }
     if buffer.is_empty() {
         // The digit of 0 does not fit, and no other number is without digits.
-        prove!(number == 0 && is_radix(u64::from(radix)));
+        prove!(is_radix(u64::from(radix)), "the radix is not from 2 to 36");
+        prove!(number == 0, "the number has more digits than the width");
         return 0;
     }
     let count = value.digit_count(radix);
-    prove!(count <= buffer.len());
+    prove!(
+        count <= buffer.len(),
+        "the number has more digits than the width"
+    );
     let zeros = buffer.len() - count;
     write_zeros(&mut buffer[..zeros]);
     zeros + value.radix(radix, &mut buffer[zeros..])

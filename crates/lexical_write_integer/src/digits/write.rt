@@ -92,7 +92,10 @@ pub trait WriteInteger: Decimal + Radix {
         ensures short { result ≤ Self.BITS }
     {
         let number = self.as_usize() as u64;
-        prove!(radix != 10 || number < 10_000_000_000_000_000_000);
+        prove!(
+            radix != 10 || number < 10_000_000_000_000_000_000,
+            "the number is 10^19 or above"
+        );
         write_numeral(self, radix, Self::SIGNED_WIDTH, buffer, &mut Turns::new())
     }
 

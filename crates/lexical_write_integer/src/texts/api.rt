@@ -72,7 +72,7 @@ pub trait ToLexical: LexicalInteger + FormattedSize {
         let count = self.write_magnitude(format, digits);
         let total = group_digits(count, format, digits);
         // So rustc tests the end of a text with a sign once.
-        prove!(total <= digits.len());
+        prove!(total <= digits.len(), "the buffer is too short");
         sign + total
     }
 

@@ -105,7 +105,10 @@ impl NumberFormat {
         match self.digit_grouping() {
             Some((size, _)) => {
                 // In Rust nothing else refuses a sum that wraps.
-                assert!(count < 9_223_372_036_854_775_808);
+                assert!(
+                    count < 9_223_372_036_854_775_808,
+                    "the count is 2^63 or above"
+                );
                 count + count.saturating_sub(1) / size as usize
             }
             None => count,

@@ -48,7 +48,7 @@ impl NumberFormatBuilder {
     #[must_use]
     #[inline]
     pub const fn from_radix(radix: u8) -> NumberFormat {
-        assert!(is_radix(radix as u64));
+        assert!(is_radix(radix as u64), "the radix is not from 2 to 36");
         NumberFormat {
             parts: Parts {
                 mantissa_radix: radix,
@@ -135,11 +135,23 @@ impl NumberFormatBuilder {
     #[inline]
     pub const fn build_strict(&self) -> NumberFormat {
         // In Rust one of these says which part is invalid.
-        assert!(is_radix(self.parts.mantissa_radix as u64));
-        assert!(is_radix(self.parts.exponent_radix as u64));
+        assert!(
+            is_radix(self.parts.mantissa_radix as u64),
+            "the mantissa radix is not from 2 to 36"
+        );
+        assert!(
+            is_radix(self.parts.exponent_radix as u64),
+            "the exponent radix is not from 2 to 36"
+        );
         if let Some((size, mark)) = self.parts.digit_grouping {
-            assert!(is_group_size(size as u64));
-            assert!(is_mark(mark as u64));
+            assert!(
+                is_group_size(size as u64),
+                "the group size is not from 1 to 64"
+            );
+            assert!(
+                is_mark(mark as u64),
+                "the separator is a letter, a digit or a sign, or not printable ASCII"
+            );
         }
         NumberFormat { parts: self.parts }
     }

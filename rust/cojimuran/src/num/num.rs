@@ -187,7 +187,7 @@ pub trait UnsignedInteger: LexicalInteger {
     #[inline]
     fn as_u32(self) -> u32 {
         let number = self.as_usize();
-        assert!(number < 4_294_967_296);
+        assert!(number < 4_294_967_296, "the number is 2^32 or above");
         number as u32
     }
 
@@ -218,7 +218,7 @@ pub trait UnsignedInteger: LexicalInteger {
 impl UnsignedInteger for u8 {
     #[inline]
     fn from_u32(value: u32) -> u8 {
-        assert!(value < 256);
+        assert!(value < 256, "the type does not have the number");
         value as u8
     }
 
@@ -241,7 +241,7 @@ impl UnsignedInteger for u8 {
 impl UnsignedInteger for u16 {
     #[inline]
     fn from_u32(value: u32) -> u16 {
-        assert!(value < 65_536);
+        assert!(value < 65_536, "the type does not have the number");
         value as u16
     }
 

@@ -16,7 +16,7 @@ use core::str::from_utf8;
 /// always valid.
 ///
 /// ```
-/// use cojimuran::parts::{Part};
+/// use cojimuran::parts::Part;
 ///
 /// assert_eq!((250, " g").to_text(&mut [0; 64]), b"250 g");
 /// ```

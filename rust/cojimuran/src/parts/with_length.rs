@@ -33,7 +33,10 @@ pub fn write_with_length<P: Part>(
     buffer: &mut [u8],
 ) -> usize {
     let count = part.write_to(&mut buffer[width..]);
-    assert!(count <= usize::MAX - extra);
+    assert!(
+        count <= usize::MAX - extra,
+        "the length and `extra` together are 2^64 or above"
+    );
     write_padded(extra + count, radix, &mut buffer[..width]);
     count
 }

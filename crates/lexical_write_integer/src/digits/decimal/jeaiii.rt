@@ -219,6 +219,9 @@ pub fn from_i64_counted(n: u64, buffer: &mut [u8], turns: &mut Turns) -> usize
     ensures short { result ≤ 19 }
     ensures few_turns { length turns.new ≤ length turns.old + 9 }
 {
-    prove!(n < 10_000_000_000_000_000_000);
+    prove!(
+        n < 10_000_000_000_000_000_000,
+        "the number is 10^19 or above"
+    );
     write_64(n, buffer, turns)
 }

@@ -63,7 +63,10 @@ pub fn algorithm_counted<T: DigitCount>(
     ensures few_turns { length turns.new ≤ length turns.old + 21 }
     ensures short { result ≤ T.BITS }
 {
-    prove!(begins_with_pairs(radix, table));
+    prove!(
+        begins_with_pairs(radix, table),
+        "the table does not begin with the digit pairs of the radix"
+    );
     value.fits_bits();
     write_digits_in(value, radix, table, buffer, turns)
 }

@@ -186,7 +186,7 @@ pub(super) fn write_after_count<const R: u32>(
     }
     let count = count_some(value, R);
     // So rustc tests the end of the buffer once.
-    prove!(count <= buffer.len());
+    prove!(count <= buffer.len(), "the buffer is too short");
     let bits = fast_log2(R);
     let first = if R == 1 << bits {
         last_four::<R>(value >> (bits * (count - 4)))
@@ -252,7 +252,7 @@ fn write_one_or_two<const R: u32>(
     ensures { WritesDigits R number buffer.old buffer.new digits }
 {
     // So rustc tests the end of the buffer once.
-    prove!(digits <= buffer.len());
+    prove!(digits <= buffer.len(), "the buffer is too short");
     let pair = 2 * number as usize;
     buffer[0] = table.pairs[pair];
     buffer[digits - 1] = table.pairs[pair + 1];

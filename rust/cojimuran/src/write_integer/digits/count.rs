@@ -49,7 +49,7 @@ fn take_digits<T: UnsignedInteger>(value: T, radix: u32, step: u32) -> (T, usize
 /// than four are left, then two, and then one. The radix is from 2 to 36.
 #[inline]
 pub(crate) fn slow_digit_count<T: UnsignedInteger>(x: T, radix: u32) -> usize {
-    assert!(is_radix(radix as u64));
+    assert!(is_radix(radix as u64), "the radix is not from 2 to 36");
     let (left, by_four) = take_digits(x, radix, 4);
     let (left, by_two) = take_digits(left, radix, 2);
     let (_, by_one) = take_digits(left, radix, 1);
@@ -67,7 +67,7 @@ pub(crate) fn counts_at_once(radix: u32) -> bool {
 /// power of 2, by [`decimal_count`](crate::decimal::DecimalCount::decimal_count) in radix 10, and otherwise by division. The radix is from 2 to 36.
 #[inline(always)]
 pub(crate) fn digit_count<T: DecimalCount>(x: T, radix: u32) -> usize {
-    assert!(is_radix(radix as u64));
+    assert!(is_radix(radix as u64), "the radix is not from 2 to 36");
     match radix {
         2 => fast_log2(x) + 1,
         // By 2 and by 4, which are shifts, the sum first takes fewer instructions.

@@ -41,7 +41,10 @@ pub trait Decimal: DecimalCount {
     #[track_caller]
     fn decimal_signed(self, buffer: &mut [u8]) -> usize {
         let number = self.as_usize() as u64;
-        assert!(number < 10_000_000_000_000_000_000);
+        assert!(
+            number < 10_000_000_000_000_000_000,
+            "the number is 10^19 or above"
+        );
         write_decimal(self, Self::SIGNED_WIDTH, buffer)
     }
 }

@@ -31,17 +31,24 @@ fn fits_decimal_width(number: u64, width: usize) -> bool {
 pub fn write_padded<T: DigitCount + Radix>(value: T, radix: u32, buffer: &mut [u8]) -> usize {
     let number = value.as_usize() as u64;
     if radix == 10 {
-        assert!(fits_decimal_width(number, buffer.len()));
+        assert!(
+            fits_decimal_width(number, buffer.len()),
+            "the number has more digits than the width"
+        );
         write_decimal_block(number, buffer);
         return buffer.len();
     }
     if buffer.is_empty() {
         // The digit of 0 does not fit, and no other number is without digits.
-        assert!(number == 0 && is_radix(u64::from(radix)));
+        assert!(is_radix(u64::from(radix)), "the radix is not from 2 to 36");
+        assert!(number == 0, "the number has more digits than the width");
         return 0;
     }
     let count = value.digit_count(radix);
-    assert!(count <= buffer.len());
+    assert!(
+        count <= buffer.len(),
+        "the number has more digits than the width"
+    );
     let zeros = buffer.len() - count;
     write_zeros(&mut buffer[..zeros]);
     zeros + value.radix(radix, &mut buffer[zeros..])

@@ -140,6 +140,9 @@ pub fn from_u64(n: u64, buffer: &mut [u8]) -> usize {
 #[inline(always)]
 #[track_caller]
 pub fn from_i64(n: u64, buffer: &mut [u8]) -> usize {
-    assert!(n < 10_000_000_000_000_000_000);
+    assert!(
+        n < 10_000_000_000_000_000_000,
+        "the number is 10^19 or above"
+    );
     write_64(n, buffer)
 }

@@ -39,6 +39,9 @@ fn begins_with_pairs(radix: u32, table: &[u8]) -> bool {
 /// or if the buffer is [too short](crate#conditions).
 #[inline]
 pub fn algorithm<T: DigitCount>(value: T, radix: u32, table: &[u8], buffer: &mut [u8]) -> usize {
-    assert!(begins_with_pairs(radix, table));
+    assert!(
+        begins_with_pairs(radix, table),
+        "the table does not begin with the digit pairs of the radix"
+    );
     write_digits_in(value, radix, table, buffer)
 }

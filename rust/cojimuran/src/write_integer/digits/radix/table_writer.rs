@@ -114,7 +114,7 @@ pub(super) fn write_after_count<const R: u32>(
     }
     let count = count_some(value, R);
     // So rustc tests the end of the buffer once.
-    assert!(count <= buffer.len());
+    assert!(count <= buffer.len(), "the buffer is too short");
     let bits = fast_log2(R);
     let first = if R == 1 << bits {
         last_four::<R>(value >> (bits * (count - 4)))
@@ -164,7 +164,7 @@ fn write_one_or_two<const R: u32>(
     buffer: &mut [u8],
 ) {
     // So rustc tests the end of the buffer once.
-    assert!(digits <= buffer.len());
+    assert!(digits <= buffer.len(), "the buffer is too short");
     let pair = 2 * number as usize;
     buffer[0] = table.pairs[pair];
     buffer[digits - 1] = table.pairs[pair + 1];
