@@ -159,7 +159,10 @@ pub(crate) const SOURCES: &[Source] = &[
         module: "parts",
         // A tuple of parts and what it often contains. So the texts and the widths that are constant in a caller are
         // known.
-        attributes: &[("#[inline(always)]", "tuples.rt joined.rt integers.rt number.rt text.rt")],
+        attributes: &[(
+            "#[inline(always)]",
+            "tuples.rt joined.rt integers.rt number.rt text.rt powers_of_two.rt padded.rt",
+        )],
         left_out: "equal positions",
         ..LIBRARY
     },

@@ -15,8 +15,8 @@ mod table_writer;
 
 use crate::digits::count::counts_at_once;
 use crate::digits::pairs::RadixTable;
+use crate::laws::digit_count_within_bits;
 use crate::turns::Turns;
-use algorithm::algorithm;
 use binary_words::write_binary;
 use by_radix::by_radix;
 use lexical_num::num::UnsignedInteger;
@@ -166,7 +166,8 @@ pub trait Radix: UnsignedInteger {
         ensures digits { WritesDigits radix (Self.magnitude self) buffer.old buffer.new result }
         ensures short { result ≤ Self.BITS }
     {
-        algorithm(self, radix, get_table(radix), buffer)
+        digit_count_within_bits(radix, self);
+        radix_counted(self, radix, buffer, &mut Turns::new())
     }
 }
 

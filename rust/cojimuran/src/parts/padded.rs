@@ -19,12 +19,12 @@ use crate::write_integer::radix::Radix;
 pub struct PaddedDigits<T>(pub u32, pub T, pub usize);
 
 impl<T: DigitCount + Radix> Part for PaddedDigits<T> {
-    #[inline]
+    #[inline(always)]
     fn room(self) -> usize {
         self.2
     }
 
-    #[inline]
+    #[inline(always)]
     fn write_to(self, buffer: &mut [u8]) -> usize {
         write_padded(self.1, self.0, &mut buffer[..self.2]);
         // `write_padded` returns the same number, but a constant width is known without its result,
@@ -47,12 +47,12 @@ impl<T: DigitCount + Radix> Part for PaddedDigits<T> {
 pub struct Padded<T>(pub T, pub usize);
 
 impl<T: DigitCount + Radix> Part for Padded<T> {
-    #[inline]
+    #[inline(always)]
     fn room(self) -> usize {
         self.1
     }
 
-    #[inline]
+    #[inline(always)]
     fn write_to(self, buffer: &mut [u8]) -> usize {
         PaddedDigits(10, self.0, self.1).write_to(buffer)
     }

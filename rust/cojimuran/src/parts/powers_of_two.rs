@@ -19,12 +19,12 @@ use crate::write_integer::radix::Radix;
 pub struct Hex<T>(pub T);
 
 impl<T: Radix> Part for Hex<T> {
-    #[inline]
+    #[inline(always)]
     fn room(self) -> usize {
         T::BITS / 4
     }
 
-    #[inline]
+    #[inline(always)]
     fn write_to(self, buffer: &mut [u8]) -> usize {
         self.0.radix(16, buffer)
     }
@@ -42,12 +42,12 @@ impl<T: Radix> Part for Hex<T> {
 pub struct Binary<T>(pub T);
 
 impl<T: Radix> Part for Binary<T> {
-    #[inline]
+    #[inline(always)]
     fn room(self) -> usize {
         T::BITS
     }
 
-    #[inline]
+    #[inline(always)]
     fn write_to(self, buffer: &mut [u8]) -> usize {
         self.0.radix(2, buffer)
     }
@@ -58,12 +58,12 @@ impl<T: Radix> Part for Binary<T> {
 struct HexByte(u8);
 
 impl Part for HexByte {
-    #[inline]
+    #[inline(always)]
     fn room(self) -> usize {
         2
     }
 
-    #[inline]
+    #[inline(always)]
     fn write_to(self, buffer: &mut [u8]) -> usize {
         let table = get_table(16);
         let index = 2 * usize::from(self.0);
@@ -86,14 +86,14 @@ impl Part for HexByte {
 pub struct HexBytes<'a>(pub &'a [u8], pub &'a str);
 
 impl Part for HexBytes<'_> {
-    #[inline]
+    #[inline(always)]
     fn room(self) -> usize {
         let separators = self.0.len().saturating_sub(1);
         let digits = self.0.len().saturating_mul(2);
         digits.saturating_add(separators.saturating_mul(self.1.len()))
     }
 
-    #[inline]
+    #[inline(always)]
     fn write_to(self, buffer: &mut [u8]) -> usize {
         // The loop of `Joined`, whose slice contains the parts: here each byte becomes one.
         let mut count = 0;

@@ -12,7 +12,6 @@ use crate::num::num::UnsignedInteger;
 use crate::tables::get_table;
 use crate::write_integer::digits::count::counts_at_once;
 use crate::write_integer::digits::pairs::RadixTable;
-use algorithm::algorithm;
 use binary_words::write_binary;
 use by_radix::by_radix;
 use table_writer::{
@@ -105,7 +104,7 @@ pub trait Radix: UnsignedInteger {
     /// or if the buffer is [too short](crate#conditions).
     #[inline(always)]
     fn radix(self, radix: u32, buffer: &mut [u8]) -> usize {
-        algorithm(self, radix, get_table(radix), buffer)
+        radix_counted(self, radix, buffer)
     }
 }
 
