@@ -1,10 +1,10 @@
 -- Digits in radix 16 in lowercase, which are written from the last, and the sign before them.
-use Rattle.std.proofs.lemmas.Grind.{common_steps}
 use Rattle.std.proofs.Common.{◌≡◌, ℤ, unsigned_abs, false, ℕ, suc, ◌+◌, ◌-◌, ◌/◌, ◌%◌, ◌<◌, ◌≤◌, List, [], ◌∷◌, ◌++◌, length, take, drop, set, map}
-use Rattle.std.proofs.Common.{append_assoc, refl, sym, ap, ◌∙◌, drop-cons, arith}
+use Rattle.std.proofs.Common.{append_assoc, refl, sym, ap, ◌∙◌, arith}
 use Rattle.std.specs.Char.{to_ascii_lowercase}
-use Rattle.std.proofs.lemmas.List.{append-nil, drop_all, drop-set, drop-set-add, drop-set-lt, length-drop, length-set}
+use Rattle.std.proofs.lemmas.List.{append-nil, drop_all, drop_at, drop-set-lt, length-drop, length-set}
 use Rattle.std.proofs.lemmas.List.{length-take-le, map-append, take-append-drop}
+use Rattle.std.proofs.lemmas.Slice.{take-put_mid_below}
 use Rattle.lexical_num.specs.Digit.{digit_char}
 use Rattle.lexical_num.specs.Format.{Format, IsValid, standard}
 use Rattle.lexical_num.specs.Sign.{sign_of}
@@ -18,8 +18,8 @@ use Rattle.lexical_write_integer.proofs.OfDigits.Count.DigitCounts.{digit_count-
 use Rattle.lexical_write_integer.proofs.OfDigits.Numerals.{IsNumeralOf-block}
 use Rattle.lexical_write_integer.proofs.OfDigits.PaddedDigits.{padded_computed}
 use Rattle.lexical_c.proofs.Letters.{Unlettered-sign, lowercase-unlettered}
-use Rattle.lexical_c.proofs.PlainTexts.{plain_valid}
-use borrow.Rule.Slice.PartMut.{put_mid}
+use Rattle.lexical_c.proofs.PlainTexts.{plain_valid, take-sign}
+use borrow.Rule.Slice.PartMut.{mid_of, put_mid}
 
 -- the character of the last digit of a number
 abbrev pub last_of : ℕ → ℕ
@@ -29,29 +29,55 @@ last_of n = to_ascii_lowercase (digit_char (n % 16))
 abbrev pub last_digits : ℕ → ℕ → List ℕ
 last_digits count n = map to_ascii_lowercase (padded_text 16 count n)
 
-without_two : (k n : ℕ) (rest : List ℕ) → last_digits (suc (suc k)) n ++ rest ≡ last_digits k (n / 16 / 16) ++ last_of (n / 16) ∷ last_of n ∷ rest
-without_two k n rest = rw (map-append, map-append, append_assoc, append_assoc) refl
+without_two : (k n : ℕ) → last_digits (suc (suc k)) n ≡ last_digits k (n / 16 / 16) ++ last_of (n / 16) ∷ last_of n ∷ []
+without_two k n = rw (map-append, map-append, append_assoc) refl
 
--- two digits that are written one after the other
-written_two : (xs : List ℕ) (at x y : ℕ) → 1 < at → at ≤ length xs → drop (at - 2) (set (set xs (at - 2) y) (at - 1) x) ≡ y ∷ x ∷ drop at xs
-written_two xs at x y two within =
-    let next : at - 1 ≡ at - 2 + 1 = omega arith in
-    let end : suc (at - 2 + 1) ≡ at = omega arith in
-    ap (λ k. drop (at - 2) (set (set xs (at - 2) y) k x)) next
-    ∙ drop-set-add (at - 2) (set xs (at - 2) y) 1 x
-    ∙ ap (λ ys. set ys 1 x) (drop-set xs (at - 2) y (omega arith) ∙ ap (λ ys. y ∷ ys) (drop-cons xs (at - 2 + 1) 0 (omega arith)))
-    ∙ ap (λ k. y ∷ x ∷ drop k xs) end
+-- two bytes that are written one after the other
+pair_of : (x y : ℕ) (pair : List ℕ) → length pair ≡ 2 → set (set pair 0 y) 1 x ≡ y ∷ x ∷ []
+pair_of x y [] two = absurd (omega (arith, two))
+pair_of x y (a ∷ []) two = absurd (omega (arith, two))
+pair_of x y (a ∷ b ∷ []) two = refl
+pair_of x y (a ∷ b ∷ c ∷ rest) two = absurd (omega (arith, two))
 
-pub two_digits : {x y : ℕ} (left at : ℕ) (text : List ℕ) → 1 < at → at ≤ length text → y ≡ last_of (left / 16) → x ≡ last_of left →
-    last_digits (at - 2) (left / 256) ++ drop (at - 2) (set (set text (at - 2) y) (at - 1) x) ≡ last_digits at left ++ drop at text
-two_digits {x} {y} left at text two within is_y is_x =
-    let place : at ≡ suc (suc (at - 2)) = omega arith in
-    grind (arith, written_two, without_two)
+-- the text after two bytes are written to its end
+abbrev ending_in : ℕ → ℕ → List ℕ → List ℕ
+ending_in y x text =
+    let start = length text - 2 in
+    put_mid start (length text - start) text (set (set (mid_of start (length text - start) text) 0 y) 1 x)
+
+pub length-before_two : (text : List ℕ) (y x : ℕ) → 2 < length text → length (take (length text - 2) (ending_in y x text)) ≡ length text - 2
+length-before_two text y x more =
+    let start = length text - 2 in
+    ap length (take-put_mid_below start (length text - start) text _ start (omega arith) (omega arith)) ∙ length-take-le start text (omega arith)
+
+written_two : (text : List ℕ) (y x : ℕ) → 2 < length text → drop (length text - 2) (ending_in y x text) ≡ y ∷ x ∷ []
+written_two text y x more =
+    let start = length text - 2 in
+    let count : length text - start ≡ 2 = omega arith in
+    let part = mid_of start (length text - start) text in
+    let long : length part ≡ 2 = length-take-le (length text - start) (drop start text) (omega (arith, length-drop start text)) ∙ count in
+    let none : drop (length text - start) (drop start text) ≡ [] = drop_all (length text - start) (drop start text) (omega (arith, length-drop start text)) in
+    drop_at (take start text) _ start (length-take-le start text (omega arith)) ∙ rw (pair_of x y part long, none) refl
+
+-- the last two digits after the others
+pub last_two_digits : {x y : ℕ} {before : List ℕ} (number : ℕ) (text : List ℕ) → 2 < length text → y ≡ last_of (number / 16) → x ≡ last_of number →
+    before ≡ last_digits (length (take (length text - 2) (ending_in y x text))) (number / 256) →
+    before ++ drop (length text - 2) (ending_in y x text) ≡ last_digits (length text) number
+last_two_digits {x} {y} {before} number text more is_y is_x is =
+    let place : length text ≡ suc (suc (length text - 2)) = omega arith in
+    let hundreds : number / 256 ≡ number / 16 / 16 = omega arith in
+    let split : last_digits (length text) number ≡ last_digits (length text - 2) (number / 256) ++ y ∷ x ∷ [] =
+    ap (λ count. last_digits count number) place ∙ without_two (length text - 2) number ∙ rw (hundreds, is_y, is_x) refl in
+    ap (λ bytes. before ++ bytes) (written_two text y x more)
+    ∙ ap (λ bytes. bytes ++ y ∷ x ∷ []) (is ∙ ap (λ count. last_digits count (number / 256)) (length-before_two text y x more)) ∙ sym split
 
 -- the first two digits; if there is only one, it is written over a byte of the same index
-pub first_digits : {x y : ℕ} (left at : ℕ) (text : List ℕ) → 1 ≤ at → at ≤ 2 → at ≤ length text → y ≡ last_of (left / 16) → x ≡ last_of left →
-    set (set text 0 y) (at - 1) x ≡ last_digits at left ++ drop at text
-first_digits left at text some few within is_y is_x = grind arith
+pub first_digits : {x y : ℕ} (number : ℕ) (text : List ℕ) → 1 ≤ length text → length text ≤ 2 → y ≡ last_of (number / 16) → x ≡ last_of number →
+    set (set text 0 y) (length (set text 0 y) - 1) x ≡ last_digits (length text) number
+first_digits number [] some few is_y is_x = absurd (omega (arith, some))
+first_digits number (a ∷ []) some few is_y is_x = rw is_x refl
+first_digits number (a ∷ b ∷ []) some few is_y is_x = rw (is_y, is_x) refl
+first_digits number (a ∷ b ∷ c ∷ rest) some few is_y is_x = absurd (omega (arith, few))
 
 -- as many digits as the number has are its digits
 all_digits : (n count : ℕ) → count ≡ digit_count 16 n → IsLowercase (IsDigits 16 n) (last_digits count n)
@@ -64,9 +90,6 @@ hexadecimal = record standard { mantissa_radix = 16 }
 
 pub hexadecimal_valid : IsValid hexadecimal
 hexadecimal_valid = plain_valid 16 record { at_least_two = omega arith; at_most_36 = omega arith }
-
-take-sign : {sign : ℕ} (x : ℤ) (bytes : List ℕ) → sign ≡ length (sign_of x false) → 1 ≤ length bytes → take sign (set bytes 0 45) ≡ sign_of x false
-take-sign x bytes is some = grind (arith, common_steps)
 
 -- the digits after the sign are the text in lowercase; without a sign they are written over the byte for it
 pub with_sign : {sign end : ℕ} (x : ℤ) (before part : List ℕ) → sign ≡ length (sign_of x false) → end ≡ sign + digit_count 16 (unsigned_abs x)

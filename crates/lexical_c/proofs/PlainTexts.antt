@@ -1,6 +1,6 @@
 -- Texts in formats without groups and required signs.
 use Rattle.std.proofs.lemmas.Grind.{common_steps}
-use Rattle.std.proofs.Common.{◌≡◌, None, ℕ, ◌-◌, ◌+◌, ◌≤◌, ℤ, unsigned_abs, List, length, take, drop, refl, sym, ap, ◌∙◌, arith}
+use Rattle.std.proofs.Common.{◌≡◌, None, ℕ, ◌-◌, ◌+◌, ◌≤◌, ℤ, unsigned_abs, List, length, take, drop, false, set, refl, sym, ap, ◌∙◌, arith}
 use Rattle.lexical_num.specs.Format.{Format, IsRadix, IsValid, standard}
 use Rattle.lexical_num.specs.Sign.{sign_of}
 use Rattle.lexical_write_integer.specs.Buffer.{Front, Writes, WritesDigits, WritesText}
@@ -24,6 +24,10 @@ accepted format only radix = record { valid = rw (only_radix format only) (plain
 own_front : {Is : List ℕ → Type 0} (before written : List ℕ) (count : ℕ) →
     Writes Is before written count → Front written written (take count written)
 own_front before written count w = grind (arith, common_steps)
+
+-- the character of a sign is the sign of a number that has one
+pub take-sign : {sign : ℕ} (x : ℤ) (bytes : List ℕ) → sign ≡ length (sign_of x false) → 1 ≤ length bytes → take sign (set bytes 0 45) ≡ sign_of x false
+take-sign x bytes is some = grind (arith, common_steps)
 
 -- the digits of the magnitude after the sign are the text
 pub after_sign : (x : ℤ) (format : Format) (before between written : List ℕ) (count digits : ℕ) → format.digit_grouping ≡ None →

@@ -55,12 +55,12 @@ fn is_unreserved(format: &CFormat) -> bool
 #[unsafe(no_mangle)]
 pub extern "C" fn lexical_check_format(format: &CFormat) -> u32
     ensures valid { result ≡ 0 ↔ IsAccepted format.now }
-    ensures radix { result ≡ INVALID_RADIX ↔ ¬ IsRadix format.now.radix }
-    ensures group_size { result ≡ INVALID_GROUP_SIZE
+    ensures radix { result ≡ 1 ↔ ¬ IsRadix format.now.radix }
+    ensures group_size { result ≡ 2
         ↔ (IsRadix format.now.radix × (format.now.group_size ≢ 0) × ¬ IsGroupSize format.now.group_size) }
-    ensures group_mark { result ≡ INVALID_GROUP_MARK
+    ensures group_mark { result ≡ 3
         ↔ (IsRadix format.now.radix × IsGroupSize format.now.group_size × ¬ IsMark format.now.mark) }
-    ensures reserved { result ≡ INVALID_RESERVED
+    ensures reserved { result ≡ 4
         ↔ (IsValid (format_of format.now) × ¬ IsUnreserved format.now) }
 {
     if !is_radix(u64::from(format.radix)) {

@@ -12,7 +12,7 @@ ghost use Rattle.lexical_c.specs.Format.{HasOnlyRadix, HasOnlyRadixAndCase};
 use crate::format::CFormat;
 use lexical_num::limits::is_radix;
 use lexical_write_integer::{
-    FormattedSize, NumberFormat, NumberFormatBuilder, ToLexical, write_sign,
+    FormattedSize, NumberFormat, NumberFormatBuilder, ToLexical, sign_len,
 };
 
 /// Returns whether every field but the radix, the mark and lowercase is 0. No field is tested by itself, so
@@ -104,6 +104,8 @@ pub fn write_plain<T: ToLexical>(value: T, format: &NumberFormat, buffer: &mut [
     if !T::IS_SIGNED {
         return value.write_magnitude(format, buffer);
     }
-    let sign = write_sign(value, buffer, format);
+    // Without a sign the first digit is written over it.
+    buffer[0] = b'-';
+    let sign = sign_len(value, format);
     sign + value.write_magnitude(format, &mut buffer[sign..])
 }

@@ -9,7 +9,7 @@ pub const VERSION: u32 = 3001000;
 /// Returns the version of the library, which a C caller can compare with that of its header.
 #[unsafe(no_mangle)]
 pub extern "C" fn lexical_version() -> u32
-    ensures { result ≡ VERSION }
+    ensures { result ≡ 3001000 }
 {
     VERSION
 }

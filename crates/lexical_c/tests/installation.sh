@@ -40,6 +40,11 @@ man_finds() {
 shows_all() {
   LC_ALL=C MANWIDTH=9999 man -M "$1/share/man" --warnings 3 lexical_write > "$work/page" 2> "$work/said" || return 1
   [ ! -s "$work/said" ] || { cat "$work/said"; return 1; }
+  # A line of an example is a line of the page, and whatis finds each name.
+  grep -qx ' *size_t count = lexical_decimal_u32(48879, buffer, sizeof buffer);' "$work/page" || { echo 'no lines of code'; return 1; }
+  for name in decimal write length buffer_size check_format version; do
+    lexgrog "$1/share/man/man3/lexical_write.3" | grep -q "\"lexical_$name - " || { echo "no name: $name"; return 1; }
+  done
   tr -s ' \n' '  ' < "$work/page" > "$work/words"
   {
     printf '%s\n' "lexical_c $version" LIBRARY 'RETURN VALUE lexical' 'ERRORS If' 'EXAMPLES This' 'DESCRIPTION lexical.h'
@@ -195,14 +200,18 @@ check_installed() {
   expect 'installing it again' "$crate/install" --from "$library" "$prefix"
   expect 'uninstalling' "$crate/uninstall" "$prefix"
   expect 'nothing is left' fails [ -e "$prefix" ]
-  expect 'a prefix with a space and quotes, another folder and umask 077' installs_for_all "$work/a <user's> prefix" lib/x86_64-linux-gnu
+  expect 'a prefix with a space and quotes, another folder and umask 077' installs_for_all "$work/a <user's> & prefix" lib/x86_64-linux-gnu
 }
+
+# has_flags LIBRARY: whether a shared library was made with -g of CFLAGS and nodelete of LDFLAGS.
+has_flags() { readelf -SdW "$1" > "$work/sections" && grep -q '[.]debug_info' "$work/sections" && grep -q NODELETE "$work/sections"; }
 
 # installs_for_all PREFIX FOLDER: whether everyone may read what is installed, pkg-config and CMake find it, and nothing
 # is left when it is removed.
 installs_for_all() {
-  (umask 077 && "$crate/install" --from="$library" --prefix="$1" --libdir="$1/$2" 2> "$work/said") || return 1
+  (umask 077 && CFLAGS=-g LDFLAGS=-Wl,-z,nodelete "$crate/install" --from="$library" --prefix="$1" --libdir="$1/$2" 2> "$work/said") || return 1
   grep -q -F "LD_LIBRARY_PATH=$1/$2" "$work/said" || return 1
+  ! has readelf || has_flags "$1/$2/liblexical_c.so" || return 1
   [ -z "$(find "$1" ! -type l ! -perm -444)" ] && [ -z "$(find "$1" -type d ! -perm -555)" ] || return 1
   ! has pkg-config || links_with_pkg_config "$1" "$2" || return 1
   ! has cmake || finds_version "$1" 3.0 -Dlexical_c_DIR="$1/$2/cmake/lexical_c" || return 1
@@ -304,11 +313,11 @@ removes_an_early_version() {
   "$crate/uninstall" "$work/early" && [ ! -e "$work/early" ] && [ -e "$work/other" ]
 }
 
-# leaves_others: whether install and uninstall leave what was there.
+# leaves_others: whether install and uninstall leave what was there, and what was put later into a folder that they made.
 leaves_others() {
   contents "$work/here" > "$work/before"
-  "$crate/install" --from "$library" "$work/here" && "$crate/uninstall" "$work/here" &&
-    contents "$work/here" | diff "$work/before" -
+  "$crate/install" --from "$library" "$work/here" && touch "$work/here/share/later" && "$crate/uninstall" "$work/here" &&
+    rm "$work/here/share/later" && rmdir "$work/here/share" && contents "$work/here" | diff "$work/before" -
 }
 
 check_refusals() {

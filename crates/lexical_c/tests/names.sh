@@ -42,10 +42,10 @@ starts() {
 # has_nodes FOLDER: whether a program that needs what 3.1 has added does not start with a library of 3.0, but one that
 # does not need it does, and one that was linked to a library with one node starts with that of the folder.
 has_nodes() {
-  decimal='lexical_decimal_u8(1, buffer, 3)' write='lexical_write_u8(1, &lexical_standard_format, buffer, 3)'
+  decimal='lexical_decimal_u64(UINT64_MAX, buffer, 20) / 20' write='lexical_write_u8(1, &lexical_standard_format, buffer, 3)'
   echo '#include <lexical.h>
 #include <stdio.h>
-int main(void) { char buffer[3]; puts("started"); fflush(stdout); return CALL == 0; }' > "$work/starts.c"
+int main(void) { char buffer[20]; puts("started"); fflush(stdout); return CALL == 0; }' > "$work/starts.c"
   link_older 'lexical_[!d]*' && fails starts "$decimal" "$1" "$work/older" 2> "$work/said" &&
     grep "LEXICAL_C_$major.1' not found" "$work/said" && [ ! -s "$work/printed" ] && starts "$write" "$1" "$work/older" &&
     link_older 'lexical_*' && starts "$decimal" "$work/older" "$1"
