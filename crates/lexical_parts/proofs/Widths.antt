@@ -1,8 +1,14 @@
 -- How many digits a number of a type has.
-use Rattle.std.proofs.Common.{ℕ, ◌/◌, ◌^◌, ◌<◌, ◌≤◌, arith, ℤ, ◌≤ℤ◌, unsigned_abs}
+use Rattle.std.proofs.Common.{◌≡◌, ℕ, ◌-◌, ◌/◌, ◌^◌, ◌<◌, ◌≤◌, arith, inl, inr, ℤ, ◌≤ℤ◌, unsigned_abs, Bool, true, false}
+use Rattle.std.proofs.Math.Nat.{pow-le-pow_right}
+use Rattle.std.proofs.lemmas.Bool.{cases_lt}
+use Rattle.lexical_num.proofs.Magnitudes.{decimal_width-le_20}
 use Rattle.lexical_num.specs.BitWidth.{IsBitWidth, is_8, is_16, is_32, is_64}
 use Rattle.lexical_num.specs.DecimalWidth.{IsDecimalWidth}
+use Rattle.lexical_num.specs.Range.{greatest_of, least_of}
+use Rattle.lexical_num.specs.Size.{AreSizes}
 use Rattle.lexical_write_integer.specs.DigitCount.{digit_count, digit_count-le}
+use Rattle.lexical_write_integer.proofs.OfDigits.Count.DigitCounts.{digit_count-fits}
 
 pub few_digits : {width : ℕ} {least greatest x : ℤ} → IsDecimalWidth least greatest width → least ≤ℤ x → x ≤ℤ greatest
     → digit_count 10 (unsigned_abs x) ≤ width
@@ -13,3 +19,28 @@ hex_digits _ n is_8 fits = digit_count-le 16 n 2 (omega arith) fits
 hex_digits _ n is_16 fits = digit_count-le 16 n 4 (omega arith) fits
 hex_digits _ n is_32 fits = digit_count-le 16 n 8 (omega arith) fits
 hex_digits _ n is_64 fits = digit_count-le 16 n 16 (omega arith) fits
+
+-- a number of at most this many digits is below that power of the radix
+pub fits_width : (r n width count : ℕ) → 2 ≤ r → count ≡ digit_count r n → count ≤ width → n < r ^ width
+fits_width r n width count two is few =
+    let power = pow-le-pow_right {n = r} (omega (arith, two)) {i = digit_count r n} {j = width} (omega (arith, is, few)) in
+    omega (arith, digit_count-fits r n two, power)
+
+-- the decimal size of a type, with the `-` of a signed one, is at most 20
+pub decimal_size-le_20 : {room bits width size size_decimal : ℕ} (is_signed : Bool) → IsBitWidth bits
+    → IsDecimalWidth (least_of bits is_signed) (greatest_of bits is_signed) width
+    → AreSizes room bits is_signed width size size_decimal → size_decimal ≤ 20
+decimal_size-le_20 false of_type is sizes = omega (arith, sizes.of_width, decimal_width-le_20 false of_type is)
+decimal_size-le_20 {width = width} true of_type is sizes =
+    elim (cases_lt 19 width) [
+      | inr few ↦ omega (arith, sizes.of_width, few)
+      | inl more ↦
+          let power = pow-le-pow_right {n = 10} (omega arith) {i = 19} {j = width - 1} (omega arith) in
+          absurd (omega (arith, power, is.needed, greatest-below of_type))
+    ]
+  where
+    greatest-below : {bits : ℕ} → IsBitWidth bits → unsigned_abs (greatest_of bits true) < 10 ^ 19
+    greatest-below is_8 = omega arith
+    greatest-below is_16 = omega arith
+    greatest-below is_32 = omega arith
+    greatest-below is_64 = omega arith

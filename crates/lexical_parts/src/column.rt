@@ -5,6 +5,7 @@ ghost use Rattle.std.specs.Prelude.{max, ◌<◌};
 ghost use Rattle.lexical_parts.specs.Column.{IsAtLeft, IsAtRight, IsCentered};
 
 use crate::fill::{insert_fill, write_fill};
+use crate::own::Own;
 use crate::part::Part;
 
 /// A part that is aligned to the left of a column: a byte, often a space, is added after its text, up to
@@ -30,6 +31,10 @@ impl<P: Part> Part for Left<P> {
     fn write_to(self, buffer: &mut [u8]) -> usize {
         let count = self.0.write_to(buffer);
         count + write_fill(self.2, self.1.saturating_sub(count), &mut buffer[count..])
+    }
+
+    fn is_known_utf8(self, own: Own) -> bool {
+        self.2 < 128 && self.0.is_known_utf8(own)
     }
 }
 
@@ -57,6 +62,10 @@ impl<P: Part> Part for Right<P> {
         let added = self.1.saturating_sub(count);
         insert_fill(self.2, added, count, buffer);
         added + count
+    }
+
+    fn is_known_utf8(self, own: Own) -> bool {
+        self.2 < 128 && self.0.is_known_utf8(own)
     }
 }
 
@@ -86,5 +95,9 @@ impl<P: Part> Part for Center<P> {
         insert_fill(self.2, before, count, buffer);
         let end = before + count;
         end + write_fill(self.2, added - before, &mut buffer[end..])
+    }
+
+    fn is_known_utf8(self, own: Own) -> bool {
+        self.2 < 128 && self.0.is_known_utf8(own)
     }
 }

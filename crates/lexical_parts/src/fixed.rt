@@ -6,6 +6,7 @@ ghost use Rattle.lexical_write_integer.specs.Buffer.{Writes};
 ghost use Rattle.lexical_parts.specs.Fixed.{AreUnits, IsFixed, IsGroupedFixed, IsGroupedUnits};
 ghost use Rattle.lexical_parts.specs.Fixed.{fixed_room, grouped_units_room};
 
+use crate::own::Own;
 use crate::part::Part;
 use crate::sign::Sign;
 use crate::text::Bytes;
@@ -82,6 +83,10 @@ impl<T: ToLexicalWithOptions> Part for Fixed<T> {
     fn write_to(self, buffer: &mut [u8]) -> usize {
         GroupedFixed(self.0, self.1, &STANDARD).write_to(buffer)
     }
+
+    fn is_known_utf8(self, _own: Own) -> bool {
+        true
+    }
 }
 
 /// A number as `Fixed` writes it, with its whole part in the groups of the format, and nothing else of it:
@@ -118,5 +123,9 @@ impl<T: ToLexicalWithOptions> Part for GroupedFixed<'_, T> {
         size_suffices(self.0, &STANDARD);
         let start = Sign(self.0, false).write_to(buffer);
         start + write_grouped_units(self.0, self.1, self.2, &mut buffer[start..])
+    }
+
+    fn is_known_utf8(self, _own: Own) -> bool {
+        true
     }
 }

@@ -4,6 +4,7 @@ ghost use Rattle.std.specs.Prelude.{pos};
 ghost use Rattle.lexical_parts.specs.Sequence.{IsDecimal};
 
 use crate::number::Decimal;
+use crate::own::Own;
 use crate::part::Part;
 
 impl Part for u8 {
@@ -17,6 +18,10 @@ impl Part for u8 {
 
     fn write_to(self, buffer: &mut [u8]) -> usize {
         Decimal(self).write_to(buffer)
+    }
+
+    fn is_known_utf8(self, _own: Own) -> bool {
+        true
     }
 }
 
@@ -32,6 +37,10 @@ impl Part for u16 {
     fn write_to(self, buffer: &mut [u8]) -> usize {
         Decimal(self).write_to(buffer)
     }
+
+    fn is_known_utf8(self, _own: Own) -> bool {
+        true
+    }
 }
 
 impl Part for u32 {
@@ -45,6 +54,10 @@ impl Part for u32 {
 
     fn write_to(self, buffer: &mut [u8]) -> usize {
         Decimal(self).write_to(buffer)
+    }
+
+    fn is_known_utf8(self, _own: Own) -> bool {
+        true
     }
 }
 
@@ -60,6 +73,10 @@ impl Part for u64 {
     fn write_to(self, buffer: &mut [u8]) -> usize {
         Decimal(self).write_to(buffer)
     }
+
+    fn is_known_utf8(self, _own: Own) -> bool {
+        true
+    }
 }
 
 impl Part for usize {
@@ -73,6 +90,10 @@ impl Part for usize {
 
     fn write_to(self, buffer: &mut [u8]) -> usize {
         Decimal(self).write_to(buffer)
+    }
+
+    fn is_known_utf8(self, _own: Own) -> bool {
+        true
     }
 }
 
@@ -88,6 +109,10 @@ impl Part for i8 {
     fn write_to(self, buffer: &mut [u8]) -> usize {
         Decimal(self).write_to(buffer)
     }
+
+    fn is_known_utf8(self, _own: Own) -> bool {
+        true
+    }
 }
 
 impl Part for i16 {
@@ -101,6 +126,10 @@ impl Part for i16 {
 
     fn write_to(self, buffer: &mut [u8]) -> usize {
         Decimal(self).write_to(buffer)
+    }
+
+    fn is_known_utf8(self, _own: Own) -> bool {
+        true
     }
 }
 
@@ -116,6 +145,10 @@ impl Part for i32 {
     fn write_to(self, buffer: &mut [u8]) -> usize {
         Decimal(self).write_to(buffer)
     }
+
+    fn is_known_utf8(self, _own: Own) -> bool {
+        true
+    }
 }
 
 impl Part for i64 {
@@ -130,6 +163,10 @@ impl Part for i64 {
     fn write_to(self, buffer: &mut [u8]) -> usize {
         Decimal(self).write_to(buffer)
     }
+
+    fn is_known_utf8(self, _own: Own) -> bool {
+        true
+    }
 }
 
 impl Part for isize {
@@ -143,5 +180,9 @@ impl Part for isize {
 
     fn write_to(self, buffer: &mut [u8]) -> usize {
         Decimal(self).write_to(buffer)
+    }
+
+    fn is_known_utf8(self, _own: Own) -> bool {
+        true
     }
 }

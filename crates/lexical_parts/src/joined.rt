@@ -7,6 +7,7 @@ ghost use Rattle.lexical_parts.specs.Joined.{joined_room, lead};
 ghost use Rattle.lexical_parts.specs.Sequence.{◌then◌};
 ghost use Rattle.lexical_parts.specs.Utf8.{AreUtf8};
 
+use crate::own::Own;
 use crate::part::Part;
 use crate::text::str_is_utf8;
 
@@ -66,6 +67,15 @@ impl<P: Part> Part for Joined<'_, P> {
             count += write_next(index, self.1, *part, &mut buffer[count..]);
         }
         count
+    }
+
+    fn is_known_utf8(self, own: Own) -> bool {
+        for part in self.0 {
+            if !part.is_known_utf8(own) {
+                return false;
+            }
+        }
+        true
     }
 }
 

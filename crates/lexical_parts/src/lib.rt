@@ -27,6 +27,7 @@
 // The example is from the test `texts_for_writing` in `crates/uses_tests/src/tests/lines.rt`.
 #![tactic(auto)]
 
+mod buffer;
 mod column;
 mod display;
 mod equal;
@@ -37,6 +38,7 @@ mod joined;
 mod lower;
 mod number;
 mod option;
+mod own;
 mod padded;
 mod part;
 mod plus;
@@ -50,6 +52,7 @@ mod tuples;
 mod with_length;
 mod zero_padded;
 
+pub use buffer::Buffer;
 pub use column::{Center, Left, Right};
 pub use equal::{padded_decides, same_parts, same_split};
 pub use fixed::{Fixed, GroupedFixed};

@@ -3,6 +3,7 @@
 
 ghost use Rattle.lexical_write_integer.specs.Lowercase.{IsLowercase};
 
+use crate::own::Own;
 use crate::part::Part;
 
 /// A part in lowercase: its text with `A` to `Z` as `a` to `z`, and every other byte unchanged.
@@ -27,5 +28,9 @@ impl<P: Part> Part for Lower<P> {
         let count = self.0.write_to(buffer);
         buffer[..count].make_ascii_lowercase();
         count
+    }
+
+    fn is_known_utf8(self, own: Own) -> bool {
+        self.0.is_known_utf8(own)
     }
 }

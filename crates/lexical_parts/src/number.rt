@@ -8,6 +8,7 @@ ghost use Rattle.lexical_write_integer.specs.DigitCount.{digit_count};
 ghost use Rattle.lexical_write_integer.specs.Text.{IsDigits, IsText, need};
 ghost use Rattle.lexical_parts.specs.Formatted.{formatted_room, largest_magnitude};
 
+use crate::own::Own;
 use crate::part::Part;
 use lexical_write_integer::digit_count::DigitCount;
 use lexical_write_integer::format::STANDARD;
@@ -33,6 +34,10 @@ impl<T: ToLexicalWithOptions> Part for Decimal<T> {
         size_suffices(self.0, &STANDARD);
         self.0.write_lexical(buffer)
     }
+
+    fn is_known_utf8(self, _own: Own) -> bool {
+        true
+    }
 }
 
 /// The digits of an unsigned number in a radix from 2 to 36: `Digits(16, 255u32)` writes `FF`.
@@ -52,6 +57,10 @@ impl<T: Radix + DigitCount> Part for Digits<T> {
 
     fn write_to(self, buffer: &mut [u8]) -> usize {
         self.1.radix(self.0, buffer)
+    }
+
+    fn is_known_utf8(self, _own: Own) -> bool {
+        true
     }
 }
 
@@ -98,5 +107,9 @@ impl<T: ToLexicalWithOptions> Part for Formatted<'_, T> {
         formatted_room_suffices(self.0, self.1);
         self.1.in_range();
         self.0.write_text(buffer, self.1)
+    }
+
+    fn is_known_utf8(self, _own: Own) -> bool {
+        true
     }
 }

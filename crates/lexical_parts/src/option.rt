@@ -3,6 +3,7 @@
 ghost use Rattle.std.specs.Prelude.{max};
 ghost use Rattle.lexical_parts.specs.Optional.{IsOptional, IsOrElse, IsValidOptional, optional_room};
 
+use crate::own::Own;
 use crate::part::Part;
 use lexical_write_integer::buffer::copy_to_front;
 
@@ -26,6 +27,13 @@ impl<P: Part> Part for Option<P> {
         match self {
             Some(part) => part.write_to(buffer),
             None => copy_to_front(b"", buffer),
+        }
+    }
+
+    fn is_known_utf8(self, own: Own) -> bool {
+        match self {
+            Some(part) => part.is_known_utf8(own),
+            None => true,
         }
     }
 }
@@ -53,5 +61,9 @@ impl<P: Part, Q: Part> Part for OrElse<P, Q> {
             Some(present) => present.write_to(buffer),
             None => self.1.write_to(buffer),
         }
+    }
+
+    fn is_known_utf8(self, own: Own) -> bool {
+        self.0.is_known_utf8(own) && self.1.is_known_utf8(own)
     }
 }

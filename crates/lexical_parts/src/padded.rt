@@ -5,6 +5,7 @@ ghost use Rattle.std.specs.Prelude.{◌^◌, ◌<◌};
 ghost use Rattle.lexical_num.specs.Format.{IsRadix};
 ghost use Rattle.lexical_write_integer.specs.Padded.{IsPadded};
 
+use crate::own::Own;
 use crate::part::Part;
 use lexical_write_integer::digit_count::DigitCount;
 use lexical_write_integer::padded::write_padded;
@@ -32,6 +33,10 @@ impl<T: DigitCount + Radix> Part for PaddedDigits<T> {
         // and with it the position of the next part.
         self.2
     }
+
+    fn is_known_utf8(self, _own: Own) -> bool {
+        true
+    }
 }
 
 /// An unsigned number in decimal, with leading zeros up to the width: `Padded(3u8, 2)` writes `03`.
@@ -53,5 +58,9 @@ impl<T: DigitCount + Radix> Part for Padded<T> {
 
     fn write_to(self, buffer: &mut [u8]) -> usize {
         PaddedDigits(10, self.0, self.1).write_to(buffer)
+    }
+
+    fn is_known_utf8(self, _own: Own) -> bool {
+        true
     }
 }

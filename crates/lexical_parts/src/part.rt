@@ -1,6 +1,6 @@
 //! The trait that each part of a text implements.
 
-ghost use Rattle.std.specs.Prelude.{◌≡◌, ◌↔◌, ◌+◌, ◌≤◌, List, ℕ, drop, length, min, slice_range, take, ⊤};
+ghost use Rattle.std.specs.Prelude.{◌≡◌, ◌↔◌, ◌+◌, ◌≤◌, IsTrue, List, ℕ, drop, length, min, slice_range, take, ⊤};
 ghost use Rattle.std.specs.Prelude.{IfNone, IfSome, IsSome};
 ghost use Rattle.std.specs.Borrow.{sem};
 ghost use Rattle.lexical_write_integer.specs.Buffer.{Writes};
@@ -9,8 +9,9 @@ ghost use Rattle.lexical_write_integer.specs.Sequence.{IsExactly};
 ghost use Rattle.lexical_parts.specs.Sequence.{◌then◌};
 ghost use Rattle.lexical_parts.specs.Utf8.{AreUtf8};
 
+use crate::own::Own;
 use lexical_write_integer::buffer::front_mut;
-use std::str::from_utf8;
+use std::str::{from_utf8, from_utf8_unchecked};
 
 /// A value that has a text, such as a number or a `&str`. A tuple of parts is also a part, and its
 /// text consists of the texts of its elements, in order: `(250, " g")` writes `250 g`.
@@ -48,6 +49,15 @@ pub trait Part: Copy {
         ensures text { Writes (is_text self) buffer.old buffer.new result }
         ensures short { result ≤ room self }
         ensures utf8 { is_utf8 self → AreUtf8 (is_text self) };
+
+    // Whether the values of the part show that its text is UTF-8. A part of another crate cannot define this method,
+    // since it cannot name `Own`.
+    #[doc(hidden)]
+    fn is_known_utf8(self, _own: Own) -> bool
+        ensures { IsTrue result → is_utf8 self }
+    {
+        false
+    }
 
     /// Writes the text to the start of the buffer, and returns those bytes of the buffer, which the
     /// caller may read and change. Every byte after the text is unchanged. The part must be valid,
@@ -103,8 +113,9 @@ pub trait Part: Copy {
     /// afterwards is not promised. The part must be valid, each `Byte` in it and each byte of a column must be below
     /// 128, each `Bytes` in it must be UTF-8, and the buffer must have `room` bytes or more.
     ///
-    /// At run time this is `to_text` and then a call of `std::str::from_utf8`, which reads the text
-    /// once and cannot fail; if rustc compiles a caller with a `Bytes` that is not UTF-8, it panics.
+    /// At run time this is `to_text`. If the values of the part do not show that its text is UTF-8, as those of your
+    /// own part do not, a call of `std::str::from_utf8` follows, which reads the text once and cannot fail; if rustc
+    /// compiles a caller with a `Bytes` that is not UTF-8, it panics.
     final fn to_str(self, buffer: &mut [u8]) -> &str
         requires valid { is_valid self }
         requires utf8 { is_utf8 self }
@@ -112,7 +123,15 @@ pub trait Part: Copy {
         ensures text { is_text self result.now }
         ensures short { length result.now ≤ room self }
     {
-        from_utf8(self.to_text(buffer)).unwrap()
+        let is_sure = is_sure(self, buffer);
+        let text = self.to_text(buffer);
+        if is_sure {
+            // SAFETY: `is_sure` ensures `is_utf8` and the room, and `to_text` has panicked if the part is not valid. So
+            // it ensures `utf8`: the text is UTF-8.
+            unsafe { from_utf8_unchecked(text) }
+        } else {
+            from_utf8(text).unwrap()
+        }
     }
 
     /// If the buffer has `room` bytes or more, returns the text as `to_str` does, at the same cost. Otherwise returns
@@ -130,4 +149,13 @@ pub trait Part: Copy {
             None
         }
     }
+}
+
+// Returns whether the buffer has the room, and the values of the part show that its text is UTF-8.
+fn is_sure<P: Part>(part: P, buffer: &[u8]) -> bool
+    requires { P.is_valid part }
+    ensures utf8 { IsTrue result → P.is_utf8 part }
+    ensures room { IsTrue result → P.room part ≤ length buffer.now }
+{
+    part.is_known_utf8(Own) && part.room() <= buffer.len()
 }

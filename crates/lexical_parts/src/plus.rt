@@ -4,6 +4,7 @@
 ghost use Rattle.std.specs.Prelude.{◌+◌};
 ghost use Rattle.lexical_parts.specs.Plus.{IsPlus};
 
+use crate::own::Own;
 use crate::part::Part;
 use crate::sign::Sign;
 use lexical_write_integer::ToLexicalWithOptions;
@@ -29,5 +30,9 @@ impl<T: ToLexicalWithOptions> Part for Plus<T> {
         self.0.in_range();
         let start = Sign(self.0, true).write_to(buffer);
         start + self.0.write_magnitude(&STANDARD, &mut buffer[start..])
+    }
+
+    fn is_known_utf8(self, _own: Own) -> bool {
+        true
     }
 }

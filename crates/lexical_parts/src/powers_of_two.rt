@@ -7,6 +7,7 @@ ghost use Rattle.lexical_write_integer.specs.Sequence.{AreJoined};
 ghost use Rattle.lexical_write_integer.specs.Text.{IsDigits};
 
 use crate::joined::write_next;
+use crate::own::Own;
 use crate::part::Part;
 use crate::text::str_is_utf8;
 use lexical_tables::get_table;
@@ -31,6 +32,10 @@ impl<T: Radix> Part for Hex<T> {
         self.0.fits_bits();
         self.0.radix(16, buffer)
     }
+
+    fn is_known_utf8(self, _own: Own) -> bool {
+        true
+    }
 }
 
 /// The digits of an unsigned number in radix 2, without a prefix: `Binary(5u8)` writes `101`. Its room
@@ -50,6 +55,10 @@ impl<T: Radix> Part for Binary<T> {
     fn write_to(self, buffer: &mut [u8]) -> usize {
         digit_count_within_bits(2, self.0);
         self.0.radix(2, buffer)
+    }
+
+    fn is_known_utf8(self, _own: Own) -> bool {
+        true
     }
 }
 
@@ -99,5 +108,9 @@ impl Part for HexBytes<'_> {
             count += write_next(index, self.1, HexByte(*byte), &mut buffer[count..]);
         }
         count
+    }
+
+    fn is_known_utf8(self, _own: Own) -> bool {
+        true
     }
 }

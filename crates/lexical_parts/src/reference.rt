@@ -1,5 +1,6 @@
 //! References to parts, which have the text of the part.
 
+use crate::own::Own;
 use crate::part::Part;
 
 impl<P: Part> Part for &P {
@@ -17,5 +18,9 @@ impl<P: Part> Part for &P {
 
     fn write_to(self, buffer: &mut [u8]) -> usize {
         (*self).write_to(buffer)
+    }
+
+    fn is_known_utf8(self, own: Own) -> bool {
+        (*self).is_known_utf8(own)
     }
 }

@@ -9,6 +9,7 @@ ghost use Rattle.lexical_parts.specs.Fixed.{IsUnits};
 ghost use Rattle.lexical_parts.specs.Scientific.{IsScientific, IsScientificUnsigned, exponent_of_first};
 ghost use Rattle.lexical_parts.specs.Sequence.{◌then◌, IsDecimal, IsStr};
 
+use crate::own::Own;
 use crate::part::Part;
 use crate::sign::Sign;
 use crate::text::Bytes;
@@ -108,5 +109,9 @@ impl<T: ToLexicalWithOptions> Part for Scientific<T> {
         size_suffices(self.0, &STANDARD);
         let start = Sign(self.0, false).write_to(buffer);
         start + write_magnitude(self.0, self.1, &mut buffer[start..])
+    }
+
+    fn is_known_utf8(self, _own: Own) -> bool {
+        true
     }
 }

@@ -4,6 +4,7 @@
 ghost use Rattle.lexical_num.specs.Sign.{sign_of};
 ghost use Rattle.lexical_write_integer.specs.Sequence.{IsExactly};
 
+use crate::own::Own;
 use crate::part::Part;
 use lexical_num::num::LexicalInteger;
 use lexical_write_integer::buffer::copy_to_front;
@@ -30,5 +31,9 @@ impl<T: LexicalInteger> Part for Sign<T> {
         } else {
             0
         }
+    }
+
+    fn is_known_utf8(self, _own: Own) -> bool {
+        true
     }
 }

@@ -6,8 +6,10 @@ ghost use Rattle.std.specs.Str.{IsUtf8};
 ghost use Rattle.lexical_write_integer.specs.Sequence.{IsExactly};
 ghost use Rattle.lexical_parts.specs.Utf8.{AreUtf8};
 
+use crate::own::Own;
 use crate::part::Part;
 use lexical_write_integer::buffer::copy_to_front;
+use std::str::from_utf8;
 
 // A law: the bytes of a `str` are UTF-8.
 pub(crate) fn str_is_utf8(text: &str)
@@ -25,6 +27,10 @@ impl Part for &str {
 
     fn write_to(self, buffer: &mut [u8]) -> usize {
         copy_to_front(self.as_bytes(), buffer)
+    }
+
+    fn is_known_utf8(self, _own: Own) -> bool {
+        true
     }
 }
 
@@ -46,6 +52,10 @@ impl Part for Bytes<'_> {
     fn write_to(self, buffer: &mut [u8]) -> usize {
         copy_to_front(self.0, buffer)
     }
+
+    fn is_known_utf8(self, _own: Own) -> bool {
+        from_utf8(self.0).is_ok()
+    }
 }
 
 /// A part whose text is one byte: `Byte(b'a')` writes `a`.
@@ -65,5 +75,9 @@ impl Part for Byte {
 
     fn write_to(self, buffer: &mut [u8]) -> usize {
         copy_to_front(&[self.0], buffer)
+    }
+
+    fn is_known_utf8(self, _own: Own) -> bool {
+        self.0 < 128
     }
 }

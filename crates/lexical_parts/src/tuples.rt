@@ -4,6 +4,7 @@
 ghost use Rattle.std.specs.Prelude.{◌+◌};
 ghost use Rattle.lexical_parts.specs.Sequence.{◌then◌};
 
+use crate::own::Own;
 use crate::part::Part;
 
 impl<A: Part, B: Part> Part for (A, B) {
@@ -23,6 +24,10 @@ impl<A: Part, B: Part> Part for (A, B) {
         let first = self.0.write_to(buffer);
         first + self.1.write_to(&mut buffer[first..])
     }
+
+    fn is_known_utf8(self, own: Own) -> bool {
+        self.0.is_known_utf8(own) && self.1.is_known_utf8(own)
+    }
 }
 
 impl<A: Part, B: Part, C: Part> Part for (A, B, C) {
@@ -41,6 +46,10 @@ impl<A: Part, B: Part, C: Part> Part for (A, B, C) {
     fn write_to(self, buffer: &mut [u8]) -> usize {
         (self.0, (self.1, self.2)).write_to(buffer)
     }
+
+    fn is_known_utf8(self, own: Own) -> bool {
+        (self.0, (self.1, self.2)).is_known_utf8(own)
+    }
 }
 
 impl<A: Part, B: Part, C: Part, D: Part> Part for (A, B, C, D) {
@@ -58,6 +67,10 @@ impl<A: Part, B: Part, C: Part, D: Part> Part for (A, B, C, D) {
 
     fn write_to(self, buffer: &mut [u8]) -> usize {
         (self.0, (self.1, self.2, self.3)).write_to(buffer)
+    }
+
+    fn is_known_utf8(self, own: Own) -> bool {
+        (self.0, (self.1, self.2, self.3)).is_known_utf8(own)
     }
 }
 
@@ -79,6 +92,10 @@ impl<A: Part, B: Part, C: Part, D: Part, E: Part> Part for (A, B, C, D, E) {
 
     fn write_to(self, buffer: &mut [u8]) -> usize {
         (self.0, (self.1, self.2, self.3, self.4)).write_to(buffer)
+    }
+
+    fn is_known_utf8(self, own: Own) -> bool {
+        (self.0, (self.1, self.2, self.3, self.4)).is_known_utf8(own)
     }
 }
 
@@ -102,6 +119,10 @@ impl<A: Part, B: Part, C: Part, D: Part, E: Part, F: Part> Part for (A, B, C, D,
     fn write_to(self, buffer: &mut [u8]) -> usize {
         (self.0, (self.1, self.2, self.3, self.4, self.5)).write_to(buffer)
     }
+
+    fn is_known_utf8(self, own: Own) -> bool {
+        (self.0, (self.1, self.2, self.3, self.4, self.5)).is_known_utf8(own)
+    }
 }
 
 impl<A: Part, B: Part, C: Part, D: Part, E: Part, F: Part, G: Part> Part for (A, B, C, D, E, F, G) {
@@ -123,6 +144,10 @@ impl<A: Part, B: Part, C: Part, D: Part, E: Part, F: Part, G: Part> Part for (A,
 
     fn write_to(self, buffer: &mut [u8]) -> usize {
         (self.0, (self.1, self.2, self.3, self.4, self.5, self.6)).write_to(buffer)
+    }
+
+    fn is_known_utf8(self, own: Own) -> bool {
+        (self.0, (self.1, self.2, self.3, self.4, self.5, self.6)).is_known_utf8(own)
     }
 }
 
@@ -148,6 +173,11 @@ impl<A: Part, B: Part, C: Part, D: Part, E: Part, F: Part, G: Part, H: Part> Par
     fn write_to(self, buffer: &mut [u8]) -> usize {
         let (a, b, c, d, e, f, g, h) = self;
         (a, (b, c, d, e, f, g, h)).write_to(buffer)
+    }
+
+    fn is_known_utf8(self, own: Own) -> bool {
+        let (a, b, c, d, e, f, g, h) = self;
+        (a, (b, c, d, e, f, g, h)).is_known_utf8(own)
     }
 }
 
@@ -177,6 +207,11 @@ impl<A: Part, B: Part, C: Part, D: Part, E: Part, F: Part, G: Part, H: Part, I: 
         let (a, b, c, d, e, f, g, h, i) = self;
         (a, (b, c, d, e, f, g, h, i)).write_to(buffer)
     }
+
+    fn is_known_utf8(self, own: Own) -> bool {
+        let (a, b, c, d, e, f, g, h, i) = self;
+        (a, (b, c, d, e, f, g, h, i)).is_known_utf8(own)
+    }
 }
 
 impl<A: Part, B: Part, C: Part, D: Part, E: Part, F: Part, G: Part, H: Part, I: Part, J: Part> Part
@@ -204,6 +239,11 @@ impl<A: Part, B: Part, C: Part, D: Part, E: Part, F: Part, G: Part, H: Part, I: 
     fn write_to(self, buffer: &mut [u8]) -> usize {
         let (a, b, c, d, e, f, g, h, i, j) = self;
         (a, (b, c, d, e, f, g, h, i, j)).write_to(buffer)
+    }
+
+    fn is_known_utf8(self, own: Own) -> bool {
+        let (a, b, c, d, e, f, g, h, i, j) = self;
+        (a, (b, c, d, e, f, g, h, i, j)).is_known_utf8(own)
     }
 }
 
@@ -245,6 +285,11 @@ impl<
         let (a, b, c, d, e, f, g, h, i, j, k) = self;
         (a, (b, c, d, e, f, g, h, i, j, k)).write_to(buffer)
     }
+
+    fn is_known_utf8(self, own: Own) -> bool {
+        let (a, b, c, d, e, f, g, h, i, j, k) = self;
+        (a, (b, c, d, e, f, g, h, i, j, k)).is_known_utf8(own)
+    }
 }
 
 impl<
@@ -285,5 +330,10 @@ impl<
     fn write_to(self, buffer: &mut [u8]) -> usize {
         let (a, b, c, d, e, f, g, h, i, j, k, l) = self;
         (a, (b, c, d, e, f, g, h, i, j, k, l)).write_to(buffer)
+    }
+
+    fn is_known_utf8(self, own: Own) -> bool {
+        let (a, b, c, d, e, f, g, h, i, j, k, l) = self;
+        (a, (b, c, d, e, f, g, h, i, j, k, l)).is_known_utf8(own)
     }
 }

@@ -5,6 +5,7 @@ ghost use Rattle.std.specs.Prelude.{◌≡◌, ◌≤◌, length, max};
 ghost use Rattle.lexical_parts.specs.ZeroPadded.{IsZeroPadded, sign_length};
 
 use crate::fill::insert_fill;
+use crate::own::Own;
 use crate::part::Part;
 
 // Returns the length of the sign with which the text begins: 1 for `-` or `+`, and otherwise 0.
@@ -43,5 +44,9 @@ impl<P: Part> Part for ZeroPadded<P> {
         let zeros = self.1.saturating_sub(count);
         insert_fill(b'0', zeros, count - sign, &mut buffer[sign..]);
         zeros + count
+    }
+
+    fn is_known_utf8(self, own: Own) -> bool {
+        self.0.is_known_utf8(own)
     }
 }

@@ -43,17 +43,17 @@
 //!
 //! # A `&str`, a `Vec` or a `String`
 //!
-//! [`Part::to_str`](parts::Part::to_str) returns a `&str`. Its cost beside that of
-//! [`Part::to_text`](parts::Part::to_text) is the check of std that the bytes are UTF-8, 60 to 120 instructions:
-//! only `unsafe` code would avoid that, and here is none. To append a part to a `Vec`, write it to the end
+//! [`Buffer::format`] returns the `&str` of a number in decimal, and [`Part::to_str`](parts::Part::to_str) that of a part.
+//! std checks only the text of a part of your own, and of [`Bytes`](parts::Bytes), that it is UTF-8: of the others it is
+//! known, which the only `unsafe` line of this package uses. To append a part to a `Vec`, write it to the end
 //! of one that is long enough:
 //!
 //! ```
-//! use cojimuran::parts::{Decimal, Part};
+//! use cojimuran::Buffer;
+//! use cojimuran::parts::{Hex, Part};
 //!
-//! let mut buffer = [0; 20];
-//! let text: &str = Decimal(-12i64).to_str(&mut buffer);
-//! assert_eq!(text.to_owned() + " kg", "-12 kg");
+//! assert_eq!(Buffer::new().format(-12i64).to_owned() + " kg", "-12 kg");
+//! assert_eq!(("0x", Hex(255u8)).to_str(&mut [0; 4]), "0xFF");
 //!
 //! let (part, mut bytes) = ((7u8, " apples"), b"We have ".to_vec());
 //! let start = bytes.len();
@@ -69,7 +69,7 @@
 //! A version 0.x.0 may change names and conditions, as the changelog lists, and 0.x.y changes none. The
 //! integer traits are sealed, so they may get methods in 0.x.y.
 #![no_std]
-#![forbid(unsafe_code)]
+#![deny(unsafe_code)]
 #![warn(missing_docs, clippy::missing_errors_doc)]
 
 #[cfg(not(target_pointer_width = "64"))]
@@ -90,11 +90,15 @@ mod tables;
 )]
 mod write_integer;
 
+#[cfg(doctest)]
+mod misuse;
+
 pub use num::options::{Options, OptionsBuilder, WriteOptions};
 pub use num::{
     BUFFER_SIZE, Error, FormattedSize, LexicalInteger, NumberFormat, NumberFormatBuilder, Result,
     UnsignedInteger,
 };
+pub use parts::Buffer;
 pub use write_integer::{ToLexical, ToLexicalWithOptions, group_digits, sign_len, write_sign};
 
 pub mod algorithm {

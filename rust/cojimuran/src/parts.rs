@@ -26,6 +26,7 @@
 //! a precision do nothing. It is an error if there are more than 19 decimals, or if a [`Padded`] has no digits, more
 //! than 64, or fewer than its number.
 
+mod buffer;
 mod column;
 mod display;
 mod fill;
@@ -35,6 +36,7 @@ mod joined;
 mod lower;
 mod number;
 mod option;
+mod own;
 mod padded;
 mod part;
 mod plus;
@@ -47,6 +49,7 @@ mod tuples;
 mod with_length;
 mod zero_padded;
 
+pub use buffer::Buffer;
 pub use column::{Center, Left, Right};
 pub use fixed::{Fixed, GroupedFixed};
 pub use joined::Joined;

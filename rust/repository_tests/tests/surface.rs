@@ -15,10 +15,10 @@ use cojimuran::parts::{
 };
 use cojimuran::table::{DIGIT_TO_BASE2_SQUARED, DIGIT_TO_BASE36_SQUARED, get_table};
 use cojimuran::{
-    BUFFER_SIZE, Error, FormattedSize, LexicalInteger, NumberFormat, NumberFormatBuilder, Options, OptionsBuilder,
-    Result, ToLexical, ToLexicalWithOptions, UnsignedInteger, WriteOptions, algorithm::algorithm, compact::Compact,
-    format::STANDARD, format::is_group_size, format::is_mark, format::is_radix, group_digits, options,
-    padded::write_padded, radix::Radix, radix::digit_to_char, sign_len, write::WriteInteger, write_sign,
+    BUFFER_SIZE, Buffer, Error, FormattedSize, LexicalInteger, NumberFormat, NumberFormatBuilder, Options,
+    OptionsBuilder, Result, ToLexical, ToLexicalWithOptions, UnsignedInteger, WriteOptions, algorithm::algorithm,
+    compact::Compact, format::STANDARD, format::is_group_size, format::is_mark, format::is_radix, group_digits,
+    options, padded::write_padded, radix::Radix, radix::digit_to_char, sign_len, write::WriteInteger, write_sign,
 };
 use lexwrite::lines::{
     Answerer, BlockSink, BlockSource, BlockWriter, ByteSink, ByteSource, Reading, SliceSink, SliceSource, Writing,
@@ -90,5 +90,5 @@ fn devices() {
 #[test]
 fn the_package_needs_no_std() {
     let root = include_str!("../../cojimuran/src/lib.rs");
-    assert!(root.contains("\n#![no_std]\n") && root.contains("\n#![forbid(unsafe_code)]\n"));
+    assert!(root.contains("\n#![no_std]\n") && root.contains("\n#![deny(unsafe_code)]\n"));
 }

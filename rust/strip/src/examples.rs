@@ -15,7 +15,8 @@ pub(crate) fn with_examples(text: &str, module: &str) -> Result<String, String> 
             _ if line.starts_with("///") => comment += line,
             _ if line.starts_with("#[") && !comment.is_empty() => attributes += line,
             _ => {
-                let example = item(line).map(|name| example(name, &comment, module)).transpose()?.flatten();
+                let name = item(line).filter(|_| !attributes.contains("doc(hidden)"));
+                let example = name.map(|name| example(name, &comment, module)).transpose()?.flatten();
                 written += &(std::mem::take(&mut comment) + &lines(example) + &std::mem::take(&mut attributes) + line);
             }
         }
@@ -33,7 +34,7 @@ fn item(line: &str) -> Option<&str> {
 
 /// Returns the example of an item with this documentation, or an error if a part has none.
 fn example(name: &str, comment: &str, module: &str) -> Result<Option<String>, String> {
-    if module != "parts" || !name.starts_with(char::is_uppercase) {
+    if module != "parts" || !name.starts_with(char::is_uppercase) || comment.contains("```") {
         return Ok(None);
     }
     let text = comment.replace("\n/// ", " ");

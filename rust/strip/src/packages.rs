@@ -159,11 +159,16 @@ pub(crate) const SOURCES: &[Source] = &[
         module: "parts",
         // A tuple of parts and what it often contains. So the texts and the widths that are constant in a caller are
         // known.
-        attributes: &[(
-            "#[inline(always)]",
-            "tuples.rt joined.rt integers.rt number.rt text.rt powers_of_two.rt padded.rt",
-        )],
+        attributes: &[
+            // The only function of the package that is not safe code.
+            ("#[inline(always)]\n#[allow(unsafe_code)]", "to_str"),
+            (
+                "#[inline(always)]",
+                "tuples.rt joined.rt integers.rt number.rt text.rt powers_of_two.rt padded.rt is_known_utf8 is_sure format",
+            ),
+        ],
         left_out: "equal positions",
+        replaced: replaced::PARTS,
         ..LIBRARY
     },
     Source {

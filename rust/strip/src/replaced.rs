@@ -67,6 +67,11 @@ pub(crate) const WRITE_INTEGER: Replaced = &[
     ),
 ];
 
+pub(crate) const PARTS: Replaced = &[
+    // rustc proves nothing, so a debug build checks.
+    ("            // SAFETY: ", "            debug_assert!(from_utf8(text).is_ok());\n            // SAFETY: "),
+];
+
 pub(crate) const LINES: Replaced = &[
     // What is recorded before it is returned.
     ("let Writing { writer, trace } = self;\n        drop(trace);\n        writer", "self.writer"),

@@ -3,6 +3,7 @@
 //! Parts that are padded to the width of a column.
 
 use crate::parts::fill::{insert_fill, write_fill};
+use crate::parts::own::Own;
 use crate::parts::part::Part;
 
 /// A part that is aligned to the left of a column: a byte, often a space, is added after its text, up to
@@ -27,6 +28,11 @@ impl<P: Part> Part for Left<P> {
     fn write_to(self, buffer: &mut [u8]) -> usize {
         let count = self.0.write_to(buffer);
         count + write_fill(self.2, self.1.saturating_sub(count), &mut buffer[count..])
+    }
+
+    #[inline(always)]
+    fn is_known_utf8(self, own: Own) -> bool {
+        self.2 < 128 && self.0.is_known_utf8(own)
     }
 }
 
@@ -54,6 +60,11 @@ impl<P: Part> Part for Right<P> {
         let added = self.1.saturating_sub(count);
         insert_fill(self.2, added, count, buffer);
         added + count
+    }
+
+    #[inline(always)]
+    fn is_known_utf8(self, own: Own) -> bool {
+        self.2 < 128 && self.0.is_known_utf8(own)
     }
 }
 
@@ -83,5 +94,10 @@ impl<P: Part> Part for Center<P> {
         insert_fill(self.2, before, count, buffer);
         let end = before + count;
         end + write_fill(self.2, added - before, &mut buffer[end..])
+    }
+
+    #[inline(always)]
+    fn is_known_utf8(self, own: Own) -> bool {
+        self.2 < 128 && self.0.is_known_utf8(own)
     }
 }

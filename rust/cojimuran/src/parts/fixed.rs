@@ -2,6 +2,7 @@
 
 //! Numbers with a fixed number of decimals.
 
+use crate::parts::own::Own;
 use crate::parts::part::Part;
 use crate::parts::sign::Sign;
 use crate::parts::text::Bytes;
@@ -67,6 +68,11 @@ impl<T: ToLexicalWithOptions> Part for Fixed<T> {
     fn write_to(self, buffer: &mut [u8]) -> usize {
         GroupedFixed(self.0, self.1, &STANDARD).write_to(buffer)
     }
+
+    #[inline(always)]
+    fn is_known_utf8(self, _own: Own) -> bool {
+        true
+    }
 }
 
 /// A number as [`Fixed`](crate::parts::Fixed) writes it, with its whole part in the groups of the format, and nothing else of it:
@@ -102,5 +108,10 @@ impl<T: ToLexicalWithOptions> Part for GroupedFixed<'_, T> {
         );
         let start = Sign(self.0, false).write_to(buffer);
         start + write_grouped_units(self.0, self.1, self.2, &mut buffer[start..])
+    }
+
+    #[inline(always)]
+    fn is_known_utf8(self, _own: Own) -> bool {
+        true
     }
 }

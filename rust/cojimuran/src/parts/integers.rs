@@ -3,6 +3,7 @@
 //! The integer types, which are parts: the text of a number is the number in decimal.
 
 use crate::parts::number::Decimal;
+use crate::parts::own::Own;
 use crate::parts::part::Part;
 
 impl Part for u8 {
@@ -14,6 +15,11 @@ impl Part for u8 {
     #[inline(always)]
     fn write_to(self, buffer: &mut [u8]) -> usize {
         Decimal(self).write_to(buffer)
+    }
+
+    #[inline(always)]
+    fn is_known_utf8(self, _own: Own) -> bool {
+        true
     }
 }
 
@@ -27,6 +33,11 @@ impl Part for u16 {
     fn write_to(self, buffer: &mut [u8]) -> usize {
         Decimal(self).write_to(buffer)
     }
+
+    #[inline(always)]
+    fn is_known_utf8(self, _own: Own) -> bool {
+        true
+    }
 }
 
 impl Part for u32 {
@@ -38,6 +49,11 @@ impl Part for u32 {
     #[inline(always)]
     fn write_to(self, buffer: &mut [u8]) -> usize {
         Decimal(self).write_to(buffer)
+    }
+
+    #[inline(always)]
+    fn is_known_utf8(self, _own: Own) -> bool {
+        true
     }
 }
 
@@ -51,6 +67,11 @@ impl Part for u64 {
     fn write_to(self, buffer: &mut [u8]) -> usize {
         Decimal(self).write_to(buffer)
     }
+
+    #[inline(always)]
+    fn is_known_utf8(self, _own: Own) -> bool {
+        true
+    }
 }
 
 impl Part for usize {
@@ -62,6 +83,11 @@ impl Part for usize {
     #[inline(always)]
     fn write_to(self, buffer: &mut [u8]) -> usize {
         Decimal(self).write_to(buffer)
+    }
+
+    #[inline(always)]
+    fn is_known_utf8(self, _own: Own) -> bool {
+        true
     }
 }
 
@@ -75,6 +101,11 @@ impl Part for i8 {
     fn write_to(self, buffer: &mut [u8]) -> usize {
         Decimal(self).write_to(buffer)
     }
+
+    #[inline(always)]
+    fn is_known_utf8(self, _own: Own) -> bool {
+        true
+    }
 }
 
 impl Part for i16 {
@@ -86,6 +117,11 @@ impl Part for i16 {
     #[inline(always)]
     fn write_to(self, buffer: &mut [u8]) -> usize {
         Decimal(self).write_to(buffer)
+    }
+
+    #[inline(always)]
+    fn is_known_utf8(self, _own: Own) -> bool {
+        true
     }
 }
 
@@ -99,6 +135,11 @@ impl Part for i32 {
     fn write_to(self, buffer: &mut [u8]) -> usize {
         Decimal(self).write_to(buffer)
     }
+
+    #[inline(always)]
+    fn is_known_utf8(self, _own: Own) -> bool {
+        true
+    }
 }
 
 impl Part for i64 {
@@ -111,6 +152,11 @@ impl Part for i64 {
     fn write_to(self, buffer: &mut [u8]) -> usize {
         Decimal(self).write_to(buffer)
     }
+
+    #[inline(always)]
+    fn is_known_utf8(self, _own: Own) -> bool {
+        true
+    }
 }
 
 impl Part for isize {
@@ -122,5 +168,10 @@ impl Part for isize {
     #[inline(always)]
     fn write_to(self, buffer: &mut [u8]) -> usize {
         Decimal(self).write_to(buffer)
+    }
+
+    #[inline(always)]
+    fn is_known_utf8(self, _own: Own) -> bool {
+        true
     }
 }

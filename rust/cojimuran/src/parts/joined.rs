@@ -2,6 +2,7 @@
 
 //! The parts of a slice, with a separator between adjacent parts.
 
+use crate::parts::own::Own;
 use crate::parts::part::Part;
 
 // Writes what precedes the part at the index, which is nothing before the first part and otherwise the separator, and
@@ -53,5 +54,15 @@ impl<P: Part> Part for Joined<'_, P> {
             count += write_next(index, self.1, *part, &mut buffer[count..]);
         }
         count
+    }
+
+    #[inline(always)]
+    fn is_known_utf8(self, own: Own) -> bool {
+        for part in self.0 {
+            if !part.is_known_utf8(own) {
+                return false;
+            }
+        }
+        true
     }
 }

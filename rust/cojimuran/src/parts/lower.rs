@@ -2,6 +2,7 @@
 
 //! Parts in lowercase.
 
+use crate::parts::own::Own;
 use crate::parts::part::Part;
 
 /// A part in lowercase: its text with `A` to `Z` as `a` to `z`, and every other byte unchanged.
@@ -26,5 +27,10 @@ impl<P: Part> Part for Lower<P> {
         let count = self.0.write_to(buffer);
         buffer[..count].make_ascii_lowercase();
         count
+    }
+
+    #[inline(always)]
+    fn is_known_utf8(self, own: Own) -> bool {
+        self.0.is_known_utf8(own)
     }
 }

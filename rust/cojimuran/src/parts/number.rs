@@ -2,6 +2,7 @@
 
 //! Parts that are one number.
 
+use crate::parts::own::Own;
 use crate::parts::part::Part;
 use crate::write_integer::digit_count::DigitCount;
 use crate::write_integer::radix::Radix;
@@ -28,6 +29,11 @@ impl<T: ToLexicalWithOptions> Part for Decimal<T> {
     fn write_to(self, buffer: &mut [u8]) -> usize {
         self.0.write_lexical(buffer)
     }
+
+    #[inline(always)]
+    fn is_known_utf8(self, _own: Own) -> bool {
+        true
+    }
 }
 
 /// The digits of an unsigned number in a radix from 2 to 36: `Digits(16, 255u32)` writes `FF`.
@@ -49,6 +55,11 @@ impl<T: Radix + DigitCount> Part for Digits<T> {
     #[inline(always)]
     fn write_to(self, buffer: &mut [u8]) -> usize {
         self.1.radix(self.0, buffer)
+    }
+
+    #[inline(always)]
+    fn is_known_utf8(self, _own: Own) -> bool {
+        true
     }
 }
 
@@ -86,5 +97,10 @@ impl<T: ToLexicalWithOptions> Part for Formatted<'_, T> {
     #[inline(always)]
     fn write_to(self, buffer: &mut [u8]) -> usize {
         self.0.write_text(buffer, self.1)
+    }
+
+    #[inline(always)]
+    fn is_known_utf8(self, _own: Own) -> bool {
+        true
     }
 }

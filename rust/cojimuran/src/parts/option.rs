@@ -2,6 +2,7 @@
 
 //! Parts that may be absent: the text of `Some(part)` is that of the part, and `None` has no bytes.
 
+use crate::parts::own::Own;
 use crate::parts::part::Part;
 use crate::write_integer::buffer::copy_to_front;
 
@@ -19,6 +20,14 @@ impl<P: Part> Part for Option<P> {
         match self {
             Some(part) => part.write_to(buffer),
             None => copy_to_front(b"", buffer),
+        }
+    }
+
+    #[inline(always)]
+    fn is_known_utf8(self, own: Own) -> bool {
+        match self {
+            Some(part) => part.is_known_utf8(own),
+            None => true,
         }
     }
 }
@@ -47,5 +56,10 @@ impl<P: Part, Q: Part> Part for OrElse<P, Q> {
             Some(present) => present.write_to(buffer),
             None => self.1.write_to(buffer),
         }
+    }
+
+    #[inline(always)]
+    fn is_known_utf8(self, own: Own) -> bool {
+        self.0.is_known_utf8(own) && self.1.is_known_utf8(own)
     }
 }

@@ -2,6 +2,7 @@
 
 //! Numbers with leading zeros, up to a fixed width.
 
+use crate::parts::own::Own;
 use crate::parts::part::Part;
 use crate::write_integer::digit_count::DigitCount;
 use crate::write_integer::padded::write_padded;
@@ -31,6 +32,11 @@ impl<T: DigitCount + Radix> Part for PaddedDigits<T> {
         // and with it the position of the next part.
         self.2
     }
+
+    #[inline(always)]
+    fn is_known_utf8(self, _own: Own) -> bool {
+        true
+    }
 }
 
 /// An unsigned number in decimal, with leading zeros up to the width: `Padded(3u8, 2)` writes `03`.
@@ -55,5 +61,10 @@ impl<T: DigitCount + Radix> Part for Padded<T> {
     #[inline(always)]
     fn write_to(self, buffer: &mut [u8]) -> usize {
         PaddedDigits(10, self.0, self.1).write_to(buffer)
+    }
+
+    #[inline(always)]
+    fn is_known_utf8(self, _own: Own) -> bool {
+        true
     }
 }

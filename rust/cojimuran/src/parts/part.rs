@@ -2,8 +2,9 @@
 
 //! The trait that each part of a text implements.
 
+use crate::parts::own::Own;
 use crate::write_integer::buffer::front_mut;
-use core::str::from_utf8;
+use core::str::{from_utf8, from_utf8_unchecked};
 
 /// A value that has a text, such as a number or a `&str`. A tuple of parts is also a part, and its
 /// text consists of the texts of its elements, in order: `(250, " g")` writes `250 g`.
@@ -38,6 +39,15 @@ pub trait Part: Copy {
     /// If the part is not valid,
     /// or if the buffer is [too short](crate#conditions).
     fn write_to(self, buffer: &mut [u8]) -> usize;
+
+    // Whether the values of the part show that its text is UTF-8. A part of another crate cannot define this method,
+    // since it cannot name `Own`.
+    #[doc(hidden)]
+    #[must_use]
+    #[inline(always)]
+    fn is_known_utf8(self, _own: Own) -> bool {
+        false
+    }
 
     /// Writes the text to the start of the buffer, and returns those bytes of the buffer, which the
     /// caller may read and change. Every byte after the text is unchanged. The part must be valid,
@@ -84,17 +94,28 @@ pub trait Part: Copy {
     /// afterwards is not promised. The part must be valid, each [`Byte`](crate::parts::Byte) in it and each byte of a column must be below
     /// 128, each [`Bytes`](crate::parts::Bytes) in it must be UTF-8, and the buffer must have `room` bytes or more.
     ///
-    /// At run time this is [`to_text`](crate::parts::Part::to_text) and then a call of `std::str::from_utf8`, which reads the text
-    /// once and cannot fail; if rustc compiles a caller with a [`Bytes`](crate::parts::Bytes) that is not UTF-8, it panics.
+    /// At run time this is [`to_text`](crate::parts::Part::to_text). If the values of the part do not show that its text is UTF-8, as those of your
+    /// own part do not, a call of `std::str::from_utf8` follows, which reads the text once and cannot fail; if rustc
+    /// compiles a caller with a [`Bytes`](crate::parts::Bytes) that is not UTF-8, it panics.
     ///
     /// # Panics
     ///
     /// If the part is not valid,
     /// or if the text of the part is not UTF-8,
     /// or if the buffer is [too short](crate#conditions).
-    #[inline]
+    #[inline(always)]
+    #[allow(unsafe_code)]
     fn to_str(self, buffer: &mut [u8]) -> &str {
-        from_utf8(self.to_text(buffer)).unwrap()
+        let is_sure = is_sure(self, buffer);
+        let text = self.to_text(buffer);
+        if is_sure {
+            debug_assert!(from_utf8(text).is_ok());
+            // SAFETY: `is_sure` ensures `is_utf8` and the room, and `to_text` has panicked if the part is not valid. So
+            // it ensures `utf8`: the text is UTF-8.
+            unsafe { from_utf8_unchecked(text) }
+        } else {
+            from_utf8(text).unwrap()
+        }
     }
 
     /// If the buffer has `room` bytes or more, returns the text as [`to_str`](crate::parts::Part::to_str) does, at the same cost. Otherwise returns
@@ -112,4 +133,10 @@ pub trait Part: Copy {
             None
         }
     }
+}
+
+// Returns whether the buffer has the room, and the values of the part show that its text is UTF-8.
+#[inline(always)]
+fn is_sure<P: Part>(part: P, buffer: &[u8]) -> bool {
+    part.is_known_utf8(Own) && part.room() <= buffer.len()
 }

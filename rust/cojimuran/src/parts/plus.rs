@@ -2,6 +2,7 @@
 
 //! Numbers with a sign in each case.
 
+use crate::parts::own::Own;
 use crate::parts::part::Part;
 use crate::parts::sign::Sign;
 use crate::write_integer::ToLexicalWithOptions;
@@ -30,5 +31,10 @@ impl<T: ToLexicalWithOptions> Part for Plus<T> {
     fn write_to(self, buffer: &mut [u8]) -> usize {
         let start = Sign(self.0, true).write_to(buffer);
         start + self.0.write_magnitude(&STANDARD, &mut buffer[start..])
+    }
+
+    #[inline(always)]
+    fn is_known_utf8(self, _own: Own) -> bool {
+        true
     }
 }

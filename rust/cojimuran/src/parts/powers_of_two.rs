@@ -3,6 +3,7 @@
 //! Unsigned numbers in radix 16 and in radix 2, in the room of their type, and bytes in radix 16.
 
 use crate::parts::joined::write_next;
+use crate::parts::own::Own;
 use crate::parts::part::Part;
 use crate::tables::get_table;
 use crate::write_integer::radix::Radix;
@@ -28,6 +29,11 @@ impl<T: Radix> Part for Hex<T> {
     fn write_to(self, buffer: &mut [u8]) -> usize {
         self.0.radix(16, buffer)
     }
+
+    #[inline(always)]
+    fn is_known_utf8(self, _own: Own) -> bool {
+        true
+    }
 }
 
 /// The digits of an unsigned number in radix 2, without a prefix: `Binary(5u8)` writes `101`. Its room
@@ -50,6 +56,11 @@ impl<T: Radix> Part for Binary<T> {
     #[inline(always)]
     fn write_to(self, buffer: &mut [u8]) -> usize {
         self.0.radix(2, buffer)
+    }
+
+    #[inline(always)]
+    fn is_known_utf8(self, _own: Own) -> bool {
+        true
     }
 }
 
@@ -101,5 +112,10 @@ impl Part for HexBytes<'_> {
             count += write_next(index, self.1, HexByte(*byte), &mut buffer[count..]);
         }
         count
+    }
+
+    #[inline(always)]
+    fn is_known_utf8(self, _own: Own) -> bool {
+        true
     }
 }

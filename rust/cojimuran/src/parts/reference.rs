@@ -2,6 +2,7 @@
 
 //! References to parts, which have the text of the part.
 
+use crate::parts::own::Own;
 use crate::parts::part::Part;
 
 impl<P: Part> Part for &P {
@@ -13,5 +14,10 @@ impl<P: Part> Part for &P {
     #[inline]
     fn write_to(self, buffer: &mut [u8]) -> usize {
         (*self).write_to(buffer)
+    }
+
+    #[inline(always)]
+    fn is_known_utf8(self, own: Own) -> bool {
+        (*self).is_known_utf8(own)
     }
 }

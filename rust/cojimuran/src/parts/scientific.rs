@@ -2,6 +2,7 @@
 
 //! Numbers in scientific notation.
 
+use crate::parts::own::Own;
 use crate::parts::part::Part;
 use crate::parts::sign::Sign;
 use crate::parts::text::Bytes;
@@ -78,5 +79,10 @@ impl<T: ToLexicalWithOptions> Part for Scientific<T> {
     fn write_to(self, buffer: &mut [u8]) -> usize {
         let start = Sign(self.0, false).write_to(buffer);
         start + write_magnitude(self.0, self.1, &mut buffer[start..])
+    }
+
+    #[inline(always)]
+    fn is_known_utf8(self, _own: Own) -> bool {
+        true
     }
 }

@@ -3,6 +3,7 @@
 //! The sign of a number, as a part of its own.
 
 use crate::num::num::LexicalInteger;
+use crate::parts::own::Own;
 use crate::parts::part::Part;
 use crate::write_integer::buffer::copy_to_front;
 
@@ -33,5 +34,10 @@ impl<T: LexicalInteger> Part for Sign<T> {
         } else {
             0
         }
+    }
+
+    #[inline(always)]
+    fn is_known_utf8(self, _own: Own) -> bool {
+        true
     }
 }

@@ -2,8 +2,10 @@
 
 //! Parts that are strings or bytes, whose text is the same bytes.
 
+use crate::parts::own::Own;
 use crate::parts::part::Part;
 use crate::write_integer::buffer::copy_to_front;
+use core::str::from_utf8;
 
 impl Part for &str {
     #[inline(always)]
@@ -14,6 +16,11 @@ impl Part for &str {
     #[inline(always)]
     fn write_to(self, buffer: &mut [u8]) -> usize {
         copy_to_front(self.as_bytes(), buffer)
+    }
+
+    #[inline(always)]
+    fn is_known_utf8(self, _own: Own) -> bool {
+        true
     }
 }
 
@@ -37,6 +44,11 @@ impl Part for Bytes<'_> {
     fn write_to(self, buffer: &mut [u8]) -> usize {
         copy_to_front(self.0, buffer)
     }
+
+    #[inline(always)]
+    fn is_known_utf8(self, _own: Own) -> bool {
+        from_utf8(self.0).is_ok()
+    }
 }
 
 /// A part whose text is one byte: `Byte(b'a')` writes `a`.
@@ -58,5 +70,10 @@ impl Part for Byte {
     #[inline(always)]
     fn write_to(self, buffer: &mut [u8]) -> usize {
         copy_to_front(&[self.0], buffer)
+    }
+
+    #[inline(always)]
+    fn is_known_utf8(self, _own: Own) -> bool {
+        self.0 < 128
     }
 }

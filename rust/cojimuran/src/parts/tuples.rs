@@ -2,6 +2,7 @@
 
 //! Tuples of two to twelve parts, whose text is the texts of their members in order.
 
+use crate::parts::own::Own;
 use crate::parts::part::Part;
 
 impl<A: Part, B: Part> Part for (A, B) {
@@ -15,6 +16,11 @@ impl<A: Part, B: Part> Part for (A, B) {
         let first = self.0.write_to(buffer);
         first + self.1.write_to(&mut buffer[first..])
     }
+
+    #[inline(always)]
+    fn is_known_utf8(self, own: Own) -> bool {
+        self.0.is_known_utf8(own) && self.1.is_known_utf8(own)
+    }
 }
 
 impl<A: Part, B: Part, C: Part> Part for (A, B, C) {
@@ -26,6 +32,11 @@ impl<A: Part, B: Part, C: Part> Part for (A, B, C) {
     #[inline(always)]
     fn write_to(self, buffer: &mut [u8]) -> usize {
         (self.0, (self.1, self.2)).write_to(buffer)
+    }
+
+    #[inline(always)]
+    fn is_known_utf8(self, own: Own) -> bool {
+        (self.0, (self.1, self.2)).is_known_utf8(own)
     }
 }
 
@@ -39,6 +50,11 @@ impl<A: Part, B: Part, C: Part, D: Part> Part for (A, B, C, D) {
     fn write_to(self, buffer: &mut [u8]) -> usize {
         (self.0, (self.1, self.2, self.3)).write_to(buffer)
     }
+
+    #[inline(always)]
+    fn is_known_utf8(self, own: Own) -> bool {
+        (self.0, (self.1, self.2, self.3)).is_known_utf8(own)
+    }
 }
 
 impl<A: Part, B: Part, C: Part, D: Part, E: Part> Part for (A, B, C, D, E) {
@@ -50,6 +66,11 @@ impl<A: Part, B: Part, C: Part, D: Part, E: Part> Part for (A, B, C, D, E) {
     #[inline(always)]
     fn write_to(self, buffer: &mut [u8]) -> usize {
         (self.0, (self.1, self.2, self.3, self.4)).write_to(buffer)
+    }
+
+    #[inline(always)]
+    fn is_known_utf8(self, own: Own) -> bool {
+        (self.0, (self.1, self.2, self.3, self.4)).is_known_utf8(own)
     }
 }
 
@@ -63,6 +84,11 @@ impl<A: Part, B: Part, C: Part, D: Part, E: Part, F: Part> Part for (A, B, C, D,
     fn write_to(self, buffer: &mut [u8]) -> usize {
         (self.0, (self.1, self.2, self.3, self.4, self.5)).write_to(buffer)
     }
+
+    #[inline(always)]
+    fn is_known_utf8(self, own: Own) -> bool {
+        (self.0, (self.1, self.2, self.3, self.4, self.5)).is_known_utf8(own)
+    }
 }
 
 impl<A: Part, B: Part, C: Part, D: Part, E: Part, F: Part, G: Part> Part for (A, B, C, D, E, F, G) {
@@ -74,6 +100,11 @@ impl<A: Part, B: Part, C: Part, D: Part, E: Part, F: Part, G: Part> Part for (A,
     #[inline(always)]
     fn write_to(self, buffer: &mut [u8]) -> usize {
         (self.0, (self.1, self.2, self.3, self.4, self.5, self.6)).write_to(buffer)
+    }
+
+    #[inline(always)]
+    fn is_known_utf8(self, own: Own) -> bool {
+        (self.0, (self.1, self.2, self.3, self.4, self.5, self.6)).is_known_utf8(own)
     }
 }
 
@@ -91,6 +122,12 @@ impl<A: Part, B: Part, C: Part, D: Part, E: Part, F: Part, G: Part, H: Part> Par
         let (a, b, c, d, e, f, g, h) = self;
         (a, (b, c, d, e, f, g, h)).write_to(buffer)
     }
+
+    #[inline(always)]
+    fn is_known_utf8(self, own: Own) -> bool {
+        let (a, b, c, d, e, f, g, h) = self;
+        (a, (b, c, d, e, f, g, h)).is_known_utf8(own)
+    }
 }
 
 impl<A: Part, B: Part, C: Part, D: Part, E: Part, F: Part, G: Part, H: Part, I: Part> Part
@@ -107,6 +144,12 @@ impl<A: Part, B: Part, C: Part, D: Part, E: Part, F: Part, G: Part, H: Part, I: 
         let (a, b, c, d, e, f, g, h, i) = self;
         (a, (b, c, d, e, f, g, h, i)).write_to(buffer)
     }
+
+    #[inline(always)]
+    fn is_known_utf8(self, own: Own) -> bool {
+        let (a, b, c, d, e, f, g, h, i) = self;
+        (a, (b, c, d, e, f, g, h, i)).is_known_utf8(own)
+    }
 }
 
 impl<A: Part, B: Part, C: Part, D: Part, E: Part, F: Part, G: Part, H: Part, I: Part, J: Part> Part
@@ -122,6 +165,12 @@ impl<A: Part, B: Part, C: Part, D: Part, E: Part, F: Part, G: Part, H: Part, I: 
     fn write_to(self, buffer: &mut [u8]) -> usize {
         let (a, b, c, d, e, f, g, h, i, j) = self;
         (a, (b, c, d, e, f, g, h, i, j)).write_to(buffer)
+    }
+
+    #[inline(always)]
+    fn is_known_utf8(self, own: Own) -> bool {
+        let (a, b, c, d, e, f, g, h, i, j) = self;
+        (a, (b, c, d, e, f, g, h, i, j)).is_known_utf8(own)
     }
 }
 
@@ -150,6 +199,12 @@ impl<
         let (a, b, c, d, e, f, g, h, i, j, k) = self;
         (a, (b, c, d, e, f, g, h, i, j, k)).write_to(buffer)
     }
+
+    #[inline(always)]
+    fn is_known_utf8(self, own: Own) -> bool {
+        let (a, b, c, d, e, f, g, h, i, j, k) = self;
+        (a, (b, c, d, e, f, g, h, i, j, k)).is_known_utf8(own)
+    }
 }
 
 impl<
@@ -177,5 +232,11 @@ impl<
     fn write_to(self, buffer: &mut [u8]) -> usize {
         let (a, b, c, d, e, f, g, h, i, j, k, l) = self;
         (a, (b, c, d, e, f, g, h, i, j, k, l)).write_to(buffer)
+    }
+
+    #[inline(always)]
+    fn is_known_utf8(self, own: Own) -> bool {
+        let (a, b, c, d, e, f, g, h, i, j, k, l) = self;
+        (a, (b, c, d, e, f, g, h, i, j, k, l)).is_known_utf8(own)
     }
 }

@@ -3,6 +3,7 @@
 //! Numbers with leading zeros, up to at least a width.
 
 use crate::parts::fill::insert_fill;
+use crate::parts::own::Own;
 use crate::parts::part::Part;
 
 // Returns the length of the sign with which the text begins: 1 for `-` or `+`, and otherwise 0.
@@ -39,5 +40,10 @@ impl<P: Part> Part for ZeroPadded<P> {
         let zeros = self.1.saturating_sub(count);
         insert_fill(b'0', zeros, count - sign, &mut buffer[sign..]);
         zeros + count
+    }
+
+    #[inline(always)]
+    fn is_known_utf8(self, own: Own) -> bool {
+        self.0.is_known_utf8(own)
     }
 }

@@ -1,15 +1,9 @@
-use Rattle.std.proofs.Common.{◌≡◌, ℕ, ◌<◌, ◌≤◌, ◌^◌, refl, arith}
-use Rattle.std.proofs.Math.Nat.{pow-le-pow_right}
-use Rattle.lexical_write_integer.specs.DigitCount.{digit_count}
-use Rattle.lexical_write_integer.proofs.OfDigits.Count.DigitCounts.{digit_count-fits, digit_count-le}
+use Rattle.std.proofs.Common.{◌≤◌, refl, arith}
+use Rattle.lexical_write_integer.proofs.OfDigits.Count.DigitCounts.{digit_count-le}
 use Rattle.lexical_write_integer.proofs.OfDigits.PaddedDigits.{padded_computed}
+use Rattle.lexical_parts.proofs.Widths.{fits_width}
 use Rattle.lexical_parts.proofs.padded.Padded.shown.Goals as goal
 use Rattle.lexical_parts.proofs.padded.Padded.shown.Goals.{then-self-gt64-via-then-self-gt64, then-self-gt64-via-else-self-gt64+then-self-digit_count}
-
-fits : (n width count : ℕ) → count ≡ digit_count 10 n → count ≤ width → n < 10 ^ width
-fits n width count is few =
-    let power = pow-le-pow_right {n = 10} (omega arith) {i = digit_count 10 n} {j = width} (omega (arith, is, few)) in
-    omega (arith, digit_count-fits 10 n (omega arith), power)
 
 pub returns-then-self-gt64-clause-ok : goal.returns-then-self-gt64-clause-ok
 returns-then-self-gt64-clause-ok g c = (
@@ -23,15 +17,15 @@ returns-then-self-gt64-clause-ok g c = (
 )
 
 pub to_str-requires-clause-valid : goal.to_str-requires-clause-valid
-to_str-requires-clause-valid g c = fits _ _ _ c.digit_count.ensures.count (omega (arith, c.if-self-digit_count.false))
+to_str-requires-clause-valid g c = fits_width 10 _ _ _ (omega arith) c.digit_count.ensures.count (omega (arith, c.if-self-digit_count.false))
 
 pub returns-clause-ok : goal.returns-clause-ok
 returns-clause-ok g c =
-    let few = fits _ c.args.self.1 _ c.digit_count.ensures.count (omega (arith, c.if-self-digit_count.false)) in
+    let few = fits_width 10 _ c.args.self.1 _ (omega arith) c.digit_count.ensures.count (omega (arith, c.if-self-digit_count.false)) in
     let some : 1 ≤ c.args.self.1 = omega (arith, c.digit_count.ensures.some, c.if-self-digit_count.false) in
     (λ ok. (few, some, omega (arith, c.if-self-gt64.false)), λ valid. refl)
 
 pub returns-clause-text : goal.returns-clause-text
 returns-clause-text g c =
-    let few = fits _ c.args.self.1 _ c.digit_count.ensures.count (omega (arith, c.if-self-digit_count.false)) in
+    let few = fits_width 10 _ c.args.self.1 _ (omega arith) c.digit_count.ensures.count (omega (arith, c.if-self-digit_count.false)) in
     (padded_computed 10 _ _ _ (omega arith) few).0 c.to_str.ensures.text

@@ -1,0 +1,43 @@
+// Made by `strip` from crates/lexical_parts/src/buffer.rt. Edit that file, not this one.
+
+//! The text of a number as a `&str`, in a buffer of its own.
+
+use crate::parts::number::Decimal;
+use crate::parts::part::Part;
+use crate::write_integer::ToLexicalWithOptions;
+
+/// A buffer for a number in decimal of any integer type, so that no call has a condition.
+///
+/// ```
+/// use cojimuran::parts::Buffer;
+///
+/// let mut buffer = Buffer::new();
+/// assert_eq!(buffer.format(-1234i32), "-1234");
+/// assert_eq!(buffer.format(u64::MAX), "18446744073709551615");
+/// ```
+#[derive(Clone, Copy, Debug)]
+pub struct Buffer {
+    bytes: [u8; 20],
+}
+
+impl Buffer {
+    /// Returns a buffer. It costs next to nothing, so each number may have its own.
+    #[must_use]
+    #[inline]
+    pub fn new() -> Buffer {
+        Buffer { bytes: [0; 20] }
+    }
+
+    /// Returns the number in decimal, with a `-` if it is negative.
+    #[inline(always)]
+    pub fn format<T: ToLexicalWithOptions>(&mut self, number: T) -> &str {
+        Decimal(number).to_str(&mut self.bytes)
+    }
+}
+
+impl Default for Buffer {
+    #[inline]
+    fn default() -> Buffer {
+        Buffer::new()
+    }
+}

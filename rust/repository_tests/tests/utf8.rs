@@ -1,0 +1,157 @@
+//! Each `&str` of a part is UTF-8, whatever the part and the buffer. Parts of the package are not checked by std where
+//! their values show it; those of a caller are.
+
+use cojimuran::parts::{
+    Binary, Byte, Bytes, Center, Decimal, Digits, Fixed, Formatted, GroupedFixed, Hex, HexBytes, Joined, Left, Lower,
+    OrElse, Padded, PaddedDigits, Part, Plus, Right, Scientific, Sign, ZeroPadded,
+};
+use cojimuran::{Buffer, NumberFormatBuilder};
+use std::panic::{AssertUnwindSafe, catch_unwind, set_hook};
+use std::str::from_utf8;
+use std::sync::atomic::{AtomicU64, Ordering::Relaxed};
+
+static TEXTS: AtomicU64 = AtomicU64::new(0);
+
+/// A part of a caller, with any bytes.
+#[derive(Clone, Copy)]
+struct Own<'a>(&'a [u8]);
+
+impl Part for Own<'_> {
+    fn room(self) -> usize {
+        self.0.len()
+    }
+
+    fn write_to(self, buffer: &mut [u8]) -> usize {
+        buffer[..self.0.len()].copy_from_slice(self.0);
+        self.0.len()
+    }
+}
+
+/// Writes a part to buffers of several lengths, each of bytes that are not UTF-8. The call panics, or the text is UTF-8
+/// and that of `to_text`.
+fn check<P: Part>(part: P) {
+    check_calls(&|buffer| part.to_text(buffer).to_vec(), &|buffer| part.to_str(buffer).as_bytes().to_vec());
+}
+
+fn check_calls(to_text: &dyn Fn(&mut [u8]) -> Vec<u8>, to_str: &dyn Fn(&mut [u8]) -> Vec<u8>) {
+    let text = catch_unwind(AssertUnwindSafe(|| to_text(&mut [0xFF; 400]))).ok();
+    let longest = text.as_ref().map_or(60, Vec::len);
+    let is_utf8 = text.as_ref().is_some_and(|text| from_utf8(text).is_ok());
+    for length in [400, longest, longest.saturating_sub(1), longest / 2, 0] {
+        match catch_unwind(AssertUnwindSafe(|| to_str(&mut vec![0xFF; length]))) {
+            Ok(found) => assert!(from_utf8(&found).is_ok() && Some(&found) == text.as_ref()),
+            Err(_) => assert!(length < 400 || !is_utf8, "{text:?}"),
+        }
+        TEXTS.fetch_add(1, Relaxed);
+    }
+}
+
+/// Checks a part, and parts that contain it.
+fn check_in<P: Part>(part: P, width: usize, fill: u8) {
+    check(part);
+    check(&part);
+    check(Left(part, width, fill));
+    check(Right((part, "é"), width, fill));
+    check(Center(Some(part), width, fill));
+    check(ZeroPadded(Lower(part), width));
+    check(OrElse(None::<u8>, part));
+    check(OrElse(Some(part), Byte(fill)));
+    check(Joined(&[part, part, part], ", "));
+    check((part, 2u16, "3", part, 5u64, part, 7i8, part, 9i32, "10", Hex(fill), part));
+}
+
+/// Panics of the package print nothing: there are many.
+fn be_silent() {
+    set_hook(Box::new(|panic| {
+        if panic.location().is_some_and(|location| location.file().ends_with("utf8.rs")) {
+            eprintln!("{panic}");
+        }
+    }));
+}
+
+fn next(state: &mut u64) -> u64 {
+    *state = state.wrapping_mul(6_364_136_223_846_793_005).wrapping_add(1_442_695_040_888_963_407);
+    *state ^ *state >> 29
+}
+
+#[test]
+fn each_str_is_utf8() {
+    be_silent();
+    let state = &mut 9;
+    let groups =
+        NumberFormatBuilder::new().radix(7).required_mantissa_sign(true).digit_grouping(2, b'~').build_strict();
+    let rounds = std::env::var("ROUNDS").map_or(12, |rounds| rounds.parse().unwrap());
+    for _ in 0..rounds {
+        let (bits, few) = (next(state) >> (next(state) % 64), next(state) >> 20);
+        let (width, fill) = ((few % 40) as usize, (next(state) >> 40) as u8);
+        let bytes: Vec<u8> = (0..few % 5).map(|_| (next(state) >> 30) as u8).collect();
+        macro_rules! all {
+            ($($part:expr),* $(,)?) => { $(check_in($part, width, fill);)* };
+        }
+        all!(
+            bits,
+            bits as u8,
+            bits as u16,
+            bits as u32,
+            bits as usize,
+            bits as i8,
+            bits as i16,
+            bits as i32,
+            bits as i64,
+            bits as isize,
+            "ÄÖ€𝄞",
+            Decimal(bits as i64),
+            Digits(width as u32, bits),
+            Formatted(bits as i16, &groups),
+            Plus(bits as i32),
+            Sign(bits as i64, few % 2 == 0),
+            Hex(bits),
+            Binary(bits as u16),
+            Padded(bits, width),
+            Padded(bits as u8, width / 16),
+            PaddedDigits(few as u32 % 40, bits as u16, width),
+            Fixed(bits as i64, width),
+            GroupedFixed(bits as i32, width / 2, &groups),
+            Scientific(bits as i64, few as i32),
+            Byte(fill),
+            Bytes(&bytes),
+            HexBytes(&bytes, "ß"),
+            Own(&bytes),
+            Own(b"own"),
+            Own(&[200]),
+        );
+        let text = Buffer::new().format(bits as i64).to_owned();
+        assert_eq!(text, (bits as i64).to_string());
+    }
+    println!("{} texts", TEXTS.load(Relaxed));
+}
+
+/// Parts that contain one whose bytes are not UTF-8 panic.
+#[test]
+fn bad_bytes_never_become_a_str() {
+    be_silent();
+    fn panics<P: Part>(part: P) {
+        assert!(catch_unwind(AssertUnwindSafe(|| part.to_str(&mut [b'a'; 200]).len())).is_err());
+        assert!(catch_unwind(AssertUnwindSafe(|| part.try_to_str(&mut [b'a'; 200]).map(str::len))).is_err());
+    }
+    for bytes in [&[200][..], &[0xC3], &[b'a', 0xE2, 0x82], &[0xED, 0xA0, 0x80], &[0xF5]] {
+        panics(Own(bytes));
+        panics(Bytes(bytes));
+        panics(("id=", Own(bytes), 5u8));
+        panics((1u8, (2u8, Bytes(bytes), 3u8)));
+        panics(Joined(&[Own(b"a"), Own(bytes)], ","));
+        panics(Some(Own(bytes)));
+        panics(OrElse(None::<u8>, Own(bytes)));
+        panics(Left(Own(bytes), 9, b' '));
+        panics(ZeroPadded(Bytes(bytes), 9));
+        panics(Lower(Own(bytes)));
+        panics(Some(&Own(bytes)));
+    }
+    panics(Byte(128));
+    panics(Left(5u8, 3, 200));
+    panics(Right("a", 3, 255));
+    panics(Center(Hex(5u8), 4, 128));
+    // The halves of a character are UTF-8 together.
+    assert_eq!((Byte(0xC3), Byte(0xA9)).to_str(&mut [0; 2]), "é");
+    assert_eq!((Own(&[0xC3]), Bytes(&[0xA9])).to_str(&mut [0; 2]), "é");
+}
