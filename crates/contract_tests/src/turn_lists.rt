@@ -45,7 +45,7 @@ pub fn turns_of<T: Decimal + DigitCount>(value: T, radix: u32, digits: usize) ->
     ensures turns { HasTurns result (write_turns radix digits) (table_turns radix digits)
         (slow_turns digits) (compact_turns digits) }
 {
-    digit_count_is_least(radix, value.as_usize() as u64);
+    digit_count_is_least(radix, value.as_u64());
     let mut written = Turns::new();
     write_integer_counted(value, radix, &mut [0; 128], &mut written);
     let mut table = Turns::new();

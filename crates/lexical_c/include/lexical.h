@@ -70,8 +70,8 @@
 #include <stddef.h>
 #include <stdint.h>
 
-#if SIZE_MAX != UINT64_MAX
-#error "lexical_c is built for a size_t of 64 bits"
+#if SIZE_MAX != UINT64_MAX && SIZE_MAX != UINT32_MAX
+#error "lexical_c is built for a size_t of 64 or 32 bits"
 #endif
 
 /* Attributes of the functions below, for compilers that have them. */

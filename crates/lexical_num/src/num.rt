@@ -157,7 +157,8 @@ impl LexicalInteger for u64 {
 }
 
 impl LexicalInteger for usize {
-    const BITS: usize = usize::BITS as usize;
+    // With pointers of 32 bits its numbers are among those of `u64`, and so are its constants.
+    const BITS: usize = u64::BITS as usize;
 
     const DECIMAL_WIDTH: usize = 20;
 
@@ -288,7 +289,8 @@ impl LexicalInteger for i64 {
 }
 
 impl LexicalInteger for isize {
-    const BITS: usize = isize::BITS as usize;
+    // With pointers of 32 bits its numbers are among those of `i64`, and so are its constants.
+    const BITS: usize = i64::BITS as usize;
 
     const DECIMAL_WIDTH: usize = 19;
 
@@ -338,12 +340,17 @@ pub trait UnsignedInteger: LexicalInteger {
         requires { magnitude self < 2 ^ 32 }
         ensures { result ≡ magnitude self }
     {
-        let number = self.as_usize();
+        let number = self.as_u64();
         prove!(number < 4_294_967_296, "the number is 2^32 or above");
         number as u32
     }
 
-    /// Returns the number as a `usize`, which every number of the type fits.
+    /// Returns the number as a `u64`, which every number of the type fits.
+    fn as_u64(self) -> u64
+        ensures { result ≡ magnitude self };
+
+    /// Returns the number as a `usize`, which every number of the type fits if pointers have 64 bits.
+    /// If they have 32, the call panics for 2^32 and above.
     fn as_usize(self) -> usize
         ensures { result ≡ magnitude self };
 
@@ -357,7 +364,7 @@ pub trait UnsignedInteger: LexicalInteger {
     final fn is_at_least(self, other: Self) -> bool
         ensures { IsTrue result ↔ (magnitude other ≤ magnitude self) }
     {
-        self.as_usize() >= other.as_usize()
+        self.as_u64() >= other.as_u64()
     }
 
     /// Returns the number of zero bits above the highest set bit, and `BITS` for 0.
@@ -396,6 +403,10 @@ impl UnsignedInteger for u8 {
         value as u8
     }
 
+    fn as_u64(self) -> u64 {
+        self as u64
+    }
+
     fn as_usize(self) -> usize {
         self as usize
     }
@@ -421,6 +432,10 @@ impl UnsignedInteger for u16 {
     fn from_u32(value: u32) -> u16 {
         prove!(value < 65_536, "the type does not have the number");
         value as u16
+    }
+
+    fn as_u64(self) -> u64 {
+        self as u64
     }
 
     fn as_usize(self) -> usize {
@@ -449,6 +464,10 @@ impl UnsignedInteger for u32 {
         value
     }
 
+    fn as_u64(self) -> u64 {
+        self as u64
+    }
+
     fn as_usize(self) -> usize {
         self as usize
     }
@@ -475,8 +494,13 @@ impl UnsignedInteger for u64 {
         value as u64
     }
 
+    fn as_u64(self) -> u64 {
+        self
+    }
+
     fn as_usize(self) -> usize {
-        // A `usize` has 64 bits.
+        // With pointers of 32 bits a larger number would be cut off.
+        prove!(self <= usize::MAX as u64);
         self as usize
     }
 
@@ -502,6 +526,10 @@ impl UnsignedInteger for usize {
         value as usize
     }
 
+    fn as_u64(self) -> u64 {
+        self as u64
+    }
+
     fn as_usize(self) -> usize {
         self
     }
@@ -511,6 +539,6 @@ impl UnsignedInteger for usize {
     }
 
     fn leading_zeros(self) -> u32 {
-        usize::leading_zeros(self)
+        u64::leading_zeros(self as u64)
     }
 }

@@ -126,7 +126,7 @@ impl<T: Radix> fmt::Display for Hex<T> {
         self.0.fits_bits();
         let mut buffer = [0; 16];
         let text = Hex(self.0).to_str(&mut buffer);
-        digits_computed(16, self.0.as_usize() as u64, text.as_bytes());
+        digits_computed(16, self.0.as_u64(), text.as_bytes());
         pad_number(f, false, false, text)
     }
 }
@@ -140,7 +140,7 @@ impl<T: Radix> fmt::Display for Binary<T> {
         self.0.fits_bits();
         let mut buffer = [0; 64];
         let text = Binary(self.0).to_str(&mut buffer);
-        digits_computed(2, self.0.as_usize() as u64, text.as_bytes());
+        digits_computed(2, self.0.as_u64(), text.as_bytes());
         pad_number(f, false, false, text)
     }
 }

@@ -161,14 +161,19 @@ where
 #[test]
 fn decimal_numbers(rt: HostRuntime) {
     let options = Options::new();
+    let of_sizes = if usize::BITS == 64 {
+        [269, 266]
+    } else {
+        [132, 132]
+    };
     check_numbers::<u8>(&rt, &options, 29);
     check_numbers::<u16>(&rt, &options, 63);
     check_numbers::<u32>(&rt, &options, 132);
     check_numbers::<u64>(&rt, &options, 269);
-    check_numbers::<usize>(&rt, &options, 269);
+    check_numbers::<usize>(&rt, &options, of_sizes[0]);
     check_numbers::<i8>(&rt, &options, 27);
     check_numbers::<i16>(&rt, &options, 62);
     check_numbers::<i32>(&rt, &options, 132);
     check_numbers::<i64>(&rt, &options, 266);
-    check_numbers::<isize>(&rt, &options, 266);
+    check_numbers::<isize>(&rt, &options, of_sizes[1]);
 }

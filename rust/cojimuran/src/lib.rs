@@ -72,8 +72,8 @@
 #![deny(unsafe_code)]
 #![warn(missing_docs, clippy::missing_errors_doc)]
 
-#[cfg(not(target_pointer_width = "64"))]
-compile_error!("this package needs pointers of 64 bits: with others its texts would be wrong");
+#[cfg(not(any(target_pointer_width = "64", target_pointer_width = "32")))]
+compile_error!("this package needs pointers of 64 or 32 bits");
 
 // The sources in Rattle, as `strip` makes them: what users have of them is exported below.
 #[allow(

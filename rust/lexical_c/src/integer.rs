@@ -10,23 +10,23 @@ pub trait WideInteger: ToLexicalWithOptions {
     fn magnitude(self) -> u64;
 }
 
-impl WideInteger for isize {
+impl WideInteger for i64 {
     #[inline]
     fn magnitude(self) -> u64 {
-        self.unsigned_abs() as u64
+        self.unsigned_abs()
     }
 }
 
-impl WideInteger for usize {
+impl WideInteger for u64 {
     #[inline]
     fn magnitude(self) -> u64 {
-        self as u64
+        self
     }
 }
 
 /// An integer type that C passes, of at most 64 bits.
 pub trait CInteger: ToLexicalWithOptions {
-    /// A type of 64 bits that has its numbers: `isize` if it has them.
+    /// A type of 64 bits that has its numbers: `i64` if it has them.
     type Wide: WideInteger;
 
     /// Returns the same number.
@@ -34,82 +34,82 @@ pub trait CInteger: ToLexicalWithOptions {
 }
 
 impl CInteger for u8 {
-    type Wide = isize;
+    type Wide = i64;
 
     #[inline]
-    fn widen(self) -> isize {
-        self as isize
+    fn widen(self) -> i64 {
+        self as i64
     }
 }
 
 impl CInteger for u16 {
-    type Wide = isize;
+    type Wide = i64;
 
     #[inline]
-    fn widen(self) -> isize {
-        self as isize
+    fn widen(self) -> i64 {
+        self as i64
     }
 }
 
 impl CInteger for u32 {
-    type Wide = isize;
+    type Wide = i64;
 
     #[inline]
-    fn widen(self) -> isize {
-        self as isize
+    fn widen(self) -> i64 {
+        self as i64
     }
 }
 
 impl CInteger for u64 {
-    type Wide = usize;
+    type Wide = u64;
 
     #[inline]
-    fn widen(self) -> usize {
-        self as usize
-    }
-}
-
-impl CInteger for usize {
-    type Wide = usize;
-
-    #[inline]
-    fn widen(self) -> usize {
+    fn widen(self) -> u64 {
         self
     }
 }
 
-impl CInteger for i8 {
-    type Wide = isize;
+impl CInteger for usize {
+    type Wide = u64;
 
     #[inline]
-    fn widen(self) -> isize {
-        self as isize
+    fn widen(self) -> u64 {
+        self as u64
+    }
+}
+
+impl CInteger for i8 {
+    type Wide = i64;
+
+    #[inline]
+    fn widen(self) -> i64 {
+        self as i64
     }
 }
 
 impl CInteger for i16 {
-    type Wide = isize;
+    type Wide = i64;
 
     #[inline]
-    fn widen(self) -> isize {
-        self as isize
+    fn widen(self) -> i64 {
+        self as i64
     }
 }
 
 impl CInteger for i32 {
-    type Wide = isize;
+    type Wide = i64;
 
     #[inline]
-    fn widen(self) -> isize {
-        self as isize
+    fn widen(self) -> i64 {
+        self as i64
     }
 }
 
 impl CInteger for i64 {
-    type Wide = isize;
+    type Wide = i64;
 
     #[inline]
-    fn widen(self) -> isize {
-        self as isize
+    fn widen(self) -> i64 {
+        self
     }
 }

@@ -214,11 +214,15 @@ fn messages() {
         "n < 10_000_000_000": jeaiii::fixed_8_wide(10_000_000_000);
         "the type does not have the number": <u8 as UnsignedInteger>::from_u32(256);
         "the type does not have the number": <u16 as UnsignedInteger>::from_u32(65_536);
-        "the count is 2^63 or above": builder.digit_grouping(1, b',').build_strict().grouped_len(1 << 63);
+        "the count is above isize::MAX": builder.digit_grouping(1, b',').build_strict().grouped_len(1 << 63);
         "the number is 2^32 or above": 0x1_0000_0000u64.as_u32();
         "out of bounds": digit_to_char(36), digit_to_char(u32::MAX);
         "by zero": 7u8.div_rem(0), 7u64.div_rem(0);
         "the radix is not from 2 to 36": 7i8.magnitude_digits(1), 7u64.magnitude_digits(37);
         "the radix is not from 2 to 36": write_padded(0u8, 37, &mut []);
     }
+    #[cfg(target_pointer_width = "64")]
+    check_messages! { "the number is 10^19 or above": usize::MAX.decimal_signed(buffer); }
+    #[cfg(target_pointer_width = "32")]
+    check_messages! { "self <= usize::MAX as u64": 0x1_0000_0000u64.as_usize(); }
 }

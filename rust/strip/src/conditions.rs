@@ -32,7 +32,7 @@ const CONDITIONS: &[(&str, Broken)] = &[
     ("magnitude self < 2 ^ 32", Panics("the number is 2^32 or above")),
     ("value < 2 ^ Self.BITS", Panics("the type does not have the number")),
     ("IsValid self.now", Panics("a part is invalid: then `build` returns an error")),
-    ("count < 2 ^ 63", Panics("the digits are grouped and the count is 2^63 or above")),
+    ("count < 2 ^ 63", Panics("the digits are grouped and the count is above `isize::MAX`")),
     ("1 ≤ count", IsNamed),
     // Kernels.
     ("n < 10 ^ 4", RANGE),
@@ -54,7 +54,7 @@ const CONDITIONS: &[(&str, Broken)] = &[
     ("is_valid self", Panics("the part is not valid")),
     ("P.is_valid part", Panics("the part is not valid")),
     ("extra + P.room part < radix ^ width", Panics("the length has more digits than `width`")),
-    ("extra + P.room part < 2 ^ 64", Panics("the length and `extra` together are 2^64 or above")),
+    ("extra + P.room part < 2 ^ 64", Panics("the length and `extra` together are above `usize::MAX`")),
     ("is_utf8 self", Panics("the text of the part is not UTF-8")),
     // Devices and lines.
     ("0 < SIZE", Panics("`SIZE` is 0")),

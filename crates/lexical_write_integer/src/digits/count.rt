@@ -40,7 +40,7 @@ fn quotient<T: UnsignedInteger>(number: T, power: T, turns: &mut Turns) -> T
     ensures notes { turns.new ≡ turns.old ++ T.magnitude result ∷ [] }
 {
     let (left, _) = number.div_rem(power);
-    turns.tick(left.as_usize() as u64);
+    turns.tick(left.as_u64());
     left
 }
 

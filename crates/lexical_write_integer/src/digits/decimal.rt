@@ -46,7 +46,7 @@ pub trait Decimal: DecimalCount {
         ensures digits { WritesDigits 10 (Self.magnitude self) buffer.old buffer.new result }
         ensures short { result ≤ SIGNED_WIDTH }
     {
-        let number = self.as_usize() as u64;
+        let number = self.as_u64();
         prove!(
             number < 10_000_000_000_000_000_000,
             "the number is 10^19 or above"
@@ -105,7 +105,7 @@ impl Decimal for u64 {
     ghost signed_width = { is_decimal_width (lit≤ tt) (lit≤ tt) (lit≤ tt) (lit≤ tt) };
 }
 
-// A `usize` has 64 bits.
+// The constants of `usize` are those of `u64`.
 impl Decimal for usize {
     const SIGNED_WIDTH: usize = 19;
 

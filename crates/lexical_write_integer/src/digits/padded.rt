@@ -35,7 +35,7 @@ pub fn write_padded<T: DigitCount + Radix>(value: T, radix: u32, buffer: &mut [u
     ensures width { result ≡ length buffer.old }
 {
     value.fits_bits();
-    let number = value.as_usize() as u64;
+    let number = value.as_u64();
     if radix == 10 {
         prove!(
             fits_decimal_width(number, buffer.len()),

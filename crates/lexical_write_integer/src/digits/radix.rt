@@ -67,7 +67,7 @@ fn write_digits<T: UnsignedInteger, const R: u32>(
     ensures notes { turns.new ≡ turns.old ++ table_notes R (T.magnitude value) }
 {
     value.fits_bits();
-    let number = value.as_usize() as u64;
+    let number = value.as_u64();
     if counts_at_once(R) {
         return write_at_once::<R>(number, table, buffer, turns);
     }
@@ -128,7 +128,7 @@ fn write_short_or_apart<T: UnsignedInteger, const R: u32>(
     ensures notes { turns.new ≡ turns.old ++ table_notes R (T.magnitude value) }
 {
     value.fits_bits();
-    let number = value.as_usize() as u64;
+    let number = value.as_u64();
     if number < u64::from(R * R) {
         return write_short(number as u32, RadixTable::<R>::new(), buffer, turns);
     }

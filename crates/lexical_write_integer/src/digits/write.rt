@@ -91,7 +91,7 @@ pub trait WriteInteger: Decimal + Radix {
         ensures digits { WritesDigits radix (Self.magnitude self) buffer.old buffer.new result }
         ensures short { result ≤ Self.BITS }
     {
-        let number = self.as_usize() as u64;
+        let number = self.as_u64();
         prove!(
             radix != 10 || number < 10_000_000_000_000_000_000,
             "the number is 10^19 or above"

@@ -21,7 +21,7 @@ fn check_in<U: Radix + Compact>(rt: &impl Abort, value: U, radix: u32, room: usi
     requires need { digit_count radix (U.magnitude value) ≤ room }
     requires room { room ≤ 140 }
 {
-    let row = (value.as_usize(), radix, room);
+    let row = (value.as_u64(), radix, room);
     let mut buffer = [7u8; ROOM];
     let count = value.radix(radix, &mut buffer[..room]);
     check_written(rt, row, count, &buffer, digits);
@@ -43,7 +43,7 @@ fn check_write_integer<U: WriteInteger>(
 {
     let mut buffer = [7u8; ROOM];
     let count = value.write_integer(radix, &mut buffer[..room]);
-    check_written(rt, (value.as_usize(), radix, room), count, &buffer, digits);
+    check_written(rt, (value.as_u64(), radix, room), count, &buffer, digits);
 }
 
 fn check_decimal<U: Decimal>(rt: &impl Abort, value: U, room: usize, digits: &[u8])
@@ -52,8 +52,8 @@ fn check_decimal<U: Decimal>(rt: &impl Abort, value: U, room: usize, digits: &[u
 {
     let mut buffer = [7u8; ROOM];
     let count = value.decimal(&mut buffer[..room]);
-    check_equal(rt, value.as_usize(), value.decimal_count(), digits.len());
-    check_written(rt, (value.as_usize(), 10, room), count, &buffer, digits);
+    check_equal(rt, value.as_u64(), value.decimal_count(), digits.len());
+    check_written(rt, (value.as_u64(), 10, room), count, &buffer, digits);
 }
 
 // Checks the writers that require the decimal width of the type in radix 10, with a buffer of exactly the
@@ -84,10 +84,10 @@ fn check_digits<U: Compact + DigitCount + WriteInteger>(
     requires radix { IsRadix radix }
     requires width { U.DECIMAL_WIDTH ≤ 20 }
 {
-    digit_count_is_least(radix, value.as_usize() as u64);
+    digit_count_is_least(radix, value.as_u64());
     let count = value.digit_count(radix);
     let counts = [count, value.slow_digit_count(radix)];
-    check_equal(rt, (value.as_usize(), radix), counts, [digits.len(); 2]);
+    check_equal(rt, (value.as_u64(), radix), counts, [digits.len(); 2]);
     check_in(rt, value, radix, count, digits);
     check_in(rt, value, radix, count + 3, digits);
     check_wide(rt, value, radix, count, digits);
@@ -98,7 +98,9 @@ pub(crate) fn check_types(rt: &impl Abort, number: u64, radix: u32, digits: &[u8
     requires { IsRadix radix }
 {
     check_digits(rt, number, radix, digits);
-    check_digits(rt, number as usize, radix, digits);
+    if let Ok(number) = usize::try_from(number) {
+        check_digits(rt, number, radix, digits);
+    }
     if let Ok(number) = u32::try_from(number) {
         check_digits(rt, number, radix, digits);
     }

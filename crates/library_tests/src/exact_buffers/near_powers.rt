@@ -218,8 +218,11 @@ fn numbers_of_u64(rt: HostRuntime) {
 
 #[test]
 fn numbers_of_usize(rt: HostRuntime) {
-    let ends = [0, 18446744073709551615];
-    check_type::<usize>(&rt, &Options::new(), ends, [4270, 3550]);
+    let (ends, expected) = match usize::BITS {
+        32 => ([0, 4294967295], [2332, 1890]),
+        _ => ([0, 18446744073709551615], [4270, 3550]),
+    };
+    check_type::<usize>(&rt, &Options::new(), ends, expected);
 }
 
 #[test]
@@ -238,6 +241,9 @@ fn numbers_of_i64(rt: HostRuntime) {
 
 #[test]
 fn numbers_of_isize(rt: HostRuntime) {
-    let ends = [9223372036854775808, 9223372036854775807];
-    check_type::<isize>(&rt, &Options::new(), ends, [8234, 6890]);
+    let (ends, expected) = match isize::BITS {
+        32 => ([2147483648, 2147483647], [4340, 3530]),
+        _ => ([9223372036854775808, 9223372036854775807], [8234, 6890]),
+    };
+    check_type::<isize>(&rt, &Options::new(), ends, expected);
 }

@@ -21,28 +21,25 @@ fn check_sizes<T: LexicalInteger + FormattedSize>(rt: &impl Abort, value: T, exp
 }
 
 // Checks the quotient and the remainder.
-fn check_divided<T: UnsignedInteger>(rt: &impl Abort, value: T, by: T, expected: [usize; 2])
+fn check_divided<T: UnsignedInteger>(rt: &impl Abort, value: T, by: T, expected: [u64; 2])
     requires { 0 < T.magnitude by }
 {
     let (quotient, remainder) = value.div_rem(by);
-    let row = [value.as_usize(), by.as_usize()];
-    check_equal(
-        rt,
-        row,
-        [quotient.as_usize(), remainder.as_usize()],
-        expected,
-    );
+    let row = [value.as_u64(), by.as_u64()];
+    check_equal(rt, row, [quotient.as_u64(), remainder.as_u64()], expected);
 }
 
 // Checks that the number is the same in the type.
 fn check_through<T: UnsignedInteger>(rt: &impl Abort, value: u32)
     requires { value < 2 ^ T.BITS }
 {
-    check_equal(rt, T::BITS, T::from_u32(value).as_u32(), value);
+    let number = T::from_u32(value);
+    check_equal(rt, T::BITS, number.as_u32(), value);
+    check_equal(rt, T::BITS, number.as_usize(), value as usize);
 }
 
 fn check_zeros<T: UnsignedInteger>(rt: &impl Abort, value: T, expected: u32) {
-    let row = (T::BITS, value.as_usize());
+    let row = (T::BITS, value.as_u64());
     check_equal(rt, row, value.leading_zeros(), expected);
 }
 

@@ -37,8 +37,8 @@ fn rooms_of_joined_parts(rt: HostRuntime) {
     check_room(&rt, Joined(&[-5i64], ", "), 20);
     check_room(&rt, Joined(&[1i64, 2, 3], ", "), 64);
     check_room(&rt, Joined(&["a", "bcd", ""], ", "), 8);
-    let wide = Left("", 18446744073709551615, b' ');
-    check_room(&rt, Joined(&[wide, wide], ", "), 18446744073709551615);
+    let wide = Left("", usize::MAX, b' ');
+    check_room(&rt, Joined(&[wide, wide], ", "), usize::MAX);
     check_room(&rt, HexBytes(&[1, 2, 3], ""), 6);
     check_room(&rt, HexBytes(&[1, 2, 3], ", "), 10);
     check_room(&rt, HexBytes(&[], ", "), 0);
@@ -57,8 +57,9 @@ fn integers_are_parts(rt: HostRuntime) {
     let largest = "18446744073709551615 -9223372036854775808";
     let wide = (18446744073709551615u64, " ", -9223372036854775808i64);
     check_str(&rt, wide, &mut [7; 41], largest);
-    let sizes = (18446744073709551615usize, " ", -9223372036854775808isize);
-    check_str(&rt, sizes, &mut [7; 41], largest);
+    if usize::BITS == 64 {
+        check_str(&rt, (usize::MAX, " ", isize::MIN), &mut [7; 41], largest);
+    }
 }
 
 #[test]

@@ -71,7 +71,7 @@ fn digits_at_each_width(rt: HostRuntime) {
     check_digits(&rt, alloc, u16::MAX, 0xFFFF);
     check_digits(&rt, alloc, u32::MAX, 0xFFFF_FFFF);
     check_digits(&rt, alloc, u64::MAX, u64::MAX);
-    check_digits(&rt, alloc, usize::MAX, u64::MAX);
+    check_digits(&rt, alloc, usize::MAX, usize::MAX as u64);
 }
 
 #[test]

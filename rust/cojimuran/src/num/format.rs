@@ -94,21 +94,18 @@ impl NumberFormat {
     }
 
     /// Returns the number of bytes that `count` digits take in the format. If the digits are grouped,
-    /// a separator precedes each group but the first. The count is below 2^63.
+    /// a separator precedes each group but the first. The count is at most `isize::MAX`.
     ///
     /// # Panics
     ///
-    /// If the digits are grouped and the count is 2^63 or above.
+    /// If the digits are grouped and the count is above `isize::MAX`.
     #[must_use]
     #[inline]
     pub const fn grouped_len(&self, count: usize) -> usize {
         match self.digit_grouping() {
             Some((size, _)) => {
                 // In Rust nothing else refuses a sum that wraps.
-                assert!(
-                    count < 9_223_372_036_854_775_808,
-                    "the count is 2^63 or above"
-                );
+                assert!(count <= usize::MAX / 2, "the count is above isize::MAX");
                 count + count.saturating_sub(1) / size as usize
             }
             None => count,

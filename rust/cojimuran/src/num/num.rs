@@ -80,7 +80,8 @@ impl LexicalInteger for u64 {
 }
 
 impl LexicalInteger for usize {
-    const BITS: usize = usize::BITS as usize;
+    // With pointers of 32 bits its numbers are among those of `u64`, and so are its constants.
+    const BITS: usize = u64::BITS as usize;
 
     const DECIMAL_WIDTH: usize = 20;
 
@@ -146,7 +147,8 @@ impl LexicalInteger for i64 {
 }
 
 impl LexicalInteger for isize {
-    const BITS: usize = isize::BITS as usize;
+    // With pointers of 32 bits its numbers are among those of `i64`, and so are its constants.
+    const BITS: usize = i64::BITS as usize;
 
     const DECIMAL_WIDTH: usize = 19;
 
@@ -186,12 +188,17 @@ pub trait UnsignedInteger: LexicalInteger {
     #[must_use]
     #[inline]
     fn as_u32(self) -> u32 {
-        let number = self.as_usize();
+        let number = self.as_u64();
         assert!(number < 4_294_967_296, "the number is 2^32 or above");
         number as u32
     }
 
-    /// Returns the number as a `usize`, which every number of the type fits.
+    /// Returns the number as a `u64`, which every number of the type fits.
+    #[must_use]
+    fn as_u64(self) -> u64;
+
+    /// Returns the number as a `usize`, which every number of the type fits if pointers have 64 bits.
+    /// If they have 32, the call panics for 2^32 and above.
     #[must_use]
     fn as_usize(self) -> usize;
 
@@ -207,7 +214,7 @@ pub trait UnsignedInteger: LexicalInteger {
     #[must_use]
     #[inline]
     fn is_at_least(self, other: Self) -> bool {
-        self.as_usize() >= other.as_usize()
+        self.as_u64() >= other.as_u64()
     }
 
     /// Returns the number of zero bits above the highest set bit, and `BITS` for 0.
@@ -220,6 +227,11 @@ impl UnsignedInteger for u8 {
     fn from_u32(value: u32) -> u8 {
         assert!(value < 256, "the type does not have the number");
         value as u8
+    }
+
+    #[inline]
+    fn as_u64(self) -> u64 {
+        self as u64
     }
 
     #[inline]
@@ -246,6 +258,11 @@ impl UnsignedInteger for u16 {
     }
 
     #[inline]
+    fn as_u64(self) -> u64 {
+        self as u64
+    }
+
+    #[inline]
     fn as_usize(self) -> usize {
         self as usize
     }
@@ -265,6 +282,11 @@ impl UnsignedInteger for u32 {
     #[inline]
     fn from_u32(value: u32) -> u32 {
         value
+    }
+
+    #[inline]
+    fn as_u64(self) -> u64 {
+        self as u64
     }
 
     #[inline]
@@ -290,8 +312,14 @@ impl UnsignedInteger for u64 {
     }
 
     #[inline]
+    fn as_u64(self) -> u64 {
+        self
+    }
+
+    #[inline]
     fn as_usize(self) -> usize {
-        // A `usize` has 64 bits.
+        // With pointers of 32 bits a larger number would be cut off.
+        assert!(self <= usize::MAX as u64);
         self as usize
     }
 
@@ -313,6 +341,11 @@ impl UnsignedInteger for usize {
     }
 
     #[inline]
+    fn as_u64(self) -> u64 {
+        self as u64
+    }
+
+    #[inline]
     fn as_usize(self) -> usize {
         self
     }
@@ -324,6 +357,6 @@ impl UnsignedInteger for usize {
 
     #[inline]
     fn leading_zeros(self) -> u32 {
-        usize::leading_zeros(self)
+        u64::leading_zeros(self as u64)
     }
 }

@@ -104,7 +104,7 @@ pub trait DecimalCount: UnsignedInteger {
     {
         self.fits_bits();
         if Self::BITS == 64 {
-            fallback_digit_count(self.as_usize() as u64, &POWERS_OF_TEN)
+            fallback_digit_count(self.as_u64(), &POWERS_OF_TEN)
         } else {
             fast_digit_count(self.as_u32())
         }

@@ -104,7 +104,7 @@ pub(crate) fn write_decimal<T: UnsignedInteger>(
     // One test of the length takes the place of one at each write.
     let room = &mut buffer[..width];
     if T::BITS == 64 {
-        write_64(value.as_usize() as u64, room, turns)
+        write_64(value.as_u64(), room, turns)
     } else {
         write_32(value.as_u32(), room, turns)
     }

@@ -96,7 +96,7 @@ pub fn compact_counted<T: UnsignedInteger>(
     ensures short { result ≤ T.BITS }
 {
     value.fits_bits();
-    write_each_digit_in(value.as_usize() as u64, radix, buffer, turns)
+    write_each_digit_in(value.as_u64(), radix, buffer, turns)
 }
 
 /// An unsigned integer type whose digits are written by the compact writer.

@@ -40,7 +40,7 @@ pub trait Decimal: DecimalCount {
     #[inline(always)]
     #[track_caller]
     fn decimal_signed(self, buffer: &mut [u8]) -> usize {
-        let number = self.as_usize() as u64;
+        let number = self.as_u64();
         assert!(
             number < 10_000_000_000_000_000_000,
             "the number is 10^19 or above"
@@ -65,7 +65,7 @@ impl Decimal for u64 {
     const SIGNED_WIDTH: usize = 19;
 }
 
-// A `usize` has 64 bits.
+// The constants of `usize` are those of `u64`.
 impl Decimal for usize {
     const SIGNED_WIDTH: usize = 19;
 }

@@ -29,7 +29,7 @@ fn fits_decimal_width(number: u64, width: usize) -> bool {
 /// or if the number has more digits than the buffer has bytes.
 #[inline]
 pub fn write_padded<T: DigitCount + Radix>(value: T, radix: u32, buffer: &mut [u8]) -> usize {
-    let number = value.as_usize() as u64;
+    let number = value.as_u64();
     if radix == 10 {
         assert!(
             fits_decimal_width(number, buffer.len()),

@@ -41,7 +41,7 @@ fn write_digits<T: UnsignedInteger, const R: u32>(
     table: &[u8],
     buffer: &mut [u8],
 ) -> usize {
-    let number = value.as_usize() as u64;
+    let number = value.as_u64();
     if counts_at_once(R) {
         return write_at_once::<R>(number, table, buffer);
     }
@@ -74,7 +74,7 @@ fn write_apart<T: UnsignedInteger, const R: u32>(value: T, buffer: &mut [u8]) ->
 // type of 8 or 16 bits, whose code is short.
 #[inline]
 fn write_short_or_apart<T: UnsignedInteger, const R: u32>(value: T, buffer: &mut [u8]) -> usize {
-    let number = value.as_usize() as u64;
+    let number = value.as_u64();
     if number < u64::from(R * R) {
         return write_short(number as u32, RadixTable::<R>::new(), buffer);
     }

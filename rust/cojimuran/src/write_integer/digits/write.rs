@@ -68,7 +68,7 @@ pub trait WriteInteger: Decimal + Radix {
     #[inline(always)]
     #[track_caller]
     fn write_integer_signed(self, radix: u32, buffer: &mut [u8]) -> usize {
-        let number = self.as_usize() as u64;
+        let number = self.as_u64();
         assert!(
             radix != 10 || number < 10_000_000_000_000_000_000,
             "the number is 10^19 or above"

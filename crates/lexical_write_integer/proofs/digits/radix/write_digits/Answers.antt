@@ -15,7 +15,7 @@ overflow_cast-number g c =
 pub returns : goal.returns
 returns g c =
     let r = g.row.R in
-    let n = c.as_usize-number.result in
+    let n = c.as_u64-number.result in
     let old = c.args.turns.now in
     let after = c.if-number-fourth_power in
     let turns = after.turns in
@@ -33,5 +33,5 @@ returns g c =
           let all = w.count_and_write_more.ensures in
           (rw (w.buffer-is, w.count-is) all.digits, rw w.turns-is (slow_noted r n old _ by_turns all.turns), rw w.loop_turns-is (rw none at all.loop_turns))
     ] in
-    rw (← c.as_usize-number.ensures, c.append.ensures)
+    rw (← c.as_u64-number.ensures, c.append.ensures)
     (record { digits = all.0; notes = table_notes-are r n old turns _ all.1 (ap (λ ys. turns ++ ys) all.2) })

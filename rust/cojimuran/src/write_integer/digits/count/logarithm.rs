@@ -10,7 +10,7 @@ use crate::num::num::UnsignedInteger;
 #[inline(always)]
 pub fn fast_log2<T: UnsignedInteger>(x: T) -> usize {
     // The logarithm of a number that is known not to be 0 is one instruction. To set the last bit is another one.
-    (x.as_usize() as u64 / 2 * 2 + 1).ilog2() as usize
+    (x.as_u64() / 2 * 2 + 1).ilog2() as usize
 }
 
 /// Returns the logarithm to base 10 of the largest power of 2 that is at most the number, rounded down,

@@ -58,7 +58,7 @@ fn write_each_digit_in(value: u64, radix: u32, buffer: &mut [u8]) -> usize {
 /// from 2 to 36, and the buffer has room for the digits. There is one division for each digit after the first.
 #[inline]
 pub(crate) fn compact<T: UnsignedInteger>(value: T, radix: u32, buffer: &mut [u8]) -> usize {
-    write_each_digit_in(value.as_usize() as u64, radix, buffer)
+    write_each_digit_in(value.as_u64(), radix, buffer)
 }
 
 /// An unsigned integer type whose digits are written by the compact writer.

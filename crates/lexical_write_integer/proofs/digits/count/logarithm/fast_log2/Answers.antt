@@ -22,7 +22,7 @@ pub returns-clause-log2 : goal.returns-clause-log2
 returns-clause-log2 g c =
     let x = g.T.UnsignedInteger.magnitude c.args.x in
     let log = c.ilog2.ensures in
-    let is = c.as_usize.ensures in
+    let is = c.as_u64.ensures in
     record {
       of_zero = λ none. power_in_one c.ilog2.result (omega (arith, log.power_le, is));
       of_positive = λ some. IsGreatestPower-between 2 x c.ilog2.result (omega arith)

@@ -8,5 +8,5 @@ returns-clause-turns g c = grind (arith, length-more, length-compact_notes)
 
 pub returns-clause-short : goal.returns-clause-short
 returns-clause-short g c =
-    let digits = rw c.as_usize.ensures at c.write_each_digit_in.ensures.digits in
+    let digits = rw c.as_u64.ensures at c.write_each_digit_in.ensures.digits in
     WritesDigits-short digits c.requires.radix.at_least_two g.met.T.UnsignedInteger.range.width c.fits_bits.ensures

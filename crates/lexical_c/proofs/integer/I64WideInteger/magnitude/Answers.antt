@@ -1,5 +1,5 @@
 use Rattle.std.proofs.Math.Facts.{to_z-of_z}
-use Rattle.lexical_c.proofs.integer.IsizeWideInteger.magnitude.Goals as goal
+use Rattle.lexical_c.proofs.integer.I64WideInteger.magnitude.Goals as goal
 
 -- the check finds this proof by itself, but with an answer the refusal of a mistake says what is wrong
 pub returns : goal.returns
