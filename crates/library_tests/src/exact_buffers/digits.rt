@@ -6,7 +6,7 @@ ghost use Rattle.lexical_write_integer.specs.DigitCount.{digit_count};
 ghost use Rattle.lexical_write_integer.specs.Text.{digits_need};
 
 use crate::checks::{ROOM, check_equal, check_written};
-use lexical_num::num::{LexicalInteger, UnsignedInteger};
+use lexical_num::{LexicalInteger, UnsignedInteger};
 use lexical_write_integer::compact::Compact;
 use lexical_write_integer::decimal::{Decimal, DecimalCount};
 use lexical_write_integer::digit_count::DigitCount;
