@@ -13,7 +13,7 @@ const RANGE: Option<&str> = Some("the number is not in this range");
 const WIDTH: Option<&str> = Some("the number is 10^19 or above");
 const DECIMAL_WIDTH: Option<&str> = Some("the radix is 10 and the number is 10^19 or above");
 
-/// The end of each condition, as the sources write it, and the words after "Panics if" of what does not hold then, or `None`
+/// The end of each condition, as the sources write it after the name of a function, and the words after "Panics if" of what does not hold then, or `None`
 /// if the pages of conditions name the function.
 const CONDITIONS: &[(&str, Option<&str>)] = &[
     ("≤ length buffer.old", SHORT),
@@ -44,6 +44,7 @@ const CONDITIONS: &[(&str, Option<&str>)] = &[
     ("T.magnitude value < radix ^ length buffer.old", Some("the number has more digits than the buffer has bytes")),
     ("IsPowersOfTen (2 ^ T.BITS) (map T.magnitude table.now)", None),
     // Parts.
+    ("room: is_valid self", None),
     ("is_valid self", Some("the part is not valid")),
     ("P.is_valid part", Some("the part is not valid")),
     ("extra + P.room part < radix ^ width", Some("the length has more digits than `width`")),
@@ -63,12 +64,12 @@ pub(crate) fn panics(function: &Function, pages: &str) -> Result<Vec<&'static st
     let mut found = Vec::new();
     for condition in &function.conditions {
         let (_, text) = condition.split_once("{ ").unwrap_or_default();
-        let text = text.trim_end_matches(" }");
+        let text = &format!("{}: {}", function.name, text.trim_end_matches(" }"));
         let is_named = INTERNAL.contains(&&*function.name) || pages.contains(&format!("`{}`", function.name));
         match CONDITIONS.iter().find(|(end, _)| text.ends_with(end)) {
             Some((_, Some(when))) => found.extend((!found.contains(when)).then_some(*when)),
             Some((_, None)) if is_named => {}
-            _ => return Err(format!("{} requires what is neither checked nor named: {text}", function.name)),
+            _ => return Err(format!("what is required is neither checked nor named: {text}")),
         }
     }
     Ok(found)

@@ -115,7 +115,7 @@ fn conditions() {
     assert!(listed.contains("/// If the radix is not from 2 to 36.\n"), "{listed}");
     assert!(!made("pub fn named(a: &mut u8) -> u8\n    requires some { 1 ≤ count }").unwrap().contains("Panics"));
     for (name, condition) in [("other", "1 ≤ count"), ("named", "radix < 36")] {
-        let refused = format!("{name} requires what is neither checked nor named: {condition}");
+        let refused = format!("what is required is neither checked nor named: {name}: {condition}");
         assert_eq!(made(&format!("pub fn {name}(a: u8) -> u8\n    requires {{ {condition} }}")), Err(refused));
     }
 }
