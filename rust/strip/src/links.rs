@@ -12,12 +12,16 @@ pub(crate) fn exports(text: &str, path: &str) -> Exports {
     let is_in_word = |c: char| c.is_alphanumeric() || c == '_';
     for (at, _) in text.match_indices("pub use ") {
         let (before, list) = (&text[..at], text[at..].split(';').next().unwrap_or_default());
+        let is_hidden = |before: &str| before.trim_end().ends_with("#[doc(hidden)]");
         let opened = before.rsplit_once("\npub mod ").filter(|(_, rest)| !rest.contains("\n}"));
+        if is_hidden(before) || opened.is_some_and(|(before, _)| is_hidden(before)) {
+            continue;
+        }
         let inner = opened.and_then(|(_, rest)| rest.split_once(" {")).filter(|(name, _)| name.chars().all(is_in_word));
         let module = inner.map_or(path.to_owned(), |(name, _)| format!("{path}::{name}"));
         let names = list.rsplit(['{', ':']).next().unwrap_or_default().split(|c| !is_in_word(c));
         let is_listed = |name: &&str| name.contains('_') || name.starts_with(char::is_uppercase);
-        for name in names.filter(is_listed).filter(|_| !before.trim_end().ends_with("#[doc(hidden)]")) {
+        for name in names.filter(is_listed) {
             if found.insert(name.to_owned(), format!("{module}::{name}")).is_some() {
                 several.insert(name.to_owned());
             }

@@ -58,6 +58,8 @@ pub(crate) const WRITE_INTEGER: Replaced = &[
 ];
 
 pub(crate) const PARTS: Replaced = &[
+    // Parts can be keys and compared, as values of std can.
+    ("#[derive(Clone, Copy, Debug, Drop)]", "#[derive(Clone, Copy, PartialEq, Eq, Hash, Debug)]"),
     // rustc proves nothing, so a debug build checks.
     ("            // SAFETY: ", "            debug_assert!(from_utf8(text).is_ok());\n            // SAFETY: "),
 ];
