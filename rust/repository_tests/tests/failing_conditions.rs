@@ -22,14 +22,15 @@ use std::sync::mpsc;
 use std::time::Duration;
 use std::{fs, thread};
 
-/// Runs the calls of a test in a thread. Fails unless all return or panic within a second for each.
+/// Runs the calls of a test in a thread, since a call whose check is lost may not return. Fails unless all of this ends
+/// well, within a second for each.
 fn check(name: &str, calls: u32, run: impl FnOnce() + Send + 'static) {
     let (sender, receiver) = mpsc::channel();
     thread::spawn(move || {
         run();
         sender.send(()).ok();
     });
-    receiver.recv_timeout(Duration::from_secs(1) * calls).unwrap_or_else(|_| panic!("{name} does not return"));
+    receiver.recv_timeout(Duration::from_secs(1) * calls).unwrap_or_else(|_| panic!("{name}: a call fails or does not return"));
 }
 
 /// Calls with the middle of a buffer, of this length. No other byte changes.
@@ -140,14 +141,16 @@ fn documented() -> Vec<(String, String)> {
 
 #[test]
 fn each_call_panics_as_its_documentation_says() {
-    let (mut called, documented) = (Vec::new(), documented());
-    short_buffers_of_each_function(&mut called);
-    messages(&mut called);
-    for (name, condition) in &documented {
-        let is_of = |(when, call): &Panicking| when == condition && call.contains(&format!("{name}("));
-        assert!(called.iter().any(is_of), "no call of {name} panics here if {condition}");
-    }
-    assert!(documented.len() > 60, "{}", documented.len());
+    check("a call whose condition does not hold", 60, || {
+        let (mut called, documented) = (Vec::new(), documented());
+        short_buffers_of_each_function(&mut called);
+        messages(&mut called);
+        for (name, condition) in &documented {
+            let is_of = |(when, call): &Panicking| when == condition && call.contains(&format!("{name}("));
+            assert!(called.iter().any(is_of), "no call of {name} panics here if {condition}");
+        }
+        assert!(documented.len() > 60, "{}", documented.len());
+    });
 }
 
 #[test]
