@@ -11,7 +11,6 @@ const SHORT: Option<&str> = Some("the buffer is [too short](crate#conditions)");
 const RADIX: Option<&str> = Some("the radix is not from 2 to 36");
 const RANGE: Option<&str> = Some("the number is not in this range");
 const WIDTH: Option<&str> = Some("the number is 10^19 or above");
-const DECIMAL_WIDTH: Option<&str> = Some("the radix is 10 and the number is 10^19 or above");
 
 /// The end of each condition, as the sources write it after the name of a function, and the words after "Panics if" of what does not hold then, or `None`
 /// if the pages of conditions name the function.
@@ -30,16 +29,14 @@ const CONDITIONS: &[(&str, Option<&str>)] = &[
     // Kernels.
     ("n < 10 ^ 4", RANGE),
     ("n < 10 ^ 6", RANGE),
-    ("10 ^ 6 ≤ n", RANGE),
     ("n < 10 ^ 8", RANGE),
-    ("10 ^ 8 ≤ n", RANGE),
     ("n < 10 ^ 9", RANGE),
-    ("10 ^ 9 ≤ n", RANGE),
+    (" ≤ n", RANGE),
     ("n < 10 ^ 10", RANGE),
     // Writers.
     ("n < 10 ^ 19", WIDTH),
     ("Self.magnitude self < 10 ^ SIGNED_WIDTH", WIDTH),
-    ("≡ 10 → Self.magnitude self < 10 ^ Self.SIGNED_WIDTH", DECIMAL_WIDTH),
+    ("≡ 10 → Self.magnitude self < 10 ^ Self.SIGNED_WIDTH", Some("the radix is 10 and the number is 10^19 or above")),
     ("BeginsWithPairs radix table.now", Some("the table does not begin with the digit pairs of the radix")),
     ("T.magnitude value < radix ^ length buffer.old", Some("the number has more digits than the buffer has bytes")),
     ("IsPowersOfTen (2 ^ T.BITS) (map T.magnitude table.now)", None),

@@ -56,9 +56,6 @@ fn made(top: &Path) -> Result<BTreeMap<PathBuf, String>, String> {
 fn document(top: &Path, made: &mut BTreeMap<PathBuf, String>) -> Result<(), String> {
     let parts = links::exports(&made[Path::new("rust/cojimuran/src/parts.rs")], "crate::parts");
     let mut exports = links::exports(&read(&top.join("rust/cojimuran/src/lib.rs"))?, "crate");
-    let mut named: BTreeSet<_> = parts.keys().cloned().collect();
-    named
-        .extend(exports.iter().filter(|(name, path)| **path == format!("crate::{name}")).map(|(name, _)| name.clone()));
     exports.extend(parts);
     let (mut all, mut names) = (String::new(), BTreeSet::new());
     let mut files: Vec<_> = made.iter_mut().filter(|(path, _)| path.starts_with("rust/cojimuran")).collect();
@@ -68,7 +65,9 @@ fn document(top: &Path, made: &mut BTreeMap<PathBuf, String>) -> Result<(), Stri
             examples::with_examples(text, module, &mut names).map_err(|what| format!("{}: {what}", path.display()))?;
         all += text;
     }
-    if let Some(name) = named.difference(&names).next() {
+    let is_shown =
+        |name: &str, path: &String| [format!("crate::{name}"), format!("crate::parts::{name}")].contains(path);
+    if let Some((name, _)) = exports.iter().find(|(name, path)| is_shown(name, path) && !names.contains(*name)) {
         return Err(format!("{name} has no example"));
     }
     links::add_methods(&all, &mut exports, &mut BTreeSet::new());
@@ -112,12 +111,11 @@ fn made_of(top: &Path, source: &Source, known: &Known) -> Result<BTreeMap<PathBu
 fn made_text(text: &str, file: &str, source: &Source, known: &Known) -> Result<String, String> {
     let made = left_out::without_left_out(&source.replaced(text), source, &known.laws);
     let made = counted::without_counted(&made)?;
-    let made = match left_out::unknown(&made) {
-        _ if source.is_test() => made,
-        Some(line) => return Err(format!("a word that only Rattle has: {line}")),
-        None => additions::with_additions(&made, text, file, source, known)?,
-    };
-    Ok(made)
+    match left_out::unknown(&made) {
+        _ if source.is_test() => Ok(made),
+        Some(line) => Err(format!("a word that only Rattle has: {line}")),
+        None => additions::with_additions(&made, text, file, source, known),
+    }
 }
 
 /// Makes the files of a package that are not committed, in the folder of what its build script makes. The documentation
@@ -141,12 +139,10 @@ pub fn make_built(top: &Path, package: &str, folder: &Path) -> Result<(), String
 
 /// Returns the text as rustfmt lays it out, or an error without rustfmt.
 fn formatted(text: &str, top: &Path) -> Result<String, String> {
+    let folder = top.join("rust/cojimuran").display().to_string();
     let mut rustfmt = Command::new("rustfmt");
-    rustfmt
-        .args(["--edition=2024", "--emit=stdout", "--quiet", "--config-path"])
-        .arg(top.join("rust/cojimuran"))
-        .stdin(Stdio::piped())
-        .stdout(Stdio::piped());
+    rustfmt.args(["--edition=2024", "--emit=stdout", "--quiet", "--config-path", &folder]);
+    rustfmt.stdin(Stdio::piped()).stdout(Stdio::piped());
     let say = |error| format!("rustfmt, which lays out what is made (`rustup component add rustfmt`): {error}");
     let mut child = rustfmt.spawn().map_err(say)?;
     io::Write::write_all(&mut child.stdin.take().expect("a pipe"), text.as_bytes()).map_err(say)?;
