@@ -30,7 +30,9 @@ fn check(name: &str, calls: u32, run: impl FnOnce() + Send + 'static) {
         run();
         sender.send(()).ok();
     });
-    receiver.recv_timeout(Duration::from_secs(1) * calls).unwrap_or_else(|_| panic!("{name}: a call fails or does not return"));
+    receiver
+        .recv_timeout(Duration::from_secs(1) * calls)
+        .unwrap_or_else(|_| panic!("{name}: a call fails or does not return"));
 }
 
 /// Calls with the middle of a buffer, of this length. No other byte changes.

@@ -85,3 +85,14 @@ fn signs_and_no_bytes() {
     assert_eq!((write_sign(5u8, &mut buffer, &signed), buffer), (1, *b"+?"));
     assert_eq!((write_padded(0u8, 16, &mut []), write_padded(0u8, 10, &mut [])), (0, 0));
 }
+
+#[test]
+fn each_part_has_a_row() {
+    let here = include_str!("rooms.rs");
+    let exports = include_str!("../../cojimuran/src/parts.rs").lines().filter_map(|line| line.strip_prefix("pub use "));
+    let names = exports.flat_map(|path| path.split(|c: char| !c.is_alphanumeric()));
+    let parts: Vec<&str> = names.filter(|name| name.starts_with(char::is_uppercase)).collect();
+    let missing = parts.iter().filter(|name| !["Part", "Buffer"].contains(name) && !here.contains(&format!("{name}(")));
+    assert_eq!(missing.collect::<Vec<_>>(), [""; 0]);
+    assert!(parts.len() > 20 && (2..=12).all(|count| here.contains(&format!(") => {count}, \""))));
+}
