@@ -93,6 +93,6 @@ fn each_part_has_a_row() {
     let names = exports.flat_map(|path| path.split(|c: char| !c.is_alphanumeric()));
     let parts: Vec<&str> = names.filter(|name| name.starts_with(char::is_uppercase)).collect();
     let missing = parts.iter().filter(|name| !["Part", "Buffer"].contains(name) && !here.contains(&format!("{name}(")));
-    assert_eq!(missing.collect::<Vec<_>>(), [""; 0]);
+    assert_eq!(missing.collect::<Vec<_>>(), Vec::<&&str>::new());
     assert!(parts.len() > 20 && (2..=12).all(|count| here.contains(&format!(") => {count}, \""))));
 }
