@@ -192,7 +192,7 @@ fn messages() {
         "20 decimals, but at most 19": Fixed(7i64, 20).to_text(buffer), Fixed(7u8, 20).room();
         "90 decimals, but at most 19": Fixed(7u8, 90).to_str(buffer), Fixed(7u8, 90).try_write_to(buffer);
         "the radix is not from 2 to 36": table(37), table(1);
-        "the length and `extra` together are 2^64 or above": write_with_length("ab", 10, 20, usize::MAX - 1, buffer);
+        "the length and `extra` together are above usize::MAX": write_with_length("ab", 10, 20, usize::MAX - 1, buffer);
         "out of range": "ab".write_at(129, buffer), write_with_length("ab", 10, 129, 0, buffer);
         "the number has more digits than the width": write_with_length("0123456789", 10, 1, 0, buffer),
             Padded(2026u16, 2).to_text(buffer), Padded(15u8, 1).try_to_str(buffer),
@@ -201,7 +201,7 @@ fn messages() {
         "the number has more digits than the width": write_padded(1u8, 16, &mut []);
         "the table does not begin with the digit pairs of the radix": algorithm(7u32, 16, &table(16)[..511], buffer), algorithm(7u32, 12, table(13), buffer),
             algorithm(7u32, 13, table(12), buffer), algorithm(7u32, 2, table(36), buffer);
-        "the number is 10^19 or above": u64::MAX.decimal_signed(buffer), usize::MAX.decimal_signed(buffer);
+        "the number is 10^19 or above": u64::MAX.decimal_signed(buffer);
         "the number is 10^19 or above": u64::MAX.write_integer_signed(10, buffer);
         "the number is 10^19 or above": jeaiii::from_i64(u64::MAX, buffer);
         "n < 10_000": jeaiii::fixed_2(10_000);
@@ -214,7 +214,7 @@ fn messages() {
         "n < 10_000_000_000": jeaiii::fixed_8_wide(10_000_000_000);
         "the type does not have the number": <u8 as UnsignedInteger>::from_u32(256);
         "the type does not have the number": <u16 as UnsignedInteger>::from_u32(65_536);
-        "the count is above isize::MAX": builder.digit_grouping(1, b',').build_strict().grouped_len(1 << 63);
+        "the count is above isize::MAX": builder.digit_grouping(1, b',').build_strict().grouped_len(usize::MAX / 2 + 1);
         "the number is 2^32 or above": 0x1_0000_0000u64.as_u32();
         "out of bounds": digit_to_char(36), digit_to_char(u32::MAX);
         "by zero": 7u8.div_rem(0), 7u64.div_rem(0);
@@ -224,5 +224,5 @@ fn messages() {
     #[cfg(target_pointer_width = "64")]
     check_messages! { "the number is 10^19 or above": usize::MAX.decimal_signed(buffer); }
     #[cfg(target_pointer_width = "32")]
-    check_messages! { "self <= usize::MAX as u64": 0x1_0000_0000u64.as_usize(); }
+    check_messages! { "the number is above usize::MAX": 0x1_0000_0000u64.as_usize(); }
 }
