@@ -146,3 +146,13 @@ impl NumberFormat {
         self.parts.are_valid()
     }
 }
+
+impl Default for NumberFormat {
+    ghost use Rattle.lexical_num.specs.Format.{standard};
+
+    ghost is_default = { λ format. format ≡ standard };
+
+    fn default() -> Self {
+        STANDARD
+    }
+}

@@ -120,3 +120,10 @@ impl NumberFormat {
         self.parts.are_valid()
     }
 }
+
+impl Default for NumberFormat {
+    #[inline]
+    fn default() -> Self {
+        STANDARD
+    }
+}

@@ -16,7 +16,7 @@ use crate::write_integer::radix::Radix;
 ///
 /// assert_eq!(PaddedDigits(16, 1u8, 2).to_text(&mut [0; 64]), b"01");
 /// ```
-#[derive(Clone, Copy, Debug)]
+#[derive(Clone, Copy, PartialEq, Eq, Hash, Debug)]
 pub struct PaddedDigits<T>(pub u32, pub T, pub usize);
 
 impl<T: DigitCount + Radix> Part for PaddedDigits<T> {
@@ -49,7 +49,7 @@ impl<T: DigitCount + Radix> Part for PaddedDigits<T> {
 /// assert_eq!(Padded(3u8, 2).to_text(&mut [0; 64]), b"03");
 /// assert_eq!(ZeroPadded(123u8, 2).to_text(&mut [0; 64]), b"123");
 /// ```
-#[derive(Clone, Copy, Debug)]
+#[derive(Clone, Copy, PartialEq, Eq, Hash, Debug)]
 pub struct Padded<T>(pub T, pub usize);
 
 impl<T: DigitCount + Radix> Part for Padded<T> {

@@ -24,10 +24,6 @@ use core::str::{from_utf8, from_utf8_unchecked};
 pub trait Part: Copy {
     /// Returns a number of bytes that is enough for the text, or `usize::MAX` if that number does not
     /// fit in a `usize`. The part must be valid.
-    ///
-    /// # Panics
-    ///
-    /// If the part is not valid.
     #[must_use]
     fn room(self) -> usize;
 
