@@ -1,6 +1,6 @@
-//! Writes integers as text, in every radix from 2 to 36, to a buffer that the caller passes. No call
-//! allocates memory, and the code is proved: [when its conditions hold](#conditions), a call writes
-//! exactly the right bytes.
+//! Writes integers as text, in every radix from 2 to 36, to a buffer that the caller passes, for
+//! `no_std`, with pointers of 32 or 64 bits. No call allocates memory, and the code is proved for 64:
+//! [when its conditions hold](#conditions), a call writes exactly the right bytes.
 //!
 //! # A first program
 //!

@@ -232,7 +232,7 @@ fn messages(called: &mut Vec<Panicking>) {
             Padded(15u8, 1).try_to_str(buffer), Padded(1234567u32, 3).to_str(buffer),
             PaddedDigits(16, 256u32, 2).to_text(buffer), write_with_length(Padded(12u8, 1), 10, 1, 0, buffer);
         "the text of the part is not UTF-8", "Utf8Error": not_utf8.to_str(buffer), not_utf8.try_to_str(buffer);
-        "the length and `extra` together are above `usize::MAX`", "the length and `extra` together are 2^64 or above":
+        "the length and `extra` together are above `usize::MAX`", "the length and `extra` together are above usize::MAX":
             write_with_length("ab", 10, 20, usize::MAX - 1, buffer);
         "the buffer is too short", "out of range": "ab".write_at(129, buffer), write_with_length("ab", 10, 129, 0, buffer);
         "the length has more digits than `width`", "the number has more digits than the width":
@@ -260,7 +260,7 @@ fn messages(called: &mut Vec<Panicking>) {
         "the type does not have the number", "the type does not have the number": <u8 as UnsignedInteger>::from_u32(256),
             <u16 as UnsignedInteger>::from_u32(65_536);
         "the digits are grouped and the count is above `isize::MAX`", "the count is above isize::MAX":
-            builder.digit_grouping(1, b',').build_strict().grouped_len(1 << 63);
+            builder.digit_grouping(1, b',').build_strict().grouped_len(usize::MAX / 2 + 1);
         "the number is 2^32 or above", "the number is 2^32 or above": 0x1_0000_0000u64.as_u32();
         "the digit is 36 or above", "out of bounds": digit_to_char(36), digit_to_char(u32::MAX);
         "`by` is 0", "by zero": 7u8.div_rem(0), 7u64.div_rem(0);
@@ -270,5 +270,5 @@ fn messages(called: &mut Vec<Panicking>) {
         "the number is 10^19 or above", "the number is 10^19 or above": usize::MAX.decimal_signed(buffer);
     }
     #[cfg(target_pointer_width = "32")]
-    check_messages! { called; "", "self <= usize::MAX as u64": 0x1_0000_0000u64.as_usize(); }
+    check_messages! { called; "", "the number is above usize::MAX": 0x1_0000_0000u64.as_usize(); }
 }

@@ -1,5 +1,6 @@
 //! The room of each part, which its longest text fills: `try_write_to` writes to a buffer of that length, and not to one
-//! that is a byte shorter. And what no other test calls: `write_sign` of a required `+`, and `write_padded` to no bytes.
+//! that is a byte shorter; and rooms near the largest `usize`. And what no other test calls: `write_sign` of a required
+//! `+`, and `write_padded` to no bytes.
 
 use cojimuran::padded::write_padded;
 use cojimuran::parts::*;
@@ -76,6 +77,21 @@ fn rooms_of_tuples() {
         ("a", "b", "c", "d", "e", "f", "g", "h", "i", "j", "k") => 11, "abcdefghijk";
         ("a", "b", "c", "d", "e", "f", "g", "h", "i", "j", "k", "l") => 12, "abcdefghijkl";
     }
+}
+
+#[test]
+fn rooms_near_the_largest_usize() {
+    let grouped = NumberFormatBuilder::new().digit_grouping(1, b',').build_strict();
+    let half = usize::MAX / 2;
+    let column = Left("", half, b' ');
+    assert_eq!((column, "ab").room(), half + 2);
+    assert_eq!((column, column).room(), usize::MAX - 1);
+    assert_eq!((column, "a", column).room(), usize::MAX);
+    assert_eq!((column, "ab", column).room(), usize::MAX);
+    assert_eq!(Joined(&[column; 3], ", ").room(), usize::MAX);
+    assert_eq!(ZeroPadded(5u8, usize::MAX).room(), usize::MAX);
+    assert_eq!((column, "ab", column).try_write_to(&mut [7; 64]), None);
+    assert_eq!(grouped.grouped_len(half), usize::MAX - 2);
 }
 
 #[test]
