@@ -8,12 +8,12 @@ use cojimuran::decimal::Decimal as _;
 use cojimuran::digit_count::DigitCount;
 use cojimuran::format::STANDARD;
 use cojimuran::padded::write_padded;
-use cojimuran::parts::{Decimal, Digits, Fixed, Joined, Padded, PaddedDigits, Part, write_with_length};
+use cojimuran::parts::{Decimal, Digits, Fixed, Joined, Left, Padded, PaddedDigits, Part, write_with_length};
 use cojimuran::radix::{Radix, digit_to_char};
 use cojimuran::write::WriteInteger;
 use cojimuran::{
-    NumberFormatBuilder, Options, ToLexical, ToLexicalWithOptions, UnsignedInteger, group_digits, jeaiii, table,
-    write_sign,
+    Append, NumberFormatBuilder, Options, ToLexical, ToLexicalWithOptions, UnsignedInteger, group_digits, jeaiii,
+    table, write_sign,
 };
 use lexwrite::lines::join;
 use std::panic::{AssertUnwindSafe, catch_unwind};
@@ -196,7 +196,9 @@ fn messages() {
         "out of range": "ab".write_at(129, buffer), write_with_length("ab", 10, 129, 0, buffer);
         "the number has more digits than the width": write_with_length("0123456789", 10, 1, 0, buffer),
             Padded(2026u16, 2).to_text(buffer), Padded(15u8, 1).try_to_str(buffer),
-            Padded(1234567u32, 3).to_str(buffer), write_padded(10u8, 10, &mut buffer[..1]);
+            Padded(1234567u32, 3).to_str(buffer), write_padded(10u8, 10, &mut buffer[..1]),
+            (1u8, Padded(10u8, 1)).append_to(&mut Vec::new());
+        "capacity overflow": Left("", usize::MAX, b' ').append_to(&mut vec![1]);
         "the number has more digits than the width": PaddedDigits(16, 256u32, 2).to_text(buffer);
         "the number has more digits than the width": write_padded(1u8, 16, &mut []);
         "the table does not begin with the digit pairs of the radix": algorithm(7u32, 16, &table(16)[..511], buffer), algorithm(7u32, 12, table(13), buffer),

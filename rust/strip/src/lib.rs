@@ -67,7 +67,8 @@ fn document(top: &Path, made: &mut BTreeMap<PathBuf, String>) -> Result<(), Stri
     let of_root = links::exports(&root, "crate");
     let parts = links::exports(&made[Path::new("rust/cojimuran/src/parts.rs")], "crate::parts");
     let is_of_package = |path: &Path| path.starts_with("rust/cojimuran");
-    let all: String = made.iter().filter(|(path, _)| is_of_package(path)).map(|(_, text)| text.as_str()).collect();
+    let mut all: String = made.iter().filter(|(path, _)| is_of_package(path)).map(|(_, text)| text.as_str()).collect();
+    all += &read(&top.join("rust/cojimuran/src/append.rs"))?;
     let of_package = of_root.iter().filter(|(name, path)| **path == format!("crate::{name}"));
     if let Some(name) = examples::missing(&all, of_package.chain(&parts).map(|(name, _)| name)) {
         return Err(format!("{name} has no example"));
