@@ -4,7 +4,7 @@
 
 use cojimuran::padded::write_padded;
 use cojimuran::parts::*;
-use cojimuran::{NumberFormatBuilder, write_sign};
+use cojimuran::{Append, NumberFormatBuilder, write_sign};
 
 /// Compares the room of a part, which copies it, and what it writes, with a text of that length.
 macro_rules! check_rooms {
@@ -17,6 +17,9 @@ macro_rules! check_rooms {
         let count = $part.try_write_to(&mut buffer[..$room]);
         assert_eq!(count, Some($text.len()), "the length of {name}");
         assert_eq!(&buffer[..$text.len()], $text.as_bytes(), "{name}");
+        let mut bytes = b"ab".to_vec();
+        $part.append_to(&mut bytes);
+        assert_eq!(bytes, [b"ab", $text.as_bytes()].concat(), "{name} at the end of a vector");
     )+ };
 }
 

@@ -65,6 +65,8 @@ fn document(top: &Path, made: &mut BTreeMap<PathBuf, String>) -> Result<(), Stri
             examples::with_examples(text, module, &mut names).map_err(|what| format!("{}: {what}", path.display()))?;
         all += text;
     }
+    let by_hand = read(&top.join("rust/cojimuran/src/append.rs"))?;
+    all += &examples::with_examples(&by_hand, "", &mut names)?;
     let is_shown =
         |name: &str, path: &String| [format!("crate::{name}"), format!("crate::parts::{name}")].contains(path);
     if let Some((name, _)) = exports.iter().find(|(name, path)| is_shown(name, path) && !names.contains(*name)) {

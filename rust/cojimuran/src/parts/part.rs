@@ -36,8 +36,8 @@ pub trait Part: Copy {
     /// or if the buffer is [too short](crate#conditions).
     fn write_to(self, buffer: &mut [u8]) -> usize;
 
-    // Whether the values of the part show that its text is UTF-8. A part of another crate cannot define this method,
-    // since it cannot name `Own`.
+    // Whether the values of the part show that it is valid and that its text is UTF-8. A part of another crate cannot
+    // define this method, since it cannot name `Own`.
     #[doc(hidden)]
     #[must_use]
     #[inline(always)]
@@ -53,7 +53,7 @@ pub trait Part: Copy {
     ///
     /// If the part is not valid,
     /// or if the buffer is [too short](crate#conditions).
-    #[inline]
+    #[inline(always)]
     fn to_text(self, buffer: &mut [u8]) -> &mut [u8] {
         let count = self.write_to(buffer);
         front_mut(buffer, count)
@@ -106,8 +106,8 @@ pub trait Part: Copy {
         let text = self.to_text(buffer);
         if is_sure {
             debug_assert!(from_utf8(text).is_ok());
-            // SAFETY: `is_sure` ensures `is_utf8` and the room, and `to_text` has panicked if the part is not valid. So
-            // it ensures `utf8`: the text is UTF-8.
+            // SAFETY: `is_sure` ensures what `to_text` requires, and `is_utf8`. So `to_text` ensures `utf8`: the text
+            // is UTF-8.
             unsafe { from_utf8_unchecked(text) }
         } else {
             from_utf8(text).unwrap()
@@ -131,7 +131,7 @@ pub trait Part: Copy {
     }
 }
 
-// Returns whether the buffer has the room, and the values of the part show that its text is UTF-8.
+// Returns whether what `to_text` requires holds, and its text is UTF-8, as far as the values of the part show it.
 #[inline(always)]
 fn is_sure<P: Part>(part: P, buffer: &[u8]) -> bool {
     part.is_known_utf8(Own) && part.room() <= buffer.len()
