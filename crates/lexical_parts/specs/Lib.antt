@@ -8,4 +8,5 @@ pub mod Plus
 pub mod Scientific
 pub mod Sequence
 pub mod Utf8
+pub mod Without
 pub mod ZeroPadded
