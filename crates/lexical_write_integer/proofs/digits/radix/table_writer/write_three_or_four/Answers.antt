@@ -55,6 +55,12 @@ write_one_pair-requires g c =
     let within = slice g (goal.at.write_one_pair-requires g c).After-count_three_or_four-count in
     rw (c.remove_two.ensures.pair, within) (lit< tt, (below, (counted, omega arith)))
 
+-- the check finds this proof by itself, but with an answer the refusal of a mistake says what is wrong
+pub overflow_mul-pair-2 : goal.overflow_mul-pair-2
+overflow_mul-pair-2 g c =
+    let small = power-small g.row.R 2 c.args.table.is_radix.at_most_36 takes_two in
+    omega (arith, last g (goal.at.overflow_mul-pair-2 g c).Start, pow-two g.row.R, small)
+
 pub bounds-table-pair : goal.bounds-table-pair
 bounds-table-pair g c = omega (arith, last g (goal.at.bounds-table-pair g c).Start, length-table g.row.R c.args.table.pairs.now c.args.table.begins)
 
