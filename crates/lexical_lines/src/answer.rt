@@ -17,8 +17,8 @@ mod newline;
 pub mod exit_status;
 
 use crate::request::{Number, parse};
-use lexical_num::constants::BUFFER_SIZE;
-use lexical_num::format::{NumberFormat, STANDARD};
+use lexical_num::format::STANDARD;
+use lexical_num::{BUFFER_SIZE, NumberFormat};
 use lexical_write_integer::buffer::copy_to_front;
 use lexical_write_integer::laws::size_suffices;
 use lexical_write_integer::{ToLexical, ToLexicalWithOptions};

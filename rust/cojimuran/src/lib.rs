@@ -1,6 +1,6 @@
-//! Writes integers as text, in every radix from 2 to 36, to a buffer that the caller passes. No call
-//! allocates memory, and the code is proved: [when its conditions hold](#conditions), a call writes
-//! exactly the right bytes.
+//! Writes integers as text, in every radix from 2 to 36, to a buffer that the caller passes, for
+//! `no_std`, with pointers of 32 or 64 bits. No call allocates memory, and the code is proved for 64:
+//! [when its conditions hold](#conditions), a call writes exactly the right bytes.
 //!
 //! # A first program
 //!
@@ -37,7 +37,8 @@
 //!   in another radix, with a required `+`, or in groups of digits. A buffer of
 //!   [`FormattedSize::FORMATTED_SIZE_DECIMAL`] bytes is enough in decimal, and [`BUFFER_SIZE`] always.
 //! - [`parts`] has tuples of parts that are written as one text, as in a log line.
-//! - The other modules have what these are made of, such as the writers of digits without a sign.
+//! - The other modules have what these are made of, such as the writers of digits without a sign. Those that only the
+//!   specification names are public and hidden here.
 //!
 //! The names are those of the Rust crate `lexical-write-integer`.
 //!
@@ -45,23 +46,22 @@
 //!
 //! [`Buffer::format`] returns the `&str` of a number in decimal, and [`Part::to_str`](parts::Part::to_str) that of a part.
 //! std checks only the text of a part of your own, and of [`Bytes`](parts::Bytes), that it is UTF-8: of the others it is
-//! known, which the only `unsafe` line of this package uses. To append a part to a `Vec`, write it to the end
-//! of one that is long enough:
+//! known, which the only `unsafe` line of this package uses.
 //!
 //! ```
 //! use cojimuran::Buffer;
-//! use cojimuran::parts::{Hex, Part};
+//! use cojimuran::parts::{Digits, Hex, Part};
 //!
-//! assert_eq!(Buffer::new().format(-12i64).to_owned() + " kg", "-12 kg");
 //! assert_eq!(("0x", Hex(255u8)).to_str(&mut [0; 4]), "0xFF");
 //!
-//! let (part, mut bytes) = ((7u8, " apples"), b"We have ".to_vec());
-//! let start = bytes.len();
-//! bytes.resize(start + part.room(), 0);
-//! let count = part.write_to(&mut bytes[start..]);
-//! bytes.truncate(start + count);
-//! assert_eq!(bytes, b"We have 7 apples");
+//! let mut path = String::from("/l/");
+//! path.push_str(Buffer::new().format(7u64));
+//! path.push_str(("/", Digits(36, 1000u64)).to_str(&mut [0; 14]));
+//! assert_eq!(path, "/l/7/RS");
 //! ```
+//!
+//! To append a part to a `Vec`, enable the feature `alloc`, import the trait `Append`, and write
+//! `(7u8, " apples").append_to(&mut bytes)`.
 #![doc = include_str!("../CONDITIONS.md")]
 //!
 //! # Versions
@@ -74,6 +74,12 @@
 
 #[cfg(not(any(target_pointer_width = "64", target_pointer_width = "32")))]
 compile_error!("this package needs pointers of 64 or 32 bits");
+
+#[cfg(feature = "alloc")]
+extern crate alloc;
+
+#[cfg(feature = "alloc")]
+mod append;
 
 // The sources in Rattle, as `strip` makes them: what users have of them is exported below.
 #[allow(
@@ -93,6 +99,8 @@ mod write_integer;
 #[cfg(doctest)]
 mod misuse;
 
+#[cfg(feature = "alloc")]
+pub use append::Append;
 pub use num::options::{Options, OptionsBuilder, WriteOptions};
 pub use num::{
     BUFFER_SIZE, Error, FormattedSize, LexicalInteger, NumberFormat, NumberFormatBuilder, Result,
@@ -101,11 +109,13 @@ pub use num::{
 pub use parts::Buffer;
 pub use write_integer::{ToLexical, ToLexicalWithOptions, group_digits, sign_len, write_sign};
 
+#[doc(hidden)]
 pub mod algorithm {
     //! Writing the digits of a number, four at a time, with the digit pairs of a table.
     pub use crate::write_integer::algorithm::algorithm;
 }
 
+#[doc(hidden)]
 pub mod buffer {
     //! The start of a buffer.
     pub use crate::write_integer::buffer::{copy_to_front, front_mut};
@@ -118,14 +128,16 @@ pub mod compact {
 
 pub mod decimal {
     //! Writing and counting the digits of a number in radix 10.
-    pub use crate::write_integer::decimal::{
-        Decimal, DecimalCount, fallback_digit_count, fast_digit_count, fast_log10,
-    };
+    pub use crate::write_integer::decimal::{Decimal, DecimalCount};
+    #[doc(hidden)]
+    pub use crate::write_integer::decimal::{fallback_digit_count, fast_digit_count, fast_log10};
 }
 
 pub mod digit_count {
     //! Counting the digits of a number in any radix.
-    pub use crate::write_integer::digit_count::{DigitCount, fast_log2};
+    pub use crate::write_integer::digit_count::DigitCount;
+    #[doc(hidden)]
+    pub use crate::write_integer::digit_count::fast_log2;
 }
 
 pub mod format {
@@ -134,16 +146,16 @@ pub mod format {
     pub use crate::num::limits::{is_group_size, is_mark, is_radix};
 }
 
+#[doc(hidden)]
 pub mod jeaiii {
     //! The decimal writer of each type. It multiplies the number to get a fraction, from which products by
     //! 100 take two digits at a time, so no digit needs a division. The algorithm is James Anhalt's jeaiii
     //! (<https://github.com/jeaiii/itoa>); Lemire, Kaser and Kurz, "Faster Remainder by Direct
     //! Computation" (2019), describe how a product with a reciprocal has the digits in its fraction.
-    #[doc(hidden)]
     pub use crate::write_integer::jeaiii::{
-        fixed_2, fixed_4, fixed_6, fixed_8_nine, fixed_8_ten, fixed_8_wide, next2,
+        fixed_2, fixed_4, fixed_6, fixed_8_nine, fixed_8_ten, fixed_8_wide, from_i64, from_u8,
+        from_u16, from_u32, from_u64, next2,
     };
-    pub use crate::write_integer::jeaiii::{from_i64, from_u8, from_u16, from_u32, from_u64};
 }
 
 pub mod options {

@@ -29,6 +29,11 @@ pub fn push_str(string: &mut String, text: &str) -> Result<(), AllocError> {
     Ok(())
 }
 
+pub fn resize(bytes: &mut Vec<u8>, length: usize, byte: u8) -> Result<(), AllocError> {
+    bytes.resize(length, byte);
+    Ok(())
+}
+
 /// The runtime.
 pub struct HostRuntime;
 
@@ -41,5 +46,14 @@ pub struct Global;
 impl HostRuntime {
     pub fn alloc(&self) -> Global {
         Global
+    }
+}
+
+/// In Rattle, a text of at most this length that is kept without an allocation.
+pub struct InlineText<const LENGTH: usize>;
+
+impl<const LENGTH: usize> InlineText<LENGTH> {
+    pub fn of(value: impl ToString) -> String {
+        value.to_string()
     }
 }

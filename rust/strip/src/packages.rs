@@ -62,14 +62,13 @@ impl Source {
         }
     }
 
-    /// Returns a text of the crate with the paths of the package, and with the texts of these lists as they are written in
-    /// Rust.
-    pub fn replaced(&self, text: &str, lists: &[Replaced]) -> String {
+    /// Returns a text of the crate with the paths of the package, and with what is written otherwise in Rust.
+    pub fn replaced(&self, text: &str) -> String {
         let mut text = text.to_owned();
         if !self.module.is_empty() {
             text = text.replace("crate::", &format!("crate::{}::", self.module));
         }
-        for (from, to) in lists.iter().copied().flatten() {
+        for (from, to) in [self.replaced, replaced::EVERYWHERE].into_iter().flatten() {
             text = text.replace(from, to);
         }
         text = text.split_inclusive('\n').map(|line| self.with_paths(line)).collect();
@@ -89,15 +88,6 @@ impl Source {
             line = line.replace(from, to);
         }
         libraries().fold(line, |line, library| line.replace(library.name, library.module))
-    }
-
-    /// Returns a name or a text of the lists that a crate with these names of files and texts does not have.
-    pub fn missing(&self, files: &str) -> Option<&'static str> {
-        let listed = self.attributes.iter().map(|(_, names)| *names);
-        let names = listed.chain([self.constant, self.left_out]).flat_map(str::split_whitespace);
-        // The rules for tests are one list for all of them.
-        let replaced = self.replaced.iter().filter(|_| !self.is_test()).map(|(from, _)| *from);
-        names.chain(replaced).find(|name| !files.contains(name))
     }
 }
 
@@ -164,7 +154,8 @@ pub(crate) const SOURCES: &[Source] = &[
             ("#[inline(always)]\n#[allow(unsafe_code)]", "to_str"),
             (
                 "#[inline(always)]",
-                "tuples.rt joined.rt integers.rt number.rt text.rt powers_of_two.rt padded.rt is_known_utf8 is_sure format",
+                "tuples.rt joined.rt integers.rt number.rt text.rt powers_of_two.rt padded.rt is_known_utf8 is_sure format
+                to_text",
             ),
         ],
         left_out: "equal positions",

@@ -2,6 +2,7 @@
 
 //! Parts that are one number.
 
+use crate::num::limits::is_radix;
 use crate::parts::own::Own;
 use crate::parts::part::Part;
 use crate::write_integer::digit_count::DigitCount;
@@ -16,7 +17,7 @@ use crate::write_integer::{NumberFormat, ToLexicalWithOptions};
 ///
 /// assert_eq!(Decimal(-5).to_text(&mut [0; 64]), b"-5");
 /// ```
-#[derive(Clone, Copy, Debug)]
+#[derive(Clone, Copy, PartialEq, Eq, Hash, Debug)]
 pub struct Decimal<T>(pub T);
 
 impl<T: ToLexicalWithOptions> Part for Decimal<T> {
@@ -43,7 +44,7 @@ impl<T: ToLexicalWithOptions> Part for Decimal<T> {
 ///
 /// assert_eq!(Digits(16, 255u32).to_text(&mut [0; 64]), b"FF");
 /// ```
-#[derive(Clone, Copy, Debug)]
+#[derive(Clone, Copy, PartialEq, Eq, Hash, Debug)]
 pub struct Digits<T>(pub u32, pub T);
 
 impl<T: Radix + DigitCount> Part for Digits<T> {
@@ -59,7 +60,7 @@ impl<T: Radix + DigitCount> Part for Digits<T> {
 
     #[inline(always)]
     fn is_known_utf8(self, _own: Own) -> bool {
-        true
+        is_radix(u64::from(self.0))
     }
 }
 
@@ -83,7 +84,7 @@ fn largest_magnitude<T: ToLexicalWithOptions>() -> u64 {
 /// let format = cojimuran::NumberFormatBuilder::new().digit_grouping(3, b',').build_strict();
 /// assert_eq!(Formatted(1234567, &format).to_text(&mut [0; 64]), b"1,234,567");
 /// ```
-#[derive(Clone, Copy, Debug)]
+#[derive(Clone, Copy, PartialEq, Eq, Hash, Debug)]
 pub struct Formatted<'a, T>(pub T, pub &'a NumberFormat);
 
 impl<T: ToLexicalWithOptions> Part for Formatted<'_, T> {

@@ -16,7 +16,7 @@ use crate::write_integer::radix::{Radix, constant_radix};
 ///
 /// assert_eq!(Hex(255u32).to_text(&mut [0; 64]), b"FF");
 /// ```
-#[derive(Clone, Copy, Debug)]
+#[derive(Clone, Copy, PartialEq, Eq, Hash, Debug)]
 pub struct Hex<T>(pub T);
 
 impl<T: Radix> Part for Hex<T> {
@@ -44,7 +44,7 @@ impl<T: Radix> Part for Hex<T> {
 ///
 /// assert_eq!(Binary(5u8).to_text(&mut [0; 64]), b"101");
 /// ```
-#[derive(Clone, Copy, Debug)]
+#[derive(Clone, Copy, PartialEq, Eq, Hash, Debug)]
 pub struct Binary<T>(pub T);
 
 impl<T: Radix> Part for Binary<T> {
@@ -97,7 +97,7 @@ impl Part for HexByte {
 /// assert_eq!(HexBytes(&[1, 255], "").to_text(&mut [0; 64]), b"01FF");
 /// assert_eq!(HexBytes(&[1, 255], ":").to_text(&mut [0; 64]), b"01:FF");
 /// ```
-#[derive(Clone, Copy, Debug)]
+#[derive(Clone, Copy, PartialEq, Eq, Hash, Debug)]
 pub struct HexBytes<'a>(pub &'a [u8], pub &'a str);
 
 impl Part for HexBytes<'_> {

@@ -48,7 +48,7 @@ fn remove_eight(value: u64, turns: &mut Turns) -> u64
 
 // Writes a number of more than eight binary digits, from the last: eight per iteration while more than 16 are left. Of
 // those, the first are written with zeros after them, eight characters in total, and then the last eight.
-// It is cold, and so not inlined: otherwise a call in each radix would save registers that only this needs.
+// It is cold, and so not inlined: otherwise each call would save registers that only this needs.
 #[cold]
 pub(super) fn write_binary(value: u64, buffer: &mut [u8], turns: &mut Turns) -> usize
     requires long { 256 ≤ value }
