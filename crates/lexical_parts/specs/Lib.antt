@@ -7,5 +7,6 @@ pub mod Optional
 pub mod Plus
 pub mod Scientific
 pub mod Sequence
+pub mod ShownParts
 pub mod Utf8
 pub mod ZeroPadded
