@@ -9,7 +9,8 @@ use Rattle.lexical_lines.specs.Lines.{IsFirstNewline, NoNewline}
 use Rattle.lexical_lines.proofs.answer.newline.first_newline.Goals as goal
 
 -- the next bytes have no newline before theirs
-none_before : (bytes : List ℕ) (start count : ℕ) → NoNewline (take start bytes) → NoNewline (take count (drop start bytes)) → NoNewline (take (start + count) bytes)
+none_before : (bytes : List ℕ) (start count : ℕ) → NoNewline (take start bytes) → NoNewline (take count (drop start bytes))
+    → NoNewline (take (start + count) bytes)
 none_before bytes start count before next =
     rw (take-add start count bytes) (All-append (λ byte. byte ≢ 10) (take start bytes) (take count (drop start bytes)) before next)
 
@@ -18,8 +19,11 @@ behind : (bytes : List ℕ) (start index : ℕ) → start + 8 ≤ length bytes �
 behind bytes start index fits before first =
     let long = length-take-le 8 (drop start bytes) (omega (arith, length-drop start bytes)) in
     let within : index < 8 = omega (arith, first.within, long) in
-    record { within = omega arith; newline = grind (arith, get_or-take, get_or-drop, first.newline);
-      before = none_before bytes start index before (rw (take-take index 8 (drop start bytes) (omega arith)) at first.before) }
+    record {
+      within = omega arith;
+      newline = grind (arith, get_or-take, get_or-drop, first.newline);
+      before = none_before bytes start index before (rw (take-take index 8 (drop start bytes) (omega arith)) at first.before);
+    }
 
 byte : (bytes : List ℕ) (start i : ℕ) → ((k : ℕ) → get_or bytes k 0 < 256) → get_or (take 8 (drop start bytes)) i 0 < 256
 byte bytes start i small = elim (cases_lt i 8) [
