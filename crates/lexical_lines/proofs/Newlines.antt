@@ -69,7 +69,7 @@ found-split k left c more less fits small short is =
     let both = ap₂ bit_and rest not_left ∙ and_block 8 (more % all_bits k) (all_bits k - 1 - left) less (255 - c) (omega arith) (omega arith) in
     ap (λ x. bit_and x (each 128 (suc k))) both
     ∙ and_block 8 (bit_and (more % all_bits k) (all_bits k - 1 - left)) (each 128 k) (bit_and less (255 - c)) 128
-        (omega (arith, and_le_l less (255 - c))) (omega arith)
+    (omega (arith, and_le_l less (255 - c))) (omega arith)
 
 found-other : (k left c : ℕ) → left < all_bits k → c < 256 → 0 < c → found (suc k) (left * 2 ^ 8 + c) ≡ found k left * 2 ^ 8
 found-other k left c fits small some =
@@ -124,16 +124,16 @@ newlines (b ∷ bytes) h =
     let k = length bytes in
     rw (without-split b bytes small) (elim (cases_lt 0 c) [
       | inl some ↦
-        let differs : b ≢ 10 = λ is. absurd (omega (arith, subst (λ x. 0 < bit_xor x 10) is some)) in
-        rw (found-other k (without bytes) c fits (xor_of_8 b 10 (omega arith) (omega arith)) some) (elim (newlines bytes others) [
-          | inl none ↦ inl (All-cons (λ byte. byte ≢ 10) b bytes differs none.0, omega (arith, none.1))
-          | inr marks ↦ inr (Marks-next b bytes (found k (without bytes)) differs marks)
-        ])
+          let differs : b ≢ 10 = λ is. absurd (omega (arith, subst (λ x. 0 < bit_xor x 10) is some)) in
+          rw (found-other k (without bytes) c fits (xor_of_8 b 10 (omega arith) (omega arith)) some) (elim (newlines bytes others) [
+            | inl none ↦ inl (All-cons (λ byte. byte ≢ 10) b bytes differs none.0, omega (arith, none.1))
+            | inr marks ↦ inr (Marks-next b bytes (found k (without bytes)) differs marks)
+          ])
       | inr none ↦
-        let is : c ≡ 0 = omega arith in
-        let newline : b ≡ 10 = is_newline b small is in
-        let marked = found-newline k (without bytes) fits in
-        rw is (inr (record { index = 0; first = record { within = omega arith; newline = newline; before = All-nil (λ byte. byte ≢ 10) }; above = marked.0; bits = marked.1 }))
+          let is : c ≡ 0 = omega arith in
+          let newline : b ≡ 10 = is_newline b small is in
+          let marked = found-newline k (without bytes) fits in
+          rw is (inr (record { index = 0; first = record { within = omega arith; newline = newline; before = All-nil (λ byte. byte ≢ 10) }; above = marked.0; bits = marked.1 }))
     ])
 
 n-n : (n : ℕ) → n - n ≡ 0
@@ -186,7 +186,7 @@ pub first_found : (n : ℕ) → n < 2 ^ 64 → found 8 (bit_xor n (each 10 8)) �
 first_found n fits some = elim (in_word n fits) [
   | inl none ↦ absurd (some none.1)
   | inr m ↦
-    let marked = found 8 (bit_xor n (each 10 8)) in
-    let small : marked < 2 ^ 64 = omega (arith, and_le_r (bit_and ((bit_xor n (each 10 8) + (all_bits 8 - each 1 8)) % all_bits 8) (all_bits 8 - 1 - bit_xor n (each 10 8))) (each 128 8)) in
-    Marks-lowest (to_le_bytes w64 n) marked m (some_marked (to_le_bytes w64 n) marked m) small
+      let marked = found 8 (bit_xor n (each 10 8)) in
+      let small : marked < 2 ^ 64 = omega (arith, and_le_r (bit_and ((bit_xor n (each 10 8) + (all_bits 8 - each 1 8)) % all_bits 8) (all_bits 8 - 1 - bit_xor n (each 10 8))) (each 128 8)) in
+      Marks-lowest (to_le_bytes w64 n) marked m (some_marked (to_le_bytes w64 n) marked m) small
 ]

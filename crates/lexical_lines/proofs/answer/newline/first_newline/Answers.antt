@@ -18,8 +18,11 @@ behind : (bytes : List ℕ) (start index : ℕ) → start + 8 ≤ length bytes �
 behind bytes start index fits before first =
     let long = length-take-le 8 (drop start bytes) (omega (arith, length-drop start bytes)) in
     let within : index < 8 = omega (arith, first.within, long) in
-    record { within = omega arith; newline = grind (arith, get_or-take, get_or-drop, first.newline);
-      before = none_before bytes start index before (rw (take-take index 8 (drop start bytes) (omega arith)) at first.before) }
+    record {
+      within = omega arith;
+      newline = grind (arith, get_or-take, get_or-drop, first.newline);
+      before = none_before bytes start index before (rw (take-take index 8 (drop start bytes) (omega arith)) at first.before);
+    }
 
 byte : (bytes : List ℕ) (start i : ℕ) → ((k : ℕ) → get_or bytes k 0 < 256) → get_or (take 8 (drop start bytes)) i 0 < 256
 byte bytes start i small = elim (cases_lt i 8) [

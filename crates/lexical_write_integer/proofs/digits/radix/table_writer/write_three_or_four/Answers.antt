@@ -96,7 +96,7 @@ returns-clause-digits g c =
     let after = set (set between (count - 2 + 1) (digit_char (lo % r))) (count - 2) (digit_char (lo / r)) in
     let block = WritesBlock-last r lo (count - 2) between two (last g c') (omega (arith, c.write_one_pair.auto.buffer, within, three)) in
     let digits = WritesDigits-after {r = r} {count = 2} {at = count - 2} n {before = take count c.args.buffer.now}
-        {between = between} {after = after} two c.requires.more (omega (arith, within, is)) (rw pow-two first)
-        (subst (λ s. WritesBlock r 2 (n % s) (count - 2) between after) (sym (pow-two r)) block) in
+    {between = between} {after = after} two c.requires.more (omega (arith, within, is)) (rw pow-two first)
+    (subst (λ s. WritesBlock r 2 (n % s) (count - 2) between after) (sym (pow-two r)) block) in
     rw (pair_first r (n % (r * r)) pairs c.args.table.begins (last g c'), pair_second r (n % (r * r)) pairs c.args.table.begins (last g c'), next)
     (WritesDigits-block two (sym is) fits (WritesBlock-first fits (WritesBlock-digits (rw all at digits))))
