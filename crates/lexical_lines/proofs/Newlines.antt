@@ -1,5 +1,6 @@
 -- The first newline among the bytes of a word.
-use Rattle.std.proofs.Common.{◌≡◌, ◌≢◌, ◌⊎◌, ℕ, zero, suc, ◌+◌, ◌-◌, ◌*◌, ◌/◌, ◌%◌, ◌^◌, ◌<◌, Bool, true, ◌&&◌, eqb, List, [], ◌∷◌, length, take, ltb, ◌||◌, pow_pos, bit_and, bit_xor, w64, refl, ap, ap₂, subst, ◌∙◌, inl, inr, arith}
+use Rattle.std.proofs.Common.{◌≡◌, ◌≢◌, ◌⊎◌, ℕ, zero, suc, ◌+◌, ◌-◌, ◌*◌, ◌/◌, ◌%◌, ◌^◌, ◌<◌, Bool, true, ◌&&◌, eqb, List, [], ◌∷◌, length, take, ltb}
+use Rattle.std.proofs.Common.{◌||◌, pow_pos, bit_and, bit_xor, w64, refl, ap, ap₂, subst, ◌∙◌, inl, inr, arith}
 use Rattle.std.proofs.lemmas.Bool.{cases_lt, and_parts}
 use Rattle.std.proofs.lemmas.List.Elements.{All-nil, All-cons, All-head, All-tail}
 use Rattle.std.proofs.lemmas.Nat.{and_block, and_le_l, and_le_r, xor_block, xor_of_8, mod-mul-add, pow-add, from_le_bytes-to_le_bytes_8}
@@ -133,7 +134,12 @@ newlines (b ∷ bytes) h =
           let is : c ≡ 0 = omega arith in
           let newline : b ≡ 10 = is_newline b small is in
           let marked = found-newline k (without bytes) fits in
-          rw is (inr (record { index = 0; first = record { within = omega arith; newline = newline; before = All-nil (λ byte. byte ≢ 10) }; above = marked.0; bits = marked.1 }))
+          rw is (inr (record {
+            index = 0;
+            first = record { within = omega arith; newline = newline; before = All-nil (λ byte. byte ≢ 10) };
+            above = marked.0;
+            bits = marked.1;
+          }))
     ])
 
 n-n : (n : ℕ) → n - n ≡ 0
@@ -147,7 +153,8 @@ Marks-lowest bytes marked m some fits =
     let lowest = bit_at-trailing_zeros w64 marked some fits in
     let t = trailing_zeros w64 marked in
     let is : marked ≡ odd * 2 ^ n + 0 = omega (arith, m.bits) in
-    let set : bit_at marked n ≡ 1 = ap (λ x. bit_at x n) is ∙ bit_at_cat_high odd n 0 n (pow_pos n) (omega arith) ∙ ap (bit_at odd) (n-n n) ∙ bit_at_lowest odd ∙ omega arith in
+    let set : bit_at marked n ≡ 1 =
+    ap (λ x. bit_at x n) is ∙ bit_at_cat_high odd n 0 n (pow_pos n) (omega arith) ∙ ap (bit_at odd) (n-n n) ∙ bit_at_lowest odd ∙ omega arith in
     let below : (i : ℕ) → i < n → bit_at marked i ≡ 0 = λ i less. ap (λ x. bit_at x i) is ∙ bit_at_cat_low odd n 0 i less ∙ bit_at-zero i in
     let same : t ≡ n = elim (cases_lt t n) [
       | inl before ↦ omega (arith, below t before, lowest.1)
@@ -167,7 +174,8 @@ bytes_small : (i k n : ℕ) → AreBytes (bytes_low_first i k n)
 bytes_small i zero n = All-nil (λ b. b < 256)
 bytes_small i (suc k) n = All-cons (λ b. b < 256) (byte_at i n) (bytes_low_first (suc i) k n) (byte_small i n) (bytes_small (suc i) k n)
 
-in_word : (n : ℕ) → n < 2 ^ 64 → (NoNewline (to_le_bytes w64 n) × (found 8 (bit_xor n (each 10 8)) ≡ 0)) ⊎ Marks (to_le_bytes w64 n) (found 8 (bit_xor n (each 10 8)))
+in_word : (n : ℕ) → n < 2 ^ 64
+    → (NoNewline (to_le_bytes w64 n) × (found 8 (bit_xor n (each 10 8)) ≡ 0)) ⊎ Marks (to_le_bytes w64 n) (found 8 (bit_xor n (each 10 8)))
 in_word n fits =
     let is : word (to_le_bytes w64 n) ≡ n = omega (arith, from_le_bytes-to_le_bytes_8 n fits) in
     rw is at (newlines (to_le_bytes w64 n) (bytes_small 0 8 n))
@@ -187,6 +195,8 @@ first_found n fits some = elim (in_word n fits) [
   | inl none ↦ absurd (some none.1)
   | inr m ↦
       let marked = found 8 (bit_xor n (each 10 8)) in
-      let small : marked < 2 ^ 64 = omega (arith, and_le_r (bit_and ((bit_xor n (each 10 8) + (all_bits 8 - each 1 8)) % all_bits 8) (all_bits 8 - 1 - bit_xor n (each 10 8))) (each 128 8)) in
+      let small : marked < 2 ^ 64 =
+      let left = (bit_xor n (each 10 8) + (all_bits 8 - each 1 8)) % all_bits 8 in
+      omega (arith, and_le_r (bit_and left (all_bits 8 - 1 - bit_xor n (each 10 8))) (each 128 8)) in
       Marks-lowest (to_le_bytes w64 n) marked m (some_marked (to_le_bytes w64 n) marked m) small
 ]

@@ -158,7 +158,7 @@ pub(crate) const SOURCES: &[Source] = &[
                 to_text",
             ),
         ],
-        left_out: "equal positions",
+        left_out: "equal fixed_reading positions",
         replaced: replaced::PARTS,
         ..LIBRARY
     },

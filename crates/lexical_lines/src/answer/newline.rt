@@ -12,8 +12,8 @@ fn newline_in(word: u64) -> Option<usize>
     ensures found { IfSome result (λ index. IsFirstNewline (to_le_bytes w64 word) index) }
     ensures none { IfNone result (NoNewline (to_le_bytes w64 word)) }
 {
-    // Each newline becomes 0, from which 1 cannot be subtracted without the bits above it. So bit 7 of the difference is
-    // set in the first byte that is 0, and in no byte before it that has a bit 7 of 0.
+    // Each newline becomes 0, from which 1 cannot be subtracted without the bits above it. So bit 7 of the difference
+    // is set in the first byte that is 0, and in no byte before it that has a bit 7 of 0.
     let left = word ^ 0x0a0a_0a0a_0a0a_0a0a;
     let found = left.wrapping_sub(0x0101_0101_0101_0101) & !left & 0x8080_8080_8080_8080;
     if found == 0 {

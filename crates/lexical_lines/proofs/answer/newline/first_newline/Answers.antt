@@ -9,7 +9,8 @@ use Rattle.lexical_lines.specs.Lines.{IsFirstNewline, NoNewline}
 use Rattle.lexical_lines.proofs.answer.newline.first_newline.Goals as goal
 
 -- the next bytes have no newline before theirs
-none_before : (bytes : List ℕ) (start count : ℕ) → NoNewline (take start bytes) → NoNewline (take count (drop start bytes)) → NoNewline (take (start + count) bytes)
+none_before : (bytes : List ℕ) (start count : ℕ) → NoNewline (take start bytes) → NoNewline (take count (drop start bytes))
+    → NoNewline (take (start + count) bytes)
 none_before bytes start count before next =
     rw (take-add start count bytes) (All-append (λ byte. byte ≢ 10) (take start bytes) (take count (drop start bytes)) before next)
 

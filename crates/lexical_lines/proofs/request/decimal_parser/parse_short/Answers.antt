@@ -13,7 +13,9 @@ pub overflow_mul-number : goal.overflow_mul-number
 overflow_mul-number c = record { fits = omega (arith, c.loop-byte.invariant.small, few _ _ c.loop-byte-test.true c.requires.short) }
 
 pub overflow_add-number : goal.overflow_add-number
-overflow_add-number c = record { fits = omega (arith, c.loop-byte.invariant.small, few _ _ c.loop-byte-test.true c.requires.short, c.from.ensures, c.if-digit-gt9.false) }
+overflow_add-number c = record {
+  fits = omega (arith, c.loop-byte.invariant.small, few _ _ c.loop-byte-test.true c.requires.short, c.from.ensures, c.if-digit-gt9.false);
+}
 
 pub loop-byte-preserved : goal.loop-byte-preserved
 loop-byte-preserved c =
