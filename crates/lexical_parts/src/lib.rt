@@ -28,6 +28,7 @@
 #![tactic(auto)]
 
 mod buffer;
+mod cell;
 mod column;
 mod display;
 mod equal;

@@ -27,6 +27,7 @@
 //! than 64, or fewer than its number.
 
 mod buffer;
+mod cell;
 mod column;
 mod display;
 mod fill;
