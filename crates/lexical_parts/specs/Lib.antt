@@ -9,4 +9,5 @@ pub mod Scientific
 pub mod Sequence
 pub mod ShownParts
 pub mod Utf8
+pub mod Word
 pub mod ZeroPadded

@@ -68,6 +68,8 @@ pub(crate) const WRITE_INTEGER: Replaced = &[
 ];
 
 pub(crate) const PARTS: Replaced = &[
+    // In Rattle what allocates takes an allocator.
+    (".to_string(alloc)?", ".to_string()"),
     // rustc proves nothing, so a debug build checks.
     ("            // SAFETY: ", "            debug_assert!(from_utf8(text).is_ok());\n            // SAFETY: "),
 ];
