@@ -2,8 +2,7 @@
 
 ghost use Rattle.std.specs.Prelude.{◌≡◌, [], ◌∷◌, if◌then◌else◌};
 
-use lexical_num::constants::FormattedSize;
-use lexical_num::num::LexicalInteger;
+use lexical_num::{FormattedSize, LexicalInteger};
 use lexical_write_integer::decimal::Decimal;
 
 // Returns the bits of a type, 1 if it has negative numbers, its decimal width, and its two sizes.

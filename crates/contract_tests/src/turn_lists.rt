@@ -10,7 +10,7 @@ ghost use Rattle.lexical_write_integer.specs.LoopTurns.{compact_notes, compact_t
 ghost use Rattle.lexical_write_integer.specs.LoopTurns.{slow_turns, table_notes, table_turns};
 ghost use Rattle.contract_tests.specs.TurnLists.{HasTurns};
 
-use lexical_num::num::{LexicalInteger, UnsignedInteger};
+use lexical_num::{LexicalInteger, UnsignedInteger};
 use lexical_write_integer::algorithm::algorithm_counted;
 use lexical_write_integer::compact::compact_counted;
 use lexical_write_integer::decimal::Decimal;

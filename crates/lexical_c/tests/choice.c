@@ -78,13 +78,19 @@ int main(void)
     TRY(unsigned char, -1, "255", "FF", "+" ONES_8)
     TRY(unsigned short, -1, "65535", "FFFF", "+" ONES_16)
     TRY(unsigned int, -1, "4294967295", "FFFFFFFF", "+" ONES_32)
-    TRY(unsigned long, -1, "18446744073709551615", "FFFFFFFFFFFFFFFF", "+" ONES_64)
     TRY(signed char, -128, "-128", "-80", "-1000_0000")
     TRY(short, -32768, "-32768", "-8000", "-1000" ZEROS_12)
     TRY(int, -2147483647 - 1, "-2147483648", "-80000000", "-1000_0000_0000_0000_0000" ZEROS_12)
+#if SIZE_MAX > UINT32_MAX
+    TRY(unsigned long, -1, "18446744073709551615", "FFFFFFFFFFFFFFFF", "+" ONES_64)
     TRY(long, -4611686018427387904L, "-4611686018427387904", "-4000000000000000",
         "-100_0000_0000" ZEROS_12 ZEROS_12 ZEROS_12 "_0000_0000_0000_0000")
     TRY(size_t, -1, "18446744073709551615", "FFFFFFFFFFFFFFFF", "+" ONES_64)
+#else
+    TRY(unsigned long, -1, "4294967295", "FFFFFFFF", "+" ONES_32)
+    TRY(long, -2147483647L - 1, "-2147483648", "-80000000", "-1000_0000_0000_0000_0000" ZEROS_12)
+    TRY(size_t, -1, "4294967295", "FFFFFFFF", "+" ONES_32)
+#endif
     TRY(ptrdiff_t, -1, "-1", "-1", "-1")
     TRY(uint8_t, -1, "255", "FF", "+" ONES_8)
     TRY(int64_t, 10, "10", "A", "+1010")

@@ -190,8 +190,8 @@ static int check_radices(void)
         wrong += is_wrong(check_format(&format) == LEXICAL_INVALID_RADIX, "a variable radix that is invalid");
     }
 #ifdef __cplusplus
-    number = 4294967296 + 10;
-    base_16 = lexical_format(LEXICAL_RADIX(number));
+    const long long great = 4294967296 + 10;
+    base_16 = lexical_format(LEXICAL_RADIX(great));
     wrong += is_wrong(check_format(&base_16) == LEXICAL_INVALID_RADIX, "a radix of more than 32 bits");
 #endif
     return wrong;

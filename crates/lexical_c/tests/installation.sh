@@ -195,8 +195,8 @@ check_installed() {
   fi
   if has pkg-config; then check_pkg_config "$prefix"; fi
   if has cmake && has_cpp; then check_cmake "$prefix"; fi
-  if has python3; then check_python "$prefix"; fi
-  if has go && has pkg-config; then check_go "$prefix"; fi
+  if has_python; then check_python "$prefix"; fi
+  if has_go; then check_go "$prefix"; fi
   expect 'installing it again' "$crate/install" --from "$library" "$prefix"
   expect 'uninstalling' "$crate/uninstall" "$prefix"
   expect 'nothing is left' fails [ -e "$prefix" ]
@@ -337,7 +337,7 @@ check_refusals() {
   echo 'int other(void) { return 0; }' > "$work/none.c"
   header_names | sed 's/.*/int &(void) { extern int missing(void); return missing(); }/' > "$work/undefined.c"
   # The dynamic linker would have to write an address into the code.
-  { header_names | sed 's/.*/int &(void) { return 0; }/'; echo '__asm__(".text; .quad lexical_version");'; } > "$work/relocated.c"
+  { header_names | sed 's/.*/int &(void) { return 0; }/'; echo '__asm__(".text; .dc.a lexical_version");'; } > "$work/relocated.c"
   for archive in none undefined relocated; do
     expect "an archive: $archive" $CC -fPIC -w -c -o "$work/$archive.o" "$work/$archive.c"
     expect "it is refused" refuses_with 1 'makes no shared library of .*rust/lexical_c/archive' "$crate/install" --from "$work/$archive.o" "$work/here"

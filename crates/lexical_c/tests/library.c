@@ -64,7 +64,7 @@ FOR_EACH_TYPE(FUNCTIONS)
 static const struct type TYPES[] = {
     TYPE(u8, false, 8, 16, 3),     TYPE(u16, false, 16, 32, 5),
     TYPE(u32, false, 32, 64, 10),  TYPE(u64, false, 64, 128, 20),
-    TYPE(size, false, 64, 128, 20),
+    TYPE(size, false, 8 * sizeof(size_t), 128, 20),
     TYPE(i8, true, 8, 16, 4),      TYPE(i16, true, 16, 32, 6),
     TYPE(i32, true, 32, 64, 11),   TYPE(i64, true, 64, 128, 20),
 };
@@ -405,13 +405,13 @@ static void check_random_formats(void)
     }
 }
 
-/* Checks buffers of more than 4 KiB and of 4 GiB, of which only the first page may be accessed, and no buffer. */
+/* Checks buffers of more than 4 KiB and of 4 or 1 GiB, of which only the first page may be accessed, and no buffer. */
 static void check_long_buffers(void)
 {
-    static const size_t LENGTHS[] = { 0, 4097, 65536, (size_t)1 << 32 };
+    static const size_t LENGTHS[] = { 0, 4097, 65536, SIZE_MAX > UINT32_MAX ? SIZE_MAX / UINT32_MAX - 1 : 1 << 30 };
     char *map = (char *)mmap(NULL, LENGTHS[3], PROT_NONE, MAP_PRIVATE | MAP_ANONYMOUS | MAP_NORESERVE, -1, 0);
     if (map == (char *)MAP_FAILED || mprotect(map, (size_t)sysconf(_SC_PAGESIZE), PROT_READ | PROT_WRITE) != 0) {
-        check(false, "4 GiB of addresses");
+        check(false, "addresses of a long buffer");
         return;
     }
     for (size_t t = 0; t < TYPE_COUNT; t++)

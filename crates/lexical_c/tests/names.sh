@@ -7,12 +7,12 @@ header_names() {
 }
 
 # Prints the names that the archive uses and does not define.
-undefined_names() { nm -u "$library" | sed -n 's/^ *U //p' | sort; }
+undefined_names() { nm -u "$library" | sed -n 's/^ *U //p' | LC_ALL=C sort; }
 
 # exported_names LIBRARY: prints the names that a shared library exports, with their versions.
 exported_names() { nm -D --defined-only --with-symbol-versions "$1" | sed -n 's/^[0-9a-f]* [TDBRVW] //p' | sort; }
 
-# The archive, the shared library and the header have the same names, and the archive uses only memcpy and abort. What
+# The archive, the shared library and the header have the same names, and the archive uses only what README says. What
 # 3.1 has added is in two nodes: that of 3.0 is for programs that were linked before there was another.
 check_names() {
   node=LEXICAL_C_$major
@@ -22,7 +22,7 @@ check_names() {
   exported_names "$1/lib/liblexical_c.so" > "$work/shared"
   expect 'the names of the header are those of the archive' diff "$work/header" "$work/archive"
   expect 'the names of the shared library are those of the header, with versions' diff "$work/versions" "$work/shared"
-  expect 'the archive uses only memcpy, and abort if it has panics' prints "$imported" undefined_names
+  expect 'what the archive uses' prints "$imported" undefined_names
 }
 
 # link_older NAMES: makes an older shared library, which has these names of the archive in one node.

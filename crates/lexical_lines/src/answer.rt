@@ -11,13 +11,14 @@ ghost use Rattle.lexical_lines.specs.Request.{IsValidLine};
 // Answers to the lines of bytes that arrive in chunks, and of a whole source.
 pub mod answerer;
 pub mod line_loop;
+mod newline;
 
 // The exit status that tells how a run ended.
 pub mod exit_status;
 
 use crate::request::{Number, parse};
-use lexical_num::constants::BUFFER_SIZE;
-use lexical_num::format::{NumberFormat, STANDARD};
+use lexical_num::format::STANDARD;
+use lexical_num::{BUFFER_SIZE, NumberFormat};
 use lexical_write_integer::buffer::copy_to_front;
 use lexical_write_integer::laws::size_suffices;
 use lexical_write_integer::{ToLexical, ToLexicalWithOptions};

@@ -8,10 +8,7 @@ ghost use Rattle.lexical_write_integer.specs.Lending.{LendsFront};
 ghost use Rattle.lexical_write_integer.specs.Sequence.{AreJoined};
 ghost use Rattle.lexical_write_integer.specs.Text.{IsText};
 
-use lexical_num::constants::FormattedSize;
-use lexical_num::format::NumberFormat;
-use lexical_num::num::LexicalInteger;
-use lexical_num::options::WriteOptions;
+use lexical_num::{FormattedSize, LexicalInteger, NumberFormat, WriteOptions};
 use lexical_write_integer::ToLexicalWithOptions;
 use lexical_write_integer::buffer::front_mut;
 use lexical_write_integer::laws::sizes_suffice;

@@ -16,8 +16,7 @@ pub mod sign;
 use crate::request::decimal_parser::{parse_decimal, split_radix};
 use crate::request::integer_type::IntegerType;
 use crate::request::sign::strip_sign;
-use lexical_num::format::NumberFormat;
-use lexical_num::format_builder::NumberFormatBuilder;
+use lexical_num::{NumberFormat, NumberFormatBuilder};
 
 /// A number of any of the ten types, as a number of one of the two widest types.
 #[derive(Clone, Copy)]

@@ -23,7 +23,7 @@ pub type Result<T> = std::result::Result<T, Error>;
 /// assert_eq!(rt; error, Error::InvalidMantissaRadix(37));
 /// assert_eq!(rt; error.to_string(), "invalid mantissa radix 37");
 /// ```
-#[derive(Clone, Copy, PartialEq, Eq, Debug, Drop)]
+#[derive(Clone, Copy, PartialEq, Eq, Hash, Debug, Drop)]
 pub enum Error {
     /// The mantissa radix is below 2 or above 36.
     InvalidMantissaRadix(u8),

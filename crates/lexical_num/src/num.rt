@@ -499,9 +499,10 @@ impl UnsignedInteger for u64 {
     }
 
     fn as_usize(self) -> usize {
-        // With pointers of 32 bits a larger number would be cut off.
-        prove!(self <= usize::MAX as u64);
-        self as usize
+        // With pointers of 32 bits a cast would cut off a larger number.
+        let number = usize::try_from(self);
+        prove!(number.is_ok(), "the number is above usize::MAX");
+        number.unwrap_or(usize::MAX)
     }
 
     fn div_rem(self, by: u64) -> (u64, u64) {

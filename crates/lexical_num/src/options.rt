@@ -40,7 +40,7 @@ pub trait WriteOptions {
 /// const SIZE: usize = Options::new().buffer_size_const::<i32>(&STANDARD);
 /// assert_eq!(rt; SIZE, 11);
 /// ```
-#[derive(Debug, Clone, PartialEq, Eq, PartialOrd, Ord, Drop)]
+#[derive(Clone, Copy, PartialEq, Eq, PartialOrd, Ord, Debug, Drop)]
 pub struct Options {}
 
 /// The standard options.
@@ -122,7 +122,7 @@ impl WriteOptions for Options {
 ///
 /// assert_eq!(rt; OptionsBuilder::new().build(), Ok(Options::new()));
 /// ```
-#[derive(Debug, Clone, PartialEq, Eq, PartialOrd, Ord, Drop)]
+#[derive(Clone, Copy, PartialEq, Eq, PartialOrd, Ord, Debug, Drop)]
 pub struct OptionsBuilder {}
 
 impl OptionsBuilder {

@@ -38,3 +38,5 @@ pub mod EqualWidths
 pub mod TextsAtIndex
 -- numbers of units as the prover computes their texts
 pub mod FixedTexts
+-- numbers of units without their point, which std reads
+pub mod FixedReads

@@ -10,4 +10,5 @@ pub mod Sequence
 pub mod ShownParts
 pub mod Utf8
 pub mod Word
+pub mod Without
 pub mod ZeroPadded

@@ -17,7 +17,7 @@ use lexical_write_integer::ToLexicalWithOptions;
 /// assert_eq!(rt; buffer.format(-1234i32), "-1234");
 /// assert_eq!(rt; buffer.format(u64::MAX), "18446744073709551615");
 /// ```
-#[derive(Clone, Copy, Debug, Drop)]
+#[derive(Debug, Clone, Copy, Drop)]
 pub struct Buffer {
     bytes: [u8; 20],
 }

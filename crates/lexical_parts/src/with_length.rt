@@ -41,7 +41,7 @@ pub fn write_with_length<P: Part>(
     let count = part.write_to(&mut buffer[width..]);
     prove!(
         count <= usize::MAX - extra,
-        "the length and `extra` together are 2^64 or above"
+        "the length and `extra` together are above usize::MAX"
     );
     write_padded(extra + count, radix, &mut buffer[..width]);
     count

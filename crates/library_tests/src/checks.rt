@@ -2,8 +2,7 @@
 
 ghost use Rattle.std.specs.Prelude.{◌≡◌};
 
-use lexical_num::format::NumberFormat;
-use lexical_num::format_builder::NumberFormatBuilder;
+use lexical_num::{NumberFormat, NumberFormatBuilder};
 use std::fmt::Debug;
 use std::process::Abort;
 

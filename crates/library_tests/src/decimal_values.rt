@@ -1,7 +1,7 @@
 // Tests of the decimal writer of each type with a buffer of the decimal width, which is the required length.
 
 use crate::checks::check_text;
-use lexical_num::num::LexicalInteger;
+use lexical_num::LexicalInteger;
 use lexical_write_integer::decimal::Decimal;
 use lexical_write_integer::jeaiii::{from_i64, from_u8, from_u16, from_u32, from_u64};
 

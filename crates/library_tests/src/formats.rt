@@ -9,9 +9,9 @@ ghost use Rattle.std.specs.Prelude.{◌≡◌};
 
 use crate::checks::{check_equal, valid};
 use errors::check_error;
-use lexical_num::format::{NumberFormat, STANDARD};
-use lexical_num::format_builder::NumberFormatBuilder;
-use lexical_num::options::Options;
+use lexical_num::format::STANDARD;
+use lexical_num::{NumberFormat, NumberFormatBuilder};
+use lexical_write_integer::Options;
 use std::process::Abort;
 
 // Returns the decimal format with a required sign.

@@ -11,10 +11,12 @@ ghost use Rattle.lexical_write_integer.specs.Text.{need};
 use crate::checks::{ROOM, check_buffer, check_equal, valid};
 use crate::lines::read;
 use crate::numbers::NUMBERS;
-use lexical_num::options::{Options, WriteOptions};
+use lexical_num::WriteOptions;
 use lexical_write_integer::format::STANDARD;
 use lexical_write_integer::laws::size_suffices;
-use lexical_write_integer::{NumberFormat, NumberFormatBuilder, ToLexical, ToLexicalWithOptions};
+use lexical_write_integer::{
+    NumberFormat, NumberFormatBuilder, Options, ToLexical, ToLexicalWithOptions,
+};
 use std::fmt::Debug;
 use std::process::Abort;
 use std::str::FromStr;

@@ -5,10 +5,9 @@ ghost use Rattle.lexical_num.specs.Size.{size_in};
 
 use crate::checks::{UNCHANGED, check_buffer, check_equal};
 use lexical_lines::{join, write_joined};
-use lexical_num::format::{NumberFormat, STANDARD};
-use lexical_num::format_builder::NumberFormatBuilder;
-use lexical_num::options::Options;
-use lexical_write_integer::ToLexicalWithOptions;
+use lexical_num::format::STANDARD;
+use lexical_num::{NumberFormat, NumberFormatBuilder};
+use lexical_write_integer::{Options, ToLexicalWithOptions};
 use std::process::Abort;
 
 // Borrows the joined values from a buffer of `room` bytes, and overwrites them. The front of the buffer is then

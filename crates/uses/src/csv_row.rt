@@ -8,7 +8,7 @@ ghost use Rattle.lexical_parts.specs.Joined.{AreEach, joined_room};
 ghost use Rattle.lexical_parts.specs.Sequence.{◌then◌, IsDecimal, IsStr};
 ghost use Rattle.uses.specs.CsvRow.{IsEntry, IsRow, row_room};
 
-use lexical_num::constants::FormattedSize;
+use lexical_num::FormattedSize;
 use lexical_parts::{Joined, Part, rooms_at_most};
 use std::alloc::AllocError;
 

@@ -9,9 +9,7 @@ ghost use Rattle.lexical_write_integer.specs.Text.{IsDigits};
 ghost use Rattle.lexical_parts.specs.Scientific.{IsScientific};
 ghost use Rattle.lexical_parts.specs.Sequence.{◌then◌};
 
-use lexical_num::error::Result;
-use lexical_num::format::NumberFormat;
-use lexical_num::format_builder::NumberFormatBuilder;
+use lexical_num::{NumberFormat, NumberFormatBuilder, Result};
 use lexical_parts::{Part, Scientific, Sign};
 use lexical_write_integer::buffer::copy_to_front;
 use lexical_write_integer::laws::digit_count_within_bits;

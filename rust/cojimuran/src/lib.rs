@@ -1,6 +1,6 @@
-//! Writes integers as text, in every radix from 2 to 36, to a buffer that the caller passes. No call
-//! allocates memory, and the code is proved: [when its conditions hold](#conditions), a call writes
-//! exactly the right bytes.
+//! Writes integers as text, in every radix from 2 to 36, to a buffer that the caller passes, for
+//! `no_std`, with pointers of 32 or 64 bits. No call allocates memory, and the code is proved for 64:
+//! [when its conditions hold](#conditions), a call writes exactly the right bytes.
 //!
 //! # A first program
 //!
@@ -37,7 +37,8 @@
 //!   in another radix, with a required `+`, or in groups of digits. A buffer of
 //!   [`FormattedSize::FORMATTED_SIZE_DECIMAL`] bytes is enough in decimal, and [`BUFFER_SIZE`] always.
 //! - [`parts`] has tuples of parts that are written as one text, as in a log line.
-//! - The other modules have what these are made of, such as the writers of digits without a sign.
+//! - The other modules have what these are made of, such as the writers of digits without a sign. Those that only the
+//!   specification names are public and hidden here.
 //!
 //! The names are those of the Rust crate `lexical-write-integer`.
 //!
@@ -108,11 +109,13 @@ pub use num::{
 pub use parts::Buffer;
 pub use write_integer::{ToLexical, ToLexicalWithOptions, group_digits, sign_len, write_sign};
 
+#[doc(hidden)]
 pub mod algorithm {
     //! Writing the digits of a number, four at a time, with the digit pairs of a table.
     pub use crate::write_integer::algorithm::algorithm;
 }
 
+#[doc(hidden)]
 pub mod buffer {
     //! The start of a buffer.
     pub use crate::write_integer::buffer::{copy_to_front, front_mut};
@@ -125,14 +128,16 @@ pub mod compact {
 
 pub mod decimal {
     //! Writing and counting the digits of a number in radix 10.
-    pub use crate::write_integer::decimal::{
-        Decimal, DecimalCount, fallback_digit_count, fast_digit_count, fast_log10,
-    };
+    pub use crate::write_integer::decimal::{Decimal, DecimalCount};
+    #[doc(hidden)]
+    pub use crate::write_integer::decimal::{fallback_digit_count, fast_digit_count, fast_log10};
 }
 
 pub mod digit_count {
     //! Counting the digits of a number in any radix.
-    pub use crate::write_integer::digit_count::{DigitCount, fast_log2};
+    pub use crate::write_integer::digit_count::DigitCount;
+    #[doc(hidden)]
+    pub use crate::write_integer::digit_count::fast_log2;
 }
 
 pub mod format {
@@ -141,16 +146,16 @@ pub mod format {
     pub use crate::num::limits::{is_group_size, is_mark, is_radix};
 }
 
+#[doc(hidden)]
 pub mod jeaiii {
     //! The decimal writer of each type. It multiplies the number to get a fraction, from which products by
     //! 100 take two digits at a time, so no digit needs a division. The algorithm is James Anhalt's jeaiii
     //! (<https://github.com/jeaiii/itoa>); Lemire, Kaser and Kurz, "Faster Remainder by Direct
     //! Computation" (2019), describe how a product with a reciprocal has the digits in its fraction.
-    #[doc(hidden)]
     pub use crate::write_integer::jeaiii::{
-        fixed_2, fixed_4, fixed_6, fixed_8_nine, fixed_8_ten, fixed_8_wide, next2,
+        fixed_2, fixed_4, fixed_6, fixed_8_nine, fixed_8_ten, fixed_8_wide, from_i64, from_u8,
+        from_u16, from_u32, from_u64, next2,
     };
-    pub use crate::write_integer::jeaiii::{from_i64, from_u8, from_u16, from_u32, from_u64};
 }
 
 pub mod options {

@@ -48,3 +48,12 @@ impl HostRuntime {
         Global
     }
 }
+
+/// In Rattle, a text of at most this length that is kept without an allocation.
+pub struct InlineText<const LENGTH: usize>;
+
+impl<const LENGTH: usize> InlineText<LENGTH> {
+    pub fn of(value: impl ToString) -> String {
+        value.to_string()
+    }
+}

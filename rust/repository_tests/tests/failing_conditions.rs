@@ -8,7 +8,7 @@ use cojimuran::decimal::Decimal as _;
 use cojimuran::digit_count::DigitCount;
 use cojimuran::format::STANDARD;
 use cojimuran::padded::write_padded;
-use cojimuran::parts::{Decimal, Digits, Fixed, Joined, Left, Padded, PaddedDigits, Part, write_with_length};
+use cojimuran::parts::{Bytes, Decimal, Digits, Fixed, Joined, Left, Padded, PaddedDigits, Part, write_with_length};
 use cojimuran::radix::{Radix, digit_to_char};
 use cojimuran::write::WriteInteger;
 use cojimuran::{
@@ -22,14 +22,17 @@ use std::sync::mpsc;
 use std::time::Duration;
 use std::{fs, thread};
 
-/// Runs the calls of a test in a thread. Fails unless all return or panic within a second for each.
+/// Runs the calls of a test in a thread, since a call whose check is lost may not return. Fails unless all of this ends
+/// well, within a second for each.
 fn check(name: &str, calls: u32, run: impl FnOnce() + Send + 'static) {
     let (sender, receiver) = mpsc::channel();
     thread::spawn(move || {
         run();
         sender.send(()).ok();
     });
-    receiver.recv_timeout(Duration::from_secs(1) * calls).unwrap_or_else(|_| panic!("{name} does not return"));
+    receiver
+        .recv_timeout(Duration::from_secs(1) * calls)
+        .unwrap_or_else(|_| panic!("{name}: a call fails or does not return"));
 }
 
 /// Calls with the middle of a buffer, of this length. No other byte changes.
@@ -58,30 +61,39 @@ fn short_buffers() {
     });
 }
 
-/// Calls with buffers that are too short, or just long enough. A call panics, or writes the text that fits all the same.
+/// Calls with buffers that are too short, or just long enough. A call panics, as it must without a byte, or writes the
+/// text that fits all the same.
 fn check_short(text: &[u8], call: impl Fn(&mut [u8]) -> usize) {
     for length in 0..=text.len() {
         let mut buffer = [7; 100];
         let result = catch_unwind(AssertUnwindSafe(|| call(&mut buffer[..length])));
-        assert!(result.is_err() || buffer[..length] == *text, "{length} bytes for {text:?}");
+        let is_right = length > 0 && buffer[..length] == *text;
+        assert!(result.is_err() || is_right, "{length} bytes for {text:?}");
     }
     let mut buffer = [7; 100];
     assert_eq!((call(&mut buffer), &buffer[..text.len()]), (text.len(), text));
 }
 
-/// Checks several calls whose text is the same.
+/// The end of the documentation of a function, `FUNCTION: WHEN`, for a call that panics then.
+type Panicking = (&'static str, &'static str);
+
+/// Checks several calls whose text is the same, and adds them.
 macro_rules! check_each_short {
-    ($($text:expr => $($call:expr),+;)+) => { $($(check_short($text, $call);)+)+ };
+    ($called:ident; $($text:expr => $($call:expr),+;)+) => {
+        $($(
+            check_short($text, $call);
+            $called.push(("the buffer is too short", stringify!($call)));
+        )+)+
+    };
 }
 
-#[test]
-fn short_buffers_of_each_function() {
+fn short_buffers_of_each_function(called: &mut Vec<Panicking>) {
     let hexadecimal = NumberFormatBuilder::from_radix(16);
     let thousands = NumberFormatBuilder::new().digit_grouping(3, b',').build_strict();
     let options = Options::new();
     let digits = &b"18446744073709551615"[..];
     let table = table::get_table;
-    check_each_short! {
+    check_each_short! { called;
         b"abc" => |b| copy_to_front(b"abc", b);
         &[7; 9] => |b| front_mut(b, 9).len();
         &[7, b',', 7, 7, 7] => |b| group_digits(4, &thousands, b);
@@ -90,7 +102,8 @@ fn short_buffers_of_each_function() {
         b"4294967295" => |b| u32::MAX.decimal(b), |b| jeaiii::from_u32(u32::MAX, b), |b| u32::MAX.write_integer(10, b);
         digits => |b| u64::MAX.decimal(b), |b| jeaiii::from_u64(u64::MAX, b), |b| u64::MAX.write_magnitude(&STANDARD, b),
             |b| u64::MAX.write_mantissa(&STANDARD, b), |b| u64::MAX.write_exponent(&STANDARD, b),
-            |b| Decimal(u64::MAX).write_to(b), |b| Decimal(u64::MAX).to_str(b).len();
+            |b| Decimal(u64::MAX).write_to(b), |b| Decimal(u64::MAX).to_str(b).len(),
+            |b| u64::MAX.to_lexical(b).len();
         &digits[..19] => |b| 1844674407370955161u64.decimal_signed(b), |b| jeaiii::from_i64(1844674407370955161, b),
             |b| 1844674407370955161u64.write_integer_signed(10, b),
             |b| 1844674407370955161u64.write_mantissa_signed(&STANDARD, b),
@@ -106,11 +119,10 @@ fn short_buffers_of_each_function() {
     }
 }
 
-#[test]
-fn each_function_that_panics_is_called_here() {
-    let here = include_str!("failing_conditions.rs");
+/// Returns each function of the package whose documentation says when it panics, with each of these conditions.
+fn documented() -> Vec<(String, String)> {
     let mut folders = vec![Path::new(env!("CARGO_MANIFEST_DIR")).join("../cojimuran/src")];
-    let mut count = 0;
+    let mut found = Vec::new();
     while let Some(folder) = folders.pop() {
         for path in fs::read_dir(folder).unwrap().map(|entry| entry.unwrap().path()) {
             if path.is_dir() {
@@ -119,12 +131,28 @@ fn each_function_that_panics_is_called_here() {
             }
             for after in fs::read_to_string(&path).unwrap().split("# Panics\n").skip(1) {
                 let name = after.split_once("fn ").unwrap().1.split(['(', '<']).next().unwrap();
-                assert!(here.contains(&format!("{name}(")), "{name} of {}", path.display());
-                count += 1;
+                let comment = after.lines().map_while(|line| line.trim_start().strip_prefix("///")).collect::<String>();
+                let sentence = comment.split('.').next().unwrap().replace("[too short](crate#conditions)", "too short");
+                let conditions = sentence.trim().strip_prefix("If ").unwrap().split(", or if ");
+                found.extend(conditions.map(|condition| (name.to_owned(), condition.to_owned())));
             }
         }
     }
-    assert!(count > 40);
+    found
+}
+
+#[test]
+fn each_call_panics_as_its_documentation_says() {
+    check("a call whose condition does not hold", 60, || {
+        let (mut called, documented) = (Vec::new(), documented());
+        short_buffers_of_each_function(&mut called);
+        messages(&mut called);
+        for (name, condition) in &documented {
+            let is_of = |(when, call): &Panicking| when == condition && call.contains(&format!("{name}("));
+            assert!(called.iter().any(is_of), "no call of {name} panics here if {condition}");
+        }
+        assert!(documented.len() > 60, "{}", documented.len());
+    });
 }
 
 #[test]
@@ -165,66 +193,84 @@ fn message_of<T>(call: impl FnOnce() -> T) -> Option<String> {
         .map_or_else(|panic| panic.downcast().ok().map(|text: Box<&str>| text.to_string()), |text| Some(*text))
 }
 
-/// Checks that each call panics with a message that contains the condition.
+/// Checks that each call panics with a message that contains this text, and adds it to those that panic then.
 macro_rules! check_messages {
-    ($($condition:literal: $($call:expr),+;)+) => {
+    ($called:ident; $($when:literal, $message:literal: $($call:expr),+;)+) => {
         $($(
             let message = message_of(|| $call).unwrap_or_default();
-            assert!(message.contains($condition), "{}: {message:?}", stringify!($call));
+            assert!(message.contains($message), "{}: {message:?}", stringify!($call));
+            $called.push(($when, stringify!($call)));
         )+)+
     };
 }
 
-#[test]
-fn messages() {
+fn messages(called: &mut Vec<Panicking>) {
     let buffer = &mut [7; 128];
     let builder = NumberFormatBuilder::new();
     let table = table::get_table;
-    check_messages! {
-        "the radix is not from 2 to 36": NumberFormatBuilder::from_radix(37), NumberFormatBuilder::from_radix(1);
-        "the mantissa radix is not from 2 to 36": builder.radix(37).build_strict();
-        "the exponent radix is not from 2 to 36": builder.exponent_radix(1).build_strict();
-        "the group size is not from 1 to 64": builder.digit_grouping(0, b',').build_strict();
-        "the separator is a letter, a digit or a sign": builder.digit_grouping(3, b'0').build_strict();
-        "the radix is not from 2 to 36": 255u8.digit_count(u32::MAX), 255u8.slow_digit_count(1), u64::MAX.digit_count(0);
-        "radix": 7u32.write_integer(0, buffer), 7u8.radix(1, buffer), 7u64.compact(37, buffer),
-            7u16.write_integer(255, buffer), 7u64.radix(u32::MAX, buffer), Digits(1, 7u8).write_to(buffer);
-        "20 decimals, but at most 19": Fixed(7i64, 20).to_text(buffer), Fixed(7u8, 20).room();
-        "90 decimals, but at most 19": Fixed(7u8, 90).to_str(buffer), Fixed(7u8, 90).try_write_to(buffer);
-        "the radix is not from 2 to 36": table(37), table(1);
-        "the length and `extra` together are 2^64 or above": write_with_length("ab", 10, 20, usize::MAX - 1, buffer);
-        "out of range": "ab".write_at(129, buffer), write_with_length("ab", 10, 129, 0, buffer);
-        "the number has more digits than the width": write_with_length("0123456789", 10, 1, 0, buffer),
-            Padded(2026u16, 2).to_text(buffer), Padded(15u8, 1).try_to_str(buffer),
-            Padded(1234567u32, 3).to_str(buffer), write_padded(10u8, 10, &mut buffer[..1]),
+    let not_utf8 = Bytes(&[200]);
+    check_messages! { called;
+        "the radix is not from 2 to 36", "the radix is not from 2 to 36": NumberFormatBuilder::from_radix(37),
+            NumberFormatBuilder::from_radix(1), 255u8.digit_count(u32::MAX), 255u8.slow_digit_count(1),
+            u64::MAX.digit_count(0), table(37), table(1), table::get_table(37), 7i8.magnitude_digits(1),
+            7u64.magnitude_digits(37), write_padded(0u8, 37, &mut []), write_with_length("a", 37, 1, 0, buffer), 7u32.write_integer_signed(37, buffer);
+        "the radix is not from 2 to 36", "radix": 7u32.write_integer(0, buffer), 7u8.radix(1, buffer),
+            7u64.compact(37, buffer), 7u16.write_integer(255, buffer), 7u64.radix(u32::MAX, buffer),
+            Digits(1, 7u8).write_to(buffer), algorithm(7u8, 37, table(36), buffer);
+        "a part is invalid: then `build` returns an error", "the mantissa radix is not from 2 to 36":
+            builder.radix(37).build_strict();
+        "a part is invalid: then `build` returns an error", "the exponent radix is not from 2 to 36":
+            builder.exponent_radix(1).build_strict();
+        "a part is invalid: then `build` returns an error", "the group size is not from 1 to 64":
+            builder.digit_grouping(0, b',').build_strict();
+        "a part is invalid: then `build` returns an error", "the separator is a letter, a digit or a sign":
+            builder.digit_grouping(3, b'0').build_strict();
+        "the part is not valid", "20 decimals, but at most 19": Fixed(7i64, 20).to_text(buffer), Fixed(7u8, 20).room();
+        "the part is not valid", "90 decimals, but at most 19": Fixed(7u8, 90).to_str(buffer),
+            Fixed(7u8, 90).try_write_to(buffer), Fixed(7u8, 90).write_to(buffer), Fixed(7u8, 90).write_at(1, buffer);
+        "the part is not valid", "the number has more digits than the width": Padded(2026u16, 2).to_text(buffer),
+            Padded(15u8, 1).try_to_str(buffer), Padded(1234567u32, 3).to_str(buffer),
+            PaddedDigits(16, 256u32, 2).to_text(buffer), write_with_length(Padded(12u8, 1), 10, 1, 0, buffer),
             (1u8, Padded(10u8, 1)).append_to(&mut Vec::new());
-        "capacity overflow": Left("", usize::MAX, b' ').append_to(&mut vec![1]);
-        "the number has more digits than the width": PaddedDigits(16, 256u32, 2).to_text(buffer);
-        "the number has more digits than the width": write_padded(1u8, 16, &mut []);
-        "the table does not begin with the digit pairs of the radix": algorithm(7u32, 16, &table(16)[..511], buffer), algorithm(7u32, 12, table(13), buffer),
-            algorithm(7u32, 13, table(12), buffer), algorithm(7u32, 2, table(36), buffer);
-        "the number is 10^19 or above": u64::MAX.decimal_signed(buffer), usize::MAX.decimal_signed(buffer);
-        "the number is 10^19 or above": u64::MAX.write_integer_signed(10, buffer);
-        "the number is 10^19 or above": jeaiii::from_i64(u64::MAX, buffer);
-        "n < 10_000": jeaiii::fixed_2(10_000);
-        "n < 1_000_000": jeaiii::fixed_4(1_000_000);
-        "n >= 1_000_000": jeaiii::fixed_6(999_999);
-        "n < 100_000_000": jeaiii::fixed_6(100_000_000);
-        "n >= 100_000_000": jeaiii::fixed_8_nine(99_999_999);
-        "n < 1_000_000_000": jeaiii::fixed_8_nine(1_000_000_000);
-        "n >= 1_000_000_000": jeaiii::fixed_8_ten(999_999_999), jeaiii::fixed_8_wide(999_999_999);
-        "n < 10_000_000_000": jeaiii::fixed_8_wide(10_000_000_000);
-        "the type does not have the number": <u8 as UnsignedInteger>::from_u32(256);
-        "the type does not have the number": <u16 as UnsignedInteger>::from_u32(65_536);
-        "the count is above isize::MAX": builder.digit_grouping(1, b',').build_strict().grouped_len(1 << 63);
-        "the number is 2^32 or above": 0x1_0000_0000u64.as_u32();
-        "out of bounds": digit_to_char(36), digit_to_char(u32::MAX);
-        "by zero": 7u8.div_rem(0), 7u64.div_rem(0);
-        "the radix is not from 2 to 36": 7i8.magnitude_digits(1), 7u64.magnitude_digits(37);
-        "the radix is not from 2 to 36": write_padded(0u8, 37, &mut []);
+        "the vector cannot have the room", "capacity overflow": Left("", usize::MAX, b' ').append_to(&mut vec![1]);
+        "the text of the part is not UTF-8", "Utf8Error": not_utf8.to_str(buffer), not_utf8.try_to_str(buffer);
+        "the length and `extra` together are above `usize::MAX`", "the length and `extra` together are above usize::MAX":
+            write_with_length("ab", 10, 20, usize::MAX - 1, buffer);
+        "the buffer is too short", "out of range": "ab".write_at(129, buffer), write_with_length("ab", 10, 129, 0, buffer);
+        "the length has more digits than `width`", "the number has more digits than the width":
+            write_with_length("0123456789", 10, 1, 0, buffer);
+        "the number has more digits than the buffer has bytes", "the number has more digits than the width":
+            write_padded(10u8, 10, &mut buffer[..1]), write_padded(1u8, 16, &mut []);
+        "the table does not begin with the digit pairs of the radix",
+            "the table does not begin with the digit pairs of the radix": algorithm(7u32, 16, &table(16)[..511], buffer),
+            algorithm(7u32, 12, table(13), buffer), algorithm(7u32, 13, table(12), buffer),
+            algorithm(7u32, 2, table(36), buffer);
+        "the number is 10^19 or above", "the number is 10^19 or above": u64::MAX.decimal_signed(buffer),
+            jeaiii::from_i64(u64::MAX, buffer);
+        "the radix is 10 and the number is 10^19 or above", "the number is 10^19 or above":
+            u64::MAX.write_integer_signed(10, buffer), u64::MAX.write_mantissa_signed(&STANDARD, buffer),
+            u64::MAX.write_exponent_signed(&STANDARD, buffer);
+        "the number is not in this range", "n < 10_000": jeaiii::fixed_2(10_000);
+        "the number is not in this range", "n < 1_000_000": jeaiii::fixed_4(1_000_000);
+        "the number is not in this range", "n >= 1_000_000": jeaiii::fixed_6(999_999);
+        "the number is not in this range", "n < 100_000_000": jeaiii::fixed_6(100_000_000);
+        "the number is not in this range", "n >= 100_000_000": jeaiii::fixed_8_nine(99_999_999);
+        "the number is not in this range", "n < 1_000_000_000": jeaiii::fixed_8_nine(1_000_000_000);
+        "the number is not in this range", "n >= 1_000_000_000": jeaiii::fixed_8_ten(999_999_999),
+            jeaiii::fixed_8_wide(999_999_999);
+        "the number is not in this range", "n < 10_000_000_000": jeaiii::fixed_8_wide(10_000_000_000);
+        "the type does not have the number", "the type does not have the number": <u8 as UnsignedInteger>::from_u32(256),
+            <u16 as UnsignedInteger>::from_u32(65_536);
+        "the digits are grouped and the count is above `isize::MAX`", "the count is above isize::MAX":
+            builder.digit_grouping(1, b',').build_strict().grouped_len(usize::MAX / 2 + 1);
+        "the number is 2^32 or above", "the number is 2^32 or above": 0x1_0000_0000u64.as_u32();
+        "the digit is 36 or above", "out of bounds": digit_to_char(36), digit_to_char(u32::MAX);
+        "`by` is 0", "by zero": 7u8.div_rem(0), 7u64.div_rem(0);
     }
     #[cfg(target_pointer_width = "64")]
-    check_messages! { "the number is 10^19 or above": usize::MAX.decimal_signed(buffer); }
+    check_messages! { called;
+        "the number is 10^19 or above", "the number is 10^19 or above": usize::MAX.decimal_signed(buffer);
+    }
     #[cfg(target_pointer_width = "32")]
-    check_messages! { "self <= usize::MAX as u64": 0x1_0000_0000u64.as_usize(); }
+    check_messages! { called; "", "the number is above usize::MAX": 0x1_0000_0000u64.as_usize(); }
 }

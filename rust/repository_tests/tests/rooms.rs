@@ -1,5 +1,6 @@
 //! The room of each part, which its longest text fills: `try_write_to` writes to a buffer of that length, and not to one
-//! that is a byte shorter. And what no other test calls: `write_sign` of a required `+`, and `write_padded` to no bytes.
+//! that is a byte shorter; and rooms near the largest `usize`. And what no other test calls: `write_sign` of a required
+//! `+`, and `write_padded` to no bytes.
 
 use cojimuran::padded::write_padded;
 use cojimuran::parts::*;
@@ -82,9 +83,35 @@ fn rooms_of_tuples() {
 }
 
 #[test]
+fn rooms_near_the_largest_usize() {
+    let grouped = NumberFormatBuilder::new().digit_grouping(1, b',').build_strict();
+    let half = usize::MAX / 2;
+    let column = Left("", half, b' ');
+    assert_eq!((column, "ab").room(), half + 2);
+    assert_eq!((column, column).room(), usize::MAX - 1);
+    assert_eq!((column, "a", column).room(), usize::MAX);
+    assert_eq!((column, "ab", column).room(), usize::MAX);
+    assert_eq!(Joined(&[column; 3], ", ").room(), usize::MAX);
+    assert_eq!(ZeroPadded(5u8, usize::MAX).room(), usize::MAX);
+    assert_eq!((column, "ab", column).try_write_to(&mut [7; 64]), None);
+    assert_eq!(grouped.grouped_len(half), usize::MAX - 2);
+}
+
+#[test]
 fn signs_and_no_bytes() {
     let signed = NumberFormatBuilder::new().required_mantissa_sign(true).build_strict();
     let mut buffer = [b'?'; 2];
     assert_eq!((write_sign(5u8, &mut buffer, &signed), buffer), (1, *b"+?"));
     assert_eq!((write_padded(0u8, 16, &mut []), write_padded(0u8, 10, &mut [])), (0, 0));
+}
+
+#[test]
+fn each_part_has_a_row() {
+    let here = include_str!("rooms.rs");
+    let exports = include_str!("../../cojimuran/src/parts.rs").lines().filter_map(|line| line.strip_prefix("pub use "));
+    let names = exports.flat_map(|path| path.split(|c: char| !c.is_alphanumeric()));
+    let parts: Vec<&str> = names.filter(|name| name.starts_with(char::is_uppercase)).collect();
+    let missing = parts.iter().filter(|name| !["Part", "Buffer"].contains(name) && !here.contains(&format!("{name}(")));
+    assert_eq!(missing.collect::<Vec<_>>(), Vec::<&&str>::new());
+    assert!(parts.len() > 20 && (2..=12).all(|count| here.contains(&format!(") => {count}, \""))));
 }

@@ -30,8 +30,8 @@ use std::hash::Hash;
 use std::panic::{RefUnwindSafe, UnwindSafe};
 
 fn value<T: Copy + Debug + Send + Sync + Unpin + UnwindSafe + RefUnwindSafe + 'static>() {}
-fn part<P: Part + Debug + Send + Sync>() {}
-fn shown<P: Part + Debug + Display + Send + Sync>() {}
+fn part<P: Part + Eq + Hash + Debug + Send + Sync>() {}
+fn shown<P: Part + Eq + Hash + Debug + Display + Send + Sync>() {}
 fn number<T: ToLexicalWithOptions<Options = Options> + FormattedSize + Part>() {}
 fn unsigned<T: UnsignedInteger + Radix + Compact + DigitCount + WriteInteger + DecimalCount>() {}
 
@@ -48,16 +48,16 @@ fn numbers() {
 
 #[test]
 fn formats() {
-    fn ordered<T: Clone + Debug + Ord + Default + Send + Sync>() {}
+    fn ordered<T: Copy + Debug + Ord + Default + Send + Sync>() {}
     fn hashed<T: Eq + Hash>() {}
-    fn error<E: std::error::Error + Copy + Eq + Send + Sync + 'static>() {}
+    fn error<E: std::error::Error + Copy + Eq + Hash + Send + Sync + 'static>() {}
     fn options<T: WriteOptions>() {}
     check!(value: NumberFormat, NumberFormatBuilder);
     check!(hashed: NumberFormat, NumberFormatBuilder);
     check!(ordered: Options, OptionsBuilder);
     error::<Error>();
     options::<Options>();
-    assert_eq!(NumberFormatBuilder::default().build().unwrap(), STANDARD);
+    assert_eq!((NumberFormatBuilder::default().build().unwrap(), NumberFormat::default()), (STANDARD, STANDARD));
     let _: Result<NumberFormat> = Err(Error::InvalidGroupMark(b'0'));
 }
 

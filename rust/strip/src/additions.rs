@@ -50,6 +50,9 @@ fn additions(
 ) -> Result<Vec<String>, String> {
     let Function { name, signature, body, .. } = function;
     let (parameters, result) = signature.trim_end_matches(';').rsplit_once(") -> ").unwrap_or((signature, ""));
+    if !result.is_empty() && body.as_ref().is_some_and(Vec::is_empty) {
+        return Err(format!("{name} returns nothing"));
+    }
     let mut lines = Vec::new();
     if function.is_public && source.is_documented() {
         let panics = conditions::panics(required, &known.pages)?;

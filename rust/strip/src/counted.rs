@@ -37,15 +37,12 @@ fn with_one_less<'a>(lines: &[&'a str]) -> Option<Vec<&'a str>> {
     let body = callee + lines[callee..].iter().position(|line| line.ends_with('{'))? + 1;
     let indent = &lines[callee][..lines[callee].len() - lines[callee].trim_start().len()];
     let end = body + lines[body..].iter().position(|line| line.strip_prefix(indent) == Some("}"))?;
-    let mut joined = Vec::new();
-    for (at, line) in lines.iter().enumerate() {
-        match at {
-            _ if (start..=end).contains(&at) => {}
-            _ if at == call => joined.extend(&lines[body..end]),
-            _ => joined.push(*line),
-        }
-    }
-    Some(joined)
+    let kept = |(at, line): (usize, &&'a str)| match at {
+        _ if (start..=end).contains(&at) => Vec::new(),
+        _ if at == call => lines[body..end].to_vec(),
+        _ => vec![*line],
+    };
+    Some(lines.iter().enumerate().flat_map(kept).collect())
 }
 
 /// Returns the names of the parameters of a function but `self`, as a call has them.

@@ -6,8 +6,8 @@ use std::collections::BTreeSet;
 const FORMAT: &str = "\nlet format = cojimuran::NumberFormatBuilder::new().digit_grouping(3, b',').build_strict();";
 
 /// Returns the text of a file with an example at the end of the documentation of each part, which is made of the
-/// sentence `` `CALL` writes `TEXT` ``.
-pub(crate) fn with_examples(text: &str, module: &str) -> Result<String, String> {
+/// sentence `` `CALL` writes `TEXT` ``. Adds the names of the items that have an example.
+pub(crate) fn with_examples(text: &str, module: &str, names: &mut BTreeSet<String>) -> Result<String, String> {
     let mut written = String::with_capacity(2 * text.len());
     let (mut comment, mut attributes) = (String::new(), String::new());
     for line in text.split_inclusive('\n') {
@@ -15,9 +15,13 @@ pub(crate) fn with_examples(text: &str, module: &str) -> Result<String, String> 
             _ if line.starts_with("///") => comment += line,
             _ if line.starts_with("#[") && !comment.is_empty() => attributes += line,
             _ => {
-                let name = item(line).filter(|_| !attributes.contains("doc(hidden)"));
-                let example = name.map(|name| example(name, &comment, module)).transpose()?.flatten();
-                written += &(std::mem::take(&mut comment) + &lines(example) + &std::mem::take(&mut attributes) + line);
+                if let Some(name) = item(line) {
+                    if !attributes.contains("doc(hidden)") {
+                        comment += &example(name, &comment, module)?;
+                    }
+                    names.extend(comment.contains("```").then(|| name.to_owned()));
+                }
+                written += &(std::mem::take(&mut comment) + &std::mem::take(&mut attributes) + line);
             }
         }
     }
@@ -32,10 +36,10 @@ fn item(line: &str) -> Option<&str> {
     name.split(|c: char| !c.is_alphanumeric() && c != '_').next()
 }
 
-/// Returns the example of an item with this documentation, or an error if a part has none.
-fn example(name: &str, comment: &str, module: &str) -> Result<Option<String>, String> {
+/// Returns the lines of the example of an item with this documentation, or an error if a part has none.
+fn example(name: &str, comment: &str, module: &str) -> Result<String, String> {
     if module != "parts" || !name.starts_with(char::is_uppercase) || comment.contains("```") {
-        return Ok(None);
+        return Ok(String::new());
     }
     let text = comment.replace("\n/// ", " ");
     let quoted: Vec<&str> = text.split('`').collect();
@@ -58,30 +62,6 @@ fn example(name: &str, comment: &str, module: &str) -> Result<Option<String>, St
         [name] => (*name).to_owned(),
         names => format!("{{{}}}", names.join(", ")),
     };
-    Ok(Some(format!("use cojimuran::parts::{names};\n{code}")))
-}
-
-/// Returns the lines of an example in a comment.
-fn lines(example: Option<String>) -> String {
-    let line = |line: &str| format!("/// {line}").trim_end().to_owned() + "\n";
-    example.map_or(String::new(), |code| {
-        format!("///\n{}", format!("```\n{code}\n```").lines().map(line).collect::<String>())
-    })
-}
-
-/// Returns a name that is exported and whose documentation has no example.
-pub(crate) fn missing<'a>(made: &str, mut names: impl Iterator<Item = &'a String>) -> Option<&'a String> {
-    let mut examples = BTreeSet::new();
-    let mut comment = String::new();
-    for line in made.lines() {
-        match line {
-            _ if line.starts_with("///") => comment += line,
-            _ if line.starts_with("#[") => {}
-            _ => {
-                examples.extend(item(line).filter(|_| comment.contains("```")));
-                comment.clear();
-            }
-        }
-    }
-    names.find(|name| !examples.contains(name.as_str()))
+    let example = format!("\n```\nuse cojimuran::parts::{names};\n{code}\n```");
+    Ok(example.lines().map(|line| format!("/// {line}").trim_end().to_owned() + "\n").collect())
 }

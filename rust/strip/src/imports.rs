@@ -6,15 +6,12 @@ use std::collections::BTreeSet;
 /// without the left-out names that it exports.
 pub(crate) fn without_unused(text: &str, source: &str, is_left_out: impl Fn(&str) -> bool) -> String {
     let (used, named) = (words_in_use(text), words_in_use(source));
-    let mut kept = String::with_capacity(text.len());
-    for statement in statements(text) {
-        let is_unused = |name: &str| {
-            let is_only_left_out = named.contains(name) && !used.contains(name);
-            is_left_out(name) || is_only_left_out && !statement.trim_start().starts_with("pub ")
-        };
-        kept += &if is_import(&statement) { import_without(&statement, is_unused) } else { statement };
-    }
-    kept
+    let kept = |statement: String| {
+        let is_private = !statement.trim_start().starts_with("pub ");
+        let is_unused = |name: &str| is_left_out(name) || is_private && named.contains(name) && !used.contains(name);
+        if is_import(&statement) { import_without(&statement, is_unused) } else { statement }
+    };
+    statements(text).into_iter().map(kept).collect()
 }
 
 pub(crate) fn is_import(code: &str) -> bool {

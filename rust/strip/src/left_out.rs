@@ -3,7 +3,7 @@
 //! The sources are laid out by `rt fmt`. So each of these begins a line, and has the next lines that have more indent
 //! or that begin with a bracket. The comments and the attributes before it are left out with it.
 
-use crate::functions::{Function, functions};
+use crate::functions::functions;
 use crate::imports;
 use crate::packages::{Source, has};
 use std::collections::BTreeSet;
@@ -21,15 +21,15 @@ pub(crate) type Laws = BTreeSet<String>;
 /// What a counter or a trace is.
 const GHOSTS: [&str; 3] = ["&mut Turns", "&mut Trace", "&mut GhostLog"];
 
-/// Returns the laws of a text: functions that return nothing, check nothing and change nothing but a counter or a trace.
-pub(crate) fn laws(text: &str) -> Laws {
-    let without_ghosts = |text: &str| GHOSTS.iter().fold(text.to_owned(), |text, ghost| text.replace(ghost, ""));
-    let is_law = |function: &Function| {
+/// Returns the laws of a text, which are functions that return nothing, check nothing and change nothing but a counter or a
+/// trace, and the names of its other functions.
+pub(crate) fn laws(text: &str) -> (Laws, Laws) {
+    let (laws, others): (Vec<_>, Vec<_>) = functions(text).into_iter().partition(|function| {
         let checks = function.body.iter().flatten().any(|line| line.contains("prove!("));
-        let signature = without_ghosts(&function.signature);
+        let signature = GHOSTS.iter().fold(function.signature.clone(), |text, ghost| text.replace(ghost, ""));
         !checks && !signature.contains(") -> ") && !signature.contains("&mut ")
-    };
-    functions(text).into_iter().filter(is_law).map(|function| function.name).collect()
+    });
+    [laws, others].map(|functions| functions.into_iter().map(|function| function.name).collect()).into()
 }
 
 /// The words of what a Rust program does not have, and the folder of the crates. No made line may have one.
@@ -62,48 +62,34 @@ pub(crate) fn without_left_out(text: &str, source: &Source, laws: &Laws) -> Stri
 
 /// Returns the text without parameters and arguments that are counters. They are the last ones.
 fn without_counters(text: &str) -> String {
-    let counters = [
-        "loop_turns: &mut Turns",
-        "turns: &mut Turns",
-        "&mut Turns::new()",
-        "&mut loop_turns",
-        "loop_turns",
-        "&mut turns",
-        "turns",
-    ];
-    counters.iter().fold(text.to_owned(), |text, counter| text.replace(&format!(", {counter})"), ")"))
+    let forms = [", NAME: &mut Turns)", ", &mut NAME)", ", NAME)"];
+    let named = ["loop_turns", "turns"].into_iter().flat_map(|name| forms.map(|form| form.replace("NAME", name)));
+    let new = ", &mut Turns::new())".to_owned();
+    named.chain([new]).fold(text.to_owned(), |text, counter| text.replace(&counter, ")"))
 }
 
-/// Returns the text without what is left of a value that was recorded: an `if` with nothing in it, and the name of a
-/// variable that is only returned.
+/// Returns the text without what is left of a value that was recorded: an `if` with nothing in it, whose condition calls
+/// nothing, and the name of a variable that is only returned.
 fn without_rests(text: &str) -> String {
     let mut lines: Vec<String> = Vec::new();
     for line in text.lines() {
-        let indent = &line[..line.len() - line.trim_start().len()];
-        match lines.last() {
-            Some(open) if line.trim() == "}" && is_test_of_value(open) && open.starts_with(indent) => _ = lines.pop(),
-            _ => lines.push(line.to_owned()),
-        }
-    }
-    let variable = |line: &str| Some(line.trim_start().strip_prefix("let ")?.split_once(" = ")?.0.to_owned());
-    for at in (0..lines.len()).rev() {
-        let Some(name) = variable(&lines[at]) else { continue };
-        let indent = lines[at].len() - lines[at].trim_start().len();
-        let end = lines[at..].iter().position(|line| line.ends_with(';')).map_or(at, |count| at + count);
-        let returned = format!("{}{name}", &lines[at][..indent]);
-        if lines.get(end + 1) == Some(&returned) && lines.get(end + 2).is_some_and(|line| line.trim() == "}") {
-            lines.remove(end + 1);
-            lines[end].pop();
-            lines[at] = lines[at].replacen(&format!("let {name} = "), "", 1);
+        let code = line.trim_start();
+        let start = format!("{}let {code} = ", &line[..line.len() - code.len()]);
+        let bound = lines.iter().rposition(|line| line.starts_with(&start));
+        let bound =
+            bound.filter(|at| lines[*at..].iter().position(|line| line.ends_with(';')) == Some(lines.len() - 1 - at));
+        let is_test =
+            |open: &String| open.trim_start().starts_with("if ") && open.ends_with('{') && !open.contains('(');
+        if let Some(at) = bound {
+            lines[at] = lines[at].replacen(&format!("let {code} = "), "", 1);
+            lines.last_mut().and_then(String::pop);
+        } else if code == "}" && lines.last().is_some_and(is_test) {
+            lines.pop();
+        } else {
+            lines.push(line.to_owned());
         }
     }
     lines.join("\n") + "\n"
-}
-
-/// Returns whether a line begins an `if` whose condition calls nothing.
-fn is_test_of_value(line: &str) -> bool {
-    let code = line.trim_start();
-    code.starts_with("if ") && code.ends_with('{') && !code.contains('(')
 }
 
 /// Returns how many of the lines are left out together with the first one, which may be a comment before it.
@@ -127,7 +113,8 @@ fn is_left_out(line: &str, source: &Source, laws: &Laws) -> bool {
         return false;
     }
     let code = line.split(['/', '"']).next().unwrap_or_default();
-    let is_call = |before: &str| before.ends_with(char::is_alphanumeric) && !before.ends_with("pub");
+    let is_call =
+        |before: &str| before.ends_with(|c: char| c.is_alphanumeric() || c == '>') && !before.ends_with("pub");
     let call = code.match_indices('(').map(|(at, _)| &code[..at]).find(|before| is_call(before));
     let is_of_law = is_of_law(code, call.map_or(code.len(), str::len), laws);
     let code = call.unwrap_or(code);

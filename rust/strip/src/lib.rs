@@ -13,22 +13,18 @@ mod functions;
 mod imports;
 mod left_out;
 mod links;
-mod lost;
 mod packages;
 mod replaced;
 
 use left_out::Laws;
 use packages::{SOURCES, Source};
-use std::collections::BTreeMap;
+use std::collections::{BTreeMap, BTreeSet};
 use std::path::{Path, PathBuf};
 use std::process::{Command, Stdio};
 use std::{fs, io};
 
 /// What each made file begins with.
 const START: &str = "// Made by `strip` from ";
-
-/// The file of what is left out of the bodies of functions.
-const LEFT_OUT: &str = "rust/strip/left_out.txt";
 
 /// What names the conditions that a package does not check.
 const PAGES: [&str; 2] = ["rust/cojimuran/CONDITIONS.md", "rust/lexwrite/src/lib.rs"];
@@ -42,107 +38,83 @@ pub(crate) struct Known {
 
 /// Returns the path and the text of each file that is made of the repository in this folder.
 fn made(top: &Path) -> Result<BTreeMap<PathBuf, String>, String> {
-    let (mut made, mut left_out) = (BTreeMap::new(), String::new());
+    let mut made = BTreeMap::new();
     let known = known(top)?;
-    for source in SOURCES {
-        let (files, lines) = made_of(top, source, &known)?;
-        left_out += &lines;
-        if source.is_committed() {
-            for (path, text) in files {
-                made.insert(path, formatted(&text, top)?);
-            }
+    for source in SOURCES.iter().filter(|source| source.is_committed()) {
+        for (path, text) in made_of(top, source, &known)? {
+            made.insert(path, formatted(&text, top)?);
         }
     }
     document(top, &mut made)?;
-    made.insert(LEFT_OUT.into(), left_out);
-    for name in ["LICENSE-APACHE", "LICENSE-MIT", "CHANGELOG.md"] {
+    for name in ["LICENSE-APACHE", "LICENSE-MIT"] {
         made.insert(Path::new("rust/cojimuran").join(name), read(&top.join(name))?);
     }
     Ok(made)
 }
 
-/// Adds links to the documentation of the package. Each part and each item of the root has an example.
+/// Adds examples and links to the documentation of the package. Each part and each item of the root has an example.
 fn document(top: &Path, made: &mut BTreeMap<PathBuf, String>) -> Result<(), String> {
-    let root = read(&top.join("rust/cojimuran/src/lib.rs"))?;
-    let of_root = links::exports(&root, "crate");
     let parts = links::exports(&made[Path::new("rust/cojimuran/src/parts.rs")], "crate::parts");
-    let is_of_package = |path: &Path| path.starts_with("rust/cojimuran");
-    let mut all: String = made.iter().filter(|(path, _)| is_of_package(path)).map(|(_, text)| text.as_str()).collect();
-    all += &read(&top.join("rust/cojimuran/src/append.rs"))?;
-    let of_package = of_root.iter().filter(|(name, path)| **path == format!("crate::{name}"));
-    if let Some(name) = examples::missing(&all, of_package.chain(&parts).map(|(name, _)| name)) {
+    let mut exports = links::exports(&read(&top.join("rust/cojimuran/src/lib.rs"))?, "crate");
+    exports.extend(parts);
+    let mut names = BTreeSet::new();
+    let mut files: Vec<_> = made.iter_mut().filter(|(path, _)| path.starts_with("rust/cojimuran")).collect();
+    for (path, text) in &mut files {
+        let module = if path.starts_with("rust/cojimuran/src/parts") { "parts" } else { "" };
+        **text =
+            examples::with_examples(text, module, &mut names).map_err(|what| format!("{}: {what}", path.display()))?;
+    }
+    examples::with_examples(&read(&top.join("rust/cojimuran/src/append.rs"))?, "", &mut names)?;
+    let is_shown =
+        |name: &str, path: &String| [format!("crate::{name}"), format!("crate::parts::{name}")].contains(path);
+    if let Some((name, _)) = exports.iter().find(|(name, path)| is_shown(name, path) && !names.contains(*name)) {
         return Err(format!("{name} has no example"));
     }
-    let mut exports = of_root;
-    exports.extend(parts);
-    links::add_methods(&all, &mut exports, &mut Default::default());
-    for (_, text) in made.iter_mut().filter(|(path, _)| is_of_package(path) && path.extension() == Some("rs".as_ref()))
-    {
+    for (_, text) in files {
         *text = links::with_links(text, &exports);
     }
     Ok(())
 }
 
-/// Returns what is known of all crates. What tests call for an assertion returns nothing either, so no law is searched
-/// in theirs.
+/// Returns what is known of all crates. A name that another function has too is of no law. What tests call for an
+/// assertion returns nothing either, so no law is searched in theirs.
 fn known(top: &Path) -> Result<Known, String> {
     let (mut laws, mut others) = (Laws::new(), Laws::new());
     for source in SOURCES.iter().filter(|source| !source.name.ends_with("_tests")) {
         for file in files(top, &source.folder_of_crate(), "rt")? {
-            let text = read(&top.join(file))?;
-            let found = left_out::laws(&text);
-            let names = functions::functions(&text).into_iter().map(|function| function.name);
-            others.extend(names.filter(|name| !found.contains(name)));
+            let (found, names) = left_out::laws(&read(&top.join(file))?);
             laws.extend(found);
+            others.extend(names);
         }
     }
-    match laws.intersection(&others).next() {
-        Some(name) => Err(format!("{name} is a law, and also the name of another function")),
-        None => {
-            Ok(Known { laws, pages: PAGES.map(|page| read(&top.join(page))).into_iter().collect::<Result<_, _>>()? })
-        }
-    }
+    let pages = PAGES.map(|page| read(&top.join(page))).into_iter().collect::<Result<_, _>>()?;
+    Ok(Known { laws: &laws - &others, pages })
 }
 
-/// Returns the path and the text of each file that is made of a source, and a line for each text that is left out of the
-/// body of a function.
-fn made_of(top: &Path, source: &Source, known: &Known) -> Result<(BTreeMap<PathBuf, String>, String), String> {
+/// Returns the path and the text of each file that is made of a source.
+fn made_of(top: &Path, source: &Source, known: &Known) -> Result<BTreeMap<PathBuf, String>, String> {
     let folder = source.folder_of_crate();
-    let (mut made, mut left_out, mut all) = (BTreeMap::new(), String::new(), String::new());
-    let mut paths = files(top, &folder, "rt")?;
-    paths.sort();
-    for file in paths {
+    let mut made = BTreeMap::new();
+    for file in files(top, &folder, "rt")? {
         let name = file.strip_prefix(&folder).unwrap_or(&file).to_string_lossy().into_owned();
-        let text = read(&top.join(&file))?;
         if let Some(path) = source.made_of(&name) {
-            let result = made_text(&text, &name, source, known);
-            let (text, lines) = result.map_err(|what| format!("{}: {what}", file.display()))?;
+            let text = read(&top.join(&file))?;
+            let text = made_text(&text, &name, source, known).map_err(|what| format!("{}: {what}", file.display()))?;
             made.insert(path, format!("{START}{}. Edit that file, not this one.\n\n{text}", file.display()));
-            left_out.extend(lines.iter().map(|line| format!("{}/{name} {line}\n", source.name)));
         }
-        all += &format!("{name} {text}");
     }
-    match source.missing(&all) {
-        Some(missing) => Err(format!("{}: the crate does not have {missing}", folder.display())),
-        None => Ok((made, left_out)),
-    }
+    Ok(made)
 }
 
-/// Returns what is made of the text of a file of a source, a path in its `src`, and what its functions lack.
-fn made_text(text: &str, file: &str, source: &Source, known: &Known) -> Result<(String, Vec<String>), String> {
-    let replaced = [source.replaced, replaced::EVERYWHERE];
-    let made = left_out::without_left_out(&source.replaced(text, &replaced), source, &known.laws);
-    // What a rule replaces in a body is listed too, but for tests.
-    let allowed: &[_] = if source.is_test() { &replaced } else { &[] };
-    let lines = lost::left_out(&source.replaced(text, allowed), &made);
+/// Returns what is made of the text of a file of a source, a path in its `src`.
+fn made_text(text: &str, file: &str, source: &Source, known: &Known) -> Result<String, String> {
+    let made = left_out::without_left_out(&source.replaced(text), source, &known.laws);
     let made = counted::without_counted(&made)?;
-    let made = match left_out::unknown(&made) {
-        _ if source.is_test() => made,
-        Some(line) => return Err(format!("a word that only Rattle has: {line}")),
-        None => additions::with_additions(&made, text, file, source, known)?,
-    };
-    let made = if source.package == "cojimuran" { examples::with_examples(&made, source.module)? } else { made };
-    Ok((made, lines))
+    match left_out::unknown(&made) {
+        _ if source.is_test() => Ok(made),
+        Some(line) => Err(format!("a word that only Rattle has: {line}")),
+        None => additions::with_additions(&made, text, file, source, known),
+    }
 }
 
 /// Makes the files of a package that are not committed, in the folder of what its build script makes. The documentation
@@ -150,15 +122,13 @@ fn made_text(text: &str, file: &str, source: &Source, known: &Known) -> Result<(
 pub fn make_built(top: &Path, package: &str, folder: &Path) -> Result<(), String> {
     let known = known(top)?;
     for source in SOURCES.iter().filter(|source| source.package == package) {
-        for (path, text) in made_of(top, source, &known)?.0 {
-            let (documentation, code): (Vec<&str>, Vec<&str>) = text.lines().partition(|line| line.starts_with("//!"));
-            let file = folder.join(&path);
-            if path.ends_with("lib.rs") {
-                let lines = documentation.iter().map(|line| line.trim_start_matches("//!").trim_start_matches(' '));
-                write(&file.with_extension("md"), &lines.collect::<Vec<_>>().join("\n"))?;
-                write(&file, &code.join("\n"))?;
-            } else {
-                write(&file, &text)?;
+        for (path, text) in made_of(top, source, &known)? {
+            let (file, is_root) = (folder.join(&path), path.ends_with("lib.rs"));
+            let (documentation, code): (Vec<&str>, Vec<&str>) =
+                text.lines().partition(|line| is_root && line.starts_with("//!"));
+            write(&file, &code.join("\n"))?;
+            if is_root {
+                write(&file.with_extension("md"), &documentation.join("\n").replace("//! ", "").replace("//!", ""))?;
             }
         }
         println!("cargo::rerun-if-changed={}", top.join(source.folder_of_crate()).display());
@@ -166,15 +136,13 @@ pub fn make_built(top: &Path, package: &str, folder: &Path) -> Result<(), String
     Ok(())
 }
 
-/// Returns the text as rustfmt lays it out.
+/// Returns the text as rustfmt lays it out, or an error without rustfmt.
 fn formatted(text: &str, top: &Path) -> Result<String, String> {
+    let folder = top.join("rust/cojimuran").display().to_string();
     let mut rustfmt = Command::new("rustfmt");
-    rustfmt
-        .args(["--edition=2024", "--emit=stdout", "--quiet", "--config-path"])
-        .arg(top.join("rust/cojimuran"))
-        .stdin(Stdio::piped())
-        .stdout(Stdio::piped());
-    let say = |error| format!("rustfmt: {error}");
+    rustfmt.args(["--edition=2024", "--emit=stdout", "--quiet", "--config-path", &folder]);
+    rustfmt.stdin(Stdio::piped()).stdout(Stdio::piped());
+    let say = |error| format!("rustfmt, which lays out what is made (`rustup component add rustfmt`): {error}");
     let mut child = rustfmt.spawn().map_err(say)?;
     io::Write::write_all(&mut child.stdin.take().expect("a pipe"), text.as_bytes()).map_err(say)?;
     let output = child.wait_with_output().map_err(say)?;
@@ -196,50 +164,36 @@ fn files(top: &Path, folder: &Path, extension: &str) -> Result<Vec<PathBuf>, Str
     Ok(found)
 }
 
-/// Returns each file that is not what is made now, with what is made, or `None` if it is made of no file.
-fn changes(top: &Path) -> Result<Vec<(PathBuf, Option<String>)>, String> {
-    let made = made(top)?;
-    let mut changes = Vec::new();
-    for folder in ["rust/cojimuran", "rust/lexical_c/src"] {
-        for path in files(top, Path::new(folder), "rs")? {
-            if !made.contains_key(&path) && read(&top.join(&path))?.starts_with(START) {
-                changes.push((path, None));
-            }
-        }
-    }
-    let changed = made.into_iter().filter(|(path, text)| read(&top.join(path)).ok().as_ref() != Some(text));
-    changes.extend(changed.map(|(path, text)| (path, Some(text))));
-    Ok(changes)
-}
-
-/// Writes all made files, and removes those that are no longer made.
+/// Writes all made files.
 pub fn make(top: &Path) -> Result<(), String> {
-    for (path, text) in changes(top)? {
-        let file = top.join(&path);
-        match text {
-            Some(text) => write(&file, &text)?,
-            None => fs::remove_file(&file).map_err(|error| message(&path, error))?,
-        }
-    }
-    Ok(())
+    made(top)?.into_iter().try_for_each(|(path, text)| write(&top.join(path), &text))
 }
 
-/// Returns an error that names each made file that is not what would be made now, and its first line that differs.
+/// Returns an error that names each made file that is not what would be made now, and its first line that differs. What
+/// only another version of rustfmt would lay out otherwise is no difference.
 pub fn check(top: &Path) -> Result<(), String> {
-    let wrong = |(path, text): (PathBuf, Option<String>)| {
-        let Some(text) = text else {
-            return format!("{}: it is made of no file", path.display());
-        };
+    let mut wrong = Vec::new();
+    for (path, text) in made(top)? {
         let there = read(&top.join(&path)).unwrap_or_default();
-        let same = there.lines().zip(text.lines()).take_while(|(a, b)| a == b).count();
-        format!("{}:{}: it is not what is made now", path.display(), same + 1)
-    };
-    let wrong: Vec<String> = changes(top)?.into_iter().map(wrong).collect();
+        if code(&there) != code(&text) {
+            let same = there.lines().zip(text.lines()).take_while(|(a, b)| a == b).count();
+            wrong.push(format!("{}:{}: it is not what is made now", path.display(), same + 1));
+        }
+    }
     if wrong.is_empty() { Ok(()) } else { Err(wrong.join("\n")) }
 }
 
-/// Writes a file, in a folder that may be new.
+/// Returns a text without what a layout changes: white space, and the last comma before a bracket.
+fn code(text: &str) -> String {
+    let text: String = text.split_whitespace().collect();
+    [")", "]", "}"].iter().fold(text, |text, bracket| text.replace(&format!(",{bracket}"), bracket))
+}
+
+/// Writes a file, in a folder that may be new, unless it has this text.
 fn write(file: &Path, text: &str) -> Result<(), String> {
+    if fs::read_to_string(file).is_ok_and(|there| there == text) {
+        return Ok(());
+    }
     let folder = file.parent().unwrap_or(file);
     fs::create_dir_all(folder).and_then(|()| fs::write(file, text)).map_err(|error| message(file, error))
 }

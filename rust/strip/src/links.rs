@@ -8,49 +8,27 @@ pub(crate) type Exports = BTreeMap<String, String>;
 /// Returns the exports of a module, whose file has this text. Those of inner modules have their paths too. A name that
 /// is hidden, that could be another word, or that two modules have is left out.
 pub(crate) fn exports(text: &str, path: &str) -> Exports {
-    let (mut found, mut module, mut is_hidden) = (Exports::new(), path.to_owned(), false);
-    let (mut statement, mut several) = (String::new(), BTreeSet::new());
-    for line in text.lines() {
-        let code = line.trim();
-        if let Some(name) = code.strip_prefix("pub mod ").and_then(|rest| rest.strip_suffix(" {")) {
-            module = format!("{path}::{name}");
-        } else if line == "}" {
-            path.clone_into(&mut module);
-        } else if code.starts_with("pub use ") || !statement.is_empty() {
-            statement += code;
-            if code.ends_with(';') {
-                let list = statement.rsplit(['{', ':']).next().unwrap_or_default();
-                let is_name = |name: &&str| name.contains('_') || name.starts_with(char::is_uppercase);
-                let names = list.split(|c: char| !c.is_alphanumeric() && c != '_').filter(is_name);
-                let names = names.filter(|_| !is_hidden);
-                for name in names {
-                    if found.insert(name.to_owned(), format!("{module}::{name}")).is_some() {
-                        several.insert(name.to_owned());
-                    }
-                }
-                statement.clear();
+    let (mut found, mut several) = (Exports::new(), BTreeSet::new());
+    let is_in_word = |c: char| c.is_alphanumeric() || c == '_';
+    for (at, _) in text.match_indices("pub use ") {
+        let (before, list) = (&text[..at], text[at..].split(';').next().unwrap_or_default());
+        let is_hidden = |before: &str| before.trim_end().ends_with("#[doc(hidden)]");
+        let opened = before.rsplit_once("\npub mod ").filter(|(_, rest)| !rest.contains("\n}"));
+        if is_hidden(before) || opened.is_some_and(|(before, _)| is_hidden(before)) {
+            continue;
+        }
+        let inner = opened.and_then(|(_, rest)| rest.split_once(" {")).filter(|(name, _)| name.chars().all(is_in_word));
+        let module = inner.map_or(path.to_owned(), |(name, _)| format!("{path}::{name}"));
+        let names = list.rsplit(['{', ':']).next().unwrap_or_default().split(|c| !is_in_word(c));
+        let is_listed = |name: &&str| name.contains('_') || name.starts_with(char::is_uppercase);
+        for name in names.filter(is_listed) {
+            if found.insert(name.to_owned(), format!("{module}::{name}")).is_some() {
+                several.insert(name.to_owned());
             }
         }
-        is_hidden = code == "#[doc(hidden)]" || is_hidden && !statement.is_empty();
     }
     found.retain(|name, _| !several.contains(name));
     found
-}
-
-/// Adds the methods of the exported traits of a file. A name that several things have becomes none.
-pub(crate) fn add_methods(text: &str, exports: &mut Exports, names: &mut BTreeSet<String>) {
-    let mut path = None;
-    for line in text.lines() {
-        if let Some(code) = line.strip_prefix("pub trait ") {
-            path = code.split([':', ' ', '<']).next().and_then(|name| exports.get(name)).cloned();
-        } else if line == "}" {
-            path = None;
-        } else if let Some((name, path)) = crate::functions::name(line).zip(path.as_ref()) {
-            if name.contains('_') && names.insert(name.to_owned()) {
-                exports.entry(name.to_owned()).or_insert(format!("{path}::{name}"));
-            }
-        }
-    }
 }
 
 /// Returns the text with links in its documentation.

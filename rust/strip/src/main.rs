@@ -1,15 +1,18 @@
 //! Makes the sources of the Rust packages: `cargo run -p strip`. With `-- --check` it changes nothing, and fails with
-//! the file and the line of each one that would be made otherwise.
+//! the file and the line of each one that would be made otherwise. With `-- --built PACKAGE FOLDER` it makes there what is
+//! made when cargo builds that package.
 
 use std::path::Path;
 use std::process::ExitCode;
 
 fn main() -> ExitCode {
     let top = Path::new(env!("CARGO_MANIFEST_DIR")).join("../..");
-    let result = match std::env::args().nth(1).as_deref() {
-        None => strip::make(&top),
-        Some("--check") => strip::check(&top),
-        Some(_) => Err("use: cargo run -p strip [-- --check]".to_owned()),
+    let words: Vec<String> = std::env::args().skip(1).collect();
+    let result = match &*words.iter().map(String::as_str).collect::<Vec<_>>() {
+        [] => strip::make(&top),
+        ["--check"] => strip::check(&top),
+        ["--built", package, folder] => strip::make_built(&top, package, Path::new(folder)),
+        _ => Err("use: cargo run -p strip [-- --check | -- --built PACKAGE FOLDER]".to_owned()),
     };
     if let Err(message) = &result {
         eprintln!("{message}");

@@ -1,5 +1,5 @@
-//! What is written in Rattle, and what is written in its place: a few texts that no rule makes right, such as a line
-//! whose length changes, or a name that is bound only to be recorded. One that its crate does not have is an error.
+//! What is written in Rattle, and what is written in its place: texts that no rule makes right. A test asks that each is in
+//! a source of those that it is for.
 
 /// Texts, and what is written in the place of each.
 pub(crate) type Replaced = &'static [(&'static str, &'static str)];
@@ -21,6 +21,7 @@ pub(crate) const EVERYWHERE: Replaced = &[
     // An assertion takes the runtime, and a vector its allocator.
     ("!(rt; ", "!("),
     ("Vec::new(alloc)", "Vec::new()"),
+    // A crate is a module of a package.
     ("this crate", "this module"),
 ];
 
@@ -32,19 +33,10 @@ pub(crate) const NUM: Replaced = &[
     ("pub struct Options", "#[non_exhaustive]\npub struct Options"),
 ];
 
-/// The paths under which the packages export what the crates have.
+/// The paths under which the packages export what the root of each crate has, and two of its modules.
 pub(crate) const EXPORTS: Replaced = &[
-    ("lexical_num::options::{self,", "cojimuran::{options,"),
-    ("lexical_num::format::{NumberFormat, STANDARD}", "cojimuran::{NumberFormat, format::STANDARD}"),
-    ("lexical_num::format::STANDARD", "cojimuran::format::STANDARD"),
-    ("lexical_num::format::", "cojimuran::"),
     ("lexical_num::limits::", "cojimuran::format::"),
     ("lexical_num::digit::", "cojimuran::radix::"),
-    ("lexical_num::num::", "cojimuran::"),
-    ("lexical_num::constants::", "cojimuran::"),
-    ("lexical_num::error::", "cojimuran::"),
-    ("lexical_num::format_builder::", "cojimuran::"),
-    ("lexical_num::options::", "cojimuran::"),
     ("lexical_num::", "cojimuran::"),
     ("lexical_write_integer::", "cojimuran::"),
     ("lexical_tables::", "cojimuran::table::"),
@@ -54,15 +46,13 @@ pub(crate) const EXPORTS: Replaced = &[
 ];
 
 pub(crate) const WRITE_INTEGER: Replaced = &[
+    // The root of the package exports it.
     ("pub use lexical_tables as table;\n", ""),
+    // Its message names what does not hold, and nothing else.
     ("unreachable!(\"", "panic!(\""),
     // With this attribute rustc would save registers here.
     (
-        "// It is cold, and so not inlined: otherwise each call for a shorter number would save registers that only this needs.\n#[cold]\n",
-        "",
-    ),
-    (
-        "// It is cold, and so not inlined: otherwise a call in each radix would save registers that only this needs.\n#[cold]\n",
+        "// It is cold, and so not inlined: otherwise each call would save registers that only this needs.\n#[cold]\n",
         "",
     ),
 ];
@@ -70,6 +60,8 @@ pub(crate) const WRITE_INTEGER: Replaced = &[
 pub(crate) const PARTS: Replaced = &[
     // In Rattle what allocates takes an allocator.
     (".to_string(alloc)?", ".to_string()"),
+    // Parts can be keys and compared, as values of std can.
+    ("#[derive(Clone, Copy, Debug, Drop)]", "#[derive(Clone, Copy, PartialEq, Eq, Hash, Debug)]"),
     // rustc proves nothing, so a debug build checks.
     ("            // SAFETY: ", "            debug_assert!(from_utf8(text).is_ok());\n            // SAFETY: "),
 ];
@@ -84,6 +76,7 @@ pub(crate) const STREAMS: Replaced = &[
     ("(rt: HostRuntime)", "()"),
     ("rt.reader()", "io::stdin().lock()"),
     ("io::writer(&rt)", "io::stdout().lock()"),
+    // A link of the documentation.
     ("`lexical_lines::run`", "`lines::run`"),
 ];
 
@@ -95,25 +88,27 @@ pub(crate) const FOR_C: Replaced = &[
 
 /// What `repository_tests/src/runtime.rs` has in place of the runtime of Rattle. What is not known here, rustc refuses.
 pub(crate) const IN_TESTS: Replaced = &[
-    ("println!(rt; ", "repository_tests::println_in!("),
-    ("format!(in alloc; ", "repository_tests::format_in!("),
+    // The runtime is passed to what prints, allocates or ends the process.
     ("(rt: HostRuntime) {", "() {\n    let rt = repository_tests::runtime::HostRuntime;"),
     (
         "(rt: HostRuntime) -> Result<(), Fail> {",
         "() -> Result<(), Fail> {\n    let rt = repository_tests::runtime::HostRuntime;",
     ),
-    ("rt: HostRuntime) ->", "rt: repository_tests::runtime::HostRuntime) ->"),
-    ("use uses::", "use repository_tests::uses::"),
+    ("println!(rt; ", "repository_tests::println_in!("),
+    ("format!(in alloc; ", "repository_tests::format_in!("),
+    (".clone().expect(&rt, \"clone\")", ".clone()"),
+    (".clone().expect(rt, \"clone\")", ".clone()"),
+    (".expect(rt, ", ".expect("),
+    // What std has only there.
     ("use std::process::Abort;", "use repository_tests::runtime::Abort;"),
     ("use std::alloc::{Alloc, Global};", "use repository_tests::runtime::Global;"),
     ("use std::alloc::", "use repository_tests::runtime::"),
-    ("use std::fmt::InlineText;\n", ""),
-    ("InlineText::<32>::of(", "ToString::to_string(&"),
+    ("use std::fmt::InlineText;", "use repository_tests::runtime::InlineText;"),
     ("use std::test::Fail;", "use repository_tests::runtime::Fail;"),
-    (".expect(&rt, ", ".expect("),
-    (".expect(rt, ", ".expect("),
-    // In Rattle what allocates takes an allocator and returns a `Result`.
-    (".clone().expect(\"clone\")", ".clone()"),
+    ("::Err: Drop", "::Err: Sized"),
+    // The callers are a module here.
+    ("use uses::", "use repository_tests::uses::"),
+    // What allocates takes an allocator and returns a `Result`.
     ("Vec::new(rt.alloc())", "Vec::new()"),
     ("String::new(rt.alloc())", "String::new()"),
     ("log.resize(", "repository_tests::runtime::resize(log, "),
@@ -121,9 +116,6 @@ pub(crate) const IN_TESTS: Replaced = &[
     ("entries.extend_from_slice(", "std::io::Write::write_all(entries, "),
     ("log.push_str(", "repository_tests::runtime::push_str(log, "),
     ("Formatted(amount, format).to_string(alloc)", "repository_tests::format_in!(\"{}\", Formatted(amount, format))"),
-    ("io::writer(&rt)", "io::stdout()"),
-    ("rt.reader()", "io::stdin()"),
-    ("::Err: Drop", "::Err: Sized"),
     // In the package the errors are non-exhaustive.
     ("Some((\"group mark\", byte)),\n    }", "Some((\"group mark\", byte)),\n        _ => None,\n    }"),
     // Rust has this method since 1.87.

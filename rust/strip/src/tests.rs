@@ -2,11 +2,14 @@
 //! compared, show the others.
 
 use crate::left_out::{Laws, laws, without_left_out};
-use crate::packages::SOURCES;
-use crate::{Known, made_text};
+use crate::packages::{SOURCES, Source};
+use crate::replaced::{self, Replaced};
+use crate::{Known, code, files, made_text, read};
+use std::path::Path;
+use std::slice;
 
 fn some_laws() -> Laws {
-    laws("fn in_range(a: u8)\n    ensures { c };\nfn text_length() {}\nfn fits_bits(self) {}")
+    laws("fn in_range(a: u8)\n    ensures { c };\nfn text_length() {}\nfn fits_bits(self) {}").0
 }
 
 /// Compares what is made of a text, but for the white space, which rustfmt lays out.
@@ -20,7 +23,7 @@ fn check(text: &str, expected: &str) {
 fn refused_words() {
     for line in ["// A law of b.", "/// Of the crates.", "f(&mut turns, a);", "f(&mut Trace::new());"] {
         let refused = Err(format!("a word that only Rattle has: {line}"));
-        assert_eq!(made(&format!("a;\n    {line}\nc;"), 0).map(|made| made.0), refused);
+        assert_eq!(made(&format!("a;\n    {line}\nc;"), 0), refused);
     }
 }
 
@@ -64,50 +67,55 @@ fn rust_stays() {
     }
 }
 
-/// Returns what is made of a text of a source, and what that lacks.
-fn made(text: &str, source: usize) -> Result<(String, Vec<String>), String> {
+/// Returns what is made of a text of a source.
+fn made(text: &str, source: usize) -> Result<String, String> {
     let known = Known { laws: some_laws(), pages: "`named`".to_owned() };
     made_text(text, "a.rt", &SOURCES[source], &known)
 }
 
-/// Returns what the made file lacks of a function of the source of `write_integer`.
-fn lost(function: &str) -> Vec<String> {
-    made(function, 2).unwrap().1
+/// Returns the body of what is made of a function with this one.
+fn body(lines: &str) -> String {
+    let made = made(&format!("fn f(a: u8, turns: &mut Turns) -> u8 {{\n{lines}\n}}"), 2).unwrap();
+    made.split_once("{\n").unwrap().1.strip_suffix("\n}\n").unwrap().to_owned()
 }
 
 #[test]
 fn variables_are_not_lost() {
-    let parse = "fn parse() -> Option<u8> {\n    let in_range = kind.holds(minus, magnitude);\n    if !in_range {\n        \
-        return None;\n    }\n    b\n}";
-    let text = "fn f() -> &[u8] {\n    let text_length = a.min(b.len());\n    &b[..text_length]\n}";
-    for function in [parse, text] {
-        assert_eq!(lost(function), Vec::<String>::new());
-        check(function, function);
+    for same in [
+        "    let in_range = kind.holds(minus, magnitude);\n    if !in_range {\n        return None;\n    }\n    b",
+        "    let text_length = a.min(b.len());\n    &b[..text_length]",
+        "    counted_length::<u64>(value, &DECIMAL)",
+    ] {
+        assert_eq!(body(same), same);
     }
 }
 
 #[test]
 fn what_is_left_out_of_a_body() {
-    let body = |lines: &str| lost(&format!("fn f(a: u8, turns: &mut Turns) -> u8 {{\n{lines}\n}}"));
-    assert_eq!(body("    // Of it.\n    in_range(a);\n    b"), ["f: in_range(a);"]);
-    assert_eq!(body("    if in_range(a) {\n        b;\n    }\n    c"), ["f: if in_range(a) { b; }"]);
-    assert_eq!(body("    turns.tick(a);\n    g(a, turns);\n    b"), ["f: turns.tick(a);", "f: , turns"]);
-    assert_eq!(body("    g(a, &mut Turns::new())"), ["f: , &mut Turns::new()"]);
-    assert_eq!(body("    let mut t = Turns::new();\n    b"), ["f: let mut t = Turns::new();"]);
-    assert_eq!(body("    self.trace.fault();\n    b"), ["f: self.trace.fault();"]);
-    assert_eq!(body("    unreachable!(\"a\")"), ["f: unreachable => panic"]);
-    assert_eq!(body("    prove!(a > 0);\n    b"), ["f: prove => assert"]);
-    assert_eq!(lost("fn in_range(a: u8) {\n    fits_bits(a);\n}"), ["in_range: fits_bits(a);"]);
+    for (lines, left) in [
+        ("    // Of it.\n    in_range(a);\n    b", "    b"),
+        ("    if in_range(a) {\n        b;\n    }\n    c", "    c"),
+        ("    turns.tick(a);\n    g(a, turns);\n    b", "    g(a);\n    b"),
+        ("    g(a, &mut Turns::new())", "    g(a)"),
+        ("    let mut t = Turns::new();\n    b", "    b"),
+        ("    self.trace.fault();\n    b", "    b"),
+        ("    unreachable!(\"a\")", "    panic!(\"a\")"),
+        ("    prove!(a > 0);\n    b", "    assert!(a > 0);\n    b"),
+    ] {
+        assert_eq!(body(lines), left);
+    }
+    assert_eq!(made("fn f() -> u8 {\n    in_range(a)\n}", 2), Err("f returns nothing".to_owned()));
+    assert!(!made("fn in_range(a: u8) {\n    fits_bits(a);\n}", 2).unwrap().contains("fn "));
 }
 
 #[test]
 fn conditions() {
-    let made = |function: &str| made(&format!("{function}\n{{\n    c\n}}"), 0).map(|made| made.0);
+    let made = |function: &str| made(&format!("{function}\n{{\n    c\n}}"), 0);
     let listed = made("pub fn a(radix: u32) -> u8\n    requires radix { IsRadix radix }\n    ensures { b }").unwrap();
     assert!(listed.contains("/// If the radix is not from 2 to 36.\n"), "{listed}");
     assert!(!made("pub fn named(a: &mut u8) -> u8\n    requires some { 1 ≤ count }").unwrap().contains("Panics"));
     for (name, condition) in [("other", "1 ≤ count"), ("named", "radix < 36")] {
-        let refused = format!("{name} requires what is neither checked nor named: {condition}");
+        let refused = format!("what is required is neither checked nor named: {name}: {condition}");
         assert_eq!(made(&format!("pub fn {name}(a: u8) -> u8\n    requires {{ {condition} }}")), Err(refused));
     }
 }
@@ -118,12 +126,51 @@ fn functions_with_and_without_a_counter() {
         let with = "fn a_counted(n: u8, turns: &mut Turns) -> u8 {\n    n\n}";
         made(&format!("pub fn a(n: u8) -> u8 {{\n    {arguments}\n}}\n\npub {with}"), 2)
     };
-    assert!(two("a_counted(n, &mut Turns::new())").unwrap().0.ends_with("pub fn a(n: u8) -> u8 {\n    n\n}\n"));
+    assert!(two("a_counted(n, &mut Turns::new())").unwrap().ends_with("pub fn a(n: u8) -> u8 {\n    n\n}\n"));
     let error = "a function with a counter: pub fn a_counted(n: u8) -> u8 {";
     assert_eq!(two("a_counted(n + 1, &mut Turns::new())"), Err(error.to_owned()));
 }
 
+/// Returns the names and texts of the lists of some sources that none of these has.
+fn missing(sources: &[Source], replaced: Replaced) -> Vec<&'static str> {
+    let top = Path::new(env!("CARGO_MANIFEST_DIR")).join("../..");
+    let mut all = String::new();
+    for folder in sources.iter().map(Source::folder_of_crate) {
+        for file in files(&top, &folder, "rt").unwrap() {
+            all += &format!("{} {}", file.strip_prefix(&folder).unwrap().display(), read(&top.join(&file)).unwrap());
+        }
+    }
+    let listed = sources.iter().flat_map(|source| source.attributes.iter().map(|(_, names)| *names));
+    let others = sources.iter().flat_map(|source| [source.constant, source.left_out]);
+    let names = listed.chain(others).flat_map(str::split_whitespace);
+    names.chain(replaced.iter().map(|(from, _)| *from)).filter(|name| !all.contains(name)).collect()
+}
+
 #[test]
 fn names_of_a_list_that_a_crate_does_not_have() {
-    assert_eq!(SOURCES[0].missing("is_radix"), Some("digit_to_char"));
+    let none: [&str; 0] = [];
+    let (tests, others): (Vec<_>, Vec<_>) = SOURCES.iter().partition(|source| source.is_test());
+    for source in others {
+        assert_eq!(missing(slice::from_ref(source), source.replaced), none);
+    }
+    let tests: Vec<_> = tests.into_iter().copied().collect();
+    assert_eq!(missing(&tests, replaced::IN_TESTS), none);
+    assert_eq!([replaced::EVERYWHERE, replaced::EXPORTS].map(|list| missing(SOURCES, list)).concat(), none);
+    assert_eq!(
+        missing(&[Source { constant: "digit_to_byte", ..SOURCES[1] }], &[("gone", "")]),
+        ["digit_to_byte", "gone"]
+    );
+}
+
+#[test]
+fn layouts() {
+    assert_eq!(code("f(\n    a,\n    b,\n)"), code("f(a, b)"));
+    assert_ne!(code("f(a, b)"), code("f(a, c)"));
+}
+
+#[test]
+fn a_path_of_two_crates() {
+    let made = |text: &str| made(text, 2).unwrap();
+    assert_eq!(made("use lexical_num::num::UnsignedInteger;\na;\n"), "use crate::num::num::UnsignedInteger;\na;\n");
+    assert_eq!(made("use crate::buffer::a;\nb;\n"), "use crate::write_integer::buffer::a;\nb;\n");
 }

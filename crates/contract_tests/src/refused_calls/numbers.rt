@@ -1,7 +1,7 @@
 //! Calls on numbers.
 
+use lexical_num::UnsignedInteger;
 use lexical_num::digit::digit_to_char;
-use lexical_num::num::UnsignedInteger;
 
 /// Returns the character of the largest digit.
 pub fn character_of_the_largest_digit() -> u8 {

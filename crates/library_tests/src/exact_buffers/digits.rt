@@ -6,7 +6,7 @@ ghost use Rattle.lexical_write_integer.specs.DigitCount.{digit_count};
 ghost use Rattle.lexical_write_integer.specs.Text.{digits_need};
 
 use crate::checks::{ROOM, check_equal, check_written};
-use lexical_num::num::{LexicalInteger, UnsignedInteger};
+use lexical_num::{LexicalInteger, UnsignedInteger};
 use lexical_write_integer::compact::Compact;
 use lexical_write_integer::decimal::{Decimal, DecimalCount};
 use lexical_write_integer::digit_count::DigitCount;
@@ -16,7 +16,13 @@ use lexical_write_integer::write::WriteInteger;
 use std::process::Abort;
 
 // Checks that the table writer and the compact writer write the digits to a buffer of `room` bytes.
-fn check_in<U: Radix + Compact>(rt: &impl Abort, value: U, radix: u32, room: usize, digits: &[u8])
+fn check_table_and_compact_writers<U: Radix + Compact>(
+    rt: &impl Abort,
+    value: U,
+    radix: u32,
+    room: usize,
+    digits: &[u8],
+)
     requires radix { IsRadix radix }
     requires need { digit_count radix (U.magnitude value) ≤ room }
     requires room { room ≤ 140 }
@@ -88,8 +94,8 @@ fn check_digits<U: Compact + DigitCount + WriteInteger>(
     let count = value.digit_count(radix);
     let counts = [count, value.slow_digit_count(radix)];
     check_equal(rt, (value.as_u64(), radix), counts, [digits.len(); 2]);
-    check_in(rt, value, radix, count, digits);
-    check_in(rt, value, radix, count + 3, digits);
+    check_table_and_compact_writers(rt, value, radix, count, digits);
+    check_table_and_compact_writers(rt, value, radix, count + 3, digits);
     check_wide(rt, value, radix, count, digits);
 }
 

@@ -2,9 +2,7 @@
 
 use crate::checks::check_equal;
 use crate::lines::read;
-use lexical_num::error::Error;
-use lexical_num::format::NumberFormat;
-use lexical_num::format_builder::NumberFormatBuilder;
+use lexical_num::{Error, NumberFormat, NumberFormatBuilder};
 use std::fmt::InlineText;
 use std::process::Abort;
 

@@ -1,8 +1,7 @@
 // Tests every pair of bytes as the two radices, and as the group size and the separator.
 
 use crate::checks::check_equal;
-use lexical_num::error::Error;
-use lexical_num::format_builder::NumberFormatBuilder;
+use lexical_num::{Error, NumberFormatBuilder};
 use std::process::Abort;
 
 // The part that an error names, with its byte.

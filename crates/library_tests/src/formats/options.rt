@@ -3,7 +3,8 @@
 ghost use Rattle.std.specs.Prelude.{◌≡◌, IsTrue};
 
 use crate::checks::check_equal;
-use lexical_num::options::{self, Options, OptionsBuilder, WriteOptions};
+use lexical_num::{WriteOptions, options};
+use lexical_write_integer::{Options, OptionsBuilder};
 use std::cmp::Ordering;
 use std::process::Abort;
 

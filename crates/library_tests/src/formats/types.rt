@@ -3,9 +3,8 @@
 ghost use Rattle.std.specs.Prelude.{◌^◌, ◌<◌};
 
 use crate::checks::check_equal;
-use lexical_num::constants::{BUFFER_SIZE, FormattedSize};
 use lexical_num::digit::digit_to_char;
-use lexical_num::num::{LexicalInteger, UnsignedInteger};
+use lexical_num::{BUFFER_SIZE, FormattedSize, LexicalInteger, UnsignedInteger};
 use std::process::Abort;
 
 // Checks the bits, the decimal width, and the sizes in radix 10 and in all radices.

@@ -78,12 +78,16 @@ fn status_of(reader: &mut Giver<'_>, writer: &mut Taker<'_>) -> u8 {
     answer_stream(&mut Reading::whole(reader), &mut output)
 }
 
-// Answers the lines, and returns the exit status, how often the devices were called, and the number of bytes
-// taken.
-fn answer(reader: &mut Giver<'_>, writer: &mut Taker<'_>) -> (u8, [usize; 4]) {
+// The numbers of reads, of writes, of flushes and of bytes that the writer has taken.
+type Calls = [usize; 4];
+
+// Answers the lines, and returns the exit status and the calls.
+fn status_and_calls(reader: &mut Giver<'_>, writer: &mut Taker<'_>) -> (u8, Calls) {
     let status = status_of(reader, writer);
-    let calls = [reader.reads, writer.writes, writer.flushes, writer.count];
-    (status, calls)
+    (
+        status,
+        [reader.reads, writer.writes, writer.flushes, writer.count],
+    )
 }
 
 #[test]
@@ -100,13 +104,18 @@ fn each_answer_is_flushed_before_the_next_read(rt: HostRuntime) {
     let mut reader = Giver::new(LINES.as_bytes(), &flushed);
     reader.piece = 11;
     let mut writer = Taker::new(&flushed);
-    let answered = answer(&mut reader, &mut writer);
-    check_equal(&rt, "calls", answered, (0, [4, 3, 5, 10]));
+    let answered = status_and_calls(&mut reader, &mut writer);
+    check_equal(
+        &rt,
+        "reads, writes, flushes, bytes",
+        answered,
+        (0, [4, 3, 5, 10]),
+    );
     check_equal(&rt, "flushed by each read", reader.seen, [0, 2, 6, 10]);
 }
 
 // Answers the lines with one call that fails, and checks how often the devices were called.
-fn check_calls(rt: &impl Abort, bad: [usize; 3], expected: [usize; 4]) {
+fn check_calls(rt: &impl Abort, bad: [usize; 3], expected: Calls) {
     let [bad_read, bad_byte, bad_flush] = bad;
     let flushed = Cell::new(0);
     let mut reader = Giver::new(LINES.as_bytes(), &flushed);
@@ -116,7 +125,7 @@ fn check_calls(rt: &impl Abort, bad: [usize; 3], expected: [usize; 4]) {
     writer.piece = 1;
     writer.bad_byte = bad_byte;
     writer.bad_flush = bad_flush;
-    let answered = answer(&mut reader, &mut writer);
+    let answered = status_and_calls(&mut reader, &mut writer);
     check_equal(rt, bad, answered, (2, expected));
 }
 
@@ -142,6 +151,11 @@ fn a_read_takes_128_kib_and_a_write_16_kib(rt: HostRuntime) {
     let flushed = Cell::new(0);
     let mut reader = Giver::new(&lines, &flushed);
     let mut writer = Taker::new(&flushed);
-    let answered = answer(&mut reader, &mut writer);
-    check_equal(&rt, "calls", answered, (0, [4, 5, 5, 61_440]));
+    let answered = status_and_calls(&mut reader, &mut writer);
+    check_equal(
+        &rt,
+        "reads, writes, flushes, bytes",
+        answered,
+        (0, [4, 5, 5, 61_440]),
+    );
 }

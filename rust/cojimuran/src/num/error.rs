@@ -25,7 +25,7 @@ pub type Result<T> = core::result::Result<T, Error>;
 /// assert_eq!(error, Error::InvalidMantissaRadix(37));
 /// assert_eq!(error.to_string(), "invalid mantissa radix 37");
 /// ```
-#[derive(Clone, Copy, PartialEq, Eq, Debug)]
+#[derive(Clone, Copy, PartialEq, Eq, Hash, Debug)]
 #[non_exhaustive]
 pub enum Error {
     /// The mantissa radix is below 2 or above 36.

@@ -94,7 +94,8 @@ impl NumberFormat {
     }
 
     /// Returns the number of bytes that `count` digits take in the format. If the digits are grouped,
-    /// a separator precedes each group but the first. The count is at most `isize::MAX`.
+    /// a separator precedes each group but the first: 9 for 7 digits in groups of three. The count is at most
+    /// `isize::MAX`.
     ///
     /// # Panics
     ///
@@ -118,5 +119,12 @@ impl NumberFormat {
     #[inline]
     pub const fn is_valid(&self) -> bool {
         self.parts.are_valid()
+    }
+}
+
+impl Default for NumberFormat {
+    #[inline]
+    fn default() -> Self {
+        STANDARD
     }
 }

@@ -161,7 +161,7 @@ impl LexicalInteger for isize {
 }
 
 /// An unsigned integer type, with the arithmetic that is needed to write digits. The writers of
-/// [`write_integer`](crate::write::WriteInteger::write_integer) are generic over it, such as `compact`.
+/// `write_integer` are generic over it, such as `compact`.
 ///
 /// ```
 /// use cojimuran::UnsignedInteger;
@@ -318,9 +318,10 @@ impl UnsignedInteger for u64 {
 
     #[inline]
     fn as_usize(self) -> usize {
-        // With pointers of 32 bits a larger number would be cut off.
-        assert!(self <= usize::MAX as u64);
-        self as usize
+        // With pointers of 32 bits a cast would cut off a larger number.
+        let number = usize::try_from(self);
+        assert!(number.is_ok(), "the number is above usize::MAX");
+        number.unwrap_or(usize::MAX)
     }
 
     #[inline]

@@ -36,7 +36,7 @@ pub trait WriteOptions {
 /// const SIZE: usize = Options::new().buffer_size_const::<i32>(&STANDARD);
 /// assert_eq!(SIZE, 11);
 /// ```
-#[derive(Debug, Clone, PartialEq, Eq, PartialOrd, Ord)]
+#[derive(Clone, Copy, PartialEq, Eq, PartialOrd, Ord, Debug)]
 #[non_exhaustive]
 pub struct Options {}
 
@@ -65,7 +65,7 @@ impl Options {
         true
     }
 
-    /// Returns the size of the type in the format, as [`buffer_size`](crate::WriteOptions::buffer_size) does.
+    /// Returns the size of the type in the format, as `buffer_size` does.
     #[must_use]
     #[inline]
     pub const fn buffer_size_const<T: FormattedSize>(&self, format: &NumberFormat) -> usize {
@@ -117,7 +117,7 @@ impl WriteOptions for Options {
 ///
 /// assert_eq!(OptionsBuilder::new().build(), Ok(Options::new()));
 /// ```
-#[derive(Debug, Clone, PartialEq, Eq, PartialOrd, Ord)]
+#[derive(Clone, Copy, PartialEq, Eq, PartialOrd, Ord, Debug)]
 #[non_exhaustive]
 pub struct OptionsBuilder {}
 

@@ -15,7 +15,7 @@ use crate::write_integer::ToLexicalWithOptions;
 /// assert_eq!(buffer.format(-1234i32), "-1234");
 /// assert_eq!(buffer.format(u64::MAX), "18446744073709551615");
 /// ```
-#[derive(Clone, Copy, Debug)]
+#[derive(Debug, Clone, Copy)]
 pub struct Buffer {
     bytes: [u8; 20],
 }

@@ -15,7 +15,7 @@ use crate::parts::part::Part;
 ///
 /// assert_eq!(Left(Decimal(12), 4, b'.').to_text(&mut [0; 64]), b"12..");
 /// ```
-#[derive(Clone, Copy, Debug)]
+#[derive(Clone, Copy, PartialEq, Eq, Hash, Debug)]
 pub struct Left<P>(pub P, pub usize, pub u8);
 
 impl<P: Part> Part for Left<P> {
@@ -45,7 +45,7 @@ impl<P: Part> Part for Left<P> {
 ///
 /// assert_eq!(Right(Decimal(42), 4, b'.').to_text(&mut [0; 64]), b"..42");
 /// ```
-#[derive(Clone, Copy, Debug)]
+#[derive(Clone, Copy, PartialEq, Eq, Hash, Debug)]
 pub struct Right<P>(pub P, pub usize, pub u8);
 
 impl<P: Part> Part for Right<P> {
@@ -77,7 +77,7 @@ impl<P: Part> Part for Right<P> {
 ///
 /// assert_eq!(Center(Decimal(-12), 6, b'*').to_text(&mut [0; 64]), b"*-12**");
 /// ```
-#[derive(Clone, Copy, Debug)]
+#[derive(Clone, Copy, PartialEq, Eq, Hash, Debug)]
 pub struct Center<P>(pub P, pub usize, pub u8);
 
 impl<P: Part> Part for Center<P> {

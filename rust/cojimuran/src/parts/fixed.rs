@@ -55,7 +55,7 @@ fn write_grouped_units<T: ToLexicalWithOptions>(
 /// assert_eq!(Fixed(-5i64, 2).to_text(&mut [0; 64]), b"-0.05");
 /// assert_eq!(Fixed(1234u32, 3).to_text(&mut [0; 64]), b"1.234");
 /// ```
-#[derive(Clone, Copy, Debug)]
+#[derive(Clone, Copy, PartialEq, Eq, Hash, Debug)]
 pub struct Fixed<T>(pub T, pub usize);
 
 impl<T: ToLexicalWithOptions> Part for Fixed<T> {
@@ -84,7 +84,7 @@ impl<T: ToLexicalWithOptions> Part for Fixed<T> {
 /// let format = cojimuran::NumberFormatBuilder::new().digit_grouping(3, b',').build_strict();
 /// assert_eq!(GroupedFixed(-123456, 2, &format).to_text(&mut [0; 64]), b"-1,234.56");
 /// ```
-#[derive(Clone, Copy, Debug)]
+#[derive(Clone, Copy, PartialEq, Eq, Hash, Debug)]
 pub struct GroupedFixed<'a, T>(pub T, pub usize, pub &'a NumberFormat);
 
 impl<T: ToLexicalWithOptions> Part for GroupedFixed<'_, T> {

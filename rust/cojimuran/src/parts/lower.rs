@@ -13,7 +13,7 @@ use crate::parts::part::Part;
 ///
 /// assert_eq!(Lower(PaddedDigits(16, 255u32, 4)).to_text(&mut [0; 64]), b"00ff");
 /// ```
-#[derive(Clone, Copy, Debug)]
+#[derive(Clone, Copy, PartialEq, Eq, Hash, Debug)]
 pub struct Lower<P>(pub P);
 
 impl<P: Part> Part for Lower<P> {

@@ -17,7 +17,7 @@ use crate::write_integer::{NumberFormat, ToLexicalWithOptions};
 ///
 /// assert_eq!(Decimal(-5).to_text(&mut [0; 64]), b"-5");
 /// ```
-#[derive(Clone, Copy, Debug)]
+#[derive(Clone, Copy, PartialEq, Eq, Hash, Debug)]
 pub struct Decimal<T>(pub T);
 
 impl<T: ToLexicalWithOptions> Part for Decimal<T> {
@@ -44,7 +44,7 @@ impl<T: ToLexicalWithOptions> Part for Decimal<T> {
 ///
 /// assert_eq!(Digits(16, 255u32).to_text(&mut [0; 64]), b"FF");
 /// ```
-#[derive(Clone, Copy, Debug)]
+#[derive(Clone, Copy, PartialEq, Eq, Hash, Debug)]
 pub struct Digits<T>(pub u32, pub T);
 
 impl<T: Radix + DigitCount> Part for Digits<T> {
@@ -84,7 +84,7 @@ fn largest_magnitude<T: ToLexicalWithOptions>() -> u64 {
 /// let format = cojimuran::NumberFormatBuilder::new().digit_grouping(3, b',').build_strict();
 /// assert_eq!(Formatted(1234567, &format).to_text(&mut [0; 64]), b"1,234,567");
 /// ```
-#[derive(Clone, Copy, Debug)]
+#[derive(Clone, Copy, PartialEq, Eq, Hash, Debug)]
 pub struct Formatted<'a, T>(pub T, pub &'a NumberFormat);
 
 impl<T: ToLexicalWithOptions> Part for Formatted<'_, T> {

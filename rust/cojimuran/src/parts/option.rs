@@ -51,7 +51,7 @@ impl<P: Part> Part for Option<P> {
 /// assert_eq!(OrElse(Some(5u8), "n/a").to_text(&mut [0; 64]), b"5");
 /// assert_eq!(OrElse(None::<u8>, "n/a").to_text(&mut [0; 64]), b"n/a");
 /// ```
-#[derive(Clone, Copy, Debug)]
+#[derive(Clone, Copy, PartialEq, Eq, Hash, Debug)]
 pub struct OrElse<P, Q>(pub Option<P>, pub Q);
 
 impl<P: Part, Q: Part> Part for OrElse<P, Q> {

@@ -4,5 +4,5 @@
 
 /// A type that no other crate can name, so that none can define a method with a parameter of it.
 #[doc(hidden)]
-#[derive(Clone, Copy, Debug)]
+#[derive(Clone, Copy, PartialEq, Eq, Hash, Debug)]
 pub struct Own;

@@ -28,7 +28,7 @@ fn has_few_bits(number: u64, radix: u32, width: usize) -> bool {
 ///
 /// assert_eq!(PaddedDigits(16, 1u8, 2).to_text(&mut [0; 64]), b"01");
 /// ```
-#[derive(Clone, Copy, Debug)]
+#[derive(Clone, Copy, PartialEq, Eq, Hash, Debug)]
 pub struct PaddedDigits<T>(pub u32, pub T, pub usize);
 
 impl<T: DigitCount + Radix> Part for PaddedDigits<T> {
@@ -66,7 +66,7 @@ impl<T: DigitCount + Radix> Part for PaddedDigits<T> {
 /// assert_eq!(Padded(3u8, 2).to_text(&mut [0; 64]), b"03");
 /// assert_eq!(ZeroPadded(123u8, 2).to_text(&mut [0; 64]), b"123");
 /// ```
-#[derive(Clone, Copy, Debug)]
+#[derive(Clone, Copy, PartialEq, Eq, Hash, Debug)]
 pub struct Padded<T>(pub T, pub usize);
 
 impl<T: DigitCount + Radix> Part for Padded<T> {

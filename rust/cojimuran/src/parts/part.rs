@@ -24,10 +24,6 @@ use core::str::{from_utf8, from_utf8_unchecked};
 pub trait Part: Copy {
     /// Returns a number of bytes that is enough for the text, or `usize::MAX` if that number does not
     /// fit in a `usize`. The part must be valid.
-    ///
-    /// # Panics
-    ///
-    /// If the part is not valid.
     #[must_use]
     fn room(self) -> usize;
 
@@ -102,7 +98,7 @@ pub trait Part: Copy {
     /// afterwards is not promised. The part must be valid, each [`Byte`](crate::parts::Byte) in it and each byte of a column must be below
     /// 128, each [`Bytes`](crate::parts::Bytes) in it must be UTF-8, and the buffer must have `room` bytes or more.
     ///
-    /// At run time this is [`to_text`](crate::parts::Part::to_text). If the values of the part do not show that its text is UTF-8, as those of your
+    /// At run time this is `to_text`. If the values of the part do not show that its text is UTF-8, as those of your
     /// own part do not, a call of `std::str::from_utf8` follows, which reads the text once and cannot fail; if rustc
     /// compiles a caller with a [`Bytes`](crate::parts::Bytes) that is not UTF-8, it panics.
     ///
@@ -126,8 +122,8 @@ pub trait Part: Copy {
         }
     }
 
-    /// If the buffer has `room` bytes or more, returns the text as [`to_str`](crate::parts::Part::to_str) does, at the same cost. Otherwise returns
-    /// `None`. Only the room is tested: the part must meet the other conditions of [`to_str`](crate::parts::Part::to_str).
+    /// If the buffer has `room` bytes or more, returns the text as `to_str` does, at the same cost. Otherwise returns
+    /// `None`. Only the room is tested: the part must meet the other conditions of `to_str`.
     ///
     /// # Panics
     ///

@@ -18,7 +18,7 @@ use crate::write_integer::format::STANDARD;
 /// assert_eq!(Plus(-5).to_text(&mut [0; 64]), b"-5");
 /// assert_eq!(ZeroPadded(Plus(42), 8).to_text(&mut [0; 64]), b"+0000042");
 /// ```
-#[derive(Clone, Copy, Debug)]
+#[derive(Clone, Copy, PartialEq, Eq, Hash, Debug)]
 pub struct Plus<T>(pub T);
 
 impl<T: ToLexicalWithOptions> Part for Plus<T> {

@@ -6,7 +6,7 @@ use crate::parts::joined::write_next;
 use crate::parts::own::Own;
 use crate::parts::part::Part;
 use crate::tables::get_table;
-use crate::write_integer::radix::Radix;
+use crate::write_integer::radix::{Radix, constant_radix};
 
 /// The digits of an unsigned number in radix 16, without a prefix: `Hex(255u32)` writes `FF`. Its room
 /// is that of its type: 2 bytes for a `u8`, and 16 for a `u64`.
@@ -16,7 +16,7 @@ use crate::write_integer::radix::Radix;
 ///
 /// assert_eq!(Hex(255u32).to_text(&mut [0; 64]), b"FF");
 /// ```
-#[derive(Clone, Copy, Debug)]
+#[derive(Clone, Copy, PartialEq, Eq, Hash, Debug)]
 pub struct Hex<T>(pub T);
 
 impl<T: Radix> Part for Hex<T> {
@@ -27,7 +27,7 @@ impl<T: Radix> Part for Hex<T> {
 
     #[inline(always)]
     fn write_to(self, buffer: &mut [u8]) -> usize {
-        self.0.radix(16, buffer)
+        constant_radix(self.0, 16, buffer)
     }
 
     #[inline(always)]
@@ -44,7 +44,7 @@ impl<T: Radix> Part for Hex<T> {
 ///
 /// assert_eq!(Binary(5u8).to_text(&mut [0; 64]), b"101");
 /// ```
-#[derive(Clone, Copy, Debug)]
+#[derive(Clone, Copy, PartialEq, Eq, Hash, Debug)]
 pub struct Binary<T>(pub T);
 
 impl<T: Radix> Part for Binary<T> {
@@ -78,8 +78,12 @@ impl Part for HexByte {
     fn write_to(self, buffer: &mut [u8]) -> usize {
         let table = get_table(16);
         let index = 2 * usize::from(self.0);
-        buffer[0] = table[index];
-        buffer[1] = table[index + 1];
+        // Both characters are read first, so a compiler moves them as one number.
+        let (first, second) = (table[index], table[index + 1]);
+        // rustc tests the end of these bytes once.
+        let written = &mut buffer[..2];
+        written[1] = second;
+        written[0] = first;
         2
     }
 }
@@ -93,7 +97,7 @@ impl Part for HexByte {
 /// assert_eq!(HexBytes(&[1, 255], "").to_text(&mut [0; 64]), b"01FF");
 /// assert_eq!(HexBytes(&[1, 255], ":").to_text(&mut [0; 64]), b"01:FF");
 /// ```
-#[derive(Clone, Copy, Debug)]
+#[derive(Clone, Copy, PartialEq, Eq, Hash, Debug)]
 pub struct HexBytes<'a>(pub &'a [u8], pub &'a str);
 
 impl Part for HexBytes<'_> {

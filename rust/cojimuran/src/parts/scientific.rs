@@ -66,7 +66,7 @@ fn write_magnitude<T: ToLexicalWithOptions>(number: T, exponent: i32, buffer: &m
 /// assert_eq!(Scientific(1234, -59).to_text(&mut [0; 64]), b"1.234e-56");
 /// assert_eq!(Scientific(-1000, 0).to_text(&mut [0; 64]), b"-1e3");
 /// ```
-#[derive(Clone, Copy, Debug)]
+#[derive(Clone, Copy, PartialEq, Eq, Hash, Debug)]
 pub struct Scientific<T>(pub T, pub i32);
 
 impl<T: ToLexicalWithOptions> Part for Scientific<T> {

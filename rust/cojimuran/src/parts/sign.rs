@@ -16,7 +16,7 @@ use crate::write_integer::buffer::copy_to_front;
 /// assert_eq!(Sign(-5, false).to_text(&mut [0; 64]), b"-");
 /// assert_eq!(Sign(5, true).to_text(&mut [0; 64]), b"+");
 /// ```
-#[derive(Clone, Copy, Debug)]
+#[derive(Clone, Copy, PartialEq, Eq, Hash, Debug)]
 pub struct Sign<T>(pub T, pub bool);
 
 impl<T: LexicalInteger> Part for Sign<T> {

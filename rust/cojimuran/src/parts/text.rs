@@ -80,7 +80,7 @@ impl Part for char {
 ///
 /// assert_eq!(Bytes(b"ab").to_text(&mut [0; 64]), b"ab");
 /// ```
-#[derive(Clone, Copy, Debug)]
+#[derive(Clone, Copy, PartialEq, Eq, Hash, Debug)]
 pub struct Bytes<'a>(pub &'a [u8]);
 
 impl Part for Bytes<'_> {
@@ -115,7 +115,7 @@ impl Part for Bytes<'_> {
 ///
 /// assert_eq!(Byte(b'a').to_text(&mut [0; 64]), b"a");
 /// ```
-#[derive(Clone, Copy, Debug)]
+#[derive(Clone, Copy, PartialEq, Eq, Hash, Debug)]
 pub struct Byte(pub u8);
 
 impl Part for Byte {

@@ -24,7 +24,7 @@ fn length_of_sign(text: &[u8]) -> usize {
 ///
 /// assert_eq!(ZeroPadded(Decimal(-42), 6).to_text(&mut [0; 64]), b"-00042");
 /// ```
-#[derive(Clone, Copy, Debug)]
+#[derive(Clone, Copy, PartialEq, Eq, Hash, Debug)]
 pub struct ZeroPadded<P>(pub P, pub usize);
 
 impl<P: Part> Part for ZeroPadded<P> {
