@@ -10,5 +10,6 @@ pub mod Scientific
 pub mod Sequence
 pub mod ShownParts
 pub mod Utf8
+pub mod Word
 pub mod Without
 pub mod ZeroPadded

@@ -179,9 +179,9 @@ impl<T: DigitCount + Radix> Digits<T> {
             return Err(fmt::Error);
         }
         digit_count_within_bits(self.0, self.1);
-        let text = self.to_str(buffer);
-        digits_computed(self.0, self.1.as_u64(), text.as_bytes());
-        Ok(text)
+        let digits = self.to_str(buffer);
+        digits_computed(self.0, self.1.as_u64(), digits.as_bytes());
+        Ok(digits)
     }
 }
 

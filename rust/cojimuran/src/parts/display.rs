@@ -128,8 +128,8 @@ impl<T: DigitCount + Radix> Digits<T> {
         if !is_radix(u64::from(self.0)) {
             return Err(fmt::Error);
         }
-        let text = self.to_str(buffer);
-        Ok(text)
+        let digits = self.to_str(buffer);
+        Ok(digits)
     }
 }
 
