@@ -6,7 +6,7 @@ ghost use Rattle.lexical_num.specs.Digit.{digit_char};
 // The characters of the digits, in order.
 const CHARACTERS: [u8; 36] = *b"0123456789ABCDEFGHIJKLMNOPQRSTUVWXYZ";
 
-/// Returns the character of a digit: `0` to `9` for a digit below ten, and `A` to `Z` otherwise. The
+/// Returns the character of a digit: `0` to `9` for a digit below ten, and `A` for 10 to `Z` for 35. The
 /// digit is below 36.
 pub fn digit_to_char(digit: u32) -> u8
     requires { digit < 36 }

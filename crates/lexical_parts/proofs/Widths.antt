@@ -1,6 +1,6 @@
 -- How many digits a number of a type has.
-use Rattle.std.proofs.Common.{◌≡◌, ℕ, ◌-◌, ◌/◌, ◌^◌, ◌<◌, ◌≤◌, arith, inl, inr, ℤ, ◌≤ℤ◌, unsigned_abs, Bool, true, false}
-use Rattle.std.proofs.Math.Nat.{pow-le-pow_right}
+use Rattle.std.proofs.Common.{◌≡◌, ℕ, ◌-◌, ◌*◌, ◌/◌, ◌^◌, ◌<◌, ◌≤◌, arith, inl, inr, ℤ, ◌≤ℤ◌, unsigned_abs, Bool, true, false}
+use Rattle.std.proofs.Math.Nat.{pow-le-pow_left, pow-le-pow_right}
 use Rattle.std.proofs.lemmas.Bool.{cases_lt}
 use Rattle.lexical_num.proofs.Magnitudes.{decimal_width-le_20}
 use Rattle.lexical_num.specs.BitWidth.{IsBitWidth, is_8, is_16, is_32, is_64}
@@ -9,6 +9,7 @@ use Rattle.lexical_num.specs.Range.{greatest_of, least_of}
 use Rattle.lexical_num.specs.Size.{AreSizes}
 use Rattle.lexical_write_integer.specs.DigitCount.{digit_count, digit_count-le}
 use Rattle.lexical_write_integer.proofs.OfDigits.Count.DigitCounts.{digit_count-fits}
+use Rattle.lexical_write_integer.proofs.OfDigits.Powers.{pow-pow}
 
 pub few_digits : {width : ℕ} {least greatest x : ℤ} → IsDecimalWidth least greatest width → least ≤ℤ x → x ≤ℤ greatest
     → digit_count 10 (unsigned_abs x) ≤ width
@@ -25,6 +26,10 @@ pub fits_width : (r n width count : ℕ) → 2 ≤ r → count ≡ digit_count r
 fits_width r n width count two is few =
     let power = pow-le-pow_right {n = r} (omega (arith, two)) {i = digit_count r n} {j = width} (omega (arith, is, few)) in
     omega (arith, digit_count-fits r n two, power)
+
+-- so is one that has few enough bits, if each digit of the radix has room for `bits` of them
+pub fits_bits : (r bits n width : ℕ) → 2 ^ bits ≤ r → n < 2 ^ (bits * width) → n < r ^ width
+fits_bits r bits n width low few = omega (arith, few, pow-pow 2 bits width, pow-le-pow_left low width)
 
 -- the decimal size of a type, with the `-` of a signed one, is at most 20
 pub decimal_size-le_20 : {room bits width size size_decimal : ℕ} (is_signed : Bool) → IsBitWidth bits

@@ -84,8 +84,8 @@ impl<T: ToLexicalWithOptions> Part for Fixed<T> {
         GroupedFixed(self.0, self.1, &STANDARD).write_to(buffer)
     }
 
-    fn is_known_utf8(self, _own: Own) -> bool {
-        true
+    fn is_known_utf8(self, own: Own) -> bool {
+        GroupedFixed(self.0, self.1, &STANDARD).is_known_utf8(own)
     }
 }
 
@@ -126,6 +126,6 @@ impl<T: ToLexicalWithOptions> Part for GroupedFixed<'_, T> {
     }
 
     fn is_known_utf8(self, _own: Own) -> bool {
-        true
+        19 >= self.1
     }
 }

@@ -10,6 +10,7 @@ ghost use Rattle.lexical_parts.specs.Formatted.{formatted_room, largest_magnitud
 
 use crate::own::Own;
 use crate::part::Part;
+use lexical_num::limits::is_radix;
 use lexical_write_integer::digit_count::DigitCount;
 use lexical_write_integer::format::STANDARD;
 use lexical_write_integer::laws::size_suffices;
@@ -60,7 +61,7 @@ impl<T: Radix + DigitCount> Part for Digits<T> {
     }
 
     fn is_known_utf8(self, _own: Own) -> bool {
-        true
+        is_radix(u64::from(self.0))
     }
 }
 

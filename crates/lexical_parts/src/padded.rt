@@ -1,15 +1,29 @@
 //! Numbers with leading zeros, up to a fixed width.
 #![tactic(auto, using(crate::proofs::Utf8Texts::kinds))]
 
-ghost use Rattle.std.specs.Prelude.{◌^◌, ◌<◌};
+ghost use Rattle.std.specs.Prelude.{◌^◌, ◌<◌, IsTrue};
 ghost use Rattle.lexical_num.specs.Format.{IsRadix};
 ghost use Rattle.lexical_write_integer.specs.Padded.{IsPadded};
 
 use crate::own::Own;
 use crate::part::Part;
+use lexical_num::limits::is_radix;
 use lexical_write_integer::digit_count::DigitCount;
-use lexical_write_integer::padded::write_padded;
+use lexical_write_integer::padded::{fits_decimal_width, write_padded};
 use lexical_write_integer::radix::Radix;
+
+// Returns whether the number has so few bits that it is below `radix^width`. To count its digits costs more, and is not
+// needed if the radix is a power of two.
+fn has_few_bits(number: u64, radix: u32, width: usize) -> bool
+    requires { IsRadix radix }
+    ensures { IsTrue result → number < radix ^ width }
+{
+    if width >= 64 {
+        return true;
+    }
+    let bits = radix.ilog2() as usize * width;
+    bits >= 64 || number >> bits == 0
+}
 
 /// The digits of an unsigned number in a radix from 2 to 36, with leading zeros up to the width:
 /// `PaddedDigits(16, 1u8, 2)` writes `01`. The number must be below `radix.pow(width)`.
@@ -34,8 +48,14 @@ impl<T: DigitCount + Radix> Part for PaddedDigits<T> {
         self.2
     }
 
-    fn is_known_utf8(self, _own: Own) -> bool {
-        true
+    fn is_known_utf8(self, own: Own) -> bool {
+        if self.0 == 10 {
+            return Padded(self.1, self.2).is_known_utf8(own);
+        }
+        self.1.fits_bits();
+        is_radix(u64::from(self.0))
+            && (has_few_bits(self.1.as_u64(), self.0, self.2)
+                || self.1.digit_count(self.0) <= self.2)
     }
 }
 
@@ -61,6 +81,7 @@ impl<T: DigitCount + Radix> Part for Padded<T> {
     }
 
     fn is_known_utf8(self, _own: Own) -> bool {
-        true
+        self.0.fits_bits();
+        fits_decimal_width(self.0.as_u64(), self.1)
     }
 }

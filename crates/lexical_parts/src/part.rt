@@ -50,11 +50,12 @@ pub trait Part: Copy {
         ensures short { result ≤ room self }
         ensures utf8 { is_utf8 self → AreUtf8 (is_text self) };
 
-    // Whether the values of the part show that its text is UTF-8. A part of another crate cannot define this method,
-    // since it cannot name `Own`.
+    // Whether the values of the part show that it is valid and that its text is UTF-8. A part of another crate cannot
+    // define this method, since it cannot name `Own`.
     #[doc(hidden)]
     fn is_known_utf8(self, _own: Own) -> bool
-        ensures { IsTrue result → is_utf8 self }
+        ensures valid { IsTrue result → is_valid self }
+        ensures utf8 { IsTrue result → is_utf8 self }
     {
         false
     }
@@ -126,8 +127,8 @@ pub trait Part: Copy {
         let is_sure = is_sure(self, buffer);
         let text = self.to_text(buffer);
         if is_sure {
-            // SAFETY: `is_sure` ensures `is_utf8` and the room, and `to_text` has panicked if the part is not valid. So
-            // it ensures `utf8`: the text is UTF-8.
+            // SAFETY: `is_sure` ensures what `to_text` requires, and `is_utf8`. So `to_text` ensures `utf8`: the text
+            // is UTF-8.
             unsafe { from_utf8_unchecked(text) }
         } else {
             from_utf8(text).unwrap()
@@ -151,9 +152,9 @@ pub trait Part: Copy {
     }
 }
 
-// Returns whether the buffer has the room, and the values of the part show that its text is UTF-8.
+// Returns whether what `to_text` requires holds, and its text is UTF-8, as far as the values of the part show it.
 fn is_sure<P: Part>(part: P, buffer: &[u8]) -> bool
-    requires { P.is_valid part }
+    ensures valid { IsTrue result → P.is_valid part }
     ensures utf8 { IsTrue result → P.is_utf8 part }
     ensures room { IsTrue result → P.room part ≤ length buffer.now }
 {

@@ -1,12 +1,14 @@
-//! Adds the text of a line to a `Vec`, to a `String` and to what a writer holds.
+//! Adds the text of a line, of a number or of any part to a `Vec`, to a `String` and to what a writer holds.
 
 ghost use Rattle.std.specs.Prelude.{◌≡◌, ℕ, List, OnErr, OnOk, string_bytes};
 ghost use Rattle.std.specs.Io.KnownBytes.{Appends};
+ghost use Rattle.lexical_num.specs.Format.{standard};
 ghost use Rattle.lexical_write_integer.specs.Sequence.{IsExactly};
+ghost use Rattle.lexical_write_integer.specs.Text.{IsText};
 ghost use Rattle.lexical_parts.specs.Sequence.{◌then◌};
 ghost use Rattle.uses.specs.LogLine.{IsLogLine};
 
-use lexical_parts::{Hex, Part};
+use lexical_parts::{Buffer, Hex, Part};
 use std::alloc::AllocError;
 use std::io::{self, Write};
 
@@ -17,6 +19,27 @@ pub fn push_line(log: &mut Vec<u8>, count: u32, flags: u16) -> Result<(), AllocE
     ensures unchanged { OnErr result (log.new.items ≡ log.old.items) }
 {
     log.extend_from_slice((count, " 0x", Hex(flags), "\n").to_text(&mut [0; 18]))
+}
+
+/// Adds the number in decimal to the end of the log, as a writer of JSON does.
+pub fn push_number(log: &mut Vec<u8>, number: i64) -> Result<(), AllocError>
+    ensures number { OnOk result ((IsExactly log.old.items then IsText number standard) log.new.items) }
+    ensures unchanged { OnErr result (log.new.items ≡ log.old.items) }
+{
+    log.extend_from_slice(Buffer::new().format(number).as_bytes())
+}
+
+/// Adds the text of any part to the end of the log. The vector gets the room of the part if it does not have it.
+pub fn push_part<P: Part>(log: &mut Vec<u8>, part: P) -> Result<(), AllocError>
+    requires { P.is_valid part }
+    ensures part { OnOk result ((IsExactly log.old.items then P.is_text part) log.new.items) }
+    ensures unchanged { OnErr result (log.new.items ≡ log.old.items) }
+{
+    let start = log.len();
+    log.resize(start.saturating_add(part.room()), 0)?;
+    let end = part.write_at(start, log);
+    log.truncate(end);
+    Ok(())
 }
 
 /// Adds the line to a `String`, as `push_line` adds it to a `Vec`.

@@ -46,23 +46,22 @@
 //!
 //! [`Buffer::format`] returns the `&str` of a number in decimal, and [`Part::to_str`](parts::Part::to_str) that of a part.
 //! std checks only the text of a part of your own, and of [`Bytes`](parts::Bytes), that it is UTF-8: of the others it is
-//! known, which the only `unsafe` line of this package uses. To append a part to a `Vec`, write it to the end
-//! of one that is long enough:
+//! known, which the only `unsafe` line of this package uses.
 //!
 //! ```
 //! use cojimuran::Buffer;
-//! use cojimuran::parts::{Hex, Part};
+//! use cojimuran::parts::{Digits, Hex, Part};
 //!
-//! assert_eq!(Buffer::new().format(-12i64).to_owned() + " kg", "-12 kg");
 //! assert_eq!(("0x", Hex(255u8)).to_str(&mut [0; 4]), "0xFF");
 //!
-//! let (part, mut bytes) = ((7u8, " apples"), b"We have ".to_vec());
-//! let start = bytes.len();
-//! bytes.resize(start + part.room(), 0);
-//! let count = part.write_to(&mut bytes[start..]);
-//! bytes.truncate(start + count);
-//! assert_eq!(bytes, b"We have 7 apples");
+//! let mut path = String::from("/l/");
+//! path.push_str(Buffer::new().format(7u64));
+//! path.push_str(("/", Digits(36, 1000u64)).to_str(&mut [0; 14]));
+//! assert_eq!(path, "/l/7/RS");
 //! ```
+//!
+//! To append a part to a `Vec`, enable the feature `alloc`, import the trait `Append`, and write
+//! `(7u8, " apples").append_to(&mut bytes)`.
 #![doc = include_str!("../CONDITIONS.md")]
 //!
 //! # Versions
@@ -75,6 +74,12 @@
 
 #[cfg(not(any(target_pointer_width = "64", target_pointer_width = "32")))]
 compile_error!("this package needs pointers of 64 or 32 bits");
+
+#[cfg(feature = "alloc")]
+extern crate alloc;
+
+#[cfg(feature = "alloc")]
+mod append;
 
 // The sources in Rattle, as `strip` makes them: what users have of them is exported below.
 #[allow(
@@ -94,6 +99,8 @@ mod write_integer;
 #[cfg(doctest)]
 mod misuse;
 
+#[cfg(feature = "alloc")]
+pub use append::Append;
 pub use num::options::{Options, OptionsBuilder, WriteOptions};
 pub use num::{
     BUFFER_SIZE, Error, FormattedSize, LexicalInteger, NumberFormat, NumberFormatBuilder, Result,

@@ -2,7 +2,7 @@
 
 //! Writing integers as text, in every radix from 2 to 36.
 //!
-//! [`to_lexical`](crate::ToLexical::to_lexical) writes a number in decimal to the start of a buffer and returns its text. No other byte
+//! `to_lexical` writes a number in decimal to the start of a buffer and returns its text. No other byte
 //! of the buffer changes:
 //!
 //! ```
@@ -14,7 +14,7 @@
 //! assert!(buffer[4..].iter().all(|byte| *byte == 7));
 //! ```
 //!
-//! [`to_lexical_with_options`](crate::ToLexicalWithOptions::to_lexical_with_options) writes it in a format, with a required sign, in another radix or in groups:
+//! `to_lexical_with_options` writes it in a format, with a required sign, in another radix or in groups:
 //!
 //! ```
 //! use cojimuran::{NumberFormatBuilder, Options, ToLexicalWithOptions};

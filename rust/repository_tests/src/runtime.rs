@@ -29,6 +29,11 @@ pub fn push_str(string: &mut String, text: &str) -> Result<(), AllocError> {
     Ok(())
 }
 
+pub fn resize(bytes: &mut Vec<u8>, length: usize, byte: u8) -> Result<(), AllocError> {
+    bytes.resize(length, byte);
+    Ok(())
+}
+
 /// The runtime.
 pub struct HostRuntime;
 

@@ -8,12 +8,12 @@ use cojimuran::decimal::Decimal as _;
 use cojimuran::digit_count::DigitCount;
 use cojimuran::format::STANDARD;
 use cojimuran::padded::write_padded;
-use cojimuran::parts::{Bytes, Decimal, Digits, Fixed, Joined, Padded, PaddedDigits, Part, write_with_length};
+use cojimuran::parts::{Bytes, Decimal, Digits, Fixed, Joined, Left, Padded, PaddedDigits, Part, write_with_length};
 use cojimuran::radix::{Radix, digit_to_char};
 use cojimuran::write::WriteInteger;
 use cojimuran::{
-    NumberFormatBuilder, Options, ToLexical, ToLexicalWithOptions, UnsignedInteger, group_digits, jeaiii, table,
-    write_sign,
+    Append, NumberFormatBuilder, Options, ToLexical, ToLexicalWithOptions, UnsignedInteger, group_digits, jeaiii,
+    table, write_sign,
 };
 use lexwrite::lines::join;
 use std::panic::{AssertUnwindSafe, catch_unwind};
@@ -230,7 +230,9 @@ fn messages(called: &mut Vec<Panicking>) {
             Fixed(7u8, 90).try_write_to(buffer), Fixed(7u8, 90).write_to(buffer), Fixed(7u8, 90).write_at(1, buffer);
         "the part is not valid", "the number has more digits than the width": Padded(2026u16, 2).to_text(buffer),
             Padded(15u8, 1).try_to_str(buffer), Padded(1234567u32, 3).to_str(buffer),
-            PaddedDigits(16, 256u32, 2).to_text(buffer), write_with_length(Padded(12u8, 1), 10, 1, 0, buffer);
+            PaddedDigits(16, 256u32, 2).to_text(buffer), write_with_length(Padded(12u8, 1), 10, 1, 0, buffer),
+            (1u8, Padded(10u8, 1)).append_to(&mut Vec::new());
+        "the vector cannot have the room", "capacity overflow": Left("", usize::MAX, b' ').append_to(&mut vec![1]);
         "the text of the part is not UTF-8", "Utf8Error": not_utf8.to_str(buffer), not_utf8.try_to_str(buffer);
         "the length and `extra` together are above `usize::MAX`", "the length and `extra` together are above usize::MAX":
             write_with_length("ab", 10, 20, usize::MAX - 1, buffer);

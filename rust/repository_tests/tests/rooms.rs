@@ -4,7 +4,7 @@
 
 use cojimuran::padded::write_padded;
 use cojimuran::parts::*;
-use cojimuran::{NumberFormatBuilder, write_sign};
+use cojimuran::{Append, NumberFormatBuilder, write_sign};
 
 /// Compares the room of a part, which copies it, and what it writes, with a text of that length.
 macro_rules! check_rooms {
@@ -17,6 +17,9 @@ macro_rules! check_rooms {
         let count = $part.try_write_to(&mut buffer[..$room]);
         assert_eq!(count, Some($text.len()), "the length of {name}");
         assert_eq!(&buffer[..$text.len()], $text.as_bytes(), "{name}");
+        let mut bytes = b"ab".to_vec();
+        $part.append_to(&mut bytes);
+        assert_eq!(bytes, [b"ab", $text.as_bytes()].concat(), "{name} at the end of a vector");
     )+ };
 }
 
@@ -100,4 +103,15 @@ fn signs_and_no_bytes() {
     let mut buffer = [b'?'; 2];
     assert_eq!((write_sign(5u8, &mut buffer, &signed), buffer), (1, *b"+?"));
     assert_eq!((write_padded(0u8, 16, &mut []), write_padded(0u8, 10, &mut [])), (0, 0));
+}
+
+#[test]
+fn each_part_has_a_row() {
+    let here = include_str!("rooms.rs");
+    let exports = include_str!("../../cojimuran/src/parts.rs").lines().filter_map(|line| line.strip_prefix("pub use "));
+    let names = exports.flat_map(|path| path.split(|c: char| !c.is_alphanumeric()));
+    let parts: Vec<&str> = names.filter(|name| name.starts_with(char::is_uppercase)).collect();
+    let missing = parts.iter().filter(|name| !["Part", "Buffer"].contains(name) && !here.contains(&format!("{name}(")));
+    assert_eq!(missing.collect::<Vec<_>>(), Vec::<&&str>::new());
+    assert!(parts.len() > 20 && (2..=12).all(|count| here.contains(&format!(") => {count}, \""))));
 }

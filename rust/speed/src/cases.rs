@@ -85,6 +85,13 @@ impl Case for Line {
     }
 }
 
+/// Returns whether the package writes what the standard library writes, if that has such a text.
+pub fn is_same<C: Case>(number: u64) -> bool {
+    let (mut buffer, mut text) = ([0; SIZE], Vec::new());
+    let count = C::write(number, &mut buffer);
+    C::write_by_std(number, &mut text).is_none_or(|()| buffer[..count] == *text)
+}
+
 /// Where the texts go.
 pub const TARGETS: [&str; 3] = ["an array", "a slice", "a `Vec`"];
 

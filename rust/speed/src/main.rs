@@ -4,7 +4,7 @@
 
 mod cases;
 
-use cases::{Case, Decimal, Hexadecimal, Line, Radix36, TARGETS, write_all, write_all_by_std};
+use cases::{Case, Decimal, Hexadecimal, Line, Radix36, TARGETS, is_same, write_all, write_all_by_std};
 use std::hint::black_box;
 use std::io::IsTerminal;
 use std::process::{Command, ExitCode};
@@ -35,16 +35,17 @@ fn numbers(distribution: usize) -> Vec<u64> {
 /// Writes the numbers to a target, and returns how many bytes that were.
 type Pass = fn(usize, &[u64]) -> usize;
 
-/// A row of the table: what is written, and the passes of the package and of the standard library.
+/// A row of the table: what is written, whether a text is that of the standard library, and the passes of both.
 struct Row {
     name: &'static str,
+    is_same: fn(u64) -> bool,
     ours: Pass,
     std: Option<Pass>,
 }
 
 fn row<C: Case>() -> Row {
     let has_std = C::write_by_std(0, &mut Vec::new()).is_some();
-    Row { name: C::NAME, ours: write_all::<C>, std: has_std.then_some(write_all_by_std::<C>) }
+    Row { name: C::NAME, is_same: is_same::<C>, ours: write_all::<C>, std: has_std.then_some(write_all_by_std::<C>) }
 }
 
 fn rows() -> [Row; 4] {
@@ -87,6 +88,7 @@ fn print_times(count: usize) -> Result<(), String> {
                 let passes: Vec<Pass> = std::iter::once(row.ours).chain(row.std).collect();
                 let lengths: Vec<usize> = passes.iter().map(|pass| pass(target, &numbers)).collect();
                 assert!(lengths.iter().all(|length| *length == lengths[0]), "texts of other lengths: {lengths:?}");
+                assert!(numbers.iter().all(|number| (row.is_same)(*number)), "another text than that of std");
                 let mut found = measure(&passes, target, &numbers, count).into_iter().map(text_of);
                 let ours = found.next().unwrap_or_default();
                 let (std, ratio) = found
@@ -133,6 +135,7 @@ fn print_counts() -> Result<(), String> {
 fn run(words: &[String]) -> Result<(), String> {
     let words: Vec<usize> = words.iter().filter_map(|word| word.parse().ok()).collect();
     let (row, numbers) = (&rows()[words[0]], numbers(words[1]));
+    assert_eq!(numbers.len(), COUNT);
     let pass = if words[2] == 1 { row.std.unwrap_or(row.ours) } else { row.ours };
     black_box(pass(0, &numbers[..COUNT * words[3]]));
     Ok(())
@@ -153,4 +156,30 @@ fn main() -> ExitCode {
         eprintln!("{message}");
     }
     ExitCode::from(u8::from(result.is_err()))
+}
+
+#[cfg(test)]
+mod tests {
+    use super::*;
+
+    #[test]
+    fn numbers_of_each_distribution() {
+        let lengths = |distribution| numbers(distribution).into_iter().map(|number| u64::BITS - number.leading_zeros());
+        assert!((990..1000).contains(&numbers(0).into_iter().max().unwrap()));
+        assert!((1..64).all(|bits| lengths(1).any(|length| length == bits)) && lengths(2).min() > Some(48));
+        assert_eq!([0, 1, 2].map(|distribution| numbers(distribution).len()), [COUNT; 3]);
+    }
+
+    #[test]
+    fn the_best_and_what_the_median_adds() {
+        assert_eq!(text_of(vec![4.0, 1.5, 3.5]), (1.5, "1.5 (+2.0)".to_owned()));
+    }
+
+    #[test]
+    fn texts_are_those_of_std() {
+        assert!(rows().iter().all(|row| [0, 9, 10, 65_535, u64::MAX].into_iter().all(row.is_same)));
+        assert!(
+            rows().iter().filter(|row| row.std.is_some()).all(|row| (row.ours)(0, &[12]) == row.std.unwrap()(0, &[12]))
+        );
+    }
 }

@@ -57,20 +57,19 @@ fn document(top: &Path, made: &mut BTreeMap<PathBuf, String>) -> Result<(), Stri
     let parts = links::exports(&made[Path::new("rust/cojimuran/src/parts.rs")], "crate::parts");
     let mut exports = links::exports(&read(&top.join("rust/cojimuran/src/lib.rs"))?, "crate");
     exports.extend(parts);
-    let (mut all, mut names) = (String::new(), BTreeSet::new());
+    let mut names = BTreeSet::new();
     let mut files: Vec<_> = made.iter_mut().filter(|(path, _)| path.starts_with("rust/cojimuran")).collect();
     for (path, text) in &mut files {
         let module = if path.starts_with("rust/cojimuran/src/parts") { "parts" } else { "" };
         **text =
             examples::with_examples(text, module, &mut names).map_err(|what| format!("{}: {what}", path.display()))?;
-        all += text;
     }
+    examples::with_examples(&read(&top.join("rust/cojimuran/src/append.rs"))?, "", &mut names)?;
     let is_shown =
         |name: &str, path: &String| [format!("crate::{name}"), format!("crate::parts::{name}")].contains(path);
     if let Some((name, _)) = exports.iter().find(|(name, path)| is_shown(name, path) && !names.contains(*name)) {
         return Err(format!("{name} has no example"));
     }
-    links::add_methods(&all, &mut exports, &mut BTreeSet::new());
     for (_, text) in files {
         *text = links::with_links(text, &exports);
     }

@@ -31,22 +31,6 @@ pub(crate) fn exports(text: &str, path: &str) -> Exports {
     found
 }
 
-/// Adds the methods of the exported traits of a file. A name that several things have becomes none.
-pub(crate) fn add_methods(text: &str, exports: &mut Exports, names: &mut BTreeSet<String>) {
-    let mut path = None;
-    for line in text.lines() {
-        if let Some(code) = line.strip_prefix("pub trait ") {
-            path = code.split([':', ' ', '<']).next().and_then(|name| exports.get(name)).cloned();
-        } else if line == "}" {
-            path = None;
-        } else if let Some((name, path)) = crate::functions::name(line).zip(path.as_ref()) {
-            if name.contains('_') && names.insert(name.to_owned()) {
-                exports.entry(name.to_owned()).or_insert(format!("{path}::{name}"));
-            }
-        }
-    }
-}
-
 /// Returns the text with links in its documentation.
 pub(crate) fn with_links(text: &str, exports: &Exports) -> String {
     let (mut linked, mut is_code) = (String::with_capacity(2 * text.len()), false);

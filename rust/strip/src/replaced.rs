@@ -109,6 +109,7 @@ pub(crate) const IN_TESTS: Replaced = &[
     // What allocates takes an allocator and returns a `Result`.
     ("Vec::new(rt.alloc())", "Vec::new()"),
     ("String::new(rt.alloc())", "String::new()"),
+    ("log.resize(", "repository_tests::runtime::resize(log, "),
     ("log.extend_from_slice(", "std::io::Write::write_all(log, "),
     ("entries.extend_from_slice(", "std::io::Write::write_all(entries, "),
     ("log.push_str(", "repository_tests::runtime::push_str(log, "),

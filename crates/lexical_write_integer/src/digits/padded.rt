@@ -17,8 +17,8 @@ fn write_zeros(buffer: &mut [u8])
     buffer.fill(b'0');
 }
 
-// Returns whether the number, with leading zeros, can have this number of decimal digits. Without digits it is 0.
-fn fits_decimal_width(number: u64, width: usize) -> bool
+/// Returns whether the number, with leading zeros, can have this number of decimal digits: it is below `10.pow(width)`.
+pub fn fits_decimal_width(number: u64, width: usize) -> bool
     ensures { IsTrue result ↔ number < 10 ^ width }
 {
     // Every number is below 10^20. A constant power costs nothing in rustc.

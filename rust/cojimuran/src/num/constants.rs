@@ -14,7 +14,7 @@ use crate::num::num::LexicalInteger;
 /// ```
 pub const BUFFER_SIZE: usize = 128;
 
-/// An integer type with two buffer lengths, between which [`buffer_size`](crate::WriteOptions::buffer_size) of the options chooses. The length is
+/// An integer type with two buffer lengths, between which `buffer_size` of the options chooses. The length is
 /// enough for each number of the type.
 ///
 /// ```

@@ -94,7 +94,8 @@ impl NumberFormat {
     }
 
     /// Returns the number of bytes that `count` digits take in the format. If the digits are grouped,
-    /// a separator precedes each group but the first. The count is at most `isize::MAX`.
+    /// a separator precedes each group but the first: 9 for 7 digits in groups of three. The count is at most
+    /// `isize::MAX`.
     ///
     /// # Panics
     ///

@@ -161,7 +161,7 @@ impl LexicalInteger for isize {
 }
 
 /// An unsigned integer type, with the arithmetic that is needed to write digits. The writers of
-/// [`write_integer`](crate::write::WriteInteger::write_integer) are generic over it, such as `compact`.
+/// `write_integer` are generic over it, such as `compact`.
 ///
 /// ```
 /// use cojimuran::UnsignedInteger;

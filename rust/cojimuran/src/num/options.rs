@@ -65,7 +65,7 @@ impl Options {
         true
     }
 
-    /// Returns the size of the type in the format, as [`buffer_size`](crate::WriteOptions::buffer_size) does.
+    /// Returns the size of the type in the format, as `buffer_size` does.
     #[must_use]
     #[inline]
     pub const fn buffer_size_const<T: FormattedSize>(&self, format: &NumberFormat) -> usize {

@@ -70,8 +70,8 @@ impl<T: ToLexicalWithOptions> Part for Fixed<T> {
     }
 
     #[inline(always)]
-    fn is_known_utf8(self, _own: Own) -> bool {
-        true
+    fn is_known_utf8(self, own: Own) -> bool {
+        GroupedFixed(self.0, self.1, &STANDARD).is_known_utf8(own)
     }
 }
 
@@ -112,6 +112,6 @@ impl<T: ToLexicalWithOptions> Part for GroupedFixed<'_, T> {
 
     #[inline(always)]
     fn is_known_utf8(self, _own: Own) -> bool {
-        true
+        19 >= self.1
     }
 }

@@ -2,6 +2,7 @@
 
 //! Parts that are one number.
 
+use crate::num::limits::is_radix;
 use crate::parts::own::Own;
 use crate::parts::part::Part;
 use crate::write_integer::digit_count::DigitCount;
@@ -59,7 +60,7 @@ impl<T: Radix + DigitCount> Part for Digits<T> {
 
     #[inline(always)]
     fn is_known_utf8(self, _own: Own) -> bool {
-        true
+        is_radix(u64::from(self.0))
     }
 }
 

@@ -2,11 +2,23 @@
 
 //! Numbers with leading zeros, up to a fixed width.
 
+use crate::num::limits::is_radix;
 use crate::parts::own::Own;
 use crate::parts::part::Part;
 use crate::write_integer::digit_count::DigitCount;
-use crate::write_integer::padded::write_padded;
+use crate::write_integer::padded::{fits_decimal_width, write_padded};
 use crate::write_integer::radix::Radix;
+
+// Returns whether the number has so few bits that it is below `radix^width`. To count its digits costs more, and is not
+// needed if the radix is a power of two.
+#[inline(always)]
+fn has_few_bits(number: u64, radix: u32, width: usize) -> bool {
+    if width >= 64 {
+        return true;
+    }
+    let bits = radix.ilog2() as usize * width;
+    bits >= 64 || number >> bits == 0
+}
 
 /// The digits of an unsigned number in a radix from 2 to 36, with leading zeros up to the width:
 /// `PaddedDigits(16, 1u8, 2)` writes `01`. The number must be below `radix.pow(width)`.
@@ -34,8 +46,13 @@ impl<T: DigitCount + Radix> Part for PaddedDigits<T> {
     }
 
     #[inline(always)]
-    fn is_known_utf8(self, _own: Own) -> bool {
-        true
+    fn is_known_utf8(self, own: Own) -> bool {
+        if self.0 == 10 {
+            return Padded(self.1, self.2).is_known_utf8(own);
+        }
+        is_radix(u64::from(self.0))
+            && (has_few_bits(self.1.as_u64(), self.0, self.2)
+                || self.1.digit_count(self.0) <= self.2)
     }
 }
 
@@ -65,6 +82,6 @@ impl<T: DigitCount + Radix> Part for Padded<T> {
 
     #[inline(always)]
     fn is_known_utf8(self, _own: Own) -> bool {
-        true
+        fits_decimal_width(self.0.as_u64(), self.1)
     }
 }

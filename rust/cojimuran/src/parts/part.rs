@@ -36,8 +36,8 @@ pub trait Part: Copy {
     /// or if the buffer is [too short](crate#conditions).
     fn write_to(self, buffer: &mut [u8]) -> usize;
 
-    // Whether the values of the part show that its text is UTF-8. A part of another crate cannot define this method,
-    // since it cannot name `Own`.
+    // Whether the values of the part show that it is valid and that its text is UTF-8. A part of another crate cannot
+    // define this method, since it cannot name `Own`.
     #[doc(hidden)]
     #[must_use]
     #[inline(always)]
@@ -53,7 +53,7 @@ pub trait Part: Copy {
     ///
     /// If the part is not valid,
     /// or if the buffer is [too short](crate#conditions).
-    #[inline]
+    #[inline(always)]
     fn to_text(self, buffer: &mut [u8]) -> &mut [u8] {
         let count = self.write_to(buffer);
         front_mut(buffer, count)
@@ -90,7 +90,7 @@ pub trait Part: Copy {
     /// afterwards is not promised. The part must be valid, each [`Byte`](crate::parts::Byte) in it and each byte of a column must be below
     /// 128, each [`Bytes`](crate::parts::Bytes) in it must be UTF-8, and the buffer must have `room` bytes or more.
     ///
-    /// At run time this is [`to_text`](crate::parts::Part::to_text). If the values of the part do not show that its text is UTF-8, as those of your
+    /// At run time this is `to_text`. If the values of the part do not show that its text is UTF-8, as those of your
     /// own part do not, a call of `std::str::from_utf8` follows, which reads the text once and cannot fail; if rustc
     /// compiles a caller with a [`Bytes`](crate::parts::Bytes) that is not UTF-8, it panics.
     ///
@@ -106,16 +106,16 @@ pub trait Part: Copy {
         let text = self.to_text(buffer);
         if is_sure {
             debug_assert!(from_utf8(text).is_ok());
-            // SAFETY: `is_sure` ensures `is_utf8` and the room, and `to_text` has panicked if the part is not valid. So
-            // it ensures `utf8`: the text is UTF-8.
+            // SAFETY: `is_sure` ensures what `to_text` requires, and `is_utf8`. So `to_text` ensures `utf8`: the text
+            // is UTF-8.
             unsafe { from_utf8_unchecked(text) }
         } else {
             from_utf8(text).unwrap()
         }
     }
 
-    /// If the buffer has `room` bytes or more, returns the text as [`to_str`](crate::parts::Part::to_str) does, at the same cost. Otherwise returns
-    /// `None`. Only the room is tested: the part must meet the other conditions of [`to_str`](crate::parts::Part::to_str).
+    /// If the buffer has `room` bytes or more, returns the text as `to_str` does, at the same cost. Otherwise returns
+    /// `None`. Only the room is tested: the part must meet the other conditions of `to_str`.
     ///
     /// # Panics
     ///
@@ -131,7 +131,7 @@ pub trait Part: Copy {
     }
 }
 
-// Returns whether the buffer has the room, and the values of the part show that its text is UTF-8.
+// Returns whether what `to_text` requires holds, and its text is UTF-8, as far as the values of the part show it.
 #[inline(always)]
 fn is_sure<P: Part>(part: P, buffer: &[u8]) -> bool {
     part.is_known_utf8(Own) && part.room() <= buffer.len()

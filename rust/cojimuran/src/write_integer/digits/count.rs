@@ -64,7 +64,7 @@ pub(crate) fn counts_at_once(radix: u32) -> bool {
 }
 
 /// Returns how many digits the number has. They are counted from the highest set bit if the radix is a
-/// power of 2, by [`decimal_count`](crate::decimal::DecimalCount::decimal_count) in radix 10, and otherwise by division. The radix is from 2 to 36.
+/// power of 2, by `decimal_count` in radix 10, and otherwise by division. The radix is from 2 to 36.
 #[inline(always)]
 pub(crate) fn digit_count<T: DecimalCount>(x: T, radix: u32) -> usize {
     assert!(is_radix(radix as u64), "the radix is not from 2 to 36");
@@ -93,7 +93,7 @@ pub trait DigitCount: DecimalCount {
         digit_count(self, radix)
     }
 
-    /// Returns how many digits the number has, as [`digit_count`](crate::digit_count::DigitCount::digit_count) does. [`slow_digit_count`](crate::digit_count::DigitCount::slow_digit_count), which it calls,
+    /// Returns how many digits the number has, as `digit_count` does. `slow_digit_count`, which it calls,
     /// says how they are counted. The radix is from 2 to 36.
     ///
     /// # Panics

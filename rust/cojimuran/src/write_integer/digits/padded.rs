@@ -13,9 +13,10 @@ fn write_zeros(buffer: &mut [u8]) {
     buffer.fill(b'0');
 }
 
-// Returns whether the number, with leading zeros, can have this number of decimal digits. Without digits it is 0.
+/// Returns whether the number, with leading zeros, can have this number of decimal digits: it is below `10.pow(width)`.
+#[must_use]
 #[inline]
-fn fits_decimal_width(number: u64, width: usize) -> bool {
+pub fn fits_decimal_width(number: u64, width: usize) -> bool {
     // Every number is below 10^20. A constant power costs nothing in rustc.
     width >= 20 || number < 10u64.pow(width as u32)
 }

@@ -67,7 +67,7 @@ pub trait ToLexical: LexicalInteger + FormattedSize {
         sign + total
     }
 
-    /// Writes the number as [`write_lexical`](crate::ToLexical::write_lexical) does, under the same condition, and returns its text: a
+    /// Writes the number as `write_lexical` does, under the same condition, and returns its text: a
     /// mutable slice of the first bytes of the buffer. What the caller then writes to the slice
     /// changes those bytes, and every other byte of the buffer is unchanged.
     ///
@@ -100,7 +100,7 @@ pub trait ToLexicalWithOptions: ToLexical {
     /// the sign, and then the digits in the mantissa radix, in the groups of the format. Every byte
     /// after the text is unchanged. The options have no effect.
     ///
-    /// The buffer must have room for the number of bytes that [`required_len`](crate::ToLexicalWithOptions::required_len) returns, which is enough
+    /// The buffer must have room for the number of bytes that `required_len` returns, which is enough
     /// for the sign, the digits and the separators between their groups. In radix 10 it is enough for
     /// `DECIMAL_WIDTH` digits, even if the number has fewer.
     ///
@@ -120,7 +120,7 @@ pub trait ToLexicalWithOptions: ToLexical {
     }
 
     /// Returns the required length, which is the length of the shortest buffer that
-    /// [`write_lexical_with_options`](crate::ToLexicalWithOptions::write_lexical_with_options) accepts. It is at most [`BUFFER_SIZE`](crate::BUFFER_SIZE).
+    /// `write_lexical_with_options` accepts. It is at most [`BUFFER_SIZE`](crate::BUFFER_SIZE).
     #[must_use]
     #[inline(always)]
     #[track_caller]
@@ -134,7 +134,7 @@ pub trait ToLexicalWithOptions: ToLexical {
         sign_len(self, format) + format.grouped_len(digits)
     }
 
-    /// Writes the number as [`write_lexical_with_options`](crate::ToLexicalWithOptions::write_lexical_with_options) does, under the same condition, and returns
+    /// Writes the number as `write_lexical_with_options` does, under the same condition, and returns
     /// its text: a mutable slice of the first bytes of the buffer. What the caller then writes to the
     /// slice changes those bytes, and every other byte of the buffer is unchanged.
     ///
