@@ -160,8 +160,7 @@ static int check_zeros(void)
 static int check_version(void)
 {
     char text[32];
-    int is_as_declared = lexical_version() / 1000000 == LEXICAL_VERSION_MAJOR
-        && lexical_version() >= LEXICAL_VERSION;
+    int is_as_declared = lexical_version() / 1000000 == LEXICAL_VERSION_MAJOR && lexical_version() >= LEXICAL_VERSION;
     snprintf(text, sizeof text, "%d.%d.%d", LEXICAL_VERSION_MAJOR, LEXICAL_VERSION_MINOR, LEXICAL_VERSION_PATCH);
     return is_wrong(is_as_declared, "LEXICAL_VERSION_MAJOR")
         + is_wrong(lexical_version() == LEXICAL_VERSION, "LEXICAL_VERSION")

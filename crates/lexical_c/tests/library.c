@@ -1,12 +1,10 @@
 /*
- * Calls each function of the library as a C program does, and compares the
- * results with a simple conversion in this file, which is compared with snprintf
- * and with a table. Each buffer is next to a page that may not be accessed. The
+ * Calls each function of the library as a C program does, and compares the results with a simple conversion in this
+ * file, which is compared with snprintf and with a table. Each buffer is next to a page that may not be accessed. The
  * last line is the number of tests that passed and failed.
  *
- * With an argument it passes buffers that nothing has initialized, and reads only
- * the texts. Under valgrind, a text or a result that depends on such a byte is an
- * error, and with MemorySanitizer a byte that is read after the text.
+ * With an argument it passes buffers that nothing has initialized, and reads only the texts. Under valgrind, a text or
+ * a result that depends on such a byte is an error, and with MemorySanitizer a byte that is read after the text.
  */
 #define _DEFAULT_SOURCE
 #include "lexical.h"
@@ -105,8 +103,7 @@ struct expected {
 };
 
 /* Returns the text of a number, built from its last digit to its first. */
-static struct expected plain_text(const struct type *type, uint64_t bits,
-                                  const struct lexical_format *format)
+static struct expected plain_text(const struct type *type, uint64_t bits, const struct lexical_format *format)
 {
 #ifdef WRONG_TEXT
     static const char UPPERCASE[] = "0123456789ABCDEFGHIJKLMNOPQRSTUVWXYz";
@@ -170,21 +167,18 @@ static bool all_are(const char *bytes, size_t count, int byte)
 static size_t call_writer(const struct type *type, uint64_t bits,
                           const struct lexical_format *format, char *buffer, size_t length)
 {
-    return format == NULL ? type->decimal(bits, buffer, length)
-                          : type->write(bits, format, buffer, length);
+    return format == NULL ? type->decimal(bits, buffer, length) : type->write(bits, format, buffer, length);
 }
 
 static bool is_uninitialized;
 
 /*
- * Calls a writer with a buffer of `length` bytes, and checks that the text is
- * at its start and that every other byte is unchanged. If `expected` is NULL, the
- * call must return 0 and leave the buffer unchanged. The buffer and the format
- * are each next to a page that may not be accessed, before or after them; this
- * side and the bytes of the buffer vary from call to call.
+ * Calls a writer with a buffer of `length` bytes, and checks that the text is at its start and that every other byte is
+ * unchanged. If `expected` is NULL, the call must return 0 and leave the buffer unchanged. The buffer and the format
+ * are each next to a page that may not be accessed, before or after them; this side and the bytes of the buffer vary
+ * from call to call.
  */
-static void check_writer(const struct type *type, uint64_t bits,
-                         const struct lexical_format *format, size_t length,
+static void check_writer(const struct type *type, uint64_t bits, const struct lexical_format *format, size_t length,
                          const struct expected *expected)
 {
     if (is_uninitialized) {
@@ -210,8 +204,7 @@ static void check_writer(const struct type *type, uint64_t bits,
         memcpy(copy, format, sizeof *format);
     size_t count = call_writer(type, bits, (const struct lexical_format *)copy, buffer, length);
     size_t wanted = expected == NULL ? 0 : expected->count;
-    bool is_good = count == wanted
-        && (wanted == 0 || memcmp(buffer, expected->text, wanted) == 0)
+    bool is_good = count == wanted && (wanted == 0 || memcmp(buffer, expected->text, wanted) == 0)
         && all_are(buffer + wanted, length - wanted, before)
         && all_are(guard, GUARD_SIZE, GUARD)
         && (format == NULL || memcmp(copy, format, sizeof *format) == 0);
@@ -258,12 +251,11 @@ static void check_call(const struct type *type, uint64_t bits, const struct lexi
 }
 
 /*
- * Checks what each function returns for a number in a format. It is written to
- * buffers of the length of the text, of the size of the type, for which the
- * library writes in another way, and of one byte less than each; or of every length.
+ * Checks what each function returns for a number in a format. It is written to buffers of the length of the text, of
+ * the size of the type, for which the library writes in another way, and of one byte less than each; or of every
+ * length.
  */
-static void check_number(const struct type *type, uint64_t bits, const struct lexical_format *format,
-                         bool every_length)
+static void check_number(const struct type *type, uint64_t bits, const struct lexical_format *format, bool every_length)
 {
     uint32_t reason = invalid_field(format);
     struct expected text = { "", 0 };
@@ -354,8 +346,7 @@ static uint64_t next_random(void)
 }
 
 /* Checks that the conversion of this file and the library write this text. */
-static void check_text(const struct type *type, uint64_t bits, const struct lexical_format *format,
-                       const char *text)
+static void check_text(const struct type *type, uint64_t bits, const struct lexical_format *format, const char *text)
 {
     check(strcmp(plain_text(type, bits, format).text, text) == 0, text);
     check_number(type, bits, format, false);
