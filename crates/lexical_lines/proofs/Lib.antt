@@ -1,6 +1,7 @@
 -- lines: separators, lines of an input, and the answers to them
 pub mod Splits
 pub mod Lines
+pub mod Newlines
 pub mod AnswerTexts
 pub mod UniqueAnswers
 -- requests: ranges and names of types, decimal numbers, signs, and the parts of a line

@@ -1,10 +1,16 @@
 -- The lines of an input.
-use Rattle.std.specs.Prelude.{◌≡◌, ℕ, List, [], ◌∷◌, ◌++◌, flat_map, All}
+use Rattle.std.specs.Prelude.{◌≡◌, ℕ, ◌<◌, List, [], ◌∷◌, ◌++◌, length, get_or, take, flat_map, All}
 use Rattle.lexical_lines.specs.Split.{Lacks}
 
 -- no byte is a newline
 abbrev pub NoNewline : List ℕ → Type 0
 NoNewline = Lacks 10
+
+-- the byte at the index is a newline, and none before it is
+pub record IsFirstNewline (bytes : List ℕ) (index : ℕ) : Type 0 where
+  pub within : index < length bytes
+  pub newline : get_or bytes index 0 ≡ 10
+  pub before : NoNewline (take index bytes)
 
 -- these lines with a newline after each
 abbrev pub with_newlines : List (List ℕ) → List ℕ

@@ -11,6 +11,7 @@ ghost use Rattle.lexical_lines.specs.Request.{IsValidLine};
 // Answers to the lines of bytes that arrive in chunks, and of a whole source.
 pub mod answerer;
 pub mod line_loop;
+mod newline;
 
 // The exit status that tells how a run ended.
 pub mod exit_status;

@@ -1,8 +1,9 @@
 //! Laws about lines and their answers. Each contract is a law over the definitions: a caller calls the
 //! function to use the law.
 
-ghost use Rattle.std.specs.Prelude.{◌≡◌, List, ℕ};
-ghost use Rattle.lexical_lines.specs.Answer.{AnswersAll};
+ghost use Rattle.std.specs.Prelude.{◌≡◌, ◌∷◌, ◌++◌, [], List, ℕ};
+ghost use Rattle.lexical_write_integer.specs.Read.{AreReadAs};
+ghost use Rattle.lexical_lines.specs.Answer.{AnswersAll, IsTextAnswer};
 ghost use Rattle.lexical_lines.specs.Lines.{AreLines};
 
 /// A law: every input is cut into lines in exactly one way. This function does nothing.
@@ -16,4 +17,11 @@ pub fn answers_unique(input: &[u8], a: &[u8], b: &[u8])
     requires a { AnswersAll input.now a.now }
     requires b { AnswersAll input.now b.now }
     ensures { a.now ≡ b.now }
+{}
+
+/// A law: std reads the answer to a valid line, without its newline, back as the number of the line, at each type that
+/// has the number. In radix 10 `parse` does the same. This function does nothing.
+pub fn answer_read_back(line: &[u8])
+    ensures { (answer : List ℕ) (is : IsTextAnswer line.now answer)
+        → AreReadAs is.radix is.number (λ text. answer ≡ text ++ 10 ∷ []) }
 {}

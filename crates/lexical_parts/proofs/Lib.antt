@@ -28,6 +28,8 @@ pub mod Scientifics
 pub mod GroupedUnits
 -- numbers in format strings
 pub mod ShownNumbers
+-- texts in format strings, one after another
+pub mod ShownParts
 -- what equal texts in a row have in common
 pub mod Splits
 -- texts of equal widths with separators between them
@@ -36,3 +38,5 @@ pub mod EqualWidths
 pub mod TextsAtIndex
 -- numbers of units as the prover computes their texts
 pub mod FixedTexts
+-- numbers of units without their point, which std reads
+pub mod FixedReads

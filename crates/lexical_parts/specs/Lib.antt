@@ -7,5 +7,7 @@ pub mod Optional
 pub mod Plus
 pub mod Scientific
 pub mod Sequence
+pub mod ShownParts
 pub mod Utf8
+pub mod Without
 pub mod ZeroPadded

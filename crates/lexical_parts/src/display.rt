@@ -5,20 +5,21 @@ ghost use Rattle.std.specs.Prelude.{◌≡◌, ◌↔◌, ◌<◌, ◌≤◌, �
 ghost use Rattle.std.specs.Prelude.{length, unsigned_abs, if◌then◌else◌};
 ghost use Rattle.std.specs.Fmt.{WritesOnOk, WritesStyledOnOk, formatter_spec, padded_integral, sign_text_with};
 ghost use Rattle.std.specs.Int.{is_negative};
-ghost use Rattle.lexical_num.specs.Format.{standard};
+ghost use Rattle.lexical_num.specs.Format.{IsRadix, standard};
 ghost use Rattle.lexical_write_integer.specs.Computed.{digits_text, padded_text, text_of};
 ghost use Rattle.lexical_write_integer.specs.Groups.{grouped};
 ghost use Rattle.lexical_parts.specs.Fixed.{fixed_text, units_text};
 
 use crate::fixed::{Fixed, GroupedFixed};
-use crate::number::{Decimal, Formatted, formatted_room_suffices};
-use crate::padded::Padded;
+use crate::number::{Decimal, Digits, Formatted, formatted_room_suffices};
+use crate::padded::{Padded, PaddedDigits};
 use crate::part::Part;
 use crate::plus::Plus;
 use crate::powers_of_two::{Binary, Hex};
+use lexical_num::limits::is_radix;
 use lexical_write_integer::digit_count::DigitCount;
 use lexical_write_integer::format::STANDARD;
-use lexical_write_integer::laws::{digits_computed, text_computed};
+use lexical_write_integer::laws::{digit_count_within_bits, digits_computed, text_computed};
 use lexical_write_integer::radix::Radix;
 use lexical_write_integer::{BUFFER_SIZE, NumberFormatBuilder, ToLexicalWithOptions};
 use std::fmt;
@@ -145,16 +146,63 @@ impl<T: Radix> fmt::Display for Binary<T> {
     }
 }
 
-impl<T: DigitCount + Radix> Padded<T> {
-    // Returns the text, or an error if the number does not fit in the width, or the width is not from 1 to 64.
+impl<T: DigitCount + Radix> Digits<T> {
+    // Returns the text, or an error if the radix is not from 2 to 36.
     fn shown(self, buffer: &mut [u8; 64]) -> Result<&str, fmt::Error>
-        ensures ok { IsOk result ↔ ((T.magnitude self.0 < 10 ^ self.1) × (1 ≤ self.1) × (self.1 ≤ 64)) }
-        ensures text { IfOk result (λ text. text.now ≡ padded_text 10 self.1 (T.magnitude self.0)) }
+        ensures ok { IsOk result ↔ IsRadix self.0 }
+        ensures text { IfOk result (λ text. text.now ≡ digits_text self.0 (T.magnitude self.1)) }
     {
-        if 64 < self.1 || self.1 < self.0.digit_count(10) {
+        if !is_radix(u64::from(self.0)) {
+            return Err(fmt::Error);
+        }
+        digit_count_within_bits(self.0, self.1);
+        let text = self.to_str(buffer);
+        digits_computed(self.0, self.1.as_u64(), text.as_bytes());
+        Ok(text)
+    }
+}
+
+impl<T: DigitCount + Radix> fmt::Display for Digits<T> {
+    ghost output = { λ part. Some (digits_text part.0 (T.magnitude part.1)) };
+
+    ghost styled_output = { λ part spec. Some (padded_integral spec false []
+        (digits_text part.0 (T.magnitude part.1))) };
+
+    fn fmt<W: fmt::Write>(&self, f: &mut fmt::Formatter<W>) -> fmt::Result {
+        let mut buffer = [0; 64];
+        let text = Digits(self.0, self.1).shown(&mut buffer)?;
+        pad_number(f, false, false, text)
+    }
+}
+
+impl<T: DigitCount + Radix> PaddedDigits<T> {
+    // Returns the text, or an error if the radix is not from 2 to 36, the number does not fit in the width, or the width
+    // is not from 1 to 64.
+    fn shown(self, buffer: &mut [u8; 64]) -> Result<&str, fmt::Error>
+        ensures ok { IsOk result ↔ (IsRadix self.0 × (T.magnitude self.1 < self.0 ^ self.2) × (1 ≤ self.2)
+            × (self.2 ≤ 64)) }
+        ensures text { IfOk result (λ text. text.now ≡ padded_text self.0 self.2 (T.magnitude self.1)) }
+    {
+        if !is_radix(u64::from(self.0)) {
+            return Err(fmt::Error);
+        }
+        if 64 < self.2 || self.2 < self.1.digit_count(self.0) {
             return Err(fmt::Error);
         }
         Ok(self.to_str(buffer))
+    }
+}
+
+impl<T: DigitCount + Radix> fmt::Display for PaddedDigits<T> {
+    ghost output = { λ part. Some (padded_text part.0 part.2 (T.magnitude part.1)) };
+
+    ghost styled_output = { λ part spec. Some (padded_integral spec false []
+        (padded_text part.0 part.2 (T.magnitude part.1))) };
+
+    fn fmt<W: fmt::Write>(&self, f: &mut fmt::Formatter<W>) -> fmt::Result {
+        let mut buffer = [0; 64];
+        let text = PaddedDigits(self.0, self.1, self.2).shown(&mut buffer)?;
+        pad_number(f, false, false, text)
     }
 }
 
@@ -165,9 +213,7 @@ impl<T: DigitCount + Radix> fmt::Display for Padded<T> {
         (padded_text 10 part.1 (T.magnitude part.0))) };
 
     fn fmt<W: fmt::Write>(&self, f: &mut fmt::Formatter<W>) -> fmt::Result {
-        let mut buffer = [0; 64];
-        let text = Padded(self.0, self.1).shown(&mut buffer)?;
-        pad_number(f, false, false, text)
+        fmt::Display::fmt(&PaddedDigits(10, self.0, self.1), f)
     }
 }
 

@@ -5,11 +5,21 @@ ghost use Rattle.lexical_write_integer.specs.Buffer.{Writes};
 ghost use Rattle.lexical_write_integer.specs.Sequence.{AreJoined, IsExactly};
 ghost use Rattle.lexical_parts.specs.Joined.{joined_room, lead};
 ghost use Rattle.lexical_parts.specs.Sequence.{◌then◌};
+ghost use Rattle.lexical_parts.specs.ShownParts.{WritesSomeOnOk};
 ghost use Rattle.lexical_parts.specs.Utf8.{AreUtf8};
 
 use crate::own::Own;
 use crate::part::Part;
+use crate::shown::Shown;
 use crate::text::str_is_utf8;
+use std::fmt;
+
+// Returns what precedes the part at the index.
+fn separator_before(index: usize, separator: &str) -> &str
+    ensures { result.now ≡ lead index separator.now }
+{
+    if index == 0 { "" } else { separator }
+}
 
 // Writes what precedes the part at the index, which is nothing before the first part and otherwise the separator, and
 // then the part. Returns their length.
@@ -76,6 +86,30 @@ impl<P: Part> Part for Joined<'_, P> {
             }
         }
         true
+    }
+
+    fn write_each<W: fmt::Write>(
+        self,
+        f: &mut fmt::Formatter<W>,
+        _own: Own,
+    ) -> Option<fmt::Result> {
+        Some(self.write_parts(f))
+    }
+}
+
+impl<P: Part> Joined<'_, P> {
+    // Writes each part to a formatter, with the separator between adjacent parts.
+    fn write_parts<W: fmt::Write>(self, f: &mut fmt::Formatter<W>) -> fmt::Result
+        requires valid { All P.is_valid self.0.now }
+        requires utf8 { All P.is_utf8 self.0.now }
+        ensures { WritesSomeOnOk W.write_str_gives f.old result
+            (AreJoined P.is_text self.entry.1.now self.entry.0.now) f.new }
+    {
+        for (index, part) in self.0.iter().enumerate() {
+            f.write_str(separator_before(index, self.1))?;
+            Shown(*part).write(f)?;
+        }
+        Ok(())
     }
 }
 

@@ -5,7 +5,9 @@ ghost use Rattle.lexical_parts.specs.Optional.{IsOptional, IsOrElse, IsValidOpti
 
 use crate::own::Own;
 use crate::part::Part;
+use crate::shown::Shown;
 use lexical_write_integer::buffer::copy_to_front;
+use std::fmt;
 
 impl<P: Part> Part for Option<P> {
     ghost is_text = { IsOptional P.is_text };
@@ -34,6 +36,17 @@ impl<P: Part> Part for Option<P> {
         match self {
             Some(part) => part.is_known_utf8(own),
             None => true,
+        }
+    }
+
+    fn write_each<W: fmt::Write>(
+        self,
+        f: &mut fmt::Formatter<W>,
+        _own: Own,
+    ) -> Option<fmt::Result> {
+        match self {
+            Some(part) => Some(Shown(part).write(f)),
+            None => Some(f.write_str("")),
         }
     }
 }
@@ -65,5 +78,16 @@ impl<P: Part, Q: Part> Part for OrElse<P, Q> {
 
     fn is_known_utf8(self, own: Own) -> bool {
         self.0.is_known_utf8(own) && self.1.is_known_utf8(own)
+    }
+
+    fn write_each<W: fmt::Write>(
+        self,
+        f: &mut fmt::Formatter<W>,
+        _own: Own,
+    ) -> Option<fmt::Result> {
+        match self.0 {
+            Some(present) => Some(Shown(present).write(f)),
+            None => Some(Shown(self.1).write(f)),
+        }
     }
 }

@@ -7,17 +7,18 @@ ghost use Rattle.lexical_write_integer.specs.Buffer.{Writes};
 ghost use Rattle.lexical_write_integer.specs.Lending.{LendsFront};
 ghost use Rattle.lexical_write_integer.specs.Sequence.{IsExactly};
 ghost use Rattle.lexical_parts.specs.Sequence.{◌then◌};
+ghost use Rattle.lexical_parts.specs.ShownParts.{WritesSomeOnOk};
 ghost use Rattle.lexical_parts.specs.Utf8.{AreUtf8};
 
 use crate::own::Own;
 use lexical_write_integer::buffer::front_mut;
+use std::fmt;
 use std::str::{from_utf8, from_utf8_unchecked};
 
 /// A value that has a text, such as a number or a `&str`. A tuple of parts is also a part, and its
 /// text consists of the texts of its elements, in order: `(250, " g")` writes `250 g`.
 ///
-/// For a `String` or a `&String` write `string.as_str()`, for a `bool` `if flag { "true" } else { "false" }`, and for a
-/// `char` the `&str` that `encode_utf8` returns.
+/// For a `String` or a `&String` write `string.as_str()`.
 ///
 /// A part is *valid* if it meets the condition of its type: a radix is from 2 to 36, and a padded number
 /// fits in its width. A part that contains parts is valid if they are valid. A part without a condition is
@@ -58,6 +59,18 @@ pub trait Part: Copy {
         ensures utf8 { IsTrue result → is_utf8 self }
     {
         false
+    }
+
+    // Writes the text to a formatter, whatever its options are, if the part consists of parts, or has its text already.
+    // Otherwise returns `None`, and writes nothing.
+    #[doc(hidden)]
+    fn write_each<W: fmt::Write>(self, _f: &mut fmt::Formatter<W>, _own: Own) -> Option<fmt::Result>
+        requires valid { is_valid self }
+        requires utf8 { is_utf8 self }
+        ensures text { IfSome result (λ written. WritesSomeOnOk W.write_str_gives _f.old written (is_text self) _f.new) }
+        ensures none { IfNone result (_f.new ≡ _f.old) }
+    {
+        None
     }
 
     /// Writes the text to the start of the buffer, and returns those bytes of the buffer, which the

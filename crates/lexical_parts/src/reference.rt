@@ -2,6 +2,7 @@
 
 use crate::own::Own;
 use crate::part::Part;
+use std::fmt;
 
 impl<P: Part> Part for &P {
     ghost is_text = { λ part. P.is_text part.now };
@@ -22,5 +23,9 @@ impl<P: Part> Part for &P {
 
     fn is_known_utf8(self, own: Own) -> bool {
         (*self).is_known_utf8(own)
+    }
+
+    fn write_each<W: fmt::Write>(self, f: &mut fmt::Formatter<W>, own: Own) -> Option<fmt::Result> {
+        (*self).write_each(f, own)
     }
 }

@@ -1,7 +1,7 @@
-//! Parts that are strings or bytes, whose text is the same bytes.
+//! Parts that are strings or bytes, whose text is the same bytes, characters, and the words `true` and `false`.
 #![tactic(auto, using(crate::proofs::Utf8Texts::kinds))]
 
-ghost use Rattle.std.specs.Prelude.{ℕ, [], ◌∷◌, ◌<◌, length};
+ghost use Rattle.std.specs.Prelude.{ℕ, [], ◌∷◌, ◌<◌, codes, encode_utf8, if◌then◌else◌, length};
 ghost use Rattle.std.specs.Str.{IsUtf8};
 ghost use Rattle.lexical_write_integer.specs.Sequence.{IsExactly};
 ghost use Rattle.lexical_parts.specs.Utf8.{AreUtf8};
@@ -9,6 +9,7 @@ ghost use Rattle.lexical_parts.specs.Utf8.{AreUtf8};
 use crate::own::Own;
 use crate::part::Part;
 use lexical_write_integer::buffer::copy_to_front;
+use std::fmt;
 use std::str::from_utf8;
 
 // A law: the bytes of a `str` are UTF-8.
@@ -27,6 +28,55 @@ impl Part for &str {
 
     fn write_to(self, buffer: &mut [u8]) -> usize {
         copy_to_front(self.as_bytes(), buffer)
+    }
+
+    fn is_known_utf8(self, _own: Own) -> bool {
+        true
+    }
+
+    fn write_each<W: fmt::Write>(
+        self,
+        f: &mut fmt::Formatter<W>,
+        _own: Own,
+    ) -> Option<fmt::Result> {
+        Some(f.write_str(self))
+    }
+}
+
+impl Part for bool {
+    ghost is_text = { λ flag. IsExactly (if flag then codes "true" else codes "false") };
+
+    ghost room = { λ _. 5 };
+
+    fn room(self) -> usize {
+        5
+    }
+
+    fn write_to(self, buffer: &mut [u8]) -> usize {
+        let text = if self { "true" } else { "false" };
+        str_is_utf8(text);
+        text.write_to(buffer)
+    }
+
+    fn is_known_utf8(self, _own: Own) -> bool {
+        true
+    }
+}
+
+impl Part for char {
+    ghost is_text = { λ character. IsExactly (encode_utf8 character) };
+
+    ghost room = { λ _. 4 };
+
+    fn room(self) -> usize {
+        4
+    }
+
+    fn write_to(self, buffer: &mut [u8]) -> usize {
+        let mut bytes = [0; 4];
+        let text: &str = self.encode_utf8(&mut bytes);
+        str_is_utf8(text);
+        text.write_to(buffer)
     }
 
     fn is_known_utf8(self, _own: Own) -> bool {
@@ -55,6 +105,17 @@ impl Part for Bytes<'_> {
 
     fn is_known_utf8(self, _own: Own) -> bool {
         from_utf8(self.0).is_ok()
+    }
+
+    fn write_each<W: fmt::Write>(
+        self,
+        f: &mut fmt::Formatter<W>,
+        _own: Own,
+    ) -> Option<fmt::Result> {
+        match from_utf8(self.0) {
+            Ok(text) => Some(f.write_str(text)),
+            Err(_) => None,
+        }
     }
 }
 

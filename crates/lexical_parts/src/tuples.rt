@@ -6,6 +6,8 @@ ghost use Rattle.lexical_parts.specs.Sequence.{◌then◌};
 
 use crate::own::Own;
 use crate::part::Part;
+use crate::shown::Shown;
+use std::fmt;
 
 impl<A: Part, B: Part> Part for (A, B) {
     ghost is_text = { λ p. A.is_text p.0 then B.is_text p.1 };
@@ -27,6 +29,17 @@ impl<A: Part, B: Part> Part for (A, B) {
 
     fn is_known_utf8(self, own: Own) -> bool {
         self.0.is_known_utf8(own) && self.1.is_known_utf8(own)
+    }
+
+    fn write_each<W: fmt::Write>(
+        self,
+        f: &mut fmt::Formatter<W>,
+        _own: Own,
+    ) -> Option<fmt::Result> {
+        match Shown(self.0).write(f) {
+            Ok(()) => Some(Shown(self.1).write(f)),
+            Err(error) => Some(Err(error)),
+        }
     }
 }
 
@@ -50,6 +63,10 @@ impl<A: Part, B: Part, C: Part> Part for (A, B, C) {
     fn is_known_utf8(self, own: Own) -> bool {
         (self.0, (self.1, self.2)).is_known_utf8(own)
     }
+
+    fn write_each<W: fmt::Write>(self, f: &mut fmt::Formatter<W>, own: Own) -> Option<fmt::Result> {
+        (self.0, (self.1, self.2)).write_each(f, own)
+    }
 }
 
 impl<A: Part, B: Part, C: Part, D: Part> Part for (A, B, C, D) {
@@ -71,6 +88,10 @@ impl<A: Part, B: Part, C: Part, D: Part> Part for (A, B, C, D) {
 
     fn is_known_utf8(self, own: Own) -> bool {
         (self.0, (self.1, self.2, self.3)).is_known_utf8(own)
+    }
+
+    fn write_each<W: fmt::Write>(self, f: &mut fmt::Formatter<W>, own: Own) -> Option<fmt::Result> {
+        (self.0, (self.1, self.2, self.3)).write_each(f, own)
     }
 }
 
@@ -96,6 +117,10 @@ impl<A: Part, B: Part, C: Part, D: Part, E: Part> Part for (A, B, C, D, E) {
 
     fn is_known_utf8(self, own: Own) -> bool {
         (self.0, (self.1, self.2, self.3, self.4)).is_known_utf8(own)
+    }
+
+    fn write_each<W: fmt::Write>(self, f: &mut fmt::Formatter<W>, own: Own) -> Option<fmt::Result> {
+        (self.0, (self.1, self.2, self.3, self.4)).write_each(f, own)
     }
 }
 
@@ -123,6 +148,10 @@ impl<A: Part, B: Part, C: Part, D: Part, E: Part, F: Part> Part for (A, B, C, D,
     fn is_known_utf8(self, own: Own) -> bool {
         (self.0, (self.1, self.2, self.3, self.4, self.5)).is_known_utf8(own)
     }
+
+    fn write_each<W: fmt::Write>(self, f: &mut fmt::Formatter<W>, own: Own) -> Option<fmt::Result> {
+        (self.0, (self.1, self.2, self.3, self.4, self.5)).write_each(f, own)
+    }
 }
 
 impl<A: Part, B: Part, C: Part, D: Part, E: Part, F: Part, G: Part> Part for (A, B, C, D, E, F, G) {
@@ -148,6 +177,10 @@ impl<A: Part, B: Part, C: Part, D: Part, E: Part, F: Part, G: Part> Part for (A,
 
     fn is_known_utf8(self, own: Own) -> bool {
         (self.0, (self.1, self.2, self.3, self.4, self.5, self.6)).is_known_utf8(own)
+    }
+
+    fn write_each<W: fmt::Write>(self, f: &mut fmt::Formatter<W>, own: Own) -> Option<fmt::Result> {
+        (self.0, (self.1, self.2, self.3, self.4, self.5, self.6)).write_each(f, own)
     }
 }
 
@@ -178,6 +211,11 @@ impl<A: Part, B: Part, C: Part, D: Part, E: Part, F: Part, G: Part, H: Part> Par
     fn is_known_utf8(self, own: Own) -> bool {
         let (a, b, c, d, e, f, g, h) = self;
         (a, (b, c, d, e, f, g, h)).is_known_utf8(own)
+    }
+
+    fn write_each<W: fmt::Write>(self, f: &mut fmt::Formatter<W>, own: Own) -> Option<fmt::Result> {
+        let (a, b, c, d, e, x, g, h) = self;
+        (a, (b, c, d, e, x, g, h)).write_each(f, own)
     }
 }
 
@@ -212,6 +250,11 @@ impl<A: Part, B: Part, C: Part, D: Part, E: Part, F: Part, G: Part, H: Part, I: 
         let (a, b, c, d, e, f, g, h, i) = self;
         (a, (b, c, d, e, f, g, h, i)).is_known_utf8(own)
     }
+
+    fn write_each<W: fmt::Write>(self, f: &mut fmt::Formatter<W>, own: Own) -> Option<fmt::Result> {
+        let (a, b, c, d, e, x, g, h, i) = self;
+        (a, (b, c, d, e, x, g, h, i)).write_each(f, own)
+    }
 }
 
 impl<A: Part, B: Part, C: Part, D: Part, E: Part, F: Part, G: Part, H: Part, I: Part, J: Part> Part
@@ -244,6 +287,11 @@ impl<A: Part, B: Part, C: Part, D: Part, E: Part, F: Part, G: Part, H: Part, I: 
     fn is_known_utf8(self, own: Own) -> bool {
         let (a, b, c, d, e, f, g, h, i, j) = self;
         (a, (b, c, d, e, f, g, h, i, j)).is_known_utf8(own)
+    }
+
+    fn write_each<W: fmt::Write>(self, f: &mut fmt::Formatter<W>, own: Own) -> Option<fmt::Result> {
+        let (a, b, c, d, e, x, g, h, i, j) = self;
+        (a, (b, c, d, e, x, g, h, i, j)).write_each(f, own)
     }
 }
 
@@ -290,6 +338,11 @@ impl<
         let (a, b, c, d, e, f, g, h, i, j, k) = self;
         (a, (b, c, d, e, f, g, h, i, j, k)).is_known_utf8(own)
     }
+
+    fn write_each<W: fmt::Write>(self, f: &mut fmt::Formatter<W>, own: Own) -> Option<fmt::Result> {
+        let (a, b, c, d, e, x, g, h, i, j, k) = self;
+        (a, (b, c, d, e, x, g, h, i, j, k)).write_each(f, own)
+    }
 }
 
 impl<
@@ -335,5 +388,10 @@ impl<
     fn is_known_utf8(self, own: Own) -> bool {
         let (a, b, c, d, e, f, g, h, i, j, k, l) = self;
         (a, (b, c, d, e, f, g, h, i, j, k, l)).is_known_utf8(own)
+    }
+
+    fn write_each<W: fmt::Write>(self, f: &mut fmt::Formatter<W>, own: Own) -> Option<fmt::Result> {
+        let (a, b, c, d, e, x, g, h, i, j, k, l) = self;
+        (a, (b, c, d, e, x, g, h, i, j, k, l)).write_each(f, own)
     }
 }

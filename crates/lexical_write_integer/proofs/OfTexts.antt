@@ -10,6 +10,7 @@ pub mod Comparisons
 pub mod ComputedTexts
 pub mod PrintedTexts
 pub mod ReadTexts
+pub mod Rows
 pub mod Separators
 -- texts in a row
 pub mod Sequences

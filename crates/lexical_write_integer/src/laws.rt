@@ -14,6 +14,7 @@ mod comparison;
 mod groups;
 mod reading;
 mod room;
+mod rows;
 
 pub use appended::{decimal_then_padded, digits_then_padded, padded_then_padded};
 pub use bytes::{
@@ -26,8 +27,11 @@ pub use comparison::{
 pub use groups::text_in_groups;
 use lexical_num::format::NumberFormat;
 use lexical_num::num::{LexicalInteger, UnsignedInteger};
-pub use reading::{digits_read_back, padded_read_back, text_read_back};
+pub use reading::{
+    digits_read_back, equal_across_formats, grouped_read_back, padded_read_back, text_read_back,
+};
 pub use room::{padded_length, size_suffices, sizes_suffice, text_length};
+pub use rows::equal_rows;
 
 /// A law: the digit count of a number is the smallest count, not 0, such that the number is below the
 /// radix to that power. It is at most 64.

@@ -1,13 +1,20 @@
 //! Writes a number, and reads it back by `parse` or `from_str_radix` of the standard library: the result is the number.
 
-ghost use Rattle.std.specs.Prelude.{◌≡◌, ◌^◌, ◌<◌, List, ℕ, None, Ok, Result, pos};
-ghost use Rattle.lexical_write_integer.specs.Read.{IsReadAsSigned, IsReadAsUnsigned};
+ghost use Rattle.std.specs.Prelude.{true, ◌≡◌, ◌↔◌, ◌^◌, ◌<◌, ◌∷◌, ◌++◌, [], IsTrue, List, ℕ, None, Ok, Result, pos};
+ghost use Rattle.lexical_num.specs.Format.{standard};
+ghost use Rattle.lexical_write_integer.specs.Read.{IsReadAsSigned, IsReadAsUnsigned, IsWithoutSeparators};
+ghost use Rattle.lexical_write_integer.specs.Sequence.{AreJoined};
+ghost use Rattle.lexical_write_integer.specs.Text.{IsText};
+ghost use Rattle.lexical_parts.specs.Fixed.{IsFixed};
+ghost use Rattle.lexical_parts.specs.Without.{IsWithout};
+ghost use Rattle.lexical_lines.specs.Answer.{IsTextAnswer};
 
-use lexical_parts::{Digits, Formatted, Lower, Padded, Part};
+use lexical_lines::laws::answer_read_back;
+use lexical_parts::{Digits, Formatted, Lower, Padded, Part, fixed_read_back};
 use lexical_write_integer::format::STANDARD;
 use lexical_write_integer::laws::{
-    digit_count_at_most, digits_read_back, padded_read_back, size_suffices, text_is_ascii,
-    text_read_back,
+    digit_count_at_most, digits_read_back, equal_across_formats, equal_rows, grouped_read_back,
+    padded_read_back, size_suffices, text_is_ascii, text_read_back,
 };
 use lexical_write_integer::{
     BUFFER_SIZE, NumberFormat, NumberFormatBuilder, Options, ToLexical, ToLexicalWithOptions,
@@ -106,4 +113,54 @@ pub fn of_one_type(number: u64) -> Result<u64, ParseIntError>
     ensures { result ≡ Ok number }
 {
     of_any_type(number)
+}
+
+/// Reads back the text of a number in groups, such as `-1,234,567`, which a caller has copied without its separators.
+pub fn without_groups(number: i64, format: &NumberFormat, text: &str) -> Result<i64, ParseIntError>
+    requires { IsWithoutSeparators format.now.digit_grouping (IsText number format.now) text.now }
+    ensures { result ≡ Ok number }
+{
+    grouped_read_back(number, format);
+    i64::from_str_radix(text, format.mantissa_radix())
+}
+
+/// Reads back an amount, such as `-0.05`, which a caller has copied without its point, as its number of units.
+pub fn without_point(units: i64, decimals: usize, text: &str) -> Result<i64, ParseIntError>
+    requires { IsWithout 46 (IsFixed decimals units) text.now }
+    ensures { result ≡ Ok units }
+{
+    fixed_read_back(units, decimals);
+    text.parse::<i64>()
+}
+
+/// Reads back what `lexwrite` answers to a line with a number that is not negative, without its newline.
+pub fn an_answer(line: &[u8], text: &str) -> Result<u64, ParseIntError>
+    ensures { (is : IsTextAnswer line.now (text.now ++ 10 ∷ [])) (n : ℕ)
+        → is.radix ≡ 10 → is.number ≡ pos n → n < 2 ^ 64 → result ≡ Ok n }
+{
+    answer_read_back(line);
+    text.parse::<u64>()
+}
+
+/// Returns whether two numbers are equal. They are if one text is of both, also if the second one has a required `+`.
+pub fn same_with_plus(a: i64, b: i64) -> bool
+    ensures text { (text : List ℕ) → IsText a standard text
+        → IsText b (record standard { required_mantissa_sign = true }) text → a ≡ b }
+    ensures result { IsTrue result ↔ (a ≡ b) }
+{
+    let signed = NumberFormatBuilder::new()
+        .required_mantissa_sign(true)
+        .build_strict();
+    equal_across_formats(a, b, &STANDARD, &signed);
+    a == b
+}
+
+/// Returns whether two rows such as `1,-2,3` have the same numbers. They have if one text is of both.
+pub fn same_row(a: &[i64], b: &[i64]) -> bool
+    ensures text { (text : List ℕ) → AreJoined (λ x. IsText x standard) (44 ∷ []) a.now text
+        → AreJoined (λ x. IsText x standard) (44 ∷ []) b.now text → a.now ≡ b.now }
+    ensures result { IsTrue result ↔ (a.now ≡ b.now) }
+{
+    equal_rows(a, b, b',', &STANDARD);
+    a == b
 }

@@ -1,7 +1,10 @@
 //! Parts in format strings, against what the standard library writes of its own integers: for the
 //! longest texts and some others, in each width up to three more than the text.
 
-use cojimuran::parts::{Binary, Decimal, Fixed, Formatted, GroupedFixed, Hex, Padded, Plus};
+use cojimuran::parts::{
+    Binary, Byte, Bytes, Center, Decimal, Digits, Fixed, Formatted, GroupedFixed, Hex, HexBytes, Joined, Left, Lower,
+    OrElse, Padded, PaddedDigits, Part, Plus, Right, Scientific, Shown, Sign, ZeroPadded,
+};
 use cojimuran::{NumberFormat, NumberFormatBuilder};
 use std::fmt::Write;
 
@@ -52,6 +55,10 @@ macro_rules! check_digits {
         for number in [<$number>::MIN, <$number>::MAX, 1, 10, <$number>::MAX / 3] {
             check_options!(Hex(number), number, "X": "" "<" "^" "*>" "+" "0" "+0");
             check_options!(Binary(number), number, "b": "" "<" "^" "*>" "+" "0" "+0");
+            check_options!(Digits(16, number), number, "X": "" "<" "^" "*>" "+" "0" "+0");
+            check_options!(Digits(8, number), number, "o": "" "<" "^" "*>" "+" "0" "+0");
+            assert_eq!(PaddedDigits(2, number, 64).to_string(), format!("{number:064b}"));
+            assert_eq!(PaddedDigits(16, number, 16).to_string(), format!("{number:016X}"));
         }
     )+ };
 }
@@ -128,6 +135,89 @@ fn padded_numbers() {
     for refused in [Padded(10u64, 1), Padded(0, 0), Padded(7, 65), Padded(7, usize::MAX)] {
         assert!(write!(String::new(), "{refused}").is_err());
     }
+}
+
+#[test]
+fn padded_digits() {
+    for refused in [PaddedDigits(1, 0u8, 2), PaddedDigits(37, 0, 2), PaddedDigits(16, 16, 1), PaddedDigits(2, 0, 65)] {
+        assert!(write!(String::new(), "{refused}").is_err());
+    }
+    assert!(write!(String::new(), "{}", Digits(37, 5u8)).is_err());
+    // The largest number of the width, and one more.
+    for (radix, width, most) in [(7, 23, u64::MAX), (7, 22, 7u64.pow(22) - 1), (3, 2, 8), (36, 12, 36u64.pow(12) - 1)] {
+        let part = PaddedDigits(radix, most, width);
+        assert_eq!(u64::from_str_radix(&format!("{part:>70}").trim_start(), radix), Ok(most));
+        assert_eq!((part, "").to_str(&mut [0; 23]).len(), width);
+        let more = PaddedDigits(radix, most.saturating_add(1), width);
+        assert_eq!(write!(String::new(), "{more}").is_ok(), most == u64::MAX);
+    }
+}
+
+/// Checks that a part is shown as its text is, in each width and precision up to some more than it has.
+fn check_text<P: Part>(part: P, text: &str) {
+    assert_eq!(format!("{}", Shown(part)), text);
+    for n in 0..=text.chars().count() + 3 {
+        let expected = format!("{text:n$}|{text:>n$}|{text:é^n$}|{text:.n$}|{text:9.n$}|{text:09}");
+        let part = Shown(part);
+        assert_eq!(format!("{part:n$}|{part:>n$}|{part:é^n$}|{part:.n$}|{part:9.n$}|{part:09}"), expected);
+    }
+}
+
+#[test]
+fn parts_of_parts() {
+    check_text(("id=", 7u8, " flags=0x", Hex(255u16)), "id=7 flags=0xFF");
+    check_text(
+        (1u8, ("é", -2i64), (3u16, "€", 4usize), Some(5u32), None::<u8>, '𝄞', true, false),
+        "1é-23€45𝄞truefalse",
+    );
+    check_text(Joined(&["ä", "", "b"], " · "), "ä ·  · b");
+    check_text(Joined(&[0u8; 0], ", "), "");
+    check_text((Bytes("ö".as_bytes()), Byte(b'!'), Sign(-5i8, false), &Plus(5u8)), "ö!-+5");
+    check_text(Scientific(1500u16, 0), "1.5e3");
+    // More than the room of 256 bytes, element by element.
+    let many = [u64::MAX; 40];
+    let expected = format!("<{}>", many.map(|number| number.to_string()).join(", "));
+    assert_eq!(Shown(("<", Joined(&many, ", "), ">")).to_string(), expected);
+    assert_eq!(Joined(&many, "").to_string().len(), 800);
+    assert_eq!(Shown((&*"ab".repeat(400), Bytes(&[b'c'; 400]))).to_string().len(), 1200);
+    let twelve = (1u8, 2u8, 3u8, 4u8, 5u8, 6u8, 7u8, 8u8, 9u8, 10u8, &*"-".repeat(300), 12u8);
+    assert_eq!(Shown(twelve).to_string(), format!("12345678910{}12", "-".repeat(300)));
+}
+
+#[test]
+fn columns_and_others() {
+    let shown = format!("{}|{}|{}", Left(5u8, 3, b'.'), Right(5u8, 3, b'.'), Center("é", 6, b'-'));
+    assert_eq!(shown, "5..|..5|--é--");
+    let shown = format!("{}|{:>7}|{:<7}|", ZeroPadded(-42, 6), ZeroPadded(Plus(7), 4), Lower(Digits(36, 1000u64)));
+    assert_eq!(shown, "-00042|   +007|rs     |");
+    let shown = format!("{}|{}|{}", OrElse(Some(5u8), "n/a"), OrElse(None::<u8>, "n/a"), HexBytes(&[1, 171], ":"));
+    assert_eq!(shown, "5|n/a|01:AB");
+}
+
+/// A caller's own part.
+#[derive(Clone, Copy)]
+struct Own;
+
+impl Part for Own {
+    fn room(self) -> usize {
+        0
+    }
+
+    fn write_to(self, _buffer: &mut [u8]) -> usize {
+        0
+    }
+}
+
+#[test]
+fn parts_that_are_not_shown() {
+    fn is_refused<P: Part>(part: P) -> bool {
+        write!(String::new(), "{}", Shown(part)).is_err() && write!(String::new(), "{:9}", Shown(part)).is_err()
+    }
+    assert!(is_refused((1u8, Digits(37, 1u8))) && is_refused(Joined(&[Padded(1u8, 1), Padded(10, 1)], ",")));
+    assert!(is_refused(Bytes(&[200])) && is_refused((Byte(128), 1u8)) && is_refused(Left(1u8, 2, 128)));
+    assert!(is_refused(Own) && is_refused(("own", Own)) && is_refused(Fixed(1u8, 20)));
+    assert!(is_refused(Left(1u8, 257, b' ')) && is_refused(Lower(&*"A".repeat(257))));
+    assert!(!is_refused(Left(1u8, 256, b' ')) && !is_refused(Lower(&*"A".repeat(256))));
 }
 
 #[test]

@@ -125,8 +125,8 @@ pub(crate) const SOURCES: &[Source] = &[
         attributes: &[
             // What chooses a writer, the decimal writer, the writer of a number whose digits are counted at once, and what
             // `write_apart` calls. If the format is constant in a caller, so is the choice. The others would make the
-            // code of a caller long if its radix is known only at run time, and with `write_three_or_four` the library for
-            // C would save more registers in each call.
+            // code of a caller long if its radix is known only at run time. rustc has `radix_called` in a caller only if the
+            // radix is constant there.
             (
                 "#[inline(always)]\n#[track_caller]",
                 "buffer.rt texts/api.rt texts/integers.rt digits/write.rt digits/decimal.rt digits/decimal/jeaiii.rt",
@@ -134,9 +134,9 @@ pub(crate) const SOURCES: &[Source] = &[
             (
                 "#[inline(always)]",
                 "digits/pairs.rt digits/decimal/kernels.rt digits/decimal/decimal_pairs.rt write_digits write_at_once
-                write_by_table radix_counted radix digit_count fast_log2 write_after_count last_four write_four
+                write_by_table radix_counted constant_radix digit_count fast_log2 write_after_count last_four write_four
                 write_counted write_one_or_two write_one_pair write_short remove_two remove_four fourth_power
-                count_short count_one_or_two count_three_or_four count_some count_and_write_one_or_two
+                count_short count_one_or_two count_three_or_four write_three_or_four count_some count_and_write_one_or_two
                 count_and_write_up_to_four count_and_write_five_to_eight count_and_write_up_to_eight",
             ),
         ],
@@ -158,7 +158,7 @@ pub(crate) const SOURCES: &[Source] = &[
                 to_text",
             ),
         ],
-        left_out: "equal positions",
+        left_out: "equal fixed_reading positions",
         replaced: replaced::PARTS,
         ..LIBRARY
     },

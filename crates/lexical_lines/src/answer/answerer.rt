@@ -9,13 +9,11 @@ ghost use Rattle.lexical_lines.specs.Lines.{NoNewline};
 ghost use Rattle.lexical_lines.specs.Sink.{IsBeginning};
 ghost use Rattle.lexical_lines.specs.RunOutcome.{added, ReportsAllValid, BreaksOff};
 
+use crate::answer::newline::{NEWLINE, first_newline};
 use crate::answer::{MAX_ANSWER, write_answer};
 use crate::devices::sink::{ByteSink, put_all};
 use crate::request::line::Line;
 use std::io;
-
-// The byte that ends a line.
-const NEWLINE: u8 = b'\n';
 
 /// Answers lines whose bytes arrive in chunks. The answer to a line is the text of the number that the
 /// line requests, or `bad line` and the number of the line; the documentation of `run` has the details.
@@ -139,11 +137,6 @@ fn split_line(bytes: &[u8]) -> Option<(&[u8], &[u8])>
     ensures first { IfSome result (λ parts. NoNewline parts.0.now) }
     ensures none { IfNone result (NoNewline bytes.now) }
 {
-    // rustc makes faster code of this loop than of `position`.
-    for (end, byte) in bytes.iter().enumerate() {
-        if *byte == NEWLINE {
-            return Some((&bytes[..end], &bytes[end + 1..]));
-        }
-    }
-    None
+    let end = first_newline(bytes)?;
+    Some((&bytes[..end], &bytes[end + 1..]))
 }

@@ -1,11 +1,30 @@
 // Parses decimal numbers.
 
-ghost use Rattle.std.specs.Prelude.{◌≡◌, ◌≢◌, ℕ, ◌^◌, ◌<◌, List, ◌∷◌, ◌++◌, IfSome, IfNone};
+ghost use Rattle.std.specs.Prelude.{◌≡◌, ◌≢◌, ℕ, ◌^◌, ◌<◌, ◌≤◌, List, ◌∷◌, ◌++◌, IfSome, IfNone, length};
 ghost use Rattle.lexical_num.specs.Format.{IsRadix};
 ghost use Rattle.lexical_write_integer.specs.Text.{IsDigits};
 ghost use Rattle.lexical_lines.specs.Decimal.{IsDecimalNumeral};
 
 use lexical_num::limits::is_radix;
+
+// Parses decimal digits, of which there are too few for a sum that does not fit in a `u64`. Returns `None` if the text
+// is anything else.
+fn parse_short(text: &[u8]) -> Option<u64>
+    requires some { 1 ≤ length text.now }
+    requires short { length text.now ≤ 19 }
+    ensures found { IfSome result (λ number. IsDecimalNumeral number text.now) }
+    ensures none { IfNone result ((number : ℕ) → IsDecimalNumeral number text.now → ⊥) }
+{
+    let mut number: u64 = 0;
+    for byte in text {
+        let digit = byte.wrapping_sub(b'0');
+        if digit > 9 {
+            return None;
+        }
+        number = number * 10 + u64::from(digit);
+    }
+    Some(number)
+}
 
 /// Parses one or more decimal digits, with or without leading zeros. Returns `None` if the text is
 /// anything else, or if the number does not fit in a `u64`.
@@ -15,6 +34,9 @@ pub fn parse_decimal(text: &[u8]) -> Option<u64>
 {
     if text.is_empty() {
         return None;
+    }
+    if text.len() <= 19 {
+        return parse_short(text);
     }
     let mut number: u64 = 0;
     for byte in text {

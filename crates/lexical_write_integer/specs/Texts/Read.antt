@@ -1,7 +1,8 @@
 -- Texts that std's `from_str_radix` reads as a number, in the words of its contract. In radix 10 `parse` does the same.
-use Rattle.std.specs.Prelude.{◌≡◌, ℕ, List, ℤ, pos}
+use Rattle.std.specs.Prelude.{◌≡◌, ℕ, List, ℤ, Option, pos}
 use Rattle.std.specs.Str.Parse.{IsNumeral, digits_value, signed_digits_value}
 use Rattle.std.specs.Str.Parse.{without_leading_plus, without_leading_sign}
+use Rattle.lexical_write_integer.specs.Texts.Groups.{without_separators}
 use Rattle.lexical_write_integer.specs.Texts.Lowercase.{IsLowercase}
 
 -- at a signed type: digits after any sign, which write the number
@@ -21,3 +22,9 @@ pub record AreReadAs (radix : ℕ) (number : ℤ) (P : List ℕ → Type 0) : Ty
   pub lowercase : (text : List ℕ) → IsLowercase P text → IsReadAsSigned radix number text
   pub unsigned_lowercase : (n : ℕ) → number ≡ pos n
       → (text : List ℕ) → IsLowercase P text → IsReadAsUnsigned radix n text
+
+-- a text of the kind P without the separators between its groups
+pub record IsWithoutSeparators (grouping : Option (ℕ × ℕ)) (P : List ℕ → Type 0) (text : List ℕ) : Type 0 where
+  pub original : List ℕ
+  pub is : P original
+  pub whole : text ≡ without_separators grouping original

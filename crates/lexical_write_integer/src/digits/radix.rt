@@ -45,7 +45,7 @@ fn write_at_once<const R: u32>(
     if R == 2 && number >= 256 {
         write_binary(number, buffer, turns)
     } else if number < u64::from(R * R) {
-        write_short(number as u32, table, buffer, turns)
+        write_short(number, table, buffer, turns)
     } else {
         write_after_count(number, table, buffer, turns)
     }
@@ -130,7 +130,7 @@ fn write_short_or_apart<T: UnsignedInteger, const R: u32>(
     value.fits_bits();
     let number = value.as_u64();
     if number < u64::from(R * R) {
-        return write_short(number as u32, RadixTable::<R>::new(), buffer, turns);
+        return write_short(number, RadixTable::<R>::new(), buffer, turns);
     }
     if T::BITS < 32 {
         return write_by_table::<T, R>(value, buffer, turns);
@@ -156,6 +156,34 @@ pub(crate) fn radix_counted<T: UnsignedInteger>(
     by_radix!(radix, write_by_table or write_short_or_apart::<T>(value, buffer, turns))
 }
 
+// Writes the digits as `radix_counted` does, by a call in each radix unless they are one or two. So a caller has little
+// code: if the radix is constant there, rustc has only the code of that radix in the caller, and otherwise calls this.
+fn radix_called<T: UnsignedInteger>(
+    value: T,
+    radix: u32,
+    buffer: &mut [u8],
+    turns: &mut Turns,
+) -> usize
+    requires radix { IsRadix radix }
+    requires room { digit_count radix (T.magnitude value) ≤ length buffer.old }
+    ensures digits { WritesDigits radix (T.magnitude value) buffer.old buffer.new result }
+    ensures notes { turns.new ≡ turns.old ++ table_notes radix (T.magnitude value) }
+{
+    by_radix!(radix, write_apart or write_short_or_apart::<T>(value, buffer, turns))
+}
+
+/// Writes the digits of the number as `Radix::radix` does, by code that rustc has in each caller: the radix is to be
+/// constant there. It is from 2 to 36, and the buffer has room for the digits.
+pub fn constant_radix<T: UnsignedInteger>(value: T, radix: u32, buffer: &mut [u8]) -> usize
+    requires radix { IsRadix radix }
+    requires room { digit_count radix (T.magnitude value) ≤ length buffer.old }
+    ensures digits { WritesDigits radix (T.magnitude value) buffer.old buffer.new result }
+    ensures short { result ≤ T.BITS }
+{
+    digit_count_within_bits(radix, value);
+    radix_counted(value, radix, buffer, &mut Turns::new())
+}
+
 /// An unsigned integer type whose digits are written in every radix by the table writer.
 pub trait Radix: UnsignedInteger {
     /// Writes the digits of the number to the start of the buffer, and returns how many there are. The
@@ -167,7 +195,7 @@ pub trait Radix: UnsignedInteger {
         ensures short { result ≤ Self.BITS }
     {
         digit_count_within_bits(radix, self);
-        radix_counted(self, radix, buffer, &mut Turns::new())
+        radix_called(self, radix, buffer, &mut Turns::new())
     }
 }
 

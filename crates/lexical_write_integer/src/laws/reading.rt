@@ -1,9 +1,10 @@
-//! Laws on texts that std reads back. Formats with groups are left out: std reads no separators.
+//! Laws on texts that std reads back. Std reads no separators, so these are first left out of texts in groups.
 
-ghost use Rattle.std.specs.Prelude.{◌≡◌, ◌≤◌, None, pos};
+ghost use Rattle.std.specs.Prelude.{◌≡◌, ◌≤◌, List, None, ℕ, pos};
 ghost use Rattle.lexical_num.specs.Format.{IsRadix};
 ghost use Rattle.lexical_write_integer.specs.Digits.Padded.{IsPadded};
-ghost use Rattle.lexical_write_integer.specs.Texts.Read.{AreReadAs};
+ghost use Rattle.lexical_write_integer.specs.Texts.Groups.{without_separators};
+ghost use Rattle.lexical_write_integer.specs.Texts.Read.{AreReadAs, IsWithoutSeparators};
 ghost use Rattle.lexical_write_integer.specs.Texts.Text.{IsDigits, IsText};
 
 use lexical_num::format::NumberFormat;
@@ -16,6 +17,32 @@ pub fn text_read_back<T: LexicalInteger>(number: T, format: &NumberFormat)
     ensures { AreReadAs format.now.mantissa_radix (T.number number) (IsText (T.number number) format.now) }
 {
     format.in_range();
+}
+
+/// A law: without its separators the text of a number in any format, with groups or without, is read back in the same
+/// way. `without_separators` is `filter`, so a caller that leaves out the mark while it copies has this text.
+pub fn grouped_read_back<T: LexicalInteger>(number: T, format: &NumberFormat)
+    ensures { AreReadAs format.now.mantissa_radix (T.number number)
+        (IsWithoutSeparators format.now.digit_grouping (IsText (T.number number) format.now)) }
+{
+    format.in_range();
+}
+
+/// A law: in formats of one radix without groups, whatever else they require, one text belongs to one number.
+pub fn equal_across_formats<T: LexicalInteger, U: LexicalInteger>(
+    a: T,
+    b: U,
+    format: &NumberFormat,
+    other: &NumberFormat,
+)
+    requires plain { format.now.digit_grouping ≡ None }
+    requires bare { other.now.digit_grouping ≡ None }
+    requires radix { format.now.mantissa_radix ≡ other.now.mantissa_radix }
+    ensures { (text : List ℕ) → IsText (T.number a) format.now text → IsText (U.number b) other.now text
+        → T.number a ≡ U.number b }
+{
+    text_read_back(a, format);
+    text_read_back(b, other);
 }
 
 /// A law: std reads a number back from its digits, also in lowercase.

@@ -3,9 +3,10 @@
 //! Parts in a format string: `{}` of a part writes its text, with the sign, the width and the fill of the format. A
 //! part that is not valid is an error, and so is a [`Padded`](crate::parts::Padded) in no digits, or in more than 64.
 
+use crate::num::limits::is_radix;
 use crate::parts::fixed::{Fixed, GroupedFixed};
-use crate::parts::number::{Decimal, Formatted};
-use crate::parts::padded::Padded;
+use crate::parts::number::{Decimal, Digits, Formatted};
+use crate::parts::padded::{Padded, PaddedDigits};
 use crate::parts::part::Part;
 use crate::parts::plus::Plus;
 use crate::parts::powers_of_two::{Binary, Hex};
@@ -102,23 +103,55 @@ impl<T: Radix> fmt::Display for Binary<T> {
     }
 }
 
-impl<T: DigitCount + Radix> Padded<T> {
-    // Returns the text, or an error if the number does not fit in the width, or the width is not from 1 to 64.
+impl<T: DigitCount + Radix> Digits<T> {
+    // Returns the text, or an error if the radix is not from 2 to 36.
     #[inline]
     fn shown(self, buffer: &mut [u8; 64]) -> Result<&str, fmt::Error> {
-        if 64 < self.1 || self.1 < self.0.digit_count(10) {
+        if !is_radix(u64::from(self.0)) {
+            return Err(fmt::Error);
+        }
+        let text = self.to_str(buffer);
+        Ok(text)
+    }
+}
+
+impl<T: DigitCount + Radix> fmt::Display for Digits<T> {
+    #[inline]
+    fn fmt(&self, f: &mut fmt::Formatter<'_>) -> fmt::Result {
+        let mut buffer = [0; 64];
+        let text = Digits(self.0, self.1).shown(&mut buffer)?;
+        pad_number(f, false, false, text)
+    }
+}
+
+impl<T: DigitCount + Radix> PaddedDigits<T> {
+    // Returns the text, or an error if the radix is not from 2 to 36, the number does not fit in the width, or the width
+    // is not from 1 to 64.
+    #[inline]
+    fn shown(self, buffer: &mut [u8; 64]) -> Result<&str, fmt::Error> {
+        if !is_radix(u64::from(self.0)) {
+            return Err(fmt::Error);
+        }
+        if 64 < self.2 || self.2 < self.1.digit_count(self.0) {
             return Err(fmt::Error);
         }
         Ok(self.to_str(buffer))
     }
 }
 
-impl<T: DigitCount + Radix> fmt::Display for Padded<T> {
+impl<T: DigitCount + Radix> fmt::Display for PaddedDigits<T> {
     #[inline]
     fn fmt(&self, f: &mut fmt::Formatter<'_>) -> fmt::Result {
         let mut buffer = [0; 64];
-        let text = Padded(self.0, self.1).shown(&mut buffer)?;
+        let text = PaddedDigits(self.0, self.1, self.2).shown(&mut buffer)?;
         pad_number(f, false, false, text)
+    }
+}
+
+impl<T: DigitCount + Radix> fmt::Display for Padded<T> {
+    #[inline]
+    fn fmt(&self, f: &mut fmt::Formatter<'_>) -> fmt::Result {
+        fmt::Display::fmt(&PaddedDigits(10, self.0, self.1), f)
     }
 }
 

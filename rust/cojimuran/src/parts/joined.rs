@@ -4,6 +4,14 @@
 
 use crate::parts::own::Own;
 use crate::parts::part::Part;
+use crate::parts::shown::Shown;
+use core::fmt;
+
+// Returns what precedes the part at the index.
+#[inline(always)]
+fn separator_before(index: usize, separator: &str) -> &str {
+    if index == 0 { "" } else { separator }
+}
 
 // Writes what precedes the part at the index, which is nothing before the first part and otherwise the separator, and
 // then the part. Returns their length.
@@ -64,5 +72,22 @@ impl<P: Part> Part for Joined<'_, P> {
             }
         }
         true
+    }
+
+    #[inline(always)]
+    fn write_each(self, f: &mut fmt::Formatter<'_>, _own: Own) -> Option<fmt::Result> {
+        Some(self.write_parts(f))
+    }
+}
+
+impl<P: Part> Joined<'_, P> {
+    // Writes each part to a formatter, with the separator between adjacent parts.
+    #[inline(always)]
+    fn write_parts(self, f: &mut fmt::Formatter<'_>) -> fmt::Result {
+        for (index, part) in self.0.iter().enumerate() {
+            f.write_str(separator_before(index, self.1))?;
+            Shown(*part).write(f)?;
+        }
+        Ok(())
     }
 }

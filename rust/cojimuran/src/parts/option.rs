@@ -4,7 +4,9 @@
 
 use crate::parts::own::Own;
 use crate::parts::part::Part;
+use crate::parts::shown::Shown;
 use crate::write_integer::buffer::copy_to_front;
+use core::fmt;
 
 impl<P: Part> Part for Option<P> {
     #[inline]
@@ -28,6 +30,14 @@ impl<P: Part> Part for Option<P> {
         match self {
             Some(part) => part.is_known_utf8(own),
             None => true,
+        }
+    }
+
+    #[inline]
+    fn write_each(self, f: &mut fmt::Formatter<'_>, _own: Own) -> Option<fmt::Result> {
+        match self {
+            Some(part) => Some(Shown(part).write(f)),
+            None => Some(f.write_str("")),
         }
     }
 }
@@ -61,5 +71,13 @@ impl<P: Part, Q: Part> Part for OrElse<P, Q> {
     #[inline(always)]
     fn is_known_utf8(self, own: Own) -> bool {
         self.0.is_known_utf8(own) && self.1.is_known_utf8(own)
+    }
+
+    #[inline]
+    fn write_each(self, f: &mut fmt::Formatter<'_>, _own: Own) -> Option<fmt::Result> {
+        match self.0 {
+            Some(present) => Some(Shown(present).write(f)),
+            None => Some(Shown(self.1).write(f)),
+        }
     }
 }

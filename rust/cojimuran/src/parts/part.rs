@@ -4,13 +4,13 @@
 
 use crate::parts::own::Own;
 use crate::write_integer::buffer::front_mut;
+use core::fmt;
 use core::str::{from_utf8, from_utf8_unchecked};
 
 /// A value that has a text, such as a number or a `&str`. A tuple of parts is also a part, and its
 /// text consists of the texts of its elements, in order: `(250, " g")` writes `250 g`.
 ///
-/// For a `String` or a `&String` write `string.as_str()`, for a `bool` `if flag { "true" } else { "false" }`, and for a
-/// `char` the `&str` that `encode_utf8` returns.
+/// For a `String` or a `&String` write `string.as_str()`.
 ///
 /// A part is *valid* if it meets the condition of its type: a radix is from 2 to 36, and a padded number
 /// fits in its width. A part that contains parts is valid if they are valid. A part without a condition is
@@ -43,6 +43,19 @@ pub trait Part: Copy {
     #[inline(always)]
     fn is_known_utf8(self, _own: Own) -> bool {
         false
+    }
+
+    // Writes the text to a formatter, whatever its options are, if the part consists of parts, or has its text already.
+    // Otherwise returns `None`, and writes nothing.
+    #[doc(hidden)]
+    ///
+    /// # Panics
+    ///
+    /// If the part is not valid,
+    /// or if the text of the part is not UTF-8.
+    #[inline]
+    fn write_each(self, _f: &mut fmt::Formatter<'_>, _own: Own) -> Option<fmt::Result> {
+        None
     }
 
     /// Writes the text to the start of the buffer, and returns those bytes of the buffer, which the

@@ -6,7 +6,7 @@ use crate::parts::joined::write_next;
 use crate::parts::own::Own;
 use crate::parts::part::Part;
 use crate::tables::get_table;
-use crate::write_integer::radix::Radix;
+use crate::write_integer::radix::{Radix, constant_radix};
 
 /// The digits of an unsigned number in radix 16, without a prefix: `Hex(255u32)` writes `FF`. Its room
 /// is that of its type: 2 bytes for a `u8`, and 16 for a `u64`.
@@ -27,7 +27,7 @@ impl<T: Radix> Part for Hex<T> {
 
     #[inline(always)]
     fn write_to(self, buffer: &mut [u8]) -> usize {
-        self.0.radix(16, buffer)
+        constant_radix(self.0, 16, buffer)
     }
 
     #[inline(always)]
@@ -78,8 +78,12 @@ impl Part for HexByte {
     fn write_to(self, buffer: &mut [u8]) -> usize {
         let table = get_table(16);
         let index = 2 * usize::from(self.0);
-        buffer[0] = table[index];
-        buffer[1] = table[index + 1];
+        // Both characters are read first, so a compiler moves them as one number.
+        let (first, second) = (table[index], table[index + 1]);
+        // rustc tests the end of these bytes once.
+        let written = &mut buffer[..2];
+        written[1] = second;
+        written[0] = first;
         2
     }
 }

@@ -4,6 +4,7 @@
 
 use crate::parts::own::Own;
 use crate::parts::part::Part;
+use core::fmt;
 
 impl<P: Part> Part for &P {
     #[inline]
@@ -19,5 +20,10 @@ impl<P: Part> Part for &P {
     #[inline(always)]
     fn is_known_utf8(self, own: Own) -> bool {
         (*self).is_known_utf8(own)
+    }
+
+    #[inline]
+    fn write_each(self, f: &mut fmt::Formatter<'_>, own: Own) -> Option<fmt::Result> {
+        (*self).write_each(f, own)
     }
 }

@@ -1,10 +1,11 @@
 // Made by `strip` from crates/lexical_parts/src/text.rt. Edit that file, not this one.
 
-//! Parts that are strings or bytes, whose text is the same bytes.
+//! Parts that are strings or bytes, whose text is the same bytes, characters, and the words `true` and `false`.
 
 use crate::parts::own::Own;
 use crate::parts::part::Part;
 use crate::write_integer::buffer::copy_to_front;
+use core::fmt;
 use core::str::from_utf8;
 
 impl Part for &str {
@@ -16,6 +17,48 @@ impl Part for &str {
     #[inline(always)]
     fn write_to(self, buffer: &mut [u8]) -> usize {
         copy_to_front(self.as_bytes(), buffer)
+    }
+
+    #[inline(always)]
+    fn is_known_utf8(self, _own: Own) -> bool {
+        true
+    }
+
+    #[inline(always)]
+    fn write_each(self, f: &mut fmt::Formatter<'_>, _own: Own) -> Option<fmt::Result> {
+        Some(f.write_str(self))
+    }
+}
+
+impl Part for bool {
+    #[inline(always)]
+    fn room(self) -> usize {
+        5
+    }
+
+    #[inline(always)]
+    fn write_to(self, buffer: &mut [u8]) -> usize {
+        let text = if self { "true" } else { "false" };
+        text.write_to(buffer)
+    }
+
+    #[inline(always)]
+    fn is_known_utf8(self, _own: Own) -> bool {
+        true
+    }
+}
+
+impl Part for char {
+    #[inline(always)]
+    fn room(self) -> usize {
+        4
+    }
+
+    #[inline(always)]
+    fn write_to(self, buffer: &mut [u8]) -> usize {
+        let mut bytes = [0; 4];
+        let text: &str = self.encode_utf8(&mut bytes);
+        text.write_to(buffer)
     }
 
     #[inline(always)]
@@ -48,6 +91,14 @@ impl Part for Bytes<'_> {
     #[inline(always)]
     fn is_known_utf8(self, _own: Own) -> bool {
         from_utf8(self.0).is_ok()
+    }
+
+    #[inline(always)]
+    fn write_each(self, f: &mut fmt::Formatter<'_>, _own: Own) -> Option<fmt::Result> {
+        match from_utf8(self.0) {
+            Ok(text) => Some(f.write_str(text)),
+            Err(_) => None,
+        }
     }
 }
 

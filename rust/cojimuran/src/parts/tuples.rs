@@ -4,6 +4,8 @@
 
 use crate::parts::own::Own;
 use crate::parts::part::Part;
+use crate::parts::shown::Shown;
+use core::fmt;
 
 impl<A: Part, B: Part> Part for (A, B) {
     #[inline(always)]
@@ -20,6 +22,14 @@ impl<A: Part, B: Part> Part for (A, B) {
     #[inline(always)]
     fn is_known_utf8(self, own: Own) -> bool {
         self.0.is_known_utf8(own) && self.1.is_known_utf8(own)
+    }
+
+    #[inline(always)]
+    fn write_each(self, f: &mut fmt::Formatter<'_>, _own: Own) -> Option<fmt::Result> {
+        match Shown(self.0).write(f) {
+            Ok(()) => Some(Shown(self.1).write(f)),
+            Err(error) => Some(Err(error)),
+        }
     }
 }
 
@@ -38,6 +48,11 @@ impl<A: Part, B: Part, C: Part> Part for (A, B, C) {
     fn is_known_utf8(self, own: Own) -> bool {
         (self.0, (self.1, self.2)).is_known_utf8(own)
     }
+
+    #[inline(always)]
+    fn write_each(self, f: &mut fmt::Formatter<'_>, own: Own) -> Option<fmt::Result> {
+        (self.0, (self.1, self.2)).write_each(f, own)
+    }
 }
 
 impl<A: Part, B: Part, C: Part, D: Part> Part for (A, B, C, D) {
@@ -54,6 +69,11 @@ impl<A: Part, B: Part, C: Part, D: Part> Part for (A, B, C, D) {
     #[inline(always)]
     fn is_known_utf8(self, own: Own) -> bool {
         (self.0, (self.1, self.2, self.3)).is_known_utf8(own)
+    }
+
+    #[inline(always)]
+    fn write_each(self, f: &mut fmt::Formatter<'_>, own: Own) -> Option<fmt::Result> {
+        (self.0, (self.1, self.2, self.3)).write_each(f, own)
     }
 }
 
@@ -72,6 +92,11 @@ impl<A: Part, B: Part, C: Part, D: Part, E: Part> Part for (A, B, C, D, E) {
     fn is_known_utf8(self, own: Own) -> bool {
         (self.0, (self.1, self.2, self.3, self.4)).is_known_utf8(own)
     }
+
+    #[inline(always)]
+    fn write_each(self, f: &mut fmt::Formatter<'_>, own: Own) -> Option<fmt::Result> {
+        (self.0, (self.1, self.2, self.3, self.4)).write_each(f, own)
+    }
 }
 
 impl<A: Part, B: Part, C: Part, D: Part, E: Part, F: Part> Part for (A, B, C, D, E, F) {
@@ -89,6 +114,11 @@ impl<A: Part, B: Part, C: Part, D: Part, E: Part, F: Part> Part for (A, B, C, D,
     fn is_known_utf8(self, own: Own) -> bool {
         (self.0, (self.1, self.2, self.3, self.4, self.5)).is_known_utf8(own)
     }
+
+    #[inline(always)]
+    fn write_each(self, f: &mut fmt::Formatter<'_>, own: Own) -> Option<fmt::Result> {
+        (self.0, (self.1, self.2, self.3, self.4, self.5)).write_each(f, own)
+    }
 }
 
 impl<A: Part, B: Part, C: Part, D: Part, E: Part, F: Part, G: Part> Part for (A, B, C, D, E, F, G) {
@@ -105,6 +135,11 @@ impl<A: Part, B: Part, C: Part, D: Part, E: Part, F: Part, G: Part> Part for (A,
     #[inline(always)]
     fn is_known_utf8(self, own: Own) -> bool {
         (self.0, (self.1, self.2, self.3, self.4, self.5, self.6)).is_known_utf8(own)
+    }
+
+    #[inline(always)]
+    fn write_each(self, f: &mut fmt::Formatter<'_>, own: Own) -> Option<fmt::Result> {
+        (self.0, (self.1, self.2, self.3, self.4, self.5, self.6)).write_each(f, own)
     }
 }
 
@@ -128,6 +163,12 @@ impl<A: Part, B: Part, C: Part, D: Part, E: Part, F: Part, G: Part, H: Part> Par
         let (a, b, c, d, e, f, g, h) = self;
         (a, (b, c, d, e, f, g, h)).is_known_utf8(own)
     }
+
+    #[inline(always)]
+    fn write_each(self, f: &mut fmt::Formatter<'_>, own: Own) -> Option<fmt::Result> {
+        let (a, b, c, d, e, x, g, h) = self;
+        (a, (b, c, d, e, x, g, h)).write_each(f, own)
+    }
 }
 
 impl<A: Part, B: Part, C: Part, D: Part, E: Part, F: Part, G: Part, H: Part, I: Part> Part
@@ -150,6 +191,12 @@ impl<A: Part, B: Part, C: Part, D: Part, E: Part, F: Part, G: Part, H: Part, I: 
         let (a, b, c, d, e, f, g, h, i) = self;
         (a, (b, c, d, e, f, g, h, i)).is_known_utf8(own)
     }
+
+    #[inline(always)]
+    fn write_each(self, f: &mut fmt::Formatter<'_>, own: Own) -> Option<fmt::Result> {
+        let (a, b, c, d, e, x, g, h, i) = self;
+        (a, (b, c, d, e, x, g, h, i)).write_each(f, own)
+    }
 }
 
 impl<A: Part, B: Part, C: Part, D: Part, E: Part, F: Part, G: Part, H: Part, I: Part, J: Part> Part
@@ -171,6 +218,12 @@ impl<A: Part, B: Part, C: Part, D: Part, E: Part, F: Part, G: Part, H: Part, I: 
     fn is_known_utf8(self, own: Own) -> bool {
         let (a, b, c, d, e, f, g, h, i, j) = self;
         (a, (b, c, d, e, f, g, h, i, j)).is_known_utf8(own)
+    }
+
+    #[inline(always)]
+    fn write_each(self, f: &mut fmt::Formatter<'_>, own: Own) -> Option<fmt::Result> {
+        let (a, b, c, d, e, x, g, h, i, j) = self;
+        (a, (b, c, d, e, x, g, h, i, j)).write_each(f, own)
     }
 }
 
@@ -205,6 +258,12 @@ impl<
         let (a, b, c, d, e, f, g, h, i, j, k) = self;
         (a, (b, c, d, e, f, g, h, i, j, k)).is_known_utf8(own)
     }
+
+    #[inline(always)]
+    fn write_each(self, f: &mut fmt::Formatter<'_>, own: Own) -> Option<fmt::Result> {
+        let (a, b, c, d, e, x, g, h, i, j, k) = self;
+        (a, (b, c, d, e, x, g, h, i, j, k)).write_each(f, own)
+    }
 }
 
 impl<
@@ -238,5 +297,11 @@ impl<
     fn is_known_utf8(self, own: Own) -> bool {
         let (a, b, c, d, e, f, g, h, i, j, k, l) = self;
         (a, (b, c, d, e, f, g, h, i, j, k, l)).is_known_utf8(own)
+    }
+
+    #[inline(always)]
+    fn write_each(self, f: &mut fmt::Formatter<'_>, own: Own) -> Option<fmt::Result> {
+        let (a, b, c, d, e, x, g, h, i, j, k, l) = self;
+        (a, (b, c, d, e, x, g, h, i, j, k, l)).write_each(f, own)
     }
 }

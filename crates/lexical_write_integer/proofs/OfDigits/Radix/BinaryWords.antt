@@ -44,7 +44,7 @@ same [] (y ∷ ys) = false
 same (x ∷ xs) [] = false
 same (x ∷ xs) (y ∷ ys) = eqb x y && same xs ys
 
-abbrev all_below : (ℕ → Bool) → ℕ → Bool
+abbrev pub all_below : (ℕ → Bool) → ℕ → Bool
 all_below test zero = true
 all_below test (suc n) = test n && all_below test n
 
@@ -56,7 +56,7 @@ same-true (x ∷ xs) (y ∷ ys) h =
     let parts = and_parts (eqb x y) (same xs ys) h in
     rw (eqb-true x y parts.0, same-true xs ys parts.1) refl
 
-all_below-at : (test : ℕ → Bool) (n k : ℕ) → all_below test n ≡ true → k < n → test k ≡ true
+pub all_below-at : (test : ℕ → Bool) (n k : ℕ) → all_below test n ≡ true → k < n → test k ≡ true
 all_below-at test zero k h less = absurd (omega arith)
 all_below-at test (suc n) k h less =
     let parts = and_parts (test n) (all_below test n) h in

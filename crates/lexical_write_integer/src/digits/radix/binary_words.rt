@@ -5,8 +5,7 @@ ghost use Rattle.lexical_write_integer.specs.Buffer.{WritesBlock, WritesDigits};
 ghost use Rattle.lexical_write_integer.specs.Digits.DigitCount.{digit_count};
 ghost use Rattle.lexical_write_integer.specs.Digits.LoopTurns.{loop_notes, table_notes};
 
-use super::table_writer::{remove_four, remove_two};
-use crate::digits::count::digit_count_counted;
+use super::table_writer::{count_some, remove_four, remove_two};
 use crate::turns::Turns;
 
 // Writes the eight binary digits of a number below 256 at index `at`. Each byte of the product is the number, of which
@@ -24,7 +23,7 @@ fn write_eight_bits(bits: u64, buffer: &mut [u8], at: usize)
 
 // Records the quotients of a number of up to eight digits: by 16 if it has more than four, and then by 4 if more than
 // two are left.
-fn record_up_to_eight(number: u32, turns: &mut Turns)
+fn record_up_to_eight(number: u64, turns: &mut Turns)
     requires { number < 256 }
     ensures { turns.new ≡ turns.old ++ loop_notes 2 number }
 {
@@ -33,7 +32,7 @@ fn record_up_to_eight(number: u32, turns: &mut Turns)
         return;
     }
     let left = number / 16;
-    turns.tick(u64::from(left));
+    turns.tick(left);
     remove_two::<2>(left, turns);
 }
 
@@ -57,7 +56,7 @@ pub(super) fn write_binary(value: u64, buffer: &mut [u8], turns: &mut Turns) -> 
     ensures digits { WritesDigits 2 value buffer.old buffer.new result }
     ensures notes { turns.new ≡ turns.old ++ table_notes 2 value }
 {
-    let count = digit_count_counted(value, 2, turns);
+    let count = count_some(value, 2);
     let mut left = value;
     let mut at = count;
     while at > 16 {
@@ -66,8 +65,10 @@ pub(super) fn write_binary(value: u64, buffer: &mut [u8], turns: &mut Turns) -> 
         left = remove_eight(left, turns);
     }
     let rest = remove_eight(left, turns);
-    record_up_to_eight(rest as u32, turns);
-    write_eight_bits(rest << (16 - at), buffer, 0);
-    write_eight_bits(left % 256, buffer, at - 8);
+    record_up_to_eight(rest, turns);
+    // rustc tests the end of these bytes once.
+    let written = &mut buffer[..at];
+    write_eight_bits(rest << (16 - at), written, 0);
+    write_eight_bits(left % 256, written, at - 8);
     count
 }

@@ -60,22 +60,22 @@ fn write_four<const R: u32>(number: u32, table: RadixTable<'_, R>, buffer: &mut 
 }
 
 // Returns a number of up to four digits without its last two.
-pub(super) fn remove_two<const R: u32>(number: u32, turns: &mut Turns) -> u32
+pub(super) fn remove_two<const R: u32>(number: u64, turns: &mut Turns) -> u64
     requires radix { IsRadix R }
     requires short { number < R ^ 4 }
     ensures pair { result ≡ number / (R * R) }
     // The counter records what is left, unless it is 0.
     ensures notes { turns.new ≡ turns.old ++ loop_notes R number }
 {
-    let pair = number / (R * R);
+    let pair = number / u64::from(R * R);
     if pair > 0 {
-        turns.tick(u64::from(pair));
+        turns.tick(pair);
     }
     pair
 }
 
 // Records what is left of a number of up to four digits without its last two, as `remove_two` does.
-fn record_pair<const R: u32>(number: u32, turns: &mut Turns)
+fn record_pair<const R: u32>(number: u64, turns: &mut Turns)
     requires radix { IsRadix R }
     requires short { number < R ^ 4 }
     ensures { turns.new ≡ turns.old ++ loop_notes R number }
@@ -84,7 +84,7 @@ fn record_pair<const R: u32>(number: u32, turns: &mut Turns)
 }
 
 // Returns how many digits a number of three or four digits has.
-fn count_three_or_four(number: u32, radix: u32) -> usize
+fn count_three_or_four(number: u64, radix: u32) -> usize
     requires radix { IsRadix radix }
     requires more { radix ^ 2 ≤ number }
     requires short { number < radix ^ 4 }
@@ -92,13 +92,13 @@ fn count_three_or_four(number: u32, radix: u32) -> usize
     ensures three { 3 ≤ result }
     ensures four { result ≤ 4 }
 {
-    3 + usize::from(number >= radix * radix * radix)
+    3 + usize::from(number >= u64::from(radix * radix * radix))
 }
 
 // Writes the three or four digits of a number to the start of the buffer, and returns how many there are: the first
 // pair as two characters, of which the first is written over if it is a leading zero, and then the last pair.
 fn write_three_or_four<const R: u32>(
-    number: u32,
+    number: u64,
     table: RadixTable<'_, R>,
     buffer: &mut [u8],
     turns: &mut Turns,
@@ -112,19 +112,17 @@ fn write_three_or_four<const R: u32>(
     let count = count_three_or_four(number, R);
     // rustc tests the end of these bytes once.
     let written = &mut buffer[..count];
-    let first = 2 * remove_two::<R>(number, turns) as usize;
-    let pair = 2 * (number % (R * R)) as usize;
-    written[0] = table.pairs[first];
-    written[count - 3] = table.pairs[first + 1];
+    write_one_pair(remove_two::<R>(number, turns), count - 2, table, written);
+    let pair = 2 * (number as u32 % (R * R)) as usize;
     // Both bytes are read first, so a compiler moves them as one number.
     let (third, fourth) = (table.pairs[pair], table.pairs[pair + 1]);
-    written[count - 2] = third;
     written[count - 1] = fourth;
+    written[count - 2] = third;
     count
 }
 
 // Returns how many digits a number has that is not 0. Its logarithm is one instruction, which that of 0 is not.
-fn count_some(value: u64, radix: u32) -> usize
+pub(super) fn count_some(value: u64, radix: u32) -> usize
     requires radix { IsRadix radix }
     requires some { 0 < value }
     ensures count { result ≡ digit_count radix value }
@@ -159,7 +157,7 @@ fn write_counted<const R: u32>(
     ensures notes { turns.new ≡ turns.old ++ loop_notes R number }
 {
     if digits > 2 {
-        write_three_or_four(number, table, buffer, turns);
+        write_three_or_four(u64::from(number), table, buffer, turns);
     } else {
         write_one_or_two(number, digits, table, buffer);
     }
@@ -182,7 +180,7 @@ pub(super) fn write_after_count<const R: u32>(
     ensures loop_turns { loop_turns.new ≡ loop_turns.old ++ loop_notes R value }
 {
     if value < fourth_power(R) {
-        return write_three_or_four(value as u32, table, buffer, loop_turns);
+        return write_three_or_four(value, table, buffer, loop_turns);
     }
     let count = count_some(value, R);
     // So rustc tests the end of the buffer once.
@@ -201,7 +199,7 @@ pub(super) fn write_after_count<const R: u32>(
         left = remove_four::<R>(left, loop_turns);
     }
     if R == 1 << bits {
-        record_pair::<R>(left as u32, loop_turns);
+        record_pair::<R>(left, loop_turns);
         write_four(first, table, buffer, 0);
     } else {
         write_counted(left as u32, at, table, buffer, loop_turns);
@@ -225,16 +223,16 @@ fn count_one_or_two(number: u32, radix: u32, turns: &mut Turns) -> usize
 
 // Returns how many digits a number of one or two digits has: by a division unless the digits in the radix are counted
 // at once.
-fn count_short(number: u32, radix: u32, turns: &mut Turns) -> usize
+fn count_short(number: u64, radix: u32, turns: &mut Turns) -> usize
     requires radix { IsRadix radix }
     requires short { number < radix ^ 2 }
     ensures count { result ≡ digit_count radix number }
     ensures notes { turns.new ≡ turns.old ++ count_notes radix number }
 {
     if counts_at_once(radix) {
-        1 + usize::from(number >= radix)
+        1 + usize::from(number >= u64::from(radix))
     } else {
-        count_one_or_two(number, radix, turns)
+        count_one_or_two(number as u32, radix, turns)
     }
 }
 
@@ -261,7 +259,7 @@ fn write_one_or_two<const R: u32>(
 // Writes the one or two digits of a number as `write_one_or_two` does. It reads both characters as one number, in one
 // instruction, but into one of few registers, so it writes no part of a longer number.
 fn write_one_pair<const R: u32>(
-    number: u32,
+    number: u64,
     digits: usize,
     table: RadixTable<'_, R>,
     buffer: &mut [u8],
@@ -283,7 +281,7 @@ fn write_one_pair<const R: u32>(
 
 // Counts the one or two digits of a number, and writes them.
 pub(super) fn write_short<const R: u32>(
-    number: u32,
+    number: u64,
     table: RadixTable<'_, R>,
     buffer: &mut [u8],
     turns: &mut Turns,
@@ -312,7 +310,7 @@ pub(super) fn count_and_write_up_to_four<const R: u32>(
     ensures turns { turns.new ≡ turns.old ++ slow_notes R number }
     ensures loop_turns { loop_turns.new ≡ loop_turns.old ++ loop_notes R number }
 {
-    let pair = remove_two::<R>(number, loop_turns);
+    let pair = remove_two::<R>(u64::from(number), loop_turns) as u32;
     if pair == 0 {
         return count_and_write_one_or_two(number, table, buffer, turns);
     }

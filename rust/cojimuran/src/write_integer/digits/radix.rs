@@ -27,7 +27,7 @@ fn write_at_once<const R: u32>(number: u64, table: &[u8], buffer: &mut [u8]) -> 
     if R == 2 && number >= 256 {
         write_binary(number, buffer)
     } else if number < u64::from(R * R) {
-        write_short(number as u32, table, buffer)
+        write_short(number, table, buffer)
     } else {
         write_after_count(number, table, buffer)
     }
@@ -76,7 +76,7 @@ fn write_apart<T: UnsignedInteger, const R: u32>(value: T, buffer: &mut [u8]) ->
 fn write_short_or_apart<T: UnsignedInteger, const R: u32>(value: T, buffer: &mut [u8]) -> usize {
     let number = value.as_u64();
     if number < u64::from(R * R) {
-        return write_short(number as u32, RadixTable::<R>::new(), buffer);
+        return write_short(number, RadixTable::<R>::new(), buffer);
     }
     if T::BITS < 32 {
         return write_by_table::<T, R>(value, buffer);
@@ -93,6 +93,25 @@ pub(crate) fn radix_counted<T: UnsignedInteger>(value: T, radix: u32, buffer: &m
     by_radix!(radix, write_by_table or write_short_or_apart::<T>(value, buffer))
 }
 
+// Writes the digits as `radix_counted` does, by a call in each radix unless they are one or two. So a caller has little
+// code: if the radix is constant there, rustc has only the code of that radix in the caller, and otherwise calls this.
+#[inline]
+fn radix_called<T: UnsignedInteger>(value: T, radix: u32, buffer: &mut [u8]) -> usize {
+    by_radix!(radix, write_apart or write_short_or_apart::<T>(value, buffer))
+}
+
+/// Writes the digits of the number as `Radix::radix` does, by code that rustc has in each caller: the radix is to be
+/// constant there. It is from 2 to 36, and the buffer has room for the digits.
+///
+/// # Panics
+///
+/// If the radix is not from 2 to 36,
+/// or if the buffer is [too short](crate#conditions).
+#[inline(always)]
+pub fn constant_radix<T: UnsignedInteger>(value: T, radix: u32, buffer: &mut [u8]) -> usize {
+    radix_counted(value, radix, buffer)
+}
+
 /// An unsigned integer type whose digits are written in every radix by the table writer.
 pub trait Radix: UnsignedInteger {
     /// Writes the digits of the number to the start of the buffer, and returns how many there are. The
@@ -102,9 +121,9 @@ pub trait Radix: UnsignedInteger {
     ///
     /// If the radix is not from 2 to 36,
     /// or if the buffer is [too short](crate#conditions).
-    #[inline(always)]
+    #[inline]
     fn radix(self, radix: u32, buffer: &mut [u8]) -> usize {
-        radix_counted(self, radix, buffer)
+        radix_called(self, radix, buffer)
     }
 }
 

@@ -1,10 +1,13 @@
-use Rattle.std.proofs.Common.{◌≤◌, List, length, drop, set, ◌≡◌, ℕ, ◌*◌, ◌/◌, ◌%◌, ◌<◌, [], ◌∷◌, map, refl, arith, rules}
+use Rattle.std.proofs.Common.{◌≤◌, List, length, take, drop, set, ◌++◌, ◌≡◌, ℕ, ◌*◌, ◌/◌, ◌%◌, ◌<◌, [], ◌∷◌, map, refl, arith, rules}
 use Rattle.std.proofs.lemmas.List.Elements.{All-nil, All-cons}
 use Rattle.lexical_num.specs.Digit.{digit_char}
 use Rattle.lexical_parts.proofs.powers_of_two.HexBytePart.write_to.Goals as goal
 
-stores : (buffer : List ℕ) (x y : ℕ) → 2 ≤ length buffer → set (set buffer 0 x) 1 y ≡ x ∷ y ∷ drop 2 buffer
-stores buffer x y room = grind arith
+-- the second digit, and then the first
+stores : (buffer : List ℕ) (x y : ℕ) → 2 ≤ length buffer → set (set (take 2 buffer) 1 y) 0 x ++ drop 2 buffer ≡ x ∷ y ∷ drop 2 buffer
+stores [] x y room = absurd (omega arith)
+stores (a ∷ []) x y room = absurd (omega arith)
+stores (a ∷ b ∷ buffer) x y room = refl
 
 pub returns-clause-text : goal.returns-clause-text
 returns-clause-text c =

@@ -2,8 +2,7 @@
 
 // Writing binary digits, eight at a time, as the bytes of a word.
 
-use super::table_writer::remove_four;
-use crate::write_integer::digits::count::digit_count;
+use super::table_writer::{count_some, remove_four};
 
 // Writes the eight binary digits of a number below 256 at index `at`. Each byte of the product is the number, of which
 // the mask keeps another bit. The sum carries a bit that is set to bit 7 of its byte, and no further.
@@ -26,7 +25,7 @@ fn remove_eight(value: u64) -> u64 {
 // those, the first are written with zeros after them, eight characters in total, and then the last eight.
 #[inline]
 pub(super) fn write_binary(value: u64, buffer: &mut [u8]) -> usize {
-    let count = digit_count(value, 2);
+    let count = count_some(value, 2);
     let mut left = value;
     let mut at = count;
     while at > 16 {
@@ -35,7 +34,9 @@ pub(super) fn write_binary(value: u64, buffer: &mut [u8]) -> usize {
         left = remove_eight(left);
     }
     let rest = remove_eight(left);
-    write_eight_bits(rest << (16 - at), buffer, 0);
-    write_eight_bits(left % 256, buffer, at - 8);
+    // rustc tests the end of these bytes once.
+    let written = &mut buffer[..at];
+    write_eight_bits(rest << (16 - at), written, 0);
+    write_eight_bits(left % 256, written, at - 8);
     count
 }

@@ -36,41 +36,39 @@ fn write_four<const R: u32>(number: u32, table: RadixTable<'_, R>, buffer: &mut 
 
 // Returns a number of up to four digits without its last two.
 #[inline(always)]
-pub(super) fn remove_two<const R: u32>(number: u32) -> u32 {
-    number / (R * R)
+pub(super) fn remove_two<const R: u32>(number: u64) -> u64 {
+    number / u64::from(R * R)
 }
 
 // Returns how many digits a number of three or four digits has.
 #[inline(always)]
-fn count_three_or_four(number: u32, radix: u32) -> usize {
-    3 + usize::from(number >= radix * radix * radix)
+fn count_three_or_four(number: u64, radix: u32) -> usize {
+    3 + usize::from(number >= u64::from(radix * radix * radix))
 }
 
 // Writes the three or four digits of a number to the start of the buffer, and returns how many there are: the first
 // pair as two characters, of which the first is written over if it is a leading zero, and then the last pair.
-#[inline]
+#[inline(always)]
 fn write_three_or_four<const R: u32>(
-    number: u32,
+    number: u64,
     table: RadixTable<'_, R>,
     buffer: &mut [u8],
 ) -> usize {
     let count = count_three_or_four(number, R);
     // rustc tests the end of these bytes once.
     let written = &mut buffer[..count];
-    let first = 2 * remove_two::<R>(number) as usize;
-    let pair = 2 * (number % (R * R)) as usize;
-    written[0] = table.pairs[first];
-    written[count - 3] = table.pairs[first + 1];
+    write_one_pair(remove_two::<R>(number), count - 2, table, written);
+    let pair = 2 * (number as u32 % (R * R)) as usize;
     // Both bytes are read first, so a compiler moves them as one number.
     let (third, fourth) = (table.pairs[pair], table.pairs[pair + 1]);
-    written[count - 2] = third;
     written[count - 1] = fourth;
+    written[count - 2] = third;
     count
 }
 
 // Returns how many digits a number has that is not 0. Its logarithm is one instruction, which that of 0 is not.
 #[inline(always)]
-fn count_some(value: u64, radix: u32) -> usize {
+pub(super) fn count_some(value: u64, radix: u32) -> usize {
     let bits = fast_log2(radix);
     if radix == 1 << bits {
         let log2 = value.ilog2() as usize;
@@ -94,7 +92,7 @@ fn write_counted<const R: u32>(
     buffer: &mut [u8],
 ) {
     if digits > 2 {
-        write_three_or_four(number, table, buffer);
+        write_three_or_four(u64::from(number), table, buffer);
     } else {
         write_one_or_two(number, digits, table, buffer);
     }
@@ -110,7 +108,7 @@ pub(super) fn write_after_count<const R: u32>(
     buffer: &mut [u8],
 ) -> usize {
     if value < fourth_power(R) {
-        return write_three_or_four(value as u32, table, buffer);
+        return write_three_or_four(value, table, buffer);
     }
     let count = count_some(value, R);
     // So rustc tests the end of the buffer once.
@@ -146,11 +144,11 @@ fn count_one_or_two(number: u32, radix: u32) -> usize {
 // Returns how many digits a number of one or two digits has: by a division unless the digits in the radix are counted
 // at once.
 #[inline(always)]
-fn count_short(number: u32, radix: u32) -> usize {
+fn count_short(number: u64, radix: u32) -> usize {
     if counts_at_once(radix) {
-        1 + usize::from(number >= radix)
+        1 + usize::from(number >= u64::from(radix))
     } else {
-        count_one_or_two(number, radix)
+        count_one_or_two(number as u32, radix)
     }
 }
 
@@ -174,7 +172,7 @@ fn write_one_or_two<const R: u32>(
 // instruction, but into one of few registers, so it writes no part of a longer number.
 #[inline(always)]
 fn write_one_pair<const R: u32>(
-    number: u32,
+    number: u64,
     digits: usize,
     table: RadixTable<'_, R>,
     buffer: &mut [u8],
@@ -192,7 +190,7 @@ fn write_one_pair<const R: u32>(
 // Counts the one or two digits of a number, and writes them.
 #[inline(always)]
 pub(super) fn write_short<const R: u32>(
-    number: u32,
+    number: u64,
     table: RadixTable<'_, R>,
     buffer: &mut [u8],
 ) -> usize {
@@ -208,7 +206,7 @@ pub(super) fn count_and_write_up_to_four<const R: u32>(
     table: RadixTable<'_, R>,
     buffer: &mut [u8],
 ) -> usize {
-    let pair = remove_two::<R>(number);
+    let pair = remove_two::<R>(u64::from(number)) as u32;
     if pair == 0 {
         return count_and_write_one_or_two(number, table, buffer);
     }

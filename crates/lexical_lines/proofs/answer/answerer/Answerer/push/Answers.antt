@@ -3,6 +3,10 @@ use Rattle.std.proofs.lemmas.List.{take_all}
 use Rattle.std.proofs.lemmas.Result.{on_err_weaker}
 use Rattle.lexical_lines.proofs.answer.answerer.Answerer.push.Goals as goal
 
+-- the check finds this proof by itself, but with it the refusal of a mistake says what is wrong
+pub returns-clause-ok : goal.returns-clause-ok
+returns-clause-ok g c = c.push_all.ensures.ok
+
 pub returns-clause-err : goal.returns-clause-err
 returns-clause-err g c = on_err_weaker c.push_all.result (λ err before read h.
     let (front, some, begins, broke) = err before read h in

@@ -5,4 +5,4 @@ use Rattle.lexical_write_integer.proofs.digits.radix.binary_words.record_up_to_e
 pub returns : goal.returns
 returns c =
     loop_notes-after 2 c.args.number c.args.turns.now c.tick.new.self c.remove_two-2.new.turns (omega arith) c.if-number-lt16.false
-    (rw c.from.ensures at c.tick.ensures) c.remove_two-2.ensures.notes
+    c.tick.ensures c.remove_two-2.ensures.notes

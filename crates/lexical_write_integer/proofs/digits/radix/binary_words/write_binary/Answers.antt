@@ -1,9 +1,9 @@
-use Rattle.std.proofs.Common.{◌≡◌, ℕ, ◌+◌, ◌-◌, ◌*◌, ◌/◌, ◌%◌, ◌<◌, ◌≤◌, ◌^◌, ◌++◌, refl, sym, ap, subst, ◌∙◌, arith}
+use Rattle.std.proofs.Common.{◌≡◌, ℕ, ◌+◌, ◌-◌, ◌*◌, ◌/◌, ◌%◌, ◌<◌, ◌≤◌, ◌^◌, length, take, refl, sym, ap, subst, ◌∙◌, arith}
 use Rattle.std.proofs.Math.Nat.{mod-eq_of_lt}
 use Rattle.lexical_write_integer.specs.Buffer.{WritesBlock}
 use Rattle.lexical_write_integer.specs.Digits.DigitCount.{digit_count}
 use Rattle.lexical_write_integer.specs.Digits.LoopTurns.{loop_notes}
-use Rattle.lexical_write_integer.proofs.Buffers.Blocks.{IsWrittenBack-start, IsWrittenBack-at, IsWrittenBack-left, IsWrittenBack-more, IsWrittenBack-last}
+use Rattle.lexical_write_integer.proofs.Buffers.Blocks.{IsWrittenBack-start, IsWrittenBack-at, IsWrittenBack-left, IsWrittenBack-more, IsWrittenBack-last, WritesBlock-first}
 use Rattle.lexical_write_integer.proofs.Buffers.BlocksAfter.{WritesDigits-block}
 use Rattle.lexical_write_integer.proofs.OfDigits.Count.DigitCounts.{digit_count-fits, digit_count-more}
 use Rattle.lexical_write_integer.proofs.OfDigits.Radix.EightBits.{WritesBlock-overlap, shifted-lt}
@@ -15,13 +15,12 @@ use Rattle.lexical_write_integer.proofs.digits.radix.binary_words.write_binary.G
 pub loop-at-init : goal.loop-at-init
 loop-at-init c =
     let n = c.args.value in
-    let count = c.digit_count_counted-count.result in
+    let count = c.count_some-count.result in
     let none : count - count ≡ 0 = omega arith in
-    let same = c.digit_count_counted-count.ensures.notes ∙ sym (none_noted 2 n c.args.turns.now refl) in
     record {
-      noted = ap (λ ys. ys ++ loop_notes 2 n) same;
+      noted = refl;
       written = rw none IsWrittenBack-start;
-      more = omega (arith, c.digit_count_counted-count.ensures.count, digit_count-more 2 8 n (omega arith) c.requires.long);
+      more = omega (arith, c.count_some-count.ensures.count, digit_count-more 2 8 n (omega arith) c.requires.long);
       within = omega arith;
       room = refl;
     }
@@ -31,7 +30,7 @@ loop-at-init c =
 -- more than eight digits are left, in each iteration and after the last
 long : (c : In-loop-at) → 2 ^ 8 ≤ c.loop-at.left
 long c =
-    let counts = IsWrittenBack-left (omega arith) c.digit_count_counted-count.ensures.count c.loop-at.invariant.within c.loop-at.invariant.written in
+    let counts = IsWrittenBack-left (omega arith) c.count_some-count.ensures.count c.loop-at.invariant.within c.loop-at.invariant.written in
     longer-than 2 c.loop-at.left 8 (omega arith) (omega (arith, counts, c.loop-at.invariant.more))
 
 pub remove_eight-left-requires : goal.remove_eight-left-requires
@@ -40,7 +39,7 @@ remove_eight-left-requires c = omega (arith, long (goal.at.remove_eight-left-req
 pub loop-at-preserved : goal.loop-at-preserved
 loop-at-preserved c =
     let left = c.loop-at.left in
-    let count = c.digit_count_counted-count.result in
+    let count = c.count_some-count.result in
     let order : 8 + (count - c.loop-at.at) ≡ count - (c.loop-at.at - 8) = omega (arith, c.loop-at-test.true, c.loop-at.invariant.within) in
     let place : c.loop-at.at ≡ c.loop-at.at - 8 + 8 = omega (arith, c.loop-at-test.true) in
     let written = IsWrittenBack-at place c.loop-at.invariant.written in
@@ -58,7 +57,7 @@ loop-at-preserved c =
 
 count_left : (c : After-loop-at) → digit_count 2 c.loop-at.left ≡ c.loop-at.at
 count_left c =
-    IsWrittenBack-left (omega arith) c.digit_count_counted-count.ensures.count c.loop-at.invariant.within c.loop-at.invariant.written
+    IsWrittenBack-left (omega arith) c.count_some-count.ensures.count c.loop-at.invariant.within c.loop-at.invariant.written
 
 long_after : (c : After-loop-at) → 2 ^ 8 ≤ c.loop-at.left
 long_after c = longer-than 2 c.loop-at.left 8 (omega arith) (omega (arith, count_left c, c.loop-at.invariant.more))
@@ -68,9 +67,6 @@ remove_eight-rest-requires c = omega (arith, long_after (goal.at.remove_eight-re
 
 rest_short : (left end rest : ℕ) → rest ≡ left / 2 ^ 8 → digit_count 2 left ≡ end → end ≤ 16 → rest < 256
 rest_short left end rest is counts few = omega (arith, is, fits-within 2 left 16 (omega arith) (omega (arith, counts, few)))
-
-pub overflow_cast-rest : goal.overflow_cast-rest
-overflow_cast-rest c = grind (arith, rest_short, count_left)
 
 pub record_up_to_eight-requires : goal.record_up_to_eight-requires
 record_up_to_eight-requires c = grind (arith, rest_short, count_left)
@@ -89,13 +85,15 @@ returns c =
     let at = goal.at.returns c in
     let left = c.loop-at.left in
     let end = c.loop-at.at in
-    let count = c.digit_count_counted-count.result in
-    let is = c.digit_count_counted-count.ensures.count in
+    let count = c.count_some-count.result in
+    let is = c.count_some-count.ensures.count in
     let same : c.remove_eight-rest.result * 2 ^ (16 - end) % 2 ^ 64 ≡ left / 2 ^ 8 * 2 ^ (16 - end) =
     rw c.remove_eight-rest.ensures.left (mod-eq_of_lt (omega (arith, first_short at.After-loop-at))) in
-    let first = subst (λ m. WritesBlock 2 8 m 0 c.loop-at.buffer c.write_eight_bits-2.new.buffer) same c.write_eight_bits-2.ensures in
+    let first = subst (λ m. WritesBlock 2 8 m 0 (take end c.loop-at.buffer) c.write_eight_bits-2.new.buffer) same c.write_eight_bits-2.ensures in
     let more : 8 ≤ end = omega (arith, c.loop-at.invariant.more) in
-    let block = WritesBlock-overlap left end 8 8 more more (omega (arith, c.loop-at-test.false)) first c.write_eight_bits-3.ensures in
+    let fits : end ≤ length c.loop-at.buffer = omega (arith, is, c.requires.room, c.loop-at.invariant.within, c.loop-at.invariant.room) in
+    let block =
+    WritesBlock-first fits (WritesBlock-overlap left end 8 8 more more (omega (arith, c.loop-at-test.false)) first c.write_eight_bits-3.ensures) in
     let place : end ≡ 0 + end = omega arith in
     let whole : end + (count - end) ≡ count = omega (arith, c.loop-at.invariant.within) in
     let old = c.args.turns.now in

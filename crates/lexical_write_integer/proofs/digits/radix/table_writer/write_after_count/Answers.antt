@@ -48,18 +48,10 @@ short g c = fits-within g.row.R c.loop-at.left 4 c.args.table.is_radix.at_least_
 some_left : (g : _) (c : After-loop-at g) → 1 ≤ c.loop-at.at
 some_left g c = omega (arith, count_left g c, digit_count-pos g.row.R c.loop-at.left)
 
-pub overflow_cast-left : goal.overflow_cast-left
-overflow_cast-left g c =
-    omega (arith, short g (goal.at.overflow_cast-left g c).After-loop-at, power-small g.row.R 4 c.args.table.is_radix.at_most_36 takes_four)
-
 pub loop-at-init : goal.loop-at-init
 loop-at-init g c =
     let none : c.count_some-count.result - c.count_some-count.result ≡ 0 = omega arith in
     record { noted = refl; written = rw none IsWrittenBack-start; within = omega arith; room = refl }
-
-pub overflow_cast-value : goal.overflow_cast-value
-overflow_cast-value g c =
-    omega (arith, c.if-value-fourth_power.true, c.fourth_power.ensures.power, power-small g.row.R 4 c.args.table.is_radix.at_most_36 takes_four)
 
 -- ---- the first four digits, in a power of 2
 
@@ -125,9 +117,9 @@ returns-then-bits-2-clause-digits g c =
 
 -- ---- the digits that are left, in another radix
 
-pub overflow_cast-left-else-bits-2 : goal.overflow_cast-left-else-bits-2
-overflow_cast-left-else-bits-2 g c =
-    omega (arith, short g (goal.at.overflow_cast-left-else-bits-2 g c).After-loop-at, power-small g.row.R 4 c.args.table.is_radix.at_most_36 takes_four)
+pub overflow_cast-left : goal.overflow_cast-left
+overflow_cast-left g c =
+    omega (arith, short g (goal.at.overflow_cast-left g c).After-loop-at, power-small g.row.R 4 c.args.table.is_radix.at_most_36 takes_four)
 
 pub write_counted-requires : goal.write_counted-requires
 write_counted-requires g c =

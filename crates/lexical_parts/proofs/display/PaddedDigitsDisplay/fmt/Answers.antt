@@ -1,4 +1,4 @@
-use Rattle.lexical_parts.proofs.display.PaddedDisplay.fmt.Goals as goal
+use Rattle.lexical_parts.proofs.display.PaddedDigitsDisplay.fmt.Goals as goal
 
 -- the check finds this proof by itself, but with an answer the refusal of a mistake says what is wrong
 pub returns-clause-styled : goal.returns-clause-styled

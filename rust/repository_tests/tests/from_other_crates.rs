@@ -1,0 +1,65 @@
+//! What FROM_OTHER_CRATES.md of the package says to write. Each text there that is Rust is here too, so it compiles.
+
+use cojimuran::parts::{Digits, Lower, Padded, Part};
+use cojimuran::{
+    BUFFER_SIZE, Buffer, FormattedSize, NumberFormat, NumberFormatBuilder, Options, ToLexical, ToLexicalWithOptions,
+};
+
+const OPTIONS: Options = Options::new();
+const FORMAT: NumberFormat = NumberFormatBuilder::from_radix(36);
+const SIZE: usize = OPTIONS.buffer_size_const::<u64>(&FORMAT);
+
+#[rustfmt::skip]
+fn push<T: ToLexicalWithOptions<Options = Options>>(value: T, format: &NumberFormat) -> Vec<u8> {
+    let mut buffer = [0; BUFFER_SIZE];
+    value.to_lexical_with_options(&mut buffer, format, &OPTIONS).to_vec()
+}
+
+fn length(value: impl ToLexical) -> usize {
+    value.to_lexical(&mut [0; BUFFER_SIZE]).len()
+}
+
+#[test]
+fn from_lexical_write_integer() {
+    let number = 1000u64;
+    let mut buffer = [0; u64::FORMATTED_SIZE_DECIMAL];
+    assert_eq!(number.to_lexical(&mut buffer), b"1000");
+    let mut buffer = [0; SIZE];
+    assert_eq!(number.to_lexical_with_options(&mut buffer, &FORMAT, &OPTIONS), b"RS");
+    assert_eq!((push(-1i8, &FORMAT), length(-1i8)), (b"-1".to_vec(), 2));
+    assert_eq!(NumberFormatBuilder::new().radix(37).build().unwrap_err().to_string(), "invalid mantissa radix 37");
+    assert_eq!(Lower(Digits(36, number)).to_str(&mut buffer), "rs");
+}
+
+#[test]
+fn a_number_of_128_bits() {
+    let ten = 10u128.pow(19);
+    for wide in [ten, ten * 12 + 7, ten * u128::from(u64::MAX)] {
+        let (high, low) = ((wide / ten) as u64, (wide % ten) as u64);
+        assert_eq!((Digits(10, high), Padded(low, 19)).to_str(&mut [0; 39]), wide.to_string());
+    }
+}
+
+#[test]
+fn from_itoa() {
+    let (number, a, b) = (7u32, -1i64, 2i64);
+    let (mut output, mut text, mut buffer) = (Vec::new(), String::new(), [0; 64]);
+    assert_eq!(Buffer::new().format(number), "7");
+    output.extend_from_slice(number.to_lexical(&mut buffer));
+    text.push_str((a, ",", b, "\n").to_str(&mut buffer));
+    assert_eq!((output, text), (b"7".to_vec(), "-1,2\n".to_owned()));
+}
+
+#[test]
+fn each_text_of_the_page_is_here() {
+    let (page, here) = (include_str!("../../cojimuran/FROM_OTHER_CRATES.md"), include_str!("from_other_crates.rs"));
+    let (rows, _) = page.split_once("## From `std::to_chars`").unwrap();
+    let here: String = here.split_whitespace().collect();
+    let cells =
+        rows.lines().filter(|line| line.starts_with("| ")).skip(1).map(|line| line.rsplit(" | ").next().unwrap());
+    let texts: Vec<&str> = cells.flat_map(|cell| cell.split('`').skip(1).step_by(2)).collect();
+    let code = texts.iter().filter(|text| text.contains(['(', '&', '[', '='])).copied();
+    let missing = code.filter(|text| !here.contains(&text.split_whitespace().collect::<String>()));
+    assert_eq!(missing.collect::<Vec<_>>(), Vec::<&str>::new());
+    assert!(texts.len() > 15);
+}
