@@ -36,6 +36,8 @@ pub mod Splits
 pub mod EqualWidths
 -- texts at an index of a buffer
 pub mod TextsAtIndex
+-- where a text ends
+pub mod Ends
 -- numbers of units as the prover computes their texts
 pub mod FixedTexts
 -- numbers of units without their point, which std reads

@@ -1,13 +1,16 @@
 //! Laws on texts in a row: what equal texts have in common, and which of two texts is the earlier one.
 
 ghost use Rattle.std.specs.Prelude.{◌≡◌, ◌≢◌, ◌<◌, ◌∷◌, [], All, List, ℕ, length};
+ghost use Rattle.lexical_num.specs.Format.{IsRadix};
 ghost use Rattle.lexical_write_integer.specs.Order.{IsEarlier};
 ghost use Rattle.lexical_write_integer.specs.Padded.{IsPadded};
 ghost use Rattle.lexical_write_integer.specs.Sequence.{IsExactly};
+ghost use Rattle.lexical_write_integer.specs.Text.{IsDigits};
 ghost use Rattle.lexical_parts.specs.InCommon.{HaveInCommon};
 ghost use Rattle.lexical_parts.specs.Sequence.{◌then◌};
 
 use crate::part::Part;
+use lexical_write_integer::laws::{equal_digits, equal_padded};
 
 /// A law: if each text of `a` and of `b` has `count` bytes, and a text is `a` and then `p`, and also `b` and then `q`,
 /// then `a` and `b` have a text in common, and so have `p` and `q`. With a law that says which numbers have the same
@@ -36,3 +39,19 @@ pub fn padded_decides<P: Part, Q: Part>(radix: u32, width: usize, a: u64, b: u64
     ensures { (s t : List ℕ) → (IsPadded radix width a then P.is_text p) s
         → (IsPadded radix width b then Q.is_text q) t → IsEarlier s t }
 {}
+
+/// A law: two numbers that have digits in common, as `same_parts` and `same_split` say of texts, are equal.
+pub fn common_digits(radix: u32, a: u64, b: u64)
+    requires { IsRadix radix }
+    ensures { HaveInCommon (IsDigits radix a) (IsDigits radix b) → a ≡ b }
+{
+    equal_digits(radix, a, b);
+}
+
+/// A law: so are two numbers that have padded digits in common.
+pub fn common_padded(radix: u32, width: usize, a: u64, b: u64)
+    requires { IsRadix radix }
+    ensures { HaveInCommon (IsPadded radix width a) (IsPadded radix width b) → a ≡ b }
+{
+    equal_padded(radix, width, a, b);
+}

@@ -35,6 +35,7 @@ mod cell;
 mod column;
 mod display;
 mod equal;
+mod field;
 mod fill;
 mod fixed;
 mod fixed_reading;
@@ -60,7 +61,8 @@ mod zero_padded;
 
 pub use buffer::Buffer;
 pub use column::{Center, Left, Right};
-pub use equal::{padded_decides, same_parts, same_split};
+pub use equal::{common_digits, common_padded, padded_decides, same_parts, same_split};
+pub use field::write_field;
 pub use fixed::{Fixed, GroupedFixed};
 pub use fixed_reading::fixed_read_back;
 pub use joined::{Joined, rooms_at_most};

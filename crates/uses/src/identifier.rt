@@ -5,10 +5,9 @@ ghost use Rattle.lexical_write_integer.specs.Padded.{IsPadded};
 ghost use Rattle.lexical_write_integer.specs.Text.{IsDigits};
 ghost use Rattle.uses.specs.Link.{IsLink, IsUserLink};
 
-use lexical_parts::{Digits, PaddedDigits, Part, same_parts};
+use lexical_parts::{Digits, PaddedDigits, Part, common_digits, common_padded, same_parts};
 use lexical_write_integer::laws::{
-    different_digits, digit_count_at_most, digits_equal_iff, equal_digits, equal_padded,
-    padded_order,
+    different_digits, digit_count_at_most, digits_equal_iff, equal_digits, padded_order,
 };
 use lexical_write_integer::radix::Radix;
 use std::cmp::Ordering;
@@ -42,7 +41,7 @@ pub fn same_link(a: u64, b: u64)
     ensures { (link : List ℕ) → IsLink a link → IsLink b link → a ≡ b }
 {
     same_parts("/l/", "/l/", 3, Digits(36, a), Digits(36, b));
-    same_counter(a, b);
+    common_digits(36, a, b);
 }
 
 /// A law: two users with equal links, `/u/` and eight digits in radix 36, are equal.
@@ -56,7 +55,7 @@ pub fn same_user(a: u64, b: u64)
         PaddedDigits(36, a, 8),
         PaddedDigits(36, b, 8),
     );
-    equal_padded(36, 8, a, b);
+    common_padded(36, 8, a, b);
 }
 
 /// A law: two different orders have different codes, which are their digits in radix 32.

@@ -1,0 +1,28 @@
+//! Texts at fixed places of a record.
+
+ghost use Rattle.std.specs.Prelude.{◌≡◌, ◌+◌, ◌≤◌, List, drop, length, slice_range, take, ℕ};
+
+use crate::part::Part;
+
+/// Writes a part, each of whose texts has `count` bytes, to the field of this length at the index of a record. No other
+/// byte of the buffer changes. The part must be valid, and the buffer must have the field.
+///
+/// ```
+/// use lexical_parts::{PaddedDigits, write_field};
+///
+/// let mut record = *b"size:....;";
+/// write_field(PaddedDigits(8, 420u16, 4), 5, 4, &mut record);
+/// assert_eq!(rt; record, *b"size:0644;");
+/// ```
+pub fn write_field<P: Part>(part: P, index: usize, count: usize, buffer: &mut [u8])
+    requires valid { P.is_valid part }
+    requires room { P.room part ≤ count }
+    requires width { (text : List ℕ) → P.is_text part text → length text ≡ count }
+    requires inside { index + count ≤ length buffer.old }
+    ensures field { P.is_text part (slice_range buffer.new index (index + count)) }
+    ensures before { take index buffer.new ≡ take index buffer.old }
+    ensures after { drop (index + count) buffer.new ≡ drop (index + count) buffer.old }
+    ensures same_length { length buffer.new ≡ length buffer.old }
+{
+    part.write_at(index, buffer);
+}
