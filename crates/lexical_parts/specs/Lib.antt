@@ -1,3 +1,4 @@
+pub mod Cell
 pub mod Column
 pub mod Fixed
 pub mod Formatted
@@ -9,5 +10,6 @@ pub mod Scientific
 pub mod Sequence
 pub mod ShownParts
 pub mod Utf8
+pub mod Word
 pub mod Without
 pub mod ZeroPadded

@@ -10,6 +10,7 @@ ghost use Rattle.lexical_write_integer.specs.Computed.{digits_text, padded_text,
 ghost use Rattle.lexical_write_integer.specs.Groups.{grouped};
 ghost use Rattle.lexical_parts.specs.Fixed.{fixed_text, units_text};
 
+use crate::cell::{is_short_cell, write_cell};
 use crate::fixed::{Fixed, GroupedFixed};
 use crate::number::{Decimal, Digits, Formatted, formatted_room_suffices};
 use crate::padded::{Padded, PaddedDigits};
@@ -45,6 +46,32 @@ fn pad_with_plus<W: fmt::Write>(f: &mut fmt::Formatter<W>, text: &str) -> fmt::R
     f.write_str(digits)
 }
 
+// Writes a text as `pad_number` does, in a format with a width or another option. It is cold, and so not inlined:
+// otherwise a number in `{}` would save registers that only this needs.
+#[cold]
+fn pad_with_options<W: fmt::Write>(
+    f: &mut fmt::Formatter<W>,
+    is_negative: bool,
+    has_plus: bool,
+    text: &str,
+) -> fmt::Result
+    requires { text.now ≡ sign_text_with has_plus is_negative
+        ++ drop (length (sign_text_with has_plus is_negative)) text.now }
+    ensures { WritesStyledOnOk W.write_str_gives f.old result
+        (padded_integral (if has_plus then record (formatter_spec f.old) { plus = true } else formatter_spec f.old)
+        is_negative [] (drop (length (sign_text_with has_plus is_negative)) text.now)) f.new }
+{
+    if is_short_cell(f, text) {
+        write_cell(f, text)
+    } else if is_negative {
+        f.pad_integral(false, "", &text[1..])
+    } else if has_plus {
+        pad_with_plus(f, text)
+    } else {
+        f.pad_integral(true, "", text)
+    }
+}
+
 // Writes a text, which begins with `-` if the number is negative, and otherwise with `+` if it has one, as the standard
 // library writes an integer.
 fn pad_number<W: fmt::Write>(
@@ -62,12 +89,8 @@ fn pad_number<W: fmt::Write>(
 {
     if f.width().is_none() && !f.sign_plus() && !f.alternate() {
         f.write_str(text)
-    } else if is_negative {
-        f.pad_integral(false, "", &text[1..])
-    } else if has_plus {
-        pad_with_plus(f, text)
     } else {
-        f.pad_integral(true, "", text)
+        pad_with_options(f, is_negative, has_plus, text)
     }
 }
 
@@ -156,9 +179,9 @@ impl<T: DigitCount + Radix> Digits<T> {
             return Err(fmt::Error);
         }
         digit_count_within_bits(self.0, self.1);
-        let text = self.to_str(buffer);
-        digits_computed(self.0, self.1.as_u64(), text.as_bytes());
-        Ok(text)
+        let digits = self.to_str(buffer);
+        digits_computed(self.0, self.1.as_u64(), digits.as_bytes());
+        Ok(digits)
     }
 }
 

@@ -1,10 +1,11 @@
 //! Parts that are strings or bytes, whose text is the same bytes, characters, and the words `true` and `false`.
 #![tactic(auto, using(crate::proofs::Utf8Texts::kinds))]
 
-ghost use Rattle.std.specs.Prelude.{ℕ, [], ◌∷◌, ◌<◌, codes, encode_utf8, if◌then◌else◌, length};
+ghost use Rattle.std.specs.Prelude.{◌≡◌, ◌<◌, ℕ, [], ◌∷◌, encode_utf8, length};
 ghost use Rattle.std.specs.Str.{IsUtf8};
 ghost use Rattle.lexical_write_integer.specs.Sequence.{IsExactly};
 ghost use Rattle.lexical_parts.specs.Utf8.{AreUtf8};
+ghost use Rattle.lexical_parts.specs.Word.{word};
 
 use crate::own::Own;
 use crate::part::Part;
@@ -43,8 +44,15 @@ impl Part for &str {
     }
 }
 
+// Returns `true` or `false`.
+fn word(flag: bool) -> &'static str
+    ensures { result.now ≡ word flag }
+{
+    if flag { "true" } else { "false" }
+}
+
 impl Part for bool {
-    ghost is_text = { λ flag. IsExactly (if flag then codes "true" else codes "false") };
+    ghost is_text = { λ flag. IsExactly (word flag) };
 
     ghost room = { λ _. 5 };
 
@@ -53,7 +61,7 @@ impl Part for bool {
     }
 
     fn write_to(self, buffer: &mut [u8]) -> usize {
-        let text = if self { "true" } else { "false" };
+        let text = word(self);
         str_is_utf8(text);
         text.write_to(buffer)
     }

@@ -122,6 +122,7 @@ fn short_buffers_of_each_function(called: &mut Vec<Panicking>) {
 /// Returns each function of the package whose documentation says when it panics, with each of these conditions.
 fn documented() -> Vec<(String, String)> {
     let mut folders = vec![Path::new(env!("CARGO_MANIFEST_DIR")).join("../cojimuran/src")];
+    let exported = concat!(include_str!("../../cojimuran/src/lib.rs"), include_str!("../../cojimuran/src/parts.rs"));
     let mut found = Vec::new();
     while let Some(folder) = folders.pop() {
         for path in fs::read_dir(folder).unwrap().map(|entry| entry.unwrap().path()) {
@@ -130,7 +131,12 @@ fn documented() -> Vec<(String, String)> {
                 continue;
             }
             for after in fs::read_to_string(&path).unwrap().split("# Panics\n").skip(1) {
-                let name = after.split_once("fn ").unwrap().1.split(['(', '<']).next().unwrap();
+                let (before, rest) = after.split_once("fn ").unwrap();
+                let name = rest.split(['(', '<']).next().unwrap();
+                // A function without a `self` of which nothing is exported has no callers.
+                if before.ends_with("\npub ") && !exported.contains(name) {
+                    continue;
+                }
                 let comment = after.lines().map_while(|line| line.trim_start().strip_prefix("///")).collect::<String>();
                 let sentence = comment.split('.').next().unwrap().replace("[too short](crate#conditions)", "too short");
                 let conditions = sentence.trim().strip_prefix("If ").unwrap().split(", or if ");

@@ -24,7 +24,11 @@ pub(crate) fn with_additions(
             let is_same = |other: &&Function| other.name == name || other.name == format!("{name}_counted");
             let found = made.next().zip(required.find(is_same));
             let (function, required) = found.ok_or_else(|| format!("{name} is in another order"))?;
-            for added in additions(function, required, file, source, known)? {
+            // What is hidden has no documentation.
+            let is_hidden = written.ends_with("#[doc(hidden)]\n");
+            let mut added = additions(function, required, file, source, known)?;
+            added.retain(|added| !is_hidden || !added.starts_with("///"));
+            for added in added {
                 written += &format!("{indent}{}\n", added.replace('\n', &format!("\n{indent}")));
             }
             if line.trim_start().starts_with("pub fn ") && has(source.constant, name) {

@@ -58,6 +58,8 @@ pub(crate) const WRITE_INTEGER: Replaced = &[
 ];
 
 pub(crate) const PARTS: Replaced = &[
+    // In Rattle what allocates takes an allocator.
+    (".to_string(alloc)?", ".to_string()"),
     // Parts can be keys and compared, as values of std can.
     ("#[derive(Clone, Copy, Debug, Drop)]", "#[derive(Clone, Copy, PartialEq, Eq, Hash, Debug)]"),
     // rustc proves nothing, so a debug build checks.

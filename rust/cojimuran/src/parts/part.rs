@@ -48,11 +48,6 @@ pub trait Part: Copy {
     // Writes the text to a formatter, whatever its options are, if the part consists of parts, or has its text already.
     // Otherwise returns `None`, and writes nothing.
     #[doc(hidden)]
-    ///
-    /// # Panics
-    ///
-    /// If the part is not valid,
-    /// or if the text of the part is not UTF-8.
     #[inline]
     fn write_each(self, _f: &mut fmt::Formatter<'_>, _own: Own) -> Option<fmt::Result> {
         None

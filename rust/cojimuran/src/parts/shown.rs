@@ -23,7 +23,7 @@ use core::fmt;
 /// use cojimuran::parts::{Hex, Shown};
 ///
 /// let line = ("id=", 7u8, " flags=0x", Hex(255u16));
-/// assert_eq!(Shown(line).to_string(alloc)?, "id=7 flags=0xFF");
+/// assert_eq!(Shown(line).to_string(), "id=7 flags=0xFF");
 /// ```
 #[derive(Clone, Copy, PartialEq, Eq, Hash, Debug)]
 pub struct Shown<P>(pub P);

@@ -30,6 +30,12 @@ impl Part for &str {
     }
 }
 
+// Returns `true` or `false`.
+#[inline(always)]
+fn word(flag: bool) -> &'static str {
+    if flag { "true" } else { "false" }
+}
+
 impl Part for bool {
     #[inline(always)]
     fn room(self) -> usize {
@@ -38,7 +44,7 @@ impl Part for bool {
 
     #[inline(always)]
     fn write_to(self, buffer: &mut [u8]) -> usize {
-        let text = if self { "true" } else { "false" };
+        let text = word(self);
         text.write_to(buffer)
     }
 
