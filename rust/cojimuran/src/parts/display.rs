@@ -143,8 +143,8 @@ impl<T: DigitCount + Radix> fmt::Display for Digits<T> {
 }
 
 impl<T: DigitCount + Radix> PaddedDigits<T> {
-    // Returns the text, or an error if the radix is not from 2 to 36, the number does not fit in the width, or the width
-    // is not from 1 to 64.
+    // Returns the text, or an error if the radix is not from 2 to 36, the number does not fit in the width, or the
+    // width is not from 1 to 64.
     #[inline]
     fn shown(self, buffer: &mut [u8; 64]) -> Result<&str, fmt::Error> {
         if !is_radix(u64::from(self.0)) {
