@@ -144,8 +144,8 @@ extern "C" {
  * major number, plus 1000 times the minor number, plus the patch number. The
  * major number is also that of the name liblexical_c.so.3.
  */
-#define LEXICAL_VERSION_STRING "3.1.0"
-#define LEXICAL_VERSION 3001000
+#define LEXICAL_VERSION_STRING "3.1.1"
+#define LEXICAL_VERSION 3001001
 #define LEXICAL_VERSION_MAJOR (LEXICAL_VERSION / 1000000)
 #define LEXICAL_VERSION_MINOR (LEXICAL_VERSION / 1000 % 1000)
 #define LEXICAL_VERSION_PATCH (LEXICAL_VERSION % 1000)

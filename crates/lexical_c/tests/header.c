@@ -1,7 +1,7 @@
 /*
- * Compares the header with the library: the type of each function, each constant,
- * and the layout of a format; and runs the examples of the header. This program
- * is compiled as C99 and as C++17.
+ * Compares the header with the library: the type of each function, the size of a format, the examples, and the function
+ * that lexical_decimal, lexical_write and lexical_length choose by the type of a value. It is compiled as each standard
+ * from C99 and C++98 on. With WRONG_TEXT it must fail, and with REFUSED, a call that a type lacks, it must not compile.
  */
 #include "lexical.h"
 #include "types.h"
@@ -21,108 +21,44 @@ static int is_wrong(int is_right, const char *what)
     return !is_right;
 }
 
-/* Each function, as a pointer of the type that it must have. */
-typedef const struct lexical_format *format_pointer;
-static uint32_t (*const version)(void) = lexical_version;
-static uint32_t (*const check_format)(format_pointer) = lexical_check_format;
-
-#define FUNCTIONS(NAME, CONSTANT, TYPE)                                        \
-    static size_t (*const decimal_##NAME)(TYPE, char *, size_t)                \
-        = lexical_decimal_##NAME;                                              \
-    static size_t (*const write_##NAME)(TYPE, format_pointer, char *, size_t)  \
-        = lexical_write_##NAME;                                                \
-    static size_t (*const length_##NAME)(TYPE, format_pointer)                 \
-        = lexical_length_##NAME;                                               \
-    static size_t (*const buffer_size_##NAME)(format_pointer)                  \
-        = lexical_buffer_size_##NAME;                                          \
-    /* Calls each once, with the largest number of the type, or with -1. */    \
-    static int check_##NAME(void)                                              \
-    {                                                                          \
-        char buffer[LEXICAL_BUFFER_SIZE];                                      \
-        TYPE value = (TYPE)~(TYPE)0;                                           \
-        size_t count = write_##NAME(value, &lexical_standard_format, buffer,   \
-                                    sizeof buffer);                            \
-        size_t most = buffer_size_##NAME(&lexical_standard_format);            \
-        return is_wrong(count == length_##NAME(value, &lexical_standard_format) \
-                        && count == decimal_##NAME(value, buffer, count)       \
-                        && count <= most, "lexical_write_" #NAME);             \
-    }
-FOR_EACH_TYPE(FUNCTIONS)
-
-/* Returns the largest buffer size of a type in any format. */
-static size_t largest_size(size_t (*buffer_size)(format_pointer))
-{
-    size_t largest = 0;
-    struct lexical_format format = FORMAT(0, 0, 0, ',');
-    for (format.radix = 0; format.radix < 40; format.radix++)
-        for (format.group_size = 0; format.group_size < 70; format.group_size++)
-            for (format.required_sign = 0; format.required_sign < 2; format.required_sign++) {
-                size_t size = buffer_size(&format);
-                largest = size > largest ? size : largest;
-            }
-    return largest;
+/* Each function has this type, and in C++ it is known not to throw. */
+#if !defined(__cplusplus) || __cplusplus >= 201103L
+#ifdef __cplusplus
+#define NOEXCEPT noexcept
+extern "C" {
+#else
+#define NOEXCEPT
+#endif
+#define DECLARE(NAME, CONSTANT, TYPE)                                          \
+    size_t lexical_decimal_##NAME(TYPE, char *, size_t) NOEXCEPT;              \
+    size_t lexical_write_##NAME(TYPE, const struct lexical_format *, char *, size_t) NOEXCEPT; \
+    size_t lexical_length_##NAME(TYPE, const struct lexical_format *) NOEXCEPT; \
+    size_t lexical_buffer_size_##NAME(const struct lexical_format *) NOEXCEPT;
+FOR_EACH_TYPE(DECLARE)
+uint32_t lexical_version(void) NOEXCEPT;
+uint32_t lexical_check_format(const struct lexical_format *) NOEXCEPT;
+#ifdef __cplusplus
 }
+#endif
+#endif
 
-static int check_sizes(void)
-{
-    size_t largest = 0;
-    int wrong = 0;
-#define SIZES(NAME, CONSTANT, TYPE)                                            \
-    wrong += is_wrong(largest_size(buffer_size_##NAME)                         \
-                      == LEXICAL_BUFFER_SIZE_##CONSTANT,                       \
-                      "LEXICAL_BUFFER_SIZE_" #CONSTANT);                       \
-    wrong += is_wrong(buffer_size_##NAME(&lexical_standard_format)             \
-                      == LEXICAL_BUFFER_SIZE_DECIMAL_##CONSTANT,               \
-                      "LEXICAL_BUFFER_SIZE_DECIMAL_" #CONSTANT);               \
-    if (largest_size(buffer_size_##NAME) > largest)                            \
-        largest = largest_size(buffer_size_##NAME);                            \
-    wrong += check_##NAME();
-    FOR_EACH_TYPE(SIZES)
-    return wrong + is_wrong(largest == LEXICAL_BUFFER_SIZE, "LEXICAL_BUFFER_SIZE");
-}
-
-static int check_formats(void)
+static int check_format(void)
 {
     static const struct lexical_format STANDARD = LEXICAL_STANDARD_FORMAT;
-    static const struct lexical_format RADIX = FORMAT(37, 0, 3, ',');
-    static const struct lexical_format GROUP_SIZE = FORMAT(36, 0, 65, ',');
-    static const struct lexical_format GROUP_MARK = FORMAT(36, 0, 64, 'z');
-    struct lexical_format reserved = LEXICAL_STANDARD_FORMAT;
-    reserved.reserved[1] = 1;
-    int wrong = 0;
-    wrong += is_wrong(sizeof STANDARD == 28, "the size of a format");
-    wrong += is_wrong(check_format(&STANDARD) == 0, "LEXICAL_STANDARD_FORMAT");
-    wrong += is_wrong(check_format(&RADIX) == LEXICAL_INVALID_RADIX, "LEXICAL_INVALID_RADIX");
-    wrong += is_wrong(check_format(&GROUP_SIZE) == LEXICAL_INVALID_GROUP_SIZE, "LEXICAL_INVALID_GROUP_SIZE");
-    wrong += is_wrong(check_format(&GROUP_MARK) == LEXICAL_INVALID_GROUP_MARK, "LEXICAL_INVALID_GROUP_MARK");
-    wrong += is_wrong(check_format(&reserved) == LEXICAL_INVALID_RESERVED, "LEXICAL_INVALID_RESERVED");
-    return wrong;
-}
-
-/* The library reads each field from its own position: in radix 16, 0xa0 is "+a,0". */
-static int check_fields(void)
-{
-    struct lexical_format format = LEXICAL_STANDARD_FORMAT;
-    char buffer[4];
-    format.radix = 16;
-    format.required_sign = 1;
-    format.group_size = 1;
-    format.mark = ',';
-    format.lowercase = 1;
-    size_t count = write_u8(0xa0, &format, buffer, sizeof buffer);
-    return is_wrong(count == 4 && memcmp(buffer, "+a,0", 4) == 0, "the fields of a format");
+    return is_wrong(sizeof STANDARD == 28, "the size of a format")
+        + is_wrong(lexical_check_format(&STANDARD) == 0, "LEXICAL_STANDARD_FORMAT");
 }
 
 /* A format is set to zeros as the header says, without a warning. */
 static int check_zero_format(void)
 {
     struct lexical_format format = FORMAT(10, 1, 3, ',');
-#ifdef __cplusplus
+#if defined(__cplusplus) && __cplusplus >= 201103L
     format = {};
 #else
     memset(&format, 0, sizeof format);
 #endif
-    return is_wrong(check_format(&format) == LEXICAL_INVALID_RADIX && format.mark == 0, "a format of zeros");
+    return is_wrong(lexical_check_format(&format) == LEXICAL_INVALID_RADIX && format.mark == 0, "a format of zeros");
 }
 
 /* The first two examples of the header, and that of a format as an argument. */
@@ -130,13 +66,18 @@ static int check_examples(void)
 {
     char buffer[LEXICAL_BUFFER_SIZE];
     size_t count = lexical_decimal_u32(48879, buffer, sizeof buffer);
+#ifdef WRONG_TEXT
+    buffer[0] = '5';
+#endif
     int wrong = is_wrong(count == 5 && memcmp(buffer, "48879", 5) == 0, "the first example");
     const struct lexical_format hexadecimal = LEXICAL_RADIX(16);
     count = lexical_write_u32(48879, &hexadecimal, buffer, sizeof buffer);
     wrong += is_wrong(count == 4 && memcmp(buffer, "BEEF", 4) == 0, "the second example");
     buffer[0] = 0;
-#ifdef __cplusplus
+#if defined(__cplusplus) && __cplusplus >= 201103L
     count = lexical_write(48879, LEXICAL_RADIX(16), buffer, sizeof buffer);
+#elif defined(__cplusplus)
+    count = lexical_write(48879, hexadecimal, buffer, sizeof buffer);
 #else
     count = lexical_write_u32(48879, &(const struct lexical_format)LEXICAL_RADIX(16), buffer, sizeof buffer);
 #endif
@@ -187,12 +128,12 @@ static int check_radices(void)
     wrong += is_wrong(base_36.radix == 36 && base_16.radix == 16 && base_2.radix == 2 && count == 3, "a variable radix");
     for (count = 0; count < 7; count++) {
         struct lexical_format format = LEXICAL_RADIX(INVALID[count]);
-        wrong += is_wrong(check_format(&format) == LEXICAL_INVALID_RADIX, "a variable radix that is invalid");
+        wrong += is_wrong(lexical_check_format(&format) == LEXICAL_INVALID_RADIX, "a variable radix that is invalid");
     }
-#ifdef __cplusplus
-    const long long great = 4294967296 + 10;
+#if defined(__cplusplus) && __cplusplus >= 201103L
+    long long great = 4294967296 + 10;
     base_16 = lexical_format(LEXICAL_RADIX(great));
-    wrong += is_wrong(check_format(&base_16) == LEXICAL_INVALID_RADIX, "a radix of more than 32 bits");
+    wrong += is_wrong(lexical_check_format(&base_16) == LEXICAL_INVALID_RADIX, "a radix of more than 32 bits");
 #endif
     return wrong;
 }
@@ -219,11 +160,10 @@ static int check_zeros(void)
 static int check_version(void)
 {
     char text[32];
-    int is_as_declared = version() / 1000000 == LEXICAL_VERSION_MAJOR
-        && version() >= LEXICAL_VERSION;
+    int is_as_declared = lexical_version() / 1000000 == LEXICAL_VERSION_MAJOR && lexical_version() >= LEXICAL_VERSION;
     snprintf(text, sizeof text, "%d.%d.%d", LEXICAL_VERSION_MAJOR, LEXICAL_VERSION_MINOR, LEXICAL_VERSION_PATCH);
     return is_wrong(is_as_declared, "LEXICAL_VERSION_MAJOR")
-        + is_wrong(version() == LEXICAL_VERSION, "LEXICAL_VERSION")
+        + is_wrong(lexical_version() == LEXICAL_VERSION, "LEXICAL_VERSION")
         + is_wrong(strcmp(text, LEXICAL_VERSION_STRING) == 0, "LEXICAL_VERSION_STRING");
 }
 
@@ -232,19 +172,14 @@ static int check_cpp(void)
 {
     int wrong = 0;
 #if defined(__cplusplus) && __cplusplus >= 201402L
-#define NOEXCEPT(NAME, CONSTANT, TYPE)                                         \
-    static_assert(noexcept(lexical_write_##NAME(0, &format, nullptr, 0))       \
-                  && noexcept(lexical_decimal_##NAME(0, nullptr, 0))           \
-                  && noexcept(lexical_length_##NAME(0, &format))               \
-                  && noexcept(lexical_buffer_size_##NAME(&format))             \
-                  && noexcept(lexical_write(TYPE(0), &format, nullptr, 0))     \
+#define NO_OVERLOAD_THROWS(NAME, CONSTANT, TYPE)                               \
+    static_assert(noexcept(lexical_write(TYPE(0), &format, nullptr, 0))        \
                   && noexcept(lexical_write(TYPE(0), format, nullptr, 0))      \
                   && noexcept(lexical_decimal(TYPE(0), nullptr, 0))            \
                   && noexcept(lexical_length(TYPE(0), &format))                \
                   && noexcept(lexical_length(TYPE(0), format)), "noexcept");
     const lexical_format format = { 16 };
-    FOR_EACH_TYPE(NOEXCEPT)
-    static_assert(noexcept(lexical_version()) && noexcept(lexical_check_format(&format)), "noexcept");
+    FOR_EACH_TYPE(NO_OVERLOAD_THROWS)
     wrong += is_wrong(format.required_sign == 0 && lexical_check_format(&format) == 0, "a format of one field");
     alignas(lexical_format) unsigned char memory[sizeof(lexical_format)];
     memset(memory, 0xff, sizeof memory);
@@ -255,10 +190,113 @@ static int check_cpp(void)
     return wrong;
 }
 
+/* ---- the function that a type chooses, with buffers of each length ------- */
+
+#if defined(__cplusplus) || __STDC_VERSION__ >= 201112L
+/* The buffer, and the number of bytes of it that are passed. */
+static char text[LEXICAL_BUFFER_SIZE];
+static size_t room;
+
+/* Checks the result of a call, and that it left the bytes after its text, or a text that does not fit, unchanged. */
+static int is_not(size_t count, const char *wanted)
+{
+    size_t length = strlen(wanted) <= room ? strlen(wanted) : 0;
+    int is_right = count == length && memcmp(text, wanted, length) == 0;
+    size_t i;
+    for (i = length; i < sizeof text; i++)
+        is_right = is_right && text[i] == '#';
+    memset(text, '#', sizeof text);
+    return is_wrong(is_right, wanted);
+}
+
+static const struct lexical_format HEXADECIMAL = LEXICAL_RADIX(16), BINARY = FORMAT(2, 1, 4, '_');
+
+/* The format of a radix, as an argument. */
+#ifdef __cplusplus
+#define RADIX(number) LEXICAL_RADIX(number)
+#else
+#define RADIX(number) &(const struct lexical_format)LEXICAL_RADIX(number)
+#endif
+
+/* In C++ a format may also be an object. */
+#ifdef __cplusplus
+#define WRITE_IN(number, format)                                               \
+    wrong += is_not(lexical_write(number, format, text, room), format##_text); \
+    wrong += lexical_length(number, format) != strlen(format##_text);
+#else
+#define WRITE_IN(number, format)
+#endif
+
+#define CALL_IN(number, format)                                                \
+    wrong += is_not(lexical_write(number, &format, text, room), format##_text); \
+    wrong += lexical_length(number, &format) != strlen(format##_text);         \
+    WRITE_IN(number, format)
+
+#define TRY(type, value, decimal, hexadecimal, binary)                         \
+    {                                                                          \
+        static const char *const lexical_standard_format_text = decimal;       \
+        static const char *const HEXADECIMAL_text = hexadecimal;               \
+        static const char *const BINARY_text = binary;                         \
+        const type number = (type)(value);                                     \
+        for (room = 0; room <= sizeof text; room++) {                          \
+            wrong += is_not(lexical_decimal(number, text, room), decimal);   \
+            CALL_IN(number, lexical_standard_format)                           \
+            CALL_IN(number, HEXADECIMAL)                                       \
+            CALL_IN(number, BINARY)                                            \
+        }                                                                      \
+    }
+
+#define ONES_8 "1111_1111"
+#define ONES_16 ONES_8 "_" ONES_8
+#define ONES_32 ONES_16 "_" ONES_16
+#define ONES_64 ONES_32 "_" ONES_32
+#define ZEROS_12 "_0000_0000_0000"
+
+static int check_choice(void)
+{
+    int wrong = 0;
+    memset(text, '#', sizeof text);
+    TRY(unsigned char, -1, "255", "FF", "+" ONES_8)
+    TRY(unsigned short, -1, "65535", "FFFF", "+" ONES_16)
+    TRY(unsigned int, -1, "4294967295", "FFFFFFFF", "+" ONES_32)
+    TRY(signed char, -128, "-128", "-80", "-1000_0000")
+    TRY(short, -32768, "-32768", "-8000", "-1000" ZEROS_12)
+    TRY(int, -2147483647 - 1, "-2147483648", "-80000000", "-1000_0000_0000_0000_0000" ZEROS_12)
+#if SIZE_MAX > UINT32_MAX
+    TRY(unsigned long, -1, "18446744073709551615", "FFFFFFFFFFFFFFFF", "+" ONES_64)
+    TRY(long, -4611686018427387904L, "-4611686018427387904", "-4000000000000000",
+        "-100_0000_0000" ZEROS_12 ZEROS_12 ZEROS_12 "_0000_0000_0000_0000")
+    TRY(size_t, -1, "18446744073709551615", "FFFFFFFFFFFFFFFF", "+" ONES_64)
+#else
+    TRY(unsigned long, -1, "4294967295", "FFFFFFFF", "+" ONES_32)
+    TRY(long, -2147483647L - 1, "-2147483648", "-80000000", "-1000_0000_0000_0000_0000" ZEROS_12)
+    TRY(size_t, -1, "4294967295", "FFFFFFFF", "+" ONES_32)
+#endif
+    TRY(ptrdiff_t, -1, "-1", "-1", "-1")
+    TRY(uint8_t, -1, "255", "FF", "+" ONES_8)
+    TRY(int64_t, 10, "10", "A", "+1010")
+#if !defined(__cplusplus) || __cplusplus >= 201103L
+    TRY(unsigned long long, -1, "18446744073709551615", "FFFFFFFFFFFFFFFF", "+" ONES_64)
+    TRY(long long, -4611686018427387904LL, "-4611686018427387904", "-4000000000000000",
+        "-100_0000_0000" ZEROS_12 ZEROS_12 ZEROS_12 "_0000_0000_0000_0000")
+    wrong += lexical_length(100, RADIX(2)) != 7;
+    wrong += lexical_length(100, RADIX(36)) != 2;
+#endif
+#ifdef REFUSED
+    wrong += REFUSED != 0;
+#endif
+    return wrong;
+}
+#else
+static int check_choice(void)
+{
+    return 0;
+}
+#endif
+
 int main(void)
 {
-    int wrong = check_sizes() + check_formats() + check_fields() + check_zero_format();
-    wrong += check_changes() + check_equal_pointers() + check_radices();
-    wrong += check_examples() + check_string() + check_zeros() + check_version() + check_cpp();
+    int wrong = check_format() + check_zero_format() + check_examples() + check_changes() + check_equal_pointers();
+    wrong += check_radices() + check_string() + check_zeros() + check_version() + check_cpp() + check_choice();
     return wrong == 0 ? EXIT_SUCCESS : EXIT_FAILURE;
 }

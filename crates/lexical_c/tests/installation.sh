@@ -23,8 +23,8 @@ names_each_file() {
 # has_contents PREFIX: whether files that are only copied are right, and everyone may read all and run only the library.
 has_contents() {
   cmp "$crate/include/lexical.h" "$1/include/lexical.h" && cmp "$library" "$1/lib/liblexical_c.a" &&
-    cmp "$crate/../../LICENSE-APACHE" "$1/share/lexical_c/LICENSE-APACHE" &&
-    cmp "$crate/../../LICENSE-MIT" "$1/share/lexical_c/LICENSE-MIT" &&
+    cmp "$crate/../../LICENSE-APACHE" "$1/share/doc/lexical_c/LICENSE-APACHE" &&
+    cmp "$crate/../../LICENSE-MIT" "$1/share/doc/lexical_c/LICENSE-MIT" &&
     prints "$1/lib/liblexical_c.so.$version" find "$1" -type f ! -perm 644 && prints "$1/lib/liblexical_c.so.$version" find "$1" -type f -perm 755
 }
 
@@ -40,6 +40,8 @@ man_finds() {
 shows_all() {
   LC_ALL=C MANWIDTH=9999 man -M "$1/share/man" --warnings 3 lexical_write > "$work/page" 2> "$work/said" || return 1
   [ ! -s "$work/said" ] || { cat "$work/said"; return 1; }
+  # man writes a hyphen for `-`, and for `\-` what C has.
+  sed '/^[.]/d' "$1/share/man/man3/lexical_write.3" | fails grep -e '^-' -e '[^\]-' || return 1
   # A line of an example is a line of the page, and whatis finds each name.
   grep -qx ' *size_t count = lexical_decimal_u32(48879, buffer, sizeof buffer);' "$work/page" || { echo 'no lines of code'; return 1; }
   for name in decimal write length buffer_size check_format version; do
@@ -58,88 +60,90 @@ shows_all() {
 # needs_soname PROGRAM: whether a program is linked to the shared library by its soname.
 needs_soname() { objdump -p "$1" | grep -q "NEEDED *liblexical_c.so.$major\$"; }
 
-# links_with_pkg_config PREFIX FOLDER: whether the flags of pkg-config link the C example, shared and static.
+# links_with_pkg_config PREFIX FOLDER: whether the flags of pkg-config link the C example, shared and static, also below
+# another prefix.
 links_with_pkg_config() (
   folder=$1/$2
   export PKG_CONFIG_PATH="$folder/pkgconfig"
-  [ "$(pkg-config --variable=libdir lexical_c)" = "$folder" ] || exit 1
+  [ "$(pkg-config --variable=libdir lexical_c)" = "$folder" ] && prints "$version" pkg-config --modversion lexical_c &&
+    prints "-I/other/include -L/other/$2 -llexical_c" sh -c 'pkg-config --define-variable=prefix=/other --cflags --libs lexical_c | sed "s/ *$//"' ||
+    exit 1
   # pkg-config writes a backslash before a space, for a shell.
   eval "set -- $(pkg-config --cflags --libs lexical_c)"
   $CC -o "$work/shared" "$work/example.c" "$@" -Wl,-rpath,"$folder" && prints "$c_lines" "$work/shared" || exit 1
+  ! has objdump || needs_soname "$work/shared" || exit 1
   eval "set -- $(pkg-config --cflags lexical_c)"
   $CC -o "$work/static" "$work/example.c" "$@" "$(pkg-config --variable=static lexical_c)" && prints "$c_lines" "$work/static"
 )
 
-# C and C++ programs are compiled with the flags of pkg-config, and linked shared and static.
-check_pkg_config() {
-  expect 'C and pkg-config' links_with_pkg_config "$1" lib
-  if has objdump; then expect 'it needs the soname' needs_soname "$work/shared"; fi
+# links_cpp PREFIX: whether the C++ examples are linked with the flags of pkg-config, shared and static.
+links_cpp() (
   export PKG_CONFIG_PATH="$1/lib/pkgconfig"
-  expect 'the version of pkg-config' prints "$version" pkg-config --modversion lexical_c
-  includes=$(pkg-config --cflags lexical_c) archive=$(pkg-config --variable=static lexical_c)
   for standard in 17 20; do
-    has_cpp || continue
-    for flags in "$(pkg-config --libs lexical_c) -Wl,-rpath,$1/lib" "$archive"; do
-      expect "C++$standard and pkg-config" $CXX -std=c++$standard $strict -o "$work/cpp" "$work/example$standard.cpp" $includes $flags
-      expect 'running it' prints "$(cat "$work/lines$standard")" "$work/cpp"
+    for flags in "$(pkg-config --libs lexical_c) -Wl,-rpath,$1/lib" "$(pkg-config --variable=static lexical_c)"; do
+      $CXX -std=c++$standard $strict -o "$work/cpp" "$work/example$standard.cpp" $(pkg-config --cflags lexical_c) $flags &&
+        prints "$(cat "$work/lines$standard")" "$work/cpp" || exit 1
     done
   done
-  if has nm; then
-    expect 'a library with the archive inside' $CC -fPIC -shared $includes "$work/inside.c" "$archive" -o "$work/libinside.so"
-    expect 'it exports only its own name' prints inside exported_names "$work/libinside.so"
-  fi
+)
+
+# exports_no_more PREFIX: whether a library with the archive inside exports only its own name.
+exports_no_more() {
+  $CC -fPIC -shared -I"$1/include" "$work/inside.c" "$(PKG_CONFIG_PATH="$1/lib/pkgconfig" pkg-config --variable=static lexical_c)" \
+    -o "$work/libinside.so" && prints inside exported_names "$work/libinside.so"
 }
 
-# CMake takes compilers with flags from the environment.
-check_cmake() {
+# builds_with_cmake PREFIX: whether CMake builds the examples and a library with the archive inside. It takes compilers
+# with flags from the environment.
+builds_with_cmake() {
   mkdir -p "$work/project"
   cp "$work/example.c" "$work/example20.cpp" "$work/inside.c" "$work/project"
   cat > "$work/project/CMakeLists.txt" <<'END'
 cmake_minimum_required(VERSION 3.12)
 project(example C CXX)
+set(CMAKE_CXX_STANDARD 20)
 find_package(lexical_c 3.0 REQUIRED)
+add_library(inside SHARED inside.c)
+target_link_libraries(inside lexical_c::static)
 foreach(kind shared static lexical_c)
   add_executable(c_${kind} example.c)
   add_executable(cpp_${kind} example20.cpp)
-  set_property(TARGET cpp_${kind} PROPERTY CXX_STANDARD 20)
   target_link_libraries(c_${kind} lexical_c::${kind})
   target_link_libraries(cpp_${kind} lexical_c::${kind})
 endforeach()
-add_library(inside SHARED inside.c)
-target_link_libraries(inside lexical_c::static)
 END
-  expect 'CMake' env CC="$CC" CXX="$CXX" cmake -S "$work/project" -B "$work/build" -DCMAKE_PREFIX_PATH="$1"
-  expect 'building with CMake' cmake --build "$work/build"
+  CC="$CC" CXX="$CXX" cmake -S "$work/project" -B "$work/build" -DCMAKE_PREFIX_PATH="$1" && cmake --build "$work/build" || return 1
   for kind in shared static lexical_c; do
-    expect "C and CMake, $kind" prints "$c_lines" "$work/build/c_$kind"
-    expect "C++ and CMake, $kind" prints "$(cat "$work/lines20")" "$work/build/cpp_$kind"
+    prints "$c_lines" "$work/build/c_$kind" && prints "$(cat "$work/lines20")" "$work/build/cpp_$kind" || return 1
   done
-  if has objdump; then expect 'lexical_c::lexical_c is the shared library' needs_soname "$work/build/c_lexical_c"; fi
-  if has nm; then expect 'a library with the archive inside by CMake' prints inside exported_names "$work/build/libinside.so"; fi
-  for wanted in 3.0 "$version EXACT" 3.0...4 "2.0...$version"; do
-    expect "CMake takes version $wanted" finds_version "$1" "$wanted"
-  done
-  for wanted in '3.0.9 EXACT' '2.0...<3' 2.0 3.999; do
-    expect "CMake refuses version $wanted" fails finds_version "$1" "$wanted"
-  done
+  # lexical_c::lexical_c is the shared library.
+  ! has objdump || needs_soname "$work/build/c_lexical_c" || return 1
+  ! has nm || prints inside exported_names "$work/build/libinside.so"
 }
 
-# finds_version PREFIX VERSION FLAGS..: whether CMake finds a package of this version or range, and its library.
-finds_version() {
-  rm -rf "$work/version" && mkdir "$work/version"
-  prefix_path=$1 wanted_version=$2; shift 2
+# takes_versions PREFIX FLAGS..: whether CMake finds the package, with files that are there, by each of these versions
+# and ranges, and by no other.
+takes_versions() {
+  mkdir -p "$work/version"
+  prefix_path=$1; shift
   cat > "$work/version/CMakeLists.txt" <<END
 cmake_minimum_required(VERSION 3.19)
 project(version NONE)
-find_package(lexical_c $wanted_version REQUIRED)
+find_package(lexical_c 3.0 REQUIRED)
 foreach(kind shared static)
   get_target_property(library lexical_c::\${kind} IMPORTED_LOCATION)
   get_target_property(include lexical_c::\${kind} INTERFACE_INCLUDE_DIRECTORIES)
   file(SIZE "\${library}" size)
   file(SIZE "\${include}/lexical.h" size)
 endforeach()
+foreach(wanted 3.0 "$version;EXACT" 3.0...4 2.0...$version "3.0.9;EXACT" 2.0...<3 2.0 3.999)
+  find_package(lexical_c \${wanted} QUIET)
+  message(STATUS "wanted \${wanted}: \${lexical_c_FOUND}")
+endforeach()
 END
-  cmake -S "$work/version" -B "$work/version/build" -DCMAKE_PREFIX_PATH="$prefix_path" "$@"
+  rm -rf "$work/version/build"
+  cmake -S "$work/version" -B "$work/version/build" -DCMAKE_PREFIX_PATH="$prefix_path" "$@" > "$work/said" || return 1
+  prints '1 1 1 1 0 0 0 0 ' sh -c 'sed -n "s/^-- wanted .*: //p" "$1" | tr "\n" " "' sh "$work/said"
 }
 
 # The Python example of the README, and numbers that are out of range.
@@ -147,15 +151,15 @@ check_python() {
   example python > "$work/example.py"
   expect 'the Python example' prints '-ZZ' env LD_LIBRARY_PATH="$1/lib" python3 "$work/example.py"
   cat "$work/example.py" - > "$work/ranges.py" <<'END'
-for value, radix in (2**63, 10), (2**64 + 5, 10), (-2**63 - 1, 10), (5, 2**32 + 10), (5, -2**32 + 10), (5, 1), (5, 37):
+for value, radix in (2**64, 10), (2**64 + 5, 10), (-2**63 - 1, 10), (5, 2**32 + 10), (5, -2**32 + 10), (5, 1), (5, 37):
     try:
         print("not refused:", write(value, radix))
     except ValueError:
         pass
-print(write(2**63 - 1, 10), write(-2**63, 10))
+print(write(2**64 - 1, 10), write(-2**63, 10))
 END
   expect 'numbers out of range in Python' prints '-ZZ
-9223372036854775807 -9223372036854775808' env LD_LIBRARY_PATH="$1/lib" python3 "$work/ranges.py"
+18446744073709551615 -9223372036854775808' env LD_LIBRARY_PATH="$1/lib" python3 "$work/ranges.py"
 }
 
 # The Go example of the README.
@@ -163,7 +167,8 @@ check_go() {
   mkdir -p "$work/go"
   example go > "$work/go/example.go"
   expect 'the Go example' prints '-4D2
-1234' env CGO_ENABLED=1 GO111MODULE=off GOCACHE="$work/go/cache" GOFLAGS= PKG_CONFIG_PATH="$1/lib/pkgconfig" LD_LIBRARY_PATH="$1/lib" go run "$work/go/example.go"
+-1234
+invalid format' env CGO_ENABLED=1 GO111MODULE=off GOCACHE="$work/go/cache" GOFLAGS= PKG_CONFIG_PATH="$1/lib/pkgconfig" LD_LIBRARY_PATH="$1/lib" go run "$work/go/example.go"
 }
 
 # What is installed below $work/prefix, and removed.
@@ -193,8 +198,15 @@ check_installed() {
     expect 'man 3 lexical_write' shows_all "$prefix"
     expect 'man finds each function' man_finds "$prefix"
   fi
-  if has pkg-config; then check_pkg_config "$prefix"; fi
-  if has cmake && has_cpp; then check_cmake "$prefix"; fi
+  if has pkg-config; then
+    expect 'C and pkg-config' links_with_pkg_config "$prefix" lib
+    ! has_cpp || expect 'C++ and pkg-config' links_cpp "$prefix"
+    ! has nm || expect 'a library with the archive inside' exports_no_more "$prefix"
+  fi
+  if has_cmake; then
+    expect 'CMake' builds_with_cmake "$prefix"
+    expect 'the versions that CMake takes' takes_versions "$prefix"
+  fi
   if has_python; then check_python "$prefix"; fi
   if has_go; then check_go "$prefix"; fi
   expect 'installing it again' "$crate/install" --from "$library" "$prefix"
@@ -214,8 +226,33 @@ installs_for_all() {
   ! has readelf || has_flags "$1/$2/liblexical_c.so" || return 1
   [ -z "$(find "$1" ! -type l ! -perm -444)" ] && [ -z "$(find "$1" -type d ! -perm -555)" ] || return 1
   ! has pkg-config || links_with_pkg_config "$1" "$2" || return 1
-  ! has cmake || finds_version "$1" 3.0 -Dlexical_c_DIR="$1/$2/cmake/lexical_c" || return 1
+  ! has cmake || takes_versions "$1" -Dlexical_c_DIR="$1/$2/cmake/lexical_c" || return 1
   "$crate/uninstall" "$1" && [ ! -e "$1" ]
+}
+
+# packages WHAT..: whether a command, in a copy of the sources, makes a package with the header, both libraries, the licences
+# and the page, which another command lists.
+packages() {
+  rm -rf "$work/package" && mkdir "$work/package" && cp -a "$odd" "$work/package/sources" || return 1
+  (cd "$work/package/sources" && "$1" ) && "$2" > "$work/listed" || return 1
+  for name in include/lexical.h liblexical_c.a "liblexical_c.so.$version" lexical_c.pc doc/lexical_c/LICENSE-MIT man3/lexical_decimal_u8.3; do
+    grep -q -F "$name" "$work/listed" || { echo "not in the package: $name"; return 1; }
+  done
+}
+make_deb() {
+  cp -R crates/lexical_c/package/debian . &&
+    printf 'lexical-c (%s) unstable; urgency=low\n\n  * A build.\n\n -- A <a@b>  Sat, 28 Nov 2026 00:00:00 +0000\n' "$version" > debian/changelog &&
+    dpkg-buildpackage -b -us -uc -d
+}
+list_deb() { dpkg-deb -c "$work"/package/liblexical-c-dev_*.deb; }
+make_rpm() { rpmbuild --build-in-place --nodeps -bb --define "_topdir $work/package/rpm" crates/lexical_c/package/lexical_c.spec; }
+list_rpm() { rpm -qlp "$work"/package/rpm/RPMS/*/lexical_c-"$version"-1.*.rpm; }
+
+# The packages of package/, of what rustc builds for this machine.
+check_packages() {
+  if [ "$builder" = rt ] || [ -n "${TARGET-}" ]; then return; fi
+  if has_dh; then expect 'a Debian package' packages make_deb list_deb; fi
+  if has rpmbuild; then expect 'an RPM' packages make_rpm list_rpm; fi
 }
 
 # ---- other versions

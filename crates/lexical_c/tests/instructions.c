@@ -1,5 +1,5 @@
 /*
- * Calls the library in twenty cells, which are a type and a format each, with numbers of every length. Each cell is a
+ * Calls the library in 24 cells, which are a type and a format each, with numbers of every length. Each cell is a
  * function, so callgrind counts the instructions of each; `instructions` has the limits.
  */
 #include <lexical.h>
@@ -34,6 +34,7 @@ static uint64_t next(void) {
     CELL(number##_10, number, type, bits, 10, 0)                                                                      \
     CELL(number##_2, number, type, bits, 2, 0)                                                                        \
     CELL(number##_16, number, type, bits, 16, 0)                                                                      \
+    CELL(number##_16_lowercase, number, type, bits, 16, 1)                                                            \
     CELL(number##_36, number, type, bits, 36, 0)                                                                      \
     CELL(number##_36_lowercase, number, type, bits, 36, 1)                                                            \
     static size_t call_##number(void) {                                                                               \
@@ -41,7 +42,8 @@ static uint64_t next(void) {
         char buffer[128];                                                                                             \
         for (int i = 0; i < NUMBERS; i++) numbers[i] = (type)(next() >> (64 - bits + next() % bits));                 \
         return cell_##number##_10(numbers, buffer) + cell_##number##_2(numbers, buffer)                               \
-               + cell_##number##_16(numbers, buffer) + cell_##number##_36(numbers, buffer)                            \
+               + cell_##number##_16(numbers, buffer) + cell_##number##_16_lowercase(numbers, buffer)                  \
+               + cell_##number##_36(numbers, buffer)                                                                  \
                + cell_##number##_36_lowercase(numbers, buffer);                                                       \
     }
 
@@ -51,5 +53,5 @@ CELLS(u64, uint64_t, 64)
 CELLS(i64, int64_t, 64)
 
 int main(void) {
-    return call_u8() + call_u32() + call_u64() + call_i64() < 20 * NUMBERS;
+    return call_u8() + call_u32() + call_u64() + call_i64() < 24 * NUMBERS;
 }

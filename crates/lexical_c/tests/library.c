@@ -1,8 +1,10 @@
 /*
- * Calls each function of the library as a C program does, and compares the
- * results with a simple conversion in this file, which is compared with snprintf
- * and with a table. Each buffer is next to a page that may not be accessed. The
+ * Calls each function of the library as a C program does, and compares the results with a simple conversion in this
+ * file, which is compared with snprintf and with a table. Each buffer is next to a page that may not be accessed. The
  * last line is the number of tests that passed and failed.
+ *
+ * With an argument it passes buffers that nothing has initialized, and reads only the texts. Under valgrind, a text or
+ * a result that depends on such a byte is an error, and with MemorySanitizer a byte that is read after the text.
  */
 #define _DEFAULT_SOURCE
 #include "lexical.h"
@@ -15,6 +17,17 @@
 #include <string.h>
 #include <sys/mman.h>
 #include <unistd.h>
+
+/* MemorySanitizer does not see what the library writes. */
+#if defined(__has_feature)
+#if __has_feature(memory_sanitizer)
+#include <sanitizer/msan_interface.h>
+#define IS_WRITTEN(bytes, count) __msan_unpoison(bytes, count)
+#endif
+#endif
+#ifndef IS_WRITTEN
+#define IS_WRITTEN(bytes, count)
+#endif
 
 /* The checks of the test that runs, of which many make one test. */
 static unsigned long long checks, failures;
@@ -58,16 +71,11 @@ struct type {
     }
 FOR_EACH_TYPE(FUNCTIONS)
 
-#define TYPE(NAME, SIGNED, BITS, SIZE, DECIMAL_SIZE)                           \
-    { #NAME, SIGNED, BITS, SIZE, DECIMAL_SIZE, decimal_##NAME, write_##NAME,   \
-      length_##NAME, lexical_buffer_size_##NAME }
-static const struct type TYPES[] = {
-    TYPE(u8, false, 8, 16, 3),     TYPE(u16, false, 16, 32, 5),
-    TYPE(u32, false, 32, 64, 10),  TYPE(u64, false, 64, 128, 20),
-    TYPE(size, false, 8 * sizeof(size_t), 128, 20),
-    TYPE(i8, true, 8, 16, 4),      TYPE(i16, true, 16, 32, 6),
-    TYPE(i32, true, 32, 64, 11),   TYPE(i64, true, 64, 128, 20),
-};
+#define TYPE(NAME, CONSTANT, TYPE)                                             \
+    { #NAME, (TYPE)-1 < 1, 8 * sizeof(TYPE), LEXICAL_BUFFER_SIZE_##CONSTANT,   \
+      LEXICAL_BUFFER_SIZE_DECIMAL_##CONSTANT, decimal_##NAME, write_##NAME,    \
+      length_##NAME, lexical_buffer_size_##NAME },
+static const struct type TYPES[] = { FOR_EACH_TYPE(TYPE) };
 #define TYPE_COUNT (sizeof TYPES / sizeof TYPES[0])
 enum { U8, U16, U32, U64, SIZE, I8, I16, I32, I64 };
 
@@ -95,8 +103,7 @@ struct expected {
 };
 
 /* Returns the text of a number, built from its last digit to its first. */
-static struct expected plain_text(const struct type *type, uint64_t bits,
-                                  const struct lexical_format *format)
+static struct expected plain_text(const struct type *type, uint64_t bits, const struct lexical_format *format)
 {
 #ifdef WRONG_TEXT
     static const char UPPERCASE[] = "0123456789ABCDEFGHIJKLMNOPQRSTUVWXYz";
@@ -160,21 +167,29 @@ static bool all_are(const char *bytes, size_t count, int byte)
 static size_t call_writer(const struct type *type, uint64_t bits,
                           const struct lexical_format *format, char *buffer, size_t length)
 {
-    return format == NULL ? type->decimal(bits, buffer, length)
-                          : type->write(bits, format, buffer, length);
+    return format == NULL ? type->decimal(bits, buffer, length) : type->write(bits, format, buffer, length);
 }
 
+static bool is_uninitialized;
+
 /*
- * Calls a writer with a buffer of `length` bytes, and checks that the text is
- * at its start and that every other byte is unchanged. If `expected` is NULL, the
- * call must return 0 and leave the buffer unchanged. The buffer and the format
- * are each next to a page that may not be accessed, before or after them; this
- * side and the bytes of the buffer vary from call to call.
+ * Calls a writer with a buffer of `length` bytes, and checks that the text is at its start and that every other byte is
+ * unchanged. If `expected` is NULL, the call must return 0 and leave the buffer unchanged. The buffer and the format
+ * are each next to a page that may not be accessed, before or after them; this side and the bytes of the buffer vary
+ * from call to call.
  */
-static void check_writer(const struct type *type, uint64_t bits,
-                         const struct lexical_format *format, size_t length,
+static void check_writer(const struct type *type, uint64_t bits, const struct lexical_format *format, size_t length,
                          const struct expected *expected)
 {
+    if (is_uninitialized) {
+        char *buffer = (char *)malloc(length);
+        size_t count = call_writer(type, bits, format, buffer, length);
+        IS_WRITTEN(buffer, count);
+        check(expected == NULL ? count == 0
+              : count == expected->count && memcmp(buffer, expected->text, count) == 0, "an uninitialized buffer");
+        free(buffer);
+        return;
+    }
     static const int BEFORE[] = { 0x5a, 0xff, 0x00, '7' };
     static uint32_t random;
     random = random * 1664525 + 1013904223;
@@ -189,8 +204,7 @@ static void check_writer(const struct type *type, uint64_t bits,
         memcpy(copy, format, sizeof *format);
     size_t count = call_writer(type, bits, (const struct lexical_format *)copy, buffer, length);
     size_t wanted = expected == NULL ? 0 : expected->count;
-    bool is_good = count == wanted
-        && (wanted == 0 || memcmp(buffer, expected->text, wanted) == 0)
+    bool is_good = count == wanted && (wanted == 0 || memcmp(buffer, expected->text, wanted) == 0)
         && all_are(buffer + wanted, length - wanted, before)
         && all_are(guard, GUARD_SIZE, GUARD)
         && (format == NULL || memcmp(copy, format, sizeof *format) == 0);
@@ -237,12 +251,11 @@ static void check_call(const struct type *type, uint64_t bits, const struct lexi
 }
 
 /*
- * Checks what each function returns for a number in a format. It is written to
- * buffers of the length of the text, of the size of the type, for which the
- * library writes in another way, and of one byte less than each; or of every length.
+ * Checks what each function returns for a number in a format. It is written to buffers of the length of the text, of
+ * the size of the type, for which the library writes in another way, and of one byte less than each; or of every
+ * length.
  */
-static void check_number(const struct type *type, uint64_t bits, const struct lexical_format *format,
-                         bool every_length)
+static void check_number(const struct type *type, uint64_t bits, const struct lexical_format *format, bool every_length)
 {
     uint32_t reason = invalid_field(format);
     struct expected text = { "", 0 };
@@ -310,6 +323,19 @@ static void check_short_types(void)
         }
 }
 
+/* Checks numbers of several lengths. */
+static void check_lengths(void)
+{
+    for (size_t t = 0; t < TYPE_COUNT; t++)
+        for (uint32_t radix = 2; radix <= 36; radix++)
+            for (uint32_t kind = 0; kind < 4; kind++)
+                for (unsigned shift = 0; shift < 64; shift += 9) {
+                    struct lexical_format format = FORMAT(radix, kind == 1, kind == 2 ? 3u : 0u, '_');
+                    format.lowercase = kind == 3;
+                    check_number(&TYPES[t], (UINT64_MAX / 3 * 2 >> shift) & largest_bits(&TYPES[t]), &format, false);
+                }
+}
+
 static uint64_t next_random(void)
 {
     static uint64_t random = 88172645463325252u;
@@ -320,8 +346,7 @@ static uint64_t next_random(void)
 }
 
 /* Checks that the conversion of this file and the library write this text. */
-static void check_text(const struct type *type, uint64_t bits, const struct lexical_format *format,
-                       const char *text)
+static void check_text(const struct type *type, uint64_t bits, const struct lexical_format *format, const char *text)
 {
     check(strcmp(plain_text(type, bits, format).text, text) == 0, text);
     check_number(type, bits, format, false);
@@ -360,6 +385,7 @@ static void check_table(void)
         { I64, (uint64_t)INT64_MIN, LOWERCASE(36, 1, 0, 0), "-1y2p0ij32e8e8" },
         { U16, 0xbeef, LOWERCASE(16, 1, 2, '_'), "+be_ef" },
     };
+    check(LEXICAL_BUFFER_SIZE == TYPES[U64].size, "the largest size");
     for (size_t i = 0; i < sizeof ROWS / sizeof ROWS[0]; i++)
         check_text(&TYPES[ROWS[i].type], ROWS[i].bits, &ROWS[i].format, ROWS[i].text);
 }
@@ -444,10 +470,15 @@ static void run(const char *name, void (*test)(void))
     fflush(stdout);
 }
 
-int main(void)
+int main(int argument_count, char **arguments)
 {
+    (void)arguments;
+    is_uninitialized = argument_count > 1;
     buffers = new_island();
     formats = new_island();
+    run("numbers of several lengths", check_lengths);
+    if (is_uninitialized)
+        return failed == 0 ? EXIT_SUCCESS : EXIT_FAILURE;
     run("the ends of types and the powers of radices", check_all_edges);
     run("all numbers of 8 and 16 bits", check_short_types);
     run("snprintf", check_against_snprintf);

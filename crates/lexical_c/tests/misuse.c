@@ -1,7 +1,6 @@
 /*
- * Makes one call, CALL, of a writer with a mistake that a compiler can see because
- * of the attributes that the header has. MISUSE names the mistake. This program is
- * compiled once for each writer and each mistake, and is not run.
+ * Makes one call, CALL, of a writer with a mistake that a compiler can see because of the attributes that the header
+ * has. MISUSE names the mistake. This program is compiled once for each writer and each mistake, and is not run.
  */
 #include "lexical.h"
 

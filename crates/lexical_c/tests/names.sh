@@ -12,16 +12,22 @@ undefined_names() { nm -u "$library" | sed -n 's/^ *U //p' | LC_ALL=C sort; }
 # exported_names LIBRARY: prints the names that a shared library exports, with their versions.
 exported_names() { nm -D --defined-only --with-symbol-versions "$1" | sed -n 's/^[0-9a-f]* [TDBRVW] //p' | sort; }
 
-# The archive, the shared library and the header have the same names, and the archive uses only what README says. What
-# 3.1 has added is in two nodes: that of 3.0 is for programs that were linked before there was another.
+# Prints each name of exports.map with its version. What 3.1 has added is in two nodes: that of 3.0 is for programs that
+# were linked before there was another.
+versioned_names() {
+  tr ' ' '\n' < "$crate/package/exports.map" | awk '/^LEXICAL_C/ && !/;/ { last = node; node = $0 }
+    sub(/;$/, "") && /^lexical_/ { print $0 "@@" node; if (node ~ /[.]1$/) print $0 "@" last }' | sort
+}
+
+# The archive, the shared library and the header have the same names, and the archive uses only what README says.
 check_names() {
-  node=LEXICAL_C_$major
   header_names > "$work/header"
   nm "$library" | sed -n 's/^[0-9a-f]* [TDBRV] //p' | sort > "$work/archive"
-  sed "/_decimal_/!s/\$/@@$node/; s/.*_decimal_.*/&@$node &@@$node.1/" "$work/header" | tr ' ' '\n' | sort > "$work/versions"
+  versioned_names > "$work/versions"
   exported_names "$1/lib/liblexical_c.so" > "$work/shared"
   expect 'the names of the header are those of the archive' diff "$work/header" "$work/archive"
-  expect 'the names of the shared library are those of the header, with versions' diff "$work/versions" "$work/shared"
+  expect 'the names of the header are those of exports.map' prints "$(cat "$work/header")" sh -c 'sed "s/@.*//" "$1" | uniq' sh "$work/versions"
+  expect 'the names of the shared library are those of exports.map' diff "$work/versions" "$work/shared"
   expect 'what the archive uses' prints "$imported" undefined_names
 }
 

@@ -1,6 +1,6 @@
 -- What `pad_integral` writes of a number, with a required sign as the option `+`.
 use Rattle.std.proofs.lemmas.Grind.{common_steps}
-use Rattle.std.proofs.Common.{◌≡◌, refl, true, false, Bool, [], ◌∷◌, ◌++◌, ℕ, suc, ◌+◌, ◌-◌, ◌==◌, length, replicate, List, if◌then◌else◌, append-nil}
+use Rattle.std.proofs.Common.{◌≡◌, ◌∙◌, refl, true, false, Bool, [], ◌∷◌, ◌++◌, ℕ, suc, ◌+◌, ◌-◌, ◌==◌, length, replicate, List, if◌then◌else◌, append-nil}
 use Rattle.std.proofs.Common.{append_assoc, None, Some, drop, ℤ, arith}
 use Rattle.std.specs.Fmt.{formatter_spec, padded_integral, char_count, sign_text_with, spec_width}
 use Rattle.std.specs.Int.{is_negative}
@@ -73,6 +73,19 @@ module _ {W : Type 0} (f : Formatter W) where
   unfolding padded_integral
   negative_sign true digits = refl
   negative_sign false digits = refl
+
+-- a sign that is written as a digit
+pub sign_as_digit : {W : Type 0} (f : Formatter W) (plus negative : Bool) (digits : List ℕ) → (formatter_spec f).plus ≡ false → (formatter_spec f).zero ≡ false
+    → padded_integral (formatter_spec f) false [] (sign_text_with plus negative ++ digits)
+    ≡ padded_integral (if plus then record (formatter_spec f) { plus = true } else formatter_spec f) negative [] digits
+unfolding padded_integral
+sign_as_digit f true false digits no_plus no_zeros = filled f digits no_plus no_zeros
+sign_as_digit f false false digits no_plus no_zeros = refl
+sign_as_digit f plus true digits no_plus no_zeros =
+    let same : f.spec.width - suc (length digits) - 0 - char_count [] ≡ f.spec.width - length digits - 1 - char_count [] = omega arith in
+    let minus : padded_integral (formatter_spec f) false [] (45 ∷ digits) ≡ padded_integral (formatter_spec f) true [] digits =
+    rw (no_plus, no_zeros, cond_same {A = List ℕ} f.spec.alternate [] [] [] refl refl, same) (simp (append-nil, append_assoc)) in
+    minus ∙ negative_sign f plus digits
 
 -- the text of a number without its sign
 pub without_sign : (n : ℤ) (required : Bool) (digits : List ℕ)

@@ -1,3 +1,4 @@
+pub mod Cell
 pub mod Column
 pub mod Fixed
 pub mod Formatted

@@ -10,6 +10,7 @@ ghost use Rattle.lexical_write_integer.specs.Computed.{digits_text, padded_text,
 ghost use Rattle.lexical_write_integer.specs.Groups.{grouped};
 ghost use Rattle.lexical_parts.specs.Fixed.{fixed_text, units_text};
 
+use crate::cell::{is_short_cell, write_cell};
 use crate::fixed::{Fixed, GroupedFixed};
 use crate::number::{Decimal, Digits, Formatted, formatted_room_suffices};
 use crate::padded::{Padded, PaddedDigits};
@@ -45,6 +46,32 @@ fn pad_with_plus<W: fmt::Write>(f: &mut fmt::Formatter<W>, text: &str) -> fmt::R
     f.write_str(digits)
 }
 
+// Writes a text as `pad_number` does, in a format with a width or another option. It is cold, and so not inlined:
+// otherwise a number in `{}` would save registers that only this needs.
+#[cold]
+fn pad_with_options<W: fmt::Write>(
+    f: &mut fmt::Formatter<W>,
+    is_negative: bool,
+    has_plus: bool,
+    text: &str,
+) -> fmt::Result
+    requires { text.now ≡ sign_text_with has_plus is_negative
+        ++ drop (length (sign_text_with has_plus is_negative)) text.now }
+    ensures { WritesStyledOnOk W.write_str_gives f.old result
+        (padded_integral (if has_plus then record (formatter_spec f.old) { plus = true } else formatter_spec f.old)
+        is_negative [] (drop (length (sign_text_with has_plus is_negative)) text.now)) f.new }
+{
+    if is_short_cell(f, text) {
+        write_cell(f, text)
+    } else if is_negative {
+        f.pad_integral(false, "", &text[1..])
+    } else if has_plus {
+        pad_with_plus(f, text)
+    } else {
+        f.pad_integral(true, "", text)
+    }
+}
+
 // Writes a text, which begins with `-` if the number is negative, and otherwise with `+` if it has one, as the standard
 // library writes an integer.
 fn pad_number<W: fmt::Write>(
@@ -62,12 +89,8 @@ fn pad_number<W: fmt::Write>(
 {
     if f.width().is_none() && !f.sign_plus() && !f.alternate() {
         f.write_str(text)
-    } else if is_negative {
-        f.pad_integral(false, "", &text[1..])
-    } else if has_plus {
-        pad_with_plus(f, text)
     } else {
-        f.pad_integral(true, "", text)
+        pad_with_options(f, is_negative, has_plus, text)
     }
 }
 
@@ -176,8 +199,8 @@ impl<T: DigitCount + Radix> fmt::Display for Digits<T> {
 }
 
 impl<T: DigitCount + Radix> PaddedDigits<T> {
-    // Returns the text, or an error if the radix is not from 2 to 36, the number does not fit in the width, or the width
-    // is not from 1 to 64.
+    // Returns the text, or an error if the radix is not from 2 to 36, the number does not fit in the width, or the
+    // width is not from 1 to 64.
     fn shown(self, buffer: &mut [u8; 64]) -> Result<&str, fmt::Error>
         ensures ok { IsOk result ↔ (IsRadix self.0 × (T.magnitude self.1 < self.0 ^ self.2) × (1 ≤ self.2)
             × (self.2 ≤ 64)) }

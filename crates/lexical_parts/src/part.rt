@@ -67,7 +67,8 @@ pub trait Part: Copy {
     fn write_each<W: fmt::Write>(self, _f: &mut fmt::Formatter<W>, _own: Own) -> Option<fmt::Result>
         requires valid { is_valid self }
         requires utf8 { is_utf8 self }
-        ensures text { IfSome result (λ written. WritesSomeOnOk W.write_str_gives _f.old written (is_text self) _f.new) }
+        ensures text { IfSome result (λ written.
+            WritesSomeOnOk W.write_str_gives _f.old written (is_text self) _f.new) }
         ensures none { IfNone result (_f.new ≡ _f.old) }
     {
         None

@@ -18,8 +18,8 @@ use std::fmt;
 
 /// A tuple of parts, or another part, in a format string. A width, a fill and a precision work as for a `&str`.
 ///
-/// It is an error if a part in it is not valid or is your own, or if one that is written at once, such as a column, has a
-/// room above 256 bytes. With a width or a precision the whole text is written at once.
+/// It is an error if a part in it is not valid or is your own, or if one that is written at once, such as a column,
+/// has a room above 256 bytes. With a width or a precision the whole text is written at once.
 ///
 /// ```
 /// use lexical_parts::{Hex, Shown};
@@ -31,8 +31,8 @@ use std::fmt;
 pub struct Shown<P>(pub P);
 
 impl<P: Part> Shown<P> {
-    // Writes the text, whatever the options of the formatter are: of a part that consists of parts, each part in order. Of
-    // another one it is an error if the room is above 256 bytes.
+    // Writes the text, whatever the options of the formatter are: of a part that consists of parts, each part in
+    // order. Of another one it is an error if the room is above 256 bytes.
     pub(crate) fn write<W: fmt::Write>(self, f: &mut fmt::Formatter<W>) -> fmt::Result
         requires valid { P.is_valid self.0 }
         requires utf8 { P.is_utf8 self.0 }

@@ -89,13 +89,13 @@ pub fn try_write_rows(rows: &[Row<'_>], buffer: &mut [u8]) -> Option<usize>
     (Joined(rows, "\n"), "\n").try_write_to(buffer)
 }
 
-/// Adds each number and a semicolon after it to the end of the entries, or returns an error if memory runs
+/// Adds each number and a semicolon after it to the end of the log, or returns an error if memory runs
 /// out.
-pub fn push_entries(entries: &mut Vec<u8>, numbers: &[i64]) -> Result<(), AllocError>
-    ensures { OnOk result ((IsExactly entries.old.items then AreEach IsEntry numbers.now) entries.new.items) }
+pub fn push_entries(log: &mut Vec<u8>, numbers: &[i64]) -> Result<(), AllocError>
+    ensures { OnOk result ((IsExactly log.old.items then AreEach IsEntry numbers.now) log.new.items) }
 {
     for number in numbers {
-        entries.extend_from_slice((*number, ";").to_text(&mut [0; 21]))?;
+        log.extend_from_slice((*number, ";").to_text(&mut [0; 21]))?;
     }
     Ok(())
 }

@@ -39,9 +39,14 @@ pub struct HostRuntime;
 
 impl Abort for HostRuntime {}
 
+/// In Rattle, what allocates.
+pub trait Alloc {}
+
 /// The allocator.
 #[derive(Clone, Copy)]
 pub struct Global;
+
+impl Alloc for Global {}
 
 impl HostRuntime {
     pub fn alloc(&self) -> Global {

@@ -101,7 +101,6 @@ pub(crate) const IN_TESTS: Replaced = &[
     (".expect(rt, ", ".expect("),
     // What std has only there.
     ("use std::process::Abort;", "use repository_tests::runtime::Abort;"),
-    ("use std::alloc::{Alloc, Global};", "use repository_tests::runtime::Global;"),
     ("use std::alloc::", "use repository_tests::runtime::"),
     ("use std::fmt::InlineText;", "use repository_tests::runtime::InlineText;"),
     ("use std::test::Fail;", "use repository_tests::runtime::Fail;"),
@@ -109,11 +108,9 @@ pub(crate) const IN_TESTS: Replaced = &[
     // The callers are a module here.
     ("use uses::", "use repository_tests::uses::"),
     // What allocates takes an allocator and returns a `Result`.
-    ("Vec::new(rt.alloc())", "Vec::new()"),
-    ("String::new(rt.alloc())", "String::new()"),
+    ("::new(rt.alloc())", "::new()"),
     ("log.resize(", "repository_tests::runtime::resize(log, "),
     ("log.extend_from_slice(", "std::io::Write::write_all(log, "),
-    ("entries.extend_from_slice(", "std::io::Write::write_all(entries, "),
     ("log.push_str(", "repository_tests::runtime::push_str(log, "),
     ("Formatted(amount, format).to_string(alloc)", "repository_tests::format_in!(\"{}\", Formatted(amount, format))"),
     // In the package the errors are non-exhaustive.

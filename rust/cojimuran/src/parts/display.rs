@@ -4,6 +4,7 @@
 //! part that is not valid is an error, and so is a [`Padded`](crate::parts::Padded) in no digits, or in more than 64.
 
 use crate::num::limits::is_radix;
+use crate::parts::cell::{is_short_cell, write_cell};
 use crate::parts::fixed::{Fixed, GroupedFixed};
 use crate::parts::number::{Decimal, Digits, Formatted};
 use crate::parts::padded::{Padded, PaddedDigits};
@@ -34,6 +35,27 @@ fn pad_with_plus(f: &mut fmt::Formatter<'_>, text: &str) -> fmt::Result {
     f.write_str(digits)
 }
 
+// Writes a text as `pad_number` does, in a format with a width or another option. It is cold, and so not inlined:
+// otherwise a number in `{}` would save registers that only this needs.
+#[cold]
+#[inline]
+fn pad_with_options(
+    f: &mut fmt::Formatter<'_>,
+    is_negative: bool,
+    has_plus: bool,
+    text: &str,
+) -> fmt::Result {
+    if is_short_cell(f, text) {
+        write_cell(f, text)
+    } else if is_negative {
+        f.pad_integral(false, "", &text[1..])
+    } else if has_plus {
+        pad_with_plus(f, text)
+    } else {
+        f.pad_integral(true, "", text)
+    }
+}
+
 // Writes a text, which begins with `-` if the number is negative, and otherwise with `+` if it has one, as the standard
 // library writes an integer.
 #[inline]
@@ -45,12 +67,8 @@ fn pad_number(
 ) -> fmt::Result {
     if f.width().is_none() && !f.sign_plus() && !f.alternate() {
         f.write_str(text)
-    } else if is_negative {
-        f.pad_integral(false, "", &text[1..])
-    } else if has_plus {
-        pad_with_plus(f, text)
     } else {
-        f.pad_integral(true, "", text)
+        pad_with_options(f, is_negative, has_plus, text)
     }
 }
 
@@ -125,8 +143,8 @@ impl<T: DigitCount + Radix> fmt::Display for Digits<T> {
 }
 
 impl<T: DigitCount + Radix> PaddedDigits<T> {
-    // Returns the text, or an error if the radix is not from 2 to 36, the number does not fit in the width, or the width
-    // is not from 1 to 64.
+    // Returns the text, or an error if the radix is not from 2 to 36, the number does not fit in the width, or the
+    // width is not from 1 to 64.
     #[inline]
     fn shown(self, buffer: &mut [u8; 64]) -> Result<&str, fmt::Error> {
         if !is_radix(u64::from(self.0)) {

@@ -16,8 +16,8 @@ use core::fmt;
 
 /// A tuple of parts, or another part, in a format string. A width, a fill and a precision work as for a `&str`.
 ///
-/// It is an error if a part in it is not valid or is your own, or if one that is written at once, such as a column, has a
-/// room above 256 bytes. With a width or a precision the whole text is written at once.
+/// It is an error if a part in it is not valid or is your own, or if one that is written at once, such as a column,
+/// has a room above 256 bytes. With a width or a precision the whole text is written at once.
 ///
 /// ```
 /// use cojimuran::parts::{Hex, Shown};
@@ -29,8 +29,8 @@ use core::fmt;
 pub struct Shown<P>(pub P);
 
 impl<P: Part> Shown<P> {
-    // Writes the text, whatever the options of the formatter are: of a part that consists of parts, each part in order. Of
-    // another one it is an error if the room is above 256 bytes.
+    // Writes the text, whatever the options of the formatter are: of a part that consists of parts, each part in
+    // order. Of another one it is an error if the room is above 256 bytes.
     #[inline]
     pub(crate) fn write(self, f: &mut fmt::Formatter<'_>) -> fmt::Result {
         match self.0.write_each(f, Own) {

@@ -1,7 +1,8 @@
-//! Counts the instructions of a number with valgrind, beside other crates: `cargo run --release`.
+//! Counts the instructions of a number with valgrind, beside other crates: `cargo run --release`. With `-- --by-digits` it
+//! counts decimal and radix 36 by the number of digits, as `../draw` takes it.
 
-use cojimuran::parts::{Hex, Part};
-use cojimuran::{NumberFormat, NumberFormatBuilder, Options, ToLexical, ToLexicalWithOptions};
+use cojimuran::parts::{Decimal, Digits, Hex, Part};
+use cojimuran::{Buffer, NumberFormat, NumberFormatBuilder, Options, ToLexical, ToLexicalWithOptions};
 use lexical_write_integer as lexical;
 use std::hint::black_box;
 use std::io::Write;
@@ -10,10 +11,15 @@ use std::process::Command;
 /// How many numbers are written.
 const COUNT: usize = 10_000;
 
-const RADIX_16: NumberFormat = NumberFormatBuilder::from_radix(16);
-const RADIX_36: NumberFormat = NumberFormatBuilder::from_radix(36);
-const LEXICAL_16: u128 = lexical::NumberFormatBuilder::from_radix(16);
-const LEXICAL_36: u128 = lexical::NumberFormatBuilder::from_radix(36);
+const RADICES: [NumberFormat; 37] = {
+    let mut formats = [NumberFormatBuilder::from_radix(10); 37];
+    let mut radix = 2;
+    while radix <= 36 {
+        formats[radix as usize] = NumberFormatBuilder::from_radix(radix);
+        radix += 1;
+    }
+    formats
+};
 
 /// Writes each number to an array, and returns how many bytes that were.
 type Loop = fn(&[u64]) -> usize;
@@ -22,6 +28,7 @@ type Loop = fn(&[u64]) -> usize;
 macro_rules! each {
     ($number:ty, |$value:ident, $buffer:ident| $call:expr) => {{
         #[inline(never)]
+        #[allow(unused_mut, reason = "some calls take no buffer")]
         fn each(numbers: &[u64]) -> usize {
             let (mut total, mut $buffer) = (0, [0u8; 128]);
             for number in numbers {
@@ -35,6 +42,11 @@ macro_rules! each {
     }};
 }
 
+/// Returns a loop that takes the result of an expression without a buffer, and counts its bytes.
+macro_rules! taken {
+    ($number:ty, |$value:ident| $text:expr) => { each!($number, |$value, b| black_box($text).len() + usize::from(b[0])) };
+}
+
 /// Returns a loop of the standard library.
 macro_rules! std {
     ($number:ty, |$value:ident| $($text:tt)*) => {
@@ -46,68 +58,157 @@ macro_rules! std {
     };
 }
 
+/// Returns a loop that appends to a `Vec`, which is empty again after some bytes.
+macro_rules! append {
+    ($number:ty, |$value:ident, $bytes:ident| $call:expr) => {{
+        #[inline(never)]
+        fn each(numbers: &[u64]) -> usize {
+            let (mut total, mut $bytes) = (0, Vec::with_capacity(4096));
+            for number in numbers {
+                let $value = black_box(*number as $number);
+                if $bytes.len() > 4000 {
+                    total += $bytes.len();
+                    $bytes.clear();
+                }
+                $call;
+                black_box(&$bytes);
+            }
+            total + $bytes.len()
+        }
+        Some(each as Loop)
+    }};
+}
+
+/// Returns a loop of this package and one of `lexical-write-integer` in a radix.
+macro_rules! radix {
+    ($radix:literal) => {{
+        const LEXICAL: u128 = lexical::NumberFormatBuilder::from_radix($radix);
+        (
+            each!(u64, |n, b| n.to_lexical_with_options(&mut b, const { &RADICES[$radix] }, &Options::new()).len()),
+            each!(u64, |n, b| {
+                let options = lexical::Options::new();
+                lexical::ToLexicalWithOptions::to_lexical_with_options::<LEXICAL>(n, &mut b, &options).len()
+            }),
+        )
+    }};
+}
+
+/// Returns the loops of a type in decimal.
+macro_rules! decimal {
+    ($number:ty) => {
+        [
+            each!($number, |n, b| n.to_lexical(&mut b).len()),
+            each!($number, |n, b| lexical::ToLexical::to_lexical(n, &mut b).len()),
+            taken!($number, |n| itoa::Buffer::new().format(n)),
+            std!($number, |n| "{n}"),
+        ]
+    };
+}
+
 /// What is written, and the loops of this package, of `lexical-write-integer`, of `itoa` and of the standard library.
 type Row = (&'static str, [Option<Loop>; 4]);
 
-fn rows() -> [Row; 5] {
-    let lexical_u64 = each!(u64, |n, b| lexical::ToLexical::to_lexical(n, &mut b).len());
-    let lexical_i32 = each!(i32, |n, b| lexical::ToLexical::to_lexical(n, &mut b).len());
-    let lexical_16 = each!(u64, |n, b| {
-        lexical::ToLexicalWithOptions::to_lexical_with_options::<LEXICAL_16>(n, &mut b, &lexical::Options::new()).len()
+fn rows() -> Vec<Row> {
+    let (ours_8, lexical_8) = radix!(8);
+    let (ours_16, lexical_16) = radix!(16);
+    let (ours_36, lexical_36) = radix!(36);
+    let str_u64 = taken!(u64, |n| itoa::Buffer::new().format(n));
+    let str_i32 = taken!(i32, |n| itoa::Buffer::new().format(n));
+    let vec_u64 = append!(u64, |n, bytes| bytes.extend_from_slice(itoa::Buffer::new().format(n).as_bytes()));
+    let vec_lexical = append!(u64, |n, bytes| {
+        bytes.extend_from_slice(lexical::ToLexical::to_lexical(n, &mut [0; 20]));
     });
-    let lexical_36 = each!(u64, |n, b| {
-        lexical::ToLexicalWithOptions::to_lexical_with_options::<LEXICAL_36>(n, &mut b, &lexical::Options::new()).len()
-    });
-    let itoa_u64 = each!(u64, |n, b| black_box(itoa::Buffer::new().format(n)).len() + usize::from(b[0]));
-    let itoa_i32 = each!(i32, |n, b| black_box(itoa::Buffer::new().format(n)).len() + usize::from(b[0]));
-    let hexadecimal = each!(u64, |n, b| n.to_lexical_with_options(&mut b, &RADIX_16, &Options::new()).len());
-    let radix_36 = each!(u64, |n, b| n.to_lexical_with_options(&mut b, &RADIX_36, &Options::new()).len());
+    let shown = each!(u64, |n, b| write!(&mut b[..], "{}", Decimal(n)).map_or(0, |()| 1));
     let line = each!(u64, |n, b| ("id=", n, " flags=0x", Hex(n as u16)).write_to(&mut b));
-    [
-        ("`u64`", [each!(u64, |n, b| n.to_lexical(&mut b).len()), lexical_u64, itoa_u64, std!(u64, |n| "{n}")]),
-        ("`i32`", [each!(i32, |n, b| n.to_lexical(&mut b).len()), lexical_i32, itoa_i32, std!(i32, |n| "{n}")]),
-        ("`u64`, radix 16", [hexadecimal, lexical_16, None, std!(u64, |n| "{n:X}")]),
-        ("`u64`, radix 36", [radix_36, lexical_36, None, None]),
+    vec![
+        ("`u64` as a `&str`", [taken!(u64, |n| Buffer::new().format(n)), None, str_u64, None]),
+        ("`i32` as a `&str`", [taken!(i32, |n| Buffer::new().format(n)), None, str_i32, None]),
+        ("`u64`", decimal!(u64)),
+        ("`u32`", decimal!(u32)),
+        ("`u8`", decimal!(u8)),
+        ("`i64`", decimal!(i64)),
+        ("`i32`", decimal!(i32)),
+        ("`i8`", decimal!(i8)),
+        (
+            "`u64` to the end of a `Vec`",
+            [
+                append!(u64, |n, bytes| bytes.extend_from_slice(n.to_lexical(&mut [0; 20]))),
+                vec_lexical,
+                vec_u64,
+                append!(u64, |n, bytes| write!(bytes, "{n}").unwrap()),
+            ],
+        ),
+        ("`u64`, radix 8", [ours_8, lexical_8, None, std!(u64, |n| "{n:o}")]),
+        ("`u64`, radix 16", [ours_16, lexical_16, None, std!(u64, |n| "{n:X}")]),
+        ("`u64`, radix 36", [ours_36, lexical_36, None, None]),
+        ("`Hex` of a `u64`", [each!(u64, |n, b| Hex(n).write_to(&mut b)), None, None, std!(u64, |n| "{n:X}")]),
+        ("`Digits` in radix 36 as a `&str`", [each!(u64, |n, b| Digits(36, n).to_str(&mut b).len()), None, None, None]),
+        ("`{}` of a `u64`", [shown, None, None, std!(u64, |n| "{n}")]),
         ("`id=N flags=0xN`", [line, None, None, std!(u64, |n| "id={n} flags=0x{:X}", n as u16)]),
     ]
 }
 
-/// Returns numbers of 1 to 64 bits, each length as often.
-fn numbers() -> Vec<u64> {
-    let mut state = 0x9e37_79b9_7f4a_7c15_u64;
-    let mut random = || {
-        state ^= state << 13;
-        state ^= state >> 7;
-        state ^= state << 17;
-        state
-    };
-    (0..COUNT).map(|_| random() >> (random() % 64)).collect()
+fn random(state: &mut u64) -> u64 {
+    *state ^= *state << 13;
+    *state ^= *state >> 7;
+    *state ^= *state << 17;
+    *state
 }
 
-/// Returns how many instructions this program takes to write some numbers with a loop.
-fn instructions(row: usize, column: usize, count: usize) -> u64 {
-    let mut command = Command::new("valgrind");
-    command.args(["--tool=callgrind", "--callgrind-out-file=/dev/null"]).arg(std::env::current_exe().unwrap());
-    let output = command.args([row, column, count].map(|word| word.to_string())).output().expect("valgrind");
-    let text = String::from_utf8_lossy(&output.stderr);
-    let count = text.lines().find_map(|line| Some(line.split_once("Collected : ")?.1.trim().parse().unwrap()));
-    count.unwrap_or_else(|| panic!("valgrind: {text}"))
+/// Returns numbers of 1 to 64 bits, each length as often, or of this many digits in a radix.
+fn numbers(digits: Option<(u64, u32)>) -> Vec<u64> {
+    let state = &mut 0x9e37_79b9_7f4a_7c15_u64;
+    let number = |index: usize| match digits {
+        None => (random(state) | 1 << 63) >> (63 - index % 64),
+        Some((radix, count)) => {
+            let least = radix.pow(count - 1);
+            least + random(state) % (least.saturating_mul(radix - 1).min(u64::MAX - least))
+        }
+    };
+    (0..COUNT).map(number).collect()
+}
+
+/// Returns how many instructions of a number this program takes to write some numbers with a loop.
+fn instructions(words: [usize; 4]) -> f64 {
+    let run = |count: usize| {
+        let mut command = Command::new("valgrind");
+        command.args(["--tool=callgrind", "--callgrind-out-file=/dev/null"]).arg(std::env::current_exe().unwrap());
+        let words = [words[0], words[1], words[2], words[3], count];
+        let output = command.args(words.map(|word| word.to_string())).output().expect("valgrind");
+        let text = String::from_utf8_lossy(&output.stderr);
+        let count = text.lines().find_map(|line| Some(line.split_once("Collected : ")?.1.trim().parse::<u64>().unwrap()));
+        count.unwrap_or_else(|| panic!("valgrind: {text}"))
+    };
+    (run(COUNT) - run(0)) as f64 / COUNT as f64
+}
+
+/// Prints the counts of a row by the number of digits, which the radix bounds.
+fn print_by_digits(row: usize, radix: usize, most: usize) {
+    let rows = rows();
+    for digits in 1..=most {
+        let cells = rows[row].1.iter().enumerate().map(|(column, each)| match each {
+            Some(_) => format!("{:.0}", instructions([row, column, radix, digits])),
+            None => "-".to_owned(),
+        });
+        println!("{radix} {digits} {}", cells.collect::<Vec<_>>().join(" "));
+    }
 }
 
 fn main() {
     let words: Vec<usize> = std::env::args().filter_map(|word| word.parse().ok()).collect();
-    if let [row, column, count] = words[..] {
+    if let [row, column, radix, digits, count] = words[..] {
         let each = rows()[row].1[column].expect("a loop");
-        println!("{}", each(&numbers()[..count]));
-        return;
-    }
-    println!("| | here | `lexical-write-integer` | `itoa` | `write!` |\n|---|---|---|---|---|");
-    for (row, (name, loops)) in rows().iter().enumerate() {
-        let cell = |column: usize| {
-            let count = instructions(row, column, COUNT) - instructions(row, column, 0);
-            format!("{:.0}", count as f64 / COUNT as f64)
-        };
-        let cells = (0..4).map(|column| loops[column].map_or("-".to_owned(), |_| cell(column)));
-        println!("| {name} | {} |", cells.collect::<Vec<_>>().join(" | "));
+        let digits = (radix > 0).then_some((radix as u64, digits as u32));
+        println!("{}", each(&numbers(digits)[..count]));
+    } else if std::env::args().any(|word| word == "--by-digits") {
+        print_by_digits(2, 10, 20);
+        print_by_digits(11, 36, 13);
+    } else {
+        println!("| | here | `lexical-write-integer` | `itoa` | std |\n|---|---|---|---|---|");
+        for (row, (name, loops)) in rows().iter().enumerate() {
+            let cell = |column: usize| format!("{:.0}", instructions([row, column, 0, 0]));
+            let cells = (0..4).map(|column| loops[column].map_or("-".to_owned(), |_| cell(column)));
+            println!("| {name} | {} |", cells.collect::<Vec<_>>().join(" | "));
+        }
     }
 }

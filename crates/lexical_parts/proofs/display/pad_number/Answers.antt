@@ -1,14 +1,11 @@
 use Rattle.std.proofs.lemmas.Grind.{common_steps}
-use Rattle.std.proofs.Common.{◌≡◌, ◌∙◌, ap, sym, false, not, drop, arith}
-use Rattle.std.specs.Fmt.{formatter_spec}
+use Rattle.std.proofs.Common.{◌≡◌, ◌∙◌, ap, sym, false, not, [], drop, length, arith}
+use Rattle.std.specs.Fmt.{formatter_spec, padded_integral, sign_text_with}
 use Rattle.std.specs.Option.{is_some}
 use Rattle.std.proofs.lemmas.Str.{IsCharBoundary-after_ascii}
 use Rattle.std.proofs.Output.{has_written_styled_of_eq}
-use Rattle.lexical_parts.proofs.ShownNumbers.{negative_sign, no_width, unpadded}
+use Rattle.lexical_parts.proofs.ShownNumbers.{negative_sign, no_width, sign_as_digit, unpadded}
 use Rattle.lexical_parts.proofs.display.pad_number.Goals as goal
-
-pub range_from-requires : goal.range_from-requires
-range_from-requires g c = grind (arith, common_steps, IsCharBoundary-after_ascii)
 
 pub returns-then-not-alternate-clause-styled : goal.returns-then-not-alternate-clause-styled
 returns-then-not-alternate-clause-styled g c = λ p ok.
@@ -18,9 +15,3 @@ returns-then-not-alternate-clause-styled g c = λ p ok.
     let no_plus : (formatter_spec f).plus ≡ false = sym c.sign_plus.ensures.value ∙ c.if-not-sign_plus.true in
     has_written_styled_of_eq _ _ _ _ _ (c.requires ∙ sym (unpadded f c.args.has_plus c.args.is_negative _ width no_plus))
     (c.write_str.ensures.styled p ok)
-
-pub returns-then-is_negative-clause-styled : goal.returns-then-is_negative-clause-styled
-returns-then-is_negative-clause-styled g c = λ p ok.
-    rw c.if-is_negative.true
-    (has_written_styled_of_eq _ _ _ _ _ (negative_sign c.args.f.now c.args.has_plus (drop 1 c.args.text.now))
-    (rw c.range_from.ensures.value at c.pad_integral.ensures.styled p ok))

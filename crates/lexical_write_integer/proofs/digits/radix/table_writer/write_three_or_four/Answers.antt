@@ -69,11 +69,13 @@ bounds-table-pair-2 g c = omega (arith, last g (goal.at.bounds-table-pair-2 g c)
 
 pub bounds-written-count : goal.bounds-written-count
 bounds-written-count g c =
-    omega (arith, c.write_one_pair.auto.buffer, slice g (goal.at.bounds-written-count g c).After-count_three_or_four-count, c.count_three_or_four-count.ensures.three)
+    let sliced = slice g (goal.at.bounds-written-count g c).After-count_three_or_four-count in
+    omega (arith, c.write_one_pair.auto.buffer, sliced, c.count_three_or_four-count.ensures.three)
 
 pub bounds-written-count-2 : goal.bounds-written-count-2
 bounds-written-count-2 g c =
-    rw length-set (omega (arith, c.write_one_pair.auto.buffer, slice g (goal.at.bounds-written-count-2 g c).After-count_three_or_four-count, c.count_three_or_four-count.ensures.three))
+    let sliced = slice g (goal.at.bounds-written-count-2 g c).After-count_three_or_four-count in
+    rw length-set (omega (arith, c.write_one_pair.auto.buffer, sliced, c.count_three_or_four-count.ensures.three))
 
 pub returns-clause-digits : goal.returns-clause-digits
 returns-clause-digits g c =

@@ -1,0 +1,104 @@
+// Prints how long the library takes beside std::to_chars, and beside {fmt} if it is there, in nanoseconds per number: the
+// best of 100 interleaved passes over 10,000 numbers of 1 to 64 bits, each length as often.
+#include <lexical.h>
+
+#include <charconv>
+#include <chrono>
+#include <cstdio>
+#include <cstring>
+#include <vector>
+#if __has_include(<fmt/format.h>)
+#define FMT_HEADER_ONLY
+#include <fmt/format.h>
+#define HAS_FMT 1
+#else
+#define HAS_FMT 0
+#endif
+
+namespace {
+
+char buffer[LEXICAL_BUFFER_SIZE];
+using Writer = size_t (*)(uint64_t);
+
+// Each function is called, as that of a library is.
+[[gnu::noinline]] size_t decimal(uint64_t value) { return lexical_decimal_u64(value, buffer, sizeof buffer); }
+
+template <unsigned radix, unsigned lowercase>
+[[gnu::noinline]] size_t lexical(uint64_t value)
+{
+    static const lexical_format format = { radix, 0, 0, 0, lowercase, { 0, 0 } };
+    return lexical_write_u64(value, &format, buffer, sizeof buffer);
+}
+
+template <int radix>
+[[gnu::noinline]] size_t to_chars(uint64_t value)
+{
+    return static_cast<size_t>(std::to_chars(buffer, buffer + sizeof buffer, value, radix).ptr - buffer);
+}
+
+template <int radix, bool lowercase>
+[[gnu::noinline]] size_t fmt_text(uint64_t value)
+{
+#if HAS_FMT
+    if (radix == 10) return static_cast<size_t>(fmt::format_to(buffer, "{}", value) - buffer);
+    if (radix == 2) return static_cast<size_t>(fmt::format_to(buffer, "{:b}", value) - buffer);
+    if (radix == 8) return static_cast<size_t>(fmt::format_to(buffer, "{:o}", value) - buffer);
+    if (lowercase) return static_cast<size_t>(fmt::format_to(buffer, "{:x}", value) - buffer);
+    return static_cast<size_t>(fmt::format_to(buffer, "{:X}", value) - buffer);
+#else
+    return value;
+#endif
+}
+
+std::vector<uint64_t> numbers;
+
+double nanoseconds(Writer writer)
+{
+    using clock = std::chrono::steady_clock;
+    auto start = clock::now();
+    size_t written = 0;
+    for (uint64_t number : numbers) written += writer(number);
+    std::chrono::duration<double, std::nano> taken = clock::now() - start;
+    return written == 0 ? 0 : taken.count() / static_cast<double>(numbers.size());
+}
+
+struct Row {
+    const char *name;
+    Writer writers[3];
+    double best[3];
+};
+
+}  // namespace
+
+int main()
+{
+    uint64_t state = 0;
+    for (int i = 0; i < 10000; i++) {
+        uint64_t mixed = state += 0x9e3779b97f4a7c15u;
+        mixed = (mixed ^ (mixed >> 30)) * 0xbf58476d1ce4e5b9u;
+        mixed = (mixed ^ (mixed >> 27)) * 0x94d049bb133111ebu;
+        numbers.push_back((mixed ^ (mixed >> 31)) >> (i % 64));
+    }
+    Row rows[] = {
+        { "lexical_decimal_u64", { decimal, to_chars<10>, fmt_text<10, false> }, {} },
+        { "radix 10", { lexical<10, 0>, to_chars<10>, fmt_text<10, false> }, {} },
+        { "radix 2", { lexical<2, 0>, to_chars<2>, fmt_text<2, false> }, {} },
+        { "radix 8", { lexical<8, 0>, to_chars<8>, fmt_text<8, false> }, {} },
+        { "radix 16", { lexical<16, 0>, nullptr, fmt_text<16, false> }, {} },
+        { "radix 16, lowercase", { lexical<16, 1>, to_chars<16>, fmt_text<16, true> }, {} },
+        { "radix 36", { lexical<36, 0>, nullptr, nullptr }, {} },
+        { "radix 36, lowercase", { lexical<36, 1>, to_chars<36>, nullptr }, {} },
+    };
+    for (int pass = 0; pass < 100; pass++)
+        for (Row &row : rows)
+            for (int i = 0; i < 2 + HAS_FMT; i++) {
+                double taken = row.writers[i] == nullptr ? 0 : nanoseconds(row.writers[i]);
+                if (pass == 0 || taken < row.best[i]) row.best[i] = taken;
+            }
+    std::puts("| `u64` | lexical | `to_chars` | {fmt} |\n|---|---|---|---|");
+    for (const Row &row : rows) {
+        std::printf("| %s |", row.name);
+        for (double best : row.best) best == 0 ? std::printf(" - |") : std::printf(" %.1f |", best);
+        std::puts("");
+    }
+}
