@@ -1,18 +1,18 @@
-//! Texts at fixed places of a record.
+//! Texts at fixed places of a buffer, such as the header of a file.
 
 ghost use Rattle.std.specs.Prelude.{◌≡◌, ◌+◌, ◌≤◌, List, drop, length, slice_range, take, ℕ};
 
 use crate::part::Part;
 
-/// Writes a part, each of whose texts has `count` bytes, to the field of this length at the index of a record. No other
+/// Writes a part, each of whose texts has `count` bytes, to the field of this length at the index. No other
 /// byte of the buffer changes. The part must be valid, and the buffer must have the field.
 ///
 /// ```
 /// use lexical_parts::{PaddedDigits, write_field};
 ///
-/// let mut record = *b"size:....;";
-/// write_field(PaddedDigits(8, 420u16, 4), 5, 4, &mut record);
-/// assert_eq!(rt; record, *b"size:0644;");
+/// let mut header = *b"size:....;";
+/// write_field(PaddedDigits(8, 420u16, 4), 5, 4, &mut header);
+/// assert_eq!(rt; header, *b"size:0644;");
 /// ```
 pub fn write_field<P: Part>(part: P, index: usize, count: usize, buffer: &mut [u8])
     requires valid { P.is_valid part }
@@ -24,5 +24,7 @@ pub fn write_field<P: Part>(part: P, index: usize, count: usize, buffer: &mut [u
     ensures after { drop (index + count) buffer.new ≡ drop (index + count) buffer.old }
     ensures same_length { length buffer.new ≡ length buffer.old }
 {
-    part.write_at(index, buffer);
+    let end = part.write_at(index, buffer);
+    // In Rust nothing else refuses a text of another length.
+    prove!(end == index + count, "the text does not have `count` bytes");
 }

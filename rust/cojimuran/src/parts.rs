@@ -33,6 +33,7 @@ mod buffer;
 mod cell;
 mod column;
 mod display;
+mod field;
 mod fill;
 mod fixed;
 mod integers;
@@ -56,6 +57,7 @@ mod zero_padded;
 
 pub use buffer::Buffer;
 pub use column::{Center, Left, Right};
+pub use field::write_field;
 pub use fixed::{Fixed, GroupedFixed};
 pub use joined::Joined;
 pub use lower::Lower;

@@ -8,7 +8,9 @@ use cojimuran::decimal::Decimal as _;
 use cojimuran::digit_count::DigitCount;
 use cojimuran::format::STANDARD;
 use cojimuran::padded::write_padded;
-use cojimuran::parts::{Bytes, Decimal, Digits, Fixed, Joined, Left, Padded, PaddedDigits, Part, write_with_length};
+use cojimuran::parts::{
+    Bytes, Decimal, Digits, Fixed, Joined, Left, Padded, PaddedDigits, Part, write_field, write_with_length,
+};
 use cojimuran::radix::{Radix, digit_to_char};
 use cojimuran::write::WriteInteger;
 use cojimuran::{
@@ -116,6 +118,7 @@ fn short_buffers_of_each_function(called: &mut Vec<Panicking>) {
         b"-" => |b| write_sign(-1i8, b, &STANDARD);
         &[7, b'-', b'5'] => |b| Decimal(-5).write_at(1, b);
         b"05hello" => |b| 2 + write_with_length("hello", 10, 2, 0, b);
+        &[7, b'a', b'b'] => |b| { write_field("ab", 1, 2, b); 3 };
     }
 }
 
@@ -237,8 +240,10 @@ fn messages(called: &mut Vec<Panicking>) {
         "the part is not valid", "the number has more digits than the width": Padded(2026u16, 2).to_text(buffer),
             Padded(15u8, 1).try_to_str(buffer), Padded(1234567u32, 3).to_str(buffer),
             PaddedDigits(16, 256u32, 2).to_text(buffer), write_with_length(Padded(12u8, 1), 10, 1, 0, buffer),
+            write_field(Padded(12u8, 1), 0, 1, buffer),
             (1u8, Padded(10u8, 1)).append_to(&mut Vec::new());
         "the vector cannot have the room", "capacity overflow": Left("", usize::MAX, b' ').append_to(&mut vec![1]);
+        "the text does not have `count` bytes", "the text does not have `count` bytes": write_field("ab", 0, 3, buffer);
         "the text of the part is not UTF-8", "Utf8Error": not_utf8.to_str(buffer), not_utf8.try_to_str(buffer);
         "the length and `extra` together are above `usize::MAX`", "the length and `extra` together are above usize::MAX":
             write_with_length("ab", 10, 20, usize::MAX - 1, buffer);

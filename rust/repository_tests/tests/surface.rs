@@ -11,7 +11,7 @@ use cojimuran::jeaiii::{
 };
 use cojimuran::parts::{
     Binary, Byte, Bytes, Center, Decimal, Digits, Fixed, Formatted, GroupedFixed, Hex, HexBytes, Joined, Left, Lower,
-    OrElse, Padded, PaddedDigits, Part, Plus, Right, Scientific, Sign, ZeroPadded, write_with_length,
+    OrElse, Padded, PaddedDigits, Part, Plus, Right, Scientific, Sign, ZeroPadded, write_field, write_with_length,
 };
 use cojimuran::table::{DIGIT_TO_BASE2_SQUARED, DIGIT_TO_BASE36_SQUARED, get_table};
 use cojimuran::{

@@ -44,6 +44,8 @@ const CONDITIONS: &[(&str, Option<&str>)] = &[
     ("room: is_valid self", None),
     ("is_valid self", Some("the part is not valid")),
     ("P.is_valid part", Some("the part is not valid")),
+    ("P.room part ≤ count", Some("the text does not have `count` bytes")),
+    ("length text ≡ count", Some("the text does not have `count` bytes")),
     ("extra + P.room part < radix ^ width", Some("the length has more digits than `width`")),
     ("extra + P.room part < 2 ^ 64", Some("the length and `extra` together are above `usize::MAX`")),
     ("is_utf8 self", Some("the text of the part is not UTF-8")),

@@ -1,10 +1,8 @@
-use Rattle.std.proofs.lemmas.Grind.{common_steps}
-use Rattle.std.proofs.Common.{◌≡◌, ◌∙◌, ap, sym, false, not, [], drop, length, arith}
-use Rattle.std.specs.Fmt.{formatter_spec, padded_integral, sign_text_with}
+use Rattle.std.proofs.Common.{◌≡◌, ◌∙◌, ap, sym, false, not}
+use Rattle.std.specs.Fmt.{formatter_spec}
 use Rattle.std.specs.Option.{is_some}
-use Rattle.std.proofs.lemmas.Str.{IsCharBoundary-after_ascii}
 use Rattle.std.proofs.Output.{has_written_styled_of_eq}
-use Rattle.lexical_parts.proofs.ShownNumbers.{negative_sign, no_width, sign_as_digit, unpadded}
+use Rattle.lexical_parts.proofs.ShownNumbers.{no_width, unpadded}
 use Rattle.lexical_parts.proofs.display.pad_number.Goals as goal
 
 pub returns-then-not-alternate-clause-styled : goal.returns-then-not-alternate-clause-styled
