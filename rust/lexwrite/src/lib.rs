@@ -16,6 +16,7 @@
 #[doc = include_str!(concat!(env!("OUT_DIR"), "/lexical_lines/lib.md"))]
 #[allow(unused_imports, reason = "only contracts use the methods of some traits")]
 #[allow(clippy::new_without_default, reason = "an answerer is at the start of an input")]
+#[allow(clippy::needless_range_loop, clippy::manual_find, reason = "the prover knows the index of a newline")]
 #[allow(clippy::len_without_is_empty, reason = "the length of what a sink took is not that of a collection")]
 pub mod lines {
     include!(concat!(env!("OUT_DIR"), "/lexical_lines/lib.rs"));

@@ -146,7 +146,7 @@ fn padded_digits() {
     // The largest number of the width, and one more.
     for (radix, width, most) in [(7, 23, u64::MAX), (7, 22, 7u64.pow(22) - 1), (3, 2, 8), (36, 12, 36u64.pow(12) - 1)] {
         let part = PaddedDigits(radix, most, width);
-        assert_eq!(u64::from_str_radix(&format!("{part:>70}").trim_start(), radix), Ok(most));
+        assert_eq!(u64::from_str_radix(format!("{part:>70}").trim_start(), radix), Ok(most));
         assert_eq!((part, "").to_str(&mut [0; 23]).len(), width);
         let more = PaddedDigits(radix, most.saturating_add(1), width);
         assert_eq!(write!(String::new(), "{more}").is_ok(), most == u64::MAX);

@@ -271,7 +271,7 @@ fn write_one_pair<const R: u32>(
 {
     // rustc tests the end of these bytes once.
     let written = &mut buffer[..digits];
-    let index = 2 * number as usize;
+    let index = 2 * number as u32 as usize;
     let mut pair = [0; 2];
     pair.copy_from_slice(&table.pairs[index..index + 2]);
     let characters = u16::from_le_bytes(pair);
