@@ -400,8 +400,8 @@ size_t lexical_write_i64(int64_t value, const struct lexical_format *format,
  * char16_t and char32_t, which in C are names of integer types: a cast says whether
  * the number or a letter is meant. In C11 a bit-field needs a cast too.
  *
- * In C++ the format may also be passed as an object, and from C++11 on as an
- * initializer:
+ * In C++ the format may also be passed as an object, and in C++11 and later as
+ * an initializer:
  *
  *     count = lexical_write(48879, LEXICAL_RADIX(16), buffer, sizeof buffer);
  *

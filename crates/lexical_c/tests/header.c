@@ -1,7 +1,7 @@
 /*
  * Compares the header with the library: the type of each function, the size of a format, the examples, and the function
- * that lexical_decimal, lexical_write and lexical_length choose by the type of a value. It is compiled as each standard
- * from C99 and C++98 on. With WRONG_TEXT it must fail, and with REFUSED, a call that a type lacks, it must not compile.
+ * that lexical_decimal, lexical_write and lexical_length choose by the type of a value. It is compiled as C99, C++98
+ * and each later standard. With WRONG_TEXT it must fail, and with REFUSED, a call that a type lacks, it must not compile.
  */
 #include "lexical.h"
 #include "types.h"
@@ -167,7 +167,7 @@ static int check_version(void)
         + is_wrong(strcmp(text, LEXICAL_VERSION_STRING) == 0, "LEXICAL_VERSION_STRING");
 }
 
-/* In C++ no call throws, and from C++14 on fields that an initializer leaves out are 0. */
+/* In C++ no call throws, and in C++14 and later fields that an initializer leaves out are 0. */
 static int check_cpp(void)
 {
     int wrong = 0;
