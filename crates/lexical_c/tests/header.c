@@ -1,7 +1,7 @@
 /*
  * Compares the header with the library: the type of each function, the size of a format, the examples, and the function
  * that lexical_decimal, lexical_write and lexical_length choose by the type of a value. It is compiled as C99, C++98
- * and each later standard. With WRONG_TEXT it must fail, and with REFUSED, a call that a type lacks, it must not compile.
+ * and each later standard. With WRONG_TEXT it must fail, and with REFUSED, a call that a type lacks, not compile.
  */
 #include "lexical.h"
 #include "types.h"

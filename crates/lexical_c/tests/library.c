@@ -392,7 +392,7 @@ static void check_table(void)
 
 /* ---- formats and buffers -------------------------------------------------- */
 
-/* Checks every field of a format: each byte, each bit by itself, and greater numbers; also with other invalid fields. */
+/* Checks every field of a format: each byte, each bit by itself, and larger numbers; also with other invalid fields. */
 static void check_fields(void)
 {
     static const uint32_t GREAT[] = {
