@@ -1,38 +1,33 @@
 //! Numbers with a fixed number of decimals.
 #![tactic(auto, using(crate::proofs::Utf8Texts::kinds))]
 
-ghost use Rattle.std.specs.Prelude.{◌≡◌, ◌+◌, ◌-◌, ◌≤◌, length, take, drop, replicate, unsigned_abs, if◌then◌else◌};
+ghost use Rattle.std.specs.Prelude.{◌+◌, ◌≤◌, length, max, unsigned_abs, if◌then◌else◌};
 ghost use Rattle.lexical_write_integer.specs.Buffer.{Writes};
 ghost use Rattle.lexical_parts.specs.Fixed.{AreUnits, IsFixed, IsGroupedFixed, IsGroupedUnits};
 ghost use Rattle.lexical_parts.specs.Fixed.{fixed_room, grouped_units_room};
 
+use crate::fill::insert_fill;
 use crate::own::Own;
 use crate::part::Part;
 use crate::sign::Sign;
-use crate::text::Bytes;
-use lexical_write_integer::buffer::copy_to_front;
 use lexical_write_integer::format::STANDARD;
 use lexical_write_integer::laws::size_suffices;
 use lexical_write_integer::{NumberFormat, ToLexicalWithOptions, group_digits};
 
-// Writes the digits of a number after the first 20 of 40 zeros. Returns where they begin and end, with the zeros before
-// them that a digit before the point requires, so that no digit is moved for these.
-fn write_units<T: ToLexicalWithOptions>(
-    number: T,
-    decimals: usize,
-    array: &mut [u8],
-) -> (usize, usize)
+// Writes the digits of a number to the start of the buffer, after the zeros that a digit before the point requires, and
+// returns the number of bytes written.
+fn write_units<T: ToLexicalWithOptions>(number: T, decimals: usize, buffer: &mut [u8]) -> usize
     requires decimals { decimals ≤ 19 }
-    requires zeros { array.old ≡ replicate 40 48 }
-    ensures order { result.0 ≤ result.1 }
-    ensures within { result.1 ≤ length array.new }
-    ensures units { AreUnits decimals (unsigned_abs (T.number number)) T.DECIMAL_WIDTH
-        (take (result.1 - result.0) (drop result.0 array.new)) }
+    requires room { max T.DECIMAL_WIDTH (decimals + 1) ≤ length buffer.old }
+    ensures { Writes (AreUnits decimals (unsigned_abs (T.number number)) T.DECIMAL_WIDTH) buffer.old buffer.new result }
 {
     number.in_range();
-    let count = number.write_magnitude(&STANDARD, &mut array[20..]);
-    let zeros = (decimals + 1).saturating_sub(count);
-    (20 - zeros, 20 + count)
+    let count = number.write_magnitude(&STANDARD, buffer);
+    if count > decimals {
+        return count;
+    }
+    insert_fill(b'0', decimals + 1 - count, count, buffer);
+    decimals + 1
 }
 
 // Writes the absolute value of a number of units of 10^-`decimals` to the start of the buffer, with its whole part in
@@ -49,18 +44,15 @@ fn write_grouped_units<T: ToLexicalWithOptions>(
         buffer.old buffer.new result }
     ensures short { result ≤ grouped_units_room format.now.digit_grouping T.DECIMAL_WIDTH decimals }
 {
+    let count = write_units(number, decimals, buffer);
+    let whole = count - decimals;
     if decimals == 0 {
-        number.in_range();
-        let count = number.write_magnitude(&STANDARD, buffer);
-        return group_digits(count, format, buffer);
+        return group_digits(whole, format, buffer);
     }
-    let mut array = [b'0'; 40];
-    let (start, end) = write_units(number, decimals, &mut array);
-    let units = &array[start..end];
-    let whole = units.len() - decimals;
-    copy_to_front(&units[..whole], buffer);
-    let point = group_digits(whole, format, buffer);
-    point + (".", Bytes(&units[whole..])).write_to(&mut buffer[point..])
+    // Of these points the groups replace all but the last.
+    let points = format.grouped_len(whole) + 1 - whole;
+    insert_fill(b'.', points, decimals, &mut buffer[whole..]);
+    group_digits(whole, format, buffer) + 1 + decimals
 }
 
 /// A number of units of 10^-`decimals`, such as an amount in cents: `Fixed(-5i64, 2)` writes `-0.05`,

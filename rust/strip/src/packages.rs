@@ -154,7 +154,7 @@ pub(crate) const SOURCES: &[Source] = &[
             ("#[inline(always)]\n#[allow(unsafe_code)]", "to_str"),
             (
                 "#[inline(always)]",
-                "tuples.rt joined.rt integers.rt number.rt text.rt powers_of_two.rt padded.rt is_known_utf8 is_sure format
+                "tuples.rt joined.rt integers.rt number.rt text.rt powers_of_two.rt padded.rt fixed.rt is_known_utf8 is_sure format
                 to_text",
             ),
         ],

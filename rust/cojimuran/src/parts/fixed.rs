@@ -2,47 +2,43 @@
 
 //! Numbers with a fixed number of decimals.
 
+use crate::parts::fill::insert_fill;
 use crate::parts::own::Own;
 use crate::parts::part::Part;
 use crate::parts::sign::Sign;
-use crate::parts::text::Bytes;
-use crate::write_integer::buffer::copy_to_front;
 use crate::write_integer::format::STANDARD;
 use crate::write_integer::{NumberFormat, ToLexicalWithOptions, group_digits};
 
-// Writes the digits of a number after the first 20 of 40 zeros. Returns where they begin and end, with the zeros before
-// them that a digit before the point requires, so that no digit is moved for these.
-#[inline]
-fn write_units<T: ToLexicalWithOptions>(
-    number: T,
-    decimals: usize,
-    array: &mut [u8],
-) -> (usize, usize) {
-    let count = number.write_magnitude(&STANDARD, &mut array[20..]);
-    let zeros = (decimals + 1).saturating_sub(count);
-    (20 - zeros, 20 + count)
+// Writes the digits of a number to the start of the buffer, after the zeros that a digit before the point requires, and
+// returns the number of bytes written.
+#[inline(always)]
+fn write_units<T: ToLexicalWithOptions>(number: T, decimals: usize, buffer: &mut [u8]) -> usize {
+    let count = number.write_magnitude(&STANDARD, buffer);
+    if count > decimals {
+        return count;
+    }
+    insert_fill(b'0', decimals + 1 - count, count, buffer);
+    decimals + 1
 }
 
 // Writes the absolute value of a number of units of 10^-`decimals` to the start of the buffer, with its whole part in
 // the groups of the format, and returns the number of bytes written.
-#[inline]
+#[inline(always)]
 fn write_grouped_units<T: ToLexicalWithOptions>(
     number: T,
     decimals: usize,
     format: &NumberFormat,
     buffer: &mut [u8],
 ) -> usize {
+    let count = write_units(number, decimals, buffer);
+    let whole = count - decimals;
     if decimals == 0 {
-        let count = number.write_magnitude(&STANDARD, buffer);
-        return group_digits(count, format, buffer);
+        return group_digits(whole, format, buffer);
     }
-    let mut array = [b'0'; 40];
-    let (start, end) = write_units(number, decimals, &mut array);
-    let units = &array[start..end];
-    let whole = units.len() - decimals;
-    copy_to_front(&units[..whole], buffer);
-    let point = group_digits(whole, format, buffer);
-    point + (".", Bytes(&units[whole..])).write_to(&mut buffer[point..])
+    // Of these points the groups replace all but the last.
+    let points = format.grouped_len(whole) + 1 - whole;
+    insert_fill(b'.', points, decimals, &mut buffer[whole..]);
+    group_digits(whole, format, buffer) + 1 + decimals
 }
 
 /// A number of units of 10^-`decimals`, such as an amount in cents: `Fixed(-5i64, 2)` writes `-0.05`,
@@ -59,12 +55,12 @@ fn write_grouped_units<T: ToLexicalWithOptions>(
 pub struct Fixed<T>(pub T, pub usize);
 
 impl<T: ToLexicalWithOptions> Part for Fixed<T> {
-    #[inline]
+    #[inline(always)]
     fn room(self) -> usize {
         GroupedFixed(self.0, self.1, &STANDARD).room()
     }
 
-    #[inline]
+    #[inline(always)]
     fn write_to(self, buffer: &mut [u8]) -> usize {
         GroupedFixed(self.0, self.1, &STANDARD).write_to(buffer)
     }
@@ -88,7 +84,7 @@ impl<T: ToLexicalWithOptions> Part for Fixed<T> {
 pub struct GroupedFixed<'a, T>(pub T, pub usize, pub &'a NumberFormat);
 
 impl<T: ToLexicalWithOptions> Part for GroupedFixed<'_, T> {
-    #[inline]
+    #[inline(always)]
     fn room(self) -> usize {
         assert!(
             self.1 <= 19,
@@ -99,7 +95,7 @@ impl<T: ToLexicalWithOptions> Part for GroupedFixed<'_, T> {
         usize::from(T::IS_SIGNED) + self.2.grouped_len(whole) + self.1 + self.1.min(1)
     }
 
-    #[inline]
+    #[inline(always)]
     fn write_to(self, buffer: &mut [u8]) -> usize {
         assert!(
             self.1 <= 19,
