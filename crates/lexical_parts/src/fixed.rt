@@ -17,7 +17,7 @@ use lexical_write_integer::{NumberFormat, ToLexicalWithOptions, group_digits};
 
 // Writes the digits of a number after the first 20 of 40 zeros. Returns where they begin and end, with the zeros before
 // them that a digit before the point requires, so that no digit is moved for these.
-fn write_units<T: ToLexicalWithOptions>(
+pub(crate) fn write_units<T: ToLexicalWithOptions>(
     number: T,
     decimals: usize,
     array: &mut [u8],
