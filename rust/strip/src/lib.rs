@@ -46,7 +46,7 @@ fn made(top: &Path) -> Result<BTreeMap<PathBuf, String>, String> {
         }
     }
     document(top, &mut made)?;
-    for name in ["LICENSE-APACHE", "LICENSE-MIT"] {
+    for name in ["CHANGELOG.md", "LICENSE-APACHE", "LICENSE-MIT"] {
         made.insert(Path::new("rust/cojimuran").join(name), read(&top.join(name))?);
     }
     Ok(made)
