@@ -52,6 +52,13 @@ impl NumberFormatBuilder {
         Self::from_radix(2)
     }
 
+    /// Returns the format whose radices are both 16, with no required sign and no groups.
+    pub fn hexadecimal() -> NumberFormat
+        ensures { result ≡ record standard { mantissa_radix = 16; exponent_radix = 16 } }
+    {
+        Self::from_radix(16)
+    }
+
     /// Returns the format whose radices are both `radix`, from 2 to 36, with no required sign and no
     /// groups.
     pub fn from_radix(radix: u8) -> NumberFormat

@@ -1,7 +1,7 @@
 -- The text of a number of units without its point, which std reads as the number of units.
-use Rattle.std.proofs.Common.{◌≡◌, ◌≢◌, ℕ, zero, suc, ◌+◌, ◌/◌, ◌^◌, ◌<◌, List, [], ◌∷◌, ◌++◌, length, map}
+use Rattle.std.proofs.Common.{◌≡◌, ◌≢◌, ℕ, zero, suc, ◌/◌, ◌^◌, ◌<◌, List, [], ◌∷◌, ◌++◌, length, map}
 use Rattle.std.proofs.Common.{refl, ap, ◌∙◌, ℤ, not, ◌==◌, false, arith}
-use Rattle.std.proofs.Common.{div-add-mod', div-one}
+use Rattle.std.proofs.Common.{div-one}
 use Rattle.std.specs.Prelude.{unsigned_abs}
 use Rattle.std.specs.List.{All, filter}
 use Rattle.std.proofs.lemmas.Bool.{cond-true, ne_eqb, not_from_false}
@@ -9,14 +9,11 @@ use Rattle.std.proofs.lemmas.List.{append-nil}
 use Rattle.std.proofs.lemmas.List.Elements.{All-head, All-tail, All-map, filter-append}
 use Rattle.lexical_num.specs.Digit.{digit_char}
 use Rattle.lexical_num.specs.Sign.{sign_of}
-use Rattle.lexical_write_integer.specs.Numeral.{IsBlockOf}
-use Rattle.lexical_write_integer.specs.Padded.{IsPadded}
-use Rattle.lexical_write_integer.proofs.OfDigits.Numerals.{IsBlockOf-append}
-use Rattle.lexical_write_integer.proofs.OfTexts.Appended.{characters_of}
 use Rattle.lexical_write_integer.proofs.OfTexts.ReadTexts.{IsSigned, digits_read, padded_read}
 use Rattle.lexical_write_integer.proofs.OfTexts.Separators.{sign_is_none}
 use Rattle.lexical_parts.specs.Fixed.{IsFixed}
 use Rattle.lexical_parts.specs.Without.{IsWithout}
+use Rattle.lexical_parts.proofs.Points.{padded_around_point}
 
 abbrev others : List ℕ → List ℕ
 others = filter (λ b. not (b == 46))
@@ -66,23 +63,13 @@ fixed_read (suc d) x text w =
     let fraction = units.is_second in
     let a = units.first in
     let q = fraction.second in
-    let power = 10 ^ suc d in
-    let high : IsBlockOf 10 (length units.is_first.digits) (unsigned_abs x / power) units.is_first.digits =
-    record { counted = refl; below_radix = units.is_first.numeral.numeral.below_radix; value = units.is_first.numeral.value } in
-    let both = IsBlockOf-append high fraction.is_second.block in
     let in_a = no_point units.is_first.digits a units.is_first.numeral.numeral.below_radix units.is_first.characters in
     let in_q = no_point fraction.is_second.digits q fraction.is_second.block.below_radix fraction.is_second.characters in
     let original : w.original ≡ sign_of x false ++ (a ++ 46 ∷ q) =
     is.whole ∙ ap (λ l. l ++ is.second) is.is_first
     ∙ ap (λ l. sign_of x false ++ l) (units.whole ∙ ap (λ l. a ++ l) (fraction.whole ∙ ap (λ l. l ++ q) fraction.is_first)) in
-    let padded : IsPadded 10 (length units.is_first.digits + suc d) (unsigned_abs x) (a ++ q) =
-    record {
-      digits = units.is_first.digits ++ fraction.is_second.digits;
-      block = rw (div-add-mod' (unsigned_abs x) power) at both;
-      characters = characters_of _ a q _ _ refl units.is_first.characters fraction.is_second.characters;
-    } in
     record {
       digits = a ++ q;
       whole = w.whole ∙ ap others original ∙ without_point (sign_of x false) a q (no_sign x) in_a in_q;
-      read = padded_read 10 _ (unsigned_abs x) (a ++ q) (omega arith) (omega arith) padded;
+      read = padded_read 10 _ (unsigned_abs x) (a ++ q) (omega arith) (omega arith) (padded_around_point units.is_first fraction.is_second);
     }

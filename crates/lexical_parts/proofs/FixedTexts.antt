@@ -1,8 +1,11 @@
 -- The text of a number of units is what the prover computes.
-use Rattle.std.proofs.Common.{◌≡◌, ℕ, zero, suc, ◌/◌, ◌%◌, ◌^◌, ◌<◌, List, refl, arith, Option, ℤ, unsigned_abs}
-use Rattle.std.proofs.Math.Nat.{mod-lt, one-le-pow, div-le_self}
-use Rattle.lexical_parts.specs.Fixed.{IsFraction, IsGroupedFixed, fraction_text, fixed_text}
-use Rattle.lexical_parts.proofs.Equations.{AreOnly, only_exactly, only_padded, only_text, only_then, then_equation}
+use Rattle.std.proofs.Common.{◌≡◌, ℕ, zero, suc, ◌-◌, ◌*◌, ◌/◌, ◌%◌, ◌^◌, ◌<◌, ◌≤◌, ◌==◌, List, refl, sym, ap, ◌∙◌, arith, true}
+use Rattle.std.proofs.Common.{Option, None, ℤ, unsigned_abs}
+use Rattle.std.proofs.Math.Nat.{mod-lt, one-le-pow, pow-suc, div-le_self, le-mul_of_pos_right, mul_assoc}
+use Rattle.std.proofs.lemmas.Bool.{cond-true}
+use Rattle.lexical_parts.specs.Fixed.{IsFraction, IsGroupedFixed, IsUnits, fraction_text, fixed_text, units_text}
+use Rattle.lexical_parts.specs.Trimmed.{IsTrimmedFixed, IsTrimmedUnits, trimmed_text, trimmed_units_text}
+use Rattle.lexical_parts.proofs.Equations.{AreOnly, only_digits, only_exactly, only_padded, only_text, only_then, then_equation}
 
 only_fraction : (decimals units : ℕ) → units < 10 ^ decimals → AreOnly (IsFraction decimals units) (fraction_text decimals units)
 only_fraction zero units few = only_exactly _
@@ -15,3 +18,35 @@ fixed_is grouping decimals x text small is =
     let rest : unsigned_abs x % 10 ^ decimals < 10 ^ decimals = mod-lt (unsigned_abs x) some in
     let whole : unsigned_abs x / 10 ^ decimals < 2 ^ 64 = omega (arith, div-le_self (unsigned_abs x) (10 ^ decimals), small) in
     then_equation is (only_exactly _) (only_then (only_text _ _ (omega arith) whole) (only_fraction decimals _ rest)) refl
+
+-- ---- without zeros at the end of the fraction
+
+trimmed_as : (decimals units zeros left : ℕ) → zeros ≤ decimals → units ≡ left * 10 ^ zeros → (left % 10 ≡ 0 → zeros ≡ decimals)
+    → trimmed_units_text decimals units ≡ units_text None (decimals - zeros) left
+trimmed_as zero units none left few whole shortest = grind arith
+trimmed_as (suc d) units zero left few whole shortest = grind arith
+trimmed_as (suc d) units (suc z) left few whole shortest =
+    let product : units ≡ left * 10 ^ z * 10 = whole ∙ ap (λ p. left * p) (pow-suc 10 z) ∙ sym (mul_assoc left (10 ^ z) 10) in
+    let more : units % 10 ≡ 0 = omega (arith, product) in
+    let rest : units / 10 ≡ left * 10 ^ z = omega (arith, product) in
+    let equal : (units % 10 == 0) ≡ true = rw more refl in
+    let minus : suc d - suc z ≡ d - z = omega arith in
+    cond-true _ _ _ equal ∙ rw minus (trimmed_as d (units / 10) z left (omega arith) rest (λ none. omega (arith, shortest none)))
+
+only_units : (decimals units : ℕ) → units < 2 ^ 64 → AreOnly (IsUnits decimals units) (units_text None decimals units)
+only_units decimals units small =
+    let some = one-le-pow decimals 10 (omega arith) in
+    let rest : units % 10 ^ decimals < 10 ^ decimals = mod-lt units some in
+    let whole : units / 10 ^ decimals < 2 ^ 64 = omega (arith, div-le_self units (10 ^ decimals), small) in
+    only_then (only_digits 10 _ (omega arith) whole) (only_fraction decimals _ rest)
+
+only_trimmed : (decimals units : ℕ) → units < 2 ^ 64 → AreOnly (IsTrimmedUnits decimals units) (trimmed_units_text decimals units)
+only_trimmed decimals units small = record {
+  only = λ text is.
+      let less : is.left ≤ is.left * 10 ^ is.zeros = le-mul_of_pos_right is.left (one-le-pow is.zeros 10 (omega arith)) in
+      let below : is.left < 2 ^ 64 = omega (arith, less, is.whole, small) in
+      (only_units (decimals - is.zeros) is.left below).only text is.is ∙ sym (trimmed_as decimals units is.zeros is.left is.few is.whole is.shortest);
+}
+
+pub trimmed_is : (decimals : ℕ) (x : ℤ) (text : List ℕ) → unsigned_abs x < 2 ^ 64 → IsTrimmedFixed decimals x text → text ≡ trimmed_text decimals x
+trimmed_is decimals x text small is = then_equation is (only_exactly _) (only_trimmed decimals _ small) refl

@@ -22,8 +22,12 @@ pub mod Inserts
 pub mod Points
 -- zeros after a sign
 pub mod ZeroPaddings
--- digits without the zeros at their end, and an exponent
+-- digits without the zeros at their end
+pub mod TrailingZeros
+-- the first digit with a point, and an exponent
 pub mod Scientifics
+-- numbers of units without zeros at the end of their fraction
+pub mod TrimmedUnits
 -- numbers of units, with whole parts in groups
 pub mod GroupedUnits
 -- numbers in format strings

@@ -1,9 +1,9 @@
 -- The digits of a number of units, before the point and after it.
 use Rattle.std.proofs.Common.{◌≡◌, ℕ, zero, suc, ◌+◌, ◌-◌, ◌*◌, ◌/◌, ◌%◌, ◌^◌, ◌<◌, ◌≤◌, List, ◌++◌, length, take, drop, replicate, refl, sym, ap, ◌∙◌, inl}
 use Rattle.std.proofs.Common.{inr, arith}
-use Rattle.std.proofs.Math.Nat.{pow-le-pow_right, div-lt_iff_lt-mul}
+use Rattle.std.proofs.Math.Nat.{pow-le-pow_right, div-add-mod', div-lt_iff_lt-mul}
 use Rattle.std.proofs.lemmas.Bool.{cases_lt}
-use Rattle.std.proofs.lemmas.List.{drop-map, length-drop, length-take-le, take-append-drop, take-map}
+use Rattle.std.proofs.lemmas.List.{drop-map, length-drop, length-map, length-take-le, take-append-drop, take-map}
 use Rattle.std.proofs.lemmas.List.Elements.{All-drop, All-take}
 use Rattle.std.proofs.lemmas.Nat.{div-mul-add, mod-mul-add}
 use Rattle.lexical_num.specs.Digit.{digit_char}
@@ -17,8 +17,9 @@ use Rattle.lexical_parts.specs.Sequence.{◌then◌, IsStr}
 use Rattle.lexical_parts.proofs.Conversions.{then_as}
 use Rattle.lexical_write_integer.proofs.OfDigits.Count.DigitCounts.{digit_count-fits, digit_count-left, digit_count-one}
 use Rattle.lexical_write_integer.proofs.OfDigits.DigitValues.{value_of-append, value_of-lt}
-use Rattle.lexical_write_integer.proofs.OfDigits.Numerals.{IsNumeralOf-block, length-IsDigits}
+use Rattle.lexical_write_integer.proofs.OfDigits.Numerals.{IsBlockOf-append, IsNumeralOf-block, length-IsDigits}
 use Rattle.lexical_write_integer.proofs.OfDigits.PaddedDigits.{IsPadded-digits}
+use Rattle.lexical_write_integer.proofs.OfTexts.Appended.{characters_of}
 
 -- the first digits of a block are one of the quotient, and the others are one of the remainder
 IsBlockOf-split : (r whole count n : ℕ) (digits : List ℕ) → IsBlockOf r (whole + count) n digits
@@ -44,6 +45,23 @@ IsBlockOf-split r whole count n digits b =
       },
     )
 
+-- so are their characters
+pub IsPadded-split : (r whole count n : ℕ) (text : List ℕ) → IsPadded r (whole + count) n text
+    → IsPadded r whole (n / r ^ count) (take whole text) × IsPadded r count (n % r ^ count) (drop whole text)
+IsPadded-split r whole count n text is =
+    let both = IsBlockOf-split r whole count n is.digits is.block in (
+      record {
+        digits = take whole is.digits;
+        block = both.0;
+        characters = ap (take whole) is.characters ∙ take-map digit_char whole is.digits;
+      },
+      record {
+        digits = drop whole is.digits;
+        block = both.1;
+        characters = ap (drop whole) is.characters ∙ drop-map digit_char whole is.digits;
+      },
+    )
+
 -- how many digits the whole part has, with zeros before the digits if there are too few
 whole_count : (n decimals added count whole : ℕ) → count ≡ digit_count 10 n → added ≡ (decimals + 1) - count
     → whole + decimals ≡ added + count → digit_count 10 (n / 10 ^ decimals) ≡ whole
@@ -66,19 +84,28 @@ digits_around_point n decimals added count whole text is counted is_zeros is_who
     let two : 2 ≤ 10 = omega arith in
     let long : count ≡ digit_count 10 n = counted ∙ length-IsDigits 10 n text two is in
     let padded = IsPadded-digits 10 n added (whole + decimals) text two (omega (arith, long)) is in
-    let both = IsBlockOf-split 10 whole decimals n padded.digits padded.block in (
+    let both = IsPadded-split 10 whole decimals n _ padded in (
       record {
-        digits = take whole padded.digits;
-        numeral = IsNumeralOf-block 10 (n / 10 ^ decimals) whole (take whole padded.digits) two
-            (whole_count n decimals added count whole long is_zeros is_whole) both.0;
-        characters = ap (take whole) padded.characters ∙ take-map digit_char whole padded.digits;
+        digits = both.0.digits;
+        numeral = IsNumeralOf-block 10 (n / 10 ^ decimals) whole both.0.digits two
+            (whole_count n decimals added count whole long is_zeros is_whole) both.0.block;
+        characters = both.0.characters;
       },
-      record {
-        digits = drop whole padded.digits;
-        block = both.1;
-        characters = ap (drop whole) padded.characters ∙ drop-map digit_char whole padded.digits;
-      },
+      both.1,
     )
+
+-- they are the digits of the number, with zeros before them
+pub padded_around_point : {n decimals : ℕ} {whole rest : List ℕ} → IsDigits 10 (n / 10 ^ decimals) whole → IsPadded 10 decimals (n % 10 ^ decimals) rest
+    → IsPadded 10 (length whole + decimals) n (whole ++ rest)
+padded_around_point {n} {decimals} {whole} {rest} first second =
+    let long : length first.digits ≡ length whole = sym (ap length first.characters ∙ length-map first.digits digit_char) in
+    let high : IsBlockOf 10 (length whole) (n / 10 ^ decimals) first.digits =
+    record { counted = long; below_radix = first.numeral.numeral.below_radix; value = first.numeral.value } in
+    record {
+      digits = first.digits ++ second.digits;
+      block = rw (div-add-mod' n (10 ^ decimals)) at (IsBlockOf-append high second.block);
+      characters = characters_of _ whole rest _ _ refl first.characters second.characters;
+    }
 
 -- ---- the point
 

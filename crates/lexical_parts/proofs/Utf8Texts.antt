@@ -13,8 +13,9 @@ use Rattle.lexical_write_integer.specs.Sequence.{IsExactly, Then, AreJoined}
 use Rattle.lexical_write_integer.specs.Text.{IsDigits, IsText}
 use Rattle.lexical_write_integer.proofs.OfTexts.Ascii.{IsAscii-IsText, IsAscii-digit_chars}
 use Rattle.lexical_parts.specs.Column.{IsAtLeft, IsAtRight, IsCentered}
-use Rattle.lexical_parts.specs.Fixed.{IsFraction}
+use Rattle.lexical_parts.specs.Fixed.{IsFraction, IsUnits}
 use Rattle.lexical_parts.specs.Scientific.{IsScientificUnsigned}
+use Rattle.lexical_parts.specs.Trimmed.{IsTrimmedUnits}
 use Rattle.lexical_parts.specs.Utf8.{AreUtf8}
 
 -- a byte below 128
@@ -84,11 +85,16 @@ pub fraction_is_utf8 : (decimals units : ℕ) → AreUtf8 (IsFraction decimals u
 fraction_is_utf8 zero units = record { each = λ text is. rw is IsUtf8-nil }
 fraction_is_utf8 (suc decimals) units = then_is_utf8 (one_is_utf8 46 (omega arith)) (padded_is_utf8 10 (suc decimals) units (omega arith))
 
+units_are_utf8 : (decimals units : ℕ) → AreUtf8 (IsUnits decimals units)
+units_are_utf8 decimals units = then_is_utf8 (digits_are_utf8 10 _ (omega arith)) (fraction_is_utf8 decimals _)
+
+pub trimmed_is_utf8 : (decimals units : ℕ) → AreUtf8 (IsTrimmedUnits decimals units)
+trimmed_is_utf8 decimals units = record { each = λ text is. (units_are_utf8 _ _).each text is.is }
+
 pub scientific_is_utf8 : (number : ℕ) (exponent : ℤ) → AreUtf8 (IsScientificUnsigned number exponent)
 scientific_is_utf8 number exponent = record {
   each = λ text is.
-      let units = then_is_utf8 (digits_are_utf8 10 _ (omega arith)) (fraction_is_utf8 _ _) in
-      (then_is_utf8 units (then_is_utf8 (one_is_utf8 101 (omega arith)) (decimal_is_utf8 _ false))).each text is.is;
+      (then_is_utf8 (units_are_utf8 _ _) (then_is_utf8 (one_is_utf8 101 (omega arith)) (decimal_is_utf8 _ false))).each text is.is;
 }
 
 -- what the check uses for the texts of parts
@@ -104,5 +110,6 @@ pub ruleset kinds = (
   centered_is_utf8,
   sign_is_utf8,
   fraction_is_utf8,
+  trimmed_is_utf8,
   scientific_is_utf8,
 )

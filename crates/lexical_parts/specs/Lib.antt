@@ -9,6 +9,7 @@ pub mod Plus
 pub mod Scientific
 pub mod Sequence
 pub mod ShownParts
+pub mod Trimmed
 pub mod Utf8
 pub mod Word
 pub mod Without

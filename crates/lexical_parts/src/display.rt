@@ -9,6 +9,7 @@ ghost use Rattle.lexical_num.specs.Format.{IsRadix, standard};
 ghost use Rattle.lexical_write_integer.specs.Computed.{digits_text, padded_text, text_of};
 ghost use Rattle.lexical_write_integer.specs.Groups.{grouped};
 ghost use Rattle.lexical_parts.specs.Fixed.{fixed_text, units_text};
+ghost use Rattle.lexical_parts.specs.Trimmed.{trimmed_text, trimmed_units_text};
 
 use crate::cell::{is_short_cell, write_cell};
 use crate::fixed::{Fixed, GroupedFixed};
@@ -17,6 +18,7 @@ use crate::padded::{Padded, PaddedDigits};
 use crate::part::Part;
 use crate::plus::Plus;
 use crate::powers_of_two::{Binary, Hex};
+use crate::trimmed::TrimmedFixed;
 use lexical_num::limits::is_radix;
 use lexical_write_integer::digit_count::DigitCount;
 use lexical_write_integer::format::STANDARD;
@@ -24,6 +26,12 @@ use lexical_write_integer::laws::{digit_count_within_bits, digits_computed, text
 use lexical_write_integer::radix::Radix;
 use lexical_write_integer::{BUFFER_SIZE, NumberFormatBuilder, ToLexicalWithOptions};
 use std::fmt;
+
+// The digits of the longest number, and the most that a padded number can have to be shown.
+const MOST_DIGITS: usize = 64;
+
+// The length of the longest number with decimals, a `u64` in groups of one digit.
+const LONGEST_FIXED: usize = 39;
 
 // Writes a text that begins with `+` as the standard library writes an integer with the option `+`.
 fn pad_with_plus<W: fmt::Write>(f: &mut fmt::Formatter<W>, text: &str) -> fmt::Result
@@ -162,7 +170,7 @@ impl<T: Radix> fmt::Display for Binary<T> {
 
     fn fmt<W: fmt::Write>(&self, f: &mut fmt::Formatter<W>) -> fmt::Result {
         self.0.fits_bits();
-        let mut buffer = [0; 64];
+        let mut buffer = [0; MOST_DIGITS];
         let text = Binary(self.0).to_str(&mut buffer);
         digits_computed(2, self.0.as_u64(), text.as_bytes());
         pad_number(f, false, false, text)
@@ -171,7 +179,7 @@ impl<T: Radix> fmt::Display for Binary<T> {
 
 impl<T: DigitCount + Radix> Digits<T> {
     // Returns the text, or an error if the radix is not from 2 to 36.
-    fn shown(self, buffer: &mut [u8; 64]) -> Result<&str, fmt::Error>
+    fn shown(self, buffer: &mut [u8; MOST_DIGITS]) -> Result<&str, fmt::Error>
         ensures ok { IsOk result ↔ IsRadix self.0 }
         ensures text { IfOk result (λ text. text.now ≡ digits_text self.0 (T.magnitude self.1)) }
     {
@@ -192,7 +200,7 @@ impl<T: DigitCount + Radix> fmt::Display for Digits<T> {
         (digits_text part.0 (T.magnitude part.1))) };
 
     fn fmt<W: fmt::Write>(&self, f: &mut fmt::Formatter<W>) -> fmt::Result {
-        let mut buffer = [0; 64];
+        let mut buffer = [0; MOST_DIGITS];
         let text = Digits(self.0, self.1).shown(&mut buffer)?;
         pad_number(f, false, false, text)
     }
@@ -201,7 +209,7 @@ impl<T: DigitCount + Radix> fmt::Display for Digits<T> {
 impl<T: DigitCount + Radix> PaddedDigits<T> {
     // Returns the text, or an error if the radix is not from 2 to 36, the number does not fit in the width, or the
     // width is not from 1 to 64.
-    fn shown(self, buffer: &mut [u8; 64]) -> Result<&str, fmt::Error>
+    fn shown(self, buffer: &mut [u8; MOST_DIGITS]) -> Result<&str, fmt::Error>
         ensures ok { IsOk result ↔ (IsRadix self.0 × (T.magnitude self.1 < self.0 ^ self.2) × (1 ≤ self.2)
             × (self.2 ≤ 64)) }
         ensures text { IfOk result (λ text. text.now ≡ padded_text self.0 self.2 (T.magnitude self.1)) }
@@ -209,7 +217,7 @@ impl<T: DigitCount + Radix> PaddedDigits<T> {
         if !is_radix(u64::from(self.0)) {
             return Err(fmt::Error);
         }
-        if 64 < self.2 || self.2 < self.1.digit_count(self.0) {
+        if MOST_DIGITS < self.2 || self.2 < self.1.digit_count(self.0) {
             return Err(fmt::Error);
         }
         Ok(self.to_str(buffer))
@@ -223,7 +231,7 @@ impl<T: DigitCount + Radix> fmt::Display for PaddedDigits<T> {
         (padded_text part.0 part.2 (T.magnitude part.1))) };
 
     fn fmt<W: fmt::Write>(&self, f: &mut fmt::Formatter<W>) -> fmt::Result {
-        let mut buffer = [0; 64];
+        let mut buffer = [0; MOST_DIGITS];
         let text = PaddedDigits(self.0, self.1, self.2).shown(&mut buffer)?;
         pad_number(f, false, false, text)
     }
@@ -241,9 +249,8 @@ impl<T: DigitCount + Radix> fmt::Display for Padded<T> {
 }
 
 impl<T: ToLexicalWithOptions> GroupedFixed<'_, T> {
-    // Returns the text, or an error if there are more than 19 decimals. The longest text, of a `u64` in groups of one
-    // digit, has 39 bytes.
-    fn shown(self, buffer: &mut [u8; 39]) -> Result<&str, fmt::Error>
+    // Returns the text, or an error if there are more than 19 decimals.
+    fn shown(self, buffer: &mut [u8; LONGEST_FIXED]) -> Result<&str, fmt::Error>
         ensures ok { IsOk result ↔ (self.entry.1 ≤ 19) }
         ensures text { IfOk result (λ text.
             text.now ≡ fixed_text self.entry.2.now.digit_grouping self.entry.1 (T.number self.entry.0)) }
@@ -264,7 +271,7 @@ impl<T: ToLexicalWithOptions> fmt::Display for GroupedFixed<'_, T> {
         (units_text part.2.now.digit_grouping part.1 (unsigned_abs (T.number part.0)))) };
 
     fn fmt<W: fmt::Write>(&self, f: &mut fmt::Formatter<W>) -> fmt::Result {
-        let mut buffer = [0; 39];
+        let mut buffer = [0; LONGEST_FIXED];
         let text = GroupedFixed(self.0, self.1, self.2).shown(&mut buffer)?;
         pad_number(f, self.0.is_negative(), false, text)
     }
@@ -278,5 +285,33 @@ impl<T: ToLexicalWithOptions> fmt::Display for Fixed<T> {
 
     fn fmt<W: fmt::Write>(&self, f: &mut fmt::Formatter<W>) -> fmt::Result {
         fmt::Display::fmt(&GroupedFixed(self.0, self.1, &STANDARD), f)
+    }
+}
+
+impl<T: ToLexicalWithOptions> TrimmedFixed<T> {
+    // Returns the text, or an error if there are more than 19 decimals.
+    fn shown(self, buffer: &mut [u8; LONGEST_FIXED]) -> Result<&str, fmt::Error>
+        ensures ok { IsOk result ↔ (self.1 ≤ 19) }
+        ensures text { IfOk result (λ text. text.now ≡ trimmed_text self.1 (T.number self.0)) }
+    {
+        if self.1 > 19 {
+            return Err(fmt::Error);
+        }
+        self.0.in_range();
+        let trimmed = self.to_str(buffer);
+        Ok(trimmed)
+    }
+}
+
+impl<T: ToLexicalWithOptions> fmt::Display for TrimmedFixed<T> {
+    ghost output = { λ part. Some (trimmed_text part.1 (T.number part.0)) };
+
+    ghost styled_output = { λ part spec. Some (padded_integral spec (is_negative (T.number part.0)) []
+        (trimmed_units_text part.1 (unsigned_abs (T.number part.0)))) };
+
+    fn fmt<W: fmt::Write>(&self, f: &mut fmt::Formatter<W>) -> fmt::Result {
+        let mut buffer = [0; LONGEST_FIXED];
+        let text = TrimmedFixed(self.0, self.1).shown(&mut buffer)?;
+        pad_number(f, self.0.is_negative(), false, text)
     }
 }

@@ -19,11 +19,11 @@
 //!
 //! The calls are the methods of [`Part`]. The other types of this crate are parts, and so are the integer types.
 //!
-//! [`Decimal`], [`Formatted`], [`Plus`], [`Hex`], [`Binary`], [`Digits`], [`Padded`], [`PaddedDigits`], [`Fixed`] and
-//! [`GroupedFixed`] also have `Display`: `{}` of such a part writes its text, with the sign, the width and the fill
-//! as of an integer, and `#` and a precision do nothing. It is an error if there are more than 19 decimals, if the
-//! radix is not from 2 to 36, or if a [`Padded`] or [`PaddedDigits`] has no digits, more than 64, or fewer than its
-//! number. `{}` of a [`Shown`] writes a tuple or any other part as it does a `&str`, and so does that of
+//! [`Decimal`], [`Formatted`], [`Plus`], [`Hex`], [`Binary`], [`Digits`], [`Padded`], [`PaddedDigits`], [`Fixed`],
+//! [`GroupedFixed`] and [`TrimmedFixed`] also have `Display`: `{}` of such a part writes its text, with the sign, the
+//! width and the fill as of an integer, and `#` and a precision do nothing. It is an error if there are more than 19
+//! decimals, if the radix is not from 2 to 36, or if a [`Padded`] or [`PaddedDigits`] has no digits, more than 64, or
+//! fewer than its number. `{}` of a [`Shown`] writes a tuple or any other part as it does a `&str`, and so does that of
 //! [`Joined`], [`Left`], [`Right`], [`Center`], [`ZeroPadded`], [`Lower`], [`OrElse`], [`Scientific`] and
 //! [`HexBytes`].
 
@@ -55,6 +55,7 @@ mod scientific;
 mod shown;
 mod sign;
 mod text;
+mod trimmed;
 mod tuples;
 mod with_length;
 mod zero_padded;
@@ -78,5 +79,6 @@ pub use scientific::Scientific;
 pub use shown::Shown;
 pub use sign::Sign;
 pub use text::{Byte, Bytes};
+pub use trimmed::TrimmedFixed;
 pub use with_length::write_with_length;
 pub use zero_padded::ZeroPadded;

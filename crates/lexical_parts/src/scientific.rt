@@ -17,16 +17,16 @@ use lexical_write_integer::ToLexicalWithOptions;
 use lexical_write_integer::format::STANDARD;
 use lexical_write_integer::laws::size_suffices;
 
-// Returns how many digits are left without the zeros at the end. The first digit is always left.
-fn count_without_zeros(digits: &[u8]) -> usize
-    requires { 1 ≤ length digits.now }
-    ensures some { 1 ≤ result }
+// Returns how many digits are left without the zeros at the end. At least the first `least` digits are left.
+pub(crate) fn count_without_zeros(digits: &[u8], least: usize) -> usize
+    requires { least ≤ length digits.now }
+    ensures some { least ≤ result }
     ensures within { result ≤ length digits.now }
     ensures zeros { drop result digits.now ≡ replicate (length digits.now - result) 48 }
-    ensures last { 1 < result → slice_index digits.now (result - 1) ≢ 48 }
+    ensures last { least < result → slice_index digits.now (result - 1) ≢ 48 }
 {
     let mut count = digits.len();
-    while 1 < count && digits[count - 1] == b'0' {
+    while least < count && digits[count - 1] == b'0' {
         count -= 1;
     }
     count
@@ -84,7 +84,7 @@ fn write_magnitude<T: ToLexicalWithOptions>(number: T, exponent: i32, buffer: &m
     let mut digits = [0; 20];
     let count = number.write_magnitude(&STANDARD, &mut digits);
     let digits = &digits[..count];
-    let kept = count_without_zeros(digits);
+    let kept = count_without_zeros(digits, 1);
     let end = write_with_point(&digits[..kept], buffer);
     end + write_exponent(first_exponent(digits, exponent), &mut buffer[end..])
 }

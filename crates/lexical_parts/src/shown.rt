@@ -16,6 +16,9 @@ use crate::zero_padded::ZeroPadded;
 use lexical_write_integer::ToLexicalWithOptions;
 use std::fmt;
 
+// The largest room of a part that is written at once.
+const MOST_AT_ONCE: usize = 256;
+
 /// A tuple of parts, or another part, in a format string. A width, a fill and a precision work as for a `&str`.
 ///
 /// It is an error if a part in it is not valid or is your own, or if one that is written at once, such as a column,
@@ -40,7 +43,7 @@ impl<P: Part> Shown<P> {
     {
         match self.0.write_each(f, Own) {
             Some(result) => result,
-            None => match self.0.try_to_str(&mut [0; 256]) {
+            None => match self.0.try_to_str(&mut [0; MOST_AT_ONCE]) {
                 Some(text) => f.write_str(text),
                 None => Err(fmt::Error),
             },
@@ -61,7 +64,7 @@ impl<P: Part> Shown<P> {
         if f.width().is_none() && f.precision().is_none() {
             return self.write(f);
         }
-        match part.try_to_str(&mut [0; 256]) {
+        match part.try_to_str(&mut [0; MOST_AT_ONCE]) {
             Some(text) => f.pad(text),
             None => Err(fmt::Error),
         }

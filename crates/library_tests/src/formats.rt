@@ -74,7 +74,8 @@ fn formats_have_the_fields_of_their_builder(rt: HostRuntime) {
     check(&rt, STANDARD, 10, 10, false);
     check(&rt, signed(&rt), 10, 10, true);
     check(&rt, NumberFormatBuilder::binary(), 2, 2, false);
-    check(&rt, NumberFormatBuilder::from_radix(16), 16, 16, false);
+    check(&rt, NumberFormatBuilder::hexadecimal(), 16, 16, false);
+    check(&rt, NumberFormatBuilder::from_radix(36), 36, 36, false);
     check(&rt, built_after_an_error(&rt, 2), 2, 10, false);
     let sixteen = valid(&rt, NumberFormatBuilder::new().radix(16));
     check(&rt, clone_of_format(&rt, &sixteen), 16, 10, false);

@@ -7,6 +7,7 @@ use cojimuran::{NumberFormat, NumberFormatBuilder, Options, OptionsBuilder, Resu
 const OPTIONS: Options = OptionsBuilder::new().build_strict();
 const RADIX_36: NumberFormat = NumberFormatBuilder::from_radix(36);
 const BINARY: NumberFormat = NumberFormatBuilder::binary();
+const HEXADECIMAL: NumberFormat = NumberFormatBuilder::hexadecimal();
 const THOUSANDS: NumberFormat =
     NumberFormatBuilder::new().required_mantissa_sign(true).digit_grouping(3, b',').build_strict();
 const REFUSED: Result<NumberFormat> = NumberFormatBuilder::new().mantissa_radix(16).exponent_radix(37).build();
@@ -17,6 +18,7 @@ fn texts_in_constant_formats() {
     let mut buffer = [7; SIZE];
     assert_eq!(u64::MAX.to_lexical_with_options(&mut buffer, &RADIX_36, &OPTIONS), b"3W5E11264SGSF");
     assert_eq!(5u8.to_lexical_with_options(&mut buffer, &BINARY, &OPTIONS), b"101");
+    assert_eq!(255u8.to_lexical_with_options(&mut buffer, &HEXADECIMAL, &OPTIONS), b"FF");
     assert_eq!(1234567i32.to_lexical_with_options(&mut buffer, &THOUSANDS, &OPTIONS), b"+1,234,567");
 }
 

@@ -1,12 +1,9 @@
 //! Parts in format strings, against what the standard library writes of its own integers: for the
 //! longest texts and some others, in each width up to three more than the text.
 
-use cojimuran::parts::{
-    Binary, Byte, Bytes, Center, Decimal, Digits, Fixed, Formatted, GroupedFixed, Hex, HexBytes, Joined, Left, Lower,
-    OrElse, Padded, PaddedDigits, Part, Plus, Right, Scientific, Shown, Sign, ZeroPadded,
-};
+use cojimuran::parts::*;
 use cojimuran::{NumberFormat, NumberFormatBuilder};
-use std::fmt::Write;
+use std::fmt::{Display, Write};
 
 /// Compares a part with an integer, with the same options. The second one may have more of them.
 macro_rules! check_options {
@@ -94,15 +91,25 @@ fn units(number: i128, decimals: usize) -> String {
     format!("{sign}{whole}{point}{rest}")
 }
 
+/// Returns the text without zeros at the end of its fraction.
+fn without_zeros(text: &str) -> &str {
+    if text.contains('.') { text.trim_end_matches('0').trim_end_matches('.') } else { text }
+}
+
+fn check_decimals(part: impl Display, text: &str) {
+    assert_eq!(format!("{part}|{part:30}|{part:*^30}"), format!("{text}|{text:>30}|{text:*^30}"));
+    let zeros = "0".repeat(30 - text.len());
+    let padded = text.strip_prefix('-').map_or(format!("{zeros}{text}"), |rest| format!("-{zeros}{rest}"));
+    assert_eq!(format!("{part:030}"), padded);
+}
+
 macro_rules! check_decimals {
     ($($number:ty),+) => { $(
-        for number in [<$number>::MIN, <$number>::MAX, 0, 1, 99, <$number>::MAX / 7] {
+        for number in [<$number>::MIN, <$number>::MAX, 0, 1, 99, 100, <$number>::MAX / 7] {
             for decimals in 0..=19 {
-                let (part, text) = (Fixed(number, decimals), units(number.into(), decimals));
-                assert_eq!(format!("{part}|{part:30}|{part:*^30}"), format!("{text}|{text:>30}|{text:*^30}"));
-                let zeros = "0".repeat(30 - text.len());
-                let padded = text.strip_prefix('-').map_or(format!("{zeros}{text}"), |rest| format!("-{zeros}{rest}"));
-                assert_eq!(format!("{part:030}"), padded);
+                let text = units(number.into(), decimals);
+                check_decimals(Fixed(number, decimals), &text);
+                check_decimals(TrimmedFixed(number, decimals), without_zeros(&text));
             }
         }
     )+ };

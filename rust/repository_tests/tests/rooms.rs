@@ -1,15 +1,21 @@
 //! The room of each part, which its longest text fills: `try_write_to` writes to a buffer of that length, and not to one
-//! that is a byte shorter; and rooms near the largest `usize`. And what no other test calls: `write_sign` of a required
-//! `+`, and `write_padded` to no bytes.
+//! that is a byte shorter; the traits of each part; and rooms near the largest `usize`. And what no other test calls:
+//! `write_sign` of a required `+`, and `write_padded` to no bytes.
 
 use cojimuran::padded::write_padded;
 use cojimuran::parts::*;
 use cojimuran::{Append, NumberFormatBuilder, write_sign};
+use std::fmt::Debug;
+use std::hash::Hash;
+use std::panic::{RefUnwindSafe, UnwindSafe};
+
+fn has_traits<P: Part + Eq + Hash + Debug + Send + Sync + Unpin + UnwindSafe + RefUnwindSafe>(_part: P) {}
 
 /// Compares the room of a part, which copies it, and what it writes, with a text of that length.
 macro_rules! check_rooms {
     ($($part:expr => $room:expr, $text:expr;)+) => { $(
         let name = stringify!($part);
+        has_traits($part);
         assert_eq!($part.room(), $room, "the room of {name}");
         let mut buffer = [b'?'; 130];
         assert_eq!($part.try_write_to(&mut buffer[..$room - 1]), None, "{name} in a short buffer");
@@ -41,6 +47,7 @@ fn rooms_of_numbers() {
         PaddedDigits(16, 255u8, 4) => 4, "00FF";
         Fixed(i8::MIN, 2) => 5, "-1.28";
         GroupedFixed(i32::MIN, 2, &grouped) => 14, "-21,474,836.48";
+        TrimmedFixed(i8::MIN, 2) => 5, "-1.28";
         Scientific(-128i8, -5) => 17, "-1.28e-3";
         Formatted(i32::MIN, &grouped) => 14, "-2,147,483,648";
     }
@@ -62,6 +69,7 @@ fn rooms_of_bytes_and_parts() {
         Lower(Hex(255u8)) => 2, "ff";
         Some("ab") => 2, "ab";
         OrElse(none, "n/a") => 3, "n/a";
+        &Decimal(255u8) => 3, "255";
     }
 }
 
@@ -106,13 +114,13 @@ fn signs_and_no_bytes() {
 }
 
 #[test]
-fn each_part_has_a_row() {
-    let here = include_str!("rooms.rs");
+fn each_part_has_a_row_here_and_in_the_test_of_utf8() {
+    let (here, utf8) = (include_str!("rooms.rs"), include_str!("utf8.rs"));
     let exports = include_str!("../../cojimuran/src/parts.rs").lines().filter_map(|line| line.strip_prefix("pub use "));
     let names = exports.flat_map(|path| path.split(|c: char| !c.is_alphanumeric()));
     let parts: Vec<&str> = names.filter(|name| name.starts_with(char::is_uppercase)).collect();
-    let missing =
-        parts.iter().filter(|name| !["Part", "Buffer", "Shown"].contains(name) && !here.contains(&format!("{name}(")));
+    let is_in = |name: &str| [here, utf8].iter().all(|file| file.contains(&format!("{name}(")));
+    let missing = parts.iter().filter(|name| !["Part", "Buffer", "Shown"].contains(name) && !is_in(name));
     assert_eq!(missing.collect::<Vec<_>>(), Vec::<&&str>::new());
     assert!(parts.len() > 20 && (2..=12).all(|count| here.contains(&format!(") => {count}, \""))));
 }

@@ -9,10 +9,7 @@ use cojimuran::jeaiii::{
     fixed_2, fixed_4, fixed_6, fixed_8_nine, fixed_8_ten, fixed_8_wide, from_i64, from_u8, from_u16, from_u32,
     from_u64, next2,
 };
-use cojimuran::parts::{
-    Binary, Byte, Bytes, Center, Decimal, Digits, Fixed, Formatted, GroupedFixed, Hex, HexBytes, Joined, Left, Lower,
-    OrElse, Padded, PaddedDigits, Part, Plus, Right, Scientific, Sign, ZeroPadded, write_field, write_with_length,
-};
+use cojimuran::parts::{Part, write_field, write_with_length};
 use cojimuran::table::{DIGIT_TO_BASE2_SQUARED, DIGIT_TO_BASE36_SQUARED, get_table};
 use cojimuran::{
     BUFFER_SIZE, Buffer, Error, FormattedSize, LexicalInteger, NumberFormat, NumberFormatBuilder, Options,
@@ -25,13 +22,11 @@ use lexwrite::lines::{
     answer_slice, join, put_all, run, status, write_joined,
 };
 use lexwrite::streams::{answer_lines, answer_reader, answer_stream};
-use std::fmt::{Debug, Display};
+use std::fmt::Debug;
 use std::hash::Hash;
 use std::panic::{RefUnwindSafe, UnwindSafe};
 
 fn value<T: Copy + Debug + Send + Sync + Unpin + UnwindSafe + RefUnwindSafe + 'static>() {}
-fn part<P: Part + Eq + Hash + Debug + Send + Sync>() {}
-fn shown<P: Part + Eq + Hash + Debug + Display + Send + Sync>() {}
 fn number<T: ToLexicalWithOptions<Options = Options> + FormattedSize + Part>() {}
 fn unsigned<T: UnsignedInteger + Radix + Compact + DigitCount + WriteInteger + DecimalCount>() {}
 
@@ -59,19 +54,6 @@ fn formats() {
     options::<Options>();
     assert_eq!((NumberFormatBuilder::default().build().unwrap(), NumberFormat::default()), (STANDARD, STANDARD));
     let _: Result<NumberFormat> = Err(Error::InvalidGroupMark(b'0'));
-}
-
-#[test]
-fn parts() {
-    type U = Decimal<u64>;
-    check!(part: &str, Byte, Bytes, Option<U>, Joined<U>, Lower<U>, Left<U>, Right<U>, Center<U>, ZeroPadded<U>);
-    check!(part: OrElse<U, U>, &U);
-    check!(part: Sign<i8>, Digits<u8>, PaddedDigits<u8>, HexBytes);
-    check!(part: Scientific<i64>);
-    check!(shown: Fixed<i64>, GroupedFixed<i64>, Decimal<i8>, Formatted<i8>, Plus<i8>, Hex<u8>, Binary<u8>, Padded<u8>);
-    check!(part: (U, U), (U, U, U), (U, U, U, U), (U, U, U, U, U), (U, U, U, U, U, U), (U, U, U, U, U, U, U));
-    check!(part: (U, U, U, U, U, U, U, U), (U, U, U, U, U, U, U, U, U), (U, U, U, U, U, U, U, U, U, U));
-    check!(part: (U, U, U, U, U, U, U, U, U, U, U), (U, U, U, U, U, U, U, U, U, U, U, U));
 }
 
 #[test]

@@ -1,10 +1,7 @@
 //! Each `&str` of a part is UTF-8, whatever the part and the buffer. Parts of the package are not checked by std where
 //! their values show it; those of a caller are.
 
-use cojimuran::parts::{
-    Binary, Byte, Bytes, Center, Decimal, Digits, Fixed, Formatted, GroupedFixed, Hex, HexBytes, Joined, Left, Lower,
-    OrElse, Padded, PaddedDigits, Part, Plus, Right, Scientific, Sign, ZeroPadded,
-};
+use cojimuran::parts::*;
 use cojimuran::{Buffer, NumberFormatBuilder};
 use std::panic::{AssertUnwindSafe, catch_unwind, set_hook};
 use std::str::from_utf8;
@@ -112,6 +109,7 @@ fn each_str_is_utf8() {
             PaddedDigits(few as u32 % 40, bits as u16, width),
             Fixed(bits as i64, width),
             GroupedFixed(bits as i32, width / 2, &groups),
+            TrimmedFixed(bits as i32, width / 2),
             Scientific(bits as i64, few as i32),
             Byte(fill),
             Bytes(&bytes),

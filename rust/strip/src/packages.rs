@@ -111,8 +111,8 @@ pub(crate) const SOURCES: &[Source] = &[
         name: "lexical_num",
         module: "num",
         constant: "
-            digit_to_char is_radix is_group_size is_mark are_valid new binary from_radix radix mantissa_radix
-            exponent_radix required_mantissa_sign digit_grouping grouped_len is_valid build build_strict
+            digit_to_char is_radix is_group_size is_mark are_valid new binary hexadecimal from_radix radix
+            mantissa_radix exponent_radix required_mantissa_sign digit_grouping grouped_len is_valid build build_strict
             build_unchecked buffer_size_const builder rebuild",
         left_out: "ghost_log",
         replaced: replaced::NUM,

@@ -3,7 +3,7 @@
 use super::{check, check_buffer, check_part, check_room, check_str};
 use lexical_parts::{
     Binary, Center, Decimal, Fixed, Formatted, GroupedFixed, Hex, Left, Lower, OrElse,
-    PaddedDigits, Part, Plus, Right, Sign, ZeroPadded,
+    PaddedDigits, Part, Plus, Right, Sign, TrimmedFixed, ZeroPadded,
 };
 use lexical_write_integer::format::STANDARD;
 use lexical_write_integer::{NumberFormat, NumberFormatBuilder};
@@ -68,6 +68,25 @@ fn numbers_with_decimals(rt: HostRuntime) {
     check(&rt, Fixed(255u8, 2).write_to(&mut exact[..4]), 4);
     check(&rt, Fixed(i8::MIN, 2).write_to(&mut exact), 5);
     check(&rt, exact, *b"-1.28");
+}
+
+#[test]
+fn numbers_without_zeros_at_their_end(rt: HostRuntime) {
+    check_part(&rt, TrimmedFixed(1500u32, 3), b"1.5");
+    check_part(&rt, TrimmedFixed(-1500i16, 3), b"-1.5");
+    check_part(&rt, TrimmedFixed(2000, 3), b"2");
+    check_part(&rt, TrimmedFixed(105u8, 1), b"10.5");
+    check_part(&rt, TrimmedFixed(100usize, 1), b"10");
+    check_part(&rt, TrimmedFixed(100u16, 0), b"100");
+    check_part(&rt, TrimmedFixed(0i64, 0), b"0");
+    check_part(&rt, TrimmedFixed(0u8, 19), b"0");
+    check_part(&rt, TrimmedFixed(-50isize, 3), b"-0.05");
+    check_part(&rt, TrimmedFixed(10_000_000_000_000_000_000u64, 19), b"1");
+    check_part(&rt, TrimmedFixed(u64::MAX, 19), b"1.8446744073709551615");
+    check_part(&rt, TrimmedFixed(i64::MIN, 19), b"-0.9223372036854775808");
+    check_room(&rt, TrimmedFixed(0u8, 2), 4);
+    check_room(&rt, TrimmedFixed(0i8, 3), 6);
+    check_str(&rt, TrimmedFixed(-128i8, 2), &mut [7; 5], "-1.28");
 }
 
 #[test]

@@ -39,6 +39,13 @@ impl NumberFormatBuilder {
         Self::from_radix(2)
     }
 
+    /// Returns the format whose radices are both 16, with no required sign and no groups.
+    #[must_use]
+    #[inline]
+    pub const fn hexadecimal() -> NumberFormat {
+        Self::from_radix(16)
+    }
+
     /// Returns the format whose radices are both `radix`, from 2 to 36, with no required sign and no
     /// groups.
     ///

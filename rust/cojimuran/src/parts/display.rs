@@ -11,11 +11,18 @@ use crate::parts::padded::{Padded, PaddedDigits};
 use crate::parts::part::Part;
 use crate::parts::plus::Plus;
 use crate::parts::powers_of_two::{Binary, Hex};
+use crate::parts::trimmed::TrimmedFixed;
 use crate::write_integer::digit_count::DigitCount;
 use crate::write_integer::format::STANDARD;
 use crate::write_integer::radix::Radix;
 use crate::write_integer::{BUFFER_SIZE, NumberFormatBuilder, ToLexicalWithOptions};
 use core::fmt;
+
+// The digits of the longest number, and the most that a padded number can have to be shown.
+const MOST_DIGITS: usize = 64;
+
+// The length of the longest number with decimals, a `u64` in groups of one digit.
+const LONGEST_FIXED: usize = 39;
 
 // Writes a text that begins with `+` as the standard library writes an integer with the option `+`.
 #[inline]
@@ -115,7 +122,7 @@ impl<T: Radix> fmt::Display for Hex<T> {
 impl<T: Radix> fmt::Display for Binary<T> {
     #[inline]
     fn fmt(&self, f: &mut fmt::Formatter<'_>) -> fmt::Result {
-        let mut buffer = [0; 64];
+        let mut buffer = [0; MOST_DIGITS];
         let text = Binary(self.0).to_str(&mut buffer);
         pad_number(f, false, false, text)
     }
@@ -124,7 +131,7 @@ impl<T: Radix> fmt::Display for Binary<T> {
 impl<T: DigitCount + Radix> Digits<T> {
     // Returns the text, or an error if the radix is not from 2 to 36.
     #[inline]
-    fn shown(self, buffer: &mut [u8; 64]) -> Result<&str, fmt::Error> {
+    fn shown(self, buffer: &mut [u8; MOST_DIGITS]) -> Result<&str, fmt::Error> {
         if !is_radix(u64::from(self.0)) {
             return Err(fmt::Error);
         }
@@ -136,7 +143,7 @@ impl<T: DigitCount + Radix> Digits<T> {
 impl<T: DigitCount + Radix> fmt::Display for Digits<T> {
     #[inline]
     fn fmt(&self, f: &mut fmt::Formatter<'_>) -> fmt::Result {
-        let mut buffer = [0; 64];
+        let mut buffer = [0; MOST_DIGITS];
         let text = Digits(self.0, self.1).shown(&mut buffer)?;
         pad_number(f, false, false, text)
     }
@@ -146,11 +153,11 @@ impl<T: DigitCount + Radix> PaddedDigits<T> {
     // Returns the text, or an error if the radix is not from 2 to 36, the number does not fit in the width, or the
     // width is not from 1 to 64.
     #[inline]
-    fn shown(self, buffer: &mut [u8; 64]) -> Result<&str, fmt::Error> {
+    fn shown(self, buffer: &mut [u8; MOST_DIGITS]) -> Result<&str, fmt::Error> {
         if !is_radix(u64::from(self.0)) {
             return Err(fmt::Error);
         }
-        if 64 < self.2 || self.2 < self.1.digit_count(self.0) {
+        if MOST_DIGITS < self.2 || self.2 < self.1.digit_count(self.0) {
             return Err(fmt::Error);
         }
         Ok(self.to_str(buffer))
@@ -160,7 +167,7 @@ impl<T: DigitCount + Radix> PaddedDigits<T> {
 impl<T: DigitCount + Radix> fmt::Display for PaddedDigits<T> {
     #[inline]
     fn fmt(&self, f: &mut fmt::Formatter<'_>) -> fmt::Result {
-        let mut buffer = [0; 64];
+        let mut buffer = [0; MOST_DIGITS];
         let text = PaddedDigits(self.0, self.1, self.2).shown(&mut buffer)?;
         pad_number(f, false, false, text)
     }
@@ -174,10 +181,9 @@ impl<T: DigitCount + Radix> fmt::Display for Padded<T> {
 }
 
 impl<T: ToLexicalWithOptions> GroupedFixed<'_, T> {
-    // Returns the text, or an error if there are more than 19 decimals. The longest text, of a `u64` in groups of one
-    // digit, has 39 bytes.
+    // Returns the text, or an error if there are more than 19 decimals.
     #[inline]
-    fn shown(self, buffer: &mut [u8; 39]) -> Result<&str, fmt::Error> {
+    fn shown(self, buffer: &mut [u8; LONGEST_FIXED]) -> Result<&str, fmt::Error> {
         if self.1 > 19 {
             return Err(fmt::Error);
         }
@@ -189,7 +195,7 @@ impl<T: ToLexicalWithOptions> GroupedFixed<'_, T> {
 impl<T: ToLexicalWithOptions> fmt::Display for GroupedFixed<'_, T> {
     #[inline]
     fn fmt(&self, f: &mut fmt::Formatter<'_>) -> fmt::Result {
-        let mut buffer = [0; 39];
+        let mut buffer = [0; LONGEST_FIXED];
         let text = GroupedFixed(self.0, self.1, self.2).shown(&mut buffer)?;
         pad_number(f, self.0.is_negative(), false, text)
     }
@@ -199,5 +205,26 @@ impl<T: ToLexicalWithOptions> fmt::Display for Fixed<T> {
     #[inline]
     fn fmt(&self, f: &mut fmt::Formatter<'_>) -> fmt::Result {
         fmt::Display::fmt(&GroupedFixed(self.0, self.1, &STANDARD), f)
+    }
+}
+
+impl<T: ToLexicalWithOptions> TrimmedFixed<T> {
+    // Returns the text, or an error if there are more than 19 decimals.
+    #[inline]
+    fn shown(self, buffer: &mut [u8; LONGEST_FIXED]) -> Result<&str, fmt::Error> {
+        if self.1 > 19 {
+            return Err(fmt::Error);
+        }
+        let trimmed = self.to_str(buffer);
+        Ok(trimmed)
+    }
+}
+
+impl<T: ToLexicalWithOptions> fmt::Display for TrimmedFixed<T> {
+    #[inline]
+    fn fmt(&self, f: &mut fmt::Formatter<'_>) -> fmt::Result {
+        let mut buffer = [0; LONGEST_FIXED];
+        let text = TrimmedFixed(self.0, self.1).shown(&mut buffer)?;
+        pad_number(f, self.0.is_negative(), false, text)
     }
 }

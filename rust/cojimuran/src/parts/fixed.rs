@@ -12,7 +12,11 @@ use crate::write_integer::{NumberFormat, ToLexicalWithOptions, group_digits};
 // Writes the digits of a number to the start of the buffer, after the zeros that a digit before the point requires, and
 // returns the number of bytes written.
 #[inline(always)]
-fn write_units<T: ToLexicalWithOptions>(number: T, decimals: usize, buffer: &mut [u8]) -> usize {
+pub(crate) fn write_units<T: ToLexicalWithOptions>(
+    number: T,
+    decimals: usize,
+    buffer: &mut [u8],
+) -> usize {
     let count = number.write_magnitude(&STANDARD, buffer);
     if count > decimals {
         return count;

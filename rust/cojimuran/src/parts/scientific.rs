@@ -9,11 +9,11 @@ use crate::parts::text::Bytes;
 use crate::write_integer::ToLexicalWithOptions;
 use crate::write_integer::format::STANDARD;
 
-// Returns how many digits are left without the zeros at the end. The first digit is always left.
+// Returns how many digits are left without the zeros at the end. At least the first `least` digits are left.
 #[inline]
-fn count_without_zeros(digits: &[u8]) -> usize {
+pub(crate) fn count_without_zeros(digits: &[u8], least: usize) -> usize {
     let mut count = digits.len();
-    while 1 < count && digits[count - 1] == b'0' {
+    while least < count && digits[count - 1] == b'0' {
         count -= 1;
     }
     count
@@ -51,7 +51,7 @@ fn write_magnitude<T: ToLexicalWithOptions>(number: T, exponent: i32, buffer: &m
     let mut digits = [0; 20];
     let count = number.write_magnitude(&STANDARD, &mut digits);
     let digits = &digits[..count];
-    let kept = count_without_zeros(digits);
+    let kept = count_without_zeros(digits, 1);
     let end = write_with_point(&digits[..kept], buffer);
     end + write_exponent(first_exponent(digits, exponent), &mut buffer[end..])
 }

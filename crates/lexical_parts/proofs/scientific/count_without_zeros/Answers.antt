@@ -1,5 +1,5 @@
 use Rattle.std.proofs.Common.{arith}
-use Rattle.lexical_parts.proofs.Scientifics.{zeros_more}
+use Rattle.lexical_parts.proofs.TrailingZeros.{zeros_more}
 use Rattle.lexical_parts.proofs.scientific.count_without_zeros.Goals as goal
 
 pub loop-count-preserved : goal.loop-count-preserved
@@ -7,5 +7,5 @@ loop-count-preserved c =
     let loop = c.loop-count in record {
       some = omega arith;
       within = omega arith;
-      zeros = zeros_more c.args.digits.now loop.count loop.invariant.some loop.invariant.within c.if-digits-count-eq48.true loop.invariant.zeros;
+      zeros = zeros_more c.args.digits.now loop.count (omega arith) loop.invariant.within c.if-digits-count-eq48.true loop.invariant.zeros;
     }

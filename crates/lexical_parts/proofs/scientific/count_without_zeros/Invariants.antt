@@ -4,7 +4,7 @@ use Rattle.lexical_parts.proofs.scientific.count_without_zeros.Given as goal
 -- only zeros are left out so far
 abbrev pub invariant-loop-count : goal.invariant-loop-count
 invariant-loop-count l = record {
-  some : 1 ≤ l.count;
+  some : l.least ≤ l.count;
   within : l.count ≤ length l.digits;
   zeros : drop l.count l.digits ≡ replicate (length l.digits - l.count) 48;
 }
