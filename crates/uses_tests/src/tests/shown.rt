@@ -1,7 +1,9 @@
 // Parts in format strings, and texts in a `Vec` and a `String`.
 
 use super::check;
-use lexical_parts::{Binary, Decimal, Fixed, Formatted, GroupedFixed, Hex, Padded, Plus};
+use lexical_parts::{
+    Binary, Decimal, Fixed, Formatted, GroupedFixed, Hex, Padded, Plus, TrimmedFixed,
+};
 use lexical_write_integer::NumberFormatBuilder;
 use std::alloc::{Alloc, Global};
 use std::fmt::Display;
@@ -64,14 +66,15 @@ fn decimals_in_format_strings(rt: HostRuntime) {
         &rt,
         rt.alloc(),
         format_args!(
-            "{}|{:8}|{:08}|{:+}|{:*<10}|",
+            "{}|{:8}|{:08}|{:+}|{:*<10}|{:6}|",
             Fixed(-5i8, 2),
             Fixed(1234u32, 3),
             Fixed(-1234, 2),
             Fixed(7u64, 0),
-            GroupedFixed(-123456, 2, &thousands)
+            GroupedFixed(-123456, 2, &thousands),
+            TrimmedFixed(-1500, 3)
         ),
-        "-0.05|   1.234|-0012.34|+7|-1,234.56*|",
+        "-0.05|   1.234|-0012.34|+7|-1,234.56*|  -1.5|",
     );
 }
 
