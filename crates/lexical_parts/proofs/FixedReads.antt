@@ -1,5 +1,5 @@
 -- The text of a number of units without its point, which std reads as the number of units.
-use Rattle.std.proofs.Common.{◌≡◌, ◌≢◌, ℕ, zero, suc, ◌/◌, ◌^◌, ◌<◌, List, [], ◌∷◌, ◌++◌, length, map}
+use Rattle.std.proofs.Common.{◌≡◌, ◌≢◌, ℕ, zero, suc, ◌/◌, ◌^◌, ◌<◌, List, [], ◌∷◌, ◌++◌, map}
 use Rattle.std.proofs.Common.{refl, ap, ◌∙◌, ℤ, not, ◌==◌, false, arith}
 use Rattle.std.proofs.Common.{div-one}
 use Rattle.std.specs.Prelude.{unsigned_abs}

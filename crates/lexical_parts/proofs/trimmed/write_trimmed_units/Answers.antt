@@ -1,4 +1,4 @@
-use Rattle.std.proofs.Common.{◌≡◌, ◌+◌, ◌-◌, ◌≤◌, length, take, drop, unsigned_abs, arith}
+use Rattle.std.proofs.Common.{◌-◌, length, take, unsigned_abs, arith}
 use Rattle.lexical_num.proofs.Magnitudes.{decimal_width-le_20}
 use Rattle.lexical_write_integer.proofs.Buffers.Prefixes.{Writes-is}
 use Rattle.lexical_parts.proofs.Conversions.{written_as}
