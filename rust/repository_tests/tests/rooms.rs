@@ -114,7 +114,7 @@ fn signs_and_no_bytes() {
 }
 
 #[test]
-fn each_part_has_a_row_here_and_in_the_test_of_utf8() {
+fn each_part_has_a_row() {
     let (here, utf8) = (include_str!("rooms.rs"), include_str!("utf8.rs"));
     let exports = include_str!("../../cojimuran/src/parts.rs").lines().filter_map(|line| line.strip_prefix("pub use "));
     let names = exports.flat_map(|path| path.split(|c: char| !c.is_alphanumeric()));
