@@ -27,11 +27,6 @@ pub record HasOnlyRadixAndCase (format : CFormat) : Type 0 where
   pub groups : format.group_size ≡ 0
   pub unreserved : IsUnreserved format
 
--- every field except the radix and the mark is 0
-pub record HasOnlyRadix (format : CFormat) : Type 0 where
-  pub others : HasOnlyRadixAndCase format
-  pub uppercase : format.lowercase ≡ 0
-
 -- every field has a meaning
 pub record IsAccepted (format : CFormat) : Type 0 where
   pub valid : IsValid (format_of format)

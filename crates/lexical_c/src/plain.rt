@@ -7,7 +7,7 @@ ghost use Rattle.lexical_num.specs.Format.{IsRadix, standard};
 ghost use Rattle.lexical_num.specs.Size.{size_in};
 ghost use Rattle.lexical_write_integer.specs.Buffer.{WritesText};
 ghost use Rattle.lexical_write_integer.specs.Text.{need};
-ghost use Rattle.lexical_c.specs.Format.{HasOnlyRadix, HasOnlyRadixAndCase};
+ghost use Rattle.lexical_c.specs.Format.{HasOnlyRadixAndCase};
 
 use crate::format::CFormat;
 use lexical_num::limits::is_radix;
@@ -24,13 +24,6 @@ pub fn has_only_radix_and_case(format: &CFormat) -> bool
         & (format.group_size == 0)
         & (format.reserved_1 == 0)
         & (format.reserved_2 == 0)
-}
-
-/// Returns whether every field but the radix and the mark is 0.
-pub fn has_only_radix(format: &CFormat) -> bool
-    ensures { IsTrue result ↔ HasOnlyRadix format.now }
-{
-    has_only_radix_and_case(format) & (format.lowercase == 0)
 }
 
 /// Returns whether digits of the radix of the format are letters.

@@ -3,7 +3,7 @@
 
 ghost use Rattle.std.specs.Prelude.{◌≡◌, ◌≢◌, ◌≤◌, pos};
 ghost use Rattle.lexical_c.specs.Buffer.{WritesOrRefuses};
-ghost use Rattle.lexical_c.specs.Format.{HasOnlyRadix, HasOnlyRadixAndCase};
+ghost use Rattle.lexical_c.specs.Format.{HasOnlyRadixAndCase};
 
 use crate::decimal::write_decimal;
 use crate::format::CFormat;
@@ -11,8 +11,7 @@ use crate::general::write_if_it_fits;
 use crate::hexadecimal::write_hexadecimal;
 use crate::integer::CInteger;
 use crate::plain::{
-    fitting_format, has_letters, has_only_radix, has_only_radix_and_case, set_lowercase_bit,
-    write_plain,
+    fitting_format, has_letters, has_only_radix_and_case, set_lowercase_bit, write_plain,
 };
 use lexical_write_integer::laws::size_suffices;
 
@@ -20,7 +19,7 @@ use lexical_write_integer::laws::size_suffices;
 fn write<T: CInteger>(value: T, format: &CFormat, buffer: &mut [u8]) -> usize
     ensures { WritesOrRefuses (T.number value) format.now buffer.old buffer.new result }
 {
-    if has_only_radix(format) {
+    if has_only_radix_and_case(format) & (format.lowercase == 0) {
         write_digits(value, format, buffer)
     } else {
         write_other(value, format, buffer)
@@ -31,7 +30,7 @@ fn write<T: CInteger>(value: T, format: &CFormat, buffer: &mut [u8]) -> usize
 // would save registers that only this needs.
 #[cold]
 fn write_other<T: CInteger>(value: T, format: &CFormat, buffer: &mut [u8]) -> usize
-    requires { ¬ HasOnlyRadix format.now }
+    requires { HasOnlyRadixAndCase format.now → format.now.lowercase ≢ 0 }
     ensures { WritesOrRefuses (T.number value) format.now buffer.old buffer.new result }
 {
     if !has_only_radix_and_case(format) {

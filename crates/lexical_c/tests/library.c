@@ -296,7 +296,8 @@ static void check_edges(const struct type *type, const struct lexical_format *fo
         }
 }
 
-static void check_all_edges(void)
+/* Checks these and numbers of several lengths in every radix, and of uninitialized buffers only the latter. */
+static void check_radices(void)
 {
     static const uint32_t SIZES[] = { 0, 1, 2, 3, 4, 5, 7, 8, 63, 64 };
     for (size_t t = 0; t < TYPE_COUNT; t++)
@@ -305,7 +306,10 @@ static void check_all_edges(void)
                 uint32_t group_size = kind < 4 ? 0 : SIZES[(radix + kind) % 10];
                 struct lexical_format format = FORMAT(radix, kind % 2, group_size, kind % 3 == 0 ? ' ' : '_');
                 format.lowercase = kind / 2 % 2;
-                check_edges(&TYPES[t], &format);
+                for (unsigned shift = 0; shift < 64; shift += 9)
+                    check_number(&TYPES[t], (UINT64_MAX / 3 * 2 >> shift) & largest_bits(&TYPES[t]), &format, false);
+                if (!is_uninitialized)
+                    check_edges(&TYPES[t], &format);
             }
 }
 
@@ -321,19 +325,6 @@ static void check_short_types(void)
                 check_call(&TYPES[t], bits, &format, TYPES[t].size, &expected);
             }
         }
-}
-
-/* Checks numbers of several lengths. */
-static void check_lengths(void)
-{
-    for (size_t t = 0; t < TYPE_COUNT; t++)
-        for (uint32_t radix = 2; radix <= 36; radix++)
-            for (uint32_t kind = 0; kind < 4; kind++)
-                for (unsigned shift = 0; shift < 64; shift += 9) {
-                    struct lexical_format format = FORMAT(radix, kind == 1, kind == 2 ? 3u : 0u, '_');
-                    format.lowercase = kind == 3;
-                    check_number(&TYPES[t], (UINT64_MAX / 3 * 2 >> shift) & largest_bits(&TYPES[t]), &format, false);
-                }
 }
 
 static uint64_t next_random(void)
@@ -476,10 +467,9 @@ int main(int argument_count, char **arguments)
     is_uninitialized = argument_count > 1;
     buffers = new_island();
     formats = new_island();
-    run("numbers of several lengths", check_lengths);
+    run("every radix", check_radices);
     if (is_uninitialized)
         return failed == 0 ? EXIT_SUCCESS : EXIT_FAILURE;
-    run("the ends of types and the powers of radices", check_all_edges);
     run("all numbers of 8 and 16 bits", check_short_types);
     run("snprintf", check_against_snprintf);
     run("a table of texts", check_table);

@@ -70,8 +70,8 @@ inherits() { readelf -VW "$1" | grep -A 1 "Name: LEXICAL_C_$major.1\$" | grep -q
 # check_libraries PREFIX: tests the libraries that are installed there.
 check_libraries() {
   expect 'the node of each version' has_nodes "$1/lib"
-  if has nm; then check_names "$1"; fi
-  if has readelf; then
+  if can nm; then check_names "$1"; fi
+  if can readelf; then
     expect 'the hardening of the shared library' is_hardened "$1/lib/liblexical_c.so"
     expect 'a node inherits from the earlier one' inherits "$1/lib/liblexical_c.so"
   fi

@@ -53,27 +53,19 @@ pub extern "C" fn lexical_check_format(format: &CFormat) -> u32 {
     }
 }
 
-/// Returns the format with these fields, which must be valid.
+/// Returns the format with these fields, or `None` if they are not valid.
 #[inline]
-pub fn valid_format(format: &CFormat) -> NumberFormat {
+pub fn number_format(format: &CFormat) -> Option<NumberFormat> {
+    if lexical_check_format(format) != 0 {
+        return None;
+    }
     let builder = NumberFormatBuilder::new()
         .mantissa_radix(format.radix as u8)
         .required_mantissa_sign(format.required_sign != 0);
     if format.group_size == 0 {
-        builder.build_strict()
+        Some(builder.build_strict())
     } else {
-        builder
-            .digit_grouping(format.group_size as u8, format.mark as u8)
-            .build_strict()
-    }
-}
-
-/// Returns the format with these fields, or `None` if they are not valid.
-#[inline]
-pub fn number_format(format: &CFormat) -> Option<NumberFormat> {
-    if lexical_check_format(format) == 0 {
-        Some(valid_format(format))
-    } else {
-        None
+        let builder = builder.digit_grouping(format.group_size as u8, format.mark as u8);
+        Some(builder.build_strict())
     }
 }

@@ -17,12 +17,6 @@ pub fn has_only_radix_and_case(format: &CFormat) -> bool {
         & (format.reserved_2 == 0)
 }
 
-/// Returns whether every field but the radix and the mark is 0.
-#[inline(always)]
-pub fn has_only_radix(format: &CFormat) -> bool {
-    has_only_radix_and_case(format) & (format.lowercase == 0)
-}
-
 /// Returns whether digits of the radix of the format are letters.
 #[inline(always)]
 pub fn has_letters(format: &CFormat) -> bool {

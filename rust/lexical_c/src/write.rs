@@ -9,14 +9,13 @@ use crate::general::write_if_it_fits;
 use crate::hexadecimal::write_hexadecimal;
 use crate::integer::CInteger;
 use crate::plain::{
-    fitting_format, has_letters, has_only_radix, has_only_radix_and_case, set_lowercase_bit,
-    write_plain,
+    fitting_format, has_letters, has_only_radix_and_case, set_lowercase_bit, write_plain,
 };
 
 // Writes a number to the buffer, and returns the text's length, or 0 if the format is invalid or it does not fit.
 #[inline]
 fn write<T: CInteger>(value: T, format: &CFormat, buffer: &mut [u8]) -> usize {
-    if has_only_radix(format) {
+    if has_only_radix_and_case(format) & (format.lowercase == 0) {
         write_digits(value, format, buffer)
     } else {
         write_other(value, format, buffer)
