@@ -27,10 +27,15 @@ kept (x ∷ xs) none =
 digit_is_no_point : (d : ℕ) → d < 10 → digit_char d ≢ 46
 digit_is_no_point d small same = grind arith
 
+-- digits have no byte p that is not one of the ten
+pub digits_lack : (p : ℕ) (ds text : List ℕ) → ((d : ℕ) → d < 10 → digit_char d ≢ p) → All (λ d. d < 10) ds
+    → text ≡ map digit_char ds → All (λ b. b ≢ p) text
+digits_lack p ds text other below characters =
+    let all : All (λ d. digit_char d ≢ p) ds = λ k d l. other _ (below k d l) in
+    rw characters (All-map (λ b. b ≢ p) digit_char ds all)
+
 no_point : (ds text : List ℕ) → All (λ d. d < 10) ds → text ≡ map digit_char ds → All (λ b. b ≢ 46) text
-no_point ds text below characters =
-    let all : All (λ d. digit_char d ≢ 46) ds = λ k d l. digit_is_no_point _ (below k d l) in
-    rw characters (All-map (λ b. b ≢ 46) digit_char ds all)
+no_point ds text = digits_lack 46 ds text digit_is_no_point
 
 without_point : (s a q : List ℕ) → All (λ b. b ≢ 46) s → All (λ b. b ≢ 46) a → All (λ b. b ≢ 46) q
     → others (s ++ (a ++ 46 ∷ q)) ≡ s ++ (a ++ q)

@@ -46,3 +46,9 @@ pub mod Ends
 pub mod FixedTexts
 -- numbers of units without their point, which std reads
 pub mod FixedReads
+-- numbers with zeros after their sign, which std reads
+pub mod ZeroReads
+-- lists of bytes in digits of one width
+pub mod EqualBytes
+-- numbers in scientific notation with one text
+pub mod EqualScientifics

@@ -6,6 +6,7 @@ pub mod InCommon
 pub mod Joined
 pub mod Optional
 pub mod Plus
+pub mod Scaled
 pub mod Scientific
 pub mod Sequence
 pub mod ShownParts

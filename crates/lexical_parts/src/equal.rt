@@ -1,15 +1,22 @@
 //! Laws on texts in a row: what equal texts have in common, and which of two texts is the earlier one.
 
-ghost use Rattle.std.specs.Prelude.{◌≡◌, ◌≢◌, ◌<◌, ◌∷◌, [], All, List, ℕ, length};
+ghost use Rattle.std.specs.Prelude.{◌≡◌, ◌≢◌, ◌<◌, ◌∷◌, [], All, List, None, ℕ, length};
 ghost use Rattle.lexical_num.specs.Format.{IsRadix};
+ghost use Rattle.lexical_write_integer.specs.Lowercase.{IsLowercase};
 ghost use Rattle.lexical_write_integer.specs.Order.{IsEarlier};
 ghost use Rattle.lexical_write_integer.specs.Padded.{IsPadded};
-ghost use Rattle.lexical_write_integer.specs.Sequence.{IsExactly};
-ghost use Rattle.lexical_write_integer.specs.Text.{IsDigits};
+ghost use Rattle.lexical_write_integer.specs.Sequence.{AreJoined, IsExactly};
+ghost use Rattle.lexical_write_integer.specs.Text.{IsDigits, IsText};
 ghost use Rattle.lexical_parts.specs.InCommon.{HaveInCommon};
+ghost use Rattle.lexical_parts.specs.Scaled.{AreEqualScaled};
+ghost use Rattle.lexical_parts.specs.Scientific.{IsScientific};
 ghost use Rattle.lexical_parts.specs.Sequence.{◌then◌};
+ghost use Rattle.lexical_parts.specs.ZeroPadded.{IsZeroPadded};
 
 use crate::part::Part;
+use crate::reading::zero_padded_read_back;
+use lexical_num::format::NumberFormat;
+use lexical_num::num::LexicalInteger;
 use lexical_write_integer::laws::{equal_digits, equal_padded};
 
 /// A law: if each text of `a` and of `b` has `count` bytes, and a text is `a` and then `p`, and also `b` and then `q`,
@@ -55,3 +62,27 @@ pub fn common_padded(radix: u32, width: usize, a: u64, b: u64)
 {
     equal_padded(radix, width, a, b);
 }
+
+/// A law: so are two numbers that have a text of a `ZeroPadded` in common, in a format without groups.
+pub fn common_zero_padded<T: LexicalInteger>(a: T, b: T, format: &NumberFormat, width: usize)
+    requires { format.now.digit_grouping ≡ None }
+    ensures { HaveInCommon (IsZeroPadded width (IsText (T.number a) format.now))
+        (IsZeroPadded width (IsText (T.number b) format.now)) → T.number a ≡ T.number b }
+{
+    zero_padded_read_back(a, format, width);
+    zero_padded_read_back(b, format, width);
+}
+
+/// A law: so are the bytes of two `HexBytes` that have a text in common, or one in lowercase.
+pub fn common_bytes(a: &[u8], b: &[u8], separator: &str)
+    ensures text { HaveInCommon (AreJoined (IsPadded 16 2) separator.now a.now)
+        (AreJoined (IsPadded 16 2) separator.now b.now) → a.now ≡ b.now }
+    ensures lowercase { HaveInCommon (IsLowercase (AreJoined (IsPadded 16 2) separator.now a.now))
+        (IsLowercase (AreJoined (IsPadded 16 2) separator.now b.now)) → a.now ≡ b.now }
+{}
+
+/// A law: two numbers times powers of ten that have a text of a `Scientific` in common are equal.
+pub fn common_scientific<T: LexicalInteger>(a: T, b: T, exponent: i32, other: i32)
+    ensures { HaveInCommon (IsScientific (T.number a) exponent) (IsScientific (T.number b) other)
+        → AreEqualScaled (T.number a) exponent (T.number b) other }
+{}

@@ -38,7 +38,6 @@ mod equal;
 mod field;
 mod fill;
 mod fixed;
-mod fixed_reading;
 mod integers;
 mod joined;
 mod lower;
@@ -50,6 +49,7 @@ mod part;
 mod plus;
 mod positions;
 mod powers_of_two;
+mod reading;
 mod reference;
 mod scientific;
 mod shown;
@@ -62,10 +62,12 @@ mod zero_padded;
 
 pub use buffer::Buffer;
 pub use column::{Center, Left, Right};
-pub use equal::{common_digits, common_padded, padded_decides, same_parts, same_split};
+pub use equal::{
+    common_bytes, common_digits, common_padded, common_scientific, common_zero_padded,
+    padded_decides, same_parts, same_split,
+};
 pub use field::write_field;
 pub use fixed::{Fixed, GroupedFixed};
-pub use fixed_reading::fixed_read_back;
 pub use joined::{Joined, rooms_at_most};
 pub use lower::Lower;
 pub use number::{Decimal, Digits, Formatted, formatted_room_suffices};
@@ -75,6 +77,7 @@ pub use part::Part;
 pub use plus::Plus;
 pub use positions::{byte_starts_at, part_starts_at};
 pub use powers_of_two::{Binary, Hex, HexBytes};
+pub use reading::{fixed_read_back, zero_padded_read_back};
 pub use scientific::Scientific;
 pub use shown::Shown;
 pub use sign::Sign;

@@ -1,16 +1,17 @@
 //! Writes floats: in decimal from their digits, and in two radices, whose format it builds.
 
-ghost use Rattle.std.specs.Prelude.{◌≡◌, ◌↔◌, ◌≤◌, [], ◌∷◌, IsOk, IfOk, false, length, pos};
+ghost use Rattle.std.specs.Prelude.{◌≡◌, ◌↔◌, ◌≤◌, [], ◌∷◌, IsOk, IfOk, List, ℕ, false, length, pos};
 ghost use Rattle.lexical_num.specs.Format.{IsValid, standard};
 ghost use Rattle.lexical_num.specs.Sign.{sign_of};
 ghost use Rattle.lexical_write_integer.specs.Buffer.{Writes};
 ghost use Rattle.lexical_write_integer.specs.Sequence.{IsExactly, Then};
 ghost use Rattle.lexical_write_integer.specs.Text.{IsDigits};
+ghost use Rattle.lexical_parts.specs.Scaled.{AreEqualScaled};
 ghost use Rattle.lexical_parts.specs.Scientific.{IsScientific};
 ghost use Rattle.lexical_parts.specs.Sequence.{◌then◌};
 
 use lexical_num::{NumberFormat, NumberFormatBuilder, Result};
-use lexical_parts::{Part, Scientific, Sign};
+use lexical_parts::{Part, Scientific, Sign, common_scientific};
 use lexical_write_integer::buffer::copy_to_front;
 use lexical_write_integer::laws::digit_count_within_bits;
 use lexical_write_integer::write::WriteInteger;
@@ -62,4 +63,13 @@ pub fn write_float(sign: i8, digits: u64, exponent: i32, buffer: &mut [u8; 34]) 
     ensures { (IsExactly (sign_of sign false) then IsScientific (pos digits) exponent) result.now }
 {
     (Sign(sign, false), Scientific(digits, exponent)).to_str(buffer)
+}
+
+/// A law: two floats with equal texts are equal.
+pub fn same_float(digits: u64, exponent: i32, other_digits: u64, other_exponent: i32)
+    ensures { (text : List ℕ) → IsScientific (pos digits) exponent text
+        → IsScientific (pos other_digits) other_exponent text
+        → AreEqualScaled (pos digits) exponent (pos other_digits) other_exponent }
+{
+    common_scientific(digits, other_digits, exponent, other_exponent);
 }

@@ -6,11 +6,16 @@ ghost use Rattle.lexical_write_integer.specs.Read.{IsReadAsSigned, IsReadAsUnsig
 ghost use Rattle.lexical_write_integer.specs.Sequence.{AreJoined};
 ghost use Rattle.lexical_write_integer.specs.Text.{IsText};
 ghost use Rattle.lexical_parts.specs.Fixed.{IsFixed};
+ghost use Rattle.lexical_parts.specs.Sequence.{IsDecimal};
 ghost use Rattle.lexical_parts.specs.Without.{IsWithout};
+ghost use Rattle.lexical_parts.specs.ZeroPadded.{IsZeroPadded};
 ghost use Rattle.lexical_lines.specs.Answer.{IsTextAnswer};
 
 use lexical_lines::laws::answer_read_back;
-use lexical_parts::{Digits, Formatted, Lower, Padded, Part, fixed_read_back};
+use lexical_parts::{
+    Digits, Formatted, Lower, Padded, Part, ZeroPadded, common_zero_padded, fixed_read_back,
+    zero_padded_read_back,
+};
 use lexical_write_integer::format::STANDARD;
 use lexical_write_integer::laws::{
     digit_count_at_most, digits_read_back, equal_across_formats, equal_rows, grouped_read_back,
@@ -90,6 +95,25 @@ pub fn in_eight_digits(number: u32) -> Result<i32, ParseIntError>
     let text = Padded(number, 8).to_str(&mut buffer);
     padded_read_back(10, 8, u64::from(number));
     text.parse::<i32>()
+}
+
+/// Reads back a number with zeros after its sign, such as `-0042`.
+pub fn in_five_characters(number: i16) -> Result<i16, ParseIntError>
+    ensures { result ≡ Ok number }
+{
+    let mut buffer = [0; 6];
+    let text = ZeroPadded(number, 5).to_str(&mut buffer);
+    zero_padded_read_back(number, &STANDARD, 5);
+    text.parse::<i16>()
+}
+
+/// Returns whether two numbers are equal. They are if one text in five characters is of both.
+pub fn same_in_five_characters(a: i16, b: i16) -> bool
+    ensures text { (text : List ℕ) → IsZeroPadded 5 (IsDecimal a) text → IsZeroPadded 5 (IsDecimal b) text → a ≡ b }
+    ensures result { IsTrue result ↔ (a ≡ b) }
+{
+    common_zero_padded(a, b, &STANDARD, 5);
+    a == b
 }
 
 /// Reads back the text of a number of any type in decimal, if `parse` of the type returns the number for each text that

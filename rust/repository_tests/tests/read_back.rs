@@ -1,7 +1,7 @@
 //! The standard library reads back what is written: random numbers of each type and radix, and the smallest and the
 //! largest, with and without a required sign, in lowercase and with leading zeros.
 
-use cojimuran::parts::{Digits, Formatted, Lower, PaddedDigits, Part};
+use cojimuran::parts::{Digits, Formatted, Lower, PaddedDigits, Part, ZeroPadded};
 use cojimuran::{BUFFER_SIZE, NumberFormatBuilder, Options, ToLexical, ToLexicalWithOptions};
 use std::str::from_utf8;
 
@@ -33,6 +33,9 @@ macro_rules! check_texts {
                     let lower = Lower(Formatted(number, format)).to_str(&mut lower);
                     assert_eq!(<$number>::from_str_radix(lower, radix), Ok(number));
                     assert_eq!(lower, from_utf8(text).unwrap().to_lowercase());
+                    let mut buffer = [0; BUFFER_SIZE];
+                    let zeros = ZeroPadded(Formatted(number, format), 9).to_str(&mut buffer);
+                    assert_eq!(<$number>::from_str_radix(zeros, radix), Ok(number));
                 }
                 let mut buffer = [0; BUFFER_SIZE];
                 assert_eq!(from_utf8(number.to_lexical(&mut buffer)).unwrap().parse(), Ok(number));

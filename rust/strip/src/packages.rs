@@ -158,7 +158,7 @@ pub(crate) const SOURCES: &[Source] = &[
                 to_text",
             ),
         ],
-        left_out: "equal fixed_reading positions",
+        left_out: "equal positions reading",
         replaced: replaced::PARTS,
         ..LIBRARY
     },

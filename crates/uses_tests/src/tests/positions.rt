@@ -114,6 +114,7 @@ fn numbers_that_are_read_back(rt: HostRuntime) {
     check(&rt, read_back::in_radix_36(u64::MAX).ok(), Some(u64::MAX));
     check(&rt, read_back::in_lowercase(-0x7F).ok(), Some(-0x7F));
     check(&rt, read_back::in_eight_digits(42).ok(), Some(42));
+    check(&rt, read_back::in_five_characters(-42).ok(), Some(-42));
     check(&rt, read_back::of_any_type(i8::MIN).ok(), Some(i8::MIN));
     check(&rt, read_back::of_one_type(u64::MAX).ok(), Some(u64::MAX));
 }
