@@ -2,5 +2,4 @@
 pub mod Prefixes
 pub mod Blocks
 pub mod BlocksAfter
-pub mod Fields
 pub mod Lowercases
