@@ -96,7 +96,7 @@ builds_with_cmake() {
 cmake_minimum_required(VERSION 3.12)
 project(example C CXX)
 set(CMAKE_CXX_STANDARD 20)
-foreach(wanted 3.0 "$version;EXACT" 3.0...4 2.0...$version "3.0.9;EXACT" 2.0...<3 2.0 3.999)
+foreach(wanted 3.0 "$version;EXACT" 3.0...4 2.0...$version "3.0.9;EXACT" 2.0...<3 2.0 3.999 3.999...4)
   find_package(lexical_c \${wanted} QUIET)
   message(STATUS "wanted \${wanted}: \${lexical_c_FOUND}")
 endforeach()
@@ -112,7 +112,7 @@ endforeach()
 END
   prefix_path=$1; shift
   CC="$CC" CXX="$CXX" cmake -S "$work/project" -B "$work/project/build" -DCMAKE_PREFIX_PATH="$prefix_path" "$@" > "$work/said" && cmake --build "$work/project/build" || return 1
-  prints '1 1 1 1 0 0 0 0 ' sh -c 'sed -n "s/^-- wanted .*: //p" "$1" | tr "\n" " "' sh "$work/said" || return 1
+  prints '1 1 1 1 0 0 0 0 0 ' sh -c 'sed -n "s/^-- wanted .*: //p" "$1" | tr "\n" " "' sh "$work/said" || return 1
   for kind in shared static lexical_c; do
     prints "$c_lines" "$work/project/build/c_$kind" && prints "$(cat "$work/lines20")" "$work/project/build/cpp_$kind" || return 1
   done
