@@ -16,7 +16,11 @@ use lexical_write_integer::{NumberFormat, ToLexicalWithOptions, group_digits};
 
 // Writes the digits of a number to the start of the buffer, after the zeros that a digit before the point requires, and
 // returns the number of bytes written.
-pub(crate) fn write_units<T: ToLexicalWithOptions>(number: T, decimals: usize, buffer: &mut [u8]) -> usize
+pub(crate) fn write_units<T: ToLexicalWithOptions>(
+    number: T,
+    decimals: usize,
+    buffer: &mut [u8],
+) -> usize
     requires decimals { decimals ≤ 19 }
     requires room { max T.DECIMAL_WIDTH (decimals + 1) ≤ length buffer.old }
     ensures { Writes (AreUnits decimals (unsigned_abs (T.number number)) T.DECIMAL_WIDTH) buffer.old buffer.new result }
