@@ -3,11 +3,6 @@
 
 # ---- what is installed
 
-# example LANGUAGE: prints the first code block of the README in this language.
-example() {
-  awk -v fence="\`\`\`$1" '$0 == "```" { inside = 0 } inside; $0 == fence && !seen++ { inside = 1 }' "$crate/README.md"
-}
-
 # has_links FOLDER VERSION: whether the shared library of this version has its two links, which are relative.
 has_links() {
   [ "$(readlink "$1/liblexical_c.so")" = "liblexical_c.so.${2%%.*}" ] &&
@@ -57,7 +52,7 @@ shows_all() {
 # needs_soname PROGRAM: whether a program is linked to the shared library by its soname.
 needs_soname() { objdump -p "$1" | grep -q "NEEDED *liblexical_c.so.$major\$"; }
 
-# builds_examples FLAGS..: whether these flags build the examples in C and C++, and each prints what README says.
+# builds_examples FLAGS..: whether these flags build the examples in C and C++, and each prints the right lines.
 builds_examples() {
   $CC -o "$work/example" "$work/example.c" "$@" && prints "$c_lines" "$work/example" || return 1
   ! can cpp || for standard in 17 20; do
@@ -121,9 +116,9 @@ END
   ! can nm || prints inside exported_names "$work/project/build/libinside.so"
 }
 
-# The Python example of the README, and numbers that are out of range.
+# The Python example, and numbers that are out of range.
 check_python() {
-  example python > "$work/example.py"
+  cp "$crate/examples/example.py" "$work"
   cat >> "$work/example.py" <<'END'
 for value, radix in (2**64, 10), (2**64 + 5, 10), (-2**63 - 1, 10), (5, 2**32 + 10), (5, -2**32 + 10), (5, 1), (5, 37):
     try:
@@ -136,10 +131,8 @@ END
 18446744073709551615 -9223372036854775808' env LD_LIBRARY_PATH="$1/lib" python3 "$work/example.py"
 }
 
-# The Go example of the README.
 check_go() {
-  mkdir -p "$work/go"
-  example go > "$work/go/example.go"
+  mkdir -p "$work/go" && cp "$crate/examples/example.go" "$work/go"
   expect 'the Go example' prints '-4D2
 -1234
 invalid format' env CGO_ENABLED=1 GO111MODULE=off GOCACHE="$work/go/cache" GOFLAGS= PKG_CONFIG_PATH="$1/lib/pkgconfig" LD_LIBRARY_PATH="$1/lib" go run "$work/go/example.go"
@@ -154,10 +147,8 @@ check_installed() {
   c_lines='1234567
 -4D2
 18,446,744,073,709,551,615'
-  example c > "$work/example.c"
-  example cpp > "$work/example20.cpp"
+  cp "$crate"/examples/example*.c* "$work"
   echo 1,234,567 > "$work/lines20"
-  example c++17 > "$work/example17.cpp"
   printf '1,234,567\n-4D2\n' > "$work/lines17"
   printf '#include <lexical.h>\nsize_t inside(char *buffer);\nsize_t inside(char *buffer) { return lexical_decimal_u32(1, buffer, 10); }\n' > "$work/inside.c"
   prefix=$work/prefix
