@@ -12,6 +12,6 @@ pub mod Sequence
 pub mod ShownParts
 pub mod Trimmed
 pub mod Utf8
-pub mod Word
 pub mod Without
+pub mod Word
 pub mod ZeroPadded

@@ -14,6 +14,17 @@ use lexical_write_integer::format::STANDARD;
 use lexical_write_integer::laws::size_suffices;
 use lexical_write_integer::{NumberFormat, ToLexicalWithOptions, group_digits};
 
+// In Rust nothing else refuses more decimals.
+fn check_decimals(decimals: usize)
+    requires { decimals ≤ 19 }
+{
+    prove!(
+        decimals <= 19,
+        "{} decimals, but at most 19 are possible",
+        decimals
+    );
+}
+
 // Writes the digits of a number to the start of the buffer, after the zeros that a digit before the point requires, and
 // returns the number of bytes written.
 pub(crate) fn write_units<T: ToLexicalWithOptions>(
@@ -25,6 +36,7 @@ pub(crate) fn write_units<T: ToLexicalWithOptions>(
     requires room { max T.DECIMAL_WIDTH (decimals + 1) ≤ length buffer.old }
     ensures { Writes (AreUnits decimals (unsigned_abs (T.number number)) T.DECIMAL_WIDTH) buffer.old buffer.new result }
 {
+    check_decimals(decimals);
     number.in_range();
     let count = number.write_magnitude(&STANDARD, buffer);
     if count > decimals {
@@ -99,11 +111,7 @@ impl<T: ToLexicalWithOptions> Part for GroupedFixed<'_, T> {
         + grouped_units_room part.2.now.digit_grouping T.DECIMAL_WIDTH part.1 };
 
     fn room(self) -> usize {
-        prove!(
-            self.1 <= 19,
-            "{} decimals, but at most 19 are possible",
-            self.1
-        );
+        check_decimals(self.1);
         size_suffices(self.0, &STANDARD);
         let whole = T::DECIMAL_WIDTH.max(self.1 + 1) - self.1;
         usize::from(T::IS_SIGNED) + self.2.grouped_len(whole) + self.1 + self.1.min(1)
@@ -111,11 +119,6 @@ impl<T: ToLexicalWithOptions> Part for GroupedFixed<'_, T> {
 
     fn write_to(self, buffer: &mut [u8]) -> usize {
         self.2.in_range();
-        prove!(
-            self.1 <= 19,
-            "{} decimals, but at most 19 are possible",
-            self.1
-        );
         size_suffices(self.0, &STANDARD);
         let start = Sign(self.0, false).write_to(buffer);
         start + write_grouped_units(self.0, self.1, self.2, &mut buffer[start..])

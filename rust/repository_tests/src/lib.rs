@@ -1,7 +1,8 @@
-//! The callers that the repository proves, and what its tests are passed in place of the runtime of Rattle.
+//! The callers that the repository proves, what its tests are passed in place of the runtime of Rattle, and each part.
 
 extern crate self as repository_tests;
 
+pub mod parts;
 pub mod runtime;
 
 /// The calls of `crates/contract_tests`.

@@ -1,11 +1,13 @@
 //! The room of each part, which its longest text fills: `try_write_to` writes to a buffer of that length, and not to one
-//! that is a byte shorter; the traits of each part; and rooms near the largest `usize`. And what no other test calls:
-//! `write_sign` of a required `+`, and `write_padded` to no bytes.
+//! that is a byte shorter; the traits of each part; what `{}` writes of it; and rooms near the largest `usize`. And what
+//! no other test calls: `write_sign` of a required `+`, and `write_padded` to no bytes.
 
 use cojimuran::padded::write_padded;
 use cojimuran::parts::*;
-use cojimuran::{Append, NumberFormatBuilder, write_sign};
-use std::fmt::Debug;
+use cojimuran::{Append, NumberFormat, NumberFormatBuilder, write_sign};
+use repository_tests::each_part;
+use repository_tests::parts::Values;
+use std::fmt::{Debug, Display};
 use std::hash::Hash;
 use std::panic::{RefUnwindSafe, UnwindSafe};
 
@@ -13,7 +15,10 @@ fn has_traits<P: Part + Eq + Hash + Debug + Send + Sync + Unpin + UnwindSafe + R
 
 /// Compares the room of a part, which copies it, and what it writes, with a text of that length.
 macro_rules! check_rooms {
-    ($($part:expr => $room:expr, $text:expr;)+) => { $(
+    ($v:ident; $($part:expr => $room:expr, $text:expr $(, $field:ident = $value:expr)*;)+) => { $(
+        let $v = Values { $($field: $value,)* ..LONGEST };
+        // Some parts are of no value.
+        _ = $v;
         let name = stringify!($part);
         has_traits($part);
         assert_eq!($part.room(), $room, "the room of {name}");
@@ -29,53 +34,51 @@ macro_rules! check_rooms {
     )+ };
 }
 
+const THOUSANDS: NumberFormat = NumberFormatBuilder::new().digit_grouping(3, b',').build_strict();
+const LONGEST: Values = Values { bits: u64::MAX, few: 1, width: 4, fill: b'.', bytes: &[1, 126], groups: &THOUSANDS };
+
 #[test]
-fn rooms_of_numbers() {
-    let grouped = NumberFormatBuilder::new().digit_grouping(3, b',').build_strict();
-    check_rooms! {
-        Decimal(u8::MAX) => 3, "255";
-        Decimal(i64::MIN) => 20, "-9223372036854775808";
-        Plus(u16::MAX) => 6, "+65535";
-        Plus(i16::MIN) => 6, "-32768";
-        Sign(5i8, true) => 1, "+";
-        Sign(-5i8, false) => 1, "-";
-        Digits(2, 255u8) => 8, "11111111";
-        Digits(36, 0u64) => 1, "0";
-        Hex(u32::MAX) => 8, "FFFFFFFF";
-        Binary(u8::MAX) => 8, "11111111";
-        Padded(7u8, 3) => 3, "007";
-        PaddedDigits(16, 255u8, 4) => 4, "00FF";
-        Fixed(i8::MIN, 2) => 5, "-1.28";
-        GroupedFixed(i32::MIN, 2, &grouped) => 14, "-21,474,836.48";
-        TrimmedFixed(i8::MIN, 2) => 5, "-1.28";
-        Scientific(-128i8, -5) => 17, "-1.28e-3";
-        Formatted(i32::MIN, &grouped) => 14, "-2,147,483,648";
+fn rooms_of_parts() {
+    each_part!(check_rooms);
+}
+
+/// A part in a format string. If it has no `Display`, the method of a reference is found, which shows nothing.
+struct InFormat<P>(P);
+
+trait Displayed {
+    fn displayed(&self) -> [String; 2];
+}
+
+impl<P: Display> Displayed for InFormat<P> {
+    fn displayed(&self) -> [String; 2] {
+        [self.0.to_string(), format!("{:*^99}", self.0)]
     }
 }
 
-#[test]
-fn rooms_of_bytes_and_parts() {
-    let none: Option<&str> = None;
-    check_rooms! {
-        "text" => 4, "text";
-        Bytes(b"text") => 4, "text";
-        Byte(b't') => 1, "t";
-        HexBytes(&[1, 171], ":") => 5, "01:AB";
-        Joined(&[1u8, 255], ", ") => 8, "1, 255";
-        Left("ab", 4, b'.') => 4, "ab..";
-        Right("ab", 4, b'.') => 4, "..ab";
-        Center("abcde", 4, b'.') => 5, "abcde";
-        ZeroPadded(-5i8, 6) => 6, "-00005";
-        Lower(Hex(255u8)) => 2, "ff";
-        Some("ab") => 2, "ab";
-        OrElse(none, "n/a") => 3, "n/a";
-        &Decimal(255u8) => 3, "255";
+impl<P: Part> Displayed for &InFormat<P> {
+    fn displayed(&self) -> [String; 2] {
+        InFormat(Shown(self.0)).displayed()
     }
+}
+
+macro_rules! check_displayed {
+    ($v:ident; $($part:expr => $room:expr, $text:expr $(, $field:ident = $value:expr)*;)+) => { $(
+        let $v = Values { $($field: $value,)* ..LONGEST };
+        _ = $v;
+        let expected = [$text.to_owned(), format!("{:*^99}", $text)];
+        assert_eq!((&InFormat($part)).displayed(), expected, "{{}} of {}", stringify!($part));
+        assert_eq!(InFormat(Shown($part)).displayed(), expected, "{{}} of a Shown({})", stringify!($part));
+    )+ };
+}
+
+#[test]
+fn parts_in_format_strings() {
+    each_part!(check_displayed);
 }
 
 #[test]
 fn rooms_of_tuples() {
-    check_rooms! {
+    check_rooms! { _v;
         ("a", "b") => 2, "ab";
         ("a", "b", "c") => 3, "abc";
         ("a", "b", "c", "d") => 4, "abcd";
@@ -113,14 +116,22 @@ fn signs_and_no_bytes() {
     assert_eq!((write_padded(0u8, 16, &mut []), write_padded(0u8, 10, &mut [])), (0, 0));
 }
 
+/// Each part has its row in the table. Each has a mistake too, but for those with the body of another one.
 #[test]
 fn each_part_has_a_row() {
-    let (here, utf8) = (include_str!("rooms.rs"), include_str!("utf8.rs"));
+    let table = include_str!("../src/parts.rs");
+    let mistakes = include_str!("../../../crates/lexical_parts/mistakes/bodies.edit");
     let exports = include_str!("../../cojimuran/src/parts.rs").lines().filter_map(|line| line.strip_prefix("pub use "));
     let names = exports.flat_map(|path| path.split(|c: char| !c.is_alphanumeric()));
     let parts: Vec<&str> = names.filter(|name| name.starts_with(char::is_uppercase)).collect();
-    let is_in = |name: &str| [here, utf8].iter().all(|file| file.contains(&format!("{name}(")));
-    let missing = parts.iter().filter(|name| !["Part", "Buffer", "Shown"].contains(name) && !is_in(name));
+    let has_row = |name: &str| ["Part", "Buffer", "Shown"].contains(&name) || table.contains(&format!("{name}("));
+    let has_mistake = |name: &str| {
+        ["Decimal", "Binary", "Bytes"].contains(&name)
+            || mistakes.contains(&format!("::{name}Part::"))
+            || mistakes.contains(&format!("::{name}::"))
+    };
+    let missing = parts.iter().filter(|name| !has_row(name) || !has_mistake(name));
     assert_eq!(missing.collect::<Vec<_>>(), Vec::<&&str>::new());
+    let here = include_str!("rooms.rs");
     assert!(parts.len() > 20 && (2..=12).all(|count| here.contains(&format!(") => {count}, \""))));
 }

@@ -3,6 +3,8 @@
 
 use cojimuran::parts::*;
 use cojimuran::{Buffer, NumberFormatBuilder};
+use repository_tests::each_part;
+use repository_tests::parts::Values;
 use std::panic::{AssertUnwindSafe, catch_unwind, set_hook};
 use std::str::from_utf8;
 use std::sync::atomic::{AtomicU64, Ordering::Relaxed};
@@ -82,42 +84,19 @@ fn each_str_is_utf8() {
         let (bits, few) = (next(state) >> (next(state) % 64), next(state) >> 20);
         let (width, fill) = ((few % 40) as usize, (next(state) >> 40) as u8);
         let bytes: Vec<u8> = (0..few % 5).map(|_| (next(state) >> 30) as u8).collect();
-        macro_rules! all {
-            ($($part:expr),* $(,)?) => { $(check_in($part, width, fill);)* };
+        let values = Values { bits, few, width, fill, bytes: &bytes, groups: &groups };
+        macro_rules! check_each {
+            ($v:ident; $($part:expr => $room:expr, $text:expr $(, $field:ident = $value:expr)*;)+) => {
+                let $v = values;
+                $(check_in($part, width, fill);)+
+            };
         }
-        all!(
-            bits,
-            bits as u8,
-            bits as u16,
-            bits as u32,
-            bits as usize,
-            bits as i8,
-            bits as i16,
-            bits as i32,
-            bits as i64,
-            bits as isize,
-            "ÄÖ€𝄞",
-            Decimal(bits as i64),
-            Digits(width as u32, bits),
-            Formatted(bits as i16, &groups),
-            Plus(bits as i32),
-            Sign(bits as i64, few % 2 == 0),
-            Hex(bits),
-            Binary(bits as u16),
-            Padded(bits, width),
-            Padded(bits as u8, width / 16),
-            PaddedDigits(few as u32 % 40, bits as u16, width),
-            Fixed(bits as i64, width),
-            GroupedFixed(bits as i32, width / 2, &groups),
-            TrimmedFixed(bits as i32, width / 2),
-            Scientific(bits as i64, few as i32),
-            Byte(fill),
-            Bytes(&bytes),
-            HexBytes(&bytes, "ß"),
-            Own(&bytes),
-            Own(b"own"),
-            Own(&[200]),
-        );
+        each_part!(check_each);
+        check_in(bits as usize, width, fill);
+        check_in(bits as isize, width, fill);
+        check_in(Own(&bytes), width, fill);
+        check_in(Own(b"own"), width, fill);
+        check_in(Own(&[200]), width, fill);
         let text = Buffer::new().format(bits as i64).to_owned();
         assert_eq!(text, (bits as i64).to_string());
     }

@@ -7,54 +7,36 @@ use crate::functions::Function;
 /// Functions that only the package itself calls.
 const INTERNAL: [&str; 2] = ["write_answer", "parse"];
 
-const SHORT: Option<&str> = Some("the buffer is [too short](crate#conditions)");
-const RADIX: Option<&str> = Some("the radix is not from 2 to 36");
-const RANGE: Option<&str> = Some("the number is not in this range");
-const WIDTH: Option<&str> = Some("the number is 10^19 or above");
-
-/// The end of each condition, as the sources write it after the name of a function, and the words after "Panics if" of what does not hold then, or `None`
-/// if the pages of conditions name the function.
+/// The ends of conditions, as the sources write them after the name of a function, with a bar between them, and the
+/// words after "Panics if" of what does not hold then, or `None` if the pages of conditions name the function.
 const CONDITIONS: &[(&str, Option<&str>)] = &[
-    ("≤ length buffer.old", SHORT),
-    ("IsRadix radix", RADIX),
-    ("2 ≤ radix", RADIX),
-    ("radix ≤ 36", RADIX),
+    ("≤ length buffer.old", Some("the buffer is [too short](crate#conditions)")),
+    ("IsRadix radix | 2 ≤ radix | radix ≤ 36", Some("the radix is not from 2 to 36")),
     ("digit < 36", Some("the digit is 36 or above")),
     ("0 < magnitude by", Some("`by` is 0")),
     ("magnitude self < 2 ^ 32", Some("the number is 2^32 or above")),
     ("value < 2 ^ Self.BITS", Some("the type does not have the number")),
     ("IsValid self.now", Some("a part is invalid: then `build` returns an error")),
     ("count < 2 ^ 63", Some("the digits are grouped and the count is above `isize::MAX`")),
-    ("1 ≤ count", None),
     // Kernels.
-    ("n < 10 ^ 4", RANGE),
-    ("n < 10 ^ 6", RANGE),
-    ("n < 10 ^ 8", RANGE),
-    ("n < 10 ^ 9", RANGE),
-    (" ≤ n", RANGE),
-    ("n < 10 ^ 10", RANGE),
+    ("n < 10 ^ 4 | n < 10 ^ 6 | n < 10 ^ 8 | n < 10 ^ 9 |  ≤ n | n < 10 ^ 10", Some("the number is not in this range")),
     // Writers.
-    ("n < 10 ^ 19", WIDTH),
-    ("Self.magnitude self < 10 ^ SIGNED_WIDTH", WIDTH),
+    ("n < 10 ^ 19 | Self.magnitude self < 10 ^ SIGNED_WIDTH", Some("the number is 10^19 or above")),
     ("≡ 10 → Self.magnitude self < 10 ^ Self.SIGNED_WIDTH", Some("the radix is 10 and the number is 10^19 or above")),
     ("BeginsWithPairs radix table.now", Some("the table does not begin with the digit pairs of the radix")),
     ("T.magnitude value < radix ^ length buffer.old", Some("the number has more digits than the buffer has bytes")),
-    ("IsPowersOfTen (2 ^ T.BITS) (map T.magnitude table.now)", None),
     // Parts.
     ("room: is_valid self", None),
-    ("is_valid self", Some("the part is not valid")),
-    ("P.is_valid part", Some("the part is not valid")),
-    ("P.room part ≤ count", Some("the text does not have `count` bytes")),
-    ("length text ≡ count", Some("the text does not have `count` bytes")),
+    ("is_valid self | P.is_valid part", Some("the part is not valid")),
+    ("P.room part ≤ count | length text ≡ count", Some("the text does not have `count` bytes")),
     ("extra + P.room part < radix ^ width", Some("the length has more digits than `width`")),
     ("extra + P.room part < 2 ^ 64", Some("the length and `extra` together are above `usize::MAX`")),
     ("is_utf8 self", Some("the text of the part is not UTF-8")),
     // Devices and lines.
     ("0 < SIZE", Some("`SIZE` is 0")),
-    ("1 ≤ length block.old", None),
-    ("S.yielded source.old ≡ []", None),
+    ("1 ≤ length block.old | 1 ≤ count | IsPowersOfTen (2 ^ T.BITS) (map T.magnitude table.now)", None),
+    ("S.yielded source.old ≡ [] | writer.old.failures ≡ 0", None),
     ("(S.failures source.old ≡ 0) × (writer.old.failures ≡ 0)", None),
-    ("writer.old.failures ≡ 0", None),
     ("IfSome line (λ bytes. length bytes.now ≤ 64)", None),
 ];
 
@@ -65,7 +47,7 @@ pub(crate) fn panics(function: &Function, pages: &str) -> Result<Vec<&'static st
         let (_, text) = condition.split_once("{ ").unwrap_or_default();
         let text = &format!("{}: {}", function.name, text.trim_end_matches(" }"));
         let is_named = INTERNAL.contains(&&*function.name) || pages.contains(&format!("`{}`", function.name));
-        match CONDITIONS.iter().find(|(end, _)| text.ends_with(end)) {
+        match CONDITIONS.iter().find(|(ends, _)| ends.split(" | ").any(|end| text.ends_with(end))) {
             Some((_, Some(when))) => found.extend((!found.contains(when)).then_some(*when)),
             Some((_, None)) if is_named => {}
             _ => return Err(format!("what is required is neither checked nor named: {text}")),

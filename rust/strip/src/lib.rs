@@ -46,10 +46,20 @@ fn made(top: &Path) -> Result<BTreeMap<PathBuf, String>, String> {
         }
     }
     document(top, &mut made)?;
+    let specs = Path::new("crates/lexical_parts/specs");
+    made.insert(specs.join("Lib.antt"), list(top, specs)?);
     for name in ["LICENSE-APACHE", "LICENSE-MIT"] {
         made.insert(Path::new("rust/cojimuran").join(name), read(&top.join(name))?);
     }
     Ok(made)
+}
+
+/// Returns the list of the other files in a folder of definitions.
+fn list(top: &Path, folder: &Path) -> Result<String, String> {
+    let files = files(top, folder, "antt")?.into_iter();
+    let names = files.filter_map(|file| Some(file.file_stem()?.to_string_lossy().into_owned()));
+    let names: BTreeSet<String> = names.filter(|name| name != "Lib").collect();
+    Ok(names.iter().map(|name| format!("pub mod {name}\n")).collect())
 }
 
 /// Adds examples and links to the documentation of the package. Each part and each item of the root has an example.

@@ -9,6 +9,16 @@ use crate::parts::sign::Sign;
 use crate::write_integer::format::STANDARD;
 use crate::write_integer::{NumberFormat, ToLexicalWithOptions, group_digits};
 
+// In Rust nothing else refuses more decimals.
+#[inline(always)]
+fn check_decimals(decimals: usize) {
+    assert!(
+        decimals <= 19,
+        "{} decimals, but at most 19 are possible",
+        decimals
+    );
+}
+
 // Writes the digits of a number to the start of the buffer, after the zeros that a digit before the point requires, and
 // returns the number of bytes written.
 #[inline(always)]
@@ -17,6 +27,7 @@ pub(crate) fn write_units<T: ToLexicalWithOptions>(
     decimals: usize,
     buffer: &mut [u8],
 ) -> usize {
+    check_decimals(decimals);
     let count = number.write_magnitude(&STANDARD, buffer);
     if count > decimals {
         return count;
@@ -90,22 +101,13 @@ pub struct GroupedFixed<'a, T>(pub T, pub usize, pub &'a NumberFormat);
 impl<T: ToLexicalWithOptions> Part for GroupedFixed<'_, T> {
     #[inline(always)]
     fn room(self) -> usize {
-        assert!(
-            self.1 <= 19,
-            "{} decimals, but at most 19 are possible",
-            self.1
-        );
+        check_decimals(self.1);
         let whole = T::DECIMAL_WIDTH.max(self.1 + 1) - self.1;
         usize::from(T::IS_SIGNED) + self.2.grouped_len(whole) + self.1 + self.1.min(1)
     }
 
     #[inline(always)]
     fn write_to(self, buffer: &mut [u8]) -> usize {
-        assert!(
-            self.1 <= 19,
-            "{} decimals, but at most 19 are possible",
-            self.1
-        );
         let start = Sign(self.0, false).write_to(buffer);
         start + write_grouped_units(self.0, self.1, self.2, &mut buffer[start..])
     }

@@ -49,11 +49,6 @@ impl<T: ToLexicalWithOptions> Part for TrimmedFixed<T> {
 
     #[inline]
     fn write_to(self, buffer: &mut [u8]) -> usize {
-        assert!(
-            self.1 <= 19,
-            "{} decimals, but at most 19 are possible",
-            self.1
-        );
         let start = Sign(self.0, false).write_to(buffer);
         start + write_trimmed_units(self.0, self.1, &mut buffer[start..])
     }
