@@ -138,8 +138,9 @@ scaled (suc u) a b k m e f last same =
     let right : suc u * 10 ^ b * 10 ^ k ≡ suc u * 10 ^ (b + k) = rw (pow-add 10 b k) (grind arith) in
     left ∙ ap (λ n. suc u * 10 ^ n) sum ∙ sym right
 
-pub equal_scientifics : (x e y f : ℤ) → HaveInCommon (IsScientific x e) (IsScientific y f) → AreEqualScaled x e y f
-equal_scientifics x e y f both k m same =
+equal_products : (x e y f : ℤ) → HaveInCommon (IsScientific x e) (IsScientific y f) → (k m : ℕ) → e +ℤ pos k ≡ f +ℤ pos m
+    → x *ℤ pos (10 ^ m) ≡ y *ℤ pos (10 ^ k)
+equal_products x e y f both k m same =
     let p = parts x e both.text both.is in
     let q = parts y f both.text both.also in
     let halves = same_split 101 (fixed_has_no_e p.decimals p.units) (fixed_has_no_e q.decimals q.units) both.text p.is q.is in
@@ -151,3 +152,6 @@ equal_scientifics x e y f both k m same =
     ap (λ n. n * 10 ^ m) p.whole ∙ scaled (unsigned_abs p.units) p.count q.count k m e f here same
     ∙ ap (λ z. unsigned_abs z * 10 ^ q.count * 10 ^ k) units ∙ ap (λ n. n * 10 ^ k) (sym q.whole) in
     product x y (10 ^ m) (10 ^ k) (sym p.sign ∙ ap (λ z. sign_of z false) units ∙ q.sign) magnitudes
+
+pub equal_scientifics : (x e y f : ℤ) → HaveInCommon (IsScientific x e) (IsScientific y f) → AreEqualScaled x e y f
+equal_scientifics x e y f both = record { scaled = equal_products x e y f both }

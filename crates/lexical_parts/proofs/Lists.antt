@@ -26,10 +26,6 @@ pub added_each : {A : Type 0} (IsOf : A → List ℕ → Type 0) (start : List �
     (IsExactly start then AreEach IsOf (take (i + 1) xs)) (before ++ text)
 added_each IsOf start xs {i} d {before} {text} inside each is = grind (arith, common_steps, AreEach-push)
 
--- before such a loop nothing is added
-pub added_none : {A : Type 0} (IsOf : A → List ℕ → Type 0) (start : List ℕ) → (IsExactly start then AreEach {A = A} IsOf []) start
-added_none IsOf start = record { first = start; second = []; is_first = refl; is_second = refl; whole = sym (append-nil start) }
-
 -- a loop of the caller's writes the text of element `i` after the texts of the elements before it
 pub written_each : {A : Type 0} (IsOf : A → List ℕ → Type 0) (xs : List A) {i : ℕ} (d : A)
     {before between part : List ℕ} {count more : ℕ} (room : ℕ) →

@@ -63,6 +63,26 @@ pub fn common_padded(radix: u32, width: usize, a: u64, b: u64)
     equal_padded(radix, width, a, b);
 }
 
+/// A law: if two numbers in padded digits, one after the other, have a text in common with two others, both are equal.
+pub fn equal_padded_pairs(
+    radix: u32,
+    width: usize,
+    a: u64,
+    b: u64,
+    second_width: usize,
+    m: u64,
+    n: u64,
+)
+    requires { IsRadix radix }
+    ensures first { (text : List ℕ) → (IsPadded radix width a then IsPadded radix second_width m) text
+        → (IsPadded radix width b then IsPadded radix second_width n) text → a ≡ b }
+    ensures second { (text : List ℕ) → (IsPadded radix width a then IsPadded radix second_width m) text
+        → (IsPadded radix width b then IsPadded radix second_width n) text → m ≡ n }
+{
+    equal_padded(radix, width, a, b);
+    equal_padded(radix, second_width, m, n);
+}
+
 /// A law: so are two numbers that have a text of a `ZeroPadded` in common, in a format without groups.
 pub fn common_zero_padded<T: LexicalInteger>(a: T, b: T, format: &NumberFormat, width: usize)
     requires { format.now.digit_grouping ≡ None }

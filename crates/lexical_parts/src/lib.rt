@@ -64,7 +64,7 @@ pub use buffer::Buffer;
 pub use column::{Center, Left, Right};
 pub use equal::{
     common_bytes, common_digits, common_padded, common_scientific, common_zero_padded,
-    padded_decides, same_parts, same_split,
+    equal_padded_pairs, padded_decides, same_parts, same_split,
 };
 pub use field::write_field;
 pub use fixed::{Fixed, GroupedFixed};

@@ -1,7 +1,7 @@
 //! An amount of money as in accounts, as an example of a part of a text that has two forms.
 
-ghost use Rattle.std.specs.Prelude.{ℤ};
-ghost use Rattle.uses.specs.Accounted.{IsAccounted};
+ghost use Rattle.std.specs.Prelude.{◌≡◌, ◌+◌, ◌≤◌, length, ℤ};
+ghost use Rattle.uses.specs.Accounted.{IsAccounted, after, before};
 
 use lexical_parts::{Fixed, Part};
 
@@ -19,11 +19,16 @@ impl Part for Accounted {
     }
 
     fn write_to(self, buffer: &mut [u8]) -> usize {
-        let cents = Fixed(self.0.unsigned_abs(), 2);
-        if self.0 < 0 {
-            ("(", cents, ")").write_to(buffer)
-        } else {
-            cents.write_to(buffer)
-        }
+        let (before, after) = parentheses(self.0);
+        (before, Fixed(self.0.unsigned_abs(), 2), after).write_to(buffer)
     }
+}
+
+// Returns what is before and after an amount of cents.
+fn parentheses(cents: i64) -> (&'static str, &'static str)
+    ensures before { result.0.now ≡ before cents }
+    ensures after { result.1.now ≡ after cents }
+    ensures short { length result.0.now + length result.1.now ≤ 2 }
+{
+    if cents < 0 { ("(", ")") } else { ("", "") }
 }

@@ -91,6 +91,7 @@ pub fn try_write_rows(rows: &[Row<'_>], buffer: &mut [u8]) -> Option<usize>
 
 /// Adds each number and a semicolon after it to the end of the log, or returns an error if memory runs
 /// out.
+#[tactic(auto, using(lexical_parts::proofs::Lists::added_each))]
 pub fn push_entries(log: &mut Vec<u8>, numbers: &[i64]) -> Result<(), AllocError>
     ensures { OnOk result ((IsExactly log.old.items then AreEach IsEntry numbers.now) log.new.items) }
 {

@@ -66,6 +66,7 @@ pub fn write_float(sign: i8, digits: u64, exponent: i32, buffer: &mut [u8; 34]) 
 }
 
 /// A law: two floats with equal texts are equal.
+#[tactic(auto, using(lexical_write_integer::proofs::Sequences::in_order))]
 pub fn same_float(digits: u64, exponent: i32, other_digits: u64, other_exponent: i32)
     ensures { (text : List ℕ) → IsScientific (pos digits) exponent text
         → IsScientific (pos other_digits) other_exponent text

@@ -33,8 +33,7 @@ pub fn write_time(minutes: u32, time: &mut [u8; 6]) -> usize
     end + copy_to_front(b"Z", &mut time[end..])
 }
 
-/// Returns the hour and the minute, such as `07:05`, which borrow the array. The tuple is in another one, so the proof
-/// needs one line.
+/// Returns the hour and the minute, such as `07:05`, which borrow the array. The tuple is in another one.
 pub fn hour_and_minute(hour: u8, minute: u8, buffer: &mut [u8; 5]) -> &[u8]
     requires hour { hour < 24 }
     requires minute { minute < 60 }

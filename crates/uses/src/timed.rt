@@ -4,8 +4,7 @@ ghost use Rattle.std.specs.Prelude.{◌≡◌, ◌^◌, ◌<◌, List, ℕ};
 ghost use Rattle.lexical_write_integer.specs.Order.{IsEarlier};
 ghost use Rattle.uses.specs.Timed.{IsTimed};
 
-use lexical_parts::{PaddedDigits, Part, padded_decides, same_parts};
-use lexical_write_integer::laws::{equal_padded, padded_length};
+use lexical_parts::{PaddedDigits, Part, equal_padded_pairs, padded_decides};
 
 /// Returns the time in nine digits of radix 36, and the number in four, which borrow the array.
 pub fn timed_identifier(time: u64, number: u32, buffer: &mut [u8; 13]) -> &[u8]
@@ -29,14 +28,5 @@ pub fn same_timed(a: u64, b: u64, m: u64, n: u64)
     ensures time { (text : List ℕ) → IsTimed a m text → IsTimed b n text → a ≡ b }
     ensures number { (text : List ℕ) → IsTimed a m text → IsTimed b n text → m ≡ n }
 {
-    padded_length(36, 9);
-    same_parts(
-        PaddedDigits(36, a, 9),
-        PaddedDigits(36, b, 9),
-        9,
-        PaddedDigits(36, m, 4),
-        PaddedDigits(36, n, 4),
-    );
-    equal_padded(36, 9, a, b);
-    equal_padded(36, 4, m, n);
+    equal_padded_pairs(36, 9, a, b, 4, m, n);
 }
