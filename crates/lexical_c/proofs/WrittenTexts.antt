@@ -95,6 +95,11 @@ pub as_decimal : (x : ℤ) (format : CFormat) (before after : List ℕ) (count :
     WritesOrRefuses x DECIMAL before after count → WritesOrRefuses x format before after count
 as_decimal x format before after count only ten w = grind (arith, in_either_case)
 
+-- without lowercase, the text is in the requested case
+pub in_uppercase : (x : ℤ) (format : CFormat) (before after : List ℕ) (count : ℕ) → format.lowercase ≡ 0 →
+    WritesIf x format (IsText x (format_of format)) before after count → WritesOrRefuses x format before after count
+in_uppercase x format before after count upper w = grind arith
+
 -- with lowercase, the letters of the written text are changed where they are
 pub in_lowercase : (x : ℤ) (format : CFormat) (before between lower : List ℕ) (count : ℕ) → format.lowercase ≢ 0 →
     WritesIf x format (IsText x (format_of format)) before between count → lower ≡ map to_ascii_lowercase (take count between) →

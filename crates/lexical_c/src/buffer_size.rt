@@ -56,7 +56,7 @@ pub extern "C" fn lexical_buffer_size_u64(format: &CFormat) -> usize
 pub extern "C" fn lexical_buffer_size_size(format: &CFormat) -> usize
     ensures { IsBufferSize (pos 0) (pos (2 ^ 64 - 1)) 128 20 format.now result }
 {
-    buffer_size::<usize>(format)
+    buffer_size::<u64>(format)
 }
 
 /// Returns a buffer size that is enough for every `int8_t`, or 0 if the format is invalid.

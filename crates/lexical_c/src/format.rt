@@ -1,6 +1,6 @@
 //! The format that a C caller passes, and the check whether it is valid.
 
-ghost use Rattle.std.specs.Prelude.{◌≡◌, ◌≢◌, ◌↔◌, IsTrue, IsSome, IfSome};
+ghost use Rattle.std.specs.Prelude.{◌≡◌, ◌≢◌, ◌↔◌, IsSome, IfSome};
 ghost use Rattle.lexical_num.specs.Format.{IsRadix, IsGroupSize, IsMark, IsValid};
 ghost use Rattle.lexical_c.specs.Format.{IsAccepted, IsUnreserved, format_of};
 
@@ -43,13 +43,6 @@ pub const INVALID_GROUP_MARK: u32 = 3;
 /// The error that a reserved field is not 0.
 pub const INVALID_RESERVED: u32 = 4;
 
-// Returns whether each reserved field is 0.
-fn is_unreserved(format: &CFormat) -> bool
-    ensures { IsTrue result ↔ IsUnreserved format.now }
-{
-    format.reserved_1 == 0 && format.reserved_2 == 0
-}
-
 /// Returns 0 if the format is valid, and otherwise the error of its first invalid field. The radix is
 /// checked first, then the group size, then the mark, then the reserved fields.
 #[unsafe(no_mangle)]
@@ -69,7 +62,9 @@ pub extern "C" fn lexical_check_format(format: &CFormat) -> u32
         INVALID_GROUP_SIZE
     } else if format.group_size != 0 && !is_mark(u64::from(format.mark)) {
         INVALID_GROUP_MARK
-    } else if !is_unreserved(format) {
+    } else if format.reserved_1 != 0 {
+        INVALID_RESERVED
+    } else if format.reserved_2 != 0 {
         INVALID_RESERVED
     } else {
         0

@@ -1,6 +1,5 @@
 //! Writes a number whose text may not fit, or whose format may have groups, a required sign or lowercase.
 
-ghost use Rattle.std.specs.Prelude.{◌≢◌, ◌↔◌, IsTrue};
 ghost use Rattle.lexical_write_integer.specs.Text.{IsText};
 ghost use Rattle.lexical_c.specs.Buffer.{WritesIf, WritesOrRefuses};
 ghost use Rattle.lexical_c.specs.Format.{format_of};
@@ -22,17 +21,10 @@ pub fn write_if_it_fits<T: ToLexicalWithOptions>(
     ensures { WritesOrRefuses (T.number value) format.now buffer.old buffer.new result }
 {
     let count = write_uppercase(value, format, buffer);
-    if has_lowercase(format) {
+    if format.lowercase != 0 {
         buffer[..count].make_ascii_lowercase();
     }
     count
-}
-
-// Returns whether the format requests lowercase letters.
-fn has_lowercase(format: &CFormat) -> bool
-    ensures { IsTrue result ↔ (format.now.lowercase ≢ 0) }
-{
-    format.lowercase != 0
 }
 
 // Writes the number in uppercase, whatever the format requests, or refuses it as `write_if_it_fits` does.

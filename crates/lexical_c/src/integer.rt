@@ -1,6 +1,7 @@
 //! The integer types whose numbers are written.
 
-ghost use Rattle.std.specs.Prelude.{◌≡◌, unsigned_abs};
+ghost use Rattle.std.specs.Prelude.{◌≡◌, pos, unsigned_abs};
+ghost use Rattle.std.proofs.Common.{ap};
 
 use lexical_write_integer::ToLexicalWithOptions;
 
@@ -23,84 +24,66 @@ impl WideInteger for u64 {
     }
 }
 
-/// An integer type that C passes, of at most 64 bits.
+/// An integer type that C passes, of at most 64 bits. A `size_t` is passed as a `uint64_t`.
 pub trait CInteger: ToLexicalWithOptions {
     /// A type of 64 bits that has its numbers: `i64` if it has them.
-    type Wide: WideInteger;
+    type Wide: WideInteger + From<Self>;
+
+    ghost keeps_number: { (value : Self) (wide : Self.Wide) → Self.Wide.from_gives value wide
+        → Self.Wide.number wide ≡ Self.number value };
 
     /// Returns the same number.
-    fn widen(self) -> Self::Wide
-        ensures { Self.Wide.number result ≡ Self.number self };
+    final fn widen(self) -> Self::Wide
+        ensures { Self.Wide.number result ≡ Self.number self }
+    {
+        Self::Wide::from(self)
+    }
 }
 
 impl CInteger for u8 {
     type Wide = i64;
 
-    fn widen(self) -> i64 {
-        self as i64
-    }
+    ghost keeps_number = { λ _ _ gives. gives };
 }
 
 impl CInteger for u16 {
     type Wide = i64;
 
-    fn widen(self) -> i64 {
-        self as i64
-    }
+    ghost keeps_number = { λ _ _ gives. gives };
 }
 
 impl CInteger for u32 {
     type Wide = i64;
 
-    fn widen(self) -> i64 {
-        self as i64
-    }
+    ghost keeps_number = { λ _ _ gives. gives };
 }
 
 impl CInteger for u64 {
     type Wide = u64;
 
-    fn widen(self) -> u64 {
-        self
-    }
-}
-
-impl CInteger for usize {
-    type Wide = u64;
-
-    fn widen(self) -> u64 {
-        self as u64
-    }
+    ghost keeps_number = { λ _ _ gives. ap pos gives };
 }
 
 impl CInteger for i8 {
     type Wide = i64;
 
-    fn widen(self) -> i64 {
-        self as i64
-    }
+    ghost keeps_number = { λ _ _ gives. gives };
 }
 
 impl CInteger for i16 {
     type Wide = i64;
 
-    fn widen(self) -> i64 {
-        self as i64
-    }
+    ghost keeps_number = { λ _ _ gives. gives };
 }
 
 impl CInteger for i32 {
     type Wide = i64;
 
-    fn widen(self) -> i64 {
-        self as i64
-    }
+    ghost keeps_number = { λ _ _ gives. gives };
 }
 
 impl CInteger for i64 {
     type Wide = i64;
 
-    fn widen(self) -> i64 {
-        self
-    }
+    ghost keeps_number = { λ _ _ gives. gives };
 }

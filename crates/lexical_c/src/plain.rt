@@ -1,7 +1,7 @@
 //! Writes a number in a format without groups and required signs, to a buffer that is long enough for
 //! every number of the type.
 
-ghost use Rattle.std.specs.Prelude.{◌≡◌, ◌*◌, ◌<◌, ◌≤◌, ◌↔◌, IsTrue, length, map, false, None, IfSome};
+ghost use Rattle.std.specs.Prelude.{◌≡◌, ◌*◌, ◌≤◌, ◌↔◌, IsTrue, length, map, false, None, IfSome};
 ghost use Rattle.std.specs.Int.Bits.{bit_or};
 ghost use Rattle.lexical_num.specs.Format.{IsRadix, standard};
 ghost use Rattle.lexical_num.specs.Size.{size_in};
@@ -24,13 +24,6 @@ pub fn has_only_radix_and_case(format: &CFormat) -> bool
         & (format.group_size == 0)
         & (format.reserved_1 == 0)
         & (format.reserved_2 == 0)
-}
-
-/// Returns whether digits of the radix of the format are letters.
-pub fn has_letters(format: &CFormat) -> bool
-    ensures { IsTrue result ↔ (10 < format.now.radix) }
-{
-    format.radix > 10
 }
 
 /// Returns the format of this radix without a required sign and groups if the radix is valid and not 10, and a buffer

@@ -36,7 +36,7 @@ other_macros() {
 
 # says_failed SOURCE: whether a program with a wrong text says so, and ends with status 1.
 says_failed() {
-  runs_with "$crate/include" "$CC" '-std=c99 -DWRONG_TEXT' "$crate/tests/$1" > "$work/said" && return 1
+  runs_with "$CC" '-std=c99 -DWRONG_TEXT=1' "$crate/tests/$1" > "$work/said" && return 1
   grep '^failed: ' "$work/said"
 }
 
@@ -126,64 +126,35 @@ check_standard() {
     *) levels=-O1 ;;
   esac
   for level in $levels; do
-    expect "header.c by $1 with $level" runs_with "$crate/include" "$1" "$(echo "$level" | tr _ ' ')" "$crate/tests/header.c"
+    expect "header.c by $1 with $level" runs_with "$1" "$(echo "$level" | tr _ ' ')" "$crate/tests/header.c"
   done
-  if [ "$standard" != c99 ]; then
-    check_refused "$1"
-  elif says "$1" 1 -m32; then
-    expect "32 bits are taken by $1" takes_32_bits "$1"
-  fi
+  [ "$standard" = c99 ] || check_refused "$1"
+  [ "$standard" != c99 ] || ! says "$1" 1 -m32 || expect "32 bits are taken by $1" takes_32_bits "$1"
 }
 
-# Writes units in C and C++ that return their standard format and the functions for an int, and a program that compares
-# those of three, and does not read the header, as cgo does.
-write_units() {
+# has_own_object COMPILER: whether a program has one standard format and one function for an int of all units that use
+# the header, and a shared library has its own, since it does not export the former.
+has_own_object() {
+  $1 -fPIC -I"$crate/include" -c -o "$work/unit.o" "$work/unit.c" && nm "$work/unit.o" > "$work/names" &&
+    $1 -fPIC -shared -I"$crate/include" -o "$work/libunit.so" "$work/unit.c" &&
+    exported_names "$work/libunit.so" > "$work/exported" &&
+    grep ' [Vu] lexical_standard_format$' "$work/names" && fails grep ' [a-t] .*lexical_' "$work/names" &&
+    grep -qx unit "$work/exported" && fails grep lexical_standard_format "$work/exported"
+}
+check_own_object() { expect "the standard format and the functions of a unit by $1" has_own_object "$1"; }
+
+check_objects() {
+  can binutils || return 0
   cat > "$work/unit.c" <<'END'
 #include "lexical.h"
 #ifdef __cplusplus
-static size_t (*const decimal)(int, char *, size_t) = lexical_decimal, (*const length)(int, const lexical_format *) = lexical_length;
-static size_t (*const write)(int, const lexical_format *, char *, size_t) = lexical_write;
-extern "C"
+extern "C" const void *const unit[];
+#define ADDRESS(function, ...) , reinterpret_cast<const void *>(static_cast<size_t (*)(int, __VA_ARGS__)>(function))
 #else
-static const void *decimal, *length, *write;
+#define ADDRESS(function, ...)
 #endif
-const void *UNIT(int which)
-{
-    const void *all[] = { &lexical_standard_format, (const void *)decimal, (const void *)length, (const void *)write };
-    return all[which];
-}
+const void *const unit[] = { &lexical_standard_format ADDRESS(lexical_decimal, char *, size_t)
+    ADDRESS(lexical_length, const lexical_format *) ADDRESS(lexical_write, const lexical_format *, char *, size_t) };
 END
-  cat > "$work/one.c" <<'END'
-extern char lexical_standard_format[];
-const void *c(int), *cpp14(int), *cpp17(int);
-int main(void)
-{
-    for (int i = 0; i < 4; i++) if (cpp14(i) != cpp17(i)) return 1;
-    return c(0) != lexical_standard_format || cpp14(0) != c(0);
+  with_each 'c99 c++98 c++14 c++17' check_own_object
 }
-END
-}
-
-# has_one_object: whether the units in C, C++14 and C++17 have one standard format, and the two in C++ one function.
-has_one_object() {
-  $CC -std=c99 -DUNIT=c -I"$crate/include" -c -o "$work/c.o" "$work/unit.c" && $CC -std=c99 -c -o "$work/one.o" "$work/one.c" || return 1
-  for unit in cpp14 cpp17; do
-    $CXX -x c++ -std="c++${unit#cpp}" -DUNIT=$unit -I"$crate/include" -c -o "$work/$unit.o" "$work/unit.c" || return 1
-  done
-  # The overloads call the library.
-  $CXX -o "$work/one" "$work/one.o" "$work/c.o" "$work/cpp14.o" "$work/cpp17.o" "$library" && "$work/one"
-}
-
-# has_own_object COMPILER: whether a shared library that uses the standard format does not export it, and so has its own.
-has_own_object() {
-  $1 -fPIC -shared -DUNIT=unit -I"$crate/include" -o "$work/libunit.so" "$work/unit.c" && exported_names "$work/libunit.so" > "$work/exported" &&
-    grep -qx unit "$work/exported" && fails grep lexical_standard_format "$work/exported"
-}
-check_own_object() { expect "the standard format of a library by $1" has_own_object "$1"; }
-
-check_objects() {
-  write_units
-  ! can cpp || expect 'one standard format' has_one_object
-  ! can nm || with_each 'c99 c++98 c++17' check_own_object
-}
-

@@ -9,33 +9,34 @@ has_links() {
     [ "$(readlink "$1/liblexical_c.so.${2%%.*}")" = "liblexical_c.so.$2" ] && [ -f "$1/liblexical_c.so" ]
 }
 
-# names_each_file PREFIX: whether install, whose output is $work/installed, printed each file below the prefix.
+# Whether install, whose output is $work/installed, printed each file below $prefix.
 names_each_file() {
-  find "$1" ! -type d | sort > "$work/found"
+  find "$prefix" ! -type d | sort > "$work/found"
   grep -v '^install: ' "$work/installed" | sort | diff - "$work/found"
 }
 
-# has_contents PREFIX: whether files that are only copied are right, and everyone may read all and run only the library.
+# Whether files that are only copied are right, and everyone may read all and run only the library.
 has_contents() {
-  cmp "$crate/include/lexical.h" "$1/include/lexical.h" && cmp "$library" "$1/lib/liblexical_c.a" &&
-    cmp "$crate/../../LICENSE-APACHE" "$1/share/doc/lexical_c/LICENSE-APACHE" &&
-    cmp "$crate/../../LICENSE-MIT" "$1/share/doc/lexical_c/LICENSE-MIT" &&
-    prints "$1/lib/liblexical_c.so.$version" find "$1" -type f ! -perm 644 && prints "$1/lib/liblexical_c.so.$version" find "$1" -type f -perm 755
+  for licence in LICENSE-APACHE LICENSE-MIT; do
+    cmp "$crate/../../$licence" "$prefix/share/doc/lexical_c/$licence" || return 1
+  done
+  cmp "$crate/include/lexical.h" "$prefix/include/lexical.h" && cmp "$library" "$folder/liblexical_c.a" &&
+    prints "$folder/liblexical_c.so.$version" find "$prefix" -type f -perm 755 &&
+    prints "$folder/liblexical_c.so.$version" find "$prefix" ! -type l ! '(' -type f -perm 644 ')' ! '(' -type d -perm 755 ')'
 }
 
-# shows_all PREFIX: whether man finds the page by the name of each function, and shows it without a warning, with each
-# section, and each function, constant, field and line of a comment of the header.
+# Whether man finds the page by the name of each function, and shows it without a warning, with each section, and each
+# function, constant, field and line of a comment of the header.
 shows_all() {
-  page=$1/share/man/man3/lexical_write.3
+  page=$prefix/share/man/man3/lexical_write.3
   for name in $(header_names) lexical_decimal lexical_write lexical_length lexical_buffer_size; do
-    prints "$page" man -M "$1/share/man" -w 3 "$name" || { echo "not found: $name"; return 1; }
+    prints "$page" man -M "$prefix/share/man" -w 3 "$name" || { echo "not found: $name"; return 1; }
   done
-  for name in decimal write length buffer_size check_format version; do
-    lexgrog "$page" | grep -q "\"lexical_$name - " || { echo "no name: $name"; return 1; }
-  done
+  prints 'decimal write length buffer_size check_format version' \
+    sh -c 'lexgrog "$1" | sed "s/.*\"lexical_\([a-z_]*\) - .*/\1/" | paste -s -d " " -' sh "$page" || return 1
   # man writes a hyphen for `-`, and for `\-` what C has.
   sed '/^[.]/d' "$page" | fails grep -e '^-' -e '[^\]-' || return 1
-  LC_ALL=C MANWIDTH=9999 man -M "$1/share/man" --warnings 3 lexical_write > "$work/page" 2> "$work/said" &&
+  LC_ALL=C MANWIDTH=9999 man -M "$prefix/share/man" --warnings 3 lexical_write > "$work/page" 2> "$work/said" &&
     prints '' cat "$work/said" || { cat "$work/said"; return 1; }
   # A line of an example is a line of the page.
   grep -qx ' *size_t count = lexical_decimal_u32(48879, buffer, sizeof buffer);' "$work/page" || { echo 'no lines of code'; return 1; }
@@ -50,7 +51,7 @@ shows_all() {
 }
 
 # needs_soname PROGRAM: whether a program is linked to the shared library by its soname.
-needs_soname() { objdump -p "$1" | grep -q "NEEDED *liblexical_c.so.$major\$"; }
+needs_soname() { readelf -d "$1" | grep -q "NEEDED.*\[liblexical_c.so.$major\]"; }
 
 # builds_examples FLAGS..: whether these flags build the examples in C and C++, and each prints the right lines.
 builds_examples() {
@@ -61,37 +62,34 @@ builds_examples() {
   done
 }
 
-# links_with_pkg_config PREFIX FOLDER: whether the flags of pkg-config link the examples, shared and static, also below
-# another prefix.
+# Whether the flags of pkg-config link the examples, shared and static, also below another prefix.
 links_with_pkg_config() (
-  folder=$1/$2
   export PKG_CONFIG_PATH="$folder/pkgconfig"
   [ "$(pkg-config --variable=libdir lexical_c)" = "$folder" ] && prints "$version" pkg-config --modversion lexical_c &&
-    prints "-I/other/include -L/other/$2 -llexical_c" sh -c 'pkg-config --define-variable=prefix=/other --cflags --libs lexical_c | sed "s/ *$//"' ||
-    exit 1
+    prints "-I/other/include -L/other/${folder#"$prefix"/} -llexical_c" sh -c \
+      'pkg-config --define-variable=prefix=/other --cflags --libs lexical_c | sed "s/ *$//"' || exit 1
   # pkg-config writes a backslash before a space, for a shell.
   eval "set -- $(pkg-config --cflags --libs lexical_c)"
   builds_examples "$@" -Wl,-rpath,"$folder" || exit 1
-  ! can objdump || needs_soname "$work/example" || exit 1
+  ! can binutils || needs_soname "$work/example" || exit 1
   eval "set -- $(pkg-config --cflags lexical_c)"
-  builds_examples "$@" "$(pkg-config --variable=static lexical_c)"
+  archive=$(pkg-config --variable=static lexical_c)
+  builds_examples "$@" "$archive" || exit 1
+  # A library with the archive inside exports only its own name.
+  $CC -fPIC -shared "$@" "$work/inside.c" "$archive" -o "$work/libinside.so" &&
+    { ! can binutils || prints inside exported_names "$work/libinside.so"; }
 )
 
-# exports_no_more PREFIX: whether a library with the archive inside exports only its own name.
-exports_no_more() {
-  $CC -fPIC -shared -I"$1/include" "$work/inside.c" "$(PKG_CONFIG_PATH="$1/lib/pkgconfig" pkg-config --variable=static lexical_c)" \
-    -o "$work/libinside.so" && prints inside exported_names "$work/libinside.so"
-}
-
-# builds_with_cmake PREFIX FLAGS..: whether CMake finds the package by each of some versions and ranges, and by no other,
-# and builds the examples and a library with the archive inside. It takes compilers with flags from the environment.
+# Whether CMake finds the package by each of some versions and ranges, and by no other, and builds the examples and a
+# library with the archive inside. It takes compilers with flags from the environment.
 builds_with_cmake() {
+  fails grep -r -F "$prefix" "$folder/cmake" || return 1
   rm -rf "$work/project" && mkdir "$work/project" && cp "$work/example.c" "$work/example20.cpp" "$work/inside.c" "$work/project"
   cat > "$work/project/CMakeLists.txt" <<END
 cmake_minimum_required(VERSION 3.12)
 project(example C CXX)
 set(CMAKE_CXX_STANDARD 20)
-foreach(wanted 3.0 "$version;EXACT" 3.0...4 2.0...$version "3.0.9;EXACT" 2.0...<3 2.0 3.999 3.999...4)
+foreach(wanted 3.0 "$version;EXACT" 3.0...4 2.0...$version "3.0.9;EXACT" 2.0...<3 2.0...<$version 2.0 3.999 3.999...4)
   find_package(lexical_c \${wanted} QUIET)
   message(STATUS "wanted \${wanted}: \${lexical_c_FOUND}")
 endforeach()
@@ -105,41 +103,76 @@ foreach(kind shared static lexical_c)
   target_link_libraries(cpp_\${kind} lexical_c::\${kind})
 endforeach()
 END
-  prefix_path=$1; shift
-  CC="$CC" CXX="$CXX" cmake -S "$work/project" -B "$work/project/build" -DCMAKE_PREFIX_PATH="$prefix_path" "$@" > "$work/said" && cmake --build "$work/project/build" || return 1
-  prints '1 1 1 1 0 0 0 0 0 ' sh -c 'sed -n "s/^-- wanted .*: //p" "$1" | tr "\n" " "' sh "$work/said" || return 1
+  CC="$CC" CXX="$CXX" cmake -S "$work/project" -B "$work/project/build" -DCMAKE_PREFIX_PATH="$prefix" > "$work/said" &&
+    cmake --build "$work/project/build" || return 1
+  prints '1 1 1 1 0 0 0 0 0 0 ' sh -c 'sed -n "s/^-- wanted .*: //p" "$1" | tr "\n" " "' sh "$work/said" || return 1
   for kind in shared static lexical_c; do
     prints "$c_lines" "$work/project/build/c_$kind" && prints "$(cat "$work/lines20")" "$work/project/build/cpp_$kind" || return 1
   done
   # lexical_c::lexical_c is the shared library.
-  ! can objdump || needs_soname "$work/project/build/c_lexical_c" || return 1
-  ! can nm || prints inside exported_names "$work/project/build/libinside.so"
+  ! can binutils || needs_soname "$work/project/build/c_lexical_c" || return 1
+  ! can binutils || prints inside exported_names "$work/project/build/libinside.so"
 }
 
 # The Python example, and numbers that are out of range.
 check_python() {
   cp "$crate/examples/example.py" "$work"
   cat >> "$work/example.py" <<'END'
+import contextlib
 for value, radix in (2**64, 10), (2**64 + 5, 10), (-2**63 - 1, 10), (5, 2**32 + 10), (5, -2**32 + 10), (5, 1), (5, 37):
-    try:
+    with contextlib.suppress(ValueError):
         print("not refused:", write(value, radix))
-    except ValueError:
-        pass
 print(write(2**64 - 1, 10), write(-2**63, 10))
 END
   expect 'the Python example' prints '-ZZ
-18446744073709551615 -9223372036854775808' env LD_LIBRARY_PATH="$1/lib" python3 "$work/example.py"
+18446744073709551615 -9223372036854775808' env LD_LIBRARY_PATH="$folder" python3 "$work/example.py"
 }
 
 check_go() {
   mkdir -p "$work/go" && cp "$crate/examples/example.go" "$work/go"
   expect 'the Go example' prints '-4D2
 -1234
-invalid format' env CGO_ENABLED=1 GO111MODULE=off GOCACHE="$work/go/cache" GOFLAGS= PKG_CONFIG_PATH="$1/lib/pkgconfig" LD_LIBRARY_PATH="$1/lib" go run "$work/go/example.go"
+invalid format' env CGO_ENABLED=1 GO111MODULE=off GOCACHE="$work/go/cache" GOFLAGS= PKG_CONFIG_PATH="$folder/pkgconfig" \
+    LD_LIBRARY_PATH="$folder" go run "$work/go/example.go"
 }
 
-# What is installed below $work/prefix, and removed.
-check_installed() {
+# Whether uninstall removes what was copied to another prefix, and nothing else.
+removes_copy() {
+  rm -rf "$work/a copy" && cp -a "$prefix" "$work/a copy" && contents "$prefix" > "$work/before" &&
+    "$crate/uninstall" "$work/a copy" && [ ! -e "$work/a copy" ] && contents "$prefix" | diff "$work/before" -
+}
+
+# Whether uninstall takes the manifest of an early version, which has absolute paths, and does not leave the prefix.
+removes_early() {
+  manifest=$prefix/share/lexical_c/manifest
+  awk -v prefix="$prefix/" '{ print prefix ($0 == "./" ? "" : $0) }' "$manifest" > "$work/early" && touch "$work/other" &&
+    echo "$work/other" | cat "$work/early" - > "$manifest" &&
+    "$crate/uninstall" "$prefix" && [ ! -e "$prefix" ] && [ -e "$work/other" ]
+}
+
+# check_prefix PREFIX FOLDER COMMAND..: tests what a command installs below a prefix, with libraries in a folder of it.
+check_prefix() {
+  prefix=$1 folder=$1/$2
+  shift 2
+  expect 'installing' "$@"
+  cp "$work/log" "$work/installed"
+  expect 'install prints the name of each file' names_each_file
+  expect 'install says what a program needs' grep -F "run ldconfig, or set LD_LIBRARY_PATH=$folder" "$work/installed"
+  expect 'the links' has_links "$folder" "$version"
+  expect 'the files that are copied, and who may run them' has_contents
+  check_libraries
+  ! can man || expect 'man 3 lexical_write' shows_all
+  ! can pkg-config || expect 'pkg-config' links_with_pkg_config
+  ! can cmake || expect 'CMake' builds_with_cmake
+  ! can python || check_python
+  ! can go || check_go
+  expect 'uninstalling a copy' removes_copy
+  expect 'installing it again' "$@"
+  expect 'uninstalling' removes_early
+}
+
+# Makes what the tests below use.
+prepare() {
   version=$(sed -n 's/^#define LEXICAL_VERSION_STRING "\(.*\)"$/\1/p' "$crate/include/lexical.h")
   major=${version%%.*}
   # A checkout of a later version.
@@ -151,68 +184,40 @@ check_installed() {
   echo 1,234,567 > "$work/lines20"
   printf '1,234,567\n-4D2\n' > "$work/lines17"
   printf '#include <lexical.h>\nsize_t inside(char *buffer);\nsize_t inside(char *buffer) { return lexical_decimal_u32(1, buffer, 10); }\n' > "$work/inside.c"
-  prefix=$work/prefix
-  expect 'installing' "$crate/install" --from "$library" "$prefix"
-  cp "$work/log" "$work/installed"
-  expect 'install prints the name of each file' names_each_file "$prefix"
-  expect 'install says what a program needs' grep -q "^install: .*run ldconfig.*LD_LIBRARY_PATH=$prefix/lib" "$work/installed"
-  expect 'the links' has_links "$prefix/lib" "$version"
-  expect 'the files that are copied, and who may run them' has_contents "$prefix"
-  check_libraries "$prefix"
-  if can man; then
-    expect 'man 3 lexical_write' shows_all "$prefix"
-  fi
-  if can pkg-config; then
-    expect 'pkg-config' links_with_pkg_config "$prefix" lib
-    ! can nm || expect 'a library with the archive inside' exports_no_more "$prefix"
-  fi
-  if can cmake; then expect 'CMake' builds_with_cmake "$prefix"; fi
-  if can python; then check_python "$prefix"; fi
-  if can go; then check_go "$prefix"; fi
-  expect 'installing it again' "$crate/install" --from "$library" "$prefix"
-  expect 'uninstalling' "$crate/uninstall" "$prefix"
-  expect 'nothing is left' fails [ -e "$prefix" ]
-  expect 'a prefix with a space and quotes, another folder and umask 077' installs_for_all "$work/a <user's> & prefix" lib/x86_64-linux-gnu
 }
 
-# has_flags LIBRARY: whether a shared library was made with -g of CFLAGS and nodelete of LDFLAGS.
-has_flags() { readelf -SdW "$1" > "$work/sections" && grep -q '[.]debug_info' "$work/sections" && grep -q NODELETE "$work/sections"; }
-
-# installs_for_all PREFIX FOLDER: whether everyone may read what is installed, pkg-config and CMake find it, and nothing
-# is left when it is removed.
-installs_for_all() {
-  (umask 077 && CFLAGS=-g LDFLAGS=-Wl,-z,nodelete "$crate/install" --from="$library" --prefix="$1" --libdir="$1/$2" 2> "$work/said") || return 1
-  grep -q -F "LD_LIBRARY_PATH=$1/$2" "$work/said" || return 1
-  ! can readelf || has_flags "$1/$2/liblexical_c.so" || return 1
-  [ -z "$(find "$1" ! -type l ! -perm -444)" ] && [ -z "$(find "$1" -type d ! -perm -555)" ] || return 1
-  ! can pkg-config || links_with_pkg_config "$1" "$2" || return 1
-  ! can cmake || builds_with_cmake "$1" -Dlexical_c_DIR="$1/$2/cmake/lexical_c" || return 1
-  "$crate/uninstall" "$1" && [ ! -e "$1" ]
+# It is the same with another umask, flags of the environment, and a prefix with a space and quotes.
+check_installed() {
+  prepare
+  wanted_flags=NOW
+  check_prefix "$work/prefix" lib "$crate/install" --from "$library" "$work/prefix/"
+  quoted="$work/a <user's> & prefix" libdir=lib/x86_64-linux-gnu wanted_flags='NOW GLOBAL NODELETE'
+  export CFLAGS=-Wl,-z,nodelete LDFLAGS=-Wl,-z,global lexical_c_DIR="$quoted/$libdir/cmake/lexical_c"
+  check_prefix "$quoted" "$libdir" \
+    sh -c 'umask 077 && exec "$@"' sh "$crate/install" --from="$library" --prefix="$quoted" --libdir="$quoted/$libdir"
+  unset CFLAGS LDFLAGS lexical_c_DIR
 }
 
-# packages WHAT..: whether a command, in a copy of the sources, makes a package with the header, both libraries, the licences
-# and the page, which another command lists.
-packages() {
-  rm -rf "$work/package" && mkdir "$work/package" && cp -a "$odd" "$work/package/sources" || return 1
-  (cd "$work/package/sources" && "$1" ) && "$2" > "$work/listed" || return 1
+# packages KIND: whether a copy of the sources makes a package with the header, both libraries, the licences and the page.
+packages() (
+  rm -rf "$work/package" && mkdir "$work/package" && cp -a "$odd" "$work/package/sources" && cd "$work/package/sources" || exit 1
+  if [ "$1" = deb ]; then
+    cp -R crates/lexical_c/package/debian .
+    printf 'lexical-c (%s) unstable; urgency=low\n\n  * A build.\n\n -- A <a@b>  Sat, 28 Nov 2026 00:00:00 +0000\n' "$version" > debian/changelog
+    dpkg-buildpackage -b -us -uc -d && dpkg-deb -c ../liblexical-c-dev_*.deb > ../listed
+  else
+    rpmbuild --build-in-place --nodeps -bb --define "_topdir $work/package/rpm" crates/lexical_c/package/lexical_c.spec &&
+      rpm -qlp ../rpm/RPMS/*/lexical_c-"$version"-1.*.rpm > ../listed
+  fi || exit 1
   for name in include/lexical.h liblexical_c.a "liblexical_c.so.$version" lexical_c.pc doc/lexical_c/LICENSE-MIT man3/lexical_decimal_u8.3; do
-    grep -q -F "$name" "$work/listed" || { echo "not in the package: $name"; return 1; }
+    grep -q -F "$name" ../listed || { echo "not in the package: $name"; exit 1; }
   done
-}
-make_deb() {
-  cp -R crates/lexical_c/package/debian . &&
-    printf 'lexical-c (%s) unstable; urgency=low\n\n  * A build.\n\n -- A <a@b>  Sat, 28 Nov 2026 00:00:00 +0000\n' "$version" > debian/changelog &&
-    dpkg-buildpackage -b -us -uc -d
-}
-list_deb() { dpkg-deb -c "$work"/package/liblexical-c-dev_*.deb; }
-make_rpm() { rpmbuild --build-in-place --nodeps -bb --define "_topdir $work/package/rpm" crates/lexical_c/package/lexical_c.spec; }
-list_rpm() { rpm -qlp "$work"/package/rpm/RPMS/*/lexical_c-"$version"-1.*.rpm; }
+)
 
 # The packages of package/, of what rustc builds for this machine.
 check_packages() {
-  if [ "$builder" = rt ] || [ -n "${TARGET-}" ]; then return; fi
-  if can dh; then expect 'a Debian package' packages make_deb list_deb; fi
-  if can rpmbuild; then expect 'an RPM' packages make_rpm list_rpm; fi
+  ! can dh || expect 'a Debian package' packages deb
+  ! can rpmbuild || expect 'an RPM' packages rpm
 }
 
 # ---- other versions
@@ -228,41 +233,28 @@ later_version() {
 }
 
 # upgrades PREFIX VERSION LIBRARIES: whether these shared libraries are there if this version was installed over the
-# present one, they and no others are listed, and nothing is left when they are removed.
+# present one, and they and no others are listed.
 upgrades() {
   later_version "$2"
   folder=$DESTDIR$1/lib
   "$crate/install" --from "$library" "$1" && grep -q "^prefix=$1\$" "$folder/pkgconfig/lexical_c.pc" && "$later/install" "$1" &&
     has_links "$folder" "$2" && [ "$(cd "$folder" && echo *.so*)" = "$3" ] &&
-    prints "$3" sh -c 'sed -n "s|^lib/\(.*[.]so.*\)|\1|p" "$1" | paste -s -d " " -' sh "$DESTDIR$1/share/lexical_c/manifest" &&
-    "$later/uninstall" "$1" && [ ! -e "$DESTDIR$1" ]
+    prints "$3" sh -c 'sed -n "s|^lib/\(.*[.]so.*\)|\1|p" "$1" | paste -s -d " " -' sh "$DESTDIR$1/share/lexical_c/manifest"
 }
 
-# has_two_majors: whether a program with a library for this major version and one for the next calls each of them.
-has_two_majors() {
-  later_version 4.0.0
-  "$crate/install" --from "$library" "$work/three" && "$later/install" "$work/four" || return 1
-  echo '#include <lexical.h>
-uint32_t (*NAME(void))(void);
-uint32_t (*NAME(void))(void) { return lexical_version; }' > "$work/user.c"
-  for user in three four; do
-    folder=$work/$user/lib
-    $CC -fPIC -shared -DNAME=$user -I"$work/$user/include" -o "$work/lib$user.so" "$work/user.c" -L"$folder" -llexical_c \
-      -Wl,-rpath,"$folder" || return 1
-  done
-  echo 'void *three(void), *four(void); int main(void) { return three() == four(); }' > "$work/both.c"
-  $CC -o "$work/both" "$work/both.c" -L"$work" -lthree -lfour -Wl,-rpath,"$work" && "$work/both"
-}
+# removes PREFIX: whether nothing is left when the upgraded library is removed.
+removes() { "$later/uninstall" "$1" && [ ! -e "$DESTDIR$1" ]; }
 
 check_versions() {
   export DESTDIR=
   expect 'an upgrade of another soname' upgrades "$work/upgraded" 4.0.0 \
     "liblexical_c.so liblexical_c.so.3 liblexical_c.so.$version liblexical_c.so.4 liblexical_c.so.4.0.0"
+  expect 'uninstalling both' removes "$work/upgraded"
   export DESTDIR="$work/slashes//"
   expect 'an upgrade of the same soname, with DESTDIR' upgrades /opt 3.9.0 'liblexical_c.so liblexical_c.so.3 liblexical_c.so.3.9.0'
+  expect 'uninstalling it, with DESTDIR' removes /opt
   unset DESTDIR
   expect 'DESTDIR is left' rmdir "$work/slashes"
-  expect 'two majors in one process' has_two_majors
 }
 
 # ---- what is refused, and what is removed
@@ -284,40 +276,20 @@ refuses_with() {
   [ "$status" -eq "$wanted" ] && grep -q -e "$words" "$work/said" && contents "$work/here" | diff "$work/before" -
 }
 
-# refuses_each WORDS END..: whether each prefix with such an end is refused with these words.
-refuses_each() {
-  said=$1; shift
-  for end in "$@"; do
-    refuses_with 2 "$said" "$crate/install" --from "$library" "$work/here/x$end" || { echo "not refused: $end"; return 1; }
-  done
-}
-
-# moves_and_copies: whether uninstall removes what is below its prefix, also if that was copied or moved there.
-moves_and_copies() {
-  "$crate/install" --from "$library" "$work/first" && cp -a "$work/first" "$work/copy" || return 1
-  contents "$work/first" > "$work/before"
-  "$crate/uninstall" "$work/copy" && [ ! -e "$work/copy" ] && contents "$work/first" | diff "$work/before" - || return 1
-  mv "$work/first" "$work/moved" && "$crate/uninstall" "$work/moved" && [ ! -e "$work/moved" ]
-}
-
-# removes_an_early_version: whether uninstall takes a manifest with absolute paths, and does not leave the prefix.
-removes_an_early_version() {
-  "$crate/install" --from "$library" "$work/early" && touch "$work/other" || return 1
-  listed=$(sed "s|^\./\$||; s|^|$work/early/|" "$work/early/share/lexical_c/manifest")
-  printf '%s\n%s\n' "$listed" "$work/other" > "$work/early/share/lexical_c/manifest"
-  "$crate/uninstall" "$work/early" && [ ! -e "$work/early" ] && [ -e "$work/other" ]
-}
-
-# leaves_others: whether install and uninstall leave what was there, and what was put later into a folder that they made.
+# Whether install and uninstall leave what was there, and what was put later into each folder.
 leaves_others() {
-  contents "$work/here" > "$work/before"
-  "$crate/install" --from "$library" "$work/here" && touch "$work/here/share/later" && "$crate/uninstall" "$work/here" &&
-    rm "$work/here/share/later" && rmdir "$work/here/share" && contents "$work/here" | diff "$work/before" -
+  cp -a "$work/here" "$work/left" && "$crate/install" --from "$library" "$work/here" || return 1
+  (cd "$work/here" && find . -type d) | while read -r path; do
+    mkdir -p "$work/left/$path" && touch "$work/here/$path/lexical_later.3" "$work/left/$path/lexical_later.3"
+  done
+  contents "$work/left" > "$work/before"
+  "$crate/uninstall" "$work/here" && contents "$work/here" | diff "$work/before" -
 }
 
 check_refusals() {
   mkdir -p "$work/here/lib" "$work/here/include/lexical.h"
-  for end in 2.9.9 4 backup; do touch "$work/here/lib/liblexical_c.so.$end"; done
+  touch "$work/here/include/other.h"
+  for end in 2.9.9 3.0.9 4 backup; do touch "$work/here/lib/liblexical_c.so.$end"; done
   expect '--help' prints 'usage: install [--from ARCHIVE] [--libdir FOLDER] PREFIX' sh -c '"$1" --help | head -n 1' sh "$crate/install"
   expect 'a relative prefix' refuses_with 2 usage "$crate/install" --from "$library" usr
   expect 'an unknown option' refuses_with 2 usage "$crate/install" --form "$library" "$work/here"
@@ -325,8 +297,10 @@ check_refusals() {
   for script in install uninstall; do
     expect "a relative DESTDIR and $script" refuses_with 2 'is not an absolute path' sh -c 'cd "$1" && DESTDIR=stage "$2" /opt' sh "$work/here" "$crate/$script"
   done
-  expect 'a prefix with odd characters' refuses_each 'a prefix may not have' '"' '$' '#' '(' ')' ';' "\\" '|' ',' ':' "$(printf 'a\nb')"
-  expect 'a prefix with dots' refuses_each 'write the path without them' /. /.. /../y /./y
+  for end in '"' '$' '#' '(' ')' ';' "\\" '|' ',' ':' "$(printf 'a\nb')" /. /.. /../y /./y; do
+    case $end in /*) words='write the path without them' ;; *) words='a prefix may not have' ;; esac
+    expect "a prefix with $end" refuses_with 2 "$words" "$crate/install" --from "$library" "$work/here/x$end"
+  done
   expect 'a header that is a folder' refuses_with 1 'include/lexical.h is a folder' "$crate/install" --from "$library" "$work/here"
   rmdir "$work/here/include/lexical.h"
   echo 'int other(void) { return 0; }' > "$work/none.c"
@@ -337,10 +311,10 @@ check_refusals() {
     expect "an archive: $archive" $CC -fPIC -w -c -o "$work/$archive.o" "$work/$archive.c"
     expect "it is refused" refuses_with 1 'makes no shared library of .*rust/lexical_c/archive' "$crate/install" --from "$work/$archive.o" "$work/here"
   done
+  expect 'no compiler' refuses_with 1 'nothing has changed' env CC=false "$crate/install" --from "$library" "$work/here"
+  expect 'no temporary folder' refuses_with 1 'nothing has changed' env TMPDIR="$work/none" "$crate/install" --from "$library" "$work/here"
   expect 'no archive' refuses_with 1 'does not exist: run rust/lexical_c/archive' "$crate/install" --from "$work/no.a" "$work/here"
   expect 'nothing that is not listed is removed' refuses_with 1 'nothing is removed: no .*/manifest' "$crate/uninstall" "$work/here"
-  expect 'what is copied or moved is removed' moves_and_copies
-  expect 'what an early version has listed is removed' removes_an_early_version
   expect 'what others have put there is left' leaves_others
 }
 
@@ -350,8 +324,7 @@ check_refusals() {
 # the signal FAULT.
 make_faulty() {
   rm -rf "$work/faulty" && mkdir "$work/faulty"
-  for name in "$@"; do
-    cat > "$work/faulty/$name" <<'END'
+  cat > "$work/faulty_command" <<'END'
 #!/bin/sh
 read -r call < "${0%/*}/calls"
 echo $((call + 1)) > "${0%/*}/calls"
@@ -363,19 +336,18 @@ PATH=${PATH#*:}
 esac
 exec "${0##*/}" "$@"
 END
-  done
-  chmod +x "$work/faulty"/*
+  chmod +x "$work/faulty_command"
+  for name in "$@"; do cp "$work/faulty_command" "$work/faulty/$name"; done
 }
 
-# is_sound: whether the program that was linked to the first version runs, if that was installed, and otherwise one is
-# linked and runs if there is a header.
+# is_sound: whether the program that was linked to the first version runs, if that was installed, and one is linked and
+# runs if there is a header.
 is_sound() {
-  program=$work/early_program
-  [ -e "$work/state/prefix" ] || {
-    [ -e "$tried/include/lexical.h" ] || return 0
-    program=$work/linked && $CC -o "$program" -I"$tried/include" "$work/example.c" -L"$tried/lib" -llexical_c || return 1
+  [ ! -e "$first" ] || prints "$c_lines" env LD_LIBRARY_PATH="$tried/lib" "$work/early_program" || return 1
+  [ ! -e "$tried/include/lexical.h" ] || {
+    $CC -o "$work/linked" -I"$tried/include" "$work/example.c" -L"$tried/lib" -llexical_c &&
+      prints "$c_lines" env LD_LIBRARY_PATH="$tried/lib" "$work/linked"
   }
-  prints "$c_lines" env LD_LIBRARY_PATH="$tried/lib" "$program"
 }
 
 # keeps COMMAND..: whether a command, whose status is $status, writes to no file of $work/tried that is not hidden.
@@ -388,13 +360,16 @@ keeps() {
   contents "$work/kept" | diff "$work/before" -
 }
 
-# survives WORDS COMMAND..: whether programs run after a command that installs the later version and fails with these
-# words. If they say so, it has changed nothing, and in each case uninstall removes all: at once if it was terminated,
-# otherwise after a second install. $work/state is what was there before: nothing, or the first version.
+# survives STEP COMMAND..: whether programs run after a command that installs the later version, has FAULT at this step
+# and fails. If it says that nothing has changed, so it is, and in each case uninstall removes all: at once if it was
+# terminated, otherwise after a second install. $work/state is what was there before: nothing, or the first version.
 survives() {
-  words=$1; shift
+  step=$1 words='nothing has changed\|to install again completes it'
+  shift
+  case $FAULT in KILL | '') words= ;; esac
   rm -rf "$work/tried" "$work/temporary" && cp -a "$work/state" "$work/tried" && mkdir "$work/temporary" || return 1
-  keeps env TMPDIR="$work/temporary" "$@" && is_sound || return 1
+  echo 1 > "$work/faulty/calls"
+  keeps env $default TMPDIR="$work/temporary" PATH="$work/faulty:$PATH" FAULT_AT="$step" "$@" && is_sound || return 1
   if [ "$status" -eq 0 ]; then [ "$step" -gt 50 ]; else grep -q "$words" "$work/said"; fi || return 1
   ! grep -q 'nothing has changed' "$work/said" || contents "$work/tried" | diff "$work/contents" - || return 1
   [ "$FAULT" = KILL ] || rmdir "$work/temporary" || return 1
@@ -404,20 +379,12 @@ survives() {
   [ ! -e "$tried" ] || { [ "$FAULT" = KILL ] && [ -z "$(find "$tried" ! -type d)" ]; }
 }
 
-# survives_fault STEP: whether an install survives FAULT at this step.
-survives_fault() {
-  step=$1
-  echo 1 > "$work/faulty/calls"
-  case $FAULT in KILL) words= ;; *) words='nothing has changed\|to install again completes it' ;; esac
-  survives "$words" env $default PATH="$work/faulty:$PATH" FAULT_AT="$step" "$later/install"
-}
-
-# survives_each_step: whether that holds of each step, and of some where only manual pages are installed.
+# Whether an install survives each step, and some when only manual pages are installed.
 survives_each_step() {
   step=0 ended=1
   while [ "$ended" -ne 0 ]; do
     case $FAULT$step in fail?? | *[A-Z][1-4]?) step=$((step + 6)) ;; *) step=$((step + 1)) ;; esac
-    survives_fault "$step" || { echo "at step $step"; return 1; }
+    survives "$step" "$later/install" || { echo "at step $step"; return 1; }
   done
 }
 
@@ -429,11 +396,10 @@ check_failures() {
   expect "$1 that fails at a step" survives_each_step
   make_faulty mv rm
   for FAULT in KILL TERM; do expect "$1 and the signal $FAULT at a step" survives_each_step; done
-  for FAULT in HUP INT PIPE; do expect "$1 and the signal $FAULT" survives_fault 5; done
-  FAULT='' step=0
-  expect "$1 without a compiler" survives 'nothing has changed' env CC=false "$later/install"
-  expect "$1 without a temporary folder" survives 'nothing has changed' env TMPDIR="$work/none" "$later/install"
-  for output in '&-' /dev/full; do expect "$1 with its output $output" survives '' sh -c '"$@" >'"$output" sh "$later/install"; done
+  for FAULT in HUP INT PIPE; do expect "$1 and the signal $FAULT" survives 5 "$later/install"; done
+  make_faulty
+  FAULT=
+  for output in '&-' /dev/full; do expect "$1 with its output $output" survives 0 sh -c '"$@" >'"$output" sh "$later/install"; done
 }
 
 check_all_failures() {

@@ -3,13 +3,14 @@
  * file, which is compared with snprintf and with a table. Each buffer is next to a page that may not be accessed. The
  * last line is the number of tests that passed and failed.
  *
- * With an argument it passes buffers that nothing has initialized, and reads only the texts. Under valgrind, a text or
- * a result that depends on such a byte is an error, and with MemorySanitizer a byte that is read after the text.
+ * With an argument it passes buffers that nothing has initialized, and reads only the texts: under valgrind, a text or
+ * a result that depends on such a byte is an error.
  */
 #define _DEFAULT_SOURCE
 #include "lexical.h"
 #include "types.h"
 
+#include <ctype.h>
 #include <inttypes.h>
 #include <stdbool.h>
 #include <stdio.h>
@@ -17,17 +18,6 @@
 #include <string.h>
 #include <sys/mman.h>
 #include <unistd.h>
-
-/* MemorySanitizer does not see what the library writes. */
-#if defined(__has_feature)
-#if __has_feature(memory_sanitizer)
-#include <sanitizer/msan_interface.h>
-#define IS_WRITTEN(bytes, count) __msan_unpoison(bytes, count)
-#endif
-#endif
-#ifndef IS_WRITTEN
-#define IS_WRITTEN(bytes, count)
-#endif
 
 /* The checks of the test that runs, of which many make one test. */
 static unsigned long long checks, failures;
@@ -40,41 +30,37 @@ static bool check(bool is_good, const char *what)
     return is_good;
 }
 
-/* ---- the types ---------------------------------------------------------- */
+static uint64_t next_random(void)
+{
+    static uint64_t random;
+    random = random * 6364136223846793005u + 1442695040888963407u;
+    return random ^ random >> 32;
+}
 
-/* A type: its name, its sizes, and its functions, which take the bits of a number. */
+/* A type: its name, its sizes, and its functions by the call, which take the bits of a number. */
+enum call { DECIMAL, WRITE, LENGTH, BUFFER_SIZE };
 struct type {
     const char *name;
     bool is_signed;
     unsigned bits;
-    size_t size;
-    size_t decimal_size;
-    size_t (*decimal)(uint64_t, char *, size_t);
-    size_t (*write)(uint64_t, const struct lexical_format *, char *, size_t);
-    size_t (*length)(uint64_t, const struct lexical_format *);
-    size_t (*buffer_size)(const struct lexical_format *);
+    size_t size, decimal_size;
+    size_t (*call)(enum call, uint64_t, const struct lexical_format *, char *, size_t);
 };
 
-#define FUNCTIONS(NAME, CONSTANT, TYPE)                                        \
-    static size_t decimal_##NAME(uint64_t bits, char *buffer, size_t length)   \
+#define FUNCTION(NAME, CONSTANT, TYPE)                                         \
+    static size_t call_##NAME(enum call call, uint64_t bits, const struct lexical_format *format, char *buffer, \
+                              size_t length)                                   \
     {                                                                          \
-        return lexical_decimal_##NAME((TYPE)bits, buffer, length);             \
-    }                                                                          \
-    static size_t write_##NAME(uint64_t bits, const struct lexical_format *f,  \
-                               char *buffer, size_t length)                    \
-    {                                                                          \
-        return lexical_write_##NAME((TYPE)bits, f, buffer, length);            \
-    }                                                                          \
-    static size_t length_##NAME(uint64_t bits, const struct lexical_format *f) \
-    {                                                                          \
-        return lexical_length_##NAME((TYPE)bits, f);                           \
+        return call == DECIMAL ? lexical_decimal_##NAME((TYPE)bits, buffer, length) \
+            : call == WRITE    ? lexical_write_##NAME((TYPE)bits, format, buffer, length) \
+            : call == LENGTH   ? lexical_length_##NAME((TYPE)bits, format)     \
+                               : lexical_buffer_size_##NAME(format);           \
     }
-FOR_EACH_TYPE(FUNCTIONS)
+FOR_EACH_TYPE(FUNCTION)
 
 #define TYPE(NAME, CONSTANT, TYPE)                                             \
-    { #NAME, (TYPE)-1 < 1, 8 * sizeof(TYPE), LEXICAL_BUFFER_SIZE_##CONSTANT,   \
-      LEXICAL_BUFFER_SIZE_DECIMAL_##CONSTANT, decimal_##NAME, write_##NAME,    \
-      length_##NAME, lexical_buffer_size_##NAME },
+    { #NAME, (TYPE)-1 < 1, 8 * sizeof(TYPE), LEXICAL_BUFFER_SIZE_##CONSTANT, LEXICAL_BUFFER_SIZE_DECIMAL_##CONSTANT, \
+      call_##NAME },
 static const struct type TYPES[] = { FOR_EACH_TYPE(TYPE) };
 #define TYPE_COUNT (sizeof TYPES / sizeof TYPES[0])
 enum { U8, U16, U32, U64, SIZE, I8, I16, I32, I64 };
@@ -84,19 +70,7 @@ static uint64_t largest_bits(const struct type *type)
     return UINT64_MAX >> (64 - type->bits);
 }
 
-static bool is_negative(const struct type *type, uint64_t bits)
-{
-    return type->is_signed && (bits >> (type->bits - 1) & 1) != 0;
-}
-
-static uint64_t magnitude(const struct type *type, uint64_t bits)
-{
-    return is_negative(type, bits) ? (0 - bits) & largest_bits(type) : bits;
-}
-
-/* ---- the simple conversion ---------------------------------------------- */
-
-/* The text that a call must write. */
+/* The text of a number in a valid format. */
 struct expected {
     char text[160];
     size_t count;
@@ -105,52 +79,40 @@ struct expected {
 /* Returns the text of a number, built from its last digit to its first. */
 static struct expected plain_text(const struct type *type, uint64_t bits, const struct lexical_format *format)
 {
-#ifdef WRONG_TEXT
-    static const char UPPERCASE[] = "0123456789ABCDEFGHIJKLMNOPQRSTUVWXYz";
-#else
-    static const char UPPERCASE[] = "0123456789ABCDEFGHIJKLMNOPQRSTUVWXYZ";
-#endif
-    static const char LOWERCASE[] = "0123456789abcdefghijklmnopqrstuvwxyz";
-    const char *digit_chars = format->lowercase == 0 ? UPPERCASE : LOWERCASE;
-    struct expected expected;
-    char reversed[160];
-    size_t count = 0, digits = 0;
-    uint64_t rest = magnitude(type, bits);
+    const char *digit_chars = format->lowercase == 0 ? "0123456789ABCDEFGHIJKLMNOPQRSTUVWXYZ"
+                                                     : "0123456789abcdefghijklmnopqrstuvwxyz";
+    bool is_negative = type->is_signed && bits >> (type->bits - 1) == 1;
+    uint64_t rest = is_negative ? (0 - bits) & largest_bits(type) : bits;
+    char text[160], *start = text + sizeof text;
+    size_t digits = 0;
     do {
         if (format->group_size != 0 && digits != 0 && digits % format->group_size == 0)
-            reversed[count++] = (char)format->mark;
-        reversed[count++] = digit_chars[rest % format->radix];
+            *--start = (char)format->mark;
+        *--start = (char)(digit_chars[rest % format->radix] + WRONG_TEXT);
         digits++;
         rest /= format->radix;
     } while (rest != 0);
-    if (is_negative(type, bits))
-        reversed[count++] = '-';
-    else if (format->required_sign != 0)
-        reversed[count++] = '+';
-    for (size_t i = 0; i < count; i++)
-        expected.text[i] = reversed[count - 1 - i];
-    expected.text[count] = 0;
-    expected.count = count;
+    if (is_negative || format->required_sign != 0)
+        *--start = is_negative ? '-' : '+';
+    struct expected expected = { "", (size_t)(text + sizeof text - start) };
+    memcpy(expected.text, start, expected.count);
     return expected;
 }
 
-/* ---- one call ----------------------------------------------------------- */
+/* Two pages, each between memory that may not be accessed. */
+static size_t page_size;
+static char *buffers, *formats;
 
-/* Memory between two pages that may not be accessed. */
-struct island {
-    char *start, *end;
-};
-
-static struct island new_island(void)
+/* Maps memory of this size, of which only the page with this offset may be accessed, and returns the page. */
+static char *new_page(size_t size, size_t offset)
 {
-    size_t page = (size_t)sysconf(_SC_PAGESIZE);
-    char *map = (char *)mmap(NULL, 3 * page, PROT_NONE, MAP_PRIVATE | MAP_ANONYMOUS, -1, 0);
-    if (map == (char *)MAP_FAILED || mprotect(map + page, page, PROT_READ | PROT_WRITE) != 0)
+    char *map = (char *)mmap(NULL, size, PROT_NONE, MAP_PRIVATE | MAP_ANONYMOUS | MAP_NORESERVE, -1, 0);
+    if (map == (char *)MAP_FAILED || mprotect(map + offset, page_size, PROT_READ | PROT_WRITE) != 0) {
+        perror("failed: memory");
         exit(EXIT_FAILURE);
-    struct island island = { map + page, map + 2 * page };
-    return island;
+    }
+    return map + offset;
 }
-static struct island buffers, formats;
 
 #define GUARD 0xa5
 #define GUARD_SIZE 32
@@ -163,71 +125,54 @@ static bool all_are(const char *bytes, size_t count, int byte)
     return true;
 }
 
-/* Calls lexical_decimal_T if the format is NULL, and otherwise lexical_write_T. */
-static size_t call_writer(const struct type *type, uint64_t bits,
-                          const struct lexical_format *format, char *buffer, size_t length)
-{
-    return format == NULL ? type->decimal(bits, buffer, length) : type->write(bits, format, buffer, length);
-}
-
 static bool is_uninitialized;
 
 /*
  * Calls a writer with a buffer of `length` bytes, and checks that the text is at its start and that every other byte is
- * unchanged. If `expected` is NULL, the call must return 0 and leave the buffer unchanged. The buffer and the format
- * are each next to a page that may not be accessed, before or after them; this side and the bytes of the buffer vary
- * from call to call.
+ * unchanged; if it does not fit or is empty, the call must return 0. The buffer and the format are each next to a page
+ * that may not be accessed, before or after them; this side and the bytes of the buffer vary from call to call.
  */
-static void check_writer(const struct type *type, uint64_t bits, const struct lexical_format *format, size_t length,
-                         const struct expected *expected)
+static void check_writer(const struct type *type, enum call call, uint64_t bits, const struct lexical_format *format,
+                         size_t length, const struct expected *expected)
 {
+    size_t wanted = expected->count <= length ? expected->count : 0;
     if (is_uninitialized) {
         char *buffer = (char *)malloc(length);
-        size_t count = call_writer(type, bits, format, buffer, length);
-        IS_WRITTEN(buffer, count);
-        check(expected == NULL ? count == 0
-              : count == expected->count && memcmp(buffer, expected->text, count) == 0, "an uninitialized buffer");
+        size_t count = type->call(call, bits, format, buffer, length);
+        check(count == wanted && memcmp(buffer, expected->text, count) == 0, "an uninitialized buffer");
         free(buffer);
         return;
     }
     static const int BEFORE[] = { 0x5a, 0xff, 0x00, '7' };
-    static uint32_t random;
-    random = random * 1664525 + 1013904223;
-    int before = BEFORE[random >> 29 & 3];
-    bool at_end = random >> 31 == 1;
-    char *buffer = at_end ? buffers.end - length : buffers.start;
+    uint64_t random = next_random();
+    int before = BEFORE[random >> 61 & 3];
+    bool at_end = random >> 63 == 1;
+    char *buffer = at_end ? buffers + page_size - length : buffers;
     char *guard = at_end ? buffer - GUARD_SIZE : buffer + length;
-    char *copy = format == NULL ? NULL : at_end ? formats.start : formats.end - sizeof *format;
+    char *copy = at_end ? formats : formats + page_size - sizeof *format;
     memset(buffer, before, length);
     memset(guard, GUARD, GUARD_SIZE);
-    if (format != NULL)
-        memcpy(copy, format, sizeof *format);
-    size_t count = call_writer(type, bits, (const struct lexical_format *)copy, buffer, length);
-    size_t wanted = expected == NULL ? 0 : expected->count;
-    bool is_good = count == wanted && (wanted == 0 || memcmp(buffer, expected->text, wanted) == 0)
-        && all_are(buffer + wanted, length - wanted, before)
-        && all_are(guard, GUARD_SIZE, GUARD)
-        && (format == NULL || memcmp(copy, format, sizeof *format) == 0);
+    memcpy(copy, format, sizeof *format);
+    size_t count = type->call(call, bits, (const struct lexical_format *)copy, buffer, length);
+    bool is_good = count == wanted && memcmp(buffer, expected->text, wanted) == 0
+        && all_are(buffer + wanted, length - wanted, before) && all_are(guard, GUARD_SIZE, GUARD)
+        && memcmp(copy, format, sizeof *format) == 0;
     if (check(is_good, "a writer") || failures > 5)
         return;
-    printf("    %s %016" PRIx64 ", %zu bytes: %zu, %.*s\n", type->name, bits, length, count,
-           (int)(count < length ? count : length), buffer);
-    if (format != NULL)
-        printf("    radix %u, sign %u, groups of %u by %u, lowercase %u\n", format->radix,
-               format->required_sign, format->group_size, format->mark, format->lowercase);
+    printf("    %s %016" PRIx64 ", %zu bytes: %zu, %.*s; radix %u, sign %u, groups of %u by %u, lowercase %u\n",
+           type->name, bits, length, count, (int)(count < length ? count : length), buffer, format->radix,
+           format->required_sign, format->group_size, format->mark, format->lowercase);
 }
 
 /* Returns what lexical_check_format is to return. */
 static uint32_t invalid_field(const struct lexical_format *format)
 {
     uint32_t mark = format->mark;
-    bool is_letter = ('A' <= mark && mark <= 'Z') || ('a' <= mark && mark <= 'z');
-    bool is_of_number = is_letter || ('0' <= mark && mark <= '9') || mark == '+' || mark == '-';
     if (format->radix < 2 || format->radix > 36)
         return LEXICAL_INVALID_RADIX;
     if (format->group_size > 64)
         return LEXICAL_INVALID_GROUP_SIZE;
-    if (format->group_size != 0 && (mark < 32 || mark > 126 || is_of_number))
+    if (format->group_size != 0 && (mark < 32 || mark > 126 || mark == '+' || mark == '-' || isalnum((int)mark)))
         return LEXICAL_INVALID_GROUP_MARK;
     return format->reserved[0] != 0 || format->reserved[1] != 0 ? LEXICAL_INVALID_RESERVED : 0;
 }
@@ -244,10 +189,9 @@ static size_t size_of(const struct type *type, const struct lexical_format *form
 static void check_call(const struct type *type, uint64_t bits, const struct lexical_format *format,
                        size_t length, const struct expected *expected)
 {
-    const struct expected *fitting = expected != NULL && expected->count <= length ? expected : NULL;
-    check_writer(type, bits, format, length, fitting);
+    check_writer(type, WRITE, bits, format, length, expected);
     if (memcmp(format, &lexical_standard_format, sizeof *format) == 0)
-        check_writer(type, bits, NULL, length, fitting);
+        check_writer(type, DECIMAL, bits, format, length, expected);
 }
 
 /*
@@ -258,42 +202,37 @@ static void check_call(const struct type *type, uint64_t bits, const struct lexi
 static void check_number(const struct type *type, uint64_t bits, const struct lexical_format *format, bool every_length)
 {
     uint32_t reason = invalid_field(format);
-    struct expected text = { "", 0 };
-    if (reason == 0)
-        text = plain_text(type, bits, format);
+    struct expected text = reason == 0 ? plain_text(type, bits, format) : (struct expected){ "", 0 };
     size_t size = reason == 0 ? size_of(type, format) : 0;
     check(lexical_check_format(format) == reason, "what is wrong with a format");
-    check(type->length(bits, format) == text.count, "a length");
-    check(type->buffer_size(format) == size, "a size");
-    const struct expected *wanted = reason == 0 ? &text : NULL;
+    check(type->call(LENGTH, bits, format, NULL, 0) == text.count, "a length");
+    check(type->call(BUFFER_SIZE, bits, format, NULL, 0) == size, "a size");
+    const size_t lengths[] = { text.count, size, LEXICAL_BUFFER_SIZE, text.count - 1, size - 1 };
+    for (int i = 0; i < (reason == 0 ? 5 : 3); i++)
+        check_call(type, bits, format, lengths[i], &text);
     for (size_t length = 0; every_length && length <= LEXICAL_BUFFER_SIZE; length++)
-        check_call(type, bits, format, length, wanted);
-    check_call(type, bits, format, text.count, wanted);
-    check_call(type, bits, format, size, wanted);
-    check_call(type, bits, format, LEXICAL_BUFFER_SIZE, wanted);
-    if (reason == 0) {
-        check_call(type, bits, format, text.count - 1, wanted);
-        check_call(type, bits, format, size - 1, wanted);
-    }
+        check_call(type, bits, format, length, &text);
 }
 
-/* ---- numbers ------------------------------------------------------------ */
+/* Checks a number, its neighbours, and the negative ones. */
+static void check_around(const struct type *type, uint64_t number, const struct lexical_format *format)
+{
+    for (uint64_t bits = number - 1; bits != number + 2; bits++) {
+        check_number(type, bits & largest_bits(type), format, false);
+        check_number(type, (0 - bits) & largest_bits(type), format, false);
+    }
+}
 
 /* Checks the numbers around 0, the ends of the type, and the powers of the radix. */
 static void check_edges(const struct type *type, const struct lexical_format *format)
 {
-    uint64_t mask = largest_bits(type), powers[130] = { 0, mask / 2 };
-    size_t count = 2;
-    for (uint64_t power = format->radix;; power *= format->radix) {
-        powers[count++] = power;
-        if (power > mask / format->radix)
-            break;
-    }
-    for (size_t i = 0; i < count; i++)
-        for (uint64_t step = 0; step < 3; step++) {
-            check_number(type, (powers[i] + step - 1) & mask, format, false);
-            check_number(type, (0 - (powers[i] + step - 1)) & mask, format, false);
-        }
+    uint64_t largest = largest_bits(type), power = 1;
+    check_around(type, largest / 2, format);
+    check_around(type, power, format);
+    do {
+        power *= format->radix;
+        check_around(type, power, format);
+    } while (power <= largest / format->radix);
 }
 
 /* Checks these and numbers of several lengths in every radix, and of uninitialized buffers only the latter. */
@@ -304,8 +243,8 @@ static void check_radices(void)
         for (uint32_t radix = 2; radix <= 36; radix++)
             for (uint32_t kind = 0; kind < 8; kind++) {
                 uint32_t group_size = kind < 4 ? 0 : SIZES[(radix + kind) % 10];
-                struct lexical_format format = FORMAT(radix, kind % 2, group_size, kind % 3 == 0 ? ' ' : '_');
-                format.lowercase = kind / 2 % 2;
+                uint32_t mark = kind % 3 == 0 ? ' ' : '_';
+                struct lexical_format format = FORMAT(radix, kind % 2, group_size, mark, kind / 2 % 2);
                 for (unsigned shift = 0; shift < 64; shift += 9)
                     check_number(&TYPES[t], (UINT64_MAX / 3 * 2 >> shift) & largest_bits(&TYPES[t]), &format, false);
                 if (!is_uninitialized)
@@ -318,7 +257,7 @@ static void check_short_types(void)
 {
     for (size_t t = 0; t < TYPE_COUNT; t++)
         for (uint32_t radix = 2; TYPES[t].bits <= 16 && radix <= 36; radix++) {
-            struct lexical_format format = FORMAT(radix, 0, 0, 0);
+            struct lexical_format format = FORMAT(radix, 0, 0, 0, 0);
             for (uint64_t bits = 0; bits <= largest_bits(&TYPES[t]); bits++) {
                 struct expected expected = plain_text(&TYPES[t], bits, &format);
                 check_call(&TYPES[t], bits, &format, expected.count, &expected);
@@ -327,20 +266,11 @@ static void check_short_types(void)
         }
 }
 
-static uint64_t next_random(void)
-{
-    static uint64_t random = 88172645463325252u;
-    random ^= random << 13;
-    random ^= random >> 7;
-    random ^= random << 17;
-    return random;
-}
-
 /* Checks that the conversion of this file and the library write this text. */
-static void check_text(const struct type *type, uint64_t bits, const struct lexical_format *format, const char *text)
+static void check_text(size_t type, uint64_t bits, struct lexical_format format, const char *text)
 {
-    check(strcmp(plain_text(type, bits, format).text, text) == 0, text);
-    check_number(type, bits, format, false);
+    check(strcmp(plain_text(&TYPES[type], bits, &format).text, text) == 0, text);
+    check_number(&TYPES[type], bits, &format, false);
 }
 
 /* Checks the conversion against snprintf. */
@@ -351,53 +281,44 @@ static void check_against_snprintf(void)
     for (int i = 0; i < 20000; i++)
         for (int kind = 0; kind < 5; kind++) {
             uint64_t bits = next_random() >> (i % 64);
-            struct lexical_format format = FORMAT(RADICES[kind], 0, 0, 0);
-            format.lowercase = kind == 3;
+            struct lexical_format format = FORMAT(RADICES[kind], 0, 0, 0, kind == 3);
             char text[160];
             snprintf(text, sizeof text, PATTERNS[kind], bits);
-            check_text(&TYPES[kind == 4 ? I64 : U64], bits, &format, text);
+            check_text(kind == 4 ? I64 : U64, bits, format, text);
         }
 }
 
-/* Checks it against texts from a table. */
+/* Checks it against texts that are written here. */
 static void check_table(void)
 {
-    static const struct {
-        size_t type;
-        uint64_t bits;
-        struct lexical_format format;
-        const char *text;
-    } ROWS[] = {
-        { I32, (uint32_t)-1234567, FORMAT(10, 0, 3, ','), "-1,234,567" },
-        { U64, 999, FORMAT(10, 1, 3, '.'), "+999" },
-        { I8, 128, FORMAT(2, 0, 4, '_'), "-1000_0000" },
-        { U32, UINT32_MAX, FORMAT(3, 0, 0, 0), "102002022201221111210" },
-        { U64, UINT64_MAX, FORMAT(36, 0, 0, 0), "3W5E11264SGSF" },
-        { I64, (uint64_t)INT64_MIN, LOWERCASE(36, 1, 0, 0), "-1y2p0ij32e8e8" },
-        { U16, 0xbeef, LOWERCASE(16, 1, 2, '_'), "+be_ef" },
-    };
+#define TEXT(type, bits, radix, sign, group_size, mark, lowercase, text)       \
+    check_text(type, bits, (struct lexical_format)FORMAT(radix, sign, group_size, mark, lowercase), text);
     check(LEXICAL_BUFFER_SIZE == TYPES[U64].size, "the largest size");
-    for (size_t i = 0; i < sizeof ROWS / sizeof ROWS[0]; i++)
-        check_text(&TYPES[ROWS[i].type], ROWS[i].bits, &ROWS[i].format, ROWS[i].text);
+    TEXT(I32, (uint32_t)-1234567, 10, 0, 3, ',', 0, "-1,234,567")
+    TEXT(U64, 999, 10, 1, 3, '.', 0, "+999")
+    TEXT(I8, 128, 2, 0, 4, '_', 0, "-1000_0000")
+    TEXT(U32, UINT32_MAX, 3, 0, 0, 0, 0, "102002022201221111210")
+    TEXT(U64, UINT64_MAX, 36, 0, 0, 0, 0, "3W5E11264SGSF")
+    TEXT(I64, (uint64_t)INT64_MIN, 36, 1, 0, 0, 1, "-1y2p0ij32e8e8")
+    TEXT(U16, 0xbeef, 16, 1, 2, '_', 1, "+be_ef")
 }
-
-/* ---- formats and buffers -------------------------------------------------- */
 
 /* Checks every field of a format: each byte, each bit by itself, and larger numbers; also with other invalid fields. */
 static void check_fields(void)
 {
     static const uint32_t GREAT[] = {
-        256 + 3, 256 + 10, 256 + ',', 65536 + 2, 0x7fffffff, 0x80000010, 0xffff0000, UINT32_MAX - 3, UINT32_MAX,
+        256 + 3, 256 + 10, 256 + ',', 65536 + 2, 65536 + ',', 0x7fffffff, 0x80000010, 0xffff0000, UINT32_MAX - 3,
+        UINT32_MAX,
     };
     static const struct lexical_format FORMATS[] = {
-        FORMAT(10, 0, 0, 0), FORMAT(10, 0, 3, ','), FORMAT(16, 1, 4, '_'), FORMAT(2, 1, 1, '_'),
-        LOWERCASE(16, 0, 0, 0), LOWERCASE(36, 0, 0, 0), FORMAT(36, 0, 0, '+'), FORMAT(36, 0, 64, '+'),
-        FORMAT(1, 0, 65, '+'), FORMAT(2, 9, 65, '+'),
+        FORMAT(10, 0, 0, 0, 0), FORMAT(10, 0, 3, ',', 0), FORMAT(16, 1, 4, '_', 0), FORMAT(2, 1, 1, '_', 0),
+        FORMAT(16, 0, 0, 0, 1), FORMAT(36, 0, 0, 0, 1), FORMAT(36, 0, 0, '+', 0), FORMAT(36, 0, 64, '+', 0),
+        FORMAT(1, 0, 65, '+', 0), FORMAT(2, 9, 65, '+', 0),
     };
     for (size_t t = 0; t < TYPE_COUNT; t++)
         for (size_t f = 0; f < sizeof FORMATS / sizeof FORMATS[0]; f++)
             for (int field = 0; field < 7; field++)
-                for (uint32_t i = 0; i < 256 + 32 + 9; i++) {
+                for (uint32_t i = 0; i < 256 + 32 + 10; i++) {
                     struct lexical_format format = FORMATS[f];
                     uint32_t number = i < 256 ? i : i < 288 ? (uint32_t)1 << (i - 256) : GREAT[i - 288];
                     memcpy((char *)&format + 4 * field, &number, 4);
@@ -426,25 +347,18 @@ static void check_random_formats(void)
 static void check_long_buffers(void)
 {
     static const size_t LENGTHS[] = { 0, 4097, 65536, SIZE_MAX > UINT32_MAX ? SIZE_MAX / UINT32_MAX - 1 : 1 << 30 };
-    char *map = (char *)mmap(NULL, LENGTHS[3], PROT_NONE, MAP_PRIVATE | MAP_ANONYMOUS | MAP_NORESERVE, -1, 0);
-    if (map == (char *)MAP_FAILED || mprotect(map, (size_t)sysconf(_SC_PAGESIZE), PROT_READ | PROT_WRITE) != 0) {
-        check(false, "addresses of a long buffer");
-        return;
-    }
+    const struct lexical_format format = FORMAT(36, 0, 0, 0, 0);
+    char *map = new_page(LENGTHS[3], 0);
     for (size_t t = 0; t < TYPE_COUNT; t++)
-        for (size_t i = 0; i < 4; i++) {
-            char *buffer = i == 0 ? NULL : map;
-            struct lexical_format format = FORMAT(36, 0, 0, 0);
+        for (int i = 0; i < 8; i++) {
+            bool is_long = i / 2 != 0;
+            char *buffer = is_long ? map : NULL;
             map[0] = map[1] = 0;
-            size_t count = TYPES[t].decimal(7, buffer, LENGTHS[i]);
-            check(count == (i != 0) && strcmp(map, i == 0 ? "" : "7") == 0, "a long buffer in decimal");
-            count = TYPES[t].write(35, &format, buffer, LENGTHS[i]);
-            check(count == (i != 0) && strcmp(map, i == 0 ? "" : "Z") == 0, "a long buffer");
+            size_t count = TYPES[t].call(i % 2 == 0 ? DECIMAL : WRITE, 7, &format, buffer, LENGTHS[i / 2]);
+            check(count == is_long && strcmp(map, is_long ? "7" : "") == 0, "a long buffer");
         }
     munmap(map, LENGTHS[3]);
 }
-
-/* ---- all ----------------------------------------------------------------- */
 
 static unsigned passed, failed;
 
@@ -453,10 +367,8 @@ static void run(const char *name, void (*test)(void))
     checks = failures = 0;
     test();
     bool is_good = failures == 0 && checks > 0;
-    if (is_good)
-        passed++;
-    else
-        failed++;
+    passed += is_good;
+    failed += !is_good;
     printf("%s %s: %llu checks\n", is_good ? "passed" : "failed", name, checks);
     fflush(stdout);
 }
@@ -465,8 +377,9 @@ int main(int argument_count, char **arguments)
 {
     (void)arguments;
     is_uninitialized = argument_count > 1;
-    buffers = new_island();
-    formats = new_island();
+    page_size = (size_t)sysconf(_SC_PAGESIZE);
+    buffers = new_page(3 * page_size, page_size);
+    formats = new_page(3 * page_size, page_size);
     run("every radix", check_radices);
     if (is_uninitialized)
         return failed == 0 ? EXIT_SUCCESS : EXIT_FAILURE;

@@ -1,7 +1,4 @@
-/*
- * The integer types that the library writes, and formats, for the tests. A type is: the end of the names
- * of their functions, the end of the names of their constants, and the C type.
- */
+/* The integer types that the library writes: the ends of the names of functions and of constants, and the C type. */
 #define FOR_EACH_TYPE(X)                                                       \
     X(u8, U8, uint8_t)                                                         \
     X(u16, U16, uint16_t)                                                      \
@@ -13,8 +10,11 @@
     X(i32, I32, int32_t)                                                       \
     X(i64, I64, int64_t)
 
-/* The initializer of a format, in uppercase or in lowercase, for C++17 too, which has no names in initializers. */
-#define FORMAT(radix, required_sign, group_size, mark)                         \
-    { radix, required_sign, group_size, mark, 0, { 0, 0 } }
-#define LOWERCASE(radix, required_sign, group_size, mark)                      \
-    { radix, required_sign, group_size, mark, 1, { 0, 0 } }
+/* The initializer of a format, for C++17 too, which has no names in initializers. */
+#define FORMAT(radix, required_sign, group_size, mark, lowercase)              \
+    { radix, required_sign, group_size, mark, lowercase, { 0, 0 } }
+
+/* 1 in a run that must fail: then each program compares with a text that is wrong. */
+#ifndef WRONG_TEXT
+#define WRONG_TEXT 0
+#endif

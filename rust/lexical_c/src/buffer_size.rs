@@ -42,7 +42,7 @@ pub extern "C" fn lexical_buffer_size_u64(format: &CFormat) -> usize {
 /// Returns a buffer size that is enough for every `size_t`, or 0 if the format is invalid.
 #[unsafe(no_mangle)]
 pub extern "C" fn lexical_buffer_size_size(format: &CFormat) -> usize {
-    buffer_size::<usize>(format)
+    buffer_size::<u64>(format)
 }
 
 /// Returns a buffer size that is enough for every `int8_t`, or 0 if the format is invalid.

@@ -17,16 +17,10 @@ pub fn write_if_it_fits<T: ToLexicalWithOptions>(
     buffer: &mut [u8],
 ) -> usize {
     let count = write_uppercase(value, format, buffer);
-    if has_lowercase(format) {
+    if format.lowercase != 0 {
         buffer[..count].make_ascii_lowercase();
     }
     count
-}
-
-// Returns whether the format requests lowercase letters.
-#[inline]
-fn has_lowercase(format: &CFormat) -> bool {
-    format.lowercase != 0
 }
 
 // Writes the number in uppercase, whatever the format requests, or refuses it as `write_if_it_fits` does.

@@ -24,92 +24,46 @@ impl WideInteger for u64 {
     }
 }
 
-/// An integer type that C passes, of at most 64 bits.
+/// An integer type that C passes, of at most 64 bits. A `size_t` is passed as a `uint64_t`.
 pub trait CInteger: ToLexicalWithOptions {
     /// A type of 64 bits that has its numbers: `i64` if it has them.
-    type Wide: WideInteger;
+    type Wide: WideInteger + From<Self>;
 
     /// Returns the same number.
-    fn widen(self) -> Self::Wide;
+    #[inline]
+    fn widen(self) -> Self::Wide {
+        Self::Wide::from(self)
+    }
 }
 
 impl CInteger for u8 {
     type Wide = i64;
-
-    #[inline]
-    fn widen(self) -> i64 {
-        self as i64
-    }
 }
 
 impl CInteger for u16 {
     type Wide = i64;
-
-    #[inline]
-    fn widen(self) -> i64 {
-        self as i64
-    }
 }
 
 impl CInteger for u32 {
     type Wide = i64;
-
-    #[inline]
-    fn widen(self) -> i64 {
-        self as i64
-    }
 }
 
 impl CInteger for u64 {
     type Wide = u64;
-
-    #[inline]
-    fn widen(self) -> u64 {
-        self
-    }
-}
-
-impl CInteger for usize {
-    type Wide = u64;
-
-    #[inline]
-    fn widen(self) -> u64 {
-        self as u64
-    }
 }
 
 impl CInteger for i8 {
     type Wide = i64;
-
-    #[inline]
-    fn widen(self) -> i64 {
-        self as i64
-    }
 }
 
 impl CInteger for i16 {
     type Wide = i64;
-
-    #[inline]
-    fn widen(self) -> i64 {
-        self as i64
-    }
 }
 
 impl CInteger for i32 {
     type Wide = i64;
-
-    #[inline]
-    fn widen(self) -> i64 {
-        self as i64
-    }
 }
 
 impl CInteger for i64 {
     type Wide = i64;
-
-    #[inline]
-    fn widen(self) -> i64 {
-        self
-    }
 }

@@ -42,7 +42,7 @@ pub extern "C" fn lexical_length_u64(value: u64, format: &CFormat) -> usize {
 /// Returns the length of the text of a `size_t` in the format, or 0 if the format is invalid.
 #[unsafe(no_mangle)]
 pub extern "C" fn lexical_length_size(value: usize, format: &CFormat) -> usize {
-    counted_length::<usize>(value, format)
+    counted_length::<u64>(value as u64, format)
 }
 
 /// Returns the length of the text of an `int8_t` in the format, or 0 if the format is invalid.

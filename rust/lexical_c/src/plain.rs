@@ -17,12 +17,6 @@ pub fn has_only_radix_and_case(format: &CFormat) -> bool {
         & (format.reserved_2 == 0)
 }
 
-/// Returns whether digits of the radix of the format are letters.
-#[inline(always)]
-pub fn has_letters(format: &CFormat) -> bool {
-    format.radix > 10
-}
-
 /// Returns the format of this radix without a required sign and groups if the radix is valid and not 10, and a buffer
 /// of `room` bytes is enough for every number of the type. Otherwise returns `None`.
 #[inline(always)]

@@ -8,9 +8,7 @@ use crate::format::CFormat;
 use crate::general::write_if_it_fits;
 use crate::hexadecimal::write_hexadecimal;
 use crate::integer::CInteger;
-use crate::plain::{
-    fitting_format, has_letters, has_only_radix_and_case, set_lowercase_bit, write_plain,
-};
+use crate::plain::{fitting_format, has_only_radix_and_case, set_lowercase_bit, write_plain};
 
 // Writes a number to the buffer, and returns the text's length, or 0 if the format is invalid or it does not fit.
 #[inline]
@@ -29,7 +27,7 @@ fn write<T: CInteger>(value: T, format: &CFormat, buffer: &mut [u8]) -> usize {
 fn write_other<T: CInteger>(value: T, format: &CFormat, buffer: &mut [u8]) -> usize {
     if !has_only_radix_and_case(format) {
         write_if_it_fits(value.widen(), format, buffer)
-    } else if !has_letters(format) {
+    } else if format.radix <= 10 {
         write_digits(value, format, buffer)
     } else if format.radix == 16 {
         write_hexadecimal(value.widen(), buffer)
@@ -43,7 +41,7 @@ fn write_other<T: CInteger>(value: T, format: &CFormat, buffer: &mut [u8]) -> us
 #[inline(never)]
 fn write_digits<T: CInteger>(value: T, format: &CFormat, buffer: &mut [u8]) -> usize {
     if format.radix == 10 {
-        write_decimal(value, buffer)
+        write_decimal(value, value.widen(), buffer)
     } else {
         write_in_radix(value, format, buffer)
     }
@@ -98,7 +96,7 @@ pub fn lexical_write_u64(value: u64, format: &CFormat, buffer: &mut [u8]) -> usi
 /// Writes a `size_t` to the buffer, and returns the text's length, or 0 if the format is invalid or it does not fit.
 #[inline]
 pub fn lexical_write_size(value: usize, format: &CFormat, buffer: &mut [u8]) -> usize {
-    write::<usize>(value, format, buffer)
+    write::<u64>(value as u64, format, buffer)
 }
 
 /// Writes an `int8_t` to the buffer, and returns the text's length, or 0 if the format is invalid or it does not fit.
