@@ -116,22 +116,19 @@ fn signs_and_no_bytes() {
     assert_eq!((write_padded(0u8, 16, &mut []), write_padded(0u8, 10, &mut [])), (0, 0));
 }
 
-/// Each part has its row in the table. Each has a mistake too, but for those with the body of another one.
+/// Each part has its row in the table, and each file with an export a mistake.
 #[test]
 fn each_part_has_a_row() {
-    let table = include_str!("../src/parts.rs");
+    let (here, table) = (include_str!("rooms.rs"), include_str!("../src/parts.rs"));
     let mistakes = include_str!("../../../crates/lexical_parts/mistakes/bodies.edit");
     let exports = include_str!("../../cojimuran/src/parts.rs").lines().filter_map(|line| line.strip_prefix("pub use "));
-    let names = exports.flat_map(|path| path.split(|c: char| !c.is_alphanumeric()));
+    let exports: Vec<(&str, &str)> = exports.filter_map(|path| path.split_once("::")).collect();
+    let names = exports.iter().flat_map(|(_, names)| names.split(|c: char| !c.is_alphanumeric()));
     let parts: Vec<&str> = names.filter(|name| name.starts_with(char::is_uppercase)).collect();
     let has_row = |name: &str| ["Part", "Buffer", "Shown"].contains(&name) || table.contains(&format!("{name}("));
-    let has_mistake = |name: &str| {
-        ["Decimal", "Binary", "Bytes"].contains(&name)
-            || mistakes.contains(&format!("::{name}Part::"))
-            || mistakes.contains(&format!("::{name}::"))
-    };
-    let missing = parts.iter().filter(|name| !has_row(name) || !has_mistake(name));
-    assert_eq!(missing.collect::<Vec<_>>(), Vec::<&&str>::new());
-    let here = include_str!("rooms.rs");
+    let missing = parts.iter().copied().filter(|name| !has_row(name));
+    let files = exports.iter().map(|(module, _)| *module);
+    let missing = missing.chain(files.filter(|module| !mistakes.contains(&format!("file: src/{module}.rt"))));
+    assert_eq!(missing.collect::<Vec<_>>(), Vec::<&str>::new());
     assert!(parts.len() > 20 && (2..=12).all(|count| here.contains(&format!(") => {count}, \""))));
 }
