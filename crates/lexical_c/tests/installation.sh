@@ -175,11 +175,8 @@ check_prefix() {
 prepare() {
   version=$(sed -n 's/^#define LEXICAL_VERSION_STRING "\(.*\)"$/\1/p' "$crate/include/lexical.h")
   major=${version%%.*}
-  # A checkout of a later version.
   later=$work/later/crates/lexical_c
-  c_lines='1234567
--4D2
-18,446,744,073,709,551,615'
+  c_lines=$(printf '1234567\n-4D2\n%s' 18,446,744,073,709,551,615)
   cp "$crate"/examples/example*.c* "$work"
   echo 1,234,567 > "$work/lines20"
   printf '1,234,567\n-4D2\n' > "$work/lines17"
@@ -245,10 +242,21 @@ upgrades() {
 # removes PREFIX: whether nothing is left when the upgraded library is removed.
 removes() { "$later/uninstall" "$1" && [ ! -e "$DESTDIR$1" ]; }
 
+# has_two_majors FOLDER: whether a program with a library for each of two majors there calls each of them.
+has_two_majors() {
+  for each in 3 4; do
+    echo "void *lexical_version(void), *f$each(void); void *f$each(void) { return lexical_version; }" > "$work/user.c"
+    $CC -fPIC -shared -o "$work/libf$each.so" "$work/user.c" "$1/liblexical_c.so.$each" -Wl,-rpath,"$1" || return 1
+  done
+  echo 'void *f3(void), *f4(void); int main(void) { return f3() == f4(); }' > "$work/both.c"
+  $CC -o "$work/both" "$work/both.c" "$work/libf3.so" "$work/libf4.so" -Wl,-rpath,"$work" && "$work/both"
+}
+
 check_versions() {
   export DESTDIR=
   expect 'an upgrade of another soname' upgrades "$work/upgraded" 4.0.0 \
     "liblexical_c.so liblexical_c.so.3 liblexical_c.so.$version liblexical_c.so.4 liblexical_c.so.4.0.0"
+  expect 'two majors in one process' has_two_majors "$work/upgraded/lib"
   expect 'uninstalling both' removes "$work/upgraded"
   export DESTDIR="$work/slashes//"
   expect 'an upgrade of the same soname, with DESTDIR' upgrades /opt 3.9.0 'liblexical_c.so liblexical_c.so.3 liblexical_c.so.3.9.0'
