@@ -48,7 +48,6 @@ fn check_calls(to_text: &dyn Fn(&mut [u8]) -> Vec<u8>, to_str: &dyn Fn(&mut [u8]
 /// Checks a part, and parts that contain it.
 fn check_in<P: Part>(part: P, width: usize, fill: u8) {
     check(part);
-    check(&part);
     check(Left(part, width, fill));
     check(Right((part, "é"), width, fill));
     check(Center(Some(part), width, fill));
