@@ -1,14 +1,14 @@
 -- The first newline among the bytes of a word.
-use Rattle.std.proofs.Common.{◌≡◌, ◌≢◌, ◌⊎◌, ℕ, zero, suc, ◌+◌, ◌-◌, ◌*◌, ◌/◌, ◌%◌, ◌^◌, ◌<◌, Bool, true, ◌&&◌, eqb, List, [], ◌∷◌, length, take, ltb}
+use Rattle.std.proofs.Common.{◌≡◌, ◌≢◌, ◌⊎◌, ℕ, zero, suc, ◌+◌, ◌-◌, ◌*◌, ◌/◌, ◌%◌, ◌^◌, ◌<◌, eqb, List, [], ◌∷◌, length, take, ltb}
 use Rattle.std.proofs.Common.{◌||◌, pow_pos, bit_and, bit_xor, w64, refl, ap, ap₂, subst, ◌∙◌, inl, inr, arith}
-use Rattle.std.proofs.lemmas.Bool.{cases_lt, and_parts}
+use Rattle.std.proofs.lemmas.Bool.{cases_lt}
 use Rattle.std.proofs.lemmas.List.Elements.{All-nil, All-cons, All-head, All-tail}
 use Rattle.std.proofs.lemmas.Nat.{and_block, and_le_l, and_le_r, xor_block, xor_of_8, mod-mul-add, pow-add, from_le_bytes-to_le_bytes_8}
 use Rattle.std.proofs.lemmas.Nat.Bits.{bit_at_cat_low, bit_at_cat_high, bit_at_lowest, bit_at-zero, bit_at-trailing_zeros}
 use Rattle.std.proofs.Math.Nat.{mod-lt, div-add-mod'}
 use Rattle.std.specs.Int.{bit_at, byte_at, bytes_low_first, trailing_zeros, to_le_bytes}
 use Rattle.std.specs.List.{All}
-use Rattle.lexical_write_integer.proofs.OfDigits.Radix.BinaryWords.{all_below, all_below-at}
+use Rattle.lexical_write_integer.proofs.OfDigits.Radix.BinaryWords.{all_below-at}
 use Rattle.lexical_lines.specs.Lines.{IsFirstNewline, NoNewline}
 
 -- the number whose bytes, the lowest first, are these

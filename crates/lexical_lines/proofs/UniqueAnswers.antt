@@ -21,7 +21,7 @@ IsValue-number : {kind other : IntegerType} {number second : ℤ} {text : List �
 IsValue-number h k = grind (arith, IsValue-parts, value-stripped)
 
 -- a line makes one request only
-IsRequest-unique : {kind other : IntegerType} {plus add : Bool} {radix base : ℕ} {number second : ℤ} {line : List ℕ}
+pub IsRequest-unique : {kind other : IntegerType} {plus add : Bool} {radix base : ℕ} {number second : ℤ} {line : List ℕ}
     → IsRequest kind plus radix number line → IsRequest other add base second line
     → (plus ≡ add) × (radix ≡ base) × (number ≡ second)
 IsRequest-unique {kind = kind} {plus = plus} {radix = radix} {base = base} h k =

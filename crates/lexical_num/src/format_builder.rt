@@ -120,8 +120,8 @@ impl NumberFormatBuilder {
     ///
     /// # Errors
     ///
-    /// An error that names the first invalid part: the mantissa radix is checked first, then the
-    /// exponent radix, then the group size, then the separator.
+    /// The error names the first invalid part: the mantissa radix is checked first, then the exponent
+    /// radix, then the group size, then the separator.
     pub fn build(&self) -> Result<NumberFormat>
         ensures valid { IsOk result ↔ IsValid self.now }
         ensures format { IfOk result (λ format. format ≡ self.now) }

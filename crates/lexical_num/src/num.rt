@@ -50,6 +50,8 @@ pub trait LexicalInteger: Copy {
     ghost decimal_width: { IsDecimalWidth (least_of BITS IS_SIGNED) (greatest_of BITS IS_SIGNED) DECIMAL_WIDTH };
 
     ghost bit_width: { IsBitWidth BITS };
+
+    ghost equal_by_number: { (x y : Self) → number x ≡ number y → x ≡ y };
 }
 
 impl LexicalInteger for u8 {
@@ -70,6 +72,8 @@ impl LexicalInteger for u8 {
     ghost decimal_width = { is_decimal_width (lit≤ tt) (lit≤ tt) (lit≤ tt) (lit≤ tt) };
 
     ghost bit_width = { is_8 };
+
+    ghost equal_by_number = { equal_by_pos };
 
     fn in_range(self) {}
 
@@ -97,6 +101,8 @@ impl LexicalInteger for u16 {
 
     ghost bit_width = { is_16 };
 
+    ghost equal_by_number = { equal_by_pos };
+
     fn in_range(self) {}
 
     fn is_negative(self) -> bool {
@@ -123,6 +129,8 @@ impl LexicalInteger for u32 {
 
     ghost bit_width = { is_32 };
 
+    ghost equal_by_number = { equal_by_pos };
+
     fn in_range(self) {}
 
     fn is_negative(self) -> bool {
@@ -148,6 +156,8 @@ impl LexicalInteger for u64 {
     ghost decimal_width = { is_decimal_width (lit≤ tt) (lit≤ tt) (lit≤ tt) (lit≤ tt) };
 
     ghost bit_width = { is_64 };
+
+    ghost equal_by_number = { equal_by_pos };
 
     fn in_range(self) {}
 
@@ -176,6 +186,8 @@ impl LexicalInteger for usize {
 
     ghost bit_width = { is_64 };
 
+    ghost equal_by_number = { equal_by_pos };
+
     fn in_range(self) {}
 
     fn is_negative(self) -> bool {
@@ -201,6 +213,8 @@ impl LexicalInteger for i8 {
     ghost decimal_width = { is_decimal_width (lit≤ tt) (lit≤ tt) (lit≤ tt) (lit≤ tt) };
 
     ghost bit_width = { is_8 };
+
+    ghost equal_by_number = { λ _ _ same. same };
 
     fn in_range(self) {}
 
@@ -229,6 +243,8 @@ impl LexicalInteger for i16 {
 
     ghost bit_width = { is_16 };
 
+    ghost equal_by_number = { λ _ _ same. same };
+
     fn in_range(self) {}
 
     fn is_negative(self) -> bool {
@@ -254,6 +270,8 @@ impl LexicalInteger for i32 {
     ghost decimal_width = { is_decimal_width (lit≤ tt) (lit≤ tt) (lit≤ tt) (lit≤ tt) };
 
     ghost bit_width = { is_32 };
+
+    ghost equal_by_number = { λ _ _ same. same };
 
     fn in_range(self) {}
 
@@ -281,6 +299,8 @@ impl LexicalInteger for i64 {
 
     ghost bit_width = { is_64 };
 
+    ghost equal_by_number = { λ _ _ same. same };
+
     fn in_range(self) {}
 
     fn is_negative(self) -> bool {
@@ -307,6 +327,8 @@ impl LexicalInteger for isize {
     ghost decimal_width = { is_decimal_width (lit≤ tt) (lit≤ tt) (lit≤ tt) (lit≤ tt) };
 
     ghost bit_width = { is_64 };
+
+    ghost equal_by_number = { λ _ _ same. same };
 
     fn in_range(self) {}
 
@@ -378,8 +400,6 @@ pub trait UnsignedInteger: LexicalInteger {
 
     ghost range: { IsUnsigned Self.BITS (least_of Self.BITS Self.IS_SIGNED) (greatest_of Self.BITS Self.IS_SIGNED) };
 
-    ghost equal_by_number: { (x y : Self) → Self.number x ≡ Self.number y → x ≡ y };
-
     /// A law: the number is below 2^`BITS`. Generic code obtains the law by this call, which does
     /// nothing at run time.
     final fn fits_bits(self)
@@ -395,8 +415,6 @@ impl UnsignedInteger for u8 {
     ghost number_is_magnitude = { λ _. refl };
 
     ghost range = { record { width = is_8; from_zero = refl; to_greatest = refl } };
-
-    ghost equal_by_number = { equal_by_pos };
 
     fn from_u32(value: u32) -> u8 {
         prove!(value < 256, "the type does not have the number");
@@ -427,8 +445,6 @@ impl UnsignedInteger for u16 {
 
     ghost range = { record { width = is_16; from_zero = refl; to_greatest = refl } };
 
-    ghost equal_by_number = { equal_by_pos };
-
     fn from_u32(value: u32) -> u16 {
         prove!(value < 65_536, "the type does not have the number");
         value as u16
@@ -458,8 +474,6 @@ impl UnsignedInteger for u32 {
 
     ghost range = { record { width = is_32; from_zero = refl; to_greatest = refl } };
 
-    ghost equal_by_number = { equal_by_pos };
-
     fn from_u32(value: u32) -> u32 {
         value
     }
@@ -487,8 +501,6 @@ impl UnsignedInteger for u64 {
     ghost number_is_magnitude = { λ _. refl };
 
     ghost range = { record { width = is_64; from_zero = refl; to_greatest = refl } };
-
-    ghost equal_by_number = { equal_by_pos };
 
     fn from_u32(value: u32) -> u64 {
         value as u64
@@ -520,8 +532,6 @@ impl UnsignedInteger for usize {
     ghost number_is_magnitude = { λ _. refl };
 
     ghost range = { record { width = is_64; from_zero = refl; to_greatest = refl } };
-
-    ghost equal_by_number = { equal_by_pos };
 
     fn from_u32(value: u32) -> usize {
         value as usize

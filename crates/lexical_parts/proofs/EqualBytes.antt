@@ -8,7 +8,7 @@ use Rattle.lexical_write_integer.specs.Read.{AreReadAs}
 use Rattle.lexical_write_integer.specs.Sequence.{AreJoined}
 use Rattle.lexical_write_integer.proofs.OfDigits.PaddedDigits.{length-IsPadded}
 use Rattle.lexical_write_integer.proofs.OfTexts.ReadTexts.{are_read, padded_read}
-use Rattle.lexical_parts.specs.InCommon.{HaveInCommon}
+use Rattle.lexical_write_integer.specs.InCommon.{HaveInCommon}
 use Rattle.lexical_parts.proofs.Splits.{same_parts}
 
 module _ {A : Type 0} (IsOf : A → List ℕ → Type 0) (separator : List ℕ) (w : ℕ) (some : 1 ≤ w)

@@ -19,7 +19,7 @@ use Rattle.lexical_write_integer.proofs.OfTexts.Orders.{equal_from_IsText}
 use Rattle.lexical_write_integer.proofs.OfTexts.ReadTexts.{are_read}
 use Rattle.lexical_write_integer.proofs.OfTexts.Separators.{sign_is_none}
 use Rattle.lexical_parts.specs.Fixed.{IsFixed, IsUnits}
-use Rattle.lexical_parts.specs.InCommon.{HaveInCommon}
+use Rattle.lexical_write_integer.specs.InCommon.{HaveInCommon}
 use Rattle.lexical_parts.specs.Scaled.{AreEqualScaled}
 use Rattle.lexical_parts.specs.Scientific.{IsScientific, exponent_of_first}
 use Rattle.lexical_parts.specs.Sequence.{IsDecimal}

@@ -1,5 +1,5 @@
 -- What two texts in a row have in common if they are equal, and which of two texts is the earlier one.
-use Rattle.std.proofs.Common.{◌≡◌, ℕ, List, [], ◌∷◌, ◌++◌, length, take, drop, get_or, refl, sym, ap, ◌∙◌, arith}
+use Rattle.std.proofs.Common.{◌≡◌, ℕ, List, [], ◌∷◌, ◌++◌, length, take, drop, refl, sym, ap, ◌∙◌, arith}
 use Rattle.std.specs.Prelude.{◌≢◌}
 use Rattle.std.specs.List.{All}
 use Rattle.std.specs.Cmp.Lexicographic.{slice_cmp}
@@ -7,10 +7,10 @@ use Rattle.std.specs.Ordering.{nat_cmp, ordering_then}
 use Rattle.std.specs.declared.cmp.Ordering.{Ordering}
 use Rattle.std.specs.declared.cmp.Ordering.TheVariants.{Less, Equal, Greater}
 use Rattle.std.proofs.lemmas.List.{drop_at, take_at}
-use Rattle.std.proofs.lemmas.List.Elements.{All-head, All-tail}
 use Rattle.lexical_write_integer.specs.Order.{IsEarlier}
 use Rattle.lexical_write_integer.specs.Sequence.{IsExactly, Then}
-use Rattle.lexical_parts.specs.InCommon.{HaveInCommon}
+use Rattle.lexical_write_integer.proofs.OfTexts.Rows.{split}
+use Rattle.lexical_write_integer.specs.InCommon.{HaveInCommon}
 
 -- ---- texts whose first parts have the same width
 
@@ -25,14 +25,6 @@ same_parts text s t long =
     (record { text = s.first; is = s.is_first; also = rw first t.is_first }, record { text = s.second; is = s.is_second; also = rw rest t.is_second })
 
 -- ---- texts that are split at their first separator p
-
-split : (p : ℕ) (f g r q : List ℕ) → All (λ b. b ≢ p) f → All (λ b. b ≢ p) g → f ++ p ∷ r ≡ g ++ p ∷ q → (f ≡ g) × (r ≡ q)
-split p [] [] r q none_in_f none_in_g same = (refl, ap (drop 1) same)
-split p [] (d ∷ g) r q none_in_f none_in_g same = absurd (All-head (λ c. c ≢ p) d g none_in_g (sym (ap (λ l. get_or l 0 0) same)))
-split p (c ∷ f) [] r q none_in_f none_in_g same = absurd (All-head (λ d. d ≢ p) c f none_in_f (ap (λ l. get_or l 0 0) same))
-split p (c ∷ f) (d ∷ g) r q none_in_f none_in_g same =
-    let rest = split p f g r q (All-tail (λ x. x ≢ p) c f none_in_f) (All-tail (λ x. x ≢ p) d g none_in_g) (ap (drop 1) same) in
-    (ap (λ x. x ∷ f) (ap (λ l. get_or l 0 0) same) ∙ ap (λ l. d ∷ l) rest.0, rest.1)
 
 module _ {A B P Q : List ℕ → Type 0} (p : ℕ) (none_in_A : (text : List ℕ) → A text → All (λ b. b ≢ p) text)
     (none_in_B : (text : List ℕ) → B text → All (λ b. b ≢ p) text) (text : List ℕ)

@@ -2,7 +2,6 @@ pub mod Cell
 pub mod Column
 pub mod Fixed
 pub mod Formatted
-pub mod InCommon
 pub mod Joined
 pub mod Optional
 pub mod Plus

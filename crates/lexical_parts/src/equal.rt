@@ -1,13 +1,14 @@
 //! Laws on texts in a row: what equal texts have in common, and which of two texts is the earlier one.
 
 ghost use Rattle.std.specs.Prelude.{◌≡◌, ◌≢◌, ◌<◌, ◌∷◌, [], All, List, None, ℕ, length};
+ghost use Rattle.std.specs.Char.{IsNotAsciiAlphanumeric};
 ghost use Rattle.lexical_num.specs.Format.{IsRadix};
 ghost use Rattle.lexical_write_integer.specs.Lowercase.{IsLowercase};
 ghost use Rattle.lexical_write_integer.specs.Order.{IsEarlier};
 ghost use Rattle.lexical_write_integer.specs.Padded.{IsPadded};
 ghost use Rattle.lexical_write_integer.specs.Sequence.{AreJoined, IsExactly};
 ghost use Rattle.lexical_write_integer.specs.Text.{IsDigits, IsText};
-ghost use Rattle.lexical_parts.specs.InCommon.{HaveInCommon};
+ghost use Rattle.lexical_write_integer.specs.InCommon.{HaveInCommon};
 ghost use Rattle.lexical_parts.specs.Scaled.{AreEqualScaled};
 ghost use Rattle.lexical_parts.specs.Scientific.{IsScientific};
 ghost use Rattle.lexical_parts.specs.Sequence.{◌then◌};
@@ -17,7 +18,7 @@ use crate::part::Part;
 use crate::reading::zero_padded_read_back;
 use lexical_num::format::NumberFormat;
 use lexical_num::num::LexicalInteger;
-use lexical_write_integer::laws::{equal_digits, equal_padded};
+use lexical_write_integer::laws::{equal_padded, equal_texts, text_has_no};
 
 /// A law: if each text of `a` and of `b` has `count` bytes, and a text is `a` and then `p`, and also `b` and then `q`,
 /// then `a` and `b` have a text in common, and so have `p` and `q`. With a law that says which numbers have the same
@@ -47,22 +48,6 @@ pub fn padded_decides<P: Part, Q: Part>(radix: u32, width: usize, a: u64, b: u64
         → (IsPadded radix width b then Q.is_text q) t → IsEarlier s t }
 {}
 
-/// A law: two numbers that have digits in common, as `same_parts` and `same_split` say of texts, are equal.
-pub fn common_digits(radix: u32, a: u64, b: u64)
-    requires { IsRadix radix }
-    ensures { HaveInCommon (IsDigits radix a) (IsDigits radix b) → a ≡ b }
-{
-    equal_digits(radix, a, b);
-}
-
-/// A law: so are two numbers that have padded digits in common.
-pub fn common_padded(radix: u32, width: usize, a: u64, b: u64)
-    requires { IsRadix radix }
-    ensures { HaveInCommon (IsPadded radix width a) (IsPadded radix width b) → a ≡ b }
-{
-    equal_padded(radix, width, a, b);
-}
-
 /// A law: if two numbers in padded digits, one after the other, have a text in common with two others, both are equal.
 pub fn equal_padded_pairs(
     radix: u32,
@@ -83,11 +68,40 @@ pub fn equal_padded_pairs(
     equal_padded(radix, second_width, m, n);
 }
 
+/// A law: if two numbers with a separator between them have a text in common with two others, in a format without
+/// groups, both are equal. The separator is neither a letter, a digit nor a sign.
+pub fn equal_pairs<T: LexicalInteger, U: LexicalInteger>(
+    a: T,
+    b: T,
+    separator: u8,
+    m: U,
+    n: U,
+    format: &NumberFormat,
+)
+    requires groups { format.now.digit_grouping ≡ None }
+    requires other { IsNotAsciiAlphanumeric separator }
+    requires plus { separator ≢ 43 }
+    requires minus { separator ≢ 45 }
+    ensures first { (text : List ℕ)
+        → (IsText (T.number a) format.now then IsExactly (separator ∷ []) then IsText (U.number m) format.now) text
+        → (IsText (T.number b) format.now then IsExactly (separator ∷ []) then IsText (U.number n) format.now) text
+        → a ≡ b }
+    ensures second { (text : List ℕ)
+        → (IsText (T.number a) format.now then IsExactly (separator ∷ []) then IsText (U.number m) format.now) text
+        → (IsText (T.number b) format.now then IsExactly (separator ∷ []) then IsText (U.number n) format.now) text
+        → m ≡ n }
+{
+    text_has_no(a, format, separator);
+    text_has_no(b, format, separator);
+    equal_texts(a, b, format);
+    equal_texts(m, n, format);
+}
+
 /// A law: so are two numbers that have a text of a `ZeroPadded` in common, in a format without groups.
 pub fn common_zero_padded<T: LexicalInteger>(a: T, b: T, format: &NumberFormat, width: usize)
     requires { format.now.digit_grouping ≡ None }
     ensures { HaveInCommon (IsZeroPadded width (IsText (T.number a) format.now))
-        (IsZeroPadded width (IsText (T.number b) format.now)) → T.number a ≡ T.number b }
+        (IsZeroPadded width (IsText (T.number b) format.now)) → a ≡ b }
 {
     zero_padded_read_back(a, format, width);
     zero_padded_read_back(b, format, width);

@@ -63,8 +63,8 @@ mod zero_padded;
 pub use buffer::Buffer;
 pub use column::{Center, Left, Right};
 pub use equal::{
-    common_bytes, common_digits, common_padded, common_scientific, common_zero_padded,
-    equal_padded_pairs, padded_decides, same_parts, same_split,
+    common_bytes, common_scientific, common_zero_padded, equal_padded_pairs, equal_pairs,
+    padded_decides, same_parts, same_split,
 };
 pub use field::write_field;
 pub use fixed::{Fixed, GroupedFixed};

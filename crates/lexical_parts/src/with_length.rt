@@ -10,8 +10,8 @@ ghost use Rattle.lexical_parts.specs.Utf8.{AreUtf8};
 use crate::part::Part;
 use lexical_write_integer::padded::write_padded;
 
-/// Writes the length of a part plus `extra` in `width` digits of the radix, and then the part, and returns its length:
-/// with an `extra` of 4 in radix 16, `"done\n"` after four digits is `0009done\n`. Later bytes are unchanged. The part
+/// Writes the length of a part plus `extra` in `width` digits of the radix, and then the part, and returns its length.
+/// With an `extra` of 4 in radix 16, `"done\n"` after four digits is `0009done\n`. Later bytes are unchanged. The part
 /// must be valid, its room plus `extra` below `radix^width`, and the buffer as long as `width` and the room.
 ///
 /// ```

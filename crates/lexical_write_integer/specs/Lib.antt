@@ -15,6 +15,7 @@ pub use Rattle.lexical_write_integer.specs.Digits.PowersOfTen
 pub use Rattle.lexical_write_integer.specs.Digits.Table
 pub use Rattle.lexical_write_integer.specs.Texts.Computed
 pub use Rattle.lexical_write_integer.specs.Texts.Groups
+pub use Rattle.lexical_write_integer.specs.Texts.InCommon
 pub use Rattle.lexical_write_integer.specs.Texts.Lowercase
 pub use Rattle.lexical_write_integer.specs.Texts.Order
 pub use Rattle.lexical_write_integer.specs.Texts.Read

@@ -2,6 +2,7 @@
 pub mod Groups
 pub mod Text
 pub mod Computed
+pub mod InCommon
 pub mod Lowercase
 pub mod Order
 pub mod Sequence

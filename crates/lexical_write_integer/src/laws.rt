@@ -5,6 +5,7 @@ ghost use Rattle.std.specs.Prelude.{◌≡◌, ℕ, ◌^◌, ◌<◌, ◌≤◌,
 ghost use Rattle.lexical_num.specs.Format.{IsRadix};
 ghost use Rattle.lexical_write_integer.specs.Digits.DigitCount.{digit_count};
 ghost use Rattle.lexical_write_integer.specs.Digits.Numeral.{IsNumeral, IsNumeralOf, IsBlockOf, value_of};
+ghost use Rattle.lexical_write_integer.specs.Texts.InCommon.{HaveInCommon};
 ghost use Rattle.lexical_write_integer.specs.Texts.Order.{ComesBefore};
 ghost use Rattle.lexical_write_integer.specs.Texts.Text.{IsDigits, IsText};
 
@@ -75,15 +76,14 @@ pub fn numeral_unique(radix: u32, a: &[u8], b: &[u8])
     ensures { a.now ≡ b.now }
 {}
 
-/// A law: two numbers with the same digits in a radix are equal.
+/// A law: two numbers that have digits in a radix in common are equal.
 pub fn equal_digits(radix: u32, a: u64, b: u64)
-    ensures { (digits : List ℕ) → IsDigits radix a digits → IsDigits radix b digits → a ≡ b }
+    ensures { HaveInCommon (IsDigits radix a) (IsDigits radix b) → a ≡ b }
 {}
 
-/// A law: two numbers with the same text in a format are equal.
+/// A law: two numbers that have a text in a format in common are equal.
 pub fn equal_texts<T: LexicalInteger>(a: T, b: T, format: &NumberFormat)
-    ensures { (text : List ℕ) → IsText (T.number a) format.now text
-        → IsText (T.number b) format.now text → T.number a ≡ T.number b }
+    ensures { HaveInCommon (IsText (T.number a) format.now) (IsText (T.number b) format.now) → a ≡ b }
 {}
 
 /// A law: of two numbers that are not negative, one is smaller if and only if its text comes before

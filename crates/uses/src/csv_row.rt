@@ -24,23 +24,39 @@ pub fn write_row(numbers: &[i64; 8], buffer: &mut [u8; ROW_SIZE]) -> usize
     (Joined(numbers, ","), "\n").write_to(buffer)
 }
 
-/// Writes eight arguments as `write_row` writes an array, and returns the length of the row. With
-/// more than four signed arguments, the proof needs one line.
-pub fn write_row_of(
-    a: i64,
-    b: i64,
-    c: i64,
-    d: i64,
-    e: i64,
-    f: i64,
-    g: i64,
-    h: i64,
-    buffer: &mut [u8; ROW_SIZE],
-) -> usize
-    ensures { Writes (IsRow (a ∷ b ∷ c ∷ d ∷ e ∷ f ∷ g ∷ h ∷ []) then IsStr "\n")
+/// What a column of numbers comes to.
+#[derive(Clone, Copy, Drop)]
+pub struct Summary {
+    pub count: i64,
+    pub missing: i64,
+    pub first: i64,
+    pub last: i64,
+    pub least: i64,
+    pub greatest: i64,
+    pub median: i64,
+    pub sum: i64,
+}
+
+/// Writes the numbers of a summary as `write_row` writes an array, and returns the length of the row.
+pub fn write_summary(summary: &Summary, buffer: &mut [u8; ROW_SIZE]) -> usize
+    ensures { Writes (IsRow (summary.now.count ∷ summary.now.missing ∷ summary.now.first ∷ summary.now.last
+        ∷ summary.now.least ∷ summary.now.greatest ∷ summary.now.median ∷ summary.now.sum ∷ []) then IsStr "\n")
         buffer.old buffer.new result }
 {
-    write_row(&[a, b, c, d, e, f, g, h], buffer)
+    let Summary {
+        count,
+        missing,
+        first,
+        last,
+        least,
+        greatest,
+        median,
+        sum,
+    } = *summary;
+    write_row(
+        &[count, missing, first, last, least, greatest, median, sum],
+        buffer,
+    )
 }
 
 /// Writes the numbers in brackets, with `, ` between adjacent numbers, to the start of the buffer, and
@@ -103,13 +119,14 @@ pub fn push_entries(log: &mut Vec<u8>, numbers: &[i64]) -> Result<(), AllocError
 
 /// Writes each number and a semicolon after it to the start of the buffer, and returns the number of
 /// bytes written. The buffer must have 21 bytes for each number.
+#[tactic(auto, using(lexical_parts::proofs::Lists::written_each))]
 pub fn write_entries(numbers: &[i64], buffer: &mut [u8]) -> usize
     requires { 21 * length numbers.now ≤ length buffer.old }
     ensures { Writes (AreEach IsEntry numbers.now) buffer.old buffer.new result }
 {
     let mut count = 0;
     for number in numbers {
-        count += (*number, ";").write_to(&mut buffer[count..]);
+        count = (*number, ";").write_at(count, buffer);
     }
     count
 }

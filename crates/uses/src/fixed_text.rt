@@ -1,8 +1,10 @@
-//! Texts whose bytes the contract states as an equation.
+//! Texts whose bytes the contract states as an equation, or by words.
 
 ghost use Rattle.std.specs.Prelude.{◌≡◌, ◌<◌, ◌++◌, codes, pos};
 ghost use Rattle.lexical_num.specs.Format.{standard};
-ghost use Rattle.lexical_write_integer.specs.Computed.{digits_text, padded_text, text_of};
+ghost use Rattle.lexical_write_integer.specs.Computed.{digits_text, text_of};
+ghost use Rattle.lexical_write_integer.specs.Padded.{IsPadded};
+ghost use Rattle.lexical_parts.specs.Sequence.{◌then◌, IsStr};
 
 use lexical_parts::{Hex, Padded, Part};
 use lexical_write_integer::laws::text_computed;
@@ -25,7 +27,7 @@ pub fn million(buffer: &mut [u8; 14]) -> &[u8]
 pub fn year_month(year: u16, month: u8, buffer: &mut [u8; 7]) -> &[u8]
     requires year { year < 10000 }
     requires month { month < 100 }
-    ensures { result.now ≡ padded_text 10 4 year ++ codes "-" ++ padded_text 10 2 month }
+    ensures { (IsPadded 10 4 year then IsStr "-" then IsPadded 10 2 month) result.now }
 {
     (Padded(year, 4), "-", Padded(month, 2)).to_text(buffer)
 }

@@ -5,9 +5,10 @@ ghost use Rattle.lexical_write_integer.specs.Padded.{IsPadded};
 ghost use Rattle.lexical_write_integer.specs.Text.{IsDigits};
 ghost use Rattle.uses.specs.Link.{IsLink, IsUserLink};
 
-use lexical_parts::{Digits, PaddedDigits, Part, common_digits, common_padded, same_parts};
+use lexical_parts::{Digits, PaddedDigits, Part, same_parts};
 use lexical_write_integer::laws::{
-    different_digits, digit_count_at_most, digits_equal_iff, equal_digits, padded_order,
+    different_digits, digit_count_at_most, digits_equal_iff, equal_digits, equal_padded,
+    padded_order,
 };
 use lexical_write_integer::radix::Radix;
 use std::cmp::Ordering;
@@ -41,7 +42,7 @@ pub fn same_link(a: u64, b: u64)
     ensures { (link : List ℕ) → IsLink a link → IsLink b link → a ≡ b }
 {
     same_parts("/l/", "/l/", 3, Digits(36, a), Digits(36, b));
-    common_digits(36, a, b);
+    equal_digits(36, a, b);
 }
 
 /// A law: two users with equal links, `/u/` and eight digits in radix 36, are equal.
@@ -55,14 +56,14 @@ pub fn same_user(a: u64, b: u64)
         PaddedDigits(36, a, 8),
         PaddedDigits(36, b, 8),
     );
-    common_padded(36, 8, a, b);
+    equal_padded(36, 8, a, b);
 }
 
 /// A law: two different orders have different codes, which are their digits in radix 32.
 pub fn different_codes(a: u32, b: u32)
     ensures { a ≢ b → (code : List ℕ) → IsDigits 32 a code → ¬ (IsDigits 32 b code) }
 {
-    different_digits(32, u64::from(a), u64::from(b));
+    different_digits(32, a as u64, b as u64);
 }
 
 /// Returns whether two counters have the same identifier, which is the case if and only if they are

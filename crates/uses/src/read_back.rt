@@ -1,6 +1,7 @@
 //! Writes a number, and reads it back by `parse` or `from_str_radix` of the standard library: the result is the number.
 
-ghost use Rattle.std.specs.Prelude.{true, ◌≡◌, ◌↔◌, ◌^◌, ◌<◌, ◌∷◌, ◌++◌, [], IsTrue, List, ℕ, None, Ok, Result, pos};
+ghost use Rattle.std.specs.Prelude.{true, ◌≡◌, ◌↔◌, ◌^◌, ◌<◌, ◌∷◌, ◌++◌, [], Bool, IsTrue, List};
+ghost use Rattle.std.specs.Prelude.{ℕ, None, Ok, Result, pos};
 ghost use Rattle.lexical_num.specs.Format.{standard};
 ghost use Rattle.lexical_write_integer.specs.Read.{IsReadAsSigned, IsReadAsUnsigned, IsWithoutSeparators};
 ghost use Rattle.lexical_write_integer.specs.Sequence.{AreJoined};
@@ -9,7 +10,9 @@ ghost use Rattle.lexical_parts.specs.Fixed.{IsFixed};
 ghost use Rattle.lexical_parts.specs.Sequence.{IsDecimal};
 ghost use Rattle.lexical_parts.specs.Without.{IsWithout};
 ghost use Rattle.lexical_parts.specs.ZeroPadded.{IsZeroPadded};
+ghost use Rattle.lexical_lines.specs.declared.request.integer_type.IntegerType.{IntegerType};
 ghost use Rattle.lexical_lines.specs.Answer.{IsTextAnswer};
+ghost use Rattle.lexical_lines.specs.Request.{IsRequest};
 
 use lexical_lines::laws::answer_read_back;
 use lexical_parts::{
@@ -159,8 +162,8 @@ pub fn without_point(units: i64, decimals: usize, text: &str) -> Result<i64, Par
 
 /// Reads back what `lexwrite` answers to a line with a number that is not negative, without its newline.
 pub fn an_answer(line: &[u8], text: &str) -> Result<u64, ParseIntError>
-    ensures { (is : IsTextAnswer line.now (text.now ++ 10 ∷ [])) (n : ℕ)
-        → is.radix ≡ 10 → is.number ≡ pos n → n < 2 ^ 64 → result ≡ Ok n }
+    ensures { (kind : IntegerType) (plus : Bool) (n : ℕ) → IsRequest kind plus 10 (pos n) line.now
+        → IsTextAnswer line.now (text.now ++ 10 ∷ []) → n < 2 ^ 64 → result ≡ Ok n }
 {
     answer_read_back(line);
     text.parse::<u64>()
@@ -179,12 +182,10 @@ pub fn same_with_plus(a: i64, b: i64) -> bool
     a == b
 }
 
-/// Returns whether two rows such as `1,-2,3` have the same numbers. They have if one text is of both.
-pub fn same_row(a: &[i64], b: &[i64]) -> bool
-    ensures text { (text : List ℕ) → AreJoined (λ x. IsText x standard) (44 ∷ []) a.now text
+/// A law: two rows such as `1,-2,3` with equal texts have the same numbers.
+pub fn same_row(a: &[i64], b: &[i64])
+    ensures { (text : List ℕ) → AreJoined (λ x. IsText x standard) (44 ∷ []) a.now text
         → AreJoined (λ x. IsText x standard) (44 ∷ []) b.now text → a.now ≡ b.now }
-    ensures result { IsTrue result ↔ (a.now ≡ b.now) }
 {
     equal_rows(a, b, b',', &STANDARD);
-    a == b
 }

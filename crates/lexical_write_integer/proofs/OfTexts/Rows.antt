@@ -1,5 +1,5 @@
 -- Rows of elements whose texts have no separator: one text belongs to one row.
-use Rattle.std.proofs.Common.{◌≡◌, ℕ, ◌<◌, ◌≤◌, List, [], ◌∷◌, ◌++◌, length, length-append, map, drop, get_or, refl, sym, ap, ◌∙◌, ℤ, arith}
+use Rattle.std.proofs.Common.{◌≡◌, ℕ, ◌<◌, ◌≤◌, List, [], ◌∷◌, ◌++◌, length, length-append, drop, get_or, refl, sym, ap, ◌∙◌, ℤ, arith}
 use Rattle.std.specs.Prelude.{◌≢◌, None}
 use Rattle.std.specs.List.{All}
 use Rattle.std.specs.Char.{IsNotAsciiAlphanumeric}
@@ -13,7 +13,8 @@ use Rattle.lexical_write_integer.specs.Texts.Text.{IsText}
 use Rattle.lexical_write_integer.proofs.OfTexts.ReadTexts.{bare}
 use Rattle.lexical_write_integer.proofs.OfTexts.Separators.{digits_have_no, sign_is_none}
 
-split : (p : ℕ) (f g r q : List ℕ) → All (λ b. b ≢ p) f → All (λ b. b ≢ p) g → f ++ p ∷ r ≡ g ++ p ∷ q → (f ≡ g) × (r ≡ q)
+-- two texts without the separator, each before one and a rest
+pub split : (p : ℕ) (f g r q : List ℕ) → All (λ b. b ≢ p) f → All (λ b. b ≢ p) g → f ++ p ∷ r ≡ g ++ p ∷ q → (f ≡ g) × (r ≡ q)
 split p [] [] r q none_in_f none_in_g same = (refl, ap (drop 1) same)
 split p [] (d ∷ g) r q none_in_f none_in_g same = absurd (All-head (λ c. c ≢ p) d g none_in_g (sym (ap (λ l. get_or l 0 0) same)))
 split p (c ∷ f) [] r q none_in_f none_in_g same = absurd (All-head (λ d. d ≢ p) c f none_in_f (ap (λ l. get_or l 0 0) same))
@@ -25,15 +26,15 @@ has_one : (p : ℕ) (f r : List ℕ) → All (λ b. b ≢ p) (f ++ p ∷ r) → 
 has_one p [] r none = All-head (λ c. c ≢ p) p r none refl
 has_one p (c ∷ f) r none = has_one p f r (All-tail (λ x. x ≢ p) c (f ++ p ∷ r) none)
 
-module _ {A B : Type 0} (N : A → B) (P : A → List ℕ → Type 0) (p : ℕ)
+module _ {A : Type 0} (P : A → List ℕ → Type 0) (p : ℕ)
     (none : (x : A) (text : List ℕ) → P x text → All (λ b. b ≢ p) text)
     (some : (x : A) (text : List ℕ) → P x text → 0 < length text)
-    (one : (x y : A) (text : List ℕ) → P x text → P y text → N x ≡ N y) where
+    (one : (x y : A) (text : List ℕ) → P x text → P y text → x ≡ y) where
   -- the first text, the separator and the rest
   cut : {Q R : List ℕ → Type 0} {text : List ℕ} (t : Then Q (Then (IsExactly (p ∷ [])) R) text) → text ≡ t.first ++ p ∷ t.is_second.second
   cut t = t.whole ∙ ap (λ l. t.first ++ l) (t.is_second.whole ∙ ap (λ l. l ++ t.is_second.second) t.is_second.is_first)
 
-  pub rows : (xs ys : List A) (text : List ℕ) → AreJoined P (p ∷ []) xs text → AreJoined P (p ∷ []) ys text → map N xs ≡ map N ys
+  pub rows : (xs ys : List A) (text : List ℕ) → AreJoined P (p ∷ []) xs text → AreJoined P (p ∷ []) ys text → xs ≡ ys
   rows [] [] text a b = refl
   rows [] (y ∷ []) text a b = absurd (omega (arith, some y text b, ap length a))
   rows [] (y ∷ z ∷ ys) text a b = absurd (omega (arith, some y b.first b.is_first, ap length (sym (cut b) ∙ a), length-append b.first (p ∷ b.is_second.second)))
@@ -45,7 +46,7 @@ module _ {A B : Type 0} (N : A → B) (P : A → List ℕ → Type 0) (p : ℕ)
   rows (x ∷ w ∷ xs) (y ∷ z ∷ ys) text a b =
       let same = split p a.first b.first a.is_second.second b.is_second.second (none x a.first a.is_first) (none y b.first b.is_first) (sym (cut a) ∙ cut b) in
       let rest = rows (w ∷ xs) (z ∷ ys) b.is_second.second (rw same.1 at a.is_second.is_second) b.is_second.is_second in
-      ap (λ n. n ∷ map N (w ∷ xs)) (one x y b.first (rw same.0 at a.is_first) b.is_first) ∙ ap (λ l. N y ∷ l) rest
+      ap (λ z. z ∷ w ∷ xs) (one x y b.first (rw same.0 at a.is_first) b.is_first) ∙ ap (λ l. y ∷ l) rest
 
 pub text_none : (p : ℕ) (x : ℤ) (f : Format) (text : List ℕ) → f.digit_grouping ≡ None → IsNotAsciiAlphanumeric p → p ≢ 43 → p ≢ 45
     → f.mantissa_radix ≤ 36 → IsText x f text → All (λ b. b ≢ p) text

@@ -55,7 +55,7 @@ pub fn write_integer_counted<T: Decimal + DigitCount>(
     ensures short { result ≤ T.BITS }
     ensures notes { turns.new ≡ turns.old ++ write_notes T.BITS radix (T.magnitude value) }
     ensures turns { length turns.new ≡ length turns.old + write_turns radix result }
-    // The writer records its iterations in the counter: few in any radix, and at most 9 in radix 10.
+    // The writer records its iterations in the counter: at most 21, and in radix 10 at most 9.
     ensures few_turns { length turns.new ≤ length turns.old + 21 }
     ensures few_decimal_turns { radix ≡ 10 → length turns.new ≤ length turns.old + 9 }
 {

@@ -3,15 +3,16 @@
 ghost use Rattle.std.specs.Prelude.{◌≡◌, ◌≢◌, ◌<◌, ◌↔◌, List, ℕ};
 ghost use Rattle.lexical_num.specs.Format.{IsRadix};
 ghost use Rattle.lexical_write_integer.specs.Digits.Padded.{IsPadded};
+ghost use Rattle.lexical_write_integer.specs.Texts.InCommon.{HaveInCommon};
 ghost use Rattle.lexical_write_integer.specs.Texts.Order.{IsEarlier};
 ghost use Rattle.lexical_write_integer.specs.Texts.Text.{IsDigits, IsText};
 
 use lexical_num::format::NumberFormat;
 use lexical_num::num::LexicalInteger;
 
-/// A law: two numbers with the same text of this width in a radix, with leading zeros, are equal.
+/// A law: two numbers that have a text of this width in a radix in common, with leading zeros, are equal.
 pub fn equal_padded(radix: u32, width: usize, a: u64, b: u64)
-    ensures { (text : List ℕ) → IsPadded radix width a text → IsPadded radix width b text → a ≡ b }
+    ensures { HaveInCommon (IsPadded radix width a) (IsPadded radix width b) → a ≡ b }
 {}
 
 /// A law: different numbers have no digits in common in a radix.
@@ -26,7 +27,7 @@ pub fn different_padded(radix: u32, width: usize, a: u64, b: u64)
 
 /// A law: different numbers have no text in common in a format.
 pub fn different_texts<T: LexicalInteger>(a: T, b: T, format: &NumberFormat)
-    ensures { T.number a ≢ T.number b → (text : List ℕ) → IsText (T.number a) format.now text
+    ensures { a ≢ b → (text : List ℕ) → IsText (T.number a) format.now text
         → ¬ (IsText (T.number b) format.now text) }
 {}
 
@@ -42,7 +43,7 @@ pub fn digits_equal_iff(radix: u32, a: u64, b: u64, s: &[u8], t: &[u8])
 pub fn texts_equal_iff<T: LexicalInteger>(a: T, b: T, format: &NumberFormat, s: &[u8], t: &[u8])
     requires s { IsText (T.number a) format.now s.now }
     requires t { IsText (T.number b) format.now t.now }
-    ensures { (s.now ≡ t.now) ↔ (T.number a ≡ T.number b) }
+    ensures { (s.now ≡ t.now) ↔ (a ≡ b) }
 {
     format.in_range();
 }

@@ -1,9 +1,10 @@
 //! Laws on texts that std reads back. Std reads no separators, so these are first left out of texts in groups.
 
-ghost use Rattle.std.specs.Prelude.{◌≡◌, ◌≤◌, List, None, ℕ, pos};
+ghost use Rattle.std.specs.Prelude.{◌≡◌, ◌≤◌, None, pos};
 ghost use Rattle.lexical_num.specs.Format.{IsRadix};
 ghost use Rattle.lexical_write_integer.specs.Digits.Padded.{IsPadded};
 ghost use Rattle.lexical_write_integer.specs.Texts.Groups.{without_separators};
+ghost use Rattle.lexical_write_integer.specs.Texts.InCommon.{HaveInCommon};
 ghost use Rattle.lexical_write_integer.specs.Texts.Read.{AreReadAs, IsWithoutSeparators};
 ghost use Rattle.lexical_write_integer.specs.Texts.Text.{IsDigits, IsText};
 
@@ -38,7 +39,7 @@ pub fn equal_across_formats<T: LexicalInteger, U: LexicalInteger>(
     requires plain { format.now.digit_grouping ≡ None }
     requires bare { other.now.digit_grouping ≡ None }
     requires radix { format.now.mantissa_radix ≡ other.now.mantissa_radix }
-    ensures { (text : List ℕ) → IsText (T.number a) format.now text → IsText (U.number b) other.now text
+    ensures { HaveInCommon (IsText (T.number a) format.now) (IsText (U.number b) other.now)
         → T.number a ≡ U.number b }
 {
     text_read_back(a, format);

@@ -1,6 +1,6 @@
 //! A law on rows of numbers.
 
-ghost use Rattle.std.specs.Prelude.{◌≡◌, ◌≢◌, ◌∷◌, [], List, None, ℕ, map};
+ghost use Rattle.std.specs.Prelude.{◌≡◌, ◌≢◌, ◌∷◌, [], List, None, ℕ};
 ghost use Rattle.std.specs.Char.{IsNotAsciiAlphanumeric};
 ghost use Rattle.lexical_write_integer.specs.Texts.Sequence.{AreJoined};
 ghost use Rattle.lexical_write_integer.specs.Texts.Text.{IsText};
@@ -17,7 +17,7 @@ pub fn equal_rows<T: LexicalInteger>(a: &[T], b: &[T], separator: u8, format: &N
     requires minus { separator ≢ 45 }
     ensures { (text : List ℕ) → AreJoined (λ x. IsText (T.number x) format.now) (separator ∷ []) a.now text
         → AreJoined (λ x. IsText (T.number x) format.now) (separator ∷ []) b.now text
-        → map (λ x. T.number x) a.now ≡ map (λ x. T.number x) b.now }
+        → a.now ≡ b.now }
 {
     format.in_range();
 }

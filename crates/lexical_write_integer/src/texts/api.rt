@@ -145,7 +145,8 @@ pub trait ToLexicalWithOptions: ToLexical {
 
     /// Writes the number as `write_lexical_with_options` does, under the same condition, and returns
     /// its text: a mutable slice of the first bytes of the buffer. What the caller then writes to the
-    /// slice changes those bytes, and every other byte of the buffer is unchanged.
+    /// slice changes those bytes, and every other byte of the buffer is unchanged. Without its
+    /// separators the text is that in the format without groups.
     final fn to_lexical_with_options<'a>(
         self,
         buffer: &'a mut [u8],

@@ -7,7 +7,7 @@ use lexical_parts::{
 };
 use lexical_write_integer::NumberFormatBuilder;
 use lexical_write_integer::laws::digit_count_at_most;
-use uses::csv_row::{try_write_list, write_entries, write_row, write_row_of};
+use uses::csv_row::{Summary, try_write_list, write_entries, write_row, write_summary};
 use uses::date_time::DateTime;
 use uses::key_value::try_write_setting;
 use uses::reading::write_reading;
@@ -144,7 +144,17 @@ fn rows_of_numbers(rt: HostRuntime) {
     let count = write_row(&[-1, 0, 23, 4, 5, 6, 7, 8], &mut buffer);
     check_buffer(&rt, &buffer, count, b"-1,0,23,4,5,6,7,8\n");
     let mut buffer = [7; 168];
-    let count = write_row_of(9, -8, 7, 6, 5, 4, 3, 2, &mut buffer);
+    let summary = Summary {
+        count: 9,
+        missing: -8,
+        first: 7,
+        last: 6,
+        least: 5,
+        greatest: 4,
+        median: 3,
+        sum: 2,
+    };
+    let count = write_summary(&summary, &mut buffer);
     check_buffer(&rt, &buffer, count, b"9,-8,7,6,5,4,3,2\n");
 }
 

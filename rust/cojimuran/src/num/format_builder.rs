@@ -110,8 +110,8 @@ impl NumberFormatBuilder {
     ///
     /// # Errors
     ///
-    /// An error that names the first invalid part: the mantissa radix is checked first, then the
-    /// exponent radix, then the group size, then the separator.
+    /// The error names the first invalid part: the mantissa radix is checked first, then the exponent
+    /// radix, then the group size, then the separator.
     #[inline]
     pub const fn build(&self) -> Result<NumberFormat> {
         if !is_radix(self.parts.mantissa_radix as u64) {

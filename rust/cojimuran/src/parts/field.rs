@@ -4,8 +4,8 @@
 
 use crate::parts::part::Part;
 
-/// Writes a part, each of whose texts has `count` bytes, to the field of this length at the index. No other
-/// byte of the buffer changes. The part must be valid, and the buffer must have the field.
+/// Writes a part whose texts all have `count` bytes to the field of this length at the index. No other byte of
+/// the buffer changes. The part must be valid, and the buffer must have the field.
 ///
 /// ```
 /// use cojimuran::parts::{PaddedDigits, write_field};

@@ -1,5 +1,5 @@
 //! Counts the instructions of a number with valgrind, beside other crates: `cargo run --release`. With `-- --by-digits` it
-//! counts decimal and radix 36 by the number of digits, as `../draw` takes it.
+//! counts decimal and radix 36 by the number of digits, as `docs/figures/draw` takes it.
 
 use cojimuran::parts::{Decimal, Digits, Hex, Part};
 use cojimuran::{Buffer, NumberFormat, NumberFormatBuilder, Options, ToLexical, ToLexicalWithOptions};

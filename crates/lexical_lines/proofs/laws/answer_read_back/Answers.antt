@@ -1,14 +1,20 @@
-use Rattle.std.proofs.Common.{◌∙◌, ◌∷◌, [], refl, sym}
+use Rattle.std.proofs.Common.{◌∙◌, ◌∷◌, ◌++◌, [], refl}
 use Rattle.std.proofs.lemmas.List.{append_cancel_right}
+use Rattle.lexical_write_integer.specs.Text.{IsText}
 use Rattle.lexical_write_integer.proofs.OfTexts.ReadTexts.{are_read, bare, digits_read}
+use Rattle.lexical_lines.specs.Answer.{WithNewline}
+use Rattle.lexical_lines.specs.Request.{requested_format}
+use Rattle.lexical_lines.proofs.UniqueAnswers.{IsRequest-unique}
 use Rattle.lexical_lines.proofs.laws.answer_read_back.Goals as goal
 
 pub returns : goal.returns
-returns c = λ answer is.
-    let few = is.request.radix_valid.at_most_36 in
-    let written = is.text.1 in
-    are_read _ _ is.plus few _ (λ text e. record {
-      digits = written.digits;
-      whole = append_cancel_right text is.text.0 (10 ∷ []) (sym e ∙ is.text.2) ∙ bare _ _ _ refl written;
-      read = digits_read _ _ written.digits few written.magnitude;
+returns c = λ kind plus radix number request.
+    let few = request.radix_valid.at_most_36 in
+    are_read _ _ plus few _ (λ text is.
+    let same = IsRequest-unique request is.request in
+    let written : WithNewline (IsText number (requested_format radix plus)) (text ++ 10 ∷ []) = rw (same.0, same.1, same.2) is.text in
+    record {
+      digits = written.1.digits;
+      whole = append_cancel_right text written.0 (10 ∷ []) written.2 ∙ bare _ _ _ refl written.1;
+      read = digits_read _ _ written.1.digits few written.1.magnitude;
     })

@@ -7,7 +7,7 @@ pub returns : goal.returns
 returns g c =
     let number = g.T.LexicalInteger.number in
     let f = c.args.format.now in
-    rows number (λ x. IsText (number x) f) c.args.separator
+    rows (λ x. IsText (number x) f) c.args.separator
     (λ x text. text_none _ (number x) f text c.requires.groups c.requires.other c.requires.plus c.requires.minus c.in_range.ensures.mantissa.at_most_36)
     (λ x text. text_some (number x) f text c.requires.groups)
-    (λ x y. equal_from_IsText (number x) (number y) f) _ _
+    (λ x y text p q. g.met.T.LexicalInteger.equal_by_number x y (equal_from_IsText (number x) (number y) f text p q)) _ _
