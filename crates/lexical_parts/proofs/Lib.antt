@@ -34,6 +34,8 @@ pub mod GroupedUnits
 pub mod ShownNumbers
 -- texts in format strings, one after another
 pub mod ShownParts
+-- the lemmas that a caller's crate names once
+pub mod Callers
 -- what equal texts in a row have in common
 pub mod Splits
 -- texts of equal widths with separators between them

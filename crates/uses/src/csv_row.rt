@@ -107,7 +107,6 @@ pub fn try_write_rows(rows: &[Row<'_>], buffer: &mut [u8]) -> Option<usize>
 
 /// Adds each number and a semicolon after it to the end of the log, or returns an error if memory runs
 /// out.
-#[tactic(auto, using(lexical_parts::proofs::Lists::added_each))]
 pub fn push_entries(log: &mut Vec<u8>, numbers: &[i64]) -> Result<(), AllocError>
     ensures { OnOk result ((IsExactly log.old.items then AreEach IsEntry numbers.now) log.new.items) }
 {
@@ -119,7 +118,6 @@ pub fn push_entries(log: &mut Vec<u8>, numbers: &[i64]) -> Result<(), AllocError
 
 /// Writes each number and a semicolon after it to the start of the buffer, and returns the number of
 /// bytes written. The buffer must have 21 bytes for each number.
-#[tactic(auto, using(lexical_parts::proofs::Lists::written_each))]
 pub fn write_entries(numbers: &[i64], buffer: &mut [u8]) -> usize
     requires { 21 * length numbers.now ≤ length buffer.old }
     ensures { Writes (AreEach IsEntry numbers.now) buffer.old buffer.new result }

@@ -38,7 +38,6 @@ pub fn float_format(mantissa_radix: u8, exponent_radix: u8) -> Result<NumberForm
 /// exponent in the exponent radix to the start of the buffer, and returns the number of bytes
 /// written. The bytes after them are unchanged. The buffer must have room for 97 bytes, which is less
 /// than `BUFFER_SIZE`.
-#[tactic(auto, using(lexical_write_integer::proofs::Sequences::in_order))]
 pub fn write_parts(
     mantissa: u64,
     mark: u8,
@@ -66,7 +65,6 @@ pub fn write_float(sign: i8, digits: u64, exponent: i32, buffer: &mut [u8; 34]) 
 }
 
 /// A law: two floats with equal texts are equal.
-#[tactic(auto, using(lexical_write_integer::proofs::Sequences::in_order))]
 pub fn same_float(digits: u64, exponent: i32, other_digits: u64, other_exponent: i32)
     ensures { (text : List ℕ) → IsScientific (pos digits) exponent text
         → IsScientific (pos other_digits) other_exponent text

@@ -1,6 +1,6 @@
 //! Examples of callers. Each module writes something that a program may need, and is proved from
 //! nothing but the contracts of the functions that it calls.
-#![tactic(auto)]
+#![tactic(auto, using(lexical_parts::proofs::Callers::callers))]
 
 pub mod accounted;
 pub mod addresses;

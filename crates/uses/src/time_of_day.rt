@@ -22,7 +22,6 @@ fn write_two(number: u32, time: &mut [u8]) -> usize
 
 /// Writes the time, such as `07:05Z`, to the array, and returns its length. The argument is the number of
 /// minutes since midnight, below 1440.
-#[tactic(auto, using(lexical_write_integer::proofs::Sequences::in_order))]
 pub fn write_time(minutes: u32, time: &mut [u8; 6]) -> usize
     requires { minutes < 1440 }
     ensures { Writes (((IsPadded 10 2 (minutes / 60) then IsStr ":") then IsPadded 10 2 (minutes % 60))

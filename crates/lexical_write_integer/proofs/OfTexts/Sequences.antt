@@ -21,15 +21,6 @@ written_then IsFirst IsSecond before between part count room more a b = record {
 -- signed number is the whole number that contracts see
 pub ruleset in_order = (written_then, to_z-of_z)
 
--- `Then` is associative: three texts that are written one after another are the texts of a tuple of three
-pub then_assoc : {A B C : List ℕ → Type 0} {text : List ℕ} → Then (Then A B) C text → Then A (Then B C) text
-then_assoc is = grind (arith, append_assoc)
-
--- what calls write one after another is what one call writes for a tuple
-pub written_as_tuple : {A B C : List ℕ → Type 0} {before after : List ℕ} {count : ℕ} →
-    Writes (Then (Then A B) C) before after count → Writes (Then A (Then B C)) before after count
-written_as_tuple w = record { text = w.text; is = then_assoc w.is; front = w.front; count = w.count }
-
 -- a text is written in the first bytes only: for a caller that passes `write_padded` a slice of exactly the width
 pub written_first : (Is : List ℕ → Type 0) (before part : List ℕ) (count room : ℕ)
     → Writes Is (take room before) part count → Writes Is before (part ++ drop room before) count
