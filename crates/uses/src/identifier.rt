@@ -38,25 +38,25 @@ pub fn link(counter: u64, buffer: &mut [u8; 16]) -> &str
 }
 
 /// A law: two counters with equal links are equal.
-pub fn same_link(a: u64, b: u64)
-    ensures { (link : List ℕ) → IsLink a link → IsLink b link → a ≡ b }
+pub fn same_link(first: u64, second: u64)
+    ensures { (link : List ℕ) → IsLink first link → IsLink second link → first ≡ second }
 {
-    same_parts("/l/", "/l/", 3, Digits(36, a), Digits(36, b));
-    equal_digits(36, a, b);
+    same_parts("/l/", "/l/", 3, Digits(36, first), Digits(36, second));
+    equal_digits(36, first, second);
 }
 
 /// A law: two users with equal links, `/u/` and eight digits in radix 36, are equal.
-pub fn same_user(a: u64, b: u64)
-    ensures { (link : List ℕ) → IsUserLink a link → IsUserLink b link → a ≡ b }
+pub fn same_user(first: u64, second: u64)
+    ensures { (link : List ℕ) → IsUserLink first link → IsUserLink second link → first ≡ second }
 {
     same_parts(
         "/u/",
         "/u/",
         3,
-        PaddedDigits(36, a, 8),
-        PaddedDigits(36, b, 8),
+        PaddedDigits(36, first, 8),
+        PaddedDigits(36, second, 8),
     );
-    equal_padded(36, 8, a, b);
+    equal_padded(36, 8, first, second);
 }
 
 /// A law: two different orders have different codes, which are their digits in radix 32.
