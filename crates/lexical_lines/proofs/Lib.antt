@@ -19,3 +19,5 @@ pub mod Writers
 -- texts in a buffer, and texts with a separator between them
 pub mod Buffers
 pub mod Joins
+-- the lemmas that a caller's crate names once
+pub mod Callers

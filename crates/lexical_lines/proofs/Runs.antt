@@ -5,13 +5,12 @@ use Rattle.std.specs.List.{All}
 use Rattle.std.proofs.lemmas.List.Elements.{All-nil, All-cons, All-head, All-tail, All-push}
 use Rattle.lexical_lines.specs.declared.answer.answerer.Answerer.{Answerer}
 use Rattle.lexical_lines.specs.Answer.{IsAnswer, AreAnswers, AreAnswersFrom, AnswersAll, AnswersEnded}
-use Rattle.lexical_lines.specs.Answerer.{HasAnswered}
+use Rattle.lexical_lines.specs.Answerer.{AnswererState}
 use Rattle.lexical_lines.specs.Line.{short_line}
 use Rattle.lexical_lines.specs.Lines.{AreLines, EndsLine, NoNewline}
 use Rattle.lexical_lines.specs.Request.{IsValidLine}
-use Rattle.lexical_lines.specs.RunOutcome.{added, BreaksOff}
+use Rattle.lexical_lines.specs.RunOutcome.{BreaksOff}
 use Rattle.lexical_lines.specs.Sink.{IsBeginning}
-use Rattle.lexical_lines.proofs.Added.{added-is}
 use Rattle.lexical_lines.proofs.Requests.{short_line-is}
 use Rattle.lexical_lines.proofs.Lines.{IsCut-more, IsCut-newline, AreLines-ended, AreLines-newline, AreLines-rest, AreLines-unique}
 use Rattle.std.proofs.lemmas.List.{append-nil}
@@ -49,11 +48,11 @@ BreaksOff-as : {was is : Bool} {bytes read put : List ℕ} → IsTrue is ⊎ End
     → BreaksOff was bytes put → BreaksOff is read put
 BreaksOff-as line_end same h = grind arith
 
-module _ {before bytes taken : List ℕ} {answerer : Answerer} (h : HasAnswered before bytes taken answerer) where
-  pub answers_after : (answer : List ℕ) → IsAnswer answerer.line_number h.rest answer → AreAnswers (h.ended ++ h.rest ∷ []) (h.answers ++ answer)
+module _ {bytes written : List ℕ} {answerer : Answerer} (h : AnswererState bytes written answerer) where
+  pub answers_after : (answer : List ℕ) → IsAnswer answerer.line_number h.rest answer → AreAnswers (h.ended ++ h.rest ∷ []) (written ++ answer)
   answers_after answer is =
       let here : length h.ended + 1 ≡ 1 + length h.ended = omega arith in
-      AreAnswersFrom-push 1 h.ended h.answers h.rest answer h.answered
+      AreAnswersFrom-push 1 h.ended written h.rest answer h.answered
       (rw here at (IsAnswer-counted (length h.ended + 1) answerer.line_number h.rest answer h.number is))
 
   pub valid_after : (is_valid : Bool) → (IsTrue is_valid ↔ IsValidLine h.rest)
@@ -62,36 +61,28 @@ module _ {before bytes taken : List ℕ} {answerer : Answerer} (h : HasAnswered 
       let both = and_iff answerer.all_valid is_valid (All IsValidLine h.ended) (IsValidLine h.rest) h.valid valid in
       (λ e. let parts = both.0 e in All-push IsValidLine h.ended h.rest parts.0 parts.1, λ all. both.1 (All-push_iff IsValidLine h.ended h.rest all))
 
-  pub taken_after : (after answer : List ℕ) → after ≡ taken ++ answer → after ≡ before ++ (h.answers ++ answer)
-  taken_after after answer e = e ∙ ap (λ xs. xs ++ answer) h.whole ∙ append_assoc before h.answers answer
-
   -- more bytes of a line
-  abbrev pub HasAnswered-more : (more : List ℕ) (next : Answerer) → NoNewline more → next.line ≡ short_line (h.rest ++ more)
-      → next.line_number ≡ answerer.line_number → next.all_valid ≡ answerer.all_valid → HasAnswered before (bytes ++ more) taken next
-  HasAnswered-more more next inside line number valid = record {
+  abbrev pub AnswererState-more : (more : List ℕ) (next : Answerer) → NoNewline more → next.line ≡ short_line (h.rest ++ more)
+      → next.line_number ≡ answerer.line_number → next.all_valid ≡ answerer.all_valid → AnswererState (bytes ++ more) written next
+  AnswererState-more more next inside line number valid = record {
     ended = h.ended;
     rest = h.rest ++ more;
-    answers = h.answers;
     cut = IsCut-more more inside h.cut;
     answered = h.answered;
-    whole = h.whole;
     number = number ∙ h.number;
     valid = rw (sym valid) at h.valid;
     last = line;
   }
 
   -- a line has ended and is answered
-  pub HasAnswered-line : (put answer : List ℕ) (next : Answerer) (is_valid : Bool) → put ≡ taken ++ answer
-      → IsAnswer answerer.line_number h.rest answer → (IsTrue is_valid ↔ IsValidLine h.rest)
-      → next.line ≡ short_line [] → next.line_number ≡ min (answerer.line_number + 1) (2 ^ 64 - 1)
-      → next.all_valid ≡ (answerer.all_valid && is_valid) → HasAnswered before (bytes ++ 10 ∷ []) put next
-  HasAnswered-line put answer next is_valid e is valid line number all = record {
+  pub AnswererState-line : (answer : List ℕ) (next : Answerer) (is_valid : Bool) → IsAnswer answerer.line_number h.rest answer
+      → (IsTrue is_valid ↔ IsValidLine h.rest) → next.line ≡ short_line [] → next.line_number ≡ min (answerer.line_number + 1) (2 ^ 64 - 1)
+      → next.all_valid ≡ (answerer.all_valid && is_valid) → AnswererState (bytes ++ 10 ∷ []) (written ++ answer) next
+  AnswererState-line answer next is_valid is valid line number all = record {
     ended = h.ended ++ h.rest ∷ [];
     rest = [];
-    answers = h.answers ++ answer;
     cut = IsCut-newline h.cut;
     answered = answers_after answer is;
-    whole = taken_after put answer e;
     number = omega (arith, number, h.number, length-append h.ended (h.rest ∷ []));
     valid = rw (sym all) at (valid_after is_valid valid);
     last = line;
@@ -99,32 +90,29 @@ module _ {before bytes taken : List ℕ} {answerer : Answerer} (h : HasAnswered 
 
   -- ---- the end of the input
 
-  pub answers_are : added before taken ≡ h.answers
-  answers_are = added-is before taken h.answers h.whole
-
   -- the lines that ended are answered
-  pub answers_ended : AnswersEnded bytes (added before taken)
-  answers_ended = (h.ended, h.rest, h.cut, rw (sym answers_are) at h.answered)
+  pub answers_ended : AnswersEnded bytes written
+  answers_ended = (h.ended, h.rest, h.cut, h.answered)
 
   -- if the answerer keeps no bytes, these are all lines
-  pub answers_at_newline : answerer.line ≡ short_line [] → AnswersAll bytes (added before taken)
-  answers_at_newline none = (h.ended, AreLines-ended h.cut (short_line-is (sym none ∙ h.last)), rw (sym answers_are) at h.answered)
+  pub answers_at_newline : answerer.line ≡ short_line [] → AnswersAll bytes written
+  answers_at_newline none = record { lines = h.ended; cut = AreLines-ended h.cut (short_line-is (sym none ∙ h.last)); answered = h.answered }
 
   -- the sink failed during the answer to the line that a newline ends
   pub BreaksOff-line : (answer part : List ℕ) → IsAnswer answerer.line_number h.rest answer → IsBeginning part answer
-      → BreaksOff false (bytes ++ 10 ∷ []) (added before (taken ++ part))
+      → BreaksOff false (bytes ++ 10 ∷ []) (written ++ part)
   BreaksOff-line answer part is begins = record {
     line_end = inr (bytes, refl);
     front = h.ended;
     last = h.rest;
-    answers = h.answers;
+    answers = written;
     part = part;
     answer = answer;
     cut = AreLines-ended (IsCut-newline h.cut) refl;
     answered = h.answered;
     last_answer = IsAnswer-counted (length h.ended + 1) answerer.line_number h.rest answer h.number is;
     beginning = begins;
-    whole = added-is before (taken ++ part) (h.answers ++ part) (taken_after (taken ++ part) part refl);
+    whole = refl;
   }
 
   -- ---- bytes after the last newline, whose answer is that to the line that a newline would end
@@ -133,10 +121,9 @@ module _ {before bytes taken : List ℕ} {answerer : Answerer} (h : HasAnswered 
   lines_at_rest some are = rw (AreLines-unique _ _ _ are (AreLines-ended (IsCut-newline h.cut) refl))
       (AreLines-rest h.cut (λ empty. some (h.last ∙ ap short_line empty)))
 
-  pub answers_at_rest : {put : List ℕ} {next : Answerer} → (answerer.line ≡ short_line [] → ⊥) → HasAnswered before (bytes ++ 10 ∷ []) put next
-      → AnswersAll bytes (added before put)
-  answers_at_rest some k =
-      (k.ended, lines_at_rest some (AreLines-newline bytes k.cut), rw (sym (added-is _ _ k.answers k.whole)) at k.answered)
+  pub answers_at_rest : {put : List ℕ} {next : Answerer} → (answerer.line ≡ short_line [] → ⊥) → AnswererState (bytes ++ 10 ∷ []) put next
+      → AnswersAll bytes put
+  answers_at_rest some k = record { lines = k.ended; cut = lines_at_rest some (AreLines-newline bytes k.cut); answered = k.answered }
 
   pub BreaksOff-rest : {put : List ℕ} → (answerer.line ≡ short_line [] → ⊥) → BreaksOff false (bytes ++ 10 ∷ []) put → BreaksOff true bytes put
   BreaksOff-rest some broke = BreaksOff-as (inl refl) (λ all. lines_at_rest some) broke

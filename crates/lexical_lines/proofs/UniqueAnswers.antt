@@ -61,8 +61,8 @@ AreAnswersFrom-unique i (line ∷ all) a b (x, xs, is, more, whole) (y, ys, is',
     ∙ ap (λ rest. y ++ rest) (AreAnswersFrom-unique (i + 1) all xs ys more more') ∙ sym whole'
 
 pub AnswersAll-unique : (bytes a b : List ℕ) → AnswersAll bytes a → AnswersAll bytes b → a ≡ b
-AnswersAll-unique bytes a b (all, are, answers) (other, also, others) =
-    AreAnswersFrom-unique 1 all a b answers (let same = AreLines-unique bytes other all also are in rw same at others)
+AnswersAll-unique bytes a b p q =
+    AreAnswersFrom-unique 1 p.lines a b p.answered (let same = AreLines-unique bytes q.lines p.lines q.cut p.cut in rw same at q.answered)
 
 -- ---- answers that broke off are a prefix of the answers to the whole input
 
@@ -86,9 +86,9 @@ lines_before is_ended bytes left all lines none (inr ends) p q =
 
 pub BreaksOff-begins : (is_ended : Bool) (bytes left put text : List ℕ) → (IsTrue is_ended → left ≡ [])
     → BreaksOff is_ended bytes put → AnswersAll (bytes ++ left) text → IsBeginning put text
-BreaksOff-begins is_ended bytes left put text none broke (all, are, answers) =
-    let (others, lines) = lines_before is_ended bytes left all (broke.front ++ broke.last ∷ []) none broke.line_end broke.cut are in
-    let (first, more, answered, whole) = AreAnswersFrom-split 1 (broke.front ++ broke.last ∷ []) others text (rw lines at answers) in
+BreaksOff-begins is_ended bytes left put text none broke all =
+    let (others, lines) = lines_before is_ended bytes left all.lines (broke.front ++ broke.last ∷ []) none broke.line_end broke.cut all.cut in
+    let (first, more, answered, whole) = AreAnswersFrom-split 1 (broke.front ++ broke.last ∷ []) others text (rw lines at all.answered) in
     let here : length broke.front + 1 ≡ 1 + length broke.front = omega arith in
     let same = AreAnswersFrom-unique 1 (broke.front ++ broke.last ∷ []) first (broke.answers ++ broke.answer) answered
     (AreAnswersFrom-push 1 broke.front broke.answers broke.last broke.answer broke.answered (rw here at broke.last_answer)) in
@@ -104,8 +104,8 @@ BreaksOff-begins is_ended bytes left put text none broke (all, are, answers) =
 
 -- the answers to the lines that ended are a prefix of the answers to a longer input
 pub AnswersEnded-begins : (bytes more put text : List ℕ) → AnswersEnded bytes put → AnswersAll (bytes ++ more) text → (rest : List ℕ) × (text ≡ put ++ rest)
-AnswersEnded-begins bytes more put text (ended, rest, cut, answered) (all, are, answers) =
+AnswersEnded-begins bytes more put text (ended, rest, cut, answered) all =
     let (others, lines) = AreLines-longer more cut in
-    let same = AreLines-unique (bytes ++ more) all (ended ++ others) are lines in
-    let (first, last, answer, whole) = AreAnswersFrom-split 1 ended others text (rw same at answers) in
+    let same = AreLines-unique (bytes ++ more) all.lines (ended ++ others) all.cut lines in
+    let (first, last, answer, whole) = AreAnswersFrom-split 1 ended others text (rw same at all.answered) in
     (last, whole ∙ ap (λ front. front ++ last) (AreAnswersFrom-unique 1 ended first put answer answered))

@@ -22,6 +22,10 @@ pub record IsTextAnswer (line answer : List ℕ) : Type 0 where
   pub request : IsRequest kind plus radix number line
   pub text : WithNewline (IsText number (requested_format radix plus)) answer
 
+-- the line is valid, and its answer is this text and a newline
+unfoldable pub HasAnswer : List ℕ → List ℕ → Type 0
+HasAnswer line text = IsTextAnswer line (text ++ 10 ∷ [])
+
 -- the line is not valid, and the answer names its number, or the largest number of 64 bits if that is less
 pub record IsBadAnswer (i : ℕ) (line answer : List ℕ) : Type 0 where
   pub bad : IsValidLine line → ⊥
@@ -43,8 +47,10 @@ abbrev pub AreAnswers : List (List ℕ) → List ℕ → Type 0
 AreAnswers lines text = AreAnswersFrom 1 lines text
 
 -- the text is the answers to all lines of the input
-abbrev pub AnswersAll : List ℕ → List ℕ → Type 0
-AnswersAll bytes text = (all : List (List ℕ)) × AreLines bytes all × AreAnswers all text
+pub record AnswersAll (bytes text : List ℕ) : Type 0 where
+  pub lines : List (List ℕ)
+  pub cut : AreLines bytes lines
+  pub answered : AreAnswers lines text
 
 -- the text is the answers to the lines of the input that end with a newline
 abbrev pub AnswersEnded : List ℕ → List ℕ → Type 0

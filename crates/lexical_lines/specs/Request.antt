@@ -34,6 +34,10 @@ abbrev pub IsValidLine : List ℕ → Type 0
 IsValidLine line =
     (kind : IntegerType) × (plus : Bool) × (radix : ℕ) × (number : ℤ) × IsRequest kind plus radix number line
 
+-- the line requests this number in this radix, at some type, and with or without the `+`
+unfoldable pub IsRequestFor : ℕ → ℤ → List ℕ → Type 0
+IsRequestFor radix number line = (kind : IntegerType) × (plus : Bool) × IsRequest kind plus radix number line
+
 -- the number that a request stores
 abbrev pub number_of : Number → ℤ
 number_of (Unsigned magnitude) = pos magnitude

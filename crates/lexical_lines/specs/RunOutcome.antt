@@ -10,8 +10,10 @@ abbrev pub added : List ℕ → List ℕ → List ℕ
 added before after = drop (length before) after
 
 -- `all_valid` is whether all lines of the input are valid
-abbrev pub ReportsAllValid : List ℕ → Bool → Type 0
-ReportsAllValid bytes all_valid = (all : List (List ℕ)) × AreLines bytes all × (IsTrue all_valid ↔ All IsValidLine all)
+pub record ReportsAllValid (bytes : List ℕ) (all_valid : Bool) : Type 0 where
+  pub lines : List (List ℕ)
+  pub cut : AreLines bytes lines
+  pub valid : IsTrue all_valid ↔ All IsValidLine lines
 
 -- the input was read to the end of a line. What was written is the answers to all its lines except the last, and then a
 -- proper prefix of the answer to the last

@@ -1,12 +1,11 @@
 //! Laws about lines and their answers. Each contract is a law over the definitions: a caller calls the
 //! function to use the law.
 
-ghost use Rattle.std.specs.Prelude.{◌≡◌, ◌∷◌, ◌++◌, [], Bool, List, ℕ, ℤ};
+ghost use Rattle.std.specs.Prelude.{◌≡◌, List, ℕ, ℤ};
 ghost use Rattle.lexical_write_integer.specs.Read.{AreReadAs};
-ghost use Rattle.lexical_lines.specs.declared.request.integer_type.IntegerType.{IntegerType};
-ghost use Rattle.lexical_lines.specs.Answer.{AnswersAll, IsTextAnswer};
+ghost use Rattle.lexical_lines.specs.Answer.{AnswersAll, HasAnswer};
 ghost use Rattle.lexical_lines.specs.Lines.{AreLines};
-ghost use Rattle.lexical_lines.specs.Request.{IsRequest};
+ghost use Rattle.lexical_lines.specs.Request.{IsRequestFor};
 
 /// A law: every input is cut into lines in exactly one way. This function does nothing.
 pub fn lines_unique(input: &[u8])
@@ -24,7 +23,6 @@ pub fn answers_unique(input: &[u8], a: &[u8], b: &[u8])
 /// A law: if a line requests a number in a radix, std reads its answer, without the newline, back as that number, at
 /// each type that has the number. In radix 10 `parse` does the same. This function does nothing.
 pub fn answer_read_back(line: &[u8])
-    ensures { (kind : IntegerType) (plus : Bool) (radix : ℕ) (number : ℤ)
-        → IsRequest kind plus radix number line.now
-        → AreReadAs radix number (λ text. IsTextAnswer line.now (text ++ 10 ∷ [])) }
+    ensures { (radix : ℕ) (number : ℤ) → IsRequestFor radix number line.now
+        → AreReadAs radix number (HasAnswer line.now) }
 {}

@@ -10,13 +10,17 @@ use Rattle.lexical_lines.specs.Source.{reads_end}
 use Rattle.lexical_lines.specs.Stream.{still-told}
 use Rattle.lexical_lines.proofs.Added.{added-is}
 use Rattle.lexical_lines.proofs.Readers.{still-at_end}
-use Rattle.lexical_streams.specs.StreamAnswers.{Yields, HandedAll, IsUnderWay}
+use Rattle.lexical_streams.specs.StreamAnswers.{Yields, HandedAll, IsUnderWay, bytes_put}
 
 -- ---- the bytes of the writer
 
 -- if all bytes that the writer has taken are written and flushed, the sink contains them
 pub handed-all : (c d : BlockWriting) → TakesMore c d → IsFlushed d → HandedAll c d
 handed-all c d kept flushed = grind (arith, append_cancel_left, append-nil, added-is, append_assoc)
+
+-- the writer took more bytes, and then some more
+pub put-more : {c d e : BlockWriting} → TakesMore c d → TakesMore d e → bytes_put c e ≡ bytes_put c d ++ bytes_put d e
+put-more p q = grind (arith, added-is, append_assoc)
 
 -- ---- the bytes of the source
 

@@ -62,4 +62,4 @@ OneFailed failures is_ended read c d = ReadFailed failures read c d ⊎ WriteFai
 pub record IsUnderWay (failures : ℕ) (read : List ℕ) (c d : BlockWriting) (answerer : Answerer) : Type 0 where
   pub no_failure : (failures ≡ 0) × (d.failures ≡ 0)
   pub written : TakesMore c d
-  pub answered : HasAnswered (taken c) read (taken d) answerer
+  pub answered : HasAnswered read (bytes_put c d) answerer

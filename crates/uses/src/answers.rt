@@ -1,4 +1,5 @@
 //! Collects the answers to lines in a vector.
+#![tactic(auto, using(lexical_lines::proofs::Callers::callers))]
 
 ghost use Rattle.std.specs.Prelude.{◌≡◌, ◌⊎◌, List, ℕ, ◌+◌, ◌++◌, IfOk, IsTrue, OnErr, OnOk};
 ghost use Rattle.lexical_lines.specs.Answer.{AnswersAll};
@@ -11,7 +12,6 @@ use std::io;
 
 /// Reads a source to its end, and returns the answers to its lines. The error is that of the source, or
 /// an allocation failure during the answer to a line.
-#[tactic(auto, using(lexical_lines::proofs::Writers::answers_held))]
 pub fn answers_to<S: ByteSource>(alloc: Global, source: &mut S) -> io::Result<Vec<u8>>
     ensures ended { OnOk result (IsTrue (S.is_ended source.new)) }
     ensures answers { IfOk result (λ answers.

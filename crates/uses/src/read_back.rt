@@ -1,6 +1,6 @@
 //! Writes a number, and reads it back by `parse` or `from_str_radix` of the standard library: the result is the number.
 
-ghost use Rattle.std.specs.Prelude.{true, ◌≡◌, ◌↔◌, ◌^◌, ◌<◌, ◌∷◌, ◌++◌, [], Bool, IsTrue, List};
+ghost use Rattle.std.specs.Prelude.{true, ◌≡◌, ◌↔◌, ◌^◌, ◌<◌, ◌∷◌, [], IsTrue, List};
 ghost use Rattle.std.specs.Prelude.{ℕ, None, Ok, Result, pos};
 ghost use Rattle.lexical_num.specs.Format.{standard};
 ghost use Rattle.lexical_write_integer.specs.Read.{IsReadAsSigned, IsReadAsUnsigned, IsWithoutSeparators};
@@ -10,9 +10,8 @@ ghost use Rattle.lexical_parts.specs.Fixed.{IsFixed};
 ghost use Rattle.lexical_parts.specs.Sequence.{IsDecimal};
 ghost use Rattle.lexical_parts.specs.Without.{IsWithout};
 ghost use Rattle.lexical_parts.specs.ZeroPadded.{IsZeroPadded};
-ghost use Rattle.lexical_lines.specs.declared.request.integer_type.IntegerType.{IntegerType};
-ghost use Rattle.lexical_lines.specs.Answer.{IsTextAnswer};
-ghost use Rattle.lexical_lines.specs.Request.{IsRequest};
+ghost use Rattle.lexical_lines.specs.Answer.{HasAnswer};
+ghost use Rattle.lexical_lines.specs.Request.{IsRequestFor};
 
 use lexical_lines::laws::answer_read_back;
 use lexical_parts::{
@@ -162,8 +161,7 @@ pub fn without_point(units: i64, decimals: usize, text: &str) -> Result<i64, Par
 
 /// Reads back what `lexwrite` answers to a line with a number that is not negative, without its newline.
 pub fn an_answer(line: &[u8], text: &str) -> Result<u64, ParseIntError>
-    ensures { (kind : IntegerType) (plus : Bool) (n : ℕ) → IsRequest kind plus 10 (pos n) line.now
-        → IsTextAnswer line.now (text.now ++ 10 ∷ []) → n < 2 ^ 64 → result ≡ Ok n }
+    ensures { (n : ℕ) → IsRequestFor 10 (pos n) line.now → HasAnswer line.now text.now → n < 2 ^ 64 → result ≡ Ok n }
 {
     answer_read_back(line);
     text.parse::<u64>()

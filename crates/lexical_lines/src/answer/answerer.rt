@@ -32,8 +32,9 @@ pub struct Answerer {
 
 impl Answerer {
     /// Returns an answerer that has received no bytes.
+    #[tactic(auto, unfolding(crate::specs::Answerer::HasAnswered))]
     pub fn new() -> Answerer
-        ensures { (before : List ℕ) → HasAnswered before [] before result }
+        ensures { HasAnswered [] [] result }
     {
         Answerer {
             line: Line::new(),
@@ -50,12 +51,10 @@ impl Answerer {
     /// An error of the sink at this answer.
     pub fn push<K: ByteSink>(&mut self, byte: u8, sink: &mut K) -> io::Result<()>
         // After an error nothing is promised of the answers.
-        ensures ok { OnOk result ((before read : List ℕ)
-            → HasAnswered before read (K.taken sink.old) self.old
-            → HasAnswered before (read ++ byte ∷ []) (K.taken sink.new) self.new) }
-        ensures err { OnErr result ((before read : List ℕ)
-            → HasAnswered before read (K.taken sink.old) self.old
-            → BreaksOff false (read ++ byte ∷ []) (added before (K.taken sink.new))) }
+        ensures ok { OnOk result ((read written : List ℕ) → HasAnswered read written self.old
+            → HasAnswered (read ++ byte ∷ []) (written ++ added (K.taken sink.old) (K.taken sink.new)) self.new) }
+        ensures err { OnErr result ((read written : List ℕ) → HasAnswered read written self.old
+            → BreaksOff false (read ++ byte ∷ []) (written ++ added (K.taken sink.old) (K.taken sink.new))) }
         ensures puts { PutsMore K.taken K.failures K.keeps sink.old sink.new result }
     {
         self.push_all(&[byte], sink)
@@ -67,13 +66,11 @@ impl Answerer {
     ///
     /// An error of the sink at the answer to a line that ends in `bytes`.
     pub fn push_all<K: ByteSink>(&mut self, bytes: &[u8], sink: &mut K) -> io::Result<()>
-        ensures ok { OnOk result ((before read : List ℕ)
-            → HasAnswered before read (K.taken sink.old) self.old
-            → HasAnswered before (read ++ bytes.now) (K.taken sink.new) self.new) }
-        ensures err { OnErr result ((before read : List ℕ)
-            → HasAnswered before read (K.taken sink.old) self.old
+        ensures ok { OnOk result ((read written : List ℕ) → HasAnswered read written self.old
+            → HasAnswered (read ++ bytes.now) (written ++ added (K.taken sink.old) (K.taken sink.new)) self.new) }
+        ensures err { OnErr result ((read written : List ℕ) → HasAnswered read written self.old
             → (front : List ℕ) × (0 < length front) × StartsWith bytes.now front
-            × BreaksOff false (read ++ front) (added before (K.taken sink.new))) }
+            × BreaksOff false (read ++ front) (written ++ added (K.taken sink.old) (K.taken sink.new))) }
         ensures puts { PutsMore K.taken K.failures K.keeps sink.old sink.new result }
     {
         let mut rest = bytes;
@@ -92,11 +89,11 @@ impl Answerer {
     fn answer_line(&mut self, tail: &[u8]) -> usize
         requires { NoNewline tail.now }
         ensures within { result ≤ MAX_ANSWER }
-        ensures whole { (before read taken : List ℕ) → HasAnswered before read taken self.old
-            → HasAnswered before (read ++ (tail.now ++ 10 ∷ [])) (taken ++ take result self.new.answer) self.new }
-        ensures part { (before read taken part : List ℕ) → HasAnswered before read taken self.old
+        ensures whole { (read written : List ℕ) → HasAnswered read written self.old
+            → HasAnswered (read ++ (tail.now ++ 10 ∷ [])) (written ++ take result self.new.answer) self.new }
+        ensures part { (read written part : List ℕ) → HasAnswered read written self.old
             → IsBeginning part (take result self.new.answer)
-            → BreaksOff false (read ++ (tail.now ++ 10 ∷ [])) (added before (taken ++ part)) }
+            → BreaksOff false (read ++ (tail.now ++ 10 ∷ [])) (written ++ part) }
     {
         let line = self.line.ended_with(tail);
         let (count, is_valid) = write_answer(line, self.line_number, &mut self.answer);
@@ -113,14 +110,12 @@ impl Answerer {
     ///
     /// An error of the sink at this answer.
     pub fn finish<K: ByteSink>(mut self, sink: &mut K) -> io::Result<bool>
-        ensures ok { OnOk result ((before read : List ℕ)
-            → HasAnswered before read (K.taken sink.old) self
-            → AnswersAll read (added before (K.taken sink.new))) }
-        ensures valid { IfOk result (λ all_valid. (before read : List ℕ)
-            → HasAnswered before read (K.taken sink.old) self → ReportsAllValid read all_valid) }
-        ensures err { OnErr result ((before read : List ℕ)
-            → HasAnswered before read (K.taken sink.old) self
-            → BreaksOff true read (added before (K.taken sink.new))) }
+        ensures ok { OnOk result ((read written : List ℕ) → HasAnswered read written self
+            → AnswersAll read (written ++ added (K.taken sink.old) (K.taken sink.new))) }
+        ensures valid { IfOk result (λ all_valid. (read written : List ℕ)
+            → HasAnswered read written self → ReportsAllValid read all_valid) }
+        ensures err { OnErr result ((read written : List ℕ) → HasAnswered read written self
+            → BreaksOff true read (written ++ added (K.taken sink.old) (K.taken sink.new))) }
         ensures puts { PutsMore K.taken K.failures K.keeps sink.old sink.new result }
     {
         if self.line.is_empty() {

@@ -3,10 +3,12 @@ use Rattle.std.proofs.Math.Bool.{or-true}
 use Rattle.std.proofs.KnownBytes.{Consumes-all, Consumes-trans}
 use Rattle.std.proofs.lemmas.Result.{err_from_is_err_and}
 use Rattle.std.specs.contracts.io.Error.{the_row}
-use Rattle.lexical_lines.specs.BlockWriter.{TakesMore-reflexive, TakesMore-transitive}
+use Rattle.lexical_lines.specs.Answerer.{HasAnswered}
+use Rattle.lexical_lines.specs.BlockWriter.{taken, TakesMore-reflexive, TakesMore-transitive}
+use Rattle.lexical_lines.proofs.Added.{added-none}
 use Rattle.lexical_lines.proofs.Runs.{answers_ended}
 use Rattle.lexical_streams.proofs.Begun.{begins-ended, begins-broken, begins-last, begins-all}
-use Rattle.lexical_streams.proofs.Steps.{IsUnderWay-flushed, Yields-more, handed-all, not_ended}
+use Rattle.lexical_streams.proofs.Steps.{IsUnderWay-flushed, Yields-more, handed-all, not_ended, put-more}
 use Rattle.lexical_streams.proofs.stream_answers.answer_blocks.Goals as goal
 
 pub loop-source-init : goal.loop-source-init
@@ -15,11 +17,12 @@ loop-source-init g c = record {
   under_way = record {
     no_failure = c.requires.no_failure;
     written = TakesMore-reflexive _;
-    answered = rw c.requires.fresh (c.new-answerer.ensures _);
+    answered = rw (c.requires.fresh, added-none (taken c.args.writer.now)) c.new-answerer.ensures;
   };
 }
 
 pub returns-in_err-flush-clause-err : goal.returns-in_err-flush-clause-err
+unfolding HasAnswered
 returns-in_err-flush-clause-err g c =
     let h = c.loop-source.invariant.under_way in
     let flush = c.in_err-flush.ensures in
@@ -32,6 +35,7 @@ pub returns-in_err-flush-clause-written : goal.returns-in_err-flush-clause-writt
 returns-in_err-flush-clause-written g c = TakesMore-transitive _ _ _ c.loop-source.invariant.under_way.written c.flush.ensures.kept
 
 pub returns-in_err-count-clause-err : goal.returns-in_err-count-clause-err
+unfolding HasAnswered
 returns-in_err-count-clause-err g c =
     let flush = c.in_ok-flush.ensures in
     let read = c.in_err-count.ensures in
@@ -54,7 +58,7 @@ returns-in_err-push_all-clause-err g c =
     let (front, some, starts, broke) = push.err _ _ h.answered in
     rw (err_from_is_err_and c.from_residual-in_err-push_all.result c.from_residual-in_err-push_all.ensures.1).1 (inr (record {
       failure = (omega (arith, read.failures, h.no_failure.0), omega (arith, push.puts.failures, h.no_failure.1));
-      begins = rw read.yielded (begins-broken _ _ _ front _ starts broke);
+      begins = rw (read.yielded, put-more h.written c.push_all.ensures.puts.kept) (begins-broken _ _ _ front _ starts broke);
     }))
 
 pub returns-in_err-push_all-clause-read : goal.returns-in_err-push_all-clause-read
@@ -79,7 +83,7 @@ loop-source-preserved g c =
       under_way = record {
         no_failure = (omega (arith, read.failures, h.no_failure.0), omega (arith, push.puts.failures, h.no_failure.1));
         written = TakesMore-transitive _ _ _ h.written push.puts.kept;
-        answered = rw read.yielded (push.ok _ _ h.answered);
+        answered = rw (read.yielded, put-more h.written push.puts.kept) (push.ok _ _ h.answered);
       };
     }
 
@@ -94,7 +98,8 @@ returns-in_err-all_valid-clause-err g c =
     let ended = (rw c.if-count-eq0.true at read.ended) ∙ or-true _ in
     rw (err_from_is_err_and c.from_residual-in_err-all_valid.result c.from_residual-in_err-all_valid.ensures.1).1 (inr (record {
       failure = (omega (arith, read.failures, h.no_failure.0), omega (arith, finish.puts.failures, h.no_failure.1));
-      begins = rw ((rw c.if-count-eq0.true at read.yielded) ∙ append-nil _) (begins-last _ _ _ ended (finish.err _ _ h.answered));
+      begins = rw ((rw c.if-count-eq0.true at read.yielded) ∙ append-nil _, put-more h.written c.finish.ensures.puts.kept)
+          (begins-last _ _ _ ended (finish.err _ _ h.answered));
     }))
 
 pub returns-in_err-all_valid-clause-written : goal.returns-in_err-all_valid-clause-written
@@ -111,7 +116,8 @@ returns-in_err-flush-2-clause-err g c =
     let ended = (rw c.if-count-eq0.true at read.ended) ∙ or-true _ in
     rw (err_from_is_err_and c.from_residual-in_err-flush-2.result c.from_residual-in_err-flush-2.ensures.1).1 (inr (record {
       failure = (omega (arith, read.failures, h.no_failure.0), omega (arith, last.failures, finish.puts.failures, h.no_failure.1));
-      begins = rw ((rw c.if-count-eq0.true at read.yielded) ∙ append-nil _, last.taken) (begins-all _ _ _ ended (finish.ok _ _ h.answered));
+      begins = rw ((rw c.if-count-eq0.true at read.yielded) ∙ append-nil _, last.taken, put-more h.written finish.puts.kept)
+          (begins-all _ _ _ ended (finish.ok _ _ h.answered));
     }))
 
 pub returns-in_err-flush-2-clause-written : goal.returns-in_err-flush-2-clause-written
@@ -131,7 +137,8 @@ returns-clause-ok g c =
       no_failure = (omega (arith, read.failures, h.no_failure.0), omega (arith, last.failures, finish.puts.failures, h.no_failure.1));
       ended = (rw c.if-count-eq0.true at read.ended) ∙ or-true _;
       all = Consumes-all _ _ _ [] _ (rw read.yielded known) (read.bytes.1 c.if-count-eq0.true (search rules)) refl;
-      answers = rw ((rw c.if-count-eq0.true at read.yielded) ∙ append-nil _, last.taken) (finish.ok _ _ h.answered);
+      answers = rw ((rw c.if-count-eq0.true at read.yielded) ∙ append-nil _, last.taken, put-more h.written finish.puts.kept)
+          (finish.ok _ _ h.answered);
       handed = handed-all _ _ (TakesMore-transitive _ _ _ h.written (TakesMore-transitive _ _ _ finish.puts.kept last.kept)) last.ok;
     }
 

@@ -3,9 +3,10 @@ use Rattle.std.proofs.Common.{take-append-drop, arith}
 use Rattle.std.proofs.lemmas.List.{take_all}
 use Rattle.std.proofs.lemmas.Result.{err_from_is_err_and}
 use Rattle.std.proofs.Transfers.{starts_with_of_append}
+use Rattle.lexical_lines.specs.Answerer.{HasAnswered}
 use Rattle.lexical_lines.specs.Sink.{IsBeginning}
-use Rattle.lexical_lines.proofs.Added.{grown}
-use Rattle.lexical_lines.proofs.Runs.{HasAnswered-more}
+use Rattle.lexical_lines.proofs.Added.{added-after, grown}
+use Rattle.lexical_lines.proofs.Runs.{AnswererState-more}
 use Rattle.lexical_lines.proofs.answer.answerer.Answerer.push_all.Goals as goal
 
 -- the next line of the slice
@@ -27,8 +28,8 @@ loop-tail-preserved g c =
       read = (
         front ++ line,
         line_more _ front _ c.in-Some.tail.now c.in-Some.more.now whole c.in-Some.ensures.found,
-        λ before read h. rw (put.taken, all, sym (append_assoc read front line))
-            (c.answer_line-count.ensures.whole before (read ++ front) _ (reads before read h)),
+        λ read written h. rw (added-after written _ _ _ _ c.loop-tail.invariant.taken put.taken, all, sym (append_assoc read front line))
+            (c.answer_line-count.ensures.whole (read ++ front) _ (reads read written h)),
       );
       taken = grown _ _ _ _ _ c.loop-tail.invariant.taken put.taken;
       failures = omega (arith, rw c.in_ok-put.was at put.failures, c.loop-tail.invariant.failures);
@@ -41,19 +42,20 @@ returns-in_err-put-clause-err g c =
     let line = c.in-Some.tail.now ++ 10 ∷ [] in
     let put = c.put_all-put.ensures in
     let less = rw c.in_err-put.was at put.err in
-    rw (err_from_is_err_and c.from_residual.result c.from_residual.ensures.1).1 (λ before read h. (
+    rw (err_from_is_err_and c.from_residual.result c.from_residual.ensures.1).1 (λ read written h. (
       front ++ line,
       simp (length-append) (omega arith),
       starts_with_of_append c.args.bytes.now (front ++ line) c.in-Some.more.now
           (line_more _ front _ c.in-Some.tail.now c.in-Some.more.now whole c.in-Some.ensures.found),
-      rw (put.taken, sym (append_assoc read front line))
-          (c.answer_line-count.ensures.part before (read ++ front) _ _ (reads before read h) (beginning _ _ less)),
+      rw (added-after written _ _ _ _ c.loop-tail.invariant.taken put.taken, sym (append_assoc read front line))
+          (c.answer_line-count.ensures.part (read ++ front) _ _ (reads read written h) (beginning _ _ less)),
     ))
 
 pub returns-clause-ok : goal.returns-clause-ok
-returns-clause-ok g c = λ before read h.
+unfolding HasAnswered
+returns-clause-ok g c = λ read written h.
     let (front, whole, reads) = c.loop-tail.invariant.read in
-    let so_far = reads before read h in
+    let so_far = reads read written h in
     let parts : read ++ c.args.bytes.now ≡ (read ++ front) ++ c.loop-tail.rest.now = ap (λ bytes. read ++ bytes) whole
     ∙ sym (append_assoc read front c.loop-tail.rest.now) in
-    rw parts (HasAnswered-more so_far c.loop-tail.rest.now _ c.in_default.ensures.none (c.push_all.ensures so_far.rest so_far.last) refl refl)
+    rw parts (AnswererState-more so_far c.loop-tail.rest.now _ c.in_default.ensures.none (c.push_all.ensures so_far.rest so_far.last) refl refl)
