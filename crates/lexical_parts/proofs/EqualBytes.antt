@@ -1,61 +1,28 @@
 -- Lists whose elements have texts of one width, with a separator between them: one text is of one list.
-use Rattle.std.proofs.Common.{◌≡◌, ℕ, ◌≤◌, List, [], ◌∷◌, length, length-append, map, refl, sym, ap, ◌∙◌, false, pos, arith}
+use Rattle.std.proofs.Common.{◌≡◌, ℕ, ◌≤◌, List, [], ◌∷◌, ◌++◌, length, length-append, map, refl, sym, ap, ◌∙◌, false, pos, arith}
 use Rattle.std.specs.Char.{to_ascii_lowercase}
-use Rattle.std.proofs.lemmas.List.{length-map, map-append}
+use Rattle.std.proofs.lemmas.List.{append_cancel_left, length-map, map-append}
 use Rattle.lexical_write_integer.specs.Lowercase.{IsLowercase}
 use Rattle.lexical_write_integer.specs.Padded.{IsPadded}
 use Rattle.lexical_write_integer.specs.Read.{AreReadAs}
 use Rattle.lexical_write_integer.specs.Sequence.{AreJoined}
 use Rattle.lexical_write_integer.proofs.OfDigits.PaddedDigits.{length-IsPadded}
+use Rattle.lexical_write_integer.proofs.OfTexts.Rows.{rows}
 use Rattle.lexical_write_integer.proofs.OfTexts.ReadTexts.{are_read, padded_read}
 use Rattle.lexical_write_integer.specs.InCommon.{HaveInCommon}
-use Rattle.lexical_parts.proofs.Splits.{same_parts}
+use Rattle.lexical_parts.proofs.Splits.{halves}
 
 module _ {A : Type 0} (IsOf : A → List ℕ → Type 0) (separator : List ℕ) (w : ℕ) (some : 1 ≤ w)
     (wide : (x : A) (text : List ℕ) → IsOf x text → length text ≡ w)
     (one : (x y : A) (text : List ℕ) → IsOf x text → IsOf y text → x ≡ y) where
-  abbrev Is : List A → List ℕ → Type 0
-  Is = AreJoined IsOf separator
-
-  at_least : (x : A) (xs : List A) (text : List ℕ) → Is (x ∷ xs) text → w ≤ length text
-  at_least x [] text is = omega (arith, wide x text is)
-  at_least x (y ∷ xs) text is = omega (arith, wide x is.first is.is_first, ap length is.whole, length-append is.first is.second)
-
-  -- the text of one element is shorter than that of two and more
-  longer : (x y z : A) (zs : List A) (text : List ℕ) → Is (x ∷ []) text → Is (y ∷ z ∷ zs) text → ⊥
-  longer x y z zs text a b =
-      let rest = b.is_second in
-      omega (
-        arith,
-        some,
-        wide x text a,
-        wide y b.first b.is_first,
-        at_least z zs rest.second rest.is_second,
-        ap length b.whole,
-        length-append b.first b.second,
-        ap length rest.whole,
-        length-append rest.first rest.second,
-      )
-
-  none : (x : A) (xs : List A) (text : List ℕ) → Is [] text → Is (x ∷ xs) text → ⊥
-  none x xs text a b = omega (arith, some, at_least x xs text b, ap length a)
-
-  equal : (xs ys : List A) (text : List ℕ) → Is xs text → Is ys text → xs ≡ ys
-  equal [] [] text a b = refl
-  equal [] (y ∷ ys) text a b = absurd (none y ys text a b)
-  equal (x ∷ xs) [] text a b = absurd (none x xs text b a)
-  equal (x ∷ []) (y ∷ []) text a b = ap (λ z. z ∷ []) (one x y text a b)
-  equal (x ∷ []) (y ∷ z ∷ ys) text a b = absurd (longer x y z ys text a b)
-  equal (x ∷ z ∷ xs) (y ∷ []) text a b = absurd (longer y x z xs text b a)
-  equal (x ∷ u ∷ xs) (y ∷ v ∷ ys) text a b =
-      let first = same_parts text a b (wide x a.first a.is_first ∙ sym (wide y b.first b.is_first)) in
-      let after = first.1 in
-      let rest = (same_parts after.text after.is after.also (ap length after.is.is_first ∙ sym (ap length after.also.is_first))).1 in
-      ap (λ z. z ∷ u ∷ xs) (one x y first.0.text first.0.is first.0.also)
-      ∙ ap (λ l. y ∷ l) (equal (u ∷ xs) (v ∷ ys) rest.text rest.is rest.also)
-
-  pub equal_lists : (xs ys : List A) → HaveInCommon (Is xs) (Is ys) → xs ≡ ys
-  equal_lists xs ys both = equal xs ys both.text both.is both.also
+  pub equal_lists : (xs ys : List A) → HaveInCommon (AreJoined IsOf separator xs) (AreJoined IsOf separator ys) → xs ≡ ys
+  equal_lists xs ys both = rows IsOf separator (λ x text is. omega (arith, some, wide x text is)) one
+      (λ x y f g r q is also same.
+      let parts = halves f (separator ++ r) g (separator ++ q) same (wide x f is ∙ sym (wide y g also)) in
+      (parts.0, append_cancel_left separator r q parts.1))
+      (λ x y f g r is also more same.
+      omega (arith, wide x f is, wide y g also, more, ap length same, length-append g (separator ++ r), length-append separator r))
+      xs ys both.text both.is both.also
 
 -- in lowercase
 

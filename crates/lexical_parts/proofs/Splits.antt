@@ -14,15 +14,19 @@ use Rattle.lexical_write_integer.specs.InCommon.{HaveInCommon}
 
 -- ---- texts whose first parts have the same width
 
+pub halves : (f u g v : List ℕ) → f ++ u ≡ g ++ v → length f ≡ length g → (f ≡ g) × (u ≡ v)
+halves f u g v whole long = (
+  sym (take_at f u _ refl) ∙ ap (take (length f)) whole ∙ take_at g v _ (sym long),
+  sym (drop_at f u _ refl) ∙ ap (drop (length f)) whole ∙ drop_at g v _ (sym long),
+)
+
 pub same_parts : {A B P Q : List ℕ → Type 0} (text : List ℕ) (s : Then A P text) (t : Then B Q text)
     → length s.first ≡ length t.first → HaveInCommon A B × HaveInCommon P Q
 same_parts text s t long =
-    let whole : s.first ++ s.second ≡ t.first ++ t.second = sym s.whole ∙ t.whole in
-    let first : s.first ≡ t.first =
-    sym (take_at s.first s.second _ refl) ∙ ap (take (length s.first)) whole ∙ take_at t.first t.second _ (sym long) in
-    let rest : s.second ≡ t.second =
-    sym (drop_at s.first s.second _ refl) ∙ ap (drop (length s.first)) whole ∙ drop_at t.first t.second _ (sym long) in
-    (record { text = s.first; is = s.is_first; also = rw first t.is_first }, record { text = s.second; is = s.is_second; also = rw rest t.is_second })
+    let same = halves s.first s.second t.first t.second (sym s.whole ∙ t.whole) long in (
+      record { text = s.first; is = s.is_first; also = rw same.0 t.is_first },
+      record { text = s.second; is = s.is_second; also = rw same.1 t.is_second },
+    )
 
 -- ---- texts that are split at their first separator p
 

@@ -1,4 +1,4 @@
--- Rows of elements whose texts have no separator: one text belongs to one row.
+-- Rows of elements with separators between their texts: one text belongs to one row.
 use Rattle.std.proofs.Common.{◌≡◌, ℕ, ◌<◌, ◌≤◌, List, [], ◌∷◌, ◌++◌, length, length-append, drop, get_or, refl, sym, ap, ◌∙◌, ℤ, arith}
 use Rattle.std.specs.Prelude.{◌≢◌, None}
 use Rattle.std.specs.List.{All}
@@ -22,29 +22,35 @@ split p (c ∷ f) (d ∷ g) r q none_in_f none_in_g same =
     let rest = split p f g r q (All-tail (λ x. x ≢ p) c f none_in_f) (All-tail (λ x. x ≢ p) d g none_in_g) (ap (drop 1) same) in
     (ap (λ x. x ∷ f) (ap (λ l. get_or l 0 0) same) ∙ ap (λ l. d ∷ l) rest.0, rest.1)
 
-has_one : (p : ℕ) (f r : List ℕ) → All (λ b. b ≢ p) (f ++ p ∷ r) → ⊥
+pub has_one : (p : ℕ) (f r : List ℕ) → All (λ b. b ≢ p) (f ++ p ∷ r) → ⊥
 has_one p [] r none = All-head (λ c. c ≢ p) p r none refl
 has_one p (c ∷ f) r none = has_one p f r (All-tail (λ x. x ≢ p) c (f ++ p ∷ r) none)
 
-module _ {A : Type 0} (P : A → List ℕ → Type 0) (p : ℕ)
-    (none : (x : A) (text : List ℕ) → P x text → All (λ b. b ≢ p) text)
-    (some : (x : A) (text : List ℕ) → P x text → 0 < length text)
-    (one : (x y : A) (text : List ℕ) → P x text → P y text → x ≡ y) where
+-- a row belongs to one list if the text of an element belongs to one element, is not empty, and ends where the separator
+-- or the row does
+module _ {A : Type 0} (P : A → List ℕ → Type 0) (s : List ℕ) (some : (x : A) (text : List ℕ) → P x text → 0 < length text)
+    (one : (x y : A) (text : List ℕ) → P x text → P y text → x ≡ y)
+    (ends : (x y : A) (f g r q : List ℕ) → P x f → P y g → f ++ (s ++ r) ≡ g ++ (s ++ q) → (f ≡ g) × (r ≡ q))
+    (whole : (x y : A) (f g r : List ℕ) → P x f → P y g → 0 < length r → f ≡ g ++ (s ++ r) → ⊥) where
   -- the first text, the separator and the rest
-  cut : {Q R : List ℕ → Type 0} {text : List ℕ} (t : Then Q (Then (IsExactly (p ∷ [])) R) text) → text ≡ t.first ++ p ∷ t.is_second.second
+  cut : {Q R : List ℕ → Type 0} {text : List ℕ} (t : Then Q (Then (IsExactly s) R) text) → text ≡ t.first ++ (s ++ t.is_second.second)
   cut t = t.whole ∙ ap (λ l. t.first ++ l) (t.is_second.whole ∙ ap (λ l. l ++ t.is_second.second) t.is_second.is_first)
 
-  pub rows : (xs ys : List A) (text : List ℕ) → AreJoined P (p ∷ []) xs text → AreJoined P (p ∷ []) ys text → xs ≡ ys
+  row_some : (x : A) (xs : List A) (text : List ℕ) → AreJoined P s (x ∷ xs) text → 0 < length text
+  row_some x [] text a = some x text a
+  row_some x (y ∷ xs) text a = omega (arith, some x a.first a.is_first, ap length a.whole, length-append a.first a.second)
+
+  pub rows : (xs ys : List A) (text : List ℕ) → AreJoined P s xs text → AreJoined P s ys text → xs ≡ ys
   rows [] [] text a b = refl
-  rows [] (y ∷ []) text a b = absurd (omega (arith, some y text b, ap length a))
-  rows [] (y ∷ z ∷ ys) text a b = absurd (omega (arith, some y b.first b.is_first, ap length (sym (cut b) ∙ a), length-append b.first (p ∷ b.is_second.second)))
-  rows (x ∷ []) [] text a b = absurd (omega (arith, some x text a, ap length b))
+  rows [] (y ∷ ys) text a b = absurd (omega (arith, row_some y ys text b, ap length a))
+  rows (x ∷ xs) [] text a b = absurd (omega (arith, row_some x xs text a, ap length b))
   rows (x ∷ []) (y ∷ []) text a b = ap (λ n. n ∷ []) (one x y text a b)
-  rows (x ∷ []) (y ∷ z ∷ ys) text a b = absurd (has_one p b.first b.is_second.second (rw (cut b) at (none x text a)))
-  rows (x ∷ w ∷ xs) [] text a b = absurd (omega (arith, some x a.first a.is_first, ap length (sym (cut a) ∙ b), length-append a.first (p ∷ a.is_second.second)))
-  rows (x ∷ w ∷ xs) (y ∷ []) text a b = absurd (has_one p a.first a.is_second.second (rw (cut a) at (none y text b)))
+  rows (x ∷ []) (y ∷ z ∷ ys) text a b =
+      absurd (whole x y text b.first _ a b.is_first (row_some z ys _ b.is_second.is_second) (cut b))
+  rows (x ∷ w ∷ xs) (y ∷ []) text a b =
+      absurd (whole y x text a.first _ b a.is_first (row_some w xs _ a.is_second.is_second) (cut a))
   rows (x ∷ w ∷ xs) (y ∷ z ∷ ys) text a b =
-      let same = split p a.first b.first a.is_second.second b.is_second.second (none x a.first a.is_first) (none y b.first b.is_first) (sym (cut a) ∙ cut b) in
+      let same = ends x y a.first b.first _ _ a.is_first b.is_first (sym (cut a) ∙ cut b) in
       let rest = rows (w ∷ xs) (z ∷ ys) b.is_second.second (rw same.1 at a.is_second.is_second) b.is_second.is_second in
       ap (λ z. z ∷ w ∷ xs) (one x y b.first (rw same.0 at a.is_first) b.is_first) ∙ ap (λ l. y ∷ l) rest
 
