@@ -18,7 +18,7 @@ use Rattle.lexical_write_integer.proofs.OfDigits.Count.DigitCounts.{digit_count-
 use Rattle.lexical_write_integer.proofs.OfTexts.Orders.{equal_from_IsText}
 use Rattle.lexical_write_integer.proofs.OfTexts.ReadTexts.{are_read}
 use Rattle.lexical_write_integer.proofs.OfTexts.Separators.{sign_is_none}
-use Rattle.lexical_parts.specs.Fixed.{IsFixed, IsUnits}
+use Rattle.lexical_parts.specs.Fixed.{IsFixed, IsFraction}
 use Rattle.lexical_write_integer.specs.InCommon.{HaveInCommon}
 use Rattle.lexical_parts.specs.Scaled.{AreEqualScaled}
 use Rattle.lexical_parts.specs.Scientific.{IsScientific, exponent_of_first}
@@ -34,22 +34,23 @@ digit_is_no_e d small same = grind arith
 digits_have_no_e : (ds text : List ℕ) → All (λ d. d < 10) ds → text ≡ map digit_char ds → All (λ b. b ≢ 101) text
 digits_have_no_e ds text = digits_lack 101 ds text digit_is_no_e
 
-units_have_no_e : (d n : ℕ) (text : List ℕ) → IsUnits d n text → All (λ b. b ≢ 101) text
-units_have_no_e zero n text is =
-    let whole = digits_have_no_e is.is_first.digits is.first is.is_first.numeral.numeral.below_radix is.is_first.characters in
-    rw is.whole (All-append (λ b. b ≢ 101) is.first is.second whole (rw is.is_second (λ k d l. absurd (omega (arith, l)))))
-units_have_no_e (suc d) n text is =
-    let whole = digits_have_no_e is.is_first.digits is.first is.is_first.numeral.numeral.below_radix is.is_first.characters in
-    let rest = is.is_second.is_second in
-    let fraction = digits_have_no_e rest.digits is.is_second.second rest.block.below_radix rest.characters in
-    let point : All (λ b. b ≢ 101) is.is_second.first = rw is.is_second.is_first (λ k d l. grind arith) in
-    rw is.whole (All-append (λ b. b ≢ 101) is.first is.second whole
-    (rw is.is_second.whole (All-append (λ b. b ≢ 101) is.is_second.first is.is_second.second point fraction)))
+then_no_e : {A B : List ℕ → Type 0} {text : List ℕ} (is : Then A B text) → All (λ b. b ≢ 101) is.first → All (λ b. b ≢ 101) is.second
+    → All (λ b. b ≢ 101) text
+then_no_e is first second = rw is.whole (All-append (λ b. b ≢ 101) is.first is.second first second)
+
+fraction_has_no_e : (d n : ℕ) (text : List ℕ) → IsFraction d n text → All (λ b. b ≢ 101) text
+fraction_has_no_e zero n text is = rw is (λ k d l. absurd (omega (arith, l)))
+fraction_has_no_e (suc d) n text is =
+    let rest = is.is_second in
+    then_no_e is (rw is.is_first (λ k d l. grind arith)) (digits_have_no_e rest.digits is.second rest.block.below_radix rest.characters)
 
 fixed_has_no_e : (d : ℕ) (x : ℤ) (text : List ℕ) → IsFixed d x text → All (λ b. b ≢ 101) text
 fixed_has_no_e d x text is =
-    let sign : All (λ b. b ≢ 101) is.first = rw is.is_first (sign_is_none 101 x false (λ e. grind arith) (λ e. grind arith)) in
-    rw is.whole (All-append (λ b. b ≢ 101) is.first is.second sign (units_have_no_e d _ is.second is.is_second))
+    let units = is.is_second in
+    let whole = units.is_first in
+    then_no_e is (rw is.is_first (sign_is_none 101 x false (λ e. grind arith) (λ e. grind arith)))
+    (then_no_e units (digits_have_no_e whole.digits units.first whole.numeral.numeral.below_radix whole.characters)
+    (fraction_has_no_e d _ units.second units.is_second))
 
 equal_fixed : (c d : ℕ) (x y : ℤ) → HaveInCommon (IsFixed c x) (IsFixed d y) → x ≡ y
 equal_fixed c d x y both =

@@ -1,5 +1,5 @@
 -- The room of a number in a format is enough for each number of the type.
-use Rattle.std.proofs.Common.{◌≡◌, ℕ, ◌+◌, ◌-◌, ◌/◌, ◌^◌, ◌<◌, ◌≤◌, max, length, refl, inl, inr, arith, ℤ, pos, negsuc, ◌≤ℤ◌, unsigned_abs}
+use Rattle.std.proofs.Common.{◌≡◌, ℕ, ◌+◌, ◌-◌, ◌/◌, ◌^◌, ◌<◌, ◌≤◌, max, length, refl, inl, inr, arith, ℤ, ◌≤ℤ◌, unsigned_abs}
 use Rattle.std.specs.Prelude.{Bool, true, false}
 use mir.Val.{bool_byte}
 use Rattle.std.proofs.Math.Nat.{pow-le-pow_right}
@@ -24,11 +24,7 @@ pub largest-small : {bits : ℕ} (is_signed : Bool) → IsBitWidth bits → larg
 largest-small is_signed is = grind arith
 
 largest-le : {least greatest : ℤ} (x : ℤ) → least ≤ℤ x → x ≤ℤ greatest → unsigned_abs x ≤ max (unsigned_abs least) (unsigned_abs greatest)
-largest-le {least = pos m} {greatest = pos n} (pos x) low high = omega (arith, ints)
-largest-le {least = negsuc m} {greatest = pos n} (pos x) low high = omega (arith, ints)
-largest-le {greatest = negsuc n} (pos x) low high = absurd (omega (arith, ints))
-largest-le {least = pos m} (negsuc x) low high = absurd (omega (arith, ints))
-largest-le {least = negsuc m} (negsuc x) low high = omega (arith, ints)
+largest-le x low high = grind (arith, ints)
 
 -- half of the bits of a signed type, and one more
 pub signed-largest : {bits : ℕ} → IsBitWidth bits → (2 ^ 64 - 1) / 2 ^ (64 - bits) / 2 + 1 ≡ largest_magnitude bits true

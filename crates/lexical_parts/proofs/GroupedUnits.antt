@@ -2,7 +2,7 @@
 use Rattle.std.proofs.Common.{◌≡◌, Option, ℕ, ◌+◌, ◌-◌, ◌/◌, ◌%◌, ◌^◌, ◌≤◌, pos, refl, sym, ap, ◌∙◌, arith}
 use Rattle.std.proofs.Common.{List, [], ◌∷◌, ◌++◌, length, length-append, take, drop, replicate}
 use borrow.Rule.Slice.PartMut.{put_mid}
-use Rattle.std.specs.Prelude.{Bool, true, false, if◌then◌else◌, max, min}
+use Rattle.std.specs.Prelude.{Bool, true, if◌then◌else◌, max, min}
 use Rattle.std.proofs.Math.Nat.{pow-le-pow_right}
 use Rattle.std.proofs.lemmas.List.{append-nil, append_assoc, drop_at, length-drop, length-replicate, length-take-le, take_all, take_at}
 use Rattle.std.proofs.lemmas.Grind.{replicate_next}
@@ -68,14 +68,10 @@ width-le_19 {bits} {width} of_type is =
 pub grouped_fixed_room-le_39 : {bits width : ℕ} (is_signed : Bool) (grouping : Option (ℕ × ℕ)) (decimals : ℕ) → IsBitWidth bits
     → IsDecimalWidth (least_of bits is_signed) (greatest_of bits is_signed) width → decimals ≤ 19
     → (if is_signed then 1 else 0) + grouped_units_room grouping width decimals ≤ 39
-grouped_fixed_room-le_39 {width = width} false grouping decimals of_type is few =
+grouped_fixed_room-le_39 {width = width} is_signed grouping decimals of_type is few =
     let whole = max width (decimals + 1) - decimals in
-    let most = decimal_width-le_20 false of_type is in
-    omega (arith, most, grouped_length-le grouping whole whole (omega arith) (omega arith))
-grouped_fixed_room-le_39 {width = width} true grouping decimals of_type is few =
-    let whole = max width (decimals + 1) - decimals in
-    let most = width-le_19 of_type is in
-    omega (arith, most, grouped_length-le grouping whole whole (omega arith) (omega arith))
+    let most = decimal_width-le_20 is_signed of_type is in
+    grind (arith, most, width-le_19, grouped_length-le grouping whole whole (omega arith) (omega arith))
 
 -- ---- the text in the buffer
 

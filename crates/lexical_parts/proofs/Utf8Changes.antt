@@ -1,6 +1,6 @@
 -- Texts in lowercase, and texts with zeros after the sign, are UTF-8.
 use Rattle.std.proofs.lemmas.Grind.{common_steps}
-use Rattle.std.proofs.Common.{◌≡◌, ℕ, ◌≤◌, ◌-◌, List, [], ◌∷◌, ◌++◌, length, map, take, drop, replicate, refl, sym, ap, ◌∙◌, arith}
+use Rattle.std.proofs.Common.{◌≡◌, ℕ, ◌≤◌, List, [], ◌∷◌, ◌++◌, map, refl, sym, ap, ◌∙◌, arith}
 use Rattle.std.specs.Char.{to_ascii_lowercase}
 use Rattle.std.specs.Str.{IsUtf8, IsCharBoundary}
 use Rattle.std.proofs.Math.Utf8.{scalar, scalars, encode, encodes, low_scalar}
@@ -57,10 +57,8 @@ zero_padded_is_utf8 width texts = record {
   each = λ text is.
       let u = texts.each is.number is.is in
       let cut = sign_ends is.number u in
-      let zeros : List ℕ = replicate (width - length is.number) 48 in
-      rw is.whole (IsUtf8-append (take (sign_length is.number) is.number) (zeros ++ drop (sign_length is.number) is.number)
-      (IsUtf8-take is.number (sign_length is.number) u cut) (IsUtf8-append zeros (drop (sign_length is.number) is.number)
-      (fill_is_utf8 48 (width - length is.number) (omega arith)) (IsUtf8-drop is.number (sign_length is.number) u cut)));
+      rw is.whole (IsUtf8-append _ _ (IsUtf8-take is.number _ u cut)
+      (IsUtf8-append _ _ (fill_is_utf8 48 _ (omega arith)) (IsUtf8-drop is.number _ u cut)));
 }
 
 pub ruleset changes = (lower_is_utf8, zero_padded_is_utf8)

@@ -1,5 +1,5 @@
 -- The texts of parts are UTF-8.
-use Rattle.std.proofs.Common.{Bool, true, ℕ, zero, suc, ◌-◌, ◌/◌, ◌<◌, ◌≤◌, List, [], ◌∷◌, ◌++◌, false, length, replicate, arith, rules, ℤ, pos, negsuc}
+use Rattle.std.proofs.Common.{Bool, true, ℕ, zero, suc, ◌<◌, ◌≤◌, List, [], ◌∷◌, false, replicate, arith, rules, ℤ, pos, negsuc}
 use Rattle.std.specs.List.{All}
 use Rattle.std.specs.Option.{ForSome}
 use Rattle.std.specs.Str.{IsUtf8}
@@ -55,25 +55,17 @@ fill_is_utf8 fill count small = search (arith, IsUtf8-from_ascii, IsAscii-from_a
 
 pub at_left_is_utf8 : {Is : List ℕ → Type 0} (width fill : ℕ) → fill < 128 → AreUtf8 Is → AreUtf8 (IsAtLeft width fill Is)
 at_left_is_utf8 width fill small cells = record {
-  each = λ text is.
-      let after = fill_is_utf8 fill (width - length is.cell) small in
-      rw is.whole (IsUtf8-append is.cell (replicate (width - length is.cell) fill) (cells.each is.cell is.is) after);
+  each = λ text is. rw is.whole (search (IsUtf8-append, fill_is_utf8, small, cells.each is.cell is.is));
 }
 
 pub at_right_is_utf8 : {Is : List ℕ → Type 0} (width fill : ℕ) → fill < 128 → AreUtf8 Is → AreUtf8 (IsAtRight width fill Is)
 at_right_is_utf8 width fill small cells = record {
-  each = λ text is.
-      let before = fill_is_utf8 fill (width - length is.cell) small in
-      rw is.whole (IsUtf8-append (replicate (width - length is.cell) fill) is.cell before (cells.each is.cell is.is));
+  each = λ text is. rw is.whole (search (IsUtf8-append, fill_is_utf8, small, cells.each is.cell is.is));
 }
 
 pub centered_is_utf8 : {Is : List ℕ → Type 0} (width fill : ℕ) → fill < 128 → AreUtf8 Is → AreUtf8 (IsCentered width fill Is)
 centered_is_utf8 width fill small cells = record {
-  each = λ text is.
-      let added = width - length is.cell in
-      let before = IsUtf8-append (replicate (added / 2) fill) is.cell (fill_is_utf8 fill (added / 2) small) (cells.each is.cell is.is) in
-      let after = fill_is_utf8 fill (added - added / 2) small in
-      rw is.whole (IsUtf8-append (replicate (added / 2) fill ++ is.cell) (replicate (added - added / 2) fill) before after);
+  each = λ text is. rw is.whole (search (IsUtf8-append, fill_is_utf8, small, cells.each is.cell is.is));
 }
 
 pub sign_is_utf8 : (number : ℤ) (required : Bool) → AreUtf8 (IsExactly (sign_of number required))
