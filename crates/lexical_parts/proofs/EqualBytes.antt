@@ -5,7 +5,7 @@ use Rattle.std.proofs.lemmas.List.{append_cancel_left, length-map, map-append}
 use Rattle.lexical_write_integer.specs.Lowercase.{IsLowercase}
 use Rattle.lexical_write_integer.specs.Padded.{IsPadded}
 use Rattle.lexical_write_integer.specs.Read.{AreReadAs}
-use Rattle.lexical_write_integer.specs.Sequence.{AreJoined}
+use Rattle.lexical_write_integer.specs.Sequence.{AreJoined, Then}
 use Rattle.lexical_write_integer.proofs.OfDigits.PaddedDigits.{length-IsPadded}
 use Rattle.lexical_write_integer.proofs.OfTexts.Rows.{rows}
 use Rattle.lexical_write_integer.proofs.OfTexts.ReadTexts.{are_read, padded_read}
@@ -26,6 +26,16 @@ module _ {A : Type 0} (IsOf : A → List ℕ → Type 0) (separator : List ℕ) 
 
 -- in lowercase
 
+lower_then : {A B C D : List ℕ → Type 0} {text : List ℕ} (is : Then A B text) → C (map to_ascii_lowercase is.first)
+    → D (map to_ascii_lowercase is.second) → Then C D (map to_ascii_lowercase text)
+lower_then is first second = record {
+  first = map to_ascii_lowercase is.first;
+  second = map to_ascii_lowercase is.second;
+  is_first = first;
+  is_second = second;
+  whole = ap (map to_ascii_lowercase) is.whole ∙ map-append to_ascii_lowercase is.first is.second;
+}
+
 lower_joined : {A : Type 0} (IsOf : A → List ℕ → Type 0) (separator : List ℕ) (xs : List A) (text : List ℕ)
     → AreJoined IsOf separator xs text
     → AreJoined (λ x. IsLowercase (IsOf x)) (map to_ascii_lowercase separator) xs (map to_ascii_lowercase text)
@@ -33,19 +43,8 @@ lower_joined IsOf separator [] text is = ap (map to_ascii_lowercase) is
 lower_joined IsOf separator (x ∷ []) text is = record { original = text; is = is; whole = refl }
 lower_joined IsOf separator (x ∷ y ∷ xs) text is =
     let rest = is.is_second in
-    record {
-      first = map to_ascii_lowercase is.first;
-      second = map to_ascii_lowercase is.second;
-      is_first = record { original = is.first; is = is.is_first; whole = refl };
-      is_second = record {
-        first = map to_ascii_lowercase rest.first;
-        second = map to_ascii_lowercase rest.second;
-        is_first = ap (map to_ascii_lowercase) rest.is_first;
-        is_second = lower_joined IsOf separator (y ∷ xs) rest.second rest.is_second;
-        whole = ap (map to_ascii_lowercase) rest.whole ∙ map-append to_ascii_lowercase rest.first rest.second;
-      };
-      whole = ap (map to_ascii_lowercase) is.whole ∙ map-append to_ascii_lowercase is.first is.second;
-    }
+    lower_then is (record { original = is.first; is = is.is_first; whole = refl })
+    (lower_then rest (ap (map to_ascii_lowercase) rest.is_first) (lower_joined IsOf separator (y ∷ xs) rest.second rest.is_second))
 
 module _ (r width : ℕ) (few : r ≤ 36) (some : 1 ≤ width) where
   read : (n : ℕ) → AreReadAs r (pos n) (IsPadded r width n)

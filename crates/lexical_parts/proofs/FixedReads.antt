@@ -9,6 +9,7 @@ use Rattle.std.proofs.lemmas.List.{append-nil}
 use Rattle.std.proofs.lemmas.List.Elements.{All-head, All-tail, All-map, filter-append}
 use Rattle.lexical_num.specs.Digit.{digit_char}
 use Rattle.lexical_num.specs.Sign.{sign_of}
+use Rattle.lexical_write_integer.specs.Sequence.{Then}
 use Rattle.lexical_write_integer.proofs.OfTexts.ReadTexts.{IsSigned, digits_read, padded_read}
 use Rattle.lexical_write_integer.proofs.OfTexts.Separators.{sign_is_none}
 use Rattle.lexical_parts.specs.Fixed.{IsFixed}
@@ -37,44 +38,39 @@ digits_lack p ds text other below characters =
 no_point : (ds text : List ℕ) → All (λ d. d < 10) ds → text ≡ map digit_char ds → All (λ b. b ≢ 46) text
 no_point ds text = digits_lack 46 ds text digit_is_no_point
 
-without_point : (s a q : List ℕ) → All (λ b. b ≢ 46) s → All (λ b. b ≢ 46) a → All (λ b. b ≢ 46) q
-    → others (s ++ (a ++ 46 ∷ q)) ≡ s ++ (a ++ q)
-without_point s a q in_s in_a in_q =
-    filter-append (λ b. not (b == 46)) s (a ++ 46 ∷ q)
-    ∙ ap (λ l. l ++ others (a ++ 46 ∷ q)) (kept s in_s)
-    ∙ ap (λ l. s ++ l) (filter-append (λ b. not (b == 46)) a (46 ∷ q) ∙ ap (λ l. l ++ others q) (kept a in_a) ∙ ap (λ l. a ++ l) (kept q in_q))
+others_then : {A B : List ℕ → Type 0} {text : List ℕ} (is : Then A B text) → others text ≡ others is.first ++ others is.second
+others_then is = ap others is.whole ∙ filter-append (λ b. not (b == 46)) is.first is.second
 
 no_sign : (x : ℤ) → All (λ b. b ≢ 46) (sign_of x false)
 no_sign x = sign_is_none 46 x false (λ e. grind arith) (λ e. grind arith)
 
+-- the sign and the digits before the point are kept
+before_point : (d : ℕ) (x : ℤ) (text : List ℕ) (is : IsFixed d x text)
+    → others text ≡ sign_of x false ++ (is.is_second.first ++ others is.is_second.second)
+before_point d x text is =
+    let units = is.is_second in
+    let whole = units.is_first in
+    let digits = kept units.first (no_point whole.digits units.first whole.numeral.numeral.below_radix whole.characters) in
+    others_then is ∙ ap (λ l. others l ++ others is.second) is.is_first ∙ ap (λ l. l ++ others is.second) (kept _ (no_sign x))
+    ∙ ap (λ l. sign_of x false ++ l) (others_then units ∙ ap (λ l. l ++ others units.second) digits)
+
 pub fixed_read : (d : ℕ) (x : ℤ) (text : List ℕ) → IsWithout 46 (IsFixed d x) text → IsSigned 10 x false text
 fixed_read zero x text w =
-    let is = w.is in
-    let units = is.is_second in
-    let a = units.first in
-    let in_a = no_point units.is_first.digits a units.is_first.numeral.numeral.below_radix units.is_first.characters in
-    let original : w.original ≡ sign_of x false ++ a =
-    is.whole ∙ ap (λ l. l ++ is.second) is.is_first
-    ∙ ap (λ l. sign_of x false ++ l) (units.whole ∙ ap (λ l. a ++ l) units.is_second ∙ append-nil a) in
+    let units = w.is.is_second in
     record {
-      digits = a;
-      whole = w.whole ∙ ap others original ∙ filter-append (λ b. not (b == 46)) (sign_of x false) a
-          ∙ ap (λ l. l ++ others a) (kept (sign_of x false) (no_sign x)) ∙ ap (λ l. sign_of x false ++ l) (kept a in_a);
-      read = rw (div-one (unsigned_abs x)) at (digits_read 10 (unsigned_abs x / 10 ^ 0) a (omega arith) units.is_first);
+      digits = units.first;
+      whole = w.whole ∙ before_point zero x w.original w.is
+          ∙ ap (λ l. sign_of x false ++ l) (ap (λ l. units.first ++ others l) units.is_second ∙ append-nil units.first);
+      read = rw (div-one (unsigned_abs x)) at (digits_read 10 (unsigned_abs x / 10 ^ 0) units.first (omega arith) units.is_first);
     }
 fixed_read (suc d) x text w =
-    let is = w.is in
-    let units = is.is_second in
+    let units = w.is.is_second in
     let fraction = units.is_second in
-    let a = units.first in
     let q = fraction.second in
-    let in_a = no_point units.is_first.digits a units.is_first.numeral.numeral.below_radix units.is_first.characters in
-    let in_q = no_point fraction.is_second.digits q fraction.is_second.block.below_radix fraction.is_second.characters in
-    let original : w.original ≡ sign_of x false ++ (a ++ 46 ∷ q) =
-    is.whole ∙ ap (λ l. l ++ is.second) is.is_first
-    ∙ ap (λ l. sign_of x false ++ l) (units.whole ∙ ap (λ l. a ++ l) (fraction.whole ∙ ap (λ l. l ++ q) fraction.is_first)) in
+    let digits = kept q (no_point fraction.is_second.digits q fraction.is_second.block.below_radix fraction.is_second.characters) in
     record {
-      digits = a ++ q;
-      whole = w.whole ∙ ap others original ∙ without_point (sign_of x false) a q (no_sign x) in_a in_q;
-      read = padded_read 10 _ (unsigned_abs x) (a ++ q) (omega arith) (omega arith) (padded_around_point units.is_first fraction.is_second);
+      digits = units.first ++ q;
+      whole = w.whole ∙ before_point (suc d) x w.original w.is
+          ∙ ap (λ l. sign_of x false ++ (units.first ++ l)) (others_then fraction ∙ ap (λ l. others l ++ others q) fraction.is_first ∙ digits);
+      read = padded_read 10 _ (unsigned_abs x) (units.first ++ q) (omega arith) (omega arith) (padded_around_point units.is_first fraction.is_second);
     }

@@ -1,5 +1,5 @@
 -- Numbers without groups have no byte that is neither a letter, a digit nor a sign.
-use Rattle.std.proofs.Common.{ℕ, ◌<◌, ◌≤◌, Bool, true, false, List, [], sym, arith, ℤ, pos, negsuc}
+use Rattle.std.proofs.Common.{ℕ, ◌<◌, ◌≤◌, Bool, true, false, List, [], map, sym, arith, ℤ, pos, negsuc}
 use Rattle.std.specs.Prelude.{◌≢◌}
 use Rattle.std.specs.List.{All}
 use Rattle.std.specs.Char.{IsNotAsciiAlphanumeric}
@@ -16,8 +16,11 @@ sign_is_none p (negsuc n) required plus minus = All-cons (λ b. b ≢ p) 45 [] (
 sign_is_none p (pos n) true plus minus = All-cons (λ b. b ≢ p) 43 [] (λ e. plus (sym e)) (All-nil (λ b. b ≢ p))
 sign_is_none p (pos n) false plus minus = All-nil (λ b. b ≢ p)
 
+pub digit_chars_have_no : (p r : ℕ) (digits : List ℕ) → r ≤ 36 → IsNotAsciiAlphanumeric p → All (λ d. d < r) digits
+    → All (λ b. b ≢ p) (map digit_char digits)
+digit_chars_have_no p r digits few other below =
+    All-map (λ b. b ≢ p) digit_char digits (λ k d l. digit_is_none p _ other (omega (arith, below k d l)))
+
 pub digits_have_no : (p r n : ℕ) (text : List ℕ) → r ≤ 36 → IsNotAsciiAlphanumeric p → IsDigits r n text → All (λ b. b ≢ p) text
 digits_have_no p r n text few other is =
-    let below = is.numeral.numeral.below_radix in
-    let all : All (λ d. digit_char d ≢ p) is.digits = λ k d l. digit_is_none p _ other (omega (arith, below k d l)) in
-    rw is.characters (All-map (λ b. b ≢ p) digit_char is.digits all)
+    rw is.characters (digit_chars_have_no p r is.digits few other is.numeral.numeral.below_radix)

@@ -3,12 +3,13 @@ use Rattle.std.proofs.Common.{◌≡◌, ◌≢◌, Option, None, Some, Bool, no
 use Rattle.std.specs.List.{All, filter}
 use Rattle.std.specs.Option.{ForSome}
 use Rattle.std.proofs.lemmas.Bool.{cond-true, ne_eqb, not_from_false}
-use Rattle.std.proofs.lemmas.List.Elements.{All-head, All-tail, All-cons, All-nil, filter-append}
+use Rattle.std.proofs.lemmas.List.Elements.{All-head, All-tail, filter-append}
 use Rattle.lexical_num.specs.Digit.{digit_char}
 use Rattle.lexical_num.specs.Format.{Format, IsGrouping, IsMark, without_groups}
 use Rattle.lexical_num.specs.Sign.{sign_of}
 use Rattle.lexical_write_integer.specs.Texts.Groups.{mark_before, in_groups, grouped, without_separators}
 use Rattle.lexical_write_integer.specs.Texts.Text.{IsText}
+use Rattle.lexical_write_integer.proofs.OfTexts.Separators.{digit_chars_have_no}
 
 -- ---- the bytes other than a separator
 
@@ -34,18 +35,7 @@ others-in_groups grouping (byte ∷ next ∷ bytes) other =
     (filter-append (λ byte. not (byte == grouping.1)) mark rest ∙ ap (λ bytes. bytes ++ others grouping.1 rest)
     (others-mark_before grouping (length (next ∷ bytes))) ∙ following)
 
--- ---- a separator is neither the character of a digit nor a sign
-
-digit_char-mark : (d mark : ℕ) → d < 36 → IsMark mark → digit_char d ≢ mark
-digit_char-mark d mark small is same = grind (arith, is.no_letter_or_digit)
-
-digit_chars-mark : (r mark : ℕ) (digits : List ℕ) → r ≤ 36 → IsMark mark → All (λ d. d < r) digits → All (λ byte. byte ≢ mark) (map digit_char digits)
-digit_chars-mark r mark [] few is below = All-nil (λ byte. byte ≢ mark)
-digit_chars-mark r mark (d ∷ digits) few is below =
-    let small = All-head (λ d. d < r) d digits below in
-    All-cons (λ byte. byte ≢ mark) (digit_char d) (map digit_char digits) (digit_char-mark d mark (omega arith) is)
-    (digit_chars-mark r mark digits few is (All-tail (λ d. d < r) d digits below))
-
+-- a separator is not a sign
 others-sign : (mark : ℕ) (x : ℤ) (required : Bool) (bytes : List ℕ)
     → IsMark mark → others mark (sign_of x required ++ bytes) ≡ sign_of x required ++ others mark bytes
 others-sign mark x required bytes is = grind arith
@@ -58,8 +48,8 @@ without_separators-grouped : (grouping : Option (ℕ × ℕ)) (r : ℕ) (x : ℤ
 without_separators-grouped None r x required digits good few below = refl
 without_separators-grouped (Some grouping) r x required digits good few below =
     let mark = (good grouping refl).mark in
-    others-sign grouping.1 x required _ mark
-    ∙ ap (λ bytes. sign_of x required ++ bytes) (others-in_groups grouping (map digit_char digits) (digit_chars-mark r grouping.1 digits few mark below))
+    let other = digit_chars_have_no grouping.1 r digits few mark.no_letter_or_digit below in
+    others-sign grouping.1 x required _ mark ∙ ap (λ bytes. sign_of x required ++ bytes) (others-in_groups grouping (map digit_char digits) other)
 
 -- a text without its separators is the text in the same format without groups
 pub IsText-without_separators : (x : ℤ) (format : Format) (text : List ℕ)
