@@ -23,8 +23,8 @@ pub record IsTextAnswer (line answer : List ℕ) : Type 0 where
   pub text : WithNewline (IsText number (requested_format radix plus)) answer
 
 -- the line is valid, and its answer is this text and a newline
-unfoldable pub HasAnswer : List ℕ → List ℕ → Type 0
-HasAnswer line text = IsTextAnswer line (text ++ 10 ∷ [])
+unfoldable pub IsAnsweredBy : List ℕ → List ℕ → Type 0
+IsAnsweredBy line text = IsTextAnswer line (text ++ 10 ∷ [])
 
 -- the line is not valid, and the answer names its number, or the largest number of 64 bits if that is less
 pub record IsBadAnswer (i : ℕ) (line answer : List ℕ) : Type 0 where

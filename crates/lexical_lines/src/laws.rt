@@ -3,7 +3,7 @@
 
 ghost use Rattle.std.specs.Prelude.{◌≡◌, List, ℕ, ℤ};
 ghost use Rattle.lexical_write_integer.specs.Read.{AreReadAs};
-ghost use Rattle.lexical_lines.specs.Answer.{AnswersAll, HasAnswer};
+ghost use Rattle.lexical_lines.specs.Answer.{AnswersAll, IsAnsweredBy};
 ghost use Rattle.lexical_lines.specs.Lines.{AreLines};
 ghost use Rattle.lexical_lines.specs.Request.{IsRequestFor};
 
@@ -24,5 +24,5 @@ pub fn answers_unique(input: &[u8], a: &[u8], b: &[u8])
 /// each type that has the number. In radix 10 `parse` does the same. This function does nothing.
 pub fn answer_read_back(line: &[u8])
     ensures { (radix : ℕ) (number : ℤ) → IsRequestFor radix number line.now
-        → AreReadAs radix number (HasAnswer line.now) }
+        → AreReadAs radix number (IsAnsweredBy line.now) }
 {}

@@ -10,7 +10,7 @@ ghost use Rattle.lexical_parts.specs.Fixed.{IsFixed};
 ghost use Rattle.lexical_parts.specs.Sequence.{IsDecimal};
 ghost use Rattle.lexical_parts.specs.Without.{IsWithout};
 ghost use Rattle.lexical_parts.specs.ZeroPadded.{IsZeroPadded};
-ghost use Rattle.lexical_lines.specs.Answer.{HasAnswer};
+ghost use Rattle.lexical_lines.specs.Answer.{IsAnsweredBy};
 ghost use Rattle.lexical_lines.specs.Request.{IsRequestFor};
 
 use lexical_lines::laws::answer_read_back;
@@ -161,7 +161,8 @@ pub fn without_point(units: i64, decimals: usize, text: &str) -> Result<i64, Par
 
 /// Reads back what `lexwrite` answers to a line with a number that is not negative, without its newline.
 pub fn an_answer(line: &[u8], text: &str) -> Result<u64, ParseIntError>
-    ensures { (n : ℕ) → IsRequestFor 10 (pos n) line.now → HasAnswer line.now text.now → n < 2 ^ 64 → result ≡ Ok n }
+    ensures { (n : ℕ) → IsRequestFor 10 (pos n) line.now → IsAnsweredBy line.now text.now → n < 2 ^ 64
+        → result ≡ Ok n }
 {
     answer_read_back(line);
     text.parse::<u64>()

@@ -2,13 +2,13 @@ use Rattle.std.proofs.Common.{◌∙◌, ◌∷◌, ◌++◌, [], refl}
 use Rattle.std.proofs.lemmas.List.{append_cancel_right}
 use Rattle.lexical_write_integer.specs.Text.{IsText}
 use Rattle.lexical_write_integer.proofs.OfTexts.ReadTexts.{are_read, bare, digits_read}
-use Rattle.lexical_lines.specs.Answer.{WithNewline, HasAnswer}
+use Rattle.lexical_lines.specs.Answer.{WithNewline, IsAnsweredBy}
 use Rattle.lexical_lines.specs.Request.{requested_format, IsRequestFor}
 use Rattle.lexical_lines.proofs.UniqueAnswers.{IsRequest-unique}
 use Rattle.lexical_lines.proofs.laws.answer_read_back.Goals as goal
 
 pub returns : goal.returns
-unfolding IsRequestFor HasAnswer
+unfolding IsRequestFor IsAnsweredBy
 returns c = λ radix number (kind, plus, request).
     let few = request.radix_valid.at_most_36 in
     are_read _ _ plus few _ (λ text is.
