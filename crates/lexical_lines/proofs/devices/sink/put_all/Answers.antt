@@ -1,15 +1,6 @@
-use Rattle.std.proofs.Common.{◌≡◌, ◌-◌, ◌++◌, length, take, drop, sym, ap, ◌∙◌, append_assoc, ℕ, List, Ok, length-take, length-drop, arith}
+use Rattle.std.proofs.Common.{◌-◌, ◌++◌, length, take, drop, sym, ap, ◌∙◌, append_assoc, length-take, length-drop, arith}
 use lib.Seq.{take-add, take-take}
-use Rattle.lexical_lines.specs.Sink.{put_failures}
 use Rattle.lexical_lines.proofs.devices.sink.put_all.Goals as goal
-
--- a call that takes some bytes is not a failure
-some-taken : (count : ℕ) (bytes : List ℕ) → (count ≡ 0 → ⊥) → put_failures {E = ℕ} (Ok count) bytes ≡ 0
-some-taken count bytes some = grind arith
-
--- a call that takes none of some bytes is a failure
-none-taken : (bytes : List ℕ) → (length bytes ≡ 0 → ⊥) → put_failures {E = ℕ} (Ok 0) bytes ≡ 1
-none-taken bytes some = grind arith
 
 pub loop-taken-preserved : goal.loop-taken-preserved
 loop-taken-preserved g c =
@@ -24,7 +15,7 @@ loop-taken-preserved g c =
       within = omega arith;
       taken = next.taken ∙ ap (λ l. l ++ take count (take (length all - done) (drop done all))) loop.taken
           ∙ append_assoc (sink.taken c.args.sink.now) (take done all) _ ∙ ap (λ l. sink.taken c.args.sink.now ++ l) joined;
-      failures = omega (arith, next.failures, loop.failures, some-taken count (take (length all - done) (drop done all)) c.in-Ok.count-test.1);
+      failures = grind (arith, next.failures, loop.failures);
       kept = g.met.K.ByteSink.keeps_transitive _ _ _ loop.kept next.kept;
     }
 
@@ -33,11 +24,7 @@ returns-in-Err-clause-failures g c = omega (arith, c.in-Err.ensures.failures, c.
 
 pub returns-in-Ok-eq0-clause-failures : goal.returns-in-Ok-eq0-clause-failures
 returns-in-Ok-eq0-clause-failures g c =
-    let done = c.loop-taken.taken in
-    let all = c.args.bytes.now in
-    let rest = take (length all - done) (drop done all) in
-    let some : length rest ≡ 0 → ⊥ = λ none. absurd (omega (arith, none, length-take (length all - done) (drop done all), length-drop done all)) in
-    omega (arith, rw c.in-Ok-eq0.field-0-test at c.in-Ok-eq0.ensures.failures, c.loop-taken.invariant.failures, none-taken rest some)
+    grind (arith, length-take, length-drop, rw c.in-Ok-eq0.field-0-test at c.in-Ok-eq0.ensures.failures, c.loop-taken.invariant.failures)
 
 pub returns-clause-ok : goal.returns-clause-ok
 returns-clause-ok g c = omega arith
