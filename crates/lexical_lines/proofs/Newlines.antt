@@ -41,14 +41,10 @@ ones_small zero = omega arith
 ones_small (suc k) = omega (arith, ones_small k)
 
 is_newline : (b : ℕ) → b < 256 → bit_xor b 10 ≡ 0 → b ≡ 10
-is_newline b small none =
-    let is = all_below-at (λ k. eqb k 10 || ltb 0 (bit_xor k 10)) 256 b refl small in
-    grind (arith, is, none)
+is_newline b small none = grind (arith, all_below-at (λ k. eqb k 10 || ltb 0 (bit_xor k 10)) 256 b refl small, none)
 
 unmarked : (c : ℕ) → c < 256 → 0 < c → bit_and (bit_and (c - 1) (255 - c)) 128 ≡ 0
-unmarked c small some =
-    let is = all_below-at (λ k. eqb k 0 || eqb (bit_and (bit_and (k - 1) (255 - k)) 128) 0) 256 c refl small in
-    grind (arith, is)
+unmarked c small some = grind (arith, all_below-at (λ k. eqb k 0 || eqb (bit_and (bit_and (k - 1) (255 - k)) 128) 0) 256 c refl small)
 
 split-mod : (a r m : ℕ) → 0 < m → r < 256 → (a * 2 ^ 8 + r) % (m * 2 ^ 8) ≡ a % m * 2 ^ 8 + r
 split-mod a r m some small =
@@ -153,10 +149,7 @@ Marks-lowest bytes marked m some fits =
     let set : bit_at marked n ≡ 1 =
     ap (λ x. bit_at x n) is ∙ bit_at_cat_high odd n 0 n (pow_pos n) (omega arith) ∙ ap (bit_at odd) (sub_self n) ∙ bit_at_lowest odd ∙ omega arith in
     let below : (i : ℕ) → i < n → bit_at marked i ≡ 0 = λ i less. ap (λ x. bit_at x i) is ∙ bit_at_cat_low odd n 0 i less ∙ bit_at-zero i in
-    let same : t ≡ n = elim (cases_lt t n) [
-      | inl before ↦ omega (arith, below t before, lowest.1)
-      | inr behind ↦ grind (arith, lowest.2 n, set)
-    ] in
+    let same : t ≡ n = grind (arith, below t, lowest.1, lowest.2 n, set) in
     let there : t / 8 ≡ m.index = omega arith in
     rw there m.first
 

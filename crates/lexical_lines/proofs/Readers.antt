@@ -1,6 +1,6 @@
 -- The bytes that a source has read from a reader.
 use Rattle.std.proofs.lemmas.Grind.{common_steps}
-use Rattle.std.proofs.Common.{◌≡◌, ◌⊎◌, ℕ, ◌+◌, true, List, [], ◌++◌, length, take, zero, suc, Option, Some, None, IsSome, refl, sym, ◌∙◌, inl, inr, ◌∷◌}
+use Rattle.std.proofs.Common.{◌≡◌, ◌⊎◌, ℕ, ◌+◌, true, List, [], ◌++◌, length, take, Option, Some, None, IsSome, ◌∙◌, inr, ◌∷◌}
 use Rattle.std.proofs.Common.{length-append, arith}
 use Rattle.std.specs.Prelude.{option_map, nat_eq, ◌||◌, ◌<◌, ◌≤◌}
 use Rattle.std.proofs.lemmas.Bool.Decides.{nat_tests}
@@ -51,15 +51,7 @@ module _ (before after : Option (List ℕ)) (count : ℕ) (block rest : List ℕ
       → KeepsReader remaining a b
   KeepsReader-read remaining a b old new some left yielded ended =
       KeepsReader-more remaining a b (take count block) (rw more at yielded) (omega (arith, left, length-take-le count block within)) (rw (old, new) read.0)
-      (λ told used is. at_end count refl told used (sym ended ∙ is))
-    where
-      at_end : (n : ℕ) → count ≡ n → IsSome (remaining a.reader) → (a.is_ended ≡ true → IsUsedUp remaining a) → (a.is_ended || nat_eq n 0) ≡ true
-          → IsUsedUp remaining b
-      at_end zero none told used is = inr (rw new (read.1 none room))
-      at_end (suc n) e told used is = elim (used (grind (arith, nat_tests))) [
-        | inl none ↦ absurd (some none)
-        | inr ended ↦ inr (rw new (still-at_end before after (take count block) read.0 (rw old at told) (rw old at ended)))
-      ]
+      (λ told used is. grind (arith, nat_tests, still-at_end before after (take count block) read.0, room))
 
   pub ReadConsumes-limited : (limit left : ℕ) → left + count ≡ limit → Consumes (option_map (take limit) before) (option_map (take left) after)
       (take count (block ++ rest)) × (count ≡ 0 → 0 < length (block ++ rest) → IsAtEnd (option_map (take left) after))

@@ -1,12 +1,11 @@
 -- What an answerer has done so far, and how a run ends.
 use Rattle.std.proofs.Common.{◌≡◌, ◌↔◌, ℕ, ◌+◌, ◌-◌, ◌^◌, min, Bool, true, false, List, [], ◌∷◌, ◌++◌, length, refl, sym, ap, ◌∙◌, append_assoc, IsTrue}
-use Rattle.std.proofs.Common.{length-append, inl, inr, ◌&&◌, ◌⊎◌, arith}
+use Rattle.std.proofs.Common.{length-append, inl, inr, ◌&&◌, ◌⊎◌, Some, arith}
 use Rattle.std.specs.List.{All}
-use Rattle.std.proofs.Common.{Some}
 use Rattle.std.proofs.lemmas.Bool.Decides.{Decides-and, Decides-like}
 use Rattle.std.proofs.lemmas.List.Elements.{All-pop, All-push}
 use Rattle.lexical_lines.specs.declared.answer.answerer.Answerer.{Answerer}
-use Rattle.lexical_lines.specs.Answer.{IsAnswer, AreAnswers, AreAnswersFrom, AnswersAll, AnswersEnded}
+use Rattle.lexical_lines.specs.Answer.{IsAnswer, AreAnswersFrom, AnswersAll, AnswersEnded}
 use Rattle.lexical_lines.specs.Answerer.{AnswererState}
 use Rattle.lexical_lines.specs.Line.{short_line}
 use Rattle.lexical_lines.specs.Lines.{AreLines, EndsLine, NoNewline}
@@ -37,11 +36,6 @@ BreaksOff-as : {was is : Bool} {bytes read put : List ℕ} → IsTrue is ⊎ End
 BreaksOff-as line_end same h = grind arith
 
 module _ {bytes written : List ℕ} {answerer : Answerer} (h : AnswererState bytes written answerer) where
-  pub answers_after : (answer : List ℕ) → IsAnswer answerer.line_number h.rest answer → AreAnswers (h.ended ++ h.rest ∷ []) (written ++ answer)
-  answers_after answer is =
-      AreAnswersFrom-push 1 h.ended written h.rest answer _ (omega arith) h.answered
-      (IsAnswer-counted (length h.ended + 1) answerer.line_number h.rest answer h.number is)
-
   pub valid_after : (is_valid : Bool) → (IsTrue is_valid ↔ IsValidLine h.rest)
       → IsTrue (answerer.all_valid && is_valid) ↔ All IsValidLine (h.ended ++ h.rest ∷ [])
   valid_after is_valid valid = Decides-like _ (λ parts. All-push IsValidLine h.ended h.rest parts.0 parts.1)
@@ -68,7 +62,8 @@ module _ {bytes written : List ℕ} {answerer : Answerer} (h : AnswererState byt
     ended = h.ended ++ h.rest ∷ [];
     rest = [];
     cut = IsCut-newline h.cut;
-    answered = answers_after answer is;
+    answered = AreAnswersFrom-push 1 h.ended written h.rest answer _ (omega arith) h.answered
+        (IsAnswer-counted (length h.ended + 1) answerer.line_number h.rest answer h.number is);
     number = omega (arith, number, h.number, length-append h.ended (h.rest ∷ []));
     valid = rw (sym all) at (valid_after is_valid valid);
     last = line;

@@ -29,9 +29,9 @@ IsRequest-unique {kind = kind} {plus = plus} {radix = radix} {base = base} h k =
     let parts = IsRequest-value k h.radix_text h.value_text (sym rest) (radix_decimal h).bytes in
     (sign, sym (radix_decimal h).value ∙ rw (sym parts.0) at (radix_decimal k).value, IsValue-number h.value (rw (sym parts.1) at k.value))
 
-IsText-unique : (number : ℤ) (radix : ℕ) (plus : Bool) (a b : List ℕ) → 2 ≤ radix → IsText number (requested_format radix plus) a
+IsText-unique : (number : ℤ) (radix : ℕ) (plus : Bool) → 2 ≤ radix → (a b : List ℕ) → IsText number (requested_format radix plus) a
     → IsText number (requested_format radix plus) b → a ≡ b
-IsText-unique number radix plus a b h p q =
+IsText-unique number radix plus h a b p q =
     p.whole ∙ ap (λ digits. sign_of number plus ++ digits) (digits_unique radix _ p.digits q.digits h p.magnitude q.magnitude) ∙ sym q.whole
 
 -- if texts of a kind are unique, so are the lines made of them
@@ -44,9 +44,8 @@ IsBadLine-unique n a b (s, p, e) (t, q, f) = e ∙ ap (λ digits. codes "bad lin
 IsAnswer-unique : (i : ℕ) (line a b : List ℕ) → IsAnswer i line a → IsAnswer i line b → a ≡ b
 IsAnswer-unique i line a b (inl p) (inl q) =
     let same = IsRequest-unique p.request q.request in
-    let other : WithNewline (IsText p.number (requested_format p.radix p.plus)) b = rw (same.0, same.1, same.2) q.text in
     WithNewline-unique (IsText p.number (requested_format p.radix p.plus)) a b
-    (λ s t. IsText-unique p.number p.radix p.plus s t p.request.radix_valid.at_least_two) p.text other
+    (IsText-unique p.number p.radix p.plus p.request.radix_valid.at_least_two) p.text (rw (same.0, same.1, same.2) q.text)
 IsAnswer-unique i line a b (inl p) (inr q) = absurd (q.bad (p.kind, p.plus, p.radix, p.number, p.request))
 IsAnswer-unique i line a b (inr p) (inl q) = absurd (p.bad (q.kind, q.plus, q.radix, q.number, q.request))
 IsAnswer-unique i line a b (inr p) (inr q) =
@@ -74,7 +73,8 @@ AreAnswersFrom-split i (line ∷ front) back text (answer, more, is, others, who
 lines_before : (is_ended : Bool) (bytes left : List ℕ) (all lines : List (List ℕ)) → (IsTrue is_ended → left ≡ [])
     → IsTrue is_ended ⊎ EndsLine bytes → AreLines bytes lines → AreLines (bytes ++ left) all
     → (others : List (List ℕ)) × (all ≡ lines ++ others)
-lines_before is_ended bytes left all lines none (inl ended) p q = ([], AreLines-unique bytes all lines (rw (none ended, append-nil bytes) at q) p ∙ sym (append-nil lines))
+lines_before is_ended bytes left all lines none (inl ended) p q =
+    ([], AreLines-unique bytes all lines (rw (none ended, append-nil bytes) at q) p ∙ sym (append-nil lines))
 lines_before is_ended bytes left all lines none (inr ends) p q =
     let (others, longer) = AreLines-more bytes left lines ends p in
     (others, AreLines-unique (bytes ++ left) all (lines ++ others) q longer)

@@ -56,4 +56,5 @@ unfolding HasAnswered
 returns-clause-ok g c = λ read written h.
     let (front, whole, reads) = c.loop-tail.invariant.read in
     let so_far = reads read written h in
-    rw (whole, ← append_assoc read front c.loop-tail.rest.now) (AnswererState-more so_far c.loop-tail.rest.now _ c.in_default.ensures.none (c.push_all.ensures so_far.rest so_far.last) refl refl)
+    rw (whole, ← append_assoc read front c.loop-tail.rest.now)
+    (AnswererState-more so_far c.loop-tail.rest.now _ c.in_default.ensures.none (c.push_all.ensures so_far.rest so_far.last) refl refl)
