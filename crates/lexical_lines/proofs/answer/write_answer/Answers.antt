@@ -1,4 +1,4 @@
-use Rattle.std.proofs.Common.{◌≡◌, ◌-◌, ◌^◌, min, inr, arith}
+use Rattle.std.proofs.Common.{◌≡◌, ◌-◌, ◌^◌, min, inr, false, IsTrue, arith}
 use Rattle.lexical_lines.proofs.answer.write_answer.Goals as goal
 
 pub returns-in-None-clause-answer : goal.returns-in-None-clause-answer
@@ -15,4 +15,5 @@ returns-in-None-clause-answer c = λ bytes is.
 -- the check finds this proof by itself, but with an answer the refusal of a mistake says what is wrong
 pub returns-in-None-clause-valid : goal.returns-in-None-clause-valid
 returns-in-None-clause-valid c = λ bytes is.
-    (λ yes. absurd (cc yes), λ valid. absurd (c.in-None.ensures.none bytes is valid))
+    let no : IsTrue false → ⊥ = λ yes. cc in
+    (λ yes. absurd (no yes), λ valid. absurd (c.in-None.ensures.none bytes is valid))

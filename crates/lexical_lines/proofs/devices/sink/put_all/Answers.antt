@@ -1,6 +1,11 @@
-use Rattle.std.proofs.Common.{◌-◌, ◌++◌, length, take, drop, sym, ap, ◌∙◌, append_assoc, length-take, length-drop, arith}
+use Rattle.std.proofs.Common.{◌≡◌, ◌-◌, ◌++◌, length, take, drop, sym, ap, ◌∙◌, append_assoc, ℕ, List, Ok, length-take, length-drop, arith}
 use lib.Seq.{take-add, take-take}
+use Rattle.lexical_lines.specs.Sink.{put_failures}
 use Rattle.lexical_lines.proofs.devices.sink.put_all.Goals as goal
+
+-- a call that takes none of some bytes is a failure
+none-taken : (bytes : List ℕ) → (length bytes ≡ 0 → ⊥) → put_failures {E = ℕ} (Ok 0) bytes ≡ 1
+none-taken bytes some = grind arith
 
 pub loop-taken-preserved : goal.loop-taken-preserved
 loop-taken-preserved g c =
@@ -24,7 +29,11 @@ returns-in-Err-clause-failures g c = omega (arith, c.in-Err.ensures.failures, c.
 
 pub returns-in-Ok-eq0-clause-failures : goal.returns-in-Ok-eq0-clause-failures
 returns-in-Ok-eq0-clause-failures g c =
-    grind (arith, length-take, length-drop, rw c.in-Ok-eq0.field-0-test at c.in-Ok-eq0.ensures.failures, c.loop-taken.invariant.failures)
+    let done = c.loop-taken.taken in
+    let all = c.args.bytes.now in
+    let rest = take (length all - done) (drop done all) in
+    let some : length rest ≡ 0 → ⊥ = λ none. absurd (omega (arith, none, length-take (length all - done) (drop done all), length-drop done all)) in
+    omega (arith, rw c.in-Ok-eq0.field-0-test at c.in-Ok-eq0.ensures.failures, c.loop-taken.invariant.failures, none-taken rest some)
 
 pub returns-clause-ok : goal.returns-clause-ok
 returns-clause-ok g c = omega arith
