@@ -19,8 +19,7 @@ in_halves f once xs first second size some all is_first is_second =
     let start = length whole - size in
     let first_long : length first ≡ size = ap length is_first ∙ length-map (take size xs) f ∙ length-take-le size xs some in
     let long : length whole ≡ length xs = omega (arith, first_long, length-append first (drop size xs), length-drop size xs) in
-    let changed : map f whole ≡ map f xs =
-    grind (arith, is_first, map_twice f once (take size xs), map-append f first (drop size xs), map-append f (take size xs) (drop size xs), take-append-drop size xs) in
+    let changed : map f whole ≡ map f xs = grind (arith, is_first, map_twice f once (take size xs), map-append, take-append-drop size xs) in
     let front : take start whole ≡ map f (take start xs) =
     take-append-le start first (drop size xs) (omega (arith, long, first_long)) ∙ ap (take start) is_first ∙ take-map f start (take size xs)
     ∙ ap (map f) (take-take start size xs (omega (arith, long))) in

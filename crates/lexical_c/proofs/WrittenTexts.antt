@@ -59,7 +59,7 @@ pub refused : (x : ℤ) (format : CFormat) (Is : List ℕ → Type 0) (buffer : 
     WritesIf x format Is buffer buffer 0
 refused x format Is buffer cannot = grind arith
 
--- texts of one kind are also of another
+-- what writes texts of one kind writes texts of another, if each of the first kind is also of the second
 WritesIf-as : {x : ℤ} {format : CFormat} {Is Also : List ℕ → Type 0} {before after : List ℕ} {count : ℕ} → ((text : List ℕ) → Is text → Also text) →
     WritesIf x format Is before after count → WritesIf x format Also before after count
 WritesIf-as also w = grind arith

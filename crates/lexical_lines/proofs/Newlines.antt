@@ -1,5 +1,5 @@
 -- The first newline among the bytes of a word.
-use Rattle.std.proofs.Common.{◌≡◌, ◌≢◌, ◌⊎◌, ℕ, zero, suc, ◌+◌, ◌-◌, ◌*◌, ◌/◌, ◌%◌, ◌^◌, ◌<◌, eqb, List, [], ◌∷◌, length, take, ltb}
+use Rattle.std.proofs.Common.{◌≡◌, ◌≢◌, ◌⊎◌, ℕ, zero, suc, ◌+◌, ◌-◌, ◌*◌, ◌/◌, ◌%◌, ◌^◌, ◌<◌, eqb, List, [], ◌∷◌, length, ltb}
 use Rattle.std.proofs.Common.{◌||◌, pow_pos, bit_and, bit_xor, w64, refl, ap, ap₂, subst, ◌∙◌, inl, inr, arith}
 use Rattle.std.proofs.lemmas.Bool.{cases_lt}
 use Rattle.std.proofs.lemmas.List.Elements.{All-nil, All-cons, All-head, All-tail}
@@ -101,11 +101,7 @@ Marks-next b bytes marked differs m =
     let more : 8 * suc m.index + 7 ≡ 8 * m.index + 7 + 8 = omega arith in
     record {
       index = suc m.index;
-      first = record {
-        within = omega (arith, m.first.within);
-        newline = m.first.newline;
-        before = All-cons (λ byte. byte ≢ 10) b (take m.index bytes) differs m.first.before;
-      };
+      first = grind (arith, m.first, All-cons);
       above = m.above;
       bits = rw (more, pow-add 2 (8 * m.index + 7) 8) (omega (arith, m.bits));
     }
@@ -164,10 +160,7 @@ in_word n fits =
     rw is at (newlines (to_le_bytes w64 n) (bytes_small 0 8 n))
 
 pub none_found : (n : ℕ) → n < 2 ^ 64 → found 8 (bit_xor n (each 10 8)) ≡ 0 → NoNewline (to_le_bytes w64 n)
-none_found n fits zeros = elim (in_word n fits) [
-  | inl none ↦ none.0
-  | inr m ↦ absurd (omega (arith, zeros, m.bits, pow_pos (8 * m.index + 7)))
-]
+none_found n fits zeros = grind (arith, in_word n fits, pow_pos)
 
 pub first_found : (n : ℕ) → n < 2 ^ 64 → found 8 (bit_xor n (each 10 8)) ≢ 0
     → IsFirstNewline (to_le_bytes w64 n) (trailing_zeros w64 (found 8 (bit_xor n (each 10 8))) / 8)
