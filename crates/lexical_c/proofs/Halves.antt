@@ -1,7 +1,7 @@
 -- A change of each element that is made in both ends of a list, which together are the whole list.
 use Rattle.std.proofs.Common.{◌≡◌, ℕ, ◌-◌, ◌*◌, ◌≤◌, List, [], ◌∷◌, ◌++◌, length, map, take, drop, refl, sym, ap, ◌∙◌, arith, length-append}
 use Rattle.std.proofs.lemmas.List.{append-nil, drop-map, length-drop, length-map, length-take-le, map-append, take-append-drop, take-append-le, take-map}
-use Rattle.std.proofs.lemmas.List.{drop_all, take_all}
+use Rattle.std.proofs.lemmas.List.{drop_all, take_all, take-take}
 use borrow.Rule.Slice.PartMut.{put_mid}
 
 map_twice : (f : ℕ → ℕ) → ((x : ℕ) → f (f x) ≡ f x) → (xs : List ℕ) → map f (map f xs) ≡ map f xs
@@ -19,18 +19,11 @@ in_halves f once xs first second size some all is_first is_second =
     let start = length whole - size in
     let first_long : length first ≡ size = ap length is_first ∙ length-map (take size xs) f ∙ length-take-le size xs some in
     let long : length whole ≡ length xs = omega (arith, first_long, length-append first (drop size xs), length-drop size xs) in
-    let changed : map f whole ≡ map f xs =
-    map-append f first (drop size xs) ∙ ap (λ ys. ys ++ map f (drop size xs)) (ap (map f) is_first ∙ map_twice f once (take size xs))
-    ∙ sym (map-append f (take size xs) (drop size xs)) ∙ ap (map f) (take-append-drop size xs) in
-    let short : take start (take size xs) ≡ take start xs =
-    sym (take-append-le start (take size xs) (drop size xs) (omega (arith, long, length-take-le size xs some))) ∙ ap (take start) (take-append-drop size xs) in
+    let changed : map f whole ≡ map f xs = grind (arith, is_first, map_twice f once (take size xs), map-append, take-append-drop size xs) in
     let front : take start whole ≡ map f (take start xs) =
     take-append-le start first (drop size xs) (omega (arith, long, first_long)) ∙ ap (take start) is_first ∙ take-map f start (take size xs)
-    ∙ ap (map f) short in
-    let rest : take (length whole - start) (drop start whole) ≡ drop start whole =
-    take_all (length whole - start) (drop start whole) (omega (arith, length-drop start whole)) in
+    ∙ ap (map f) (take-take start size xs (omega (arith, long))) in
+    let rest : length (drop start whole) ≤ length whole - start = omega (arith, length-drop start whole) in
     let back : second ≡ map f (drop start xs) =
-    is_second ∙ ap (map f) rest ∙ sym (drop-map f start whole) ∙ ap (drop start) changed ∙ drop-map f start xs in
-    let none : drop (length whole - start) (drop start whole) ≡ [] =
-    drop_all (length whole - start) (drop start whole) (omega (arith, length-drop start whole)) in
-    rw (front, back, none, append-nil (map f (drop start xs))) (sym (map-append f (take start xs) (drop start xs)) ∙ ap (map f) (take-append-drop start xs))
+    is_second ∙ ap (map f) (take_all _ _ rest) ∙ sym (drop-map f start whole) ∙ ap (drop start) changed ∙ drop-map f start xs in
+    rw (front, back, drop_all _ _ rest, append-nil (map f (drop start xs)), ← map-append f (take start xs) (drop start xs), take-append-drop start xs) refl

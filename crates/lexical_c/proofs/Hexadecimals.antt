@@ -3,7 +3,7 @@ use Rattle.std.proofs.Common.{◌≡◌, ℤ, unsigned_abs, false, ℕ, suc, ◌
 use Rattle.std.proofs.Common.{append_assoc, refl, sym, ap, ◌∙◌, arith}
 use Rattle.std.specs.Char.{to_ascii_lowercase}
 use Rattle.std.proofs.lemmas.List.{append-nil, drop_all, drop_at, drop-set-lt, length-drop, length-set}
-use Rattle.std.proofs.lemmas.List.{length-take-le, map-append, take-append-drop}
+use Rattle.std.proofs.lemmas.List.{length-take, length-take-le, map-append, take-append-drop}
 use Rattle.std.proofs.lemmas.Slice.{take-put_mid_below}
 use Rattle.lexical_num.specs.Digit.{digit_char}
 use Rattle.lexical_num.specs.Format.{Format, IsValid, standard}
@@ -34,10 +34,8 @@ without_two k n = rw (map-append, map-append, append_assoc) refl
 
 -- two bytes that are written one after the other
 pair_of : (x y : ℕ) (pair : List ℕ) → length pair ≡ 2 → set (set pair 0 y) 1 x ≡ y ∷ x ∷ []
-pair_of x y [] two = absurd (omega (arith, two))
-pair_of x y (a ∷ []) two = absurd (omega (arith, two))
 pair_of x y (a ∷ b ∷ []) two = refl
-pair_of x y (a ∷ b ∷ c ∷ rest) two = absurd (omega (arith, two))
+pair_of x y _ two = absurd (omega (arith, two))
 
 -- the text after two bytes are written to its end
 abbrev ending_in : ℕ → ℕ → List ℕ → List ℕ
@@ -53,9 +51,8 @@ length-before_two text y x more =
 written_two : (text : List ℕ) (y x : ℕ) → 2 < length text → drop (length text - 2) (ending_in y x text) ≡ y ∷ x ∷ []
 written_two text y x more =
     let start = length text - 2 in
-    let count : length text - start ≡ 2 = omega arith in
     let part = mid_of start (length text - start) text in
-    let long : length part ≡ 2 = length-take-le (length text - start) (drop start text) (omega (arith, length-drop start text)) ∙ count in
+    let long : length part ≡ 2 = omega (arith, length-take (length text - start) (drop start text), length-drop start text) in
     let none : drop (length text - start) (drop start text) ≡ [] = drop_all (length text - start) (drop start text) (omega (arith, length-drop start text)) in
     drop_at (take start text) _ start (length-take-le start text (omega arith)) ∙ rw (pair_of x y part long, none) refl
 
@@ -74,10 +71,9 @@ last_two_digits {x} {y} {before} number text more is_y is_x is =
 -- the first two digits; if there is only one, it is written over a byte of the same index
 pub first_digits : {x y : ℕ} (number : ℕ) (text : List ℕ) → 1 ≤ length text → length text ≤ 2 → y ≡ last_of (number / 16) → x ≡ last_of number →
     set (set text 0 y) (length (set text 0 y) - 1) x ≡ last_digits (length text) number
-first_digits number [] some few is_y is_x = absurd (omega (arith, some))
 first_digits number (a ∷ []) some few is_y is_x = rw is_x refl
 first_digits number (a ∷ b ∷ []) some few is_y is_x = rw (is_y, is_x) refl
-first_digits number (a ∷ b ∷ c ∷ rest) some few is_y is_x = absurd (omega (arith, few))
+first_digits number _ some few is_y is_x = absurd (omega (arith, some, few))
 
 -- as many digits as the number has are its digits
 all_digits : (n count : ℕ) → count ≡ digit_count 16 n → IsLowercase (IsDigits 16 n) (last_digits count n)

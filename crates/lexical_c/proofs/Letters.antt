@@ -8,7 +8,7 @@ use Rattle.std.proofs.lemmas.List.{map-append}
 use Rattle.std.proofs.lemmas.Str.Ascii.{lowercase_is}
 use Rattle.std.proofs.lemmas.Nat.Bits.{and_pow}
 use Rattle.std.proofs.lemmas.Bool.{cases_lt}
-use Rattle.std.specs.Int.Bits.{bit_and, bit_or, or_add_and}
+use Rattle.std.specs.Int.Bits.{bit_or, or_add_and}
 use Rattle.lexical_num.specs.Digit.{digit_char}
 use Rattle.lexical_num.specs.Format.{Format}
 use Rattle.lexical_num.specs.Sign.{sign_of}
@@ -30,8 +30,7 @@ Unlettered-sign x required = grind arith
 pub lowercase-unlettered : (text : List ℕ) → Unlettered text → map to_ascii_lowercase text ≡ text
 lowercase-unlettered [] all = refl
 lowercase-unlettered (b ∷ text) all =
-    let first = (lowercase_is b).1 (All-head (λ b. b < 65) b text all) in
-    rw (first, lowercase-unlettered text (All-tail (λ b. b < 65) b text all)) refl
+    grind (arith, (lowercase_is b).1 (All-head (λ b. b < 65) b text all), lowercase-unlettered text (All-tail (λ b. b < 65) b text all))
 
 -- a text without groups in radix 10 or below is the same in lowercase
 pub lowercase-IsText : (x : ℤ) (format : Format) (text : List ℕ) → format.mantissa_radix ≤ 10 → format.digit_grouping ≡ None →
@@ -41,9 +40,7 @@ lowercase-IsText x format text few none is = grind (arith, Unlettered-digit_char
 -- ---- texts whose letters are changed by setting a bit
 
 or_32 : (c : ℕ) → bit_or c 32 ≡ c + 32 - c / 32 % 2 * 32
-or_32 c =
-    let both : bit_and c 32 ≡ c / 32 % 2 * 32 = and_pow c 5 in
-    omega (arith, or_add_and c 32, both)
+or_32 c = omega (arith, or_add_and c 32, and_pow c 5)
 
 pub lowered_twice : (c : ℕ) → bit_or (bit_or c 32) 32 ≡ bit_or c 32
 lowered_twice c = omega (arith, or_32 c, or_32 (bit_or c 32))

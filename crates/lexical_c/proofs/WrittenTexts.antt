@@ -59,27 +59,19 @@ pub refused : (x : ℤ) (format : CFormat) (Is : List ℕ → Type 0) (buffer : 
     WritesIf x format Is buffer buffer 0
 refused x format Is buffer cannot = grind arith
 
+-- what writes texts of one kind writes texts of another, if each of the first kind is also of the second
+WritesIf-as : {x : ℤ} {format : CFormat} {Is Also : List ℕ → Type 0} {before after : List ℕ} {count : ℕ} → ((text : List ℕ) → Is text → Also text) →
+    WritesIf x format Is before after count → WritesIf x format Also before after count
+WritesIf-as also w = grind arith
+
 -- without groups, in radix 10 or below if lowercase is requested, the text is in the requested case
 pub in_either_case : (x : ℤ) (format : CFormat) (before after : List ℕ) (count : ℕ) → format.group_size ≡ 0 →
     (format.lowercase ≢ 0 → format.radix ≤ 10) → WritesIf x format (IsText x (format_of format)) before after count →
     WritesOrRefuses x format before after count
-in_either_case x format before after count none few w = record {
-  accepts = w.accepts;
-  text = λ some. let t = w.text some in record {
-    text = t.text;
-    is = record {
-      upper = λ _. t.is;
-      lower = λ other. record {
-        original = t.text;
-        is = t.is;
-        whole = lowercase-IsText x (format_of format) t.text (few other) (rw none refl) t.is;
-      };
-    };
-    front = t.front;
-    count = t.count;
-  };
-  refused = w.refused;
-}
+in_either_case x format before after count none few w = WritesIf-as (λ text is. record {
+  upper = λ _. is;
+  lower = λ other. record { original = text; is = is; whole = lowercase-IsText x (format_of format) text (few other) (rw none refl) is };
+}) w
 
 -- the standard format is accepted
 pub decimal_accepted : IsAccepted DECIMAL
@@ -104,13 +96,6 @@ in_uppercase x format before after count upper w = grind arith
 pub in_lowercase : (x : ℤ) (format : CFormat) (before between lower : List ℕ) (count : ℕ) → format.lowercase ≢ 0 →
     WritesIf x format (IsText x (format_of format)) before between count → lower ≡ map to_ascii_lowercase (take count between) →
     WritesOrRefuses x format before (lower ++ drop count between) count
-in_lowercase x format before between lower count other w is = record {
-  accepts = w.accepts;
-  text = λ some. let t = written_lower (w.text some) is in record {
-    text = t.text;
-    is = record { upper = λ none. absurd (other none); lower = λ _. t.is };
-    front = t.front;
-    count = t.count;
-  };
-  refused = λ none. rw (is, none) (w.refused none);
-}
+in_lowercase x format before between lower count other w is =
+    WritesIf-as (λ text lowered. record { upper = λ none. absurd (other none); lower = λ _. lowered })
+    record { accepts = w.accepts; text = λ some. written_lower (w.text some) is; refused = λ none. rw (is, none) (w.refused none) }

@@ -1,9 +1,9 @@
 -- Decimal digits and the bytes that represent them.
 use Rattle.std.proofs.lemmas.Grind.{common_steps}
-use Rattle.std.proofs.Common.{◌≡◌, ℕ, ◌+◌, ◌-◌, ◌*◌, ◌^◌, ◌<◌, ◌≤◌, List, [], ◌∷◌, ◌++◌, length, get_or, map, take, drop, refl, sym, ap, ◌∙◌, arith}
+use Rattle.std.proofs.Common.{◌≡◌, ℕ, ◌+◌, ◌-◌, ◌*◌, ◌<◌, ◌≤◌, List, [], ◌∷◌, ◌++◌, length, get_or, map, take, drop, refl, sym, ap, ◌∙◌, arith}
 use Rattle.std.specs.List.{All}
 use Rattle.std.proofs.lemmas.List.{take-append-drop, length-map, map-append}
-use Rattle.std.proofs.lemmas.List.Elements.{All-head, All-tail, All-map, All-weaker}
+use Rattle.std.proofs.lemmas.List.Elements.{All-head, All-tail, All-map}
 use Rattle.std.proofs.Math.Nat.{one-le-pow, mul-le-mul_left}
 use Rattle.lexical_num.specs.Digit.{digit_char}
 use Rattle.lexical_write_integer.specs.Numeral.{value_of}
@@ -14,17 +14,13 @@ use Rattle.lexical_lines.specs.Decimal.{IsDecimalNumeral, IsDigitByte, digits_in
 
 -- ---- the digits read so far
 
-digits_in-split : (text : List ℕ) (k : ℕ) → digits_in text ≡ digits_in (take k text) ++ digits_in (drop k text)
-digits_in-split text k = ap digits_in (sym (take-append-drop k text)) ∙ map-append (λ byte. byte - 48) (take k text) (drop k text)
-
 -- the value of the first digits is at most the value of all digits
 pub value_of-front : (text : List ℕ) (k : ℕ) → value_of 10 (digits_in (take k text)) ≤ value_of 10 (digits_in text)
 value_of-front text k =
-    let front = value_of 10 (digits_in (take k text)) in
+    let front = digits_in (take k text) in
     let back = digits_in (drop k text) in
-    let split : value_of 10 (digits_in text) ≡ front * 10 ^ length back + value_of 10 back =
-    ap (value_of 10) (digits_in-split text k) ∙ value_of-append 10 (digits_in (take k text)) back in
-    omega (arith, mul-le-mul_left front (one-le-pow (length back) 10 (omega arith)))
+    let split : digits_in text ≡ front ++ back = ap digits_in (sym (take-append-drop k text)) ∙ map-append (λ byte. byte - 48) (take k text) (drop k text) in
+    omega (arith, ap (value_of 10) split, value_of-append 10 front back, mul-le-mul_left (value_of 10 front) (one-le-pow (length back) 10 (omega arith)))
 
 -- the value of the digits up to the next one
 pub value_of-more : (text : List ℕ) (i : ℕ) → i < length text → value_of 10 (digits_in (take (i + 1) text))
@@ -38,23 +34,16 @@ IsDecimalNumeral-at_least n text i h d = omega (arith, value_of-more text i h, v
 
 -- ---- digits without leading zeros
 
-byte_of_digit : (d : ℕ) → d < 10 → IsDigitByte (digit_char d)
-byte_of_digit d h = let e = digit_char-decimal d h in record { at_least = omega arith; at_most = omega arith }
-
 digits_in-digit_char : (digits : List ℕ) → All (λ d. d < 10) digits → digits_in (map digit_char digits) ≡ digits
 digits_in-digit_char [] h = refl
 digits_in-digit_char (d ∷ digits) h =
-    let e = digit_char-decimal d (All-head (λ d. d < 10) d digits h) in
-    let first : digit_char d - 48 ≡ d = omega arith in
-    let rest = digits_in-digit_char digits (All-tail (λ d. d < 10) d digits h) in
-    cc
+    grind (arith, digit_char-decimal d (All-head (λ d. d < 10) d digits h), digits_in-digit_char digits (All-tail (λ d. d < 10) d digits h))
 
 pub IsDecimalNumeral-from_digits : (n : ℕ) (text : List ℕ) → IsDigits 10 n text → IsDecimalNumeral n text
 IsDecimalNumeral-from_digits n text h =
     let below = h.numeral.numeral.below_radix in
     record {
       nonempty = rw (h.characters, length-map) h.numeral.numeral.nonempty;
-      bytes = rw h.characters (All-map IsDigitByte digit_char h.digits
-          (All-weaker (λ d. d < 10) (λ d. IsDigitByte (digit_char d)) byte_of_digit h.digits below));
+      bytes = rw h.characters (All-map IsDigitByte digit_char h.digits (λ k d less. grind (arith, digit_char-decimal, below k d less)));
       value = rw (h.characters, digits_in-digit_char h.digits below) h.numeral.value;
     }

@@ -12,9 +12,6 @@ use Rattle.lexical_lines.proofs.Splits.{Lacks-not, cut_unique}
 abbrev pub IsInside : ℕ → Type 0
 IsInside byte = byte ≢ 10
 
-with_newlines-cons : (line : List ℕ) (ended : List (List ℕ)) (rest : List ℕ) → with_newlines (line ∷ ended) ++ rest ≡ line ++ 10 ∷ (with_newlines ended ++ rest)
-with_newlines-cons line ended rest = simp append_assoc
-
 -- ---- more bytes
 
 pub IsCut-none : IsCut [] [] []
@@ -66,21 +63,15 @@ AreLines-exist bytes =
 
 -- ---- no input has two cuts
 
-no_newline : (line more : List ℕ) (rest : List ℕ) → NoNewline rest → rest ≡ line ++ 10 ∷ more → ⊥
-no_newline line more rest inside e = Lacks-not 10 line more (rw e at inside)
-
 cuts_unique : (ended other : List (List ℕ)) (rest last : List ℕ) → All NoNewline ended → All NoNewline other → NoNewline rest → NoNewline last
     → with_newlines ended ++ rest ≡ with_newlines other ++ last → (ended ≡ other) × (rest ≡ last)
 cuts_unique [] [] rest last each_ended each_other inside within e = (refl, e)
 cuts_unique [] (line ∷ other) rest last each_ended each_other inside within e =
-    absurd (no_newline line (with_newlines other ++ last) rest inside (e ∙ with_newlines-cons line other last))
+    absurd (Lacks-not 10 line (with_newlines other ++ last) (rw (simp append_assoc at e) at inside))
 cuts_unique (line ∷ ended) [] rest last each_ended each_other inside within e =
-    absurd (no_newline line (with_newlines ended ++ rest) last within (sym e ∙ with_newlines-cons line ended rest))
+    absurd (Lacks-not 10 line (with_newlines ended ++ rest) (rw (simp append_assoc at (sym e)) at within))
 cuts_unique (line ∷ ended) (first ∷ other) rest last each_ended each_other inside within e =
-    let both =
-    cut_unique 10 line (with_newlines ended ++ rest) first (with_newlines other ++ last) (All-head NoNewline line ended each_ended)
-    (All-head NoNewline first other each_other)
-    (sym (with_newlines-cons line ended rest) ∙ e ∙ with_newlines-cons first other last) in
+    let both = cut_unique 10 line _ first _ (All-head NoNewline line ended each_ended) (All-head NoNewline first other each_other) (simp append_assoc at e) in
     let more = cuts_unique ended other rest last (All-tail NoNewline line ended each_ended) (All-tail NoNewline first other each_other) inside within both.1 in
     (cc (both.0, more.0), more.1)
 

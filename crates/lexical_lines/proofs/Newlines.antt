@@ -1,11 +1,11 @@
 -- The first newline among the bytes of a word.
-use Rattle.std.proofs.Common.{◌≡◌, ◌≢◌, ◌⊎◌, ℕ, zero, suc, ◌+◌, ◌-◌, ◌*◌, ◌/◌, ◌%◌, ◌^◌, ◌<◌, eqb, List, [], ◌∷◌, length, take, ltb}
+use Rattle.std.proofs.Common.{◌≡◌, ◌≢◌, ◌⊎◌, ℕ, zero, suc, ◌+◌, ◌-◌, ◌*◌, ◌/◌, ◌%◌, ◌^◌, ◌<◌, eqb, List, [], ◌∷◌, length, ltb}
 use Rattle.std.proofs.Common.{◌||◌, pow_pos, bit_and, bit_xor, w64, refl, ap, ap₂, subst, ◌∙◌, inl, inr, arith}
 use Rattle.std.proofs.lemmas.Bool.{cases_lt}
 use Rattle.std.proofs.lemmas.List.Elements.{All-nil, All-cons, All-head, All-tail}
 use Rattle.std.proofs.lemmas.Nat.{and_block, and_le_l, and_le_r, xor_block, xor_of_8, mod-mul-add, pow-add, from_le_bytes-to_le_bytes_8}
 use Rattle.std.proofs.lemmas.Nat.Bits.{bit_at_cat_low, bit_at_cat_high, bit_at_lowest, bit_at-zero, bit_at-trailing_zeros}
-use Rattle.std.proofs.Math.Nat.{mod-lt, div-add-mod'}
+use Rattle.std.proofs.Math.Nat.{mod-lt, div-add-mod', sub_self}
 use Rattle.std.specs.Int.{bit_at, byte_at, bytes_low_first, trailing_zeros, to_le_bytes}
 use Rattle.std.specs.List.{All}
 use Rattle.lexical_write_integer.proofs.OfDigits.Radix.BinaryWords.{all_below-at}
@@ -41,14 +41,10 @@ ones_small zero = omega arith
 ones_small (suc k) = omega (arith, ones_small k)
 
 is_newline : (b : ℕ) → b < 256 → bit_xor b 10 ≡ 0 → b ≡ 10
-is_newline b small none =
-    let is = all_below-at (λ k. eqb k 10 || ltb 0 (bit_xor k 10)) 256 b refl small in
-    grind (arith, is, none)
+is_newline b small none = grind (arith, all_below-at (λ k. eqb k 10 || ltb 0 (bit_xor k 10)) 256 b refl small, none)
 
 unmarked : (c : ℕ) → c < 256 → 0 < c → bit_and (bit_and (c - 1) (255 - c)) 128 ≡ 0
-unmarked c small some =
-    let is = all_below-at (λ k. eqb k 0 || eqb (bit_and (bit_and (k - 1) (255 - k)) 128) 0) 256 c refl small in
-    grind (arith, is)
+unmarked c small some = grind (arith, all_below-at (λ k. eqb k 0 || eqb (bit_and (bit_and (k - 1) (255 - k)) 128) 0) 256 c refl small)
 
 split-mod : (a r m : ℕ) → 0 < m → r < 256 → (a * 2 ^ 8 + r) % (m * 2 ^ 8) ≡ a % m * 2 ^ 8 + r
 split-mod a r m some small =
@@ -105,11 +101,7 @@ Marks-next b bytes marked differs m =
     let more : 8 * suc m.index + 7 ≡ 8 * m.index + 7 + 8 = omega arith in
     record {
       index = suc m.index;
-      first = record {
-        within = omega (arith, m.first.within);
-        newline = m.first.newline;
-        before = All-cons (λ byte. byte ≢ 10) b (take m.index bytes) differs m.first.before;
-      };
+      first = grind (arith, m.first, All-cons);
       above = m.above;
       bits = rw (more, pow-add 2 (8 * m.index + 7) 8) (omega (arith, m.bits));
     }
@@ -142,9 +134,6 @@ newlines (b ∷ bytes) h =
           }))
     ])
 
-n-n : (n : ℕ) → n - n ≡ 0
-n-n n = omega arith
-
 pub Marks-lowest : (bytes : List ℕ) (marked : ℕ) → Marks bytes marked → 0 < marked → marked < 2 ^ 64
     → IsFirstNewline bytes (trailing_zeros w64 marked / 8)
 Marks-lowest bytes marked m some fits =
@@ -154,25 +143,15 @@ Marks-lowest bytes marked m some fits =
     let t = trailing_zeros w64 marked in
     let is : marked ≡ odd * 2 ^ n + 0 = omega (arith, m.bits) in
     let set : bit_at marked n ≡ 1 =
-    ap (λ x. bit_at x n) is ∙ bit_at_cat_high odd n 0 n (pow_pos n) (omega arith) ∙ ap (bit_at odd) (n-n n) ∙ bit_at_lowest odd ∙ omega arith in
+    ap (λ x. bit_at x n) is ∙ bit_at_cat_high odd n 0 n (pow_pos n) (omega arith) ∙ ap (bit_at odd) (sub_self n) ∙ bit_at_lowest odd ∙ omega arith in
     let below : (i : ℕ) → i < n → bit_at marked i ≡ 0 = λ i less. ap (λ x. bit_at x i) is ∙ bit_at_cat_low odd n 0 i less ∙ bit_at-zero i in
-    let same : t ≡ n = elim (cases_lt t n) [
-      | inl before ↦ omega (arith, below t before, lowest.1)
-      | inr behind ↦ elim (cases_lt n t) [
-        | inl after ↦ omega (arith, lowest.2 n after, set)
-        | inr last ↦ omega arith
-      ]
-    ] in
+    let same : t ≡ n = grind (arith, below t, lowest.1, lowest.2 n, set) in
     let there : t / 8 ≡ m.index = omega arith in
     rw there m.first
 
-byte_small : (i n : ℕ) → byte_at i n < 256
-byte_small zero n = mod-lt n (omega arith)
-byte_small (suc i) n = mod-lt (n / 256 ^ suc i) (omega arith)
-
 bytes_small : (i k n : ℕ) → AreBytes (bytes_low_first i k n)
 bytes_small i zero n = All-nil (λ b. b < 256)
-bytes_small i (suc k) n = All-cons (λ b. b < 256) (byte_at i n) (bytes_low_first (suc i) k n) (byte_small i n) (bytes_small (suc i) k n)
+bytes_small i (suc k) n = All-cons (λ b. b < 256) (byte_at i n) (bytes_low_first (suc i) k n) (grind arith) (bytes_small (suc i) k n)
 
 in_word : (n : ℕ) → n < 2 ^ 64
     → (NoNewline (to_le_bytes w64 n) × (found 8 (bit_xor n (each 10 8)) ≡ 0)) ⊎ Marks (to_le_bytes w64 n) (found 8 (bit_xor n (each 10 8)))
@@ -180,14 +159,8 @@ in_word n fits =
     let is : word (to_le_bytes w64 n) ≡ n = omega (arith, from_le_bytes-to_le_bytes_8 n fits) in
     rw is at (newlines (to_le_bytes w64 n) (bytes_small 0 8 n))
 
-some_marked : (bytes : List ℕ) (marked : ℕ) → Marks bytes marked → 0 < marked
-some_marked bytes marked m = omega (arith, m.bits, pow_pos (8 * m.index + 7))
-
 pub none_found : (n : ℕ) → n < 2 ^ 64 → found 8 (bit_xor n (each 10 8)) ≡ 0 → NoNewline (to_le_bytes w64 n)
-none_found n fits zeros = elim (in_word n fits) [
-  | inl none ↦ none.0
-  | inr m ↦ absurd (omega (arith, zeros, some_marked (to_le_bytes w64 n) (found 8 (bit_xor n (each 10 8))) m))
-]
+none_found n fits zeros = grind (arith, in_word n fits, pow_pos)
 
 pub first_found : (n : ℕ) → n < 2 ^ 64 → found 8 (bit_xor n (each 10 8)) ≢ 0
     → IsFirstNewline (to_le_bytes w64 n) (trailing_zeros w64 (found 8 (bit_xor n (each 10 8))) / 8)
@@ -195,8 +168,6 @@ first_found n fits some = elim (in_word n fits) [
   | inl none ↦ absurd (some none.1)
   | inr m ↦
       let marked = found 8 (bit_xor n (each 10 8)) in
-      let small : marked < 2 ^ 64 =
-      let left = (bit_xor n (each 10 8) + (all_bits 8 - each 1 8)) % all_bits 8 in
-      omega (arith, and_le_r (bit_and left (all_bits 8 - 1 - bit_xor n (each 10 8))) (each 128 8)) in
-      Marks-lowest (to_le_bytes w64 n) marked m (some_marked (to_le_bytes w64 n) marked m) small
+      let small : marked < 2 ^ 64 = grind (arith, and_le_r) in
+      Marks-lowest (to_le_bytes w64 n) marked m (omega (arith, some)) small
 ]

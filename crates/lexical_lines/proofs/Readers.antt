@@ -1,9 +1,8 @@
 -- The bytes that a source has read from a reader.
 use Rattle.std.proofs.lemmas.Grind.{common_steps}
-use Rattle.std.proofs.Common.{◌≡◌, ◌⊎◌, ℕ, ◌+◌, true, List, [], ◌++◌, length, take, zero, suc, Option, Some, None, IsSome, refl, sym, ap, ◌∙◌, inl, inr, ◌∷◌}
+use Rattle.std.proofs.Common.{◌≡◌, ◌⊎◌, ℕ, ◌+◌, true, List, [], ◌++◌, length, take, Option, Some, None, IsSome, ◌∙◌, inr, ◌∷◌}
 use Rattle.std.proofs.Common.{length-append, arith}
-use Rattle.std.specs.Prelude.{option_map, nat_eq, ◌||◌, false, ◌<◌, ◌≤◌}
-use Rattle.std.proofs.Math.Bool.{or-false}
+use Rattle.std.specs.Prelude.{option_map, nat_eq, ◌||◌, ◌<◌, ◌≤◌}
 use Rattle.std.proofs.lemmas.Bool.Decides.{nat_tests}
 use Rattle.std.proofs.lemmas.List.{length-take-le, take-append-le}
 use lib.Seq.{take-append-add}
@@ -41,9 +40,6 @@ empty-right (x ∷ xs) ys e = absurd (cc e)
 pub still-at_end : (before after : Option (List ℕ)) (more : List ℕ) → Consumes before after more → IsSome before → IsAtEnd before → IsAtEnd after
 still-at_end before after more gave told ended = grind (arith, empty-right)
 
-eqb-suc : (n : ℕ) → nat_eq (suc n) 0 ≡ false
-eqb-suc n = grind (arith, nat_tests)
-
 -- a read into a block, which may be the start of a longer one
 module _ (before after : Option (List ℕ)) (count : ℕ) (block rest : List ℕ) (room : 0 < length block) (within : count ≤ length block)
     (read : Consumes before after (take count block) × (count ≡ 0 → 0 < length block → IsAtEnd after)) where
@@ -55,15 +51,7 @@ module _ (before after : Option (List ℕ)) (count : ℕ) (block rest : List ℕ
       → KeepsReader remaining a b
   KeepsReader-read remaining a b old new some left yielded ended =
       KeepsReader-more remaining a b (take count block) (rw more at yielded) (omega (arith, left, length-take-le count block within)) (rw (old, new) read.0)
-      (λ told used is. at_end count refl told used (sym ended ∙ is))
-    where
-      at_end : (n : ℕ) → count ≡ n → IsSome (remaining a.reader) → (a.is_ended ≡ true → IsUsedUp remaining a) → (a.is_ended || nat_eq n 0) ≡ true
-          → IsUsedUp remaining b
-      at_end zero none told used is = inr (rw new (read.1 none room))
-      at_end (suc n) e told used is = elim (used (sym (or-false a.is_ended) ∙ ap (λ ended. a.is_ended || ended) (sym (eqb-suc n)) ∙ is)) [
-        | inl none ↦ absurd (some none)
-        | inr ended ↦ inr (rw new (still-at_end before after (take count block) read.0 (rw old at told) (rw old at ended)))
-      ]
+      (λ told used is. grind (arith, nat_tests, still-at_end before after (take count block) read.0, room))
 
   pub ReadConsumes-limited : (limit left : ℕ) → left + count ≡ limit → Consumes (option_map (take limit) before) (option_map (take left) after)
       (take count (block ++ rest)) × (count ≡ 0 → 0 < length (block ++ rest) → IsAtEnd (option_map (take left) after))

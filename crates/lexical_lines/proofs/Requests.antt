@@ -37,14 +37,13 @@ module _ {kind : IntegerType} {plus : Bool} {radix : ℕ} {number : ℤ} {line :
   pub radix-stripped : StartsWith (optional_sign plus 43 ++ radix_value) (43 ∷ []) → plus ≡ true
   radix-stripped = digits-stripped 43 plus h.radix_text (32 ∷ h.value_text) (omega arith) radix_decimal.nonempty radix_decimal.bytes
 
-  pub IsRequest-name : (found : IntegerType) (rest : List ℕ) → line ≡ name_of found ++ 32 ∷ rest
-      → (found ≡ kind) × (rest ≡ optional_sign plus 43 ++ radix_value)
-  IsRequest-name found rest e = name_unique found kind rest (optional_sign plus 43 ++ radix_value) (sym e ∙ h.whole)
-
-  pub IsRequest-signed : (rest text : List ℕ) (found : Bool) → rest ≡ optional_sign plus 43 ++ radix_value → rest ≡ optional_sign found 43 ++ text
-      → (StartsWith rest (43 ∷ []) → found ≡ true) → (found ≡ plus) × (text ≡ radix_value)
-  IsRequest-signed rest text found is e stripped = stripped_unique 43 rest text radix_value found plus e stripped is
-      (digits-unsigned 43 h.radix_text (32 ∷ h.value_text) (omega arith) radix_decimal.nonempty radix_decimal.bytes)
+  pub IsRequest-front : (found : IntegerType) (rest text : List ℕ) (add : Bool) → line ≡ name_of found ++ 32 ∷ rest → rest ≡ optional_sign add 43 ++ text
+      → (StartsWith rest (43 ∷ []) → add ≡ true) → (found ≡ kind) × (add ≡ plus) × (text ≡ radix_value)
+  IsRequest-front found rest text add named e stripped =
+      let name = name_unique found kind rest (optional_sign plus 43 ++ radix_value) (sym named ∙ h.whole) in
+      let parts = stripped_unique 43 rest text radix_value add plus e stripped name.1
+      (digits-unsigned 43 h.radix_text (32 ∷ h.value_text) (omega arith) radix_decimal.nonempty radix_decimal.bytes) in
+      (name.0, parts.0, parts.1)
 
   pub IsRequest-value : (digits value : List ℕ) → radix_value ≡ digits ++ 32 ∷ value → All IsDigitByte digits
       → (digits ≡ h.radix_text) × (value ≡ h.value_text)

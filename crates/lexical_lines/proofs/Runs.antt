@@ -1,10 +1,11 @@
 -- What an answerer has done so far, and how a run ends.
 use Rattle.std.proofs.Common.{◌≡◌, ◌↔◌, ℕ, ◌+◌, ◌-◌, ◌^◌, min, Bool, true, false, List, [], ◌∷◌, ◌++◌, length, refl, sym, ap, ◌∙◌, append_assoc, IsTrue}
-use Rattle.std.proofs.Common.{length-append, inl, inr, ◌&&◌, ◌⊎◌, arith}
+use Rattle.std.proofs.Common.{length-append, inl, inr, ◌&&◌, ◌⊎◌, Some, arith}
 use Rattle.std.specs.List.{All}
-use Rattle.std.proofs.lemmas.List.Elements.{All-nil, All-cons, All-head, All-tail, All-push}
+use Rattle.std.proofs.lemmas.Bool.Decides.{Decides-and, Decides-like}
+use Rattle.std.proofs.lemmas.List.Elements.{All-pop, All-push}
 use Rattle.lexical_lines.specs.declared.answer.answerer.Answerer.{Answerer}
-use Rattle.lexical_lines.specs.Answer.{IsAnswer, AreAnswers, AreAnswersFrom, AnswersAll, AnswersEnded}
+use Rattle.lexical_lines.specs.Answer.{IsAnswer, AreAnswersFrom, AnswersAll, AnswersEnded}
 use Rattle.lexical_lines.specs.Answerer.{AnswererState}
 use Rattle.lexical_lines.specs.Line.{short_line}
 use Rattle.lexical_lines.specs.Lines.{AreLines, EndsLine, NoNewline}
@@ -17,31 +18,17 @@ use Rattle.std.proofs.lemmas.List.{append-nil}
 
 -- ---- the answer to the next line
 
-pub AreAnswersFrom-push : (i : ℕ) (ended : List (List ℕ)) (answers line answer : List ℕ) → AreAnswersFrom i ended answers
-    → IsAnswer (i + length ended) line answer → AreAnswersFrom i (ended ++ line ∷ []) (answers ++ answer)
-AreAnswersFrom-push i [] answers line answer h is =
-    let here : i + 0 ≡ i = omega arith in
-    (answer, [], rw here at is, refl, ap (λ xs. xs ++ answer) h ∙ sym (append-nil answer))
-AreAnswersFrom-push i (first ∷ ended) answers line answer (a, rest, is_first, more, whole) is =
-    let there : i + length (first ∷ ended) ≡ i + 1 + length ended = omega arith in (
-      a,
-      rest ++ answer,
-      is_first,
-      AreAnswersFrom-push (i + 1) ended rest line answer more (rw there at is),
-      ap (λ xs. xs ++ answer) whole ∙ append_assoc a rest answer,
-    )
+pub AreAnswersFrom-push : (i : ℕ) (ended : List (List ℕ)) (answers line answer : List ℕ) (number : ℕ) → number ≡ i + length ended
+    → AreAnswersFrom i ended answers → IsAnswer number line answer → AreAnswersFrom i (ended ++ line ∷ []) (answers ++ answer)
+AreAnswersFrom-push i [] answers line answer number here h is =
+    let same : number ≡ i = omega arith in
+    (answer, [], rw same at is, refl, ap (λ xs. xs ++ answer) h ∙ sym (append-nil answer))
+AreAnswersFrom-push i (first ∷ ended) answers line answer number here (a, rest, is_first, others, whole) is =
+    let more = AreAnswersFrom-push (i + 1) ended rest line answer number (omega arith) others is in
+    (a, rest ++ answer, is_first, more, ap (λ xs. xs ++ answer) whole ∙ append_assoc a rest answer)
 
 IsAnswer-counted : (i line_number : ℕ) (line answer : List ℕ) → line_number ≡ min i (2 ^ 64 - 1) → IsAnswer line_number line answer → IsAnswer i line answer
 IsAnswer-counted i line_number line answer e is = grind arith
-
-All-push_iff : (P : List ℕ → Type 0) (xs : List (List ℕ)) (x : List ℕ) → All P (xs ++ x ∷ []) → All P xs × P x
-All-push_iff P [] x h = (All-nil P, All-head P x [] h)
-All-push_iff P (y ∷ xs) x h =
-    let rest = All-push_iff P xs x (All-tail P y (xs ++ x ∷ []) h) in
-    (All-cons P y xs (All-head P y (xs ++ x ∷ []) h) rest.0, rest.1)
-
-and_iff : (a b : Bool) (P Q : Type 0) → (IsTrue a ↔ P) → (IsTrue b ↔ Q) → IsTrue (a && b) ↔ P × Q
-and_iff a b P Q p q = grind arith
 
 -- a run that broke off after some bytes also broke off after others that have the same lines
 BreaksOff-as : {was is : Bool} {bytes read put : List ℕ} → IsTrue is ⊎ EndsLine read → ((all : List (List ℕ)) → AreLines bytes all → AreLines read all)
@@ -49,17 +36,10 @@ BreaksOff-as : {was is : Bool} {bytes read put : List ℕ} → IsTrue is ⊎ End
 BreaksOff-as line_end same h = grind arith
 
 module _ {bytes written : List ℕ} {answerer : Answerer} (h : AnswererState bytes written answerer) where
-  pub answers_after : (answer : List ℕ) → IsAnswer answerer.line_number h.rest answer → AreAnswers (h.ended ++ h.rest ∷ []) (written ++ answer)
-  answers_after answer is =
-      let here : length h.ended + 1 ≡ 1 + length h.ended = omega arith in
-      AreAnswersFrom-push 1 h.ended written h.rest answer h.answered
-      (rw here at (IsAnswer-counted (length h.ended + 1) answerer.line_number h.rest answer h.number is))
-
   pub valid_after : (is_valid : Bool) → (IsTrue is_valid ↔ IsValidLine h.rest)
       → IsTrue (answerer.all_valid && is_valid) ↔ All IsValidLine (h.ended ++ h.rest ∷ [])
-  valid_after is_valid valid =
-      let both = and_iff answerer.all_valid is_valid (All IsValidLine h.ended) (IsValidLine h.rest) h.valid valid in
-      (λ e. let parts = both.0 e in All-push IsValidLine h.ended h.rest parts.0 parts.1, λ all. both.1 (All-push_iff IsValidLine h.ended h.rest all))
+  valid_after is_valid valid = Decides-like _ (λ parts. All-push IsValidLine h.ended h.rest parts.0 parts.1)
+      (All-pop IsValidLine _ h.ended (Some h.rest) refl) (Decides-and answerer.all_valid is_valid h.valid valid)
 
   -- more bytes of a line
   abbrev pub AnswererState-more : (more : List ℕ) (next : Answerer) → NoNewline more → next.line ≡ short_line (h.rest ++ more)
@@ -82,7 +62,8 @@ module _ {bytes written : List ℕ} {answerer : Answerer} (h : AnswererState byt
     ended = h.ended ++ h.rest ∷ [];
     rest = [];
     cut = IsCut-newline h.cut;
-    answered = answers_after answer is;
+    answered = AreAnswersFrom-push 1 h.ended written h.rest answer _ (omega arith) h.answered
+        (IsAnswer-counted (length h.ended + 1) answerer.line_number h.rest answer h.number is);
     number = omega (arith, number, h.number, length-append h.ended (h.rest ∷ []));
     valid = rw (sym all) at (valid_after is_valid valid);
     last = line;

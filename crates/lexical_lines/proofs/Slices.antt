@@ -27,7 +27,7 @@ Writes-sink {a = a} {b = b} none all kept is counted final = grind (arith, commo
 pub BreaksOff-full : {is_ended : Bool} {bytes : List ℕ} (b : SliceSink) {after : List ℕ} → rest_in b ≡ []
     → BreaksOff is_ended bytes (taken_in b) → b.buffer.now ≡ after → BreaksOff is_ended bytes after
 BreaksOff-full b full broke final =
-    let all : taken_in b ≡ b.buffer.now = sym (append-nil (taken_in b)) ∙ ap (λ rest. taken_in b ++ rest) (sym full) ∙ take-append-drop b.count b.buffer.now in
+    let all : taken_in b ≡ b.buffer.now = grind (arith, append-nil, take-append-drop b.count b.buffer.now) in
     rw (all ∙ final) at broke
 
 -- ---- bytes copied into a buffer

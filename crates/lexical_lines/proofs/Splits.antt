@@ -13,7 +13,5 @@ cut_unique separator [] b [] d p q e = (refl, cc)
 cut_unique separator [] b (y ∷ c) d p q e = absurd (All-head (λ byte. byte ≢ separator) y c q (cc))
 cut_unique separator (x ∷ a) b [] d p q e = absurd (All-head (λ byte. byte ≢ separator) x a p (cc))
 cut_unique separator (x ∷ a) b (y ∷ c) d p q e =
-    let rest : a ++ separator ∷ b ≡ c ++ separator ∷ d = cc in
-    let both = cut_unique separator a b c d (All-tail (λ byte. byte ≢ separator) x a p) (All-tail (λ byte. byte ≢ separator) y c q) rest in
-    let same : x ≡ y = cc in
+    let both = cut_unique separator a b c d (All-tail (λ byte. byte ≢ separator) x a p) (All-tail (λ byte. byte ≢ separator) y c q) (cc) in
     (cc (both.0), both.1)

@@ -1,5 +1,5 @@
 -- The answers to an input are unique.
-use Rattle.std.proofs.Common.{◌≡◌, ℕ, ◌+◌, ◌-◌, ◌^◌, ◌≤◌, min, Bool, List, [], ◌∷◌, ◌++◌, refl, sym, ap, ◌∙◌, ℤ, inl, inr, ◌⊎◌, IsTrue, length, length-append}
+use Rattle.std.proofs.Common.{◌≡◌, ℕ, ◌+◌, ◌-◌, ◌^◌, ◌≤◌, min, Bool, List, [], ◌∷◌, ◌++◌, refl, sym, ap, ◌∙◌, ℤ, inl, inr, ◌⊎◌, IsTrue, length-append}
 use Rattle.std.proofs.Common.{append_assoc, arith}
 use Rattle.std.specs.Prelude.{codes}
 use Rattle.lexical_write_integer.specs.Text.{IsText}
@@ -14,7 +14,7 @@ use Rattle.lexical_lines.specs.Request.{IsRequest, IsValue, requested_format}
 use Rattle.lexical_lines.specs.RunOutcome.{BreaksOff}
 use Rattle.lexical_lines.specs.Sink.{IsBeginning}
 use Rattle.lexical_lines.proofs.Lines.{AreLines-longer, AreLines-more, AreLines-unique}
-use Rattle.lexical_lines.proofs.Requests.{IsRequest-name, IsRequest-signed, IsRequest-value, IsValue-parts, radix_decimal, radix-stripped, value-stripped}
+use Rattle.lexical_lines.proofs.Requests.{IsRequest-front, IsRequest-value, IsValue-parts, radix_decimal, radix-stripped, value-stripped}
 
 -- a text is the value of one number only
 IsValue-number : {kind other : IntegerType} {number second : ℤ} {text : List ℕ} → IsValue kind number text → IsValue other second text → number ≡ second
@@ -25,15 +25,13 @@ pub IsRequest-unique : {kind other : IntegerType} {plus add : Bool} {radix base 
     → IsRequest kind plus radix number line → IsRequest other add base second line
     → (plus ≡ add) × (radix ≡ base) × (number ≡ second)
 IsRequest-unique {kind = kind} {plus = plus} {radix = radix} {base = base} h k =
-    let name = IsRequest-name k kind _ h.whole in
-    let signs = IsRequest-signed k _ _ plus name.1 refl (radix-stripped h) in
-    let parts = IsRequest-value k h.radix_text h.value_text (sym signs.1) (radix_decimal h).bytes in
-    let same : radix ≡ base = sym (radix_decimal h).value ∙ rw (sym parts.0) at (radix_decimal k).value in
-    (signs.0, same, IsValue-number h.value (rw (sym parts.1) at k.value))
+    let (name, sign, rest) = IsRequest-front k kind _ _ plus h.whole refl (radix-stripped h) in
+    let parts = IsRequest-value k h.radix_text h.value_text (sym rest) (radix_decimal h).bytes in
+    (sign, sym (radix_decimal h).value ∙ rw (sym parts.0) at (radix_decimal k).value, IsValue-number h.value (rw (sym parts.1) at k.value))
 
-IsText-unique : (number : ℤ) (radix : ℕ) (plus : Bool) (a b : List ℕ) → 2 ≤ radix → IsText number (requested_format radix plus) a
+IsText-unique : (number : ℤ) (radix : ℕ) (plus : Bool) → 2 ≤ radix → (a b : List ℕ) → IsText number (requested_format radix plus) a
     → IsText number (requested_format radix plus) b → a ≡ b
-IsText-unique number radix plus a b h p q =
+IsText-unique number radix plus h a b p q =
     p.whole ∙ ap (λ digits. sign_of number plus ++ digits) (digits_unique radix _ p.digits q.digits h p.magnitude q.magnitude) ∙ sym q.whole
 
 -- if texts of a kind are unique, so are the lines made of them
@@ -46,9 +44,8 @@ IsBadLine-unique n a b (s, p, e) (t, q, f) = e ∙ ap (λ digits. codes "bad lin
 IsAnswer-unique : (i : ℕ) (line a b : List ℕ) → IsAnswer i line a → IsAnswer i line b → a ≡ b
 IsAnswer-unique i line a b (inl p) (inl q) =
     let same = IsRequest-unique p.request q.request in
-    let other : WithNewline (IsText p.number (requested_format p.radix p.plus)) b = rw (same.0, same.1, same.2) q.text in
     WithNewline-unique (IsText p.number (requested_format p.radix p.plus)) a b
-    (λ s t. IsText-unique p.number p.radix p.plus s t p.request.radix_valid.at_least_two) p.text other
+    (IsText-unique p.number p.radix p.plus p.request.radix_valid.at_least_two) p.text (rw (same.0, same.1, same.2) q.text)
 IsAnswer-unique i line a b (inl p) (inr q) = absurd (q.bad (p.kind, p.plus, p.radix, p.number, p.request))
 IsAnswer-unique i line a b (inr p) (inl q) = absurd (p.bad (q.kind, q.plus, q.radix, q.number, q.request))
 IsAnswer-unique i line a b (inr p) (inr q) =
@@ -61,8 +58,7 @@ AreAnswersFrom-unique i (line ∷ all) a b (x, xs, is, more, whole) (y, ys, is',
     ∙ ap (λ rest. y ++ rest) (AreAnswersFrom-unique (i + 1) all xs ys more more') ∙ sym whole'
 
 pub AnswersAll-unique : (bytes a b : List ℕ) → AnswersAll bytes a → AnswersAll bytes b → a ≡ b
-AnswersAll-unique bytes a b p q =
-    AreAnswersFrom-unique 1 p.lines a b p.answered (let same = AreLines-unique bytes q.lines p.lines q.cut p.cut in rw same at q.answered)
+AnswersAll-unique bytes a b p q = AreAnswersFrom-unique 1 p.lines a b p.answered (rw (AreLines-unique bytes q.lines p.lines q.cut p.cut) at q.answered)
 
 -- ---- answers that broke off are a prefix of the answers to the whole input
 
@@ -78,8 +74,7 @@ lines_before : (is_ended : Bool) (bytes left : List ℕ) (all lines : List (List
     → IsTrue is_ended ⊎ EndsLine bytes → AreLines bytes lines → AreLines (bytes ++ left) all
     → (others : List (List ℕ)) × (all ≡ lines ++ others)
 lines_before is_ended bytes left all lines none (inl ended) p q =
-    let same : bytes ++ left ≡ bytes = ap (λ rest. bytes ++ rest) (none ended) ∙ append-nil bytes in
-    ([], AreLines-unique bytes all lines (rw same at q) p ∙ sym (append-nil lines))
+    ([], AreLines-unique bytes all lines (rw (none ended, append-nil bytes) at q) p ∙ sym (append-nil lines))
 lines_before is_ended bytes left all lines none (inr ends) p q =
     let (others, longer) = AreLines-more bytes left lines ends p in
     (others, AreLines-unique (bytes ++ left) all (lines ++ others) q longer)
@@ -89,9 +84,8 @@ pub BreaksOff-begins : (is_ended : Bool) (bytes left put text : List ℕ) → (I
 BreaksOff-begins is_ended bytes left put text none broke all =
     let (others, lines) = lines_before is_ended bytes left all.lines (broke.front ++ broke.last ∷ []) none broke.line_end broke.cut all.cut in
     let (first, more, answered, whole) = AreAnswersFrom-split 1 (broke.front ++ broke.last ∷ []) others text (rw lines at all.answered) in
-    let here : length broke.front + 1 ≡ 1 + length broke.front = omega arith in
     let same = AreAnswersFrom-unique 1 (broke.front ++ broke.last ∷ []) first (broke.answers ++ broke.answer) answered
-    (AreAnswersFrom-push 1 broke.front broke.answers broke.last broke.answer broke.answered (rw here at broke.last_answer)) in
+    (AreAnswersFrom-push 1 broke.front broke.answers broke.last broke.answer _ (omega arith) broke.answered broke.last_answer) in
     let (rest, some, answer) = broke.beginning in (
       rest ++ more,
       omega (arith, length-append rest more),

@@ -12,15 +12,13 @@ slice_bounds-text-end g c = count-le _ _ _ c.write_lexical-count.ensures.text
 
 pub returns-then-count-buffer : goal.returns-then-count-buffer
 returns-then-count-buffer g c =
-    let range = c.in_range.ensures in
-    let small = magnitude-small _ g.met.T.LexicalInteger.bit_width _ range.at_least range.at_most in
+    let small = magnitude-small _ g.met.T.LexicalInteger.bit_width _ c.in_range.ensures.at_least c.in_range.ensures.at_most in
     in_decimal _ _ _ _
     (written_by_copy _ DECIMAL _ _ _ _ _ _ decimal_accepted small c.write_lexical-count.ensures.text
     c.copy_to_front.ensures.front c.copy_to_front.ensures.count)
 
 pub returns-else-count-buffer : goal.returns-else-count-buffer
 returns-else-count-buffer g c =
-    let range = c.in_range.ensures in
-    let small = magnitude-small _ g.met.T.LexicalInteger.bit_width _ range.at_least range.at_most in
+    let small = magnitude-small _ g.met.T.LexicalInteger.bit_width _ c.in_range.ensures.at_least c.in_range.ensures.at_most in
     let computed = length-written _ _ _ _ _ decimal_accepted.valid.mantissa.at_least_two small c.write_lexical-count.ensures.text in
     refused _ _ _ _ (λ writable. omega (arith, computed, writable.fits))

@@ -15,20 +15,14 @@ entry : (i : ℕ) → i < 512 → get_or PAIRS i 0 ≡ to_ascii_lowercase (digit
 unfolding digit_at
 entry i within = get_or-map-range_with_len (λ j. to_ascii_lowercase (digit_char (digit_at j))) 0 512 i i 0 within (omega arith)
 
-first_is : (n : ℕ) → digit_at (2 * (n % 256)) ≡ n / 16 % 16
-unfolding digit_at
-first_is n = grind arith
-
-second_is : (n : ℕ) → digit_at (2 * (n % 256) + 1) ≡ n % 16
-unfolding digit_at
-second_is n = grind arith
-
 pub returns-clause-first : goal.returns-clause-first
+unfolding digit_at
 returns-clause-first c =
-    let n = c.args.number in
-    entry (2 * (n % 256)) (omega arith) ∙ ap (λ d. to_ascii_lowercase (digit_char d)) (first_is n)
+    let digit : digit_at (2 * (c.args.number % 256)) ≡ c.args.number / 16 % 16 = grind arith in
+    entry (2 * (c.args.number % 256)) (omega arith) ∙ ap (λ d. to_ascii_lowercase (digit_char d)) digit
 
 pub returns-clause-second : goal.returns-clause-second
+unfolding digit_at
 returns-clause-second c =
-    let n = c.args.number in
-    entry (2 * (n % 256) + 1) (omega arith) ∙ ap (λ d. to_ascii_lowercase (digit_char d)) (second_is n)
+    let digit : digit_at (2 * (c.args.number % 256) + 1) ≡ c.args.number % 16 = grind arith in
+    entry (2 * (c.args.number % 256) + 1) (omega arith) ∙ ap (λ d. to_ascii_lowercase (digit_char d)) digit

@@ -1,21 +1,13 @@
 use Rattle.lexical_num.specs.Format.{grouped_length}
 use Rattle.lexical_c.specs.Format.{format_of}
 use Rattle.lexical_c.proofs.WrittenTexts.{grouped_length-pos}
-use Rattle.std.proofs.Common.{◌≡◌, ◌^◌, ◌<◌, ◌≤◌, unsigned_abs, refl, ap, ◌∙◌, arith}
-use Rattle.lexical_write_integer.specs.DigitCount.{digit_count}
+use Rattle.std.proofs.Common.{◌≤◌, unsigned_abs, refl, ap, ◌∙◌, arith}
 use Rattle.lexical_write_integer.proofs.OfDigits.Count.DigitCounts.{digit_count-pos, digit_count-le_bits}
 use Rattle.lexical_num.proofs.Magnitudes.{magnitude-small}
 use Rattle.lexical_write_integer.proofs.OfTexts.SizeBounds.{grouped_length-le, sign-le_one}
 use Rattle.lexical_c.proofs.TextLengths.{length-text_of}
 use Rattle.lexical_c.proofs.length.counted_length.Goals as goal
 use Rattle.lexical_c.proofs.length.counted_length.Goals.{After-sign_len}
-
-count_is : (g : _) (c : After-sign_len g)
-    → c.magnitude_digits-digits.result ≡ digit_count c.in-Some.format.mantissa_radix (unsigned_abs (g.T.LexicalInteger.number c.args.value))
-count_is g c = rw c.mantissa_radix.ensures.value at c.magnitude_digits-digits.ensures
-
-small : (g : _) (c : After-sign_len g) → unsigned_abs (g.T.LexicalInteger.number c.args.value) < 2 ^ 64
-small g c = magnitude-small _ g.met.T.LexicalInteger.bit_width _ c.in_range.ensures.at_least c.in_range.ensures.at_most
 
 few : (g : _) (c : After-sign_len g) → c.magnitude_digits-digits.result ≤ 64
 few g c = grind (arith, digit_count-le_bits)
@@ -33,12 +25,13 @@ overflow_add-result g c =
 
 pub returns : goal.returns
 returns g c =
-    let before = (goal.at.returns g c).After-sign_len in
     let accepted = c.in-Some.ensures.valid.0 refl in
     let number = g.T.LexicalInteger.number c.args.value in
-    let text = length-text_of number (format_of c.args.format.now) accepted.valid (small g before) in
+    let small = magnitude-small _ g.met.T.LexicalInteger.bit_width number c.in_range.ensures.at_least c.in_range.ensures.at_most in
+    let text = length-text_of number (format_of c.args.format.now) accepted.valid small in
     let digits = digit_count-pos c.in-Some.format.mantissa_radix (unsigned_abs number) in
-    let groups = c.grouped_len.ensures ∙ ap (grouped_length c.in-Some.format.digit_grouping) (count_is g before) in
+    let count = rw c.mantissa_radix.ensures.value at c.magnitude_digits-digits.ensures in
+    let groups = c.grouped_len.ensures ∙ ap (grouped_length c.in-Some.format.digit_grouping) count in
     let some = grouped_length-pos c.in-Some.format.digit_grouping _ digits in
     record {
       accepts = (λ _. accepted, λ _. omega (arith, groups, some));

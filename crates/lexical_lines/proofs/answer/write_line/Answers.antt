@@ -1,7 +1,7 @@
 use Rattle.std.proofs.Common.{sym, arith}
 use Rattle.std.proofs.lemmas.List.{length-take-le}
 use Rattle.lexical_lines.proofs.AnswerTexts.{Writes-newline}
-use Rattle.lexical_lines.proofs.Buffers.{Writes-front}
+use Rattle.lexical_write_integer.proofs.Buffers.Prefixes.{Writes-part}
 use Rattle.lexical_lines.proofs.answer.write_line.Goals as goal
 
 pub slice_bounds-room-end-2 : goal.slice_bounds-room-end-2
@@ -13,5 +13,5 @@ write_text-end-requires g c =
 
 pub returns : goal.returns
 returns g c =
-    let written = Writes-front 128 c.args.buffer.now c.write_text-end.new.buffer _ c.write_text-end.ensures.text in
+    let written = Writes-part c.args.buffer.now c.write_text-end.new.buffer 128 _ c.write_text-end.ensures.text in
     grind (arith, Writes-newline)

@@ -34,10 +34,7 @@ loop-index-preserved g c =
           c.loop-index.count (omega (arith, many, w.if-index-gt0.false)) was)
     ] in
     let within : c.if-index-gt0.count ≤ index * (size + 1) =
-    elim c.if-index-gt0.branch [
-      | then-index-gt0 w ↦ omega (arith, w.count-is, c.loop-index.invariant.within, mul-le-mul_right (size + 1) w.if-index-gt0.true)
-      | else-index-gt0 w ↦ omega (arith, w.count-is, c.loop-index.invariant.within, mul-le-mul_right (size + 1) w.if-index-gt0.false)
-    ] in
+    grind (arith, c.if-index-gt0.branch, c.loop-index.invariant.within, (λ (some : 1 ≤ index). mul-le-mul_right (size + 1) some)) in
     let text = c.write_lexical_with_options-count.ensures.text in
     record {
       written = rw next (Writes-after ready.text _ _ _ _ _ _ ready.counted ready.front ready.whole text);

@@ -1,4 +1,4 @@
-use Rattle.std.proofs.Common.{◌∙◌, inl, inr, true, ◌≡◌, ◌+◌, ℕ, Result, OnOk, OnErr, IfOk, ap, arith}
+use Rattle.std.proofs.Common.{◌∙◌, inl, inr, true, ◌≡◌, ◌+◌, ℕ, Result, OnOk, OnErr, IfOk, arith}
 use Rattle.std.proofs.Math.Bool.{or-true}
 use Rattle.std.proofs.lemmas.List.{append-nil}
 use Rattle.std.proofs.lemmas.Result.{err_from_is_err_and}
@@ -52,10 +52,9 @@ returns-clause-err g c =
     let loop = c.loop-byte.invariant in
     let next = c.in_ok-byte.ensures in
     let same = added-more _ _ _ _ loop.yielded (rw c.in_default.is at next.yielded) ∙ append-nil _ in
-    let source : g.S.ByteSource.failures c.next.new.self ≡ g.S.ByteSource.failures c.args.source.now = omega (arith, next.failures, loop.source_failures) in
     let ended : g.S.ByteSource.is_ended c.next.new.self ≡ true = (rw c.in_default.is at next.ended) ∙ or-true _ in
     rw (same, ended, added-more _ _ _ _ loop.taken c.finish.ensures.puts.longer) (OnErr-one_failure _ _ c.finish.result c.finish.ensures.puts.failures
-    (λ failed broke. inr (record { source = source; sink = failed ∙ ap (λ n. n + 1) loop.sink_failures; answers = broke _ _ loop.read })) c.finish.ensures.err)
+    (λ failed broke. inr (grind (arith, next.failures, loop.source_failures, loop.sink_failures, broke _ _ loop.read))) c.finish.ensures.err)
 
 pub returns-clause-ok : goal.returns-clause-ok
 returns-clause-ok g c =
@@ -63,11 +62,9 @@ returns-clause-ok g c =
     let next = c.in_ok-byte.ensures in
     let finish = c.finish.ensures in
     let same = added-more _ _ _ _ loop.yielded (rw c.in_default.is at next.yielded) ∙ append-nil _ in
-    let source : g.S.ByteSource.failures c.next.new.self ≡ g.S.ByteSource.failures c.args.source.now = omega (arith, next.failures, loop.source_failures) in
     let ended : g.S.ByteSource.is_ended c.next.new.self ≡ true = (rw c.in_default.is at next.ended) ∙ or-true _ in
     rw (same, added-more _ _ _ _ loop.taken finish.puts.longer) (IfOk-no_failure _ _ c.finish.result finish.puts.failures finish.ok finish.valid
-    (λ all_valid sink answers told.
-    record { source = source; sink = sink ∙ loop.sink_failures; ended = ended; answers = answers _ _ loop.read; valid = told _ _ loop.read }))
+    (λ all_valid sink answers told. grind (arith, next.failures, loop.source_failures, loop.sink_failures, answers _ _ loop.read, told _ _ loop.read)))
 
 pub returns-in_err-byte-clause-err : goal.returns-in_err-byte-clause-err
 unfolding HasAnswered

@@ -3,10 +3,6 @@ use lib.Seq.{take-add, take-take}
 use Rattle.lexical_lines.specs.Sink.{put_failures}
 use Rattle.lexical_lines.proofs.devices.sink.put_all.Goals as goal
 
--- a call that takes some bytes is not a failure
-some-taken : (count : ℕ) (bytes : List ℕ) → (count ≡ 0 → ⊥) → put_failures {E = ℕ} (Ok count) bytes ≡ 0
-some-taken count bytes some = grind arith
-
 -- a call that takes none of some bytes is a failure
 none-taken : (bytes : List ℕ) → (length bytes ≡ 0 → ⊥) → put_failures {E = ℕ} (Ok 0) bytes ≡ 1
 none-taken bytes some = grind arith
@@ -24,7 +20,7 @@ loop-taken-preserved g c =
       within = omega arith;
       taken = next.taken ∙ ap (λ l. l ++ take count (take (length all - done) (drop done all))) loop.taken
           ∙ append_assoc (sink.taken c.args.sink.now) (take done all) _ ∙ ap (λ l. sink.taken c.args.sink.now ++ l) joined;
-      failures = omega (arith, next.failures, loop.failures, some-taken count (take (length all - done) (drop done all)) c.in-Ok.count-test.1);
+      failures = grind (arith, next.failures, loop.failures);
       kept = g.met.K.ByteSink.keeps_transitive _ _ _ loop.kept next.kept;
     }
 

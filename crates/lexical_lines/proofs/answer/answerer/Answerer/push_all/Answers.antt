@@ -1,4 +1,4 @@
-use Rattle.std.proofs.Common.{◌≡◌, ◌<◌, ℕ, List, [], ◌∷◌, ◌++◌, length, take, drop, refl, sym, ap, ◌∙◌, append_assoc, length-append, length-drop}
+use Rattle.std.proofs.Common.{◌≡◌, ◌<◌, ℕ, List, [], ◌∷◌, ◌++◌, length, take, drop, refl, sym, append_assoc, length-append, length-drop}
 use Rattle.std.proofs.Common.{take-append-drop, arith}
 use Rattle.std.proofs.lemmas.List.{take_all}
 use Rattle.std.proofs.lemmas.Result.{err_from_is_err_and}
@@ -56,6 +56,5 @@ unfolding HasAnswered
 returns-clause-ok g c = λ read written h.
     let (front, whole, reads) = c.loop-tail.invariant.read in
     let so_far = reads read written h in
-    let parts : read ++ c.args.bytes.now ≡ (read ++ front) ++ c.loop-tail.rest.now = ap (λ bytes. read ++ bytes) whole
-    ∙ sym (append_assoc read front c.loop-tail.rest.now) in
-    rw parts (AnswererState-more so_far c.loop-tail.rest.now _ c.in_default.ensures.none (c.push_all.ensures so_far.rest so_far.last) refl refl)
+    rw (whole, ← append_assoc read front c.loop-tail.rest.now)
+    (AnswererState-more so_far c.loop-tail.rest.now _ c.in_default.ensures.none (c.push_all.ensures so_far.rest so_far.last) refl refl)

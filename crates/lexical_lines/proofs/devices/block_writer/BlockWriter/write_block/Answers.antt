@@ -1,12 +1,11 @@
 use Rattle.lexical_lines.specs.Source.{failures_of}
 use Rattle.std.proofs.lemmas.Grind.{common_steps}
-use Rattle.std.proofs.Common.{◌≡◌, ℕ, ◌+◌, ◌-◌, ◌<◌, ◌≤◌, List, ◌++◌, length, take, drop, sym, ap, ◌∙◌, length-take, take-append-drop, append_assoc, [], Result}
-use Rattle.std.proofs.Common.{OnOk, OnErr, arith}
+use Rattle.std.proofs.Common.{◌≡◌, ℕ, ◌+◌, ◌-◌, ◌≤◌, List, ◌++◌, length, take, drop, sym, ap, ◌∙◌, length-take, take-append-drop, append_assoc, []}
+use Rattle.std.proofs.Common.{arith}
 use Rattle.std.specs.List.{copy_within}
 use Rattle.std.proofs.lemmas.List.{append-nil, drop-take}
 use Rattle.lexical_lines.specs.BlockWriter.{taken}
 use Rattle.lexical_lines.proofs.devices.block_writer.BlockWriter.write_block.Goals as goal
-use Rattle.std.specs.Prelude.{⊤}
 
 -- the bytes after the first ones are moved to the start
 take-copy_within : (xs : List ℕ) (count end : ℕ) → count ≤ end → end ≤ length xs
@@ -26,14 +25,11 @@ same : (written after xs ys : List ℕ) (count end : ℕ) → after ≡ written 
     → take end xs ≡ take count (take end xs) ++ take (end - count) ys → after ++ take (end - count) ys ≡ written ++ take end xs
 same written after xs ys count end passed parts = grind (arith, append_assoc)
 
-within : {E : Type 0} (result : Result ⊤ E) (count whole : ℕ) → OnOk result (count ≡ whole) → OnErr result (count < whole) → count ≤ whole
-within result count whole all less = grind arith
-
 pub returns-clause-taken : goal.returns-clause-taken
 returns-clause-taken g c =
     let w = c.self.inside in
     let count = c.put_all-count.result.0 in
-    let bound : count ≤ w.end = omega (arith, within _ _ _ c.put_all-count.ensures.ok c.put_all-count.ensures.err, length-take w.end w.block) in
+    let bound : count ≤ w.end = grind (arith, c.put_all-count.ensures.ok, c.put_all-count.ensures.err, length-take w.end w.block) in
     let parts = parted w.block c.copy_within.new.self count w.end bound (omega (arith, c.self.invariant.1, c.self.told)) c.copy_within.ensures.after in
     same (g.K.ByteSink.taken w.sink) _ w.block c.copy_within.new.self count w.end c.put_all-count.ensures.taken parts ∙ ap taken c.self.view_is
 

@@ -1,16 +1,11 @@
-use Rattle.std.proofs.Common.{◌≡◌, ℕ, ◌==◌, ◌||◌, Ok, ap, sym, refl, length, length-take, arith}
-use Rattle.std.specs.contracts.io.Error.{the_row}
-use Rattle.lexical_lines.specs.Source.{reads_end}
+use Rattle.std.proofs.Common.{◌≡◌, ◌||◌, ap, sym, refl, length, length-take, arith}
 use Rattle.lexical_lines.proofs.Readers.{ReadConsumes-limited, KeepsReader-read}
 use Rattle.lexical_lines.proofs.devices.stream.ReadingBlockSource.read_block.Goals as goal
-
-is_end : (E : Type 0) (count : ℕ) → (count == 0) ≡ reads_end {E = E} (Ok count)
-is_end E count = grind arith
 
 -- the check finds three of these proofs by itself, but with answers the refusals of mistakes say what is wrong
 
 pub returns-in-Ok-clause-ended : goal.returns-in-Ok-clause-ended
-returns-in-Ok-clause-ended g c = rw (sym c.self.view_is) (ap (λ end. c.self.inside.is_ended || end) (is_end the_row.Denot c.in-Ok.count))
+returns-in-Ok-clause-ended g c = rw (sym c.self.view_is) (ap (λ end. c.self.inside.is_ended || end) (grind arith))
 
 pub returns-then-self-eq0-clause-remaining : goal.returns-then-self-eq0-clause-remaining
 returns-then-self-eq0-clause-remaining g c = omega (arith, ap (λ r. r.left) c.self.view_is)
