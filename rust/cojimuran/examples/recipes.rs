@@ -1,0 +1,47 @@
+//! The recipes of the README, each beside the text that it writes.
+
+use cojimuran::parts::{
+    Digits, Fixed, Formatted, Hex, HexBytes, Joined, Left, Lower, Padded, Part, Right, Shown,
+    ZeroPadded,
+};
+use cojimuran::{Buffer, NumberFormat, NumberFormatBuilder};
+
+const THOUSANDS: NumberFormat = NumberFormatBuilder::new()
+    .digit_grouping(3, b',')
+    .build_strict();
+
+fn main() {
+    let mut buffer = [0; 64];
+    // A number as a `&str`.
+    assert_eq!(Buffer::new().format(-1234i32), "-1234");
+    // An identifier in radix 36, as in a short link.
+    assert_eq!(Digits(36, 1000u64).to_str(&mut buffer), "RS");
+    assert_eq!(Lower(Digits(36, 1000u64)).to_str(&mut buffer), "rs");
+    // Groups of thousands, and an amount in cents.
+    let people = Formatted(1234567u32, &THOUSANDS);
+    assert_eq!(people.to_str(&mut buffer), "1,234,567");
+    assert_eq!(Fixed(-1995i64, 2).to_str(&mut buffer), "-19.95");
+    // Fixed widths: two digits, zeros after a sign, and columns.
+    let time = (Padded(7u8, 2), ":", Padded(5u8, 2));
+    assert_eq!(time.to_str(&mut buffer), "07:05");
+    assert_eq!(ZeroPadded(-42, 6).to_str(&mut buffer), "-00042");
+    let columns = (Left("shoe", 8, b' '), Right(42u32, 5, b'.'));
+    assert_eq!(columns.to_str(&mut buffer), "shoe    ...42");
+    // Bytes in hexadecimal.
+    let bytes = HexBytes(&[0xDE, 0xAD, 1], ":");
+    assert_eq!(bytes.to_str(&mut buffer), "DE:AD:01");
+    // A row of CSV at the end of a `Vec`.
+    let mut csv = b"id,price,sizes\n".to_vec();
+    let sizes = Joined(&[38u8, 40], " ");
+    let row = (7u32, ",", Fixed(1999u32, 2), ",", sizes, "\n");
+    csv.extend_from_slice(row.to_text(&mut buffer));
+    assert_eq!(csv, b"id,price,sizes\n7,19.99,38 40\n");
+    // A line of a log, with a field that may be absent.
+    let user = Some(1000u64).map(|user| (" user=", user));
+    let line = (time, " [info]", user, " flags=0x", Hex(255u16));
+    let text = "07:05 [info] user=1000 flags=0xFF";
+    assert_eq!(line.to_str(&mut buffer), text);
+    // Parts in a format string.
+    assert_eq!(format!("{:>6}", Hex(255u16)), "    FF");
+    assert_eq!(format!("{}", Shown(line)), text);
+}
