@@ -6,7 +6,7 @@ ghost use Rattle.lexical_write_integer.specs.Text.{IsText};
 
 use crate::number::Decimal;
 use crate::part::Part;
-use lexical_write_integer::ToLexicalWithOptions;
+use lexical_write_integer::ToLexical;
 
 /// A buffer for a number in decimal of any integer type, so that no call has a condition.
 ///
@@ -29,7 +29,7 @@ impl Buffer {
     }
 
     /// Returns the number in decimal, with a `-` if it is negative.
-    pub fn format<T: ToLexicalWithOptions>(&mut self, number: T) -> &str
+    pub fn format<T: ToLexical>(&mut self, number: T) -> &str
         ensures text { IsText (T.number number) standard result.now }
         ensures short { length result.now ≤ 20 }
     {

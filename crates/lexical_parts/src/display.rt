@@ -24,7 +24,7 @@ use lexical_write_integer::digit_count::DigitCount;
 use lexical_write_integer::format::STANDARD;
 use lexical_write_integer::laws::{digit_count_within_bits, digits_computed, text_computed};
 use lexical_write_integer::radix::Radix;
-use lexical_write_integer::{BUFFER_SIZE, NumberFormatBuilder, ToLexicalWithOptions};
+use lexical_write_integer::{BUFFER_SIZE, NumberFormatBuilder, ToLexical};
 use std::fmt;
 
 // The digits of the longest number, and the most that a padded number can have to be shown.
@@ -102,7 +102,7 @@ fn pad_number<W: fmt::Write>(
     }
 }
 
-impl<T: ToLexicalWithOptions> fmt::Display for Formatted<'_, T> {
+impl<T: ToLexical> fmt::Display for Formatted<'_, T> {
     ghost output = { λ part. Some (text_of (T.number part.0) part.1.now) };
 
     ghost styled_output = { λ part spec. Some (padded_integral
@@ -124,7 +124,7 @@ impl<T: ToLexicalWithOptions> fmt::Display for Formatted<'_, T> {
     }
 }
 
-impl<T: ToLexicalWithOptions> fmt::Display for Decimal<T> {
+impl<T: ToLexical> fmt::Display for Decimal<T> {
     ghost output = { λ part. Some (text_of (T.number part.0) standard) };
 
     ghost styled_output = { λ part spec. Some (padded_integral spec (is_negative (T.number part.0)) []
@@ -135,7 +135,7 @@ impl<T: ToLexicalWithOptions> fmt::Display for Decimal<T> {
     }
 }
 
-impl<T: ToLexicalWithOptions> fmt::Display for Plus<T> {
+impl<T: ToLexical> fmt::Display for Plus<T> {
     ghost output = { λ part. Some (text_of (T.number part.0) (record standard { required_mantissa_sign = true })) };
 
     ghost styled_output = { λ part spec. Some (padded_integral (record spec { plus = true })
@@ -248,7 +248,7 @@ impl<T: DigitCount + Radix> fmt::Display for Padded<T> {
     }
 }
 
-impl<T: ToLexicalWithOptions> GroupedFixed<'_, T> {
+impl<T: ToLexical> GroupedFixed<'_, T> {
     // Returns the text, or an error if there are more than 19 decimals.
     fn shown(self, buffer: &mut [u8; LONGEST_FIXED]) -> Result<&str, fmt::Error>
         ensures ok { IsOk result ↔ (self.entry.1 ≤ 19) }
@@ -264,7 +264,7 @@ impl<T: ToLexicalWithOptions> GroupedFixed<'_, T> {
     }
 }
 
-impl<T: ToLexicalWithOptions> fmt::Display for GroupedFixed<'_, T> {
+impl<T: ToLexical> fmt::Display for GroupedFixed<'_, T> {
     ghost output = { λ part. Some (fixed_text part.2.now.digit_grouping part.1 (T.number part.0)) };
 
     ghost styled_output = { λ part spec. Some (padded_integral spec (is_negative (T.number part.0)) []
@@ -277,7 +277,7 @@ impl<T: ToLexicalWithOptions> fmt::Display for GroupedFixed<'_, T> {
     }
 }
 
-impl<T: ToLexicalWithOptions> fmt::Display for Fixed<T> {
+impl<T: ToLexical> fmt::Display for Fixed<T> {
     ghost output = { λ part. Some (fixed_text None part.1 (T.number part.0)) };
 
     ghost styled_output = { λ part spec. Some (padded_integral spec (is_negative (T.number part.0)) []
@@ -288,7 +288,7 @@ impl<T: ToLexicalWithOptions> fmt::Display for Fixed<T> {
     }
 }
 
-impl<T: ToLexicalWithOptions> TrimmedFixed<T> {
+impl<T: ToLexical> TrimmedFixed<T> {
     // Returns the text, or an error if there are more than 19 decimals.
     fn shown(self, buffer: &mut [u8; LONGEST_FIXED]) -> Result<&str, fmt::Error>
         ensures ok { IsOk result ↔ (self.1 ≤ 19) }
@@ -303,7 +303,7 @@ impl<T: ToLexicalWithOptions> TrimmedFixed<T> {
     }
 }
 
-impl<T: ToLexicalWithOptions> fmt::Display for TrimmedFixed<T> {
+impl<T: ToLexical> fmt::Display for TrimmedFixed<T> {
     ghost output = { λ part. Some (trimmed_text part.1 (T.number part.0)) };
 
     ghost styled_output = { λ part spec. Some (padded_integral spec (is_negative (T.number part.0)) []

@@ -12,7 +12,7 @@ use crate::part::Part;
 use crate::sign::Sign;
 use lexical_write_integer::format::STANDARD;
 use lexical_write_integer::laws::size_suffices;
-use lexical_write_integer::{NumberFormat, ToLexicalWithOptions, group_digits};
+use lexical_write_integer::{NumberFormat, ToLexical, group_digits};
 
 // In Rust nothing else refuses more decimals.
 fn check_decimals(decimals: usize)
@@ -27,11 +27,7 @@ fn check_decimals(decimals: usize)
 
 // Writes the digits of a number to the start of the buffer, after the zeros that a digit before the point requires, and
 // returns the number of bytes written.
-pub(crate) fn write_units<T: ToLexicalWithOptions>(
-    number: T,
-    decimals: usize,
-    buffer: &mut [u8],
-) -> usize
+pub(crate) fn write_units<T: ToLexical>(number: T, decimals: usize, buffer: &mut [u8]) -> usize
     requires decimals { decimals ≤ 19 }
     requires room { max T.DECIMAL_WIDTH (decimals + 1) ≤ length buffer.old }
     ensures { Writes (AreUnits decimals (unsigned_abs (T.number number)) T.DECIMAL_WIDTH) buffer.old buffer.new result }
@@ -48,7 +44,7 @@ pub(crate) fn write_units<T: ToLexicalWithOptions>(
 
 // Writes the absolute value of a number of units of 10^-`decimals` to the start of the buffer, with its whole part in
 // the groups of the format, and returns the number of bytes written.
-fn write_grouped_units<T: ToLexicalWithOptions>(
+fn write_grouped_units<T: ToLexical>(
     number: T,
     decimals: usize,
     format: &NumberFormat,
@@ -77,7 +73,7 @@ fn write_grouped_units<T: ToLexicalWithOptions>(
 #[derive(Clone, Copy, Debug, Drop)]
 pub struct Fixed<T>(pub T, pub usize);
 
-impl<T: ToLexicalWithOptions> Part for Fixed<T> {
+impl<T: ToLexical> Part for Fixed<T> {
     ghost is_text = { λ part. IsFixed part.1 (T.number part.0) };
 
     ghost is_valid = { λ part. part.1 ≤ 19 };
@@ -102,7 +98,7 @@ impl<T: ToLexicalWithOptions> Part for Fixed<T> {
 #[derive(Clone, Copy, Debug, Drop)]
 pub struct GroupedFixed<'a, T>(pub T, pub usize, pub &'a NumberFormat);
 
-impl<T: ToLexicalWithOptions> Part for GroupedFixed<'_, T> {
+impl<T: ToLexical> Part for GroupedFixed<'_, T> {
     ghost is_text = { λ part. IsGroupedFixed part.2.now.digit_grouping part.1 (T.number part.0) };
 
     ghost is_valid = { λ part. part.1 ≤ 19 };

@@ -15,14 +15,14 @@ use lexical_write_integer::digit_count::DigitCount;
 use lexical_write_integer::format::STANDARD;
 use lexical_write_integer::laws::size_suffices;
 use lexical_write_integer::radix::Radix;
-use lexical_write_integer::{NumberFormat, ToLexicalWithOptions};
+use lexical_write_integer::{NumberFormat, ToLexical};
 
 /// A number in decimal, with a `-` if it is negative: `Decimal(-5)` writes `-5`, as the part `-5` does. It
 /// is for generic code, in which the number has a type parameter.
 #[derive(Clone, Copy, Debug, Drop)]
 pub struct Decimal<T>(pub T);
 
-impl<T: ToLexicalWithOptions> Part for Decimal<T> {
+impl<T: ToLexical> Part for Decimal<T> {
     ghost is_text = { λ part. IsText (T.number part.0) standard };
 
     ghost room = { λ _. T.FORMATTED_SIZE_DECIMAL };
@@ -66,7 +66,7 @@ impl<T: Radix + DigitCount> Part for Digits<T> {
 }
 
 // Returns the largest absolute value of a number of the type.
-fn largest_magnitude<T: ToLexicalWithOptions>() -> u64
+fn largest_magnitude<T: ToLexical>() -> u64
     ensures { result ≡ largest_magnitude T.BITS T.IS_SIGNED }
 {
     let all_bits = u64::MAX >> (64 - T::BITS);
@@ -78,7 +78,7 @@ fn largest_magnitude<T: ToLexicalWithOptions>() -> u64
 }
 
 /// A law: the room of a `Formatted` is enough for the number, and it is at most `BUFFER_SIZE`.
-pub fn formatted_room_suffices<T: ToLexicalWithOptions>(number: T, format: &NumberFormat)
+pub fn formatted_room_suffices<T: ToLexical>(number: T, format: &NumberFormat)
     ensures need { need (T.number number) T.DECIMAL_WIDTH format.now
         ≤ formatted_room T.BITS T.IS_SIGNED format.now }
     ensures buffer { formatted_room T.BITS T.IS_SIGNED format.now ≤ BUFFER_SIZE }
@@ -92,7 +92,7 @@ pub fn formatted_room_suffices<T: ToLexicalWithOptions>(number: T, format: &Numb
 #[derive(Clone, Copy, Debug, Drop)]
 pub struct Formatted<'a, T>(pub T, pub &'a NumberFormat);
 
-impl<T: ToLexicalWithOptions> Part for Formatted<'_, T> {
+impl<T: ToLexical> Part for Formatted<'_, T> {
     ghost is_text = { λ part. IsText (T.number part.0) part.1.now };
 
     ghost room = { λ part. formatted_room T.BITS T.IS_SIGNED part.1.now };

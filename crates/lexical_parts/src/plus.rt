@@ -7,7 +7,7 @@ ghost use Rattle.lexical_parts.specs.Plus.{IsPlus};
 use crate::own::Own;
 use crate::part::Part;
 use crate::sign::Sign;
-use lexical_write_integer::ToLexicalWithOptions;
+use lexical_write_integer::ToLexical;
 use lexical_write_integer::format::STANDARD;
 use lexical_write_integer::laws::size_suffices;
 
@@ -16,7 +16,7 @@ use lexical_write_integer::laws::size_suffices;
 #[derive(Clone, Copy, Debug, Drop)]
 pub struct Plus<T>(pub T);
 
-impl<T: ToLexicalWithOptions> Part for Plus<T> {
+impl<T: ToLexical> Part for Plus<T> {
     ghost is_text = { λ part. IsPlus (T.number part.0) };
 
     ghost room = { λ _. 1 + T.DECIMAL_WIDTH };

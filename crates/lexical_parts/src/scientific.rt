@@ -13,7 +13,7 @@ use crate::own::Own;
 use crate::part::Part;
 use crate::sign::Sign;
 use crate::text::Bytes;
-use lexical_write_integer::ToLexicalWithOptions;
+use lexical_write_integer::ToLexical;
 use lexical_write_integer::format::STANDARD;
 use lexical_write_integer::laws::size_suffices;
 
@@ -74,7 +74,7 @@ fn write_exponent(exponent: i64, buffer: &mut [u8]) -> usize
 
 // Writes the absolute value of a number times 10^`exponent` to the start of the buffer, and returns the number of
 // bytes written.
-fn write_magnitude<T: ToLexicalWithOptions>(number: T, exponent: i32, buffer: &mut [u8]) -> usize
+fn write_magnitude<T: ToLexical>(number: T, exponent: i32, buffer: &mut [u8]) -> usize
     requires { T.DECIMAL_WIDTH + 13 ≤ length buffer.old }
     ensures text { Writes (IsScientificUnsigned (unsigned_abs (T.number number)) exponent)
         buffer.old buffer.new result }
@@ -95,7 +95,7 @@ fn write_magnitude<T: ToLexicalWithOptions>(number: T, exponent: i32, buffer: &m
 #[derive(Clone, Copy, Debug, Drop)]
 pub struct Scientific<T>(pub T, pub i32);
 
-impl<T: ToLexicalWithOptions> Part for Scientific<T> {
+impl<T: ToLexical> Part for Scientific<T> {
     ghost is_text = { λ part. IsScientific (T.number part.0) part.1 };
 
     ghost room = { λ _. T.FORMATTED_SIZE_DECIMAL + 13 };

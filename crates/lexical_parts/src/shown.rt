@@ -13,7 +13,7 @@ use crate::part::Part;
 use crate::powers_of_two::HexBytes;
 use crate::scientific::Scientific;
 use crate::zero_padded::ZeroPadded;
-use lexical_write_integer::ToLexicalWithOptions;
+use lexical_write_integer::ToLexical;
 use std::fmt;
 
 // The largest room of a part that is written at once.
@@ -119,7 +119,7 @@ impl<P: Part, Q: Part> fmt::Display for OrElse<P, Q> {
     }
 }
 
-impl<T: ToLexicalWithOptions> fmt::Display for Scientific<T> {
+impl<T: ToLexical> fmt::Display for Scientific<T> {
     fn fmt<W: fmt::Write>(&self, f: &mut fmt::Formatter<W>) -> fmt::Result {
         Shown(*self).show(f)
     }

@@ -12,17 +12,13 @@ use crate::part::Part;
 use crate::scientific::count_without_zeros;
 use crate::sign::Sign;
 use crate::text::Bytes;
-use lexical_write_integer::ToLexicalWithOptions;
+use lexical_write_integer::ToLexical;
 use lexical_write_integer::format::STANDARD;
 use lexical_write_integer::laws::size_suffices;
 
 // Writes the absolute value of a number of units of 10^-`decimals` to the start of the buffer, without zeros at the end
 // of its fraction, and returns the number of bytes written.
-fn write_trimmed_units<T: ToLexicalWithOptions>(
-    number: T,
-    decimals: usize,
-    buffer: &mut [u8],
-) -> usize
+fn write_trimmed_units<T: ToLexical>(number: T, decimals: usize, buffer: &mut [u8]) -> usize
     requires decimals { decimals ≤ 19 }
     requires room { max T.DECIMAL_WIDTH (decimals + 1) + min decimals 1 ≤ length buffer.old }
     ensures text { Writes (IsTrimmedUnits decimals (unsigned_abs (T.number number))) buffer.old buffer.new result }
@@ -44,7 +40,7 @@ fn write_trimmed_units<T: ToLexicalWithOptions>(
 #[derive(Clone, Copy, Debug, Drop)]
 pub struct TrimmedFixed<T>(pub T, pub usize);
 
-impl<T: ToLexicalWithOptions> Part for TrimmedFixed<T> {
+impl<T: ToLexical> Part for TrimmedFixed<T> {
     ghost is_text = { λ part. IsTrimmedFixed part.1 (T.number part.0) };
 
     ghost is_valid = { λ part. part.1 ≤ 19 };

@@ -4,7 +4,7 @@
 
 use crate::parts::number::Decimal;
 use crate::parts::part::Part;
-use crate::write_integer::ToLexicalWithOptions;
+use crate::write_integer::ToLexical;
 
 /// A buffer for a number in decimal of any integer type, so that no call has a condition.
 ///
@@ -30,7 +30,7 @@ impl Buffer {
 
     /// Returns the number in decimal, with a `-` if it is negative.
     #[inline(always)]
-    pub fn format<T: ToLexicalWithOptions>(&mut self, number: T) -> &str {
+    pub fn format<T: ToLexical>(&mut self, number: T) -> &str {
         Decimal(number).to_str(&mut self.bytes)
     }
 }

@@ -15,7 +15,7 @@ use crate::parts::trimmed::TrimmedFixed;
 use crate::write_integer::digit_count::DigitCount;
 use crate::write_integer::format::STANDARD;
 use crate::write_integer::radix::Radix;
-use crate::write_integer::{BUFFER_SIZE, NumberFormatBuilder, ToLexicalWithOptions};
+use crate::write_integer::{BUFFER_SIZE, NumberFormatBuilder, ToLexical};
 use core::fmt;
 
 // The digits of the longest number, and the most that a padded number can have to be shown.
@@ -79,7 +79,7 @@ fn pad_number(
     }
 }
 
-impl<T: ToLexicalWithOptions> fmt::Display for Formatted<'_, T> {
+impl<T: ToLexical> fmt::Display for Formatted<'_, T> {
     #[inline]
     fn fmt(&self, f: &mut fmt::Formatter<'_>) -> fmt::Result {
         let mut buffer = [0; BUFFER_SIZE];
@@ -93,14 +93,14 @@ impl<T: ToLexicalWithOptions> fmt::Display for Formatted<'_, T> {
     }
 }
 
-impl<T: ToLexicalWithOptions> fmt::Display for Decimal<T> {
+impl<T: ToLexical> fmt::Display for Decimal<T> {
     #[inline]
     fn fmt(&self, f: &mut fmt::Formatter<'_>) -> fmt::Result {
         fmt::Display::fmt(&Formatted(self.0, &STANDARD), f)
     }
 }
 
-impl<T: ToLexicalWithOptions> fmt::Display for Plus<T> {
+impl<T: ToLexical> fmt::Display for Plus<T> {
     #[inline]
     fn fmt(&self, f: &mut fmt::Formatter<'_>) -> fmt::Result {
         let format = NumberFormatBuilder::new()
@@ -180,7 +180,7 @@ impl<T: DigitCount + Radix> fmt::Display for Padded<T> {
     }
 }
 
-impl<T: ToLexicalWithOptions> GroupedFixed<'_, T> {
+impl<T: ToLexical> GroupedFixed<'_, T> {
     // Returns the text, or an error if there are more than 19 decimals.
     #[inline]
     fn shown(self, buffer: &mut [u8; LONGEST_FIXED]) -> Result<&str, fmt::Error> {
@@ -192,7 +192,7 @@ impl<T: ToLexicalWithOptions> GroupedFixed<'_, T> {
     }
 }
 
-impl<T: ToLexicalWithOptions> fmt::Display for GroupedFixed<'_, T> {
+impl<T: ToLexical> fmt::Display for GroupedFixed<'_, T> {
     #[inline]
     fn fmt(&self, f: &mut fmt::Formatter<'_>) -> fmt::Result {
         let mut buffer = [0; LONGEST_FIXED];
@@ -201,14 +201,14 @@ impl<T: ToLexicalWithOptions> fmt::Display for GroupedFixed<'_, T> {
     }
 }
 
-impl<T: ToLexicalWithOptions> fmt::Display for Fixed<T> {
+impl<T: ToLexical> fmt::Display for Fixed<T> {
     #[inline]
     fn fmt(&self, f: &mut fmt::Formatter<'_>) -> fmt::Result {
         fmt::Display::fmt(&GroupedFixed(self.0, self.1, &STANDARD), f)
     }
 }
 
-impl<T: ToLexicalWithOptions> TrimmedFixed<T> {
+impl<T: ToLexical> TrimmedFixed<T> {
     // Returns the text, or an error if there are more than 19 decimals.
     #[inline]
     fn shown(self, buffer: &mut [u8; LONGEST_FIXED]) -> Result<&str, fmt::Error> {
@@ -220,7 +220,7 @@ impl<T: ToLexicalWithOptions> TrimmedFixed<T> {
     }
 }
 
-impl<T: ToLexicalWithOptions> fmt::Display for TrimmedFixed<T> {
+impl<T: ToLexical> fmt::Display for TrimmedFixed<T> {
     #[inline]
     fn fmt(&self, f: &mut fmt::Formatter<'_>) -> fmt::Result {
         let mut buffer = [0; LONGEST_FIXED];

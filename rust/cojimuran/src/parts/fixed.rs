@@ -7,7 +7,7 @@ use crate::parts::own::Own;
 use crate::parts::part::Part;
 use crate::parts::sign::Sign;
 use crate::write_integer::format::STANDARD;
-use crate::write_integer::{NumberFormat, ToLexicalWithOptions, group_digits};
+use crate::write_integer::{NumberFormat, ToLexical, group_digits};
 
 // In Rust nothing else refuses more decimals.
 #[inline(always)]
@@ -22,11 +22,7 @@ fn check_decimals(decimals: usize) {
 // Writes the digits of a number to the start of the buffer, after the zeros that a digit before the point requires, and
 // returns the number of bytes written.
 #[inline(always)]
-pub(crate) fn write_units<T: ToLexicalWithOptions>(
-    number: T,
-    decimals: usize,
-    buffer: &mut [u8],
-) -> usize {
+pub(crate) fn write_units<T: ToLexical>(number: T, decimals: usize, buffer: &mut [u8]) -> usize {
     check_decimals(decimals);
     let count = number.write_magnitude(&STANDARD, buffer);
     if count > decimals {
@@ -39,7 +35,7 @@ pub(crate) fn write_units<T: ToLexicalWithOptions>(
 // Writes the absolute value of a number of units of 10^-`decimals` to the start of the buffer, with its whole part in
 // the groups of the format, and returns the number of bytes written.
 #[inline(always)]
-fn write_grouped_units<T: ToLexicalWithOptions>(
+fn write_grouped_units<T: ToLexical>(
     number: T,
     decimals: usize,
     format: &NumberFormat,
@@ -69,7 +65,7 @@ fn write_grouped_units<T: ToLexicalWithOptions>(
 #[derive(Clone, Copy, PartialEq, Eq, Hash, Debug)]
 pub struct Fixed<T>(pub T, pub usize);
 
-impl<T: ToLexicalWithOptions> Part for Fixed<T> {
+impl<T: ToLexical> Part for Fixed<T> {
     #[inline(always)]
     fn room(self) -> usize {
         GroupedFixed(self.0, self.1, &STANDARD).room()
@@ -98,7 +94,7 @@ impl<T: ToLexicalWithOptions> Part for Fixed<T> {
 #[derive(Clone, Copy, PartialEq, Eq, Hash, Debug)]
 pub struct GroupedFixed<'a, T>(pub T, pub usize, pub &'a NumberFormat);
 
-impl<T: ToLexicalWithOptions> Part for GroupedFixed<'_, T> {
+impl<T: ToLexical> Part for GroupedFixed<'_, T> {
     #[inline(always)]
     fn room(self) -> usize {
         check_decimals(self.1);

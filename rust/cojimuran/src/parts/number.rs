@@ -7,7 +7,7 @@ use crate::parts::own::Own;
 use crate::parts::part::Part;
 use crate::write_integer::digit_count::DigitCount;
 use crate::write_integer::radix::Radix;
-use crate::write_integer::{NumberFormat, ToLexicalWithOptions};
+use crate::write_integer::{NumberFormat, ToLexical};
 
 /// A number in decimal, with a `-` if it is negative: `Decimal(-5)` writes `-5`, as the part `-5` does. It
 /// is for generic code, in which the number has a type parameter.
@@ -20,7 +20,7 @@ use crate::write_integer::{NumberFormat, ToLexicalWithOptions};
 #[derive(Clone, Copy, PartialEq, Eq, Hash, Debug)]
 pub struct Decimal<T>(pub T);
 
-impl<T: ToLexicalWithOptions> Part for Decimal<T> {
+impl<T: ToLexical> Part for Decimal<T> {
     #[inline(always)]
     fn room(self) -> usize {
         T::FORMATTED_SIZE_DECIMAL
@@ -66,7 +66,7 @@ impl<T: Radix + DigitCount> Part for Digits<T> {
 
 // Returns the largest absolute value of a number of the type.
 #[inline(always)]
-fn largest_magnitude<T: ToLexicalWithOptions>() -> u64 {
+fn largest_magnitude<T: ToLexical>() -> u64 {
     let all_bits = u64::MAX >> (64 - T::BITS);
     if T::IS_SIGNED {
         all_bits / 2 + 1
@@ -87,7 +87,7 @@ fn largest_magnitude<T: ToLexicalWithOptions>() -> u64 {
 #[derive(Clone, Copy, PartialEq, Eq, Hash, Debug)]
 pub struct Formatted<'a, T>(pub T, pub &'a NumberFormat);
 
-impl<T: ToLexicalWithOptions> Part for Formatted<'_, T> {
+impl<T: ToLexical> Part for Formatted<'_, T> {
     #[inline(always)]
     fn room(self) -> usize {
         let sign = usize::from(T::IS_SIGNED || self.1.required_mantissa_sign());

@@ -5,7 +5,7 @@
 use crate::parts::own::Own;
 use crate::parts::part::Part;
 use crate::parts::sign::Sign;
-use crate::write_integer::ToLexicalWithOptions;
+use crate::write_integer::ToLexical;
 use crate::write_integer::format::STANDARD;
 
 /// A number in decimal with a sign in each case, `+` if it is not negative: `Plus(5u8)` writes `+5`, and
@@ -21,7 +21,7 @@ use crate::write_integer::format::STANDARD;
 #[derive(Clone, Copy, PartialEq, Eq, Hash, Debug)]
 pub struct Plus<T>(pub T);
 
-impl<T: ToLexicalWithOptions> Part for Plus<T> {
+impl<T: ToLexical> Part for Plus<T> {
     #[inline]
     fn room(self) -> usize {
         1 + T::DECIMAL_WIDTH

@@ -6,7 +6,7 @@ use crate::parts::own::Own;
 use crate::parts::part::Part;
 use crate::parts::sign::Sign;
 use crate::parts::text::Bytes;
-use crate::write_integer::ToLexicalWithOptions;
+use crate::write_integer::ToLexical;
 use crate::write_integer::format::STANDARD;
 
 // Returns how many digits are left without the zeros at the end. At least the first `least` digits are left.
@@ -47,7 +47,7 @@ fn write_exponent(exponent: i64, buffer: &mut [u8]) -> usize {
 // Writes the absolute value of a number times 10^`exponent` to the start of the buffer, and returns the number of
 // bytes written.
 #[inline]
-fn write_magnitude<T: ToLexicalWithOptions>(number: T, exponent: i32, buffer: &mut [u8]) -> usize {
+fn write_magnitude<T: ToLexical>(number: T, exponent: i32, buffer: &mut [u8]) -> usize {
     let mut digits = [0; 20];
     let count = number.write_magnitude(&STANDARD, &mut digits);
     let digits = &digits[..count];
@@ -69,7 +69,7 @@ fn write_magnitude<T: ToLexicalWithOptions>(number: T, exponent: i32, buffer: &m
 #[derive(Clone, Copy, PartialEq, Eq, Hash, Debug)]
 pub struct Scientific<T>(pub T, pub i32);
 
-impl<T: ToLexicalWithOptions> Part for Scientific<T> {
+impl<T: ToLexical> Part for Scientific<T> {
     #[inline]
     fn room(self) -> usize {
         T::FORMATTED_SIZE_DECIMAL + 13

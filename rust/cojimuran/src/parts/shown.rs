@@ -11,7 +11,7 @@ use crate::parts::part::Part;
 use crate::parts::powers_of_two::HexBytes;
 use crate::parts::scientific::Scientific;
 use crate::parts::zero_padded::ZeroPadded;
-use crate::write_integer::ToLexicalWithOptions;
+use crate::write_integer::ToLexical;
 use core::fmt;
 
 // The largest room of a part that is written at once.
@@ -118,7 +118,7 @@ impl<P: Part, Q: Part> fmt::Display for OrElse<P, Q> {
     }
 }
 
-impl<T: ToLexicalWithOptions> fmt::Display for Scientific<T> {
+impl<T: ToLexical> fmt::Display for Scientific<T> {
     #[inline]
     fn fmt(&self, f: &mut fmt::Formatter<'_>) -> fmt::Result {
         Shown(*self).show(f)

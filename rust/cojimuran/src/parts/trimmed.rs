@@ -8,16 +8,12 @@ use crate::parts::part::Part;
 use crate::parts::scientific::count_without_zeros;
 use crate::parts::sign::Sign;
 use crate::parts::text::Bytes;
-use crate::write_integer::ToLexicalWithOptions;
+use crate::write_integer::ToLexical;
 
 // Writes the absolute value of a number of units of 10^-`decimals` to the start of the buffer, without zeros at the end
 // of its fraction, and returns the number of bytes written.
 #[inline]
-fn write_trimmed_units<T: ToLexicalWithOptions>(
-    number: T,
-    decimals: usize,
-    buffer: &mut [u8],
-) -> usize {
+fn write_trimmed_units<T: ToLexical>(number: T, decimals: usize, buffer: &mut [u8]) -> usize {
     let mut array = [0; 20];
     let count = write_units(number, decimals, &mut array);
     let units = &array[..count];
@@ -41,7 +37,7 @@ fn write_trimmed_units<T: ToLexicalWithOptions>(
 #[derive(Clone, Copy, PartialEq, Eq, Hash, Debug)]
 pub struct TrimmedFixed<T>(pub T, pub usize);
 
-impl<T: ToLexicalWithOptions> Part for TrimmedFixed<T> {
+impl<T: ToLexical> Part for TrimmedFixed<T> {
     #[inline]
     fn room(self) -> usize {
         Fixed(self.0, self.1).room()
