@@ -40,15 +40,16 @@ pub fn same_split<A: Part, B: Part, P: Part, Q: Part>(a: A, b: B, separator: u8,
         → HaveInCommon (A.is_text a) (B.is_text b) × HaveInCommon (P.is_text p) (Q.is_text q) }
 {}
 
-/// A law: of two texts that begin with different numbers of this width in a radix, with leading zeros, that of the
-/// smaller number is the earlier one in the order of bytes.
+/// A law: if `a` is below `b`, a text that begins with `a` in `width` digits is earlier, in the order of bytes, than a
+/// text that begins with `b` in `width` digits, whatever follows. Both numbers have leading zeros, in one radix.
 pub fn padded_decides<P: Part, Q: Part>(radix: u32, width: usize, a: u64, b: u64, p: P, q: Q)
     requires { a < b }
     ensures { (s t : List ℕ) → (IsPadded radix width a then P.is_text p) s
         → (IsPadded radix width b then Q.is_text q) t → IsEarlier s t }
 {}
 
-/// A law: if two numbers in padded digits, one after the other, have a text in common with two others, both are equal.
+/// A law: if `a` in `width` digits and then `m` in `second_width` digits have a text in common with `b` and then `n`
+/// in the same widths, then `a` is `b` and `m` is `n`.
 pub fn equal_padded_pairs(
     radix: u32,
     width: usize,
@@ -68,8 +69,8 @@ pub fn equal_padded_pairs(
     equal_padded(radix, second_width, m, n);
 }
 
-/// A law: if two numbers with a separator between them have a text in common with two others, in a format without
-/// groups, both are equal. The separator is neither a letter, a digit nor a sign.
+/// A law: if `a`, the separator and `m` have a text in common with `b`, the separator and `n`, then `a` is `b` and `m`
+/// is `n`. The format has no groups, and the separator is neither a letter, a digit nor a sign.
 pub fn equal_pairs<T: LexicalInteger, U: LexicalInteger>(
     a: T,
     b: T,
@@ -97,7 +98,8 @@ pub fn equal_pairs<T: LexicalInteger, U: LexicalInteger>(
     equal_texts(m, n, format);
 }
 
-/// A law: so are two numbers that have a text of a `ZeroPadded` in common, in a format without groups.
+/// A law: if two numbers have a text of a `ZeroPadded` of one width in common, the numbers are equal. The format has
+/// no groups.
 pub fn common_zero_padded<T: LexicalInteger>(a: T, b: T, format: &NumberFormat, width: usize)
     requires { format.now.digit_grouping ≡ None }
     ensures { HaveInCommon (IsZeroPadded width (IsText (T.number a) format.now))
@@ -107,7 +109,9 @@ pub fn common_zero_padded<T: LexicalInteger>(a: T, b: T, format: &NumberFormat, 
     zero_padded_read_back(b, format, width);
 }
 
-/// A law: so are the bytes of two `HexBytes` that have a text in common, or one in lowercase.
+/// A law: if two `HexBytes` with the same separator have a text in common, or a text in lowercase, their bytes are
+/// equal. With two separators that is not so: `HexBytes(&[1, 2], "AA")` and `HexBytes(&[1, 0xAA, 2], "")` both write
+/// `01AA02`.
 pub fn common_bytes(a: &[u8], b: &[u8], separator: &str)
     ensures text { HaveInCommon (AreJoined (IsPadded 16 2) separator.now a.now)
         (AreJoined (IsPadded 16 2) separator.now b.now) → a.now ≡ b.now }
@@ -115,7 +119,8 @@ pub fn common_bytes(a: &[u8], b: &[u8], separator: &str)
         (IsLowercase (AreJoined (IsPadded 16 2) separator.now b.now)) → a.now ≡ b.now }
 {}
 
-/// A law: two numbers times powers of ten that have a text of a `Scientific` in common are equal.
+/// A law: if two `Scientific` have a text in common, their values are equal: `a` times 10^`exponent` is `b` times
+/// 10^`other`.
 pub fn common_scientific<T: LexicalInteger>(a: T, b: T, exponent: i32, other: i32)
     ensures { HaveInCommon (IsScientific (T.number a) exponent) (IsScientific (T.number b) other)
         → AreEqualScaled (T.number a) exponent (T.number b) other }

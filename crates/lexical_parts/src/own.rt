@@ -1,6 +1,7 @@
-//! Which parts are of this crate: only they are known to be what they promise.
+//! Seals the methods of `Part` that only the parts of this crate may define, so that `to_str` can rely on them.
 
-/// A type that no other crate can name, so that none can define a method with a parameter of it.
+/// An argument of the sealed methods of `Part`. No other crate can name this type, so no other crate can define or call
+/// a method that takes it.
 #[doc(hidden)]
 #[derive(Clone, Copy, Debug, Drop)]
 pub struct Own;

@@ -37,7 +37,7 @@ pub trait Part: Copy {
     ghost is_utf8: { Self → Type 0 } = { λ _. ⊤ };
 
     /// Returns a number of bytes that is enough for the text, or `usize::MAX` if that number does not
-    /// fit in a `usize`. The part must be valid.
+    /// fit in a `usize`. The part must be valid: of another part the number may not be enough.
     fn room(self) -> usize
         requires { is_valid self }
         ensures { result ≡ min (room self) usize.MAX };
@@ -166,7 +166,8 @@ pub trait Part: Copy {
     }
 }
 
-// Returns whether what `to_text` requires holds, and its text is UTF-8, as far as the values of the part show it.
+// Returns true only if the part is valid, its text is UTF-8, and the buffer has its room. For a part of another crate
+// it returns false, because nothing is known of the text of such a part.
 fn is_sure<P: Part>(part: P, buffer: &[u8]) -> bool
     ensures valid { IsTrue result → P.is_valid part }
     ensures utf8 { IsTrue result → P.is_utf8 part }

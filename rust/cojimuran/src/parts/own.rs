@@ -1,8 +1,9 @@
 // Made by `strip` from crates/lexical_parts/src/own.rt. Edit that file, not this one.
 
-//! Which parts are of this module: only they are known to be what they promise.
+//! Seals the methods of [`Part`](crate::parts::Part) that only the parts of this module may define, so that `to_str` can rely on them.
 
-/// A type that no other crate can name, so that none can define a method with a parameter of it.
+/// An argument of the sealed methods of [`Part`](crate::parts::Part). No other crate can name this type, so no other crate can define or call
+/// a method that takes it.
 #[doc(hidden)]
 #[derive(Clone, Copy, PartialEq, Eq, Hash, Debug)]
 pub struct Own;

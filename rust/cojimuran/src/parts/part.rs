@@ -23,7 +23,7 @@ use core::str::{from_utf8, from_utf8_unchecked};
 /// ```
 pub trait Part: Copy {
     /// Returns a number of bytes that is enough for the text, or `usize::MAX` if that number does not
-    /// fit in a `usize`. The part must be valid.
+    /// fit in a `usize`. The part must be valid: of another part the number may not be enough.
     #[must_use]
     fn room(self) -> usize;
 
@@ -139,7 +139,8 @@ pub trait Part: Copy {
     }
 }
 
-// Returns whether what `to_text` requires holds, and its text is UTF-8, as far as the values of the part show it.
+// Returns true only if the part is valid, its text is UTF-8, and the buffer has its room. For a part of another crate
+// it returns false, because nothing is known of the text of such a part.
 #[inline(always)]
 fn is_sure<P: Part>(part: P, buffer: &[u8]) -> bool {
     part.is_known_utf8(Own) && part.room() <= buffer.len()
