@@ -30,12 +30,12 @@ fn main() {
     // Bytes in hexadecimal.
     let bytes = HexBytes(&[0xDE, 0xAD, 1], ":");
     assert_eq!(bytes.to_str(&mut buffer), "DE:AD:01");
-    // A row of CSV at the end of a `Vec`.
-    let mut csv = b"id,price,sizes\n".to_vec();
+    // A row of CSV at the end of a `String`.
+    let mut csv = String::from("id,price,sizes\n");
     let sizes = Joined(&[38u8, 40], " ");
     let row = (7u32, ",", Fixed(1999u32, 2), ",", sizes, "\n");
-    csv.extend_from_slice(row.to_text(&mut buffer));
-    assert_eq!(csv, b"id,price,sizes\n7,19.99,38 40\n");
+    csv.push_str(row.to_str(&mut buffer));
+    assert_eq!(csv, "id,price,sizes\n7,19.99,38 40\n");
     // A line of a log, with a field that may be absent.
     let user = Some(1000u64).map(|user| (" user=", user));
     let line = (time, " [info]", user, " flags=0x", Hex(255u16));

@@ -24,12 +24,13 @@ use alloc::vec::Vec;
 /// assert_eq!(path, "/l/RS");
 /// ```
 pub trait Append: Part {
-    /// Appends the text to the vector, which gets the [`room`](Part::room) of the part if it does not have it. The part
-    /// must be valid.
+    /// Appends the text to the vector. Before that the vector gets the [`room`](Part::room) of the part, if it does not
+    /// have it. The part must be valid.
     ///
     /// # Panics
     ///
-    /// If the part is not valid, or if the vector cannot have the room. Then the vector may have zeros at its end.
+    /// If the part is not valid, or if the vector would have more than `isize::MAX` bytes. Then the vector may have zeros
+    /// at its end. If there is not enough memory for fewer bytes, the process aborts, as it does for `Vec::push`.
     fn append_to(self, bytes: &mut Vec<u8>);
 }
 

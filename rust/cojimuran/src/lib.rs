@@ -1,6 +1,5 @@
-//! Writes integers as text, in every radix from 2 to 36, to a buffer that the caller passes, for
-//! `no_std`, with pointers of 32 or 64 bits. No call allocates memory, and the code is proved for 64:
-//! [when its conditions hold](#conditions), a call writes exactly the right bytes.
+//! Writes integers as text, in every radix from 2 to 36, into a buffer that you supply. No call allocates. Each function
+//! is proved: [when its conditions hold](#conditions), a call writes exactly the right bytes and does not panic.
 //!
 //! # A first program
 //!
@@ -8,66 +7,72 @@
 #![doc = include_str!("../examples/first_program.rs")]
 //! ```
 //!
-//! It prints the lines `1234`, `3W5E11264SGSF`, `2026-11-03 -12 kg` and `1,-2,3`.
+//! It prints the lines `-1234`, `3W5E11264SGSF` and `id=7 flags=0xFF`. The digits above 9 are `A` to `Z`. For lowercase
+//! write [`Lower(Digits(36, number))`](parts::Lower).
 //!
-//! # What is written is read back
+//! # What you call
 //!
-//! `from_str_radix` of the standard library, and in decimal `parse`, reads each number back from its text in every
-//! format without groups:
+//! - [`Buffer`] writes one number in decimal and returns a `&str`: `Buffer::new().format(number)`.
+//! - [`Part`] is a value that has a text, such as a number, a `&str` or a tuple of parts. Its method
+//!   [`to_str`](Part::to_str) writes the text to a buffer and returns a `&str`. [`to_text`](Part::to_text) returns bytes.
+//! - [`Digits`] is an unsigned number in a radix, [`Hex`] one in radix 16, [`Fixed`] an amount such as `-19.95`,
+//!   [`Joined`] a slice with a separator between its elements, and [`Decimal`] a number in generic code. [`parts`] has
+//!   all others: groups of digits, fixed widths, columns, bytes in hexadecimal, options.
+//! - [`ToLexical`] writes one number in decimal and returns bytes. [`ToLexicalWithOptions`] does so in a
+//!   [`NumberFormat`], which has a radix, a required `+` and groups of digits.
+//! - `Append`, with the feature `alloc`, writes a part to the end of a `Vec<u8>`:
+//!   `(7u8, " apples").append_to(&mut bytes)`.
 //!
-//! ```
-//! use cojimuran::{NumberFormatBuilder, Options, ToLexical, ToLexicalWithOptions};
-//! use std::str::from_utf8;
+//! The other modules and the items that are not in this list mirror the Rust crate `lexical-write-integer`, so that a
+//! program can move from that crate: options, which have no effect, the writers of digits without a sign, and their
+//! tables. New programs do not need them.
 //!
-//! let mut buffer = [0; 64];
-//! let text = (-1234i32).to_lexical(&mut buffer);
-//! assert_eq!(from_utf8(text).unwrap().parse(), Ok(-1234));
-//!
-//! let text = u64::MAX.to_lexical_with_options(
-//!     &mut buffer,
-//!     &NumberFormatBuilder::from_radix(36),
-//!     &Options::new(),
-//! );
-//! assert_eq!(u64::from_str_radix(from_utf8(text).unwrap(), 36), Ok(u64::MAX));
-//! ```
-//!
-//! # What is where
-//!
-//! - [`ToLexical`] and [`ToLexicalWithOptions`] write one number, in decimal or in a [`NumberFormat`]:
-//!   in another radix, with a required `+`, or in groups of digits. A buffer of
-//!   [`FormattedSize::FORMATTED_SIZE_DECIMAL`] bytes is enough in decimal, and [`BUFFER_SIZE`] always.
-//! - [`parts`] has tuples of parts that are written as one text, as in a log line.
-//! - The other modules have what these are made of, such as the writers of digits without a sign. Those that only the
-//!   specification names are public and hidden here.
-//!
-//! The names are those of the Rust crate `lexical-write-integer`.
-//!
-//! # A `&str`, a `Vec` or a `String`
-//!
-//! [`Buffer::format`] returns the `&str` of a number in decimal, and [`Part::to_str`](parts::Part::to_str) that of a part.
-//! std checks only the text of a part of your own, and of [`Bytes`](parts::Bytes), that it is UTF-8: of the others it is
-//! known, which the only `unsafe` line of this package uses.
+//! # A `String`, a `Vec`, a format string
 //!
 //! ```
-//! use cojimuran::Buffer;
-//! use cojimuran::parts::{Digits, Hex, Part};
+//! use cojimuran::parts::{Padded, Shown};
+//! use cojimuran::{Buffer, Digits, Hex, Part};
 //!
-//! assert_eq!(("0x", Hex(255u8)).to_str(&mut [0; 4]), "0xFF");
-//!
+//! // The end of a `String`. Radix 36 has at most 13 digits for a `u64`.
 //! let mut path = String::from("/l/");
 //! path.push_str(Buffer::new().format(7u64));
 //! path.push_str(("/", Digits(36, 1000u64)).to_str(&mut [0; 14]));
 //! assert_eq!(path, "/l/7/RS");
+//!
+//! // The end of a `Vec<u8>`.
+//! let mut bytes = b"time ".to_vec();
+//! bytes.extend_from_slice((Padded(7u8, 2), ":", Padded(5u8, 2)).to_text(&mut [0; 5]));
+//! assert_eq!(bytes, b"time 07:05");
+//!
+//! // A format string. `Shown` prints a tuple.
+//! assert_eq!(format!("{:>6}", Hex(255u16)), "    FF");
+//! assert_eq!(format!("{}", Shown(("id=", 7u8))), "id=7");
 //! ```
 //!
-//! To append a part to a `Vec`, enable the feature `alloc`, import the trait `Append`, and write
-//! `(7u8, " apples").append_to(&mut bytes)`.
+//! # How large the buffer must be
+//!
+//! A decimal number needs room for the longest number of its type: 20 bytes for a `u64`, also for 7. With a shorter
+//! buffer a call panics. [`FormattedSize::FORMATTED_SIZE_DECIMAL`] is this size, [`BUFFER_SIZE`] is enough for every
+//! number in every format, and [`Part::room`] is enough for a part. A [`Buffer`] needs no size.
+//!
+//! # What is written is read back
+//!
+//! `parse` and `from_str_radix` of the standard library read each number back from its text without groups:
+//!
+//! ```
+//! use cojimuran::{Digits, Part};
+//!
+//! let mut buffer = [0; 20];
+//! assert_eq!((-1234i32).to_str(&mut buffer).parse(), Ok(-1234));
+//! assert_eq!(u64::from_str_radix(Digits(36, u64::MAX).to_str(&mut buffer), 36), Ok(u64::MAX));
+//! ```
 #![doc = include_str!("../CONDITIONS.md")]
 //!
 //! # Versions
 //!
-//! A version 0.x.0 may change names and conditions, as the changelog lists, and 0.x.y changes none. The
-//! integer traits are sealed, so they may get methods in 0.x.y.
+//! The versions follow semantic versioning, as cargo reads it: a version 0.x.y is compatible with 0.x.0, and a version
+//! 0.x.0 may break your program, where the changelog says so. The integer traits are sealed, so a compatible version may
+//! add methods to them.
 #![no_std]
 #![deny(unsafe_code)]
 #![warn(missing_docs, clippy::missing_errors_doc)]
@@ -106,7 +111,8 @@ pub use num::{
     BUFFER_SIZE, Error, FormattedSize, LexicalInteger, NumberFormat, NumberFormatBuilder, Result,
     UnsignedInteger,
 };
-pub use parts::Buffer;
+#[doc(inline)]
+pub use parts::{Buffer, Decimal, Digits, Fixed, Hex, Joined, Part};
 pub use write_integer::{ToLexical, ToLexicalWithOptions, group_digits, sign_len, write_sign};
 
 #[doc(hidden)]

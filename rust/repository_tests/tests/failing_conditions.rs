@@ -226,7 +226,7 @@ fn messages(called: &mut Vec<Panicking>) {
             7u64.magnitude_digits(37), write_padded(0u8, 37, &mut []), write_with_length("a", 37, 1, 0, buffer), 7u32.write_integer_signed(37, buffer);
         "the radix is not from 2 to 36", "radix": 7u32.write_integer(0, buffer), 7u8.radix(1, buffer),
             7u64.compact(37, buffer), 7u16.write_integer(255, buffer), 7u64.radix(u32::MAX, buffer),
-            Digits(1, 7u8).write_to(buffer), algorithm(7u8, 37, table(36), buffer);
+            Digits(1, 7u8).write_to(buffer), Digits(37, 7u8).room(), algorithm(7u8, 37, table(36), buffer);
         "a part is invalid: then `build` returns an error", "the mantissa radix is not from 2 to 36":
             builder.radix(37).build_strict();
         "a part is invalid: then `build` returns an error", "the exponent radix is not from 2 to 36":
@@ -244,7 +244,7 @@ fn messages(called: &mut Vec<Panicking>) {
             PaddedDigits(16, 256u32, 2).to_text(buffer), write_with_length(Padded(12u8, 1), 10, 1, 0, buffer),
             write_field(Padded(12u8, 1), 0, 1, buffer),
             (1u8, Padded(10u8, 1)).append_to(&mut Vec::new());
-        "the vector cannot have the room", "capacity overflow": Left("", usize::MAX, b' ').append_to(&mut vec![1]);
+        "the vector would have more than `isize::MAX` bytes", "capacity overflow": Left("", usize::MAX, b' ').append_to(&mut vec![1]);
         "the text does not have `count` bytes", "the text does not have `count` bytes": write_field("ab", 0, 3, buffer);
         "the text of the part is not UTF-8", "Utf8Error": not_utf8.to_str(buffer), not_utf8.try_to_str(buffer);
         "the length and `extra` together are above `usize::MAX`", "the length and `extra` together are above usize::MAX":

@@ -1,9 +1,14 @@
 //! What FROM_OTHER_CRATES.md of the package says to write. Each text there that is Rust is here too, so it compiles.
 
-use cojimuran::parts::{Digits, Lower, Padded, Part};
+#[allow(dead_code, reason = "its main")]
+#[path = "../../cojimuran/examples/number_of_128_bits.rs"]
+mod number_of_128_bits;
+
+use cojimuran::parts::{Digits, Lower, Part};
 use cojimuran::{
     BUFFER_SIZE, Buffer, FormattedSize, NumberFormat, NumberFormatBuilder, Options, ToLexical, ToLexicalWithOptions,
 };
+use number_of_128_bits::format_u128;
 
 const OPTIONS: Options = Options::new();
 const FORMAT: NumberFormat = NumberFormatBuilder::from_radix(36);
@@ -33,11 +38,22 @@ fn from_lexical_write_integer() {
 
 #[test]
 fn a_number_of_128_bits() {
-    let ten = 10u128.pow(19);
-    for wide in [ten, ten * 12 + 7, ten * u128::from(u64::MAX)] {
-        let (high, low) = ((wide / ten) as u64, (wide % ten) as u64);
-        assert_eq!((Digits(10, high), Padded(low, 19)).to_str(&mut [0; 39]), wide.to_string());
+    let ten_19 = 10u128.pow(19);
+    let limits = [0, u128::from(u64::MAX), ten_19, ten_19 << 64, ten_19 * ten_19, u128::MAX];
+    let near = limits.into_iter().flat_map(|limit| [limit.wrapping_sub(1), limit, limit.wrapping_add(1)]);
+    let mut state = 0x9e37_79b9_7f4a_7c15_f39c_c060_5ced_c835_u128;
+    let random = (0..1_000_000).map(|i| {
+        state = state.wrapping_mul(0xda94_2042_e4dd_58b5).wrapping_add(1);
+        (state ^ state >> 61) >> (i % 128)
+    });
+    for number in near.chain(random) {
+        assert_eq!(format_u128(number, &mut [0; 39]), number.to_string());
     }
+}
+
+/// The text of a number in generic code, as for `itoa::Integer`.
+fn text_of(value: impl ToLexical) -> String {
+    Buffer::new().format(value).to_owned()
 }
 
 #[test]
@@ -45,6 +61,7 @@ fn from_itoa() {
     let (number, a, b) = (7u32, -1i64, 2i64);
     let (mut output, mut text, mut buffer) = (Vec::new(), String::new(), [0; 64]);
     assert_eq!(Buffer::new().format(number), "7");
+    assert_eq!((text_of(i8::MIN), text_of(usize::MAX)), (i8::MIN.to_string(), usize::MAX.to_string()));
     output.extend_from_slice(number.to_lexical(&mut buffer));
     text.push_str((a, ",", b, "\n").to_str(&mut buffer));
     assert_eq!((output, text), (b"7".to_vec(), "-1,2\n".to_owned()));
