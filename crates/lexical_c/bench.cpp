@@ -1,12 +1,15 @@
 // Prints how long the library takes beside std::to_chars, and beside {fmt} if it is there, in nanoseconds per number: the
-// best of 100 interleaved passes over 10,000 numbers of 1 to 64 bits, each length as often. {fmt} has format strings that
-// are compiled (FMT_COMPILE), and in the first row fmt::format_int, which writes to a buffer of its own.
+// best of 100 interleaved passes over 10,000 numbers of 1 to 64 bits, each length as often. Their order is random, since a
+// processor learns to predict lengths that follow a pattern. {fmt} has format strings that are compiled (FMT_COMPILE), and
+// in the first row fmt::format_int, which writes to a buffer of its own.
 #include <lexical.h>
 
+#include <algorithm>
 #include <charconv>
 #include <chrono>
 #include <cstdio>
 #include <cstring>
+#include <random>
 #include <vector>
 #if __has_include(<fmt/compile.h>)
 #define FMT_HEADER_ONLY
@@ -91,6 +94,7 @@ int main()
         mixed = (mixed ^ (mixed >> 27)) * 0x94d049bb133111ebu;
         numbers.push_back((mixed ^ (mixed >> 31)) >> (i % 64));
     }
+    std::shuffle(numbers.begin(), numbers.end(), std::mt19937_64());
     Row rows[] = {
         { "lexical_decimal_u64", { decimal, to_chars<10>, fmt_decimal }, {} },
         { "radix 10", { lexical<10, 0>, to_chars<10>, fmt_text<10, false> }, {} },

@@ -8,7 +8,7 @@ use crate::number::Decimal;
 use crate::part::Part;
 use lexical_write_integer::ToLexical;
 
-/// A buffer for a number in decimal of any integer type, so that no call has a condition.
+/// A buffer for one number in decimal. It is long enough for every number of every integer type.
 ///
 /// ```
 /// use lexical_parts::Buffer;

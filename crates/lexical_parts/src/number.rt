@@ -41,7 +41,10 @@ impl<T: ToLexical> Part for Decimal<T> {
     }
 }
 
-/// The digits of an unsigned number in a radix from 2 to 36: `Digits(16, 255u32)` writes `FF`.
+/// The digits of an unsigned number in a radix from 2 to 36: `Digits(16, 255u32)` writes `FF`. The digits above 9 are `A`
+/// to `Z`; `Lower(Digits(16, 255u32))` writes `ff`. With another radix the part is not valid.
+///
+/// The number has a type of its own, so a literal needs one: `Digits(36, 1000u64)`. Its room is the number of its digits.
 #[derive(Clone, Copy, Debug, Drop)]
 pub struct Digits<T>(pub u32, pub T);
 

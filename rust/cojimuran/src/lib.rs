@@ -1,5 +1,6 @@
-//! Writes integers as text, in every radix from 2 to 36, into a buffer that you supply. No call allocates. Each function
-//! is proved: [when its conditions hold](#conditions), a call writes exactly the right bytes and does not panic.
+//! Writes integers as text, in every radix from 2 to 36, into a buffer that you supply. No call allocates, except that of
+//! `Append`. The sources of the other calls are proved: [when its conditions hold](#conditions), a call writes exactly the
+//! right bytes and does not panic.
 //!
 //! # A first program
 //!
@@ -13,7 +14,7 @@
 //! # What you call
 //!
 //! - [`Buffer`] writes one number in decimal and returns a `&str`: `Buffer::new().format(number)`.
-//! - [`Part`] is a value that has a text, such as a number, a `&str` or a tuple of parts. Its method
+//! - [`Part`] is a value that has a text, such as a number, a `&str` or a tuple of 2 to 12 parts. Its method
 //!   [`to_str`](Part::to_str) writes the text to a buffer and returns a `&str`. [`to_text`](Part::to_text) returns bytes.
 //! - [`Digits`] is an unsigned number in a radix, [`Hex`] one in radix 16, [`Fixed`] an amount such as `-19.95`,
 //!   [`Joined`] a slice with a separator between its elements, and [`Decimal`] a number in generic code. [`parts`] has
@@ -51,9 +52,10 @@
 //!
 //! # How large the buffer must be
 //!
-//! A decimal number needs room for the longest number of its type: 20 bytes for a `u64`, also for 7. With a shorter
-//! buffer a call panics. [`FormattedSize::FORMATTED_SIZE_DECIMAL`] is this size, [`BUFFER_SIZE`] is enough for every
-//! number in every format, and [`Part::room`] is enough for a part. A [`Buffer`] needs no size.
+//! Most calls reserve the room that the longest number of the type would need: 20 bytes for a `u64`, even for 7.
+//! [`FormattedSize::FORMATTED_SIZE_DECIMAL`] is this size, [`BUFFER_SIZE`] is enough for every number in every format, and
+//! [`Part::room`] is enough for a part. A [`Buffer`] needs no size. With a shorter buffer a call panics, or works for some
+//! values: do not rely on that.
 //!
 //! # What is written is read back
 //!

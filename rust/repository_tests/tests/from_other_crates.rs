@@ -4,11 +4,11 @@
 #[path = "../../cojimuran/examples/number_of_128_bits.rs"]
 mod number_of_128_bits;
 
-use cojimuran::parts::{Digits, Lower, Part};
+use cojimuran::parts::{Digits, Fixed, Hex, Lower, Padded, Part, Right, ZeroPadded};
 use cojimuran::{
     BUFFER_SIZE, Buffer, FormattedSize, NumberFormat, NumberFormatBuilder, Options, ToLexical, ToLexicalWithOptions,
 };
-use number_of_128_bits::format_u128;
+use number_of_128_bits::{format_i128, format_u128};
 
 const OPTIONS: Options = Options::new();
 const FORMAT: NumberFormat = NumberFormatBuilder::from_radix(36);
@@ -47,13 +47,29 @@ fn a_number_of_128_bits() {
         (state ^ state >> 61) >> (i % 128)
     });
     for number in near.chain(random) {
-        assert_eq!(format_u128(number, &mut [0; 39]), number.to_string());
+        assert_eq!(format_u128(number, &mut [0; 40]), number.to_string());
+        let signed = i128::from_ne_bytes(number.to_ne_bytes());
+        assert_eq!(format_i128(signed, &mut [0; 40]), signed.to_string());
     }
 }
 
 /// The text of a number in generic code, as for `itoa::Integer`.
 fn text_of(value: impl ToLexical) -> String {
     Buffer::new().format(value).to_owned()
+}
+
+#[test]
+fn from_format() {
+    let (number, a, b, cents) = (7u32, -1i64, 2i64, 1995u64);
+    let (mut text, mut buffer) = (String::new(), [0; 64]);
+    text.push_str((a, ",", b, "\n").to_str(&mut buffer));
+    assert_eq!(text, format!("{a},{b}\n"));
+    assert_eq!(Padded(number, 2).to_str(&mut buffer), format!("{number:02}"));
+    assert_eq!(ZeroPadded(a, 6).to_str(&mut buffer), format!("{a:06}"));
+    assert_eq!(Right(number, 8, b' ').to_str(&mut buffer), format!("{number:>8}"));
+    assert_eq!(Hex(number).to_str(&mut buffer), format!("{number:X}"));
+    assert_eq!(Lower(Hex(number)).to_str(&mut buffer), format!("{number:x}"));
+    assert_eq!(Fixed(cents, 2).to_str(&mut buffer), format!("{}.{:02}", cents / 100, cents % 100));
 }
 
 #[test]

@@ -19,7 +19,9 @@ use lexical_num::format::{NumberFormat, STANDARD};
 use lexical_num::num::LexicalInteger;
 use lexical_num::options::WriteOptions;
 
-/// An integer type whose numbers are written in decimal.
+/// An integer type whose numbers are written in decimal: `u8` to `u64`, `usize`, `i8` to `i64` and `isize`.
+///
+/// Call `to_lexical` or `write_lexical`. The other methods are there for the types themselves.
 ///
 /// ```
 /// use lexical_write_integer::ToLexical;

@@ -6,7 +6,7 @@ use crate::parts::number::Decimal;
 use crate::parts::part::Part;
 use crate::write_integer::ToLexical;
 
-/// A buffer for a number in decimal of any integer type, so that no call has a condition.
+/// A buffer for one number in decimal. It is long enough for every number of every integer type.
 ///
 /// ```
 /// use cojimuran::parts::Buffer;

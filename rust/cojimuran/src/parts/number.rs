@@ -37,12 +37,16 @@ impl<T: ToLexical> Part for Decimal<T> {
     }
 }
 
-/// The digits of an unsigned number in a radix from 2 to 36: `Digits(16, 255u32)` writes `FF`.
+/// The digits of an unsigned number in a radix from 2 to 36: `Digits(16, 255u32)` writes `FF`. The digits above 9 are `A`
+/// to `Z`; `Lower(Digits(16, 255u32))` writes `ff`. With another radix the part is not valid.
+///
+/// The number has a type of its own, so a literal needs one: `Digits(36, 1000u64)`. Its room is the number of its digits.
 ///
 /// ```
-/// use cojimuran::parts::{Digits, Part};
+/// use cojimuran::parts::{Digits, Lower, Part};
 ///
 /// assert_eq!(Digits(16, 255u32).to_text(&mut [0; 64]), b"FF");
+/// assert_eq!(Lower(Digits(16, 255u32)).to_text(&mut [0; 64]), b"ff");
 /// ```
 #[derive(Clone, Copy, PartialEq, Eq, Hash, Debug)]
 pub struct Digits<T>(pub u32, pub T);

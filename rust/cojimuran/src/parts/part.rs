@@ -7,10 +7,11 @@ use crate::write_integer::buffer::front_mut;
 use core::fmt;
 use core::str::{from_utf8, from_utf8_unchecked};
 
-/// A value that has a text, such as a number or a `&str`. A tuple of parts is also a part, and its
+/// A value that has a text, such as a number or a `&str`. A tuple of 2 to 12 parts is also a part, and its
 /// text consists of the texts of its elements, in order: `(250, " g")` writes `250 g`.
 ///
-/// For a `String` or a `&String` write `string.as_str()`.
+/// For a `String` or a `&String` write `string.as_str()`. A literal needs a type where the part takes unsigned numbers
+/// only: `Hex(255u8)`, and not `Hex(255)`.
 ///
 /// A part is *valid* if it meets the condition of its type: a radix is from 2 to 36, and a padded number
 /// fits in its width. A part that contains parts is valid if they are valid. A part without a condition is
@@ -98,9 +99,8 @@ pub trait Part: Copy {
     /// afterwards is not promised. The part must be valid, each [`Byte`](crate::parts::Byte) in it and each byte of a column must be below
     /// 128, each [`Bytes`](crate::parts::Bytes) in it must be UTF-8, and the buffer must have `room` bytes or more.
     ///
-    /// At run time this is `to_text`. If the values of the part do not show that its text is UTF-8, as those of your
-    /// own part do not, a call of `std::str::from_utf8` follows, which reads the text once and cannot fail; if rustc
-    /// compiles a caller with a [`Bytes`](crate::parts::Bytes) that is not UTF-8, it panics.
+    /// The text of your own parts and of a [`Bytes`](crate::parts::Bytes) is checked by `std::str::from_utf8`, which reads it once. Other texts
+    /// need no check.
     ///
     /// # Panics
     ///

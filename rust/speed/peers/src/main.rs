@@ -1,5 +1,6 @@
-//! Counts the instructions of a number with valgrind, beside other crates: `cargo run --release`. With `-- --by-digits` it
-//! counts decimal and radix 36 by the number of digits, as `docs/figures/draw` takes it.
+//! Counts the instructions of a number with valgrind, beside other crates: `cargo run --release`. With `-- --times` it
+//! measures nanoseconds instead. With `-- --by-digits` it counts decimal and radix 36 by the number of digits, as
+//! `docs/figures/draw` takes it.
 
 use cojimuran::parts::{Decimal, Digits, Hex, Part};
 use cojimuran::{Buffer, NumberFormat, NumberFormatBuilder, Options, ToLexical, ToLexicalWithOptions};
@@ -7,6 +8,7 @@ use lexical_write_integer as lexical;
 use std::hint::black_box;
 use std::io::Write;
 use std::process::Command;
+use std::time::Instant;
 
 /// How many numbers are written.
 const COUNT: usize = 10_000;
@@ -44,7 +46,9 @@ macro_rules! each {
 
 /// Returns a loop that takes the result of an expression without a buffer, and counts its bytes.
 macro_rules! taken {
-    ($number:ty, |$value:ident| $text:expr) => { each!($number, |$value, b| black_box($text).len() + usize::from(b[0])) };
+    ($number:ty, |$value:ident| $text:expr) => {
+        each!($number, |$value, b| black_box($text).len() + usize::from(b[0]))
+    };
 }
 
 /// Returns a loop of the standard library.
@@ -155,11 +159,12 @@ fn random(state: &mut u64) -> u64 {
     *state
 }
 
-/// Returns numbers of 1 to 64 bits, each length as often, or of this many digits in a radix.
+/// Returns numbers of 1 to 64 bits, each length as often, or of this many digits in a radix. The lengths are in no order,
+/// since a processor learns to predict lengths that follow a pattern.
 fn numbers(digits: Option<(u64, u32)>) -> Vec<u64> {
     let state = &mut 0x9e37_79b9_7f4a_7c15_u64;
-    let number = |index: usize| match digits {
-        None => (random(state) | 1 << 63) >> (63 - index % 64),
+    let number = |_| match digits {
+        None => (random(state) | 1 << 63) >> (random(state) % 64),
         Some((radix, count)) => {
             let least = radix.pow(count - 1);
             least + random(state) % (least.saturating_mul(radix - 1).min(u64::MAX - least))
@@ -176,7 +181,8 @@ fn instructions(words: [usize; 4]) -> f64 {
         let words = [words[0], words[1], words[2], words[3], count];
         let output = command.args(words.map(|word| word.to_string())).output().expect("valgrind");
         let text = String::from_utf8_lossy(&output.stderr);
-        let count = text.lines().find_map(|line| Some(line.split_once("Collected : ")?.1.trim().parse::<u64>().unwrap()));
+        let count =
+            text.lines().find_map(|line| Some(line.split_once("Collected : ")?.1.trim().parse::<u64>().unwrap()));
         count.unwrap_or_else(|| panic!("valgrind: {text}"))
     };
     (run(COUNT) - run(0)) as f64 / COUNT as f64
@@ -194,6 +200,29 @@ fn print_by_digits(row: usize, radix: usize, most: usize) {
     }
 }
 
+/// Returns how many nanoseconds a number takes: the best of 200 passes, in which the loops take turns.
+fn times(loops: &[Option<Loop>], numbers: &[u64]) -> Vec<Option<f64>> {
+    let mut best = vec![f64::MAX; loops.len()];
+    for _ in 0..200 {
+        for (each, best) in loops.iter().zip(&mut best) {
+            if let Some(each) = each {
+                let start = Instant::now();
+                black_box(each(numbers));
+                *best = best.min(start.elapsed().as_secs_f64() * 1e9 / COUNT as f64);
+            }
+        }
+    }
+    loops.iter().zip(best).map(|(each, best)| each.map(|_| best)).collect()
+}
+
+/// Prints a table with a row for each of `rows`, and the cells that a function returns for it.
+fn print_table(cells: impl Fn(usize, &[Option<Loop>; 4]) -> Vec<String>) {
+    println!("| | here | `lexical-write-integer` | `itoa` | std |\n|---|---|---|---|---|");
+    for (row, (name, loops)) in rows().iter().enumerate() {
+        println!("| {name} | {} |", cells(row, loops).join(" | "));
+    }
+}
+
 fn main() {
     let words: Vec<usize> = std::env::args().filter_map(|word| word.parse().ok()).collect();
     if let [row, column, radix, digits, count] = words[..] {
@@ -203,12 +232,14 @@ fn main() {
     } else if std::env::args().any(|word| word == "--by-digits") {
         print_by_digits(2, 10, 20);
         print_by_digits(11, 36, 13);
+    } else if std::env::args().any(|word| word == "--times") {
+        let (numbers, none) = (numbers(None), "-".to_owned());
+        let text = |time: Option<f64>| time.map_or(none.clone(), |time| format!("{time:.1}"));
+        print_table(|_, loops| times(loops, &numbers).into_iter().map(text).collect());
     } else {
-        println!("| | here | `lexical-write-integer` | `itoa` | std |\n|---|---|---|---|---|");
-        for (row, (name, loops)) in rows().iter().enumerate() {
-            let cell = |column: usize| format!("{:.0}", instructions([row, column, 0, 0]));
-            let cells = (0..4).map(|column| loops[column].map_or("-".to_owned(), |_| cell(column)));
-            println!("| {name} | {} |", cells.collect::<Vec<_>>().join(" | "));
-        }
+        let cell = |row, column: usize| format!("{:.0}", instructions([row, column, 0, 0]));
+        print_table(|row, loops| {
+            (0..4).map(|column| loops[column].map_or("-".to_owned(), |_| cell(row, column))).collect()
+        });
     }
 }

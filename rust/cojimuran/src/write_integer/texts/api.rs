@@ -9,7 +9,9 @@ use crate::num::num::LexicalInteger;
 use crate::num::options::WriteOptions;
 use crate::write_integer::buffer::front_mut;
 
-/// An integer type whose numbers are written in decimal.
+/// An integer type whose numbers are written in decimal: `u8` to `u64`, `usize`, `i8` to `i64` and `isize`.
+///
+/// Call `to_lexical` or `write_lexical`. The other methods are there for the types themselves.
 ///
 /// ```
 /// use cojimuran::ToLexical;
