@@ -18,48 +18,53 @@
  *     size_t count = lexical_decimal_i32(-42, text, sizeof text - 1);
  *     text[count] = '\0';
  *
- * For a width of 8, write an unsigned number after 8 zeros:
+ * For a width of 8 with leading zeros, write an unsigned number below 100000000
+ * after 8 zeros:
  *
  *     char text[8 + LEXICAL_BUFFER_SIZE_DECIMAL_U32];
  *     memset(text, '0', 8);
  *     size_t count = lexical_decimal_u32(42, text + 8, sizeof text - 8);
  *
- * The 8 bytes at text + count are 00000042. A test of the library has the examples.
+ * The 8 bytes at text + count are 00000042. A number with more than 8 digits would
+ * lose its first digits, so check the number before.
  *
- * Proof. Each function is proved for all arguments that meet the conditions below
- * under "Format" and "Buffer". The proof does not cover the caller's code.
- *
- * Text. The text begins with a sign: '-' for a negative number, and '+' for any
- * other number if the format requires a sign. Then come the digits, '0' to '9'
- * and 'A' to 'Z', or 'a' to 'z' if the format requests lowercase, the most
- * significant digit first, with no leading zeros. If the format has groups, a
- * separator (its mark) is written between groups of digits.
+ * Text. A negative number begins with '-'. Another number begins with '+' if the
+ * format requires a sign, and otherwise with its first digit. The digits are '0' to
+ * '9' and 'A' to 'Z', or 'a' to 'z' if the format requests lowercase. The most
+ * significant digit is the first one, and there are no leading zeros. If the format
+ * has groups, a separator (its mark) is written between groups of digits.
  *
  * Format. `format` points to a struct lexical_format, which the call only
- * reads. The pointer must not be NULL. The fields may hold any numbers.
+ * reads. The pointer must not be NULL. Any values of the fields are safe: with an
+ * invalid format the call returns 0.
  *
  * Buffer. `buffer` points to `length` bytes that the call may write. They must
  * not overlap the format, and no other thread may use them during the call. The
  * pointer may be NULL if the length is 0. The length must be at most
- * PTRDIFF_MAX, since no object is longer. The result and the text do not depend
- * on what the buffer held, which may be uninitialized; a call may load a byte and
- * store it back. It writes nothing outside the buffer, and keeps no pointer to it.
+ * PTRDIFF_MAX, since no object is longer. The buffer may be uninitialized. Bytes
+ * after the text keep their values, but a call may write the same value again. It
+ * writes nothing outside the buffer, and keeps no pointer to it.
  *
  * Length of the buffer. LEXICAL_BUFFER_SIZE bytes are enough for every number of
  * every type in every format. lexical_decimal is the fastest call. lexical_write is
- * fastest if the format has no groups and no required sign. Both are fastest if the
- * buffer is long enough for every number of the type (the constants below). In other
- * cases the text may be written to an array on the stack first; LEXICAL_BUFFER_SIZE
- * bytes always avoid that.
+ * fastest if the format has no groups, no required sign and uppercase digits. If the
+ * buffer is shorter than the size of the type (the constants below), the text may be
+ * written to an array first and then copied. With LEXICAL_BUFFER_SIZE bytes there is
+ * never a copy.
  *
- * Return value. lexical_decimal and lexical_write return the length of the text that
- * they have written, without a terminating 0, and lexical_length the length that the
- * text has. lexical_buffer_size returns a size that is enough. None of them is 0.
- * lexical_check_format returns 0 for a valid format.
+ * Return value. On success lexical_decimal and lexical_write return the length of the
+ * text that they have written, without a terminating 0, lexical_length returns the
+ * length that the text has, and lexical_buffer_size a size that is enough. None of
+ * these is 0.
  *
  * Errors. If the text does not fit the buffer or the format is not valid, the buffer
- * is unchanged and the call returns 0. lexical_check_format then returns a number that
- * names the first invalid field. No call changes errno.
+ * is unchanged and the call returns 0. To know which, call lexical_check_format: it
+ * returns 0 for a valid format, so the buffer was too short, and otherwise a number
+ * that names the first invalid field. No call changes errno.
+ *
+ * Proof. The sources of the library are proved for all arguments that meet the
+ * conditions above under "Format" and "Buffer". The caller's code is not proved, and
+ * what a compiler makes of the sources is tested.
  *
  * Threads and signals. The functions have no state and allocate nothing: any thread
  * and any signal handler may call them.
@@ -105,7 +110,7 @@
     LEXICAL_HAS((nothrow, pure, nonnull(n), warn_unused_result))               \
     LEXICAL_ACCESS((read_only, n))
 
-/* The radix of LEXICAL_RADIX as a field. An array of a negative size does not compile. */
+/* The radix of LEXICAL_RADIX as a field. A constant that is not from 2 to 36 is refused by an array of a negative size. */
 #if defined(__cplusplus) && __cplusplus >= 201103L
 extern "C++" {
 template <typename T>
@@ -152,8 +157,8 @@ extern "C" {
 
 /*
  * lexical_version: returns the version of the library, as a number of the form of
- * LEXICAL_VERSION. A program that was compiled with this header can run with a
- * library for which
+ * LEXICAL_VERSION. A program that was compiled with this header runs, whichever of its
+ * functions it calls, with a library for which
  *
  *     lexical_version() / 1000000 == LEXICAL_VERSION_MAJOR
  *         && lexical_version() >= LEXICAL_VERSION
@@ -213,9 +218,9 @@ size_t lexical_decimal_i64(int64_t value, char *buffer, size_t length) LEXICAL_N
  * have 32 bits, so a radix, a group size or a mark above 255 is not truncated to
  * a byte but is invalid.
  *
- * In C++14 and later each field after the radix is 0 by default. There a format
- * is set to zeros by `format = {}`, since g++ warns of memset, and a union with a
- * format as a member needs a constructor.
+ * In C++14 and later each field after the radix is 0 by default. So g++ warns if you
+ * set a format to zeros by memset: write `format = {}`. A union with a format as a
+ * member needs a constructor.
  */
 #if defined(__cplusplus) && __cplusplus >= 201402L
 #define LEXICAL_DEFAULT(value) = value /* so that g++ does not warn of fields that are not named */
@@ -244,9 +249,9 @@ struct lexical_format {
 
 /*
  * The standard format, as an initializer and as an object: decimal, with no '+'
- * and no groups. A program has one such object, and so has each shared library, which
- * does not export it: it is `inline constexpr` in C++17 and later, and otherwise a weak
- * symbol, which compilers other than gcc and clang lack.
+ * and no groups. A program has one such object, and each shared library has one of its
+ * own, which it does not export. With compilers other than gcc and clang, each file in
+ * C or in C++ before C++17 has one of its own.
  */
 #define LEXICAL_STANDARD_FORMAT LEXICAL_RADIX(10)
 #if defined(__cplusplus) && __cplusplus >= 201703L
@@ -396,9 +401,10 @@ size_t lexical_write_i64(int64_t value, const struct lexical_format *format,
 /*
  * lexical_decimal, lexical_write and lexical_length, in C11 and later, and in C++:
  * call the function above that the type of the value chooses, as lexical_write_i32
- * for an int. A char and a bool are refused, and in C++ also wchar_t, char8_t,
- * char16_t and char32_t, which in C are names of integer types: a cast says whether
- * the number or a letter is meant. In C11 a bit-field needs a cast too.
+ * for an int. A variable of the type char or bool is refused, and in C++ also wchar_t,
+ * char8_t, char16_t and char32_t: a cast says whether you mean the number or a letter.
+ * In C the expressions 'x', true and a > b are of the type int, so they are accepted.
+ * In C11 a bit-field needs a cast too.
  *
  * In C++ the format may also be passed as an object, and in C++11 and later as
  * an initializer:
