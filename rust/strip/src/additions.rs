@@ -1,73 +1,82 @@
 //! What a package has that the crate does not say: attributes, `const`, when a public function panics, and that its
 //! result is to be used. Without `#[inline]` rustc would inline few functions of a package into another one.
 
-use crate::Known;
 use crate::conditions;
-use crate::functions::{Function, functions, name};
+use crate::items::{Function, function};
 use crate::packages::{Source, has};
+use crate::tokens::{Token, close, find, words};
 
-/// Returns the text of a file, a path in `src`, with the additions. The text of the source has what its functions require.
-pub(crate) fn with_additions(
-    text: &str,
-    source_text: &str,
-    file: &str,
-    source: &Source,
-    known: &Known,
-) -> Result<String, String> {
-    let (required, made) = (functions(source_text), functions(text));
-    let (mut required, mut made) = (required.iter(), made.iter());
-    let mut written = String::with_capacity(2 * text.len());
-    for line in text.lines() {
-        let indent = &line[..line.len() - line.trim_start().len()];
-        let mut line = line.to_owned();
-        if let Some(name) = name(&line) {
-            let is_same = |other: &&Function| other.name == name || other.name == format!("{name}_counted");
-            let found = made.next().zip(required.find(is_same));
-            let (function, required) = found.ok_or_else(|| format!("{name} is in another order"))?;
-            // What is hidden has no documentation.
-            let is_hidden = written.ends_with("#[doc(hidden)]\n");
-            let mut added = additions(function, required, file, source, known)?;
-            added.retain(|added| !is_hidden || !added.starts_with("///"));
-            for added in added {
-                written += &format!("{indent}{}\n", added.replace('\n', &format!("\n{indent}")));
-            }
-            if line.trim_start().starts_with("pub fn ") && has(source.constant, name) {
-                line = line.replacen("fn", "const fn", 1);
-            }
+/// Adds them to the functions of a file, and leaves out their clauses.
+pub(crate) fn add(tokens: &mut Vec<Token>, file: &str, source: &Source, pages: &str) -> Result<(), String> {
+    let mut trait_end = 0;
+    for at in 0.. {
+        if at + 1 >= tokens.len() {
+            break;
         }
-        written += &(line + "\n");
+        if tokens[at] == "trait" {
+            trait_end = tokens.len() - close(tokens, find(tokens, at, &["{"]));
+        }
+        let is_in_trait = tokens.len() - at > trait_end && trait_end > 0;
+        let Some(function) = function(tokens, at) else {
+            continue;
+        };
+        let lines =
+            if source.is_test() { String::new() } else { lines(tokens, &function, is_in_trait, file, source, pages)? };
+        for clause in function.clauses.into_iter().rev() {
+            tokens.drain(clause);
+        }
+        if tokens[function.visible] == "pub" && tokens[at - 1] == "pub" && has(source.constant, &tokens[at + 1].text) {
+            tokens[at].text = "const fn".to_owned();
+        }
+        let before = &mut tokens[function.visible].before;
+        let indent = before[before.trim_end_matches(' ').len()..].to_owned();
+        *before += &lines.replace('\n', &format!("\n{indent}"));
     }
-    Ok(written)
+    Ok(())
 }
 
-/// Returns the lines before a function, of which another one has what it requires.
-fn additions(
+/// Returns the lines before a function.
+fn lines(
+    tokens: &[Token],
     function: &Function,
-    required: &Function,
+    is_in_trait: bool,
     file: &str,
     source: &Source,
-    known: &Known,
-) -> Result<Vec<String>, String> {
-    let Function { name, signature, body, .. } = function;
-    let (parameters, result) = signature.trim_end_matches(';').rsplit_once(") -> ").unwrap_or((signature, ""));
-    if !result.is_empty() && body.as_ref().is_some_and(Vec::is_empty) {
-        return Err(format!("{name} returns nothing"));
+    pages: &str,
+) -> Result<String, String> {
+    let name = &tokens[function.at + 1].text;
+    let parameters = words(&tokens[function.parameters..close(tokens, function.parameters)]);
+    let clauses = function.clauses.first().map_or(function.end, |clause| clause.start);
+    let result = words(&tokens[close(tokens, function.parameters) + 1..clauses]);
+    let has_body = tokens[function.end] == "{";
+    if result.starts_with("->") && has_body && close(tokens, function.end) == function.end + 1 {
+        return Err(format!("{}: {name} returns nothing", tokens[function.at].line));
     }
-    let mut lines = Vec::new();
-    if function.is_public && source.is_documented() {
-        let panics = conditions::panics(required, &known.pages)?;
-        if !panics.is_empty() {
-            lines.push(format!("///\n/// # Panics\n///\n/// If {}.", panics.join(",\n/// or if ")));
+    let mut lines = String::new();
+    if source.is_documented()
+        && (is_in_trait || tokens[function.visible] == "pub" && tokens[function.visible + 1] != "(")
+    {
+        let required = function.clauses.iter().filter(|clause| tokens[clause.start] == "requires");
+        let required = required.map(|clause| words(&tokens[find(tokens, clause.start, &["{"]) + 1..clause.end - 1]));
+        let required: Vec<String> = required.collect();
+        let panics = conditions::panics(name, &required, pages)
+            .map_err(|what| format!("{}: {what}", tokens[function.at].line))?;
+        // What is hidden has no documentation.
+        let is_hidden = words(&tokens[function.first..function.visible]).ends_with("# [ doc ( hidden ) ]");
+        if !panics.is_empty() && !is_hidden {
+            lines += &format!("///\n/// # Panics\n///\n/// If {}.\n", panics.join(",\n/// or if "));
         }
-        let is_changing = parameters.contains("&mut") || parameters.contains("&'a mut");
-        if !(result.is_empty() || result.contains("Result<") || is_changing) {
-            lines.push("#[must_use]".to_owned());
+        let is_changing = parameters.contains("& mut") || parameters.contains("& 'a mut");
+        if result.starts_with("->") && !result.contains("Result <") && !is_changing {
+            lines += "#[must_use]\n";
         }
     }
     // One with an ABI has attributes of its own.
-    if body.is_some() && !function.is_exported {
+    let is_exported = words(&tokens[function.visible..function.at]).contains("extern");
+    if has_body && !is_exported {
         let is_listed = |(_, names): &&(_, &str)| has(names, name) || has(names, file);
-        lines.push(source.attributes.iter().find(is_listed).map_or("#[inline]", |(attribute, _)| attribute).to_owned());
+        lines += source.attributes.iter().find(is_listed).map_or("#[inline]", |(attribute, _)| attribute);
+        lines += "\n";
     }
     Ok(lines)
 }

@@ -2,7 +2,7 @@
 //! page names the function. In Rattle no call compiles if a condition does not hold. That a call panics then, as the
 //! sentence says, is tested for each one in `repository_tests/tests/failing_conditions.rs`.
 
-use crate::functions::Function;
+use crate::tokens::{code, words};
 
 /// Functions that only the package itself calls.
 const INTERNAL: [&str; 2] = ["write_answer", "parse"];
@@ -40,17 +40,17 @@ const CONDITIONS: &[(&str, Option<&str>)] = &[
     ("IfSome line (λ bytes. length bytes.now ≤ 64)", None),
 ];
 
-/// Returns when a function panics, or an error if a condition of it is neither checked nor named on a page.
-pub(crate) fn panics(function: &Function, pages: &str) -> Result<Vec<&'static str>, String> {
+/// Returns when a function with these conditions panics, or an error if one is neither checked nor named on a page.
+pub(crate) fn panics(name: &str, conditions: &[String], pages: &str) -> Result<Vec<&'static str>, String> {
     let mut found = Vec::new();
-    for condition in &function.conditions {
-        let (_, text) = condition.split_once("{ ").unwrap_or_default();
-        let text = &format!("{}: {}", function.name, text.trim_end_matches(" }"));
-        let is_named = INTERNAL.contains(&&*function.name) || pages.contains(&format!("`{}`", function.name));
-        match CONDITIONS.iter().find(|(ends, _)| ends.split(" | ").any(|end| text.ends_with(end))) {
+    for condition in conditions {
+        let text = format!(" {name} : {condition}");
+        let is_named = INTERNAL.contains(&name) || pages.contains(&format!("`{name}`"));
+        let is_end = |end: &str| text.ends_with(&format!(" {}", words(&code(end)).trim()));
+        match CONDITIONS.iter().find(|(ends, _)| ends.split(" | ").any(is_end)) {
             Some((_, Some(when))) => found.extend((!found.contains(when)).then_some(*when)),
             Some((_, None)) if is_named => {}
-            _ => return Err(format!("what is required is neither checked nor named: {text}")),
+            _ => return Err(format!("what is required is neither checked nor named:{text}")),
         }
     }
     Ok(found)

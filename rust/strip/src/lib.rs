@@ -1,27 +1,30 @@
 //! Makes the sources of the Rust packages from those of the crates of Rattle.
 //!
-//! What only Rattle reads is left out: ghost items, clauses, models and tactics, laws and what they need. The paths are
-//! those of the package. A line that still has a word of Rattle is an error, which shows its file and the line.
+//! A source is read as tokens, and comments go with them: they are copied, and decide nothing. First the patterns of
+//! `tables` are written otherwise. Then what only Rattle reads is left out: ghost items, clauses, models, tactics, laws
+//! with their calls, and values that only contracts read. Then `additions` has what a package needs. A rule that matches
+//! nothing, a call or a block that no rule knows, and a word of Rattle that is left are errors, with the file and the line.
 
 #![forbid(unsafe_code)]
 
 mod additions;
 mod conditions;
-mod counted;
 mod examples;
-mod functions;
-mod imports;
+mod items;
 mod left_out;
 mod links;
 mod packages;
-mod replaced;
+mod rules;
+mod tables;
+mod tokens;
 
-use left_out::Laws;
+use left_out::{Names, Signatures};
 use packages::{SOURCES, Source};
 use std::collections::{BTreeMap, BTreeSet};
 use std::path::{Path, PathBuf};
 use std::process::{Command, Stdio};
 use std::{fs, io};
+use tokens::Token;
 
 /// What each made file begins with.
 const START: &str = "// Made by `strip` from ";
@@ -29,19 +32,33 @@ const START: &str = "// Made by `strip` from ";
 /// What names the conditions that a package does not check.
 const PAGES: [&str; 2] = ["rust/cojimuran/CONDITIONS.md", "rust/lexwrite/src/lib.rs"];
 
-/// What is read before the files.
+/// The sources of all crates, and what is known of them.
+#[derive(Default)]
 pub(crate) struct Known {
-    pub laws: Laws,
+    files: Vec<File>,
+    /// The laws of all crates.
+    pub laws: Names,
+    /// The functions of all crates that have ghosts.
+    pub signatures: Signatures,
     /// The pages of the conditions that a package does not check.
     pub pages: String,
+}
+
+/// A file of a crate.
+struct File {
+    source: &'static Source,
+    path: PathBuf,
+    /// Its path in `src`.
+    name: String,
+    tokens: Vec<Token>,
 }
 
 /// Returns the path and the text of each file that is made of the repository in this folder.
 fn made(top: &Path) -> Result<BTreeMap<PathBuf, String>, String> {
     let mut made = BTreeMap::new();
-    let known = known(top)?;
+    let known = known(top, SOURCES)?;
     for source in SOURCES.iter().filter(|source| source.is_committed()) {
-        for (path, text) in made_of(top, source, &known)? {
+        for (path, text) in made_of(source, &known)? {
             made.insert(path, formatted(&text, top)?);
         }
     }
@@ -86,53 +103,72 @@ fn document(top: &Path, made: &mut BTreeMap<PathBuf, String>) -> Result<(), Stri
     Ok(())
 }
 
-/// Returns what is known of all crates. A name that another function has too is of no law. What tests call for an
-/// assertion returns nothing either, so no law is searched in theirs.
-fn known(top: &Path) -> Result<Known, String> {
-    let (mut laws, mut others) = (Laws::new(), Laws::new());
-    for source in SOURCES.iter().filter(|source| !source.name.ends_with("_tests")) {
-        for file in files(top, &source.folder_of_crate(), "rt")? {
-            let (found, names) = left_out::laws(&read(&top.join(file))?);
-            laws.extend(found);
-            others.extend(names);
+/// Reads all crates. Each rule and each name of a list must be for something in them.
+fn known(top: &Path, sources: &'static [Source]) -> Result<Known, String> {
+    let mut known = Known::default();
+    let mut uses = BTreeMap::new();
+    for source in sources {
+        let (mut names, (patterns, examples)) = (Names::new(), source.patterns());
+        for path in files(top, &source.folder_of_crate(), "rt")? {
+            let name = path.strip_prefix(source.folder_of_crate()).unwrap_or(&path).to_string_lossy().into_owned();
+            let tokens = rules::rewritten(&read(&top.join(&path))?, &patterns, &examples, &name);
+            let tokens = tokens.map_err(|what| format!("{}:{what}", path.display()))?;
+            left_out::add_signatures(&tokens, &mut known.signatures);
+            known.laws.extend(items::names(&tokens).filter(|law| source.is_law(law, &name)).cloned());
+            names.extend([name.clone(), name.trim_end_matches(".rt").to_owned()]);
+            names.extend(tokens.iter().map(|token| token.text.clone()));
+            known.files.push(File { source, path, name, tokens });
+        }
+        if let Some(name) = source.names().find(|name| !names.contains(*name)) {
+            return Err(format!("{}: it has no {name}", source.name));
+        }
+        patterns.iter().for_each(|pattern| *uses.entry(pattern.name()).or_insert(0) += pattern.uses.get());
+    }
+    let unused: Vec<String> = uses.into_iter().filter(|(_, count)| *count == 0).map(|(rule, _)| rule).collect();
+    if !unused.is_empty() {
+        return Err(format!("rules that nothing matches: {}", unused.join(", ")));
+    }
+    for File { source, path, name, tokens } in &known.files {
+        if let Some(other) = items::names(tokens).find(|law| known.laws.contains(*law) && !source.is_law(law, name)) {
+            return Err(format!("{}: {other} is the name of a law too", path.display()));
         }
     }
-    let pages = PAGES.map(|page| read(&top.join(page))).into_iter().collect::<Result<_, _>>()?;
-    Ok(Known { laws: &laws - &others, pages })
+    known.pages = PAGES.map(|page| read(&top.join(page))).into_iter().collect::<Result<_, _>>()?;
+    Ok(known)
 }
 
 /// Returns the path and the text of each file that is made of a source.
-fn made_of(top: &Path, source: &Source, known: &Known) -> Result<BTreeMap<PathBuf, String>, String> {
-    let folder = source.folder_of_crate();
+fn made_of(source: &Source, known: &Known) -> Result<BTreeMap<PathBuf, String>, String> {
     let mut made = BTreeMap::new();
-    for file in files(top, &folder, "rt")? {
-        let name = file.strip_prefix(&folder).unwrap_or(&file).to_string_lossy().into_owned();
-        if let Some(path) = source.made_of(&name) {
-            let text = read(&top.join(&file))?;
-            let text = made_text(&text, &name, source, known).map_err(|what| format!("{}: {what}", file.display()))?;
-            made.insert(path, format!("{START}{}. Edit that file, not this one.\n\n{text}", file.display()));
+    for file in known.files.iter().filter(|file| file.source.name == source.name) {
+        if let Some(path) = source.made_of(&file.name) {
+            let at = file.path.display();
+            let text =
+                translated(file.tokens.clone(), &file.name, source, known).map_err(|what| format!("{at}:{what}"))?;
+            made.insert(path, format!("{START}{at}. Edit that file, not this one.\n\n{text}"));
         }
     }
     Ok(made)
 }
 
-/// Returns what is made of the text of a file of a source, a path in its `src`.
-fn made_text(text: &str, file: &str, source: &Source, known: &Known) -> Result<String, String> {
-    let made = left_out::without_left_out(&source.replaced(text), source, &known.laws);
-    let made = counted::without_counted(&made)?;
-    match left_out::unknown(&made) {
-        _ if source.is_test() => Ok(made),
-        Some(line) => Err(format!("a word that only Rattle has: {line}")),
-        None => additions::with_additions(&made, text, file, source, known),
-    }
+/// Returns what is made of a file of a source, a path in its `src`. An error begins with the line.
+fn translated(mut code: Vec<Token>, file: &str, source: &Source, known: &Known) -> Result<String, String> {
+    let all = code.clone();
+    left_out::without_items(&mut code, &source.modules(), &known.laws)?;
+    left_out::without_values(&mut code, &known.laws, &known.signatures)?;
+    left_out::without_counted(&mut code)?;
+    additions::add(&mut code, file, source, &known.pages)?;
+    left_out::without_imports(&mut code, &all, source.is_test(), &known.laws);
+    left_out::check_rust(&code)?;
+    Ok(tokens::print(&code).trim().to_owned() + "\n")
 }
 
 /// Makes the files of a package that are not committed, in the folder of what its build script makes. The documentation
 /// of a root is apart: what includes a file cannot have that of it.
 pub fn make_built(top: &Path, package: &str, folder: &Path) -> Result<(), String> {
-    let known = known(top)?;
+    let known = known(top, SOURCES)?;
     for source in SOURCES.iter().filter(|source| source.package == package) {
-        for (path, text) in made_of(top, source, &known)? {
+        for (path, text) in made_of(source, &known)? {
             let (file, is_root) = (folder.join(&path), path.ends_with("lib.rs"));
             let (documentation, code): (Vec<&str>, Vec<&str>) =
                 text.lines().partition(|line| is_root && line.starts_with("//!"));
@@ -196,7 +232,7 @@ pub fn check(top: &Path) -> Result<(), String> {
 /// Returns a text without what a layout changes: white space, and the last comma before a bracket.
 fn code(text: &str) -> String {
     let text: String = text.split_whitespace().collect();
-    [")", "]", "}"].iter().fold(text, |text, bracket| text.replace(&format!(",{bracket}"), bracket))
+    text.replace(",)", ")").replace(",]", "]").replace(",}", "}")
 }
 
 /// Writes a file, in a folder that may be new, unless it has this text.

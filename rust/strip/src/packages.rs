@@ -1,6 +1,7 @@
 //! Which crate becomes which files, and what the files have that the crate does not say.
 
-use crate::replaced::{self, EXPORTS, Replaced};
+use crate::rules::{Pattern, Rule};
+use crate::tables::{self, EVERYWHERE, EXPORTS};
 use std::path::{Path, PathBuf};
 
 /// A crate of Rattle, and the files that are made of it. rustc checks what is added. White space parts the names of a
@@ -18,10 +19,12 @@ pub(crate) struct Source {
     pub attributes: Listed,
     /// The names of public functions that are `const fn`.
     pub constant: &'static str,
-    /// The modules of which nothing is made, as paths in `src`: only proofs need them, or only Rattle has them.
+    /// The other modules of which nothing is made, as paths in `src`: only proofs need them, or only Rattle has them.
     pub left_out: &'static str,
+    /// Laws and functions that only record, constants that only contracts read, and modules in which all functions are laws.
+    pub laws: &'static str,
     /// What is written in Rattle, and what is written in its place.
-    pub replaced: Replaced,
+    pub rules: &'static [Rule],
 }
 
 /// Texts, and the names that each is for.
@@ -38,6 +41,23 @@ impl Source {
         self.package == TESTS.package
     }
 
+    /// Returns the names of the modules of which nothing is made.
+    pub fn modules(&self) -> Vec<&'static str> {
+        let modules = [self.left_out, self.laws].into_iter().flat_map(str::split_whitespace);
+        modules.map(|path| path.rsplit('/').next().unwrap_or_default()).collect()
+    }
+
+    /// Returns all names that the lists have.
+    pub fn names(&self) -> impl Iterator<Item = &'static str> {
+        let attributes = self.attributes.iter().map(|(_, names)| *names);
+        attributes.chain([self.constant, self.left_out, self.laws]).flat_map(str::split_whitespace)
+    }
+
+    /// Returns whether a function of a file is a law.
+    pub fn is_law(&self, name: &str, file: &str) -> bool {
+        has(self.laws, name) || is_in(file, self.laws)
+    }
+
     /// Returns whether the made files are committed. The others are made when cargo builds their package.
     pub fn is_committed(&self) -> bool {
         matches!(self.package, "cojimuran" | "lexical_c")
@@ -51,10 +71,9 @@ impl Source {
     /// Returns the path of what is made of a file, a path in `src`, or `None` if nothing is. It begins in the folder of
     /// the repository, or in that of what cargo builds.
     pub fn made_of(&self, file: &str) -> Option<PathBuf> {
-        let is_in = |module: &str| file.strip_prefix(module).is_some_and(|rest| rest.starts_with(['.', '/']));
         let folder = Path::new("rust").join(self.package).join("src");
         match file {
-            _ if self.left_out.split_whitespace().any(is_in) => None,
+            _ if is_in(file, self.left_out) || is_in(file, self.laws) => None,
             _ if !self.is_committed() => Some(Path::new(self.name).join(file).with_extension("rs")),
             "lib.rt" if self.module.is_empty() => None,
             "lib.rt" => Some(folder.join(self.module).with_extension("rs")),
@@ -62,33 +81,36 @@ impl Source {
         }
     }
 
-    /// Returns a text of the crate with the paths of the package, and with what is written otherwise in Rust.
-    pub fn replaced(&self, text: &str) -> String {
-        let mut text = text.to_owned();
+    /// Returns the patterns of the crate, and those of the examples in its documentation, which have the paths of a user.
+    pub fn patterns(&self) -> (Vec<Pattern>, Vec<Pattern>) {
+        let rules = [self.rules, EVERYWHERE].into_iter().flatten();
+        let mut all: Vec<Pattern> = rules.map(|rule| Pattern::new(*rule)).collect();
+        let own = format!("crate::{}::", self.module);
         if !self.module.is_empty() {
-            text = text.replace("crate::", &format!("crate::{}::", self.module));
+            all.insert(0, Pattern::new(("", "crate::", &own)));
         }
-        for (from, to) in [self.replaced, replaced::EVERYWHERE].into_iter().flatten() {
-            text = text.replace(from, to);
+        let mut examples: Vec<Pattern> = EVERYWHERE.iter().map(|rule| Pattern::new(*rule)).collect();
+        let libraries: Vec<_> = SOURCES.iter().filter(|source| source.is_documented()).collect();
+        for library in libraries.iter().filter(|library| library.package == self.package) {
+            let (from, to) = (format!("{}::", library.name), format!("crate::{}::", library.module));
+            all.push(Pattern::new(("", &from, &to)));
         }
-        text = text.split_inclusive('\n').map(|line| self.with_paths(line)).collect();
+        for patterns in [&mut all, &mut examples] {
+            patterns.extend(EXPORTS.iter().map(|rule| Pattern::new(*rule)));
+            patterns.extend(libraries.iter().map(|library| Pattern::new(("", library.name, library.module))));
+        }
         // The others need std.
-        if self.is_committed() { text.replace(" std::", " core::") } else { text }
+        if self.is_committed() {
+            all.push(Pattern::of_code(("", "std::", "core::")));
+        }
+        (all, examples)
     }
+}
 
-    /// Returns a line with the paths of the package. An example of its documentation has those of a user.
-    fn with_paths(&self, line: &str) -> String {
-        let is_example = ["//! use ", "/// use "].iter().any(|start| line.trim_start().starts_with(start));
-        let libraries = || SOURCES.iter().filter(|source| source.is_documented());
-        let mut line = line.to_owned();
-        for own in libraries().filter(|own| own.package == self.package && !is_example) {
-            line = line.replace(&format!("{}::", own.name), &format!("crate::{}::", own.module));
-        }
-        for (from, to) in EXPORTS {
-            line = line.replace(from, to);
-        }
-        libraries().fold(line, |line, library| line.replace(library.name, library.module))
-    }
+/// Returns whether a file is of one of these modules.
+fn is_in(file: &str, modules: &str) -> bool {
+    let is_of = |module: &str| file.strip_prefix(module).is_some_and(|rest| rest.starts_with(['.', '/']));
+    modules.split_whitespace().any(is_of)
 }
 
 /// Returns whether a list has the name.
@@ -96,14 +118,22 @@ pub(crate) fn has(list: &str, name: &str) -> bool {
     list.split_whitespace().any(|listed| listed == name)
 }
 
-const LIBRARY: Source =
-    Source { name: "", package: "cojimuran", module: "", attributes: &[], constant: "", left_out: "", replaced: &[] };
+const LIBRARY: Source = Source {
+    name: "",
+    package: "cojimuran",
+    module: "",
+    attributes: &[],
+    constant: "",
+    left_out: "",
+    laws: "",
+    rules: &[],
+};
 
 /// The lines and the streams of the program.
 const PROGRAM: Source = Source { package: "lexwrite", ..LIBRARY };
 
 /// What calls the libraries as the repository's tests do.
-const TESTS: Source = Source { package: "repository_tests", replaced: replaced::IN_TESTS, ..LIBRARY };
+const TESTS: Source = Source { package: "repository_tests", rules: tables::IN_TESTS, ..LIBRARY };
 
 /// The crates of which files are made.
 pub(crate) const SOURCES: &[Source] = &[
@@ -115,7 +145,8 @@ pub(crate) const SOURCES: &[Source] = &[
             mantissa_radix exponent_radix required_mantissa_sign digit_grouping grouped_len is_valid build build_strict
             build_unchecked buffer_size_const builder rebuild",
         left_out: "ghost_log",
-        replaced: replaced::NUM,
+        laws: "in_range fits_bits",
+        rules: tables::NUM,
         ..LIBRARY
     },
     Source { name: "lexical_tables", module: "tables", ..LIBRARY },
@@ -140,8 +171,9 @@ pub(crate) const SOURCES: &[Source] = &[
                 count_and_write_up_to_four count_and_write_five_to_eight count_and_write_up_to_eight",
             ),
         ],
-        left_out: "laws turns",
-        replaced: replaced::WRITE_INTEGER,
+        left_out: "turns",
+        laws: "laws record_pair record_up_to_eight",
+        rules: tables::WRITE_INTEGER,
         ..LIBRARY
     },
     Source {
@@ -158,18 +190,19 @@ pub(crate) const SOURCES: &[Source] = &[
                 to_text",
             ),
         ],
-        left_out: "equal positions reading",
-        replaced: replaced::PARTS,
+        laws: "equal positions reading rooms_at_most formatted_room_suffices str_is_utf8",
+        rules: tables::PARTS,
         ..LIBRARY
     },
     Source {
         name: "lexical_lines",
         module: "lines",
-        left_out: "devices/trace laws",
-        replaced: replaced::LINES,
+        left_out: "devices/trace",
+        laws: "laws note_put record_flush",
+        rules: tables::LINES,
         ..PROGRAM
     },
-    Source { name: "lexical_streams", module: "streams", replaced: replaced::STREAMS, ..PROGRAM },
+    Source { name: "lexical_streams", module: "streams", rules: tables::STREAMS, ..PROGRAM },
     Source {
         name: "lexical_c",
         package: "lexical_c",
@@ -180,10 +213,17 @@ pub(crate) const SOURCES: &[Source] = &[
             // If the length of the buffer is known to suffice, the writers have fewer checks.
             ("#[inline(always)]", "plain.rt"),
         ],
-        replaced: replaced::FOR_C,
+        laws: "DECIMAL",
+        rules: tables::FOR_C,
         ..LIBRARY
     },
-    Source { name: "uses", module: "uses", ..TESTS },
+    Source {
+        name: "uses",
+        module: "uses",
+        laws: "same_address same_path same_digest same_float same_counter same_link same_user different_codes same_row
+            sorts_by_time same_timed",
+        ..TESTS
+    },
     Source { name: "contract_tests", module: "contract_tests", left_out: "refused_calls/clones turn_lists", ..TESTS },
     Source { name: "uses_tests", ..TESTS },
     Source { name: "library_tests", ..TESTS },

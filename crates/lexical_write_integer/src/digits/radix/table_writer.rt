@@ -166,8 +166,7 @@ fn write_counted<const R: u32>(
 // Writes a number of three digits or more: first it counts them, and then it writes four per iteration while more than
 // four are left. In a power of 2 the first four digits of the number are then written, which are found before the loop,
 // so that the number takes no register in it, and otherwise those that are left.
-// It is cold, and so not inlined: otherwise each call would save registers that only this needs.
-#[cold]
+#[cold] // So it is not inlined: otherwise each call would save registers that only this needs.
 pub(super) fn write_after_count<const R: u32>(
     value: u64,
     table: RadixTable<'_, R>,
