@@ -337,8 +337,8 @@ impl LexicalInteger for isize {
     }
 }
 
-/// An unsigned integer type, with the arithmetic that is needed to write digits. The writers of
-/// `lexical_write_integer` are generic over it, such as `compact_counted`.
+/// An unsigned integer type, with the arithmetic that is needed to write digits. The functions that write
+/// digits are generic over it.
 ///
 /// ```
 /// use lexical_num::UnsignedInteger;

@@ -17,7 +17,7 @@
 //! assert_eq!(rt; &*text, b"2026-11-03 -12 kg 0xFF;".as_slice());
 //! ```
 //!
-//! The calls are the methods of [`Part`]. The other types of this crate are parts, and so are the integer types.
+//! The calls are the methods of [`Part`]. The other types here are parts, and so are the integer types.
 //!
 //! [`Decimal`], [`Formatted`], [`Plus`], [`Hex`], [`Binary`], [`Digits`], [`Padded`], [`PaddedDigits`], [`Fixed`],
 //! [`GroupedFixed`] and [`TrimmedFixed`] also have `Display`: `{}` of such a part writes its text, with the sign, the

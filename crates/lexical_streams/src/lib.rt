@@ -1,8 +1,8 @@
 //! Answers the lines of a source, and writes the answers to a sink, both in blocks of bytes. No call
 //! allocates memory: the blocks are on the stack.
 //!
-//! The devices are in `lexical_lines`: a `Reading` and a `Writing` over a reader and a writer
-//! of the standard library, and a `BlockWriter`, which collects bytes in a block.
+//! The devices are a `Reading` and a `Writing` over a reader and a writer of the standard library,
+//! and a `BlockWriter`, which collects bytes in a block. They are beside `run`, which answers lines.
 //!
 //! The answers to the lines of a slice, in a vector, and the exit status:
 //!

@@ -52,7 +52,7 @@ pub fn answer_reader<R: Read + Drop, K: BlockSink, const SIZE: usize>(
     answer_stream(&mut Reading::whole(reader), writer)
 }
 
-/// Reads lines and writes their answers, as `lexical_lines::run` does, and then flushes the writer.
+/// Reads lines and writes their answers, as `run` does for a source and a sink, and then flushes the writer.
 /// Returns the exit status: 0 if all lines are valid, 1 if a line is invalid, and 2 if a read, a write
 /// or a flush failed. The source must be new, that is, it must not have yielded any bytes, and neither
 /// device may have failed before.

@@ -1,42 +1,49 @@
-//! What a package has that the crate does not say: attributes, `const`, when a public function panics, and that its
-//! result is to be used. Without `#[inline]` rustc would inline few functions of a package into another one.
+//! Adds what a package says of a function and the crate does not: when a public function panics, `#[must_use]`,
+//! attributes for inlining, and `const`. Without `#[inline]` rustc would inline few functions of a package into another
+//! one. With `# Panics` said, the clauses are left out.
 
 use crate::conditions;
-use crate::items::{Function, function};
+use crate::items::{Function, elements, function};
 use crate::packages::{Source, has};
 use crate::tokens::{Token, close, find, words};
 
-/// Adds them to the functions of a file, and leaves out their clauses.
+/// Adds it to the functions of a file, a path in `src`.
 pub(crate) fn add(tokens: &mut Vec<Token>, file: &str, source: &Source, pages: &str) -> Result<(), String> {
-    let mut trait_end = 0;
-    for at in 0.. {
-        if at + 1 >= tokens.len() {
-            break;
-        }
+    let mut at = 0;
+    // The number of tokens after the trait that was found last: it stays as it is when others are removed.
+    let mut after_trait = usize::MAX;
+    while at + 1 < tokens.len() {
         if tokens[at] == "trait" {
-            trait_end = tokens.len() - close(tokens, find(tokens, at, &["{"]));
+            after_trait = tokens.len() - close(tokens, find(tokens, at, &["{"]));
         }
-        let is_in_trait = tokens.len() - at > trait_end && trait_end > 0;
-        let Some(function) = function(tokens, at) else {
-            continue;
-        };
-        let lines =
-            if source.is_test() { String::new() } else { lines(tokens, &function, is_in_trait, file, source, pages)? };
-        for clause in function.clauses.into_iter().rev() {
-            tokens.drain(clause);
+        if let Some(function) = function(tokens, at) {
+            let is_in_trait = tokens.len() - at > after_trait;
+            check_result(tokens, &function)?;
+            let lines = lines_before(tokens, &function, is_in_trait, file, source, pages)?;
+            insert_lines(&mut tokens[function.visibility], &lines);
+            if function.is_public(tokens) && has(source.constant, &tokens[at + 1].text) {
+                tokens[at].text = "const fn".to_owned();
+            }
+            for clause in function.clauses.into_iter().rev() {
+                tokens.drain(clause);
+            }
         }
-        if tokens[function.visible] == "pub" && tokens[at - 1] == "pub" && has(source.constant, &tokens[at + 1].text) {
-            tokens[at].text = "const fn".to_owned();
-        }
-        let before = &mut tokens[function.visible].before;
-        let indent = before[before.trim_end_matches(' ').len()..].to_owned();
-        *before += &lines.replace('\n', &format!("\n{indent}"));
+        at += 1;
     }
     Ok(())
 }
 
-/// Returns the lines before a function.
-fn lines(
+/// Returns an error if a function that returns something has an empty body.
+fn check_result(tokens: &[Token], function: &Function) -> Result<(), String> {
+    let has_result = tokens[close(tokens, function.parameters) + 1] == "->";
+    if has_result && tokens[function.body] == "{" && function.inside(tokens).is_empty() {
+        return Err(format!("{}: {} returns nothing", tokens[function.at].line, tokens[function.at + 1].text));
+    }
+    Ok(())
+}
+
+/// Returns the lines to be added before the visibility of a function.
+fn lines_before(
     tokens: &[Token],
     function: &Function,
     is_in_trait: bool,
@@ -44,39 +51,55 @@ fn lines(
     source: &Source,
     pages: &str,
 ) -> Result<String, String> {
-    let name = &tokens[function.at + 1].text;
-    let parameters = words(&tokens[function.parameters..close(tokens, function.parameters)]);
-    let clauses = function.clauses.first().map_or(function.end, |clause| clause.start);
-    let result = words(&tokens[close(tokens, function.parameters) + 1..clauses]);
-    let has_body = tokens[function.end] == "{";
-    if result.starts_with("->") && has_body && close(tokens, function.end) == function.end + 1 {
-        return Err(format!("{}: {name} returns nothing", tokens[function.at].line));
-    }
     let mut lines = String::new();
-    if source.is_documented()
-        && (is_in_trait || tokens[function.visible] == "pub" && tokens[function.visible + 1] != "(")
-    {
-        let required = function.clauses.iter().filter(|clause| tokens[clause.start] == "requires");
-        let required = required.map(|clause| words(&tokens[find(tokens, clause.start, &["{"]) + 1..clause.end - 1]));
-        let required: Vec<String> = required.collect();
-        let panics = conditions::panics(name, &required, pages)
-            .map_err(|what| format!("{}: {what}", tokens[function.at].line))?;
-        // What is hidden has no documentation.
-        let is_hidden = words(&tokens[function.first..function.visible]).ends_with("# [ doc ( hidden ) ]");
-        if !panics.is_empty() && !is_hidden {
-            lines += &format!("///\n/// # Panics\n///\n/// If {}.\n", panics.join(",\n/// or if "));
-        }
-        let is_changing = parameters.contains("& mut") || parameters.contains("& 'a mut");
-        if result.starts_with("->") && !result.contains("Result <") && !is_changing {
+    if source.is_documented() && (is_in_trait || function.is_public(tokens)) {
+        lines += &panics(tokens, function, source, pages)?;
+        if must_be_used(tokens, function) {
             lines += "#[must_use]\n";
         }
     }
-    // One with an ABI has attributes of its own.
-    let is_exported = words(&tokens[function.visible..function.at]).contains("extern");
-    if has_body && !is_exported {
+    // A function with an ABI has attributes of its own.
+    let is_exported = tokens[function.visibility..function.at].iter().any(|token| *token == "extern");
+    if tokens[function.body] == "{" && !source.is_test() && !is_exported {
+        let name = &tokens[function.at + 1].text;
         let is_listed = |(_, names): &&(_, &str)| has(names, name) || has(names, file);
-        lines += source.attributes.iter().find(is_listed).map_or("#[inline]", |(attribute, _)| attribute);
-        lines += "\n";
+        let attribute = source.attributes.iter().find(is_listed).map_or("#[inline]", |(attribute, _)| attribute);
+        lines += &format!("{attribute}\n");
     }
     Ok(lines)
+}
+
+/// Returns the lines of documentation that say when a function panics. What is hidden has no documentation.
+fn panics(tokens: &[Token], function: &Function, source: &Source, pages: &str) -> Result<String, String> {
+    let name = &tokens[function.at + 1].text;
+    let panics = conditions::panics(name, &conditions_of(tokens, function), source.conditions, pages)
+        .map_err(|what| format!("{}: {what}", tokens[function.at].line))?;
+    let is_hidden = words(&tokens[function.first..function.visibility]).ends_with("# [ doc ( hidden ) ]");
+    if panics.is_empty() || is_hidden {
+        return Ok(String::new());
+    }
+    Ok(format!("///\n/// # Panics\n///\n/// If {}.\n", panics.join(",\n/// or if ")))
+}
+
+/// Returns the names of what a function requires: `FUNCTION.CLAUSE`, or `FUNCTION` if the clause has no name.
+pub(crate) fn conditions_of(tokens: &[Token], function: &Function) -> Vec<String> {
+    let required = function.clauses.iter().filter(|clause| tokens[clause.start] == "requires");
+    let name = &tokens[function.at + 1].text;
+    let named = |at: usize| if tokens[at] == "{" { name.clone() } else { format!("{name}.{}", tokens[at].text) };
+    required.map(|clause| named(clause.start + 1)).collect()
+}
+
+/// Returns whether the result of a function is all that it is called for.
+fn must_be_used(tokens: &[Token], function: &Function) -> bool {
+    let result = words(function.result(tokens));
+    let parameters = elements(tokens, function.parameters);
+    let changes = |text: String| text.contains("& mut") || text.contains("& 'a mut");
+    let is_changing = parameters.into_iter().any(|parameter| changes(words(&tokens[parameter])));
+    result.starts_with("->") && !result.contains("Result <") && !is_changing
+}
+
+/// Inserts lines before a token, after the comments before it, and indents them as the token is.
+fn insert_lines(token: &mut Token, lines: &str) {
+    let indentation = token.before[token.before.trim_end_matches(' ').len()..].to_owned();
+    token.before += &lines.replace('\n', &format!("\n{indentation}"));
 }

@@ -1,33 +1,50 @@
-//! The items of a source, by their first words and their brackets.
+//! Finds the items of a source by their first words and their brackets, and removes tokens.
 
 use crate::tokens::{Token, close, find, open};
 use std::ops::Range;
 
-/// Where a function is.
+/// Where the parts of a function are, as indices of tokens.
 pub(crate) struct Function {
     /// Its documentation and its attributes, or what it has first.
     pub first: usize,
-    /// Its visibility, or what it has after its attributes.
-    pub visible: usize,
+    /// Its visibility, or what it has first after its attributes.
+    pub visibility: usize,
     /// The word `fn`. The name is after it.
     pub at: usize,
     /// The bracket before its parameters.
     pub parameters: usize,
-    /// What it requires and ensures.
+    /// Each `requires` and `ensures`.
     pub clauses: Vec<Range<usize>>,
-    /// The bracket of its body, or the `;`.
-    pub end: usize,
+    /// The bracket of its body, or the `;` in its place.
+    pub body: usize,
+}
+
+impl Function {
+    /// Returns what is between the brackets of its body, or nothing at the `;`.
+    pub fn inside(&self, tokens: &[Token]) -> Range<usize> {
+        let end = close(tokens, self.body);
+        (self.body + 1).min(end)..end
+    }
+
+    /// Returns all of it, with its documentation.
+    pub fn whole(&self, tokens: &[Token]) -> Range<usize> {
+        self.first..close(tokens, self.body) + 1
+    }
+
+    /// Returns the tokens of its result, with `->`.
+    pub fn result<'a>(&self, tokens: &'a [Token]) -> &'a [Token] {
+        let end = self.clauses.first().map_or(self.body, |clause| clause.start);
+        &tokens[close(tokens, self.parameters) + 1..end]
+    }
+
+    pub fn is_public(&self, tokens: &[Token]) -> bool {
+        tokens[self.visibility] == "pub" && tokens[self.visibility + 1] != "("
+    }
 }
 
 /// Returns all functions, in their order.
 pub(crate) fn functions(tokens: &[Token]) -> Vec<Function> {
     (0..tokens.len()).filter_map(|at| function(tokens, at)).collect()
-}
-
-/// Returns the names of all functions and constants.
-pub(crate) fn names(tokens: &[Token]) -> impl Iterator<Item = &String> {
-    let is_name = |pair: &&[Token]| pair[0].is_in(&["fn", "const"]) && pair[1].is_word();
-    tokens.windows(2).filter(is_name).map(|pair| &pair[1].text)
 }
 
 /// Returns the function whose word `fn` is at an index.
@@ -37,25 +54,27 @@ pub(crate) fn function(tokens: &[Token], at: usize) -> Option<Function> {
     }
     let parameters = after_generics(tokens, at + 2);
     let mut clauses = Vec::new();
-    let mut end = close(tokens, parameters) + 1;
-    while !tokens[end].is_in(&["{", ";", ""]) {
-        end = find(tokens, end, &["{", ";", "requires", "ensures"]);
-        if tokens[end].is_in(&["requires", "ensures"]) {
-            // What is no clause is left, and so refused.
-            let open = find(tokens, end, &["{", ";"]);
-            let after = if tokens[open] == "{" { close(tokens, open) + 1 } else { open };
-            clauses.extend((after > open).then_some(end..after));
-            end = after;
+    let mut body = close(tokens, parameters) + 1;
+    while !tokens[body].is_in(&["{", ";", ""]) {
+        body = find(tokens, body, &["{", ";", "requires", "ensures"]);
+        if tokens[body].is_in(&["requires", "ensures"]) {
+            let open = find(tokens, body, &["{", ";"]);
+            // A clause without brackets is none, and so refused as a word of Rattle that is left.
+            let end = if tokens[open] == "{" { close(tokens, open) + 1 } else { open };
+            if end > open {
+                clauses.push(body..end);
+            }
+            body = end;
         }
     }
-    let [first, visible] = [true, false].map(|is_attribute| start(tokens, at, is_attribute));
-    Some(Function { first, visible, at, parameters, clauses, end })
+    let (first, visibility) = (start_with_attributes(tokens, at), start(tokens, at));
+    Some(Function { first, visibility, at, parameters, clauses, body })
 }
 
-/// Returns where the tokens of a body are, or the `;` without one.
-pub(crate) fn body(tokens: &[Token], function: &Function) -> Range<usize> {
-    let end = close(tokens, function.end);
-    (function.end + 1).min(end)..end
+/// Returns the names of all functions and constants.
+pub(crate) fn names(tokens: &[Token]) -> impl Iterator<Item = &String> {
+    let is_name = |pair: &&[Token]| pair[0].is_in(&["fn", "const"]) && pair[1].is_word();
+    tokens.windows(2).filter(is_name).map(|pair| &pair[1].text)
 }
 
 /// Returns the index after `<..>`, if that is here.
@@ -70,15 +89,25 @@ pub(crate) fn after_generics(tokens: &[Token], mut at: usize) -> usize {
     }
 }
 
-/// Returns the index of the first token of the item whose word is at an index, with its attributes or without.
-pub(crate) fn start(tokens: &[Token], mut at: usize, with_attributes: bool) -> usize {
+/// Returns the index of the first token of the item whose word is at an index, after its attributes.
+pub(crate) fn start(tokens: &[Token], mut at: usize) -> usize {
     while at > 0 {
-        let last = &tokens[at - 1];
-        at = match &*last.text {
+        at = match &*tokens[at - 1].text {
             "pub" | "final" | "const" | "unsafe" | "extern" | "\"C\"" => at - 1,
             ")" if tokens[open(tokens, at - 1) - 1] == "pub" => open(tokens, at - 1) - 1,
-            "]" if with_attributes && tokens[open(tokens, at - 1) - 1] == "#" => open(tokens, at - 1) - 1,
-            text if with_attributes && text.starts_with("///") => at - 1,
+            _ => break,
+        };
+    }
+    at
+}
+
+/// Returns the index of the first token of the item whose word is at an index: of its documentation or its attributes.
+pub(crate) fn start_with_attributes(tokens: &[Token], at: usize) -> usize {
+    let mut at = start(tokens, at);
+    while at > 0 {
+        at = match &*tokens[at - 1].text {
+            "]" if tokens[open(tokens, at - 1) - 1] == "#" => open(tokens, at - 1) - 1,
+            text if text.starts_with("///") => at - 1,
             _ => break,
         };
     }
@@ -91,10 +120,7 @@ pub(crate) fn elements(tokens: &[Token], open: usize) -> Vec<Range<usize>> {
     while at < end {
         match &*tokens[at].text {
             "(" | "[" | "{" => at = close(tokens, at),
-            // The parameters of a type.
-            "<" if tokens[at - 1] == "::" || is_type(&tokens[at - 1].text) => {
-                at = after_generics(tokens, at) - 1;
-            }
+            "<" if tokens[at - 1] == "::" || is_type(&tokens[at - 1].text) => at = after_generics(tokens, at) - 1,
             "," => {
                 found.push(from..at);
                 from = at + 1;
@@ -109,12 +135,13 @@ pub(crate) fn elements(tokens: &[Token], open: usize) -> Vec<Range<usize>> {
     found
 }
 
-/// Returns whether a word is a type by its letters: the names of constants have no small ones.
+/// Returns whether a word is a type by its letters: the name of a constant has no small ones.
 fn is_type(word: &str) -> bool {
     word.starts_with(char::is_uppercase) && word.contains(char::is_lowercase)
 }
 
-/// Removes tokens, and the comment directly before them. One with an empty line after it stays.
+/// Removes tokens with the comment directly before them, which speaks of them. A comment with an empty line after it
+/// stays.
 pub(crate) fn remove(tokens: &mut Vec<Token>, range: Range<usize>) {
     let kept = tokens[range.start].before.rsplit_once("\n\n").map(|(kept, _)| format!("{kept}\n\n"));
     tokens.drain(range.clone());
@@ -124,8 +151,8 @@ pub(crate) fn remove(tokens: &mut Vec<Token>, range: Range<usize>) {
     }
 }
 
-/// Removes tokens, and keeps the comments before them.
-pub(crate) fn cut(tokens: &mut Vec<Token>, range: Range<usize>) {
+/// Removes tokens, and keeps the comments before them, which speak of what follows.
+pub(crate) fn remove_without_comment(tokens: &mut Vec<Token>, range: Range<usize>) {
     let before = tokens[range.start].before.clone();
     tokens.drain(range.clone());
     let next = &mut tokens[range.start].before;
@@ -137,6 +164,7 @@ pub(crate) fn cut(tokens: &mut Vec<Token>, range: Range<usize>) {
 /// Removes an element of a list, and a comma.
 pub(crate) fn remove_element(tokens: &mut Vec<Token>, element: Range<usize>) {
     let is_before_comma = tokens[element.end] == ",";
-    let start = element.start - usize::from(!is_before_comma && tokens[element.start - 1] == ",");
+    let is_after_comma = tokens[element.start - 1] == ",";
+    let start = element.start - usize::from(is_after_comma && !is_before_comma);
     remove(tokens, start..element.end + usize::from(is_before_comma));
 }

@@ -1,7 +1,8 @@
 //! Which crate becomes which files, and what the files have that the crate does not say.
 
+use crate::conditions::{self, Conditions};
 use crate::rules::{Pattern, Rule};
-use crate::tables::{self, EVERYWHERE, EXPORTS};
+use crate::tables::{self, EVERYWHERE, EXAMPLES, EXPORTS};
 use std::path::{Path, PathBuf};
 
 /// A crate of Rattle, and the files that are made of it. rustc checks what is added. White space parts the names of a
@@ -23,6 +24,8 @@ pub(crate) struct Source {
     pub left_out: &'static str,
     /// Laws and functions that only record, constants that only contracts read, and modules in which all functions are laws.
     pub laws: &'static str,
+    /// What becomes of a call of a public function for which a condition does not hold.
+    pub conditions: Conditions,
     /// What is written in Rattle, and what is written in its place.
     pub rules: &'static [Rule],
 }
@@ -50,7 +53,8 @@ impl Source {
     /// Returns all names that the lists have.
     pub fn names(&self) -> impl Iterator<Item = &'static str> {
         let attributes = self.attributes.iter().map(|(_, names)| *names);
-        attributes.chain([self.constant, self.left_out, self.laws]).flat_map(str::split_whitespace)
+        let conditions = self.conditions.iter().map(|(_, names)| *names);
+        attributes.chain(conditions).chain([self.constant, self.left_out, self.laws]).flat_map(str::split_whitespace)
     }
 
     /// Returns whether a function of a file is a law.
@@ -81,30 +85,34 @@ impl Source {
         }
     }
 
-    /// Returns the patterns of the crate, and those of the examples in its documentation, which have the paths of a user.
-    pub fn patterns(&self) -> (Vec<Pattern>, Vec<Pattern>) {
-        let rules = [self.rules, EVERYWHERE].into_iter().flatten();
-        let mut all: Vec<Pattern> = rules.map(|rule| Pattern::new(*rule)).collect();
-        let own = format!("crate::{}::", self.module);
+    /// Returns the rules for the code of the crate.
+    pub fn patterns(&self) -> Vec<Pattern> {
+        // The crates of tests have their rules together.
+        let owner = if self.is_test() { self.package } else { self.name };
+        let own = self.rules.iter().map(|rule| Pattern::new(rule, owner));
+        let shared = EVERYWHERE.iter().map(|rule| Pattern::new(rule, ""));
+        let mut patterns: Vec<Pattern> = own.chain(shared).collect();
         if !self.module.is_empty() {
-            all.insert(0, Pattern::new(("", "crate::", &own)));
+            patterns.insert(0, Pattern::for_path("crate::", &format!("crate::{}::", self.module)));
         }
-        let mut examples: Vec<Pattern> = EVERYWHERE.iter().map(|rule| Pattern::new(*rule)).collect();
-        let libraries: Vec<_> = SOURCES.iter().filter(|source| source.is_documented()).collect();
-        for library in libraries.iter().filter(|library| library.package == self.package) {
+        let is_in_package = |source: &&Source| source.is_documented() && source.package == self.package;
+        for library in SOURCES.iter().filter(is_in_package) {
             let (from, to) = (format!("{}::", library.name), format!("crate::{}::", library.module));
-            all.push(Pattern::new(("", &from, &to)));
+            patterns.push(Pattern::for_path(&from, &to));
         }
-        for patterns in [&mut all, &mut examples] {
-            patterns.extend(EXPORTS.iter().map(|rule| Pattern::new(*rule)));
-            patterns.extend(libraries.iter().map(|library| Pattern::new(("", library.name, library.module))));
-        }
-        // The others need std.
+        patterns.extend(EXPORTS.iter().map(|(from, to)| Pattern::for_path(from, to)));
+        // The packages that are not committed need std.
         if self.is_committed() {
-            all.push(Pattern::of_code(("", "std::", "core::")));
+            patterns.push(Pattern::for_path("std::", "core::"));
         }
-        (all, examples)
+        patterns
     }
+}
+
+/// Returns the rules for the examples in the documentation of each crate.
+pub(crate) fn patterns_for_examples() -> Vec<Pattern> {
+    let rules = EXAMPLES.iter().map(|rule| Pattern::new(rule, "the examples"));
+    rules.chain(EXPORTS.iter().map(|(from, to)| Pattern::for_path(from, to))).collect()
 }
 
 /// Returns whether a file is of one of these modules.
@@ -126,6 +134,7 @@ const LIBRARY: Source = Source {
     constant: "",
     left_out: "",
     laws: "",
+    conditions: &[],
     rules: &[],
 };
 
@@ -146,10 +155,11 @@ pub(crate) const SOURCES: &[Source] = &[
             build_unchecked buffer_size_const builder rebuild",
         left_out: "ghost_log",
         laws: "in_range fits_bits",
+        conditions: conditions::NUM,
         rules: tables::NUM,
         ..LIBRARY
     },
-    Source { name: "lexical_tables", module: "tables", ..LIBRARY },
+    Source { name: "lexical_tables", module: "tables", conditions: conditions::TABLES, ..LIBRARY },
     Source {
         name: "lexical_write_integer",
         module: "write_integer",
@@ -173,6 +183,7 @@ pub(crate) const SOURCES: &[Source] = &[
         ],
         left_out: "turns",
         laws: "laws record_pair record_up_to_eight",
+        conditions: conditions::WRITE_INTEGER,
         rules: tables::WRITE_INTEGER,
         ..LIBRARY
     },
@@ -191,6 +202,7 @@ pub(crate) const SOURCES: &[Source] = &[
             ),
         ],
         laws: "equal positions reading rooms_at_most formatted_room_suffices str_is_utf8",
+        conditions: conditions::PARTS,
         rules: tables::PARTS,
         ..LIBRARY
     },
@@ -199,10 +211,17 @@ pub(crate) const SOURCES: &[Source] = &[
         module: "lines",
         left_out: "devices/trace",
         laws: "laws note_put record_flush",
+        conditions: conditions::LINES,
         rules: tables::LINES,
         ..PROGRAM
     },
-    Source { name: "lexical_streams", module: "streams", rules: tables::STREAMS, ..PROGRAM },
+    Source {
+        name: "lexical_streams",
+        module: "streams",
+        conditions: conditions::STREAMS,
+        rules: tables::STREAMS,
+        ..PROGRAM
+    },
     Source {
         name: "lexical_c",
         package: "lexical_c",

@@ -1,54 +1,103 @@
-//! Patterns of tokens, and what is written in the place of each.
+//! Rules: tokens of a source, the place where they are, and what is written there.
 
-use crate::items::{Function, body, cut, functions};
-use crate::tokens::{Token, check_brackets, code, print, prose};
-use std::cell::Cell;
+use crate::items::{functions, remove_without_comment};
+use crate::tokens::{Token, print, read, read_part, words};
 
-/// A place, a pattern and what is written in its place. The place is a file, the name of a function, or empty for all.
-pub(crate) type Rule = (&'static str, &'static str, &'static str);
+/// Tokens, and those in their place.
+pub(crate) struct Rule {
+    place: Place,
+    from: &'static str,
+    to: &'static str,
+}
+
+/// Where a rule counts. Each rule must match something there.
+#[derive(Clone, Copy, PartialEq)]
+enum Place {
+    /// Wherever its tokens are.
+    Everywhere,
+    /// Wherever its tokens are in a file, a path in `src`.
+    File(&'static str),
+    /// In the crate, where its tokens are only once.
+    Once,
+    /// In the function with this name or its attributes, where its tokens are only once.
+    Function(&'static str),
+}
+
+pub(crate) const fn everywhere(from: &'static str, to: &'static str) -> Rule {
+    Rule { place: Place::Everywhere, from, to }
+}
+
+pub(crate) const fn in_file(file: &'static str, from: &'static str, to: &'static str) -> Rule {
+    Rule { place: Place::File(file), from, to }
+}
+
+pub(crate) const fn once(from: &'static str, to: &'static str) -> Rule {
+    Rule { place: Place::Once, from, to }
+}
+
+pub(crate) const fn in_function(name: &'static str, from: &'static str, to: &'static str) -> Rule {
+    Rule { place: Place::Function(name), from, to }
+}
 
 /// A rule that is read.
 pub(crate) struct Pattern {
-    place: String,
+    place: Place,
     from: Vec<Token>,
     to: Vec<Token>,
-    /// Whether it also counts in documentation and comments.
-    is_for_prose: bool,
-    /// Whether a space after it is left out too.
-    has_space: bool,
+    /// What it is for: a crate, a package of tests, or empty for all crates.
+    pub of: &'static str,
     /// How often it has been used.
-    pub uses: Cell<usize>,
+    pub uses: usize,
 }
 
 impl Pattern {
-    pub fn new((place, from, to): (&str, &str, &str)) -> Pattern {
-        let has_space = from.ends_with(' ');
+    pub fn new(rule: &Rule, of: &'static str) -> Pattern {
+        Pattern { place: rule.place, of, ..Pattern::for_path(rule.from, rule.to) }
+    }
+
+    /// Returns a pattern that writes a path, or another text, for each other one in all crates.
+    pub fn for_path(from: &str, to: &str) -> Pattern {
         let [from, to] = [from, to].map(|text| {
-            let mut tokens = code(text);
+            let mut tokens = read_part(text).expect("a rule has tokens");
             tokens.pop();
             tokens
         });
-        Pattern { place: place.to_owned(), from, to, is_for_prose: place.is_empty(), has_space, uses: Cell::new(0) }
+        Pattern { place: Place::Everywhere, from, to, of: "", uses: 0 }
     }
 
-    /// Returns a pattern that only counts in code.
-    pub fn of_code(rule: (&str, &str, &str)) -> Pattern {
-        Pattern { is_for_prose: false, ..Pattern::new(rule) }
-    }
-
-    /// Returns the pattern as its rule has it.
+    /// Returns the rule as an error names it.
     pub fn name(&self) -> String {
-        format!("{} `{}`", self.place, print(&self.from)).trim_start().to_owned()
+        let text = print(&self.from);
+        match self.place {
+            Place::Everywhere | Place::Once => format!("`{text}`"),
+            Place::File(place) | Place::Function(place) => format!("`{text}` in {place}"),
+        }
     }
 
-    /// Writes in its place what this is for.
-    fn apply(&self, tokens: &mut Vec<Token>, file: &str) {
+    /// Returns what is wrong with a rule that has been used so often, or `None`.
+    pub fn fault(&self, uses: usize) -> Option<String> {
+        let is_once = matches!(self.place, Place::Once | Place::Function(_));
+        let what = match uses {
+            0 => "it matches nothing".to_owned(),
+            1 => return None,
+            _ if is_once => format!("it matches {uses} times, and not once"),
+            _ => return None,
+        };
+        Some(format!(
+            "{}: the rule for {}: {what}",
+            if self.of.is_empty() { "all crates" } else { self.of },
+            self.name()
+        ))
+    }
+
+    /// Writes the tokens of this rule in the tokens of a file.
+    fn apply(&mut self, tokens: &mut Vec<Token>, file: &str) {
         let mut at = 0;
         while at + self.from.len() <= tokens.len() {
-            let is_here = self.from.iter().zip(&tokens[at..]).all(|(from, token)| from.text == token.text);
-            if is_here && (self.place.is_empty() || self.place == file || is_in(tokens, at, &self.place)) {
-                self.uses.set(self.uses.get() + 1);
-                self.write(tokens, at);
+            let is_equal = self.from.iter().zip(&tokens[at..]).all(|(from, token)| from.text == token.text);
+            if is_equal && self.counts_at(tokens, at, file) {
+                self.uses += 1;
+                self.write_at(tokens, at);
                 at += self.to.len();
             } else {
                 at += 1;
@@ -56,65 +105,64 @@ impl Pattern {
         }
     }
 
-    fn write(&self, tokens: &mut Vec<Token>, at: usize) {
-        let end = at + self.from.len();
-        let (line, before) = (tokens[at].line, tokens[at].before.clone());
-        let mut to = self.to.clone();
-        to.iter_mut().for_each(|token| token.line = line);
-        let texts = |tokens: &[Token]| tokens.iter().map(|token| token.text.clone()).collect::<Vec<_>>();
-        if to.len() > self.from.len() && texts(&to).ends_with(&texts(&self.from)) {
-            // A comment stays with what it is before.
+    fn counts_at(&self, tokens: &[Token], at: usize, file: &str) -> bool {
+        match self.place {
+            Place::Everywhere | Place::Once => true,
+            Place::File(name) => name == file,
+            Place::Function(name) => {
+                let mut named = functions(tokens).into_iter().filter(|each| tokens[each.at + 1] == name);
+                named.any(|function| function.whole(tokens).contains(&at))
+            }
+        }
+    }
+
+    fn write_at(&self, tokens: &mut Vec<Token>, at: usize) {
+        let (line, end) = (tokens[at].line, at + self.from.len());
+        let mut to: Vec<Token> = self.to.iter().map(|token| Token { line, ..token.clone() }).collect();
+        if to.is_empty() {
+            return remove_without_comment(tokens, at..end);
+        }
+        if to.len() > self.from.len() && words(&to).ends_with(&format!(" {}", words(&self.from))) {
+            // What is added comes after the comment, which stays with what it was before.
             let added = to.len() - self.from.len();
             tokens.splice(at..at, to.drain(..added));
-        } else if let Some(first) = to.first_mut() {
-            first.before = before;
-            to.last_mut().expect("a token").after = tokens[end - 1].after.clone();
-            tokens.splice(at..end, to);
-        } else {
-            cut(tokens, at..end);
+            return;
         }
+        to[0].before.clone_from(&tokens[at].before);
+        let is_open = to[to.len() - 1] == "(";
+        to.last_mut().expect("a token").after.clone_from(&tokens[end - 1].after);
+        tokens.splice(at..end, to);
         let next = &mut tokens[at + self.to.len()].before;
-        if self.has_space && *next == " " {
+        if is_open && *next == " " {
             next.clear();
         }
     }
 }
 
-/// Returns whether a token is in the function with this name, or in its attributes.
-fn is_in(tokens: &[Token], at: usize, name: &str) -> bool {
-    let is_here = |function: Function| {
-        tokens[function.at + 1].text == name && (function.first..=body(tokens, &function).end).contains(&at)
-    };
-    functions(tokens).into_iter().any(is_here)
-}
-
-/// Returns the tokens of a file, with what the patterns make of them and of the texts of its comments.
-pub(crate) fn rewritten(
+/// Returns the tokens of a file, with what the patterns make of them. The examples in its documentation have patterns of
+/// their own, and what else a comment says is copied.
+pub(crate) fn translated(
     text: &str,
-    patterns: &[Pattern],
-    examples: &[Pattern],
+    patterns: &mut [Pattern],
+    for_examples: &mut [Pattern],
     file: &str,
 ) -> Result<Vec<Token>, String> {
-    let mut tokens = code(text);
-    check_brackets(&tokens)?;
-    patterns.iter().for_each(|pattern| pattern.apply(&mut tokens, file));
-    let in_prose = |text: &mut String| {
-        let in_line = |line: &str| {
-            // An example has the paths of a user.
-            let is_example = line.contains("//! use ") || line.contains("/// use ");
-            let mut words = if line.contains("//") { prose(line) } else { return line.to_owned() };
-            let patterns = if is_example { examples } else { patterns };
-            let patterns = patterns.iter().filter(|pattern| pattern.is_for_prose);
-            patterns.for_each(|pattern| pattern.apply(&mut words, file));
-            print(&words)
-        };
-        *text = text.split_inclusive('\n').map(in_line).collect();
-    };
-    for token in &mut tokens {
-        in_prose(&mut token.before);
-        in_prose(&mut token.after);
-        if token.is_doc() {
-            in_prose(&mut token.text);
+    let mut tokens = read(text)?;
+    for pattern in patterns {
+        pattern.apply(&mut tokens, file);
+    }
+    let (mut is_fenced, mut is_example) = (false, false);
+    for token in tokens.iter_mut().filter(|token| token.is_documentation()) {
+        let (mark, line) = token.text.split_at("///".len());
+        if let Some(language) = line.trim().strip_prefix("```") {
+            is_example = !is_fenced && language.is_empty();
+            is_fenced = !is_fenced;
+        } else if is_example {
+            let mut code = read_part(line).map_err(|what| format!("{}: in an example: {what}", token.line))?;
+            for pattern in &mut *for_examples {
+                pattern.apply(&mut code, file);
+            }
+            token.text = format!("{mark}{}", print(&code));
         }
     }
     Ok(tokens)

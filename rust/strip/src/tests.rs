@@ -1,149 +1,222 @@
-//! What each rule makes, what is refused, and that nothing but tokens decides. The made files, which are compared, show
-//! the others.
+//! Small sources, and what becomes of each. The made files, which the gate compares, show the rest.
 
-use crate::left_out::add_signatures;
-use crate::packages::{SOURCES, Source};
-use crate::tokens::{print, words};
-use crate::{Known, code, known, read, rules, tokens, translated};
+use crate::files::{read, without_layout};
+use crate::ghosts::add_signatures;
+use crate::packages::{SOURCES, Source, patterns_for_examples};
+use crate::repository::Repository;
+use crate::tokens::{print, read_part, words};
+use crate::{rules, translated};
 use std::path::Path;
 
-/// Code of `lexical_write_integer`, and what is made of it but for the layout.
-const MADE: &[(&str, &str)] = &[
-    // Comments are copied, and decide nothing.
-    ("// It is cold.\n#[cold]\nfn write_binary() {}", "// It is cold.\n#[inline]\nfn write_binary() {}"),
-    ("// Reworded.\n#[cold]\nfn write_binary() {}", "// Reworded.\n#[inline]\nfn write_binary() {}"),
-    ("// It is cold.\n#[cold]\nfn other() {}", "// It is cold.\n#[cold]\n#[inline]\nfn other() {}"),
-    ("/// A record, which `Trace` says.\nstruct S;", "/// A record, which `Trace` says.\nstruct S;"),
-    ("// Not of it.\n\n// Of it.\nghost use a;\nstruct B; // b", "// Not of it.\n\nstruct B; // b"),
-    // Ghost items and contracts, in any layout.
-    ("fn f(a: u8) requires { b } ensures* c { d } { a } ghost e: { g };", "#[inline] fn f(a: u8) { a }"),
-    ("struct S { a: u8, pub(crate) ghost n: { ℕ }, ghost m: { x' } }", "struct S { a: u8 }"),
-    ("trait T { fn f() ensures { b }; ghost a = { b }; }", "trait T { fn f(); }"),
-    ("#![tactic(auto)] #[tactic(a, using(b))] fn f() {}", "#[inline] fn f() {}"),
-    // Models, modules, laws and what they need.
-    ("impl<T> Model for S<T> { ghost a = { b }; } impl S {}", "impl S {}"),
-    ("mod turns; pub mod laws; mod texts;", "mod texts;"),
-    ("/// A law.\n#[a] pub final fn in_range(self) { self.fits_bits(); } const DECIMAL: u8 = 1;", ""),
-    ("use a::{B, in_range, C}; use b::Turns; pub use c::fits_bits;", "use a::{B, C};"),
-    ("use c::{D, E}; fn f() requires { D } { E }", "use c::{E}; #[inline] fn f() { E }"),
-    // Fields.
-    ("struct S { a: u8, trace: Trace }", "struct S { a: u8 }"),
-    ("fn f() -> S { S { a: 1, trace: Trace::new() } }", "#[inline] fn f() -> S { S { a: 1 } }"),
-    // What is written in place of something, and paths.
-    ("fn f() { prove!(a); b }", "#[inline] fn f() { assert!(a); b }"),
-    ("#[derive(Clone, Drop)] struct A; #[derive(Drop)] struct B;", "#[derive(Clone)] struct A; struct B;"),
-    ("fn fmt<W: fmt::Write>(f: fmt::Formatter<W>) {}", "#[inline] fn fmt(f: fmt::Formatter<'_>) {}"),
-    (
-        "use lexical_num::A; use crate::b::C; use std::d;",
-        "use crate::num::A; use crate::write_integer::b::C; use core::d;",
-    ),
-    ("/// use lexical_num::A;\n/// See lexical_num.\nstruct S;", "/// use cojimuran::A;\n/// See num.\nstruct S;"),
-    // Functions with and without a counter.
-    (
+/// Returns what is made of a file of `lexical_write_integer`, in which `in_range` and `fits_bits` are laws.
+fn made(text: &str) -> Result<String, String> {
+    let source = SOURCES.iter().find(|source| source.name == "lexical_write_integer").unwrap();
+    let mut repository = Repository { pages: "`group_digits`".to_owned(), ..Repository::default() };
+    repository.laws.extend(["in_range", "fits_bits", "DECIMAL"].map(str::to_owned));
+    let tokens = rules::translated(text, &mut source.patterns(), &mut patterns_for_examples(), "a.rt")?;
+    add_signatures(&tokens, &mut repository.signatures);
+    translated(tokens, "a.rt", source, &repository)
+}
+
+#[track_caller]
+fn becomes(text: &str, expected: &str) {
+    assert_eq!(without_layout(&made(text).unwrap()), without_layout(expected), "of {text}");
+}
+
+#[track_caller]
+fn is_refused(text: &str, error: &str) {
+    assert_eq!(made(text).unwrap_err(), error, "of {text}");
+}
+
+/// A function `f` with a counter and this body, and another function with one.
+fn with_body(body: &str) -> String {
+    format!("fn g(a: u8, turns: &mut Turns, b: u8) {{}}\nfn f(turns: &mut Turns) -> u8 {{ {body} }}")
+}
+
+#[track_caller]
+fn body_becomes(body: &str, expected: &str) {
+    becomes(&with_body(body), &format!("#[inline] fn g(a: u8, b: u8) {{}} #[inline] fn f() -> u8 {{ {expected} }}"));
+}
+
+#[track_caller]
+fn body_is_refused(body: &str, error: &str) {
+    is_refused(&with_body(body), &format!("2: {error}"));
+}
+
+/// Such an attribute was once left out by the words of the comment above it.
+#[test]
+fn a_reworded_comment_changes_only_the_comment() {
+    becomes("// It is cold.\n#[cold]\nfn write_binary() {}", "// It is cold.\n#[inline]\nfn write_binary() {}");
+    becomes("// Reworded.\n#[cold]\nfn write_binary() {}", "// Reworded.\n#[inline]\nfn write_binary() {}");
+    becomes("// It is cold.\n#[cold]\nfn other() {}", "// It is cold.\n#[cold]\n#[inline]\nfn other() {}");
+}
+
+/// A comment with such a word was once refused.
+#[test]
+fn a_comment_may_have_any_word() {
+    becomes("/// A record, a `ghost` and a proof.\nstruct S;", "/// A record, a `ghost` and a proof.\nstruct S;");
+}
+
+#[test]
+fn a_function_keeps_its_result() {
+    body_becomes("in_range(a); turns.tick(1); b", "b");
+    body_is_refused("in_range(a);", "f returns nothing");
+    body_is_refused("", "f returns nothing");
+    body_is_refused("in_range(a)", "`in_range` is not called by a statement of its own");
+}
+
+#[test]
+fn a_comment_goes_with_what_it_stands_at() {
+    becomes("// Of all.\n\n// Of it.\nghost use a;\nstruct B; // b", "// Of all.\n\nstruct B; // b");
+    becomes("#[cold] // So it is not inlined.\nfn write_binary() {}", "#[inline] fn write_binary() {}");
+    becomes("// Of f.\n#[tactic(auto)]\nfn f() {}", "// Of f.\n#[inline]\nfn f() {}");
+    becomes("// Of f.\nfinal fn f() {}", "// Of f.\n#[inline]\nfn f() {}");
+}
+
+#[test]
+fn ghost_items_clauses_and_tactics_are_left_out() {
+    becomes("fn f(a: u8) requires { b } ensures* c { d } { a } ghost e: { g };", "#[inline] fn f(a: u8) { a }");
+    becomes("struct S { a: u8, pub(crate) ghost n: { ℕ }, ghost m: { x' } }", "struct S { a: u8 }");
+    becomes("trait T { fn f() ensures { b }; ghost a = { b }; }", "trait T { fn f(); }");
+    becomes("#![tactic(auto)] #[tactic(a, using(b))] fn f() {}", "#[inline] fn f() {}");
+    becomes("impl<T> Model for S<T> { ghost a = { b }; } impl S {}", "impl S {}");
+    is_refused("fn f() requires a; fn i() { b }", "1: only Rattle has `requires`");
+    is_refused("fn f() { ghost }", "1: only Rattle has `ghost`");
+    is_refused("\nfn f() { λ }", "2: only Rattle has `λ`");
+}
+
+#[test]
+fn laws_and_their_calls_are_left_out() {
+    becomes("/// A law.\n#[a] pub final fn in_range(self) { self.fits_bits(); } const DECIMAL: u8 = 1;", "");
+    becomes("mod turns; pub mod laws; mod texts;", "mod texts;");
+    body_becomes("in_range(a); (a, b).fits_bits(); T::in_range::<u8>(a[1].as_u64()); b", "b");
+    body_becomes(
+        "let in_range = a < 2; if !in_range { return 0; } a",
+        "let in_range = a < 2; if !in_range { return 0; } a",
+    );
+    is_refused("fn in_range() -> u8 { 1 }", "1: in_range is no law");
+    is_refused("fn in_range(a: &mut u8) { 1 }", "1: in_range is no law");
+    for statement in [
+        "let b = in_range(a);",
+        "in_range(a()?);",
+        "in_range(self.next());",
+        "next().in_range();",
+        "match a { b => {} }.in_range();",
+    ] {
+        body_is_refused(&format!("{statement} b"), "`in_range` is not called by a statement of its own");
+    }
+    body_is_refused("for a in b() { in_range(a); } 1", "nothing is left of this block");
+}
+
+#[test]
+fn ghosts_are_left_out() {
+    becomes("struct S { a: u8, trace: Trace }", "struct S { a: u8 }");
+    becomes(
+        "struct S { trace: Trace } fn f() -> S { S { trace: Trace::new() } }",
+        "struct S {} #[inline] fn f() -> S { S {} }",
+    );
+    body_becomes("turns.tick(1); b", "b");
+    body_becomes("let mut t = Turns::new(); t.append(turns); b", "b");
+    body_becomes("let a = b / 2; if a > 0 { turns.tick(a); } a", "b / 2");
+    body_becomes("g(1, turns, g(1, &mut Turns::new(), 3))", "g(1, g(1, 3))");
+    body_is_refused("if c { turns.tick(b) } 1", "`turns` is not called by a statement of its own");
+    body_is_refused("let a: Option<Turns>; 1", "only Rattle has `Turns`");
+    for (call, name) in [("g(turns, 1, 2)", "g"), ("g(1, 2, 3)", "g"), ("h(turns)", "h"), ("h::<u8>(turns)", "h")] {
+        body_is_refused(call, &format!("the ghosts of this call of `{name}` are not those of its parameters"));
+    }
+}
+
+#[test]
+fn two_functions_become_one() {
+    becomes(
         "fn a(n: u8) { a_counted(n, &mut Turns::new()) } pub fn a_counted(n: u8, turns: &mut Turns) { n }",
         "#[inline] fn a(n: u8) { n }",
-    ),
-];
-
-/// Bodies of a function with a counter, `turns`, and what is made of them. `g` has one too, as its second parameter.
-const BODIES: &[(&str, &str)] = &[
-    ("in_range(a); (a, b).fits_bits(); T::in_range::<u8>(a[1].as_u64()); b", "b"),
-    ("turns.tick(1); self.trace.note(a); b", "b"),
-    ("let mut t = Turns::new(); t.append(turns); b", "b"),
-    ("let a = b / 2; if a > 0 { turns.tick(a); } a", "b / 2"),
-    ("let in_range = a < 2; if !in_range { return 0; } a", "let in_range = a < 2; if !in_range { return 0; } a"),
-    ("g(1, turns, g(1, &mut Turns::new(), 3))", "g(1, g(1, 3))"),
-];
-
-/// Bodies that are refused.
-const REFUSED: &[(&str, &str)] = &[
-    ("", "f returns nothing"),
-    ("in_range(a);", "f returns nothing"),
-    ("in_range(a)", "`in_range` is not called by a statement of its own"),
-    ("let b = in_range(a); b", "`in_range` is not called by a statement of its own"),
-    ("in_range(a()?); b", "`in_range` is not called by a statement of its own"),
-    ("in_range(self.next()); b", "`in_range` is not called by a statement of its own"),
-    ("next().in_range(); b", "`in_range` is not called by a statement of its own"),
-    ("match a { b => {} }.in_range(); b", "`in_range` is not called by a statement of its own"),
-    ("if c { turns.tick(b) } 1", "`turns` is not called by a statement of its own"),
-    ("for a in b() { in_range(a); } 1", "nothing is left of this block"),
-    ("g(turns, 1, 2)", "the ghosts of this call of `g` are not those of its parameters"),
-    ("g(1, 2, 3)", "the ghosts of this call of `g` are not those of its parameters"),
-    ("h(turns)", "the ghosts of this call of `h` are not those of its parameters"),
-    ("ghost", "only Rattle has `ghost`"),
-    ("let a: Option<Turns>; λ", "only Rattle has `Turns`"),
-    ("a } fn h() requires a; fn i() { b", "only Rattle has `requires`"),
-    ("a } fn in_range() -> u8 { 1", "in_range is no law"),
-    ("a } fn in_range(a: &mut u8) { 1", "in_range is no law"),
-    ("a } pub fn a_counted(n: u8) { n", "a public function with a counter: a_counted"),
-    ("a } pub fn h() requires { 1 ≤ count } { b", "what is required is neither checked nor named: h : 1 ≤ count"),
-    ("(a]", "nothing opened this `]`"),
-    ("a(\"b)", "a quote that nothing closes"),
-];
-
-/// Returns what is made of a text of `lexical_write_integer`.
-fn made(text: &str) -> Result<String, String> {
-    let (mut known, source) = (Known { pages: "`named`".to_owned(), ..Known::default() }, &SOURCES[2]);
-    known.laws.extend(["in_range", "fits_bits", "DECIMAL"].map(str::to_owned));
-    let (patterns, examples) = source.patterns();
-    let tokens = rules::rewritten(text, &patterns, &examples, "a.rt")?;
-    add_signatures(&tokens, &mut known.signatures);
-    translated(tokens, "a.rt", source, &known)
+    );
+    is_refused("pub fn a_counted(n: u8) { n }", "1: a public function with a counter: a_counted");
 }
 
 #[test]
-fn what_is_made() {
-    for (text, expected) in MADE {
-        assert_eq!(code(&made(text).unwrap()), code(expected), "in {text}");
-    }
-    for (body, expected) in BODIES {
-        let g = "struct S { trace: Trace } fn g(a: u8, turns: &mut Turns, b: u8) {}";
-        let made = made(&format!("{g} fn f(turns: &mut Turns) -> u8 {{ {body} }}")).unwrap();
-        let g = "struct S {} #[inline] fn g(a: u8, b: u8) {}";
-        assert_eq!(code(&made), code(&format!("{g} #[inline] fn f() -> u8 {{ {expected} }}")), "in {body}");
-    }
+fn rules_write_tokens_otherwise() {
+    becomes("fn f() { prove!(a); b }", "#[inline] fn f() { assert!(a); b }");
+    becomes("#[derive(Clone, Drop)] struct A; #[derive(Drop)] struct B;", "#[derive(Clone)] struct A; struct B;");
+    becomes("fn fmt<W: fmt::Write>(f: fmt::Formatter<W>) {}", "#[inline] fn fmt(f: fmt::Formatter<'_>) {}");
+    becomes(
+        "use lexical_num::A; use crate::b::C; use std::d;",
+        "use crate::num::A; use crate::write_integer::b::C; use core::d;",
+    );
 }
 
 #[test]
-fn what_is_refused() {
-    for (body, error) in REFUSED {
-        let text = format!("fn g(a: u8, turns: &mut Turns, b: u8) {{}}\nfn f(turns: &mut Turns) -> u8 {{ {body} }}");
-        assert_eq!(made(&text).unwrap_err(), format!("2: {error}"), "in {body}");
-    }
+fn imports_of_what_is_gone_are_left_out() {
+    becomes("use a::{B, in_range, C}; use b::Turns; pub use c::fits_bits;", "use a::{B, C};");
+    becomes("use c::{D, E}; fn f() requires { D } { E }", "use c::{E}; #[inline] fn f() { E }");
 }
 
 #[test]
-fn conditions() {
-    let text = made("pub fn a(radix: u32) -> u8 requires radix { IsRadix\n radix } { b }").unwrap();
-    assert!(text.starts_with("///\n/// # Panics\n///\n/// If the radix is not from 2 to 36.\n#[must_use]\n"), "{text}");
-    assert!(!made("pub fn named() requires { 1 ≤ count } { b }").unwrap().contains("Panics"));
+fn examples_have_the_paths_of_a_user() {
+    let text = "/// See lexical_num.\n/// ```\n/// use lexical_num::A;\n/// assert!(rt; a[\n/// ```\nstruct S;";
+    let example = "/// See lexical_num.\n/// ```\n/// use cojimuran::A;\n/// assert!(a[\n/// ```\nstruct S;\n";
+    assert_eq!(made(text).unwrap(), example);
+    let other = "/// ```text\n/// lexical_num::A\n/// ```\nstruct S;\n";
+    assert_eq!(made(other).unwrap(), other);
 }
 
-/// The folder of the repository.
+#[test]
+fn conditions_become_panics() {
+    let text = made("pub fn from_u8(n: u8) -> usize requires { a } { b }").unwrap();
+    let lines = "///\n/// # Panics\n///\n/// If the buffer is [too short](crate#conditions).\n#[must_use]\n";
+    assert!(text.starts_with(lines), "{text}");
+    assert!(!made("pub fn group_digits() requires some { a } { b }").unwrap().contains("Panics"));
+    is_refused(
+        "pub fn fallback_digit_count() requires { a } { b }",
+        "1: no page of conditions names fallback_digit_count",
+    );
+    is_refused(
+        "pub fn from_u8() requires room { a } { b }",
+        "1: no list says what becomes of a call without the condition from_u8.room",
+    );
+}
+
+#[test]
+fn what_cannot_be_read_is_refused() {
+    is_refused("fn f() {\n(a] }", "2: nothing opened this `]`");
+    is_refused("\nfn f() {", "2: no `}` closes this bracket");
+    is_refused("fn f() { a(\"b) }", "1: nothing closes this quote");
+    for text in ["/* a */", "r\"a\"", "br#\"a\"#", "r#type"] {
+        is_refused(text, "1: this program reads no block comment, no raw string and no raw name");
+    }
+}
+
 fn top() -> &'static Path {
     Path::new(concat!(env!("CARGO_MANIFEST_DIR"), "/../.."))
 }
 
 #[test]
+fn a_rule_that_matches_nothing_or_too_much_is_refused() {
+    const GONE: &[Source] = &[Source { rules: &[rules::everywhere("gone", "")], ..SOURCES[1] }];
+    let error = Repository::read(top(), GONE).err().unwrap();
+    assert!(error.contains("lexical_tables: the rule for `gone`: it matches nothing"), "{error}");
+    const OFTEN: &[Source] = &[Source { rules: &[rules::once("u8", "")], ..SOURCES[1] }];
+    let error = Repository::read(top(), OFTEN).err().unwrap();
+    assert!(error.contains("lexical_tables: the rule for `u8`: it matches "), "{error}");
+    const OTHER: &[Source] = &[Source { constant: "digit_to_byte", ..SOURCES[1] }];
+    assert_eq!(Repository::read(top(), OTHER).err().unwrap(), "lexical_tables: it has no digit_to_byte");
+}
+
+/// Here each comment and each layout of the crates is another one, and what is made of the code is the same.
+#[test]
 fn no_comment_and_no_layout_of_a_source_decides() {
-    let known = known(top(), SOURCES).unwrap();
-    for file in known.files.iter().filter(|file| file.source.made_of(&file.name).is_some()) {
-        let mut other = tokens::code(&read(&top().join(&file.path)).unwrap());
+    let repository = Repository::read(top(), SOURCES).unwrap();
+    for file in repository.files.iter().filter(|file| file.source.made_of(&file.name).is_some()) {
+        let mut other = read_part(&read(&top().join(&file.path)).unwrap()).unwrap();
         for (at, token) in other.iter_mut().enumerate() {
             token.before = if at % 5 == 0 { "\n// ghost requires { #[cold]\n" } else { "\n" }.to_owned();
             token.after.clear();
         }
-        let (patterns, examples) = file.source.patterns();
-        let other = rules::rewritten(&print(&other), &patterns, &examples, &file.name).unwrap();
-        let made = |tokens| words(&tokens::code(&translated(tokens, &file.name, file.source, &known).unwrap()));
+        let (mut patterns, mut for_examples) = (file.source.patterns(), patterns_for_examples());
+        let other = rules::translated(&print(&other), &mut patterns, &mut for_examples, &file.name).unwrap();
+        let made =
+            |tokens| words(&read_part(&translated(tokens, &file.name, file.source, &repository).unwrap()).unwrap());
         assert_eq!(made(file.tokens.clone()), made(other), "{}", file.path.display());
     }
-}
-
-#[test]
-fn what_matches_nothing() {
-    const GONE: &[Source] = &[Source { rules: &[("", "gone", "")], ..SOURCES[1] }];
-    assert!(known(top(), GONE).err().unwrap().contains("`gone`"));
-    const OTHER: &[Source] = &[Source { constant: "digit_to_byte", ..SOURCES[1] }];
-    assert_eq!(known(top(), OTHER).err().unwrap(), "lexical_tables: it has no digit_to_byte");
 }

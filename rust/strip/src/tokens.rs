@@ -1,11 +1,13 @@
-//! The tokens of a source. White space and comments are kept with the tokens, and printed with them.
+//! Reads a source as tokens, and prints tokens. White space and comments are kept with the tokens: what is read and then
+//! printed is the same text, and no rule looks at a comment.
 
-/// A token.
+/// A word, a literal, a line of documentation, or punctuation.
 #[derive(Clone, Debug, Default)]
 pub(crate) struct Token {
     pub text: String,
-    /// The white space and the comments before it. What is in the line of the last token is `after` that one.
+    /// The white space and the comments before it.
     pub before: String,
+    /// The comment that follows it in its line, and so speaks of it.
     pub after: String,
     pub line: usize,
 }
@@ -19,8 +21,8 @@ impl Token {
         self.text.starts_with(is_in_word)
     }
 
-    pub fn is_doc(&self) -> bool {
-        self.text.starts_with("//")
+    pub fn is_documentation(&self) -> bool {
+        is_documentation(&self.text)
     }
 }
 
@@ -30,143 +32,159 @@ impl PartialEq<&str> for Token {
     }
 }
 
-fn is_in_word(c: char) -> bool {
-    c.is_alphanumeric() || c == '_'
+/// Returns the tokens of a source, whose brackets match, or an error that begins with the line. The last token is empty,
+/// and has what is after the others.
+pub(crate) fn read(text: &str) -> Result<Vec<Token>, String> {
+    let tokens = read_part(text)?;
+    check_brackets(&tokens)?;
+    Ok(tokens)
 }
 
-/// Returns the tokens of code. The last one is empty, and has what is after the others.
-pub(crate) fn code(text: &str) -> Vec<Token> {
-    tokens(text, trivia, length)
-}
-
-/// Returns the words and the other characters of a comment.
-pub(crate) fn prose(text: &str) -> Vec<Token> {
-    let space = |text: &str| text.len() - text.trim_start().len();
-    tokens(text, space, |text| if text.starts_with("::") { 2 } else { word(text).max(character(text)) })
-}
-
-fn tokens(text: &str, trivia: impl Fn(&str) -> usize, length: impl Fn(&str) -> usize) -> Vec<Token> {
+/// Returns the tokens of a part of a source, in which a bracket may be open.
+pub(crate) fn read_part(text: &str) -> Result<Vec<Token>, String> {
     let (mut tokens, mut rest, mut line): (Vec<Token>, _, _) = (Vec::new(), text, 1);
     loop {
-        let (mut before, code) = rest.split_at(trivia(rest));
-        line += before.matches('\n').count();
-        if let Some(last) = tokens.last_mut().filter(|_| before.trim_start_matches(' ').starts_with("//")) {
-            let (after, more) = before.split_at(before.find('\n').unwrap_or(before.len()));
-            (last.after, before) = (after.to_owned(), more);
+        let (mut space, code) = rest.split_at(space_length(rest));
+        line += space.matches('\n').count();
+        if let Some(last) = tokens.last_mut() {
+            let (after, next_lines) = space.split_at(comment_in_line_length(space));
+            (last.after, space) = (after.to_owned(), next_lines);
         }
-        let (text, more) = code.split_at(length(code));
-        tokens.push(Token { text: text.to_owned(), before: before.to_owned(), after: String::new(), line });
+        let length = token_length(code).map_err(|what| format!("{line}: {what}"))?;
+        let (text, more) = code.split_at(length);
+        tokens.push(Token { text: text.to_owned(), before: space.to_owned(), after: String::new(), line });
         line += text.matches('\n').count();
         rest = more;
         if text.is_empty() {
-            return tokens;
+            return Ok(tokens);
         }
     }
 }
 
 /// Returns the length of the white space and the comments that a text begins with.
-fn trivia(text: &str) -> usize {
+fn space_length(text: &str) -> usize {
     let rest = text.trim_start();
-    let is_comment = rest.starts_with("//") && !is_documentation(rest);
-    let comment = if is_comment { rest.find('\n').unwrap_or(rest.len()) } else { 0 };
-    let length = text.len() - rest.len() + comment;
-    if comment == 0 { length } else { length + trivia(&text[length..]) }
+    let space = text.len() - rest.len();
+    if rest.starts_with("//") && !is_documentation(rest) {
+        let end = space + line_length(rest);
+        end + space_length(&text[end..])
+    } else {
+        space
+    }
+}
+
+/// Returns the length of the comment, and the blanks before it, that a text begins with.
+fn comment_in_line_length(text: &str) -> usize {
+    if text.trim_start_matches(' ').starts_with("//") { line_length(text) } else { 0 }
+}
+
+fn line_length(text: &str) -> usize {
+    text.find('\n').unwrap_or(text.len())
 }
 
 fn is_documentation(text: &str) -> bool {
     text.starts_with("//!") || text.starts_with("///") && !text.starts_with("////")
 }
 
-/// Returns the length of the word that a text begins with.
-fn word(text: &str) -> usize {
-    text.find(|c| !is_in_word(c)).unwrap_or(text.len())
+fn is_in_word(c: char) -> bool {
+    c.is_alphanumeric() || c == '_'
 }
 
-fn character(text: &str) -> usize {
-    text.chars().next().map_or(0, char::len_utf8)
-}
-
-/// Returns the length of the token that a text begins with. A quote that nothing closes is a token of its own.
-fn length(text: &str) -> usize {
+/// Returns the length of the token that a text begins with.
+fn token_length(text: &str) -> Result<usize, &'static str> {
     let quoted = text.strip_prefix('b').unwrap_or(text);
     let prefix = text.len() - quoted.len();
     if is_documentation(text) {
-        text.find('\n').unwrap_or(text.len())
+        Ok(line_length(text))
+    } else if ["/*", "r\"", "r#", "br\"", "br#"].iter().any(|start| text.starts_with(start)) {
+        Err("this program reads no block comment, no raw string and no raw name")
     } else if quoted.starts_with('"') {
-        closed(quoted, '"').map_or(1, |end| prefix + end)
+        Ok(prefix + quoted_length(quoted)?)
     } else if let Some(rest) = quoted.strip_prefix('\'') {
-        let is_literal = rest.starts_with('\\') || rest[character(rest)..].starts_with('\'');
-        prefix + if is_literal { closed(quoted, '\'').unwrap_or(1) } else { 1 + word(rest) }
+        // Otherwise it is the name of a lifetime.
+        let is_literal = rest.starts_with('\\') || rest[character_length(rest)..].starts_with('\'');
+        Ok(prefix + if is_literal { quoted_length(quoted)? } else { 1 + length_while(rest, is_in_word) })
     } else if text.starts_with(is_in_word) {
         // A name of a definition may have primes.
-        text.find(|c| !is_in_word(c) && c != '\'').unwrap_or(text.len())
+        Ok(length_while(text, |c| is_in_word(c) || c == '\''))
     } else {
-        ["::", "->", "=>"].iter().find(|two| text.starts_with(**two)).map_or(character(text), |two| two.len())
+        let has_two = ["::", "->", "=>"].iter().any(|two| text.starts_with(two));
+        Ok(if has_two { 2 } else { character_length(text) })
     }
 }
 
-/// Returns the index after the second one of two quotes.
-fn closed(text: &str, quote: char) -> Option<usize> {
+/// Returns the length of a literal: the quotes that a text begins with, and what is between them.
+fn quoted_length(text: &str) -> Result<usize, &'static str> {
     let mut is_escaped = false;
     let end = text.char_indices().skip(1).find(|(_, c)| {
-        let is_end = *c == quote && !is_escaped;
+        let is_end = text.starts_with(*c) && !is_escaped;
         is_escaped = *c == '\\' && !is_escaped;
         is_end
     });
-    end.map(|(at, _)| at + 1)
+    end.map(|(at, _)| at + 1).ok_or("nothing closes this quote")
 }
 
-/// Returns the text of tokens.
-pub(crate) fn print(tokens: &[Token]) -> String {
-    tokens.iter().flat_map(|token| [&*token.before, &*token.text, &*token.after]).collect()
+fn length_while(text: &str, is_part: impl Fn(char) -> bool) -> usize {
+    text.find(|c| !is_part(c)).unwrap_or(text.len())
 }
 
-/// Returns the texts of tokens with one space between two of them.
-pub(crate) fn words(tokens: &[Token]) -> String {
-    tokens.iter().map(|token| &*token.text).collect::<Vec<_>>().join(" ")
+fn character_length(text: &str) -> usize {
+    text.chars().next().map_or(0, char::len_utf8)
 }
 
-/// Returns an error if the brackets of the tokens do not match.
-pub(crate) fn check_brackets(tokens: &[Token]) -> Result<(), String> {
-    let mut open: Vec<&str> = Vec::new();
+/// Returns an error unless the brackets match.
+fn check_brackets(tokens: &[Token]) -> Result<(), String> {
+    let mut expected = Vec::new();
     for token in tokens {
         match &*token.text {
-            "(" => open.push(")"),
-            "[" => open.push("]"),
-            "{" => open.push("}"),
-            "\"" => return Err(format!("{}: a quote that nothing closes", token.line)),
-            ")" | "]" | "}" if open.pop() != Some(&token.text) => {
+            "(" => expected.push((")", token.line)),
+            "[" => expected.push(("]", token.line)),
+            "{" => expected.push(("}", token.line)),
+            ")" | "]" | "}" if !expected.pop().is_some_and(|(bracket, _)| *token == bracket) => {
                 return Err(format!("{}: nothing opened this `{}`", token.line, token.text));
             }
             _ => {}
         }
     }
-    open.pop().map_or(Ok(()), |bracket| Err(format!("{}: no `{bracket}`", tokens[tokens.len() - 1].line)))
+    expected.pop().map_or(Ok(()), |(bracket, line)| Err(format!("{line}: no `{bracket}` closes this bracket")))
+}
+
+/// Returns the text of tokens, with their comments.
+pub(crate) fn print(tokens: &[Token]) -> String {
+    tokens.iter().flat_map(|token| [&*token.before, &*token.text, &*token.after]).collect()
+}
+
+/// Returns the tokens with one space between two of them, and without comments.
+pub(crate) fn words(tokens: &[Token]) -> String {
+    tokens.iter().map(|token| &*token.text).collect::<Vec<_>>().join(" ")
 }
 
 /// Returns the index of the bracket that closes the one at an index.
 pub(crate) fn close(tokens: &[Token], open: usize) -> usize {
     let mut depth = 0;
-    open + tokens[open..].iter().position(|token| is_last(token, &mut depth, 1)).expect("brackets match")
+    let is_end = |token: &Token| {
+        depth += depth_change(token);
+        depth == 0
+    };
+    open + tokens[open..].iter().position(is_end).expect("brackets match")
 }
 
 /// Returns the index of the bracket that opens what is closed at an index.
 pub(crate) fn open(tokens: &[Token], close: usize) -> usize {
     let mut depth = 0;
-    tokens[..=close].iter().rposition(|token| is_last(token, &mut depth, -1)).expect("brackets match")
+    let is_start = |token: &Token| {
+        depth += depth_change(token);
+        depth == 0
+    };
+    tokens[..=close].iter().rposition(is_start).expect("brackets match")
 }
 
-fn is_last(token: &Token, depth: &mut i32, step: i32) -> bool {
-    match &*token.text {
-        "(" | "[" | "{" => *depth += step,
-        ")" | "]" | "}" => *depth -= step,
-        _ => {}
-    }
-    *depth == 0
+fn depth_change(token: &Token) -> i32 {
+    i32::from(token.is_in(&["(", "[", "{"])) - i32::from(token.is_in(&[")", "]", "}"]))
 }
 
-/// Returns the index of the first of these texts from an index on that is in no bracket, or of the bracket that closes
-/// what the index is in.
+/// Returns the index of the first of these texts, from an index on, that is in no inner bracket. If there is none, it is
+/// the index of the bracket that closes what the index is in, or of the last token.
 pub(crate) fn find(tokens: &[Token], mut at: usize, texts: &[&str]) -> usize {
     while at + 1 < tokens.len() && !tokens[at].is_in(texts) {
         match &*tokens[at].text {

@@ -86,8 +86,7 @@ pub fn slow_digit_count_counted<T: UnsignedInteger>(x: T, radix: u32, turns: &mu
     1 + by_four + by_two + by_one
 }
 
-// Returns whether `digit_count_counted` counts digits in the radix without division: from the highest set bit or with
-// a table.
+// Returns whether the digits in the radix are counted without division: from the highest set bit or with a table.
 pub(crate) fn counts_at_once(radix: u32) -> bool
     ensures { result ≡ is_counted_at_once radix }
 {
@@ -132,8 +131,8 @@ pub trait DigitCount: DecimalCount {
         digit_count_counted(self, radix, &mut Turns::new())
     }
 
-    /// Returns how many digits the number has, as `digit_count` does. `slow_digit_count_counted`, which it calls,
-    /// says how they are counted. The radix is from 2 to 36.
+    /// Returns how many digits the number has, as `digit_count` does, but counts them by division.
+    /// The radix is from 2 to 36.
     fn slow_digit_count(self, radix: u32) -> usize
         requires { IsRadix radix }
         ensures count { result ≡ digit_count radix (Self.magnitude self) }

@@ -16,7 +16,7 @@ pub(super) struct RadixTable<'a, const R: u32> {
 }
 
 impl<const R: u32> RadixTable<'static, R> {
-    // Returns the table of `lexical_tables`.
+    // Returns the table that `get_table` returns.
     pub(super) fn new() -> Self
         requires { IsRadix R }
     {

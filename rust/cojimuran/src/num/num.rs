@@ -160,8 +160,8 @@ impl LexicalInteger for isize {
     }
 }
 
-/// An unsigned integer type, with the arithmetic that is needed to write digits. The writers of
-/// `write_integer` are generic over it, such as `compact`.
+/// An unsigned integer type, with the arithmetic that is needed to write digits. The functions that write
+/// digits are generic over it.
 ///
 /// ```
 /// use cojimuran::UnsignedInteger;

@@ -56,8 +56,7 @@ pub(crate) fn slow_digit_count<T: UnsignedInteger>(x: T, radix: u32) -> usize {
     1 + by_four + by_two + by_one
 }
 
-// Returns whether `digit_count` counts digits in the radix without division: from the highest set bit or with
-// a table.
+// Returns whether the digits in the radix are counted without division: from the highest set bit or with a table.
 #[inline]
 pub(crate) fn counts_at_once(radix: u32) -> bool {
     radix == 2 || radix == 4 || radix == 8 || radix == 10 || radix == 16 || radix == 32
@@ -93,8 +92,8 @@ pub trait DigitCount: DecimalCount {
         digit_count(self, radix)
     }
 
-    /// Returns how many digits the number has, as `digit_count` does. `slow_digit_count`, which it calls,
-    /// says how they are counted. The radix is from 2 to 36.
+    /// Returns how many digits the number has, as `digit_count` does, but counts them by division.
+    /// The radix is from 2 to 36.
     ///
     /// # Panics
     ///

@@ -11,7 +11,7 @@ pub(super) struct RadixTable<'a, const R: u32> {
 }
 
 impl<const R: u32> RadixTable<'static, R> {
-    // Returns the table of `tables`.
+    // Returns the table that `get_table` returns.
     #[inline(always)]
     pub(super) fn new() -> Self {
         RadixTable {

@@ -1,0 +1,192 @@
+//! Leaves out values that only contracts read, which are of the types GHOSTS, and calls of laws: fields, parameters,
+//! arguments, variables, and statements that record something. An argument is left out if it is a ghost by its name, and
+//! it must then be one by the parameters of the function that is called.
+
+use crate::items::{after_generics, elements, functions, remove, remove_element, remove_without_comment};
+use crate::left_out::Names;
+use crate::tokens::{Token, close, find, open, words};
+use std::collections::{BTreeMap, BTreeSet};
+
+/// The types whose values only contracts read.
+pub(crate) const GHOSTS: [&str; 3] = ["Turns", "Trace", "GhostLog"];
+
+/// The functions that the arguments of laws call. They change nothing, so they are left out with the call of the law.
+pub(crate) const WITHOUT_EFFECT: [&str; 6] =
+    ["as_bytes", "as_u64", "exponent_radix", "from", "from_radix", "mantissa_radix"];
+
+/// Words and punctuation of a statement that does more than a call.
+const EFFECTS: [&str; 10] = ["?", "!", "=", "=>", "return", "let", "if", "match", "for", "while"];
+
+/// The number of parameters and the ghosts among them, for each name of functions that have ghosts.
+pub(crate) type Signatures = BTreeMap<String, BTreeSet<(usize, Vec<usize>)>>;
+
+/// Adds the functions of a file that have ghosts.
+pub(crate) fn add_signatures(tokens: &[Token], signatures: &mut Signatures) {
+    for function in functions(tokens) {
+        let mut parameters = elements(tokens, function.parameters);
+        parameters.retain(|parameter| !tokens[parameter.clone()].iter().any(|token| *token == "self"));
+        let is_ghost = |at: &usize| is_of_ghost_type(&tokens[parameters[*at].clone()]);
+        let ghosts: Vec<usize> = (0..parameters.len()).filter(is_ghost).collect();
+        if !ghosts.is_empty() {
+            let name = tokens[function.at + 1].text.clone();
+            signatures.entry(name).or_default().insert((parameters.len(), ghosts));
+        }
+    }
+}
+
+/// Returns whether this begins with `NAME: TYPE`, where the type is that of a ghost or a reference to it.
+pub(crate) fn is_of_ghost_type(element: &[Token]) -> bool {
+    let mut texts = element.iter().map(|token| &*token.text).skip_while(|text| ["pub", "mut"].contains(text)).skip(1);
+    texts.next() == Some(":")
+        && texts.find(|text| !["&", "mut"].contains(text)).is_some_and(|text| GHOSTS.contains(&text))
+}
+
+/// Leaves out the ghosts of a file, and the calls of laws.
+pub(crate) fn without_ghosts(tokens: &mut Vec<Token>, laws: &Names, signatures: &Signatures) -> Result<(), String> {
+    let ghosts = ghosts_of(tokens);
+    without_statements(tokens, laws, &ghosts)?;
+    let mut at = 0;
+    while at < tokens.len() {
+        if tokens[at].is_in(&["(", "{"]) {
+            check_arguments(tokens, at, signatures, &ghosts)?;
+            for element in elements(tokens, at).into_iter().rev() {
+                let each = &tokens[element.clone()];
+                if is_of_ghost_type(each) || is_ghost(each, &ghosts) {
+                    remove_element(tokens, element);
+                }
+            }
+        }
+        at += 1;
+    }
+    Ok(())
+}
+
+/// Returns the names of all ghosts of a file: of fields, parameters and variables.
+fn ghosts_of(tokens: &[Token]) -> Names {
+    let is_new = |at: usize| {
+        let is_variable = at > 0 && tokens[at - 1].is_in(&["let", "mut"]) && tokens[at + 1] == "=";
+        is_variable && tokens[at + 2].is_in(&GHOSTS) && tokens[at + 3] == "::"
+    };
+    let is_declared = |at: usize| tokens[at + 1] == ":" && is_of_ghost_type(&tokens[at..]);
+    let all = (0..tokens.len() - 1).filter(|at| is_new(*at) || is_declared(*at));
+    all.map(|at| tokens[at].text.clone()).collect()
+}
+
+/// Returns whether an argument is a ghost: its name, that of a field of `self`, or a new one.
+fn is_ghost(argument: &[Token], ghosts: &Names) -> bool {
+    let text = words(argument);
+    let value = text.trim_start_matches("& ").trim_start_matches("mut ");
+    let is_new = GHOSTS.iter().any(|ghost| value == format!("{ghost} :: new ( )"));
+    is_new || ghosts.contains(value.trim_start_matches("self . "))
+}
+
+/// Returns an error unless a call has a ghost for each parameter that is one, and for no other.
+fn check_arguments(tokens: &[Token], open: usize, signatures: &Signatures, ghosts: &Names) -> Result<(), String> {
+    let Some(name) = called(tokens, open) else {
+        return Ok(());
+    };
+    let arguments = elements(tokens, open);
+    let is_here = |at: &usize| is_ghost(&tokens[arguments[*at].clone()], ghosts);
+    let found: Vec<usize> = (0..arguments.len()).filter(is_here).collect();
+    let mut declared = signatures.get(name).into_iter().flatten().filter(|(count, _)| *count == arguments.len());
+    let is_right = match declared.next() {
+        Some((_, first)) => *first == found || declared.any(|(_, other)| *other == found),
+        None => found.is_empty(),
+    };
+    if is_right {
+        return Ok(());
+    }
+    Err(format!("{}: the ghosts of this call of `{name}` are not those of its parameters", tokens[open].line))
+}
+
+/// Returns the name of the function whose arguments begin with this bracket, if it is called here and not declared.
+fn called(tokens: &[Token], open: usize) -> Option<&str> {
+    let mut end = open;
+    if open > 0 && tokens[open - 1] == ">" {
+        end = (0..open).rev().find(|at| after_type_arguments(tokens, *at) == open)?;
+    }
+    let is_call = tokens[open] == "(" && end > 1 && tokens[end - 1].is_word() && tokens[end - 2] != "fn";
+    is_call.then(|| &*tokens[end - 1].text)
+}
+
+/// Returns the index after `::<..>`, if that is here.
+fn after_type_arguments(tokens: &[Token], at: usize) -> usize {
+    let is_here = tokens[at] == "::" && tokens[at + 1] == "<";
+    if is_here { after_generics(tokens, at + 1) } else { at }
+}
+
+/// Leaves out statements that call a law, record something in a ghost, or make a ghost.
+fn without_statements(tokens: &mut Vec<Token>, laws: &Names, ghosts: &Names) -> Result<(), String> {
+    let mut at = 1;
+    while at + 3 < tokens.len() {
+        let is_variable = ghosts.contains(&tokens[at].text) && (tokens[at - 1] != "." || tokens[at - 2] == "self");
+        let is_made = is_variable && tokens[at + 1] == "=" && tokens[at - 1].is_in(&["let", "mut"]);
+        // The bracket before the arguments of a call.
+        let arguments = if is_variable && tokens[at + 1] == "." && tokens[at + 2].is_word() {
+            Some(at + 3)
+        } else if laws.contains(&tokens[at].text) && tokens[at - 1] != "fn" {
+            Some(after_type_arguments(tokens, at + 1))
+        } else {
+            None
+        };
+        let arguments = arguments.filter(|arguments| tokens[*arguments] == "(");
+        if !is_made && arguments.is_none() {
+            at += 1;
+            continue;
+        }
+        let (start, end) = (statement(tokens, at), find(tokens, at, &[";"]));
+        let is_whole = tokens[end] == ";" && arguments.is_none_or(|open| only_calls(tokens, start, open, end));
+        if !is_whole {
+            let (line, name) = (tokens[at].line, &tokens[at].text);
+            return Err(format!("{line}: `{name}` is not called by a statement of its own"));
+        }
+        remove(tokens, start..end + 1);
+        without_rest(tokens, start)?;
+        at = 1;
+    }
+    Ok(())
+}
+
+/// Returns whether a statement is one call with these arguments, and does nothing else: neither what it is called of nor
+/// an argument has an effect.
+fn only_calls(tokens: &[Token], start: usize, arguments: usize, end: usize) -> bool {
+    let has_effect = |at: usize| {
+        let is_other_call = tokens[at].is_word() && tokens[at + 1] == "(" && at + 1 != arguments;
+        tokens[at].is_in(&EFFECTS) || is_other_call && !tokens[at].is_in(&WITHOUT_EFFECT)
+    };
+    close(tokens, arguments) + 1 == end && tokens[start] != "." && !(start..end).any(has_effect)
+}
+
+/// Returns where the statement begins that a token is in.
+fn statement(tokens: &[Token], mut at: usize) -> usize {
+    while at > 0 && !tokens[at - 1].is_in(&["{", "}", ";"]) {
+        at = if tokens[at - 1].is_in(&[")", "]"]) { open(tokens, at - 1) } else { at - 1 };
+    }
+    at
+}
+
+/// Leaves out what is left around a statement that was at an index. That is an `if` with nothing in it whose condition
+/// calls nothing. And in `let NAME = VALUE; NAME }`, where only the statement read the name, it leaves `VALUE }`.
+fn without_rest(tokens: &mut Vec<Token>, at: usize) -> Result<(), String> {
+    if tokens[at - 1] == "{" && tokens[at] == "}" {
+        let start = statement(tokens, at - 1);
+        let head = words(&tokens[start..at - 1]);
+        if head.starts_with("if ") && !head.contains('(') && tokens[at + 1] != "else" {
+            remove(tokens, start..at + 1);
+            return without_rest(tokens, start);
+        }
+        if !head.contains("fn ") {
+            return Err(format!("{}: nothing is left of this block", tokens[at].line));
+        }
+    }
+    if tokens[at - 1] == ";" && tokens[at].is_word() && tokens[at + 1] == "}" {
+        let binding = format!("let {} =", tokens[at].text);
+        let is_bound =
+            |let_: &usize| words(&tokens[*let_..*let_ + 3]) == binding && find(tokens, *let_, &[";"]) == at - 1;
+        if let Some(binding) = (0..at - 2).rev().find(is_bound) {
+            remove(tokens, at - 1..at + 1);
+            remove_without_comment(tokens, binding..binding + 3);
+        }
+    }
+    Ok(())
+}
