@@ -1,6 +1,6 @@
-//! What the documentation says of each condition that a contract requires. In Rattle no call compiles if a condition does
-//! not hold. In the package such a call panics, unless a page says otherwise: `# Panics` in the documentation says when,
-//! and `repository_tests/tests/failing_conditions.rs` makes each of these calls.
+//! What the documentation says of each condition that a contract requires. In Rattle no call compiles if a condition
+//! does not hold. In the package such a call panics, unless a page says otherwise: `# Panics` in the documentation says
+//! when, and `repository_tests/tests/failing_conditions.rs` makes each of these calls.
 
 use crate::packages::has;
 

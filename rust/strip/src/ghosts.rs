@@ -1,6 +1,6 @@
 //! Leaves out values that only contracts read, which are of the types GHOSTS, and calls of laws: fields, parameters,
-//! arguments, variables, and statements that record something. An argument is left out if it is a ghost by its name, and
-//! it must then be one by the parameters of the function that is called.
+//! arguments, variables, and statements that record something. An argument is left out if it is a ghost by its name,
+//! and it must then be one by the parameters of the function that is called.
 
 use crate::items::{after_generics, elements, functions, remove, remove_element, remove_without_comment};
 use crate::left_out::Names;
@@ -147,8 +147,8 @@ fn without_statements(tokens: &mut Vec<Token>, laws: &Names, ghosts: &Names) -> 
     Ok(())
 }
 
-/// Returns whether a statement is one call with these arguments, and does nothing else: neither what it is called of nor
-/// an argument has an effect.
+/// Returns whether a statement is one call with these arguments, and does nothing else: neither what it is called of
+/// nor an argument has an effect.
 fn only_calls(tokens: &[Token], start: usize, arguments: usize, end: usize) -> bool {
     let has_effect = |at: usize| {
         let is_other_call = tokens[at].is_word() && tokens[at + 1] == "(" && at + 1 != arguments;

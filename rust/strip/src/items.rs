@@ -38,7 +38,7 @@ impl Function {
     }
 
     pub fn is_public(&self, tokens: &[Token]) -> bool {
-        tokens[self.visibility] == "pub" && tokens[self.visibility + 1] != "("
+        is_public(tokens, self.visibility)
     }
 }
 
@@ -69,6 +69,11 @@ pub(crate) fn function(tokens: &[Token], at: usize) -> Option<Function> {
     }
     let (first, visibility) = (start_with_attributes(tokens, at), start(tokens, at));
     Some(Function { first, visibility, at, parameters, clauses, body })
+}
+
+/// Returns whether an item is public whose first token after its attributes is at an index.
+pub(crate) fn is_public(tokens: &[Token], start: usize) -> bool {
+    tokens[start] == "pub" && tokens[start + 1] != "("
 }
 
 /// Returns the names of all functions and constants.

@@ -1,31 +1,30 @@
 //! Makes the sources of the Rust packages from those of the crates of Rattle.
 //!
-//! A source is read as tokens, and each comment is kept with the token that it stands at. No rule looks at a comment, so a
-//! comment goes to the package as it is, or goes with what it stands at. [`translated`] has the order of the steps:
+//! A source is read as tokens, and each comment is kept with the token that it stands at. No rule looks at a comment,
+//! so a comment goes to the package as it is, or goes with what it stands at. `translated` has the order of the steps:
 //!
 //! 1. `rules` writes the patterns of `tables` otherwise, for example `prove!` as `assert!`.
-//! 2. `left_out` and `ghosts` leave out what only the prover reads: ghost items, laws, models, tactics, and counters with
-//!    all that passes them on. `counted` makes one function of two that then are the same.
-//! 3. `additions` writes what a package says and the crate does not: `#[inline]`, `const`, `#[must_use]` and `# Panics`.
-//!    With that the clauses of contracts are left out too.
+//! 2. `left_out` and `ghosts` leave out what only the prover reads: ghost items, laws, models, tactics, and counters
+//!    with all that passes them on. `counted` makes one function of two that then are the same.
+//! 3. `additions` writes what a package says and the crate does not: `#[inline]`, `const`, `#[must_use]` and
+//!    `# Panics`. With that the clauses of contracts are left out too.
 //! 4. `imports` leaves out imports of what is gone, and the last check refuses each word of Rattle that is left.
 //!
 //! `packages` lists the crates, what is made of each, and the functions that the steps need to know, such as laws.
-//! `repository` checks that each rule and each name of these lists is for something. What no step knows is an error with
-//! the file and the line. At last `examples` and `links` complete the documentation of the package.
+//! `repository` checks that each rule and each name of these lists is for something. What no step knows is an error
+//! with the file and the line. At last `documentation` adds examples and links to that of the package.
 
 #![forbid(unsafe_code)]
 
 mod additions;
 mod conditions;
 mod counted;
-mod examples;
+mod documentation;
 mod files;
 mod ghosts;
 mod imports;
 mod items;
 mod left_out;
-mod links;
 mod packages;
 mod repository;
 mod rules;
@@ -112,8 +111,8 @@ fn made_of(source: &Source, repository: &Repository) -> Result<Files, String> {
     Ok(made)
 }
 
-/// Returns what is made of a file of a source, a path in `src`, to which the rules are applied. An error begins with the
-/// line.
+/// Returns what is made of a file of a source, a path in `src`, to which the rules are applied. An error begins with
+/// the line.
 fn translated(mut code: Vec<Token>, file: &str, source: &Source, repository: &Repository) -> Result<String, String> {
     let all = code.clone();
     left_out::without_items(&mut code, &source.modules(), &repository.laws)?;
@@ -127,28 +126,27 @@ fn translated(mut code: Vec<Token>, file: &str, source: &Source, repository: &Re
 
 /// Adds examples and links to the documentation of the package. Each part and each item of the root has an example.
 fn complete_documentation(top: &Path, made: &mut Files) -> Result<(), String> {
-    let parts = links::exports(&made[Path::new("rust/cojimuran/src/parts.rs")], "crate::parts");
-    let mut exports = links::exports(&read(&top.join("rust/cojimuran/src/lib.rs"))?, "crate");
-    exports.extend(parts);
-    let mut with_example = BTreeSet::new();
-    let mut files: Vec<_> = made.iter_mut().filter(|(path, _)| path.starts_with("rust/cojimuran")).collect();
-    for (path, text) in &mut files {
-        let module = if path.starts_with("rust/cojimuran/src/parts") { "parts" } else { "" };
-        let completed = examples::with_examples(text, module, &mut with_example);
-        **text = completed.map_err(|what| format!("{}: {what}", path.display()))?;
+    let root = |file: &str| tokens::read(&read(&top.join("rust/cojimuran/src").join(file))?);
+    let mut exports = documentation::exports(&root("lib.rs")?, "crate");
+    exports.extend(documentation::exports(
+        &tokens::read(&made[Path::new("rust/cojimuran/src/parts.rs")])?,
+        "crate::parts",
+    ));
+    let mut shown = BTreeSet::new();
+    documentation::add_examples(&mut root("append.rs")?, false, &mut shown)?;
+    for (path, text) in made.iter_mut().filter(|(path, _)| path.starts_with("rust/cojimuran")) {
+        let mut code = tokens::read(text)?;
+        let is_of_parts = path.starts_with("rust/cojimuran/src/parts");
+        documentation::add_examples(&mut code, is_of_parts, &mut shown)
+            .map_err(|what| format!("{}: {what}", path.display()))?;
+        documentation::add_links(&mut code, &exports);
+        *text = tokens::print(&code);
     }
-    examples::with_examples(&read(&top.join("rust/cojimuran/src/append.rs"))?, "", &mut with_example)?;
-    let needs_example =
-        |name: &str, path: &str| [format!("crate::{name}"), format!("crate::parts::{name}")].contains(&path.to_owned());
-    for (name, path) in &exports {
-        if needs_example(name, path) && !with_example.contains(name) {
-            return Err(format!("{name} has no example"));
-        }
+    let is_for_users = |path: &str| path.starts_with("crate::parts::") || path.matches("::").count() == 1;
+    match exports.iter().find(|(name, path)| is_for_users(path) && !shown.contains(*name)) {
+        Some((name, _)) => Err(format!("{name} has no example")),
+        None => Ok(()),
     }
-    for (_, text) in files {
-        *text = links::with_links(text, &exports);
-    }
-    Ok(())
 }
 
 /// Returns the list of the other files in a folder of definitions.

@@ -1,6 +1,6 @@
 //! Makes the sources of the Rust packages: `cargo run -p strip`. With `-- --check` it changes nothing, and fails with
-//! the file and the line of each one that would be made otherwise. With `-- --built PACKAGE FOLDER` it makes there what is
-//! made when cargo builds that package.
+//! the file and the line of each one that would be made otherwise. With `-- --built PACKAGE FOLDER` it makes there what
+//! is made when cargo builds that package.
 
 use std::path::Path;
 use std::process::ExitCode;

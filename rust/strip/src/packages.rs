@@ -22,7 +22,8 @@ pub(crate) struct Source {
     pub constant: &'static str,
     /// The other modules of which nothing is made, as paths in `src`: only proofs need them, or only Rattle has them.
     pub left_out: &'static str,
-    /// Laws and functions that only record, constants that only contracts read, and modules in which all functions are laws.
+    /// Laws and functions that only record, constants that only contracts read, and modules in which all functions are
+    /// laws.
     pub laws: &'static str,
     /// What becomes of a call of a public function for which a condition does not hold.
     pub conditions: Conditions,
@@ -164,10 +165,10 @@ pub(crate) const SOURCES: &[Source] = &[
         name: "lexical_write_integer",
         module: "write_integer",
         attributes: &[
-            // What chooses a writer, the decimal writer, the writer of a number whose digits are counted at once, and what
-            // `write_apart` calls. If the format is constant in a caller, so is the choice. The others would make the
-            // code of a caller long if its radix is known only at run time. rustc has `radix_called` in a caller only if the
-            // radix is constant there.
+            // What chooses a writer, the decimal writer, the writer of a number whose digits are counted at once, and
+            // what `write_apart` calls. If the format is constant in a caller, so is the choice. The others would make
+            // the code of a caller long if its radix is known only at run time. rustc has `radix_called` in a caller
+            // only if the radix is constant there.
             (
                 "#[inline(always)]\n#[track_caller]",
                 "buffer.rt texts/api.rt texts/integers.rt digits/write.rt digits/decimal.rt digits/decimal/jeaiii.rt",
@@ -177,8 +178,9 @@ pub(crate) const SOURCES: &[Source] = &[
                 "digits/pairs.rt digits/decimal/kernels.rt digits/decimal/decimal_pairs.rt write_digits write_at_once
                 write_by_table radix_counted constant_radix digit_count fast_log2 write_after_count last_four write_four
                 write_counted write_one_or_two write_one_pair write_short remove_two remove_four fourth_power
-                count_short count_one_or_two count_three_or_four write_three_or_four count_some count_and_write_one_or_two
-                count_and_write_up_to_four count_and_write_five_to_eight count_and_write_up_to_eight",
+                count_short count_one_or_two count_three_or_four write_three_or_four count_some
+                count_and_write_one_or_two count_and_write_up_to_four count_and_write_five_to_eight
+                count_and_write_up_to_eight",
             ),
         ],
         left_out: "turns",
@@ -197,8 +199,8 @@ pub(crate) const SOURCES: &[Source] = &[
             ("#[inline(always)]\n#[allow(unsafe_code)]", "to_str"),
             (
                 "#[inline(always)]",
-                "tuples.rt joined.rt integers.rt number.rt text.rt powers_of_two.rt padded.rt fixed.rt is_known_utf8 is_sure format
-                to_text",
+                "tuples.rt joined.rt integers.rt number.rt text.rt powers_of_two.rt padded.rt fixed.rt is_known_utf8
+                is_sure format to_text",
             ),
         ],
         laws: "equal positions reading rooms_at_most formatted_room_suffices str_is_utf8",
@@ -226,8 +228,8 @@ pub(crate) const SOURCES: &[Source] = &[
         name: "lexical_c",
         package: "lexical_c",
         attributes: &[
-            // If rustc inlined the first, it would be in the code of each type twice, and with the second a call in decimal
-            // would save registers that only this needs.
+            // If rustc inlined the first, it would be in the code of each type twice, and with the second a call in
+            // decimal would save registers that only this needs.
             ("#[inline(never)]", "write_digits write_in_radix"),
             // If the length of the buffer is known to suffice, the writers have fewer checks.
             ("#[inline(always)]", "plain.rt"),

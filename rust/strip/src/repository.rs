@@ -92,8 +92,8 @@ impl Repository {
     }
 }
 
-/// Returns an error that names each rule that matches nothing, or more often than it says. A rule of all crates, of which
-/// each crate has a copy, counts once.
+/// Returns an error that names each rule that matches nothing, or more often than it says. A rule of all crates, of
+/// which each crate has a copy, counts once.
 fn check_uses(patterns: &[Pattern]) -> Result<(), String> {
     let mut uses: BTreeMap<_, (&Pattern, usize)> = BTreeMap::new();
     for pattern in patterns {

@@ -139,8 +139,8 @@ impl Pattern {
     }
 }
 
-/// Returns the tokens of a file, with what the patterns make of them. The examples in its documentation have patterns of
-/// their own, and what else a comment says is copied.
+/// Returns the tokens of a file, with what the patterns make of them. The examples in its documentation have patterns
+/// of their own, and what else a comment says is copied.
 pub(crate) fn translated(
     text: &str,
     patterns: &mut [Pattern],

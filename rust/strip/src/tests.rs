@@ -1,11 +1,12 @@
 //! Small sources, and what becomes of each. The made files, which the gate compares, show the rest.
 
-use crate::files::{read, without_layout};
+use crate::files::{self, without_layout};
 use crate::ghosts::add_signatures;
+use crate::left_out::Names;
 use crate::packages::{SOURCES, Source, patterns_for_examples};
 use crate::repository::Repository;
-use crate::tokens::{print, read_part, words};
-use crate::{rules, translated};
+use crate::tokens::{print, read, read_part, words};
+use crate::{documentation, rules, translated};
 use std::path::Path;
 
 /// Returns what is made of a file of `lexical_write_integer`, in which `in_range` and `fits_bits` are laws.
@@ -178,6 +179,33 @@ fn conditions_become_panics() {
 }
 
 #[test]
+fn parts_have_an_example() {
+    let example = |text: &str| {
+        let mut tokens = read(text).unwrap();
+        documentation::add_examples(&mut tokens, true, &mut Names::new()).map(|()| print(&tokens))
+    };
+    let made = example("/// `Hex(5)` writes `5`.\n#[derive(Debug)]\npub struct Hex;").unwrap();
+    let code = "/// use cojimuran::parts::{Hex, Part};\n///\n/// assert_eq!(Hex(5).to_text(&mut [0; 64]), b\"5\");";
+    assert_eq!(
+        made,
+        format!("/// `Hex(5)` writes `5`.\n///\n/// ```\n{code}\n/// ```\n#[derive(Debug)]\npub struct Hex;")
+    );
+    assert_eq!(example("/// A part.\npub struct A;").unwrap_err(), "A has no example such as `A(5)` writes `5`");
+}
+
+#[test]
+fn exported_names_are_links() {
+    let root = "pub use a::{B, c}; #[doc(hidden)] pub use a::D; pub mod e { pub use f::G_H; } use i::J;";
+    let exports = documentation::exports(&read(root).unwrap(), "crate");
+    let names: Vec<_> = exports.iter().map(|(name, path)| format!("{name} {path}")).collect();
+    assert_eq!(names, ["B crate::B", "G_H crate::e::G_H"]);
+    let mut tokens = read("/// `B`, [`B`](b), `c` and `D`.\n/// ```\n/// `B`\n/// ```\nstruct S; // `B`").unwrap();
+    documentation::add_links(&mut tokens, &exports);
+    let expected = "/// [`B`](crate::B), [`B`](b), `c` and `D`.\n/// ```\n/// `B`\n/// ```\nstruct S; // `B`";
+    assert_eq!(print(&tokens), expected);
+}
+
+#[test]
 fn what_cannot_be_read_is_refused() {
     is_refused("fn f() {\n(a] }", "2: nothing opened this `]`");
     is_refused("\nfn f() {", "2: no `}` closes this bracket");
@@ -208,7 +236,7 @@ fn a_rule_that_matches_nothing_or_too_much_is_refused() {
 fn no_comment_and_no_layout_of_a_source_decides() {
     let repository = Repository::read(top(), SOURCES).unwrap();
     for file in repository.files.iter().filter(|file| file.source.made_of(&file.name).is_some()) {
-        let mut other = read_part(&read(&top().join(&file.path)).unwrap()).unwrap();
+        let mut other = read(&files::read(&top().join(&file.path)).unwrap()).unwrap();
         for (at, token) in other.iter_mut().enumerate() {
             token.before = if at % 5 == 0 { "\n// ghost requires { #[cold]\n" } else { "\n" }.to_owned();
             token.after.clear();

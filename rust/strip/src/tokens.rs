@@ -1,5 +1,5 @@
-//! Reads a source as tokens, and prints tokens. White space and comments are kept with the tokens: what is read and then
-//! printed is the same text, and no rule looks at a comment.
+//! Reads a source as tokens, and prints tokens. White space and comments are kept with the tokens: what is read and
+//! then printed is the same text, and no rule looks at a comment.
 
 /// A word, a literal, a line of documentation, or punctuation.
 #[derive(Clone, Debug, Default)]
@@ -32,8 +32,8 @@ impl PartialEq<&str> for Token {
     }
 }
 
-/// Returns the tokens of a source, whose brackets match, or an error that begins with the line. The last token is empty,
-/// and has what is after the others.
+/// Returns the tokens of a source, whose brackets match, or an error that begins with the line. The last token is
+/// empty, and has what is after the others.
 pub(crate) fn read(text: &str) -> Result<Vec<Token>, String> {
     let tokens = read_part(text)?;
     check_brackets(&tokens)?;
@@ -183,8 +183,8 @@ fn depth_change(token: &Token) -> i32 {
     i32::from(token.is_in(&["(", "[", "{"])) - i32::from(token.is_in(&[")", "]", "}"]))
 }
 
-/// Returns the index of the first of these texts, from an index on, that is in no inner bracket. If there is none, it is
-/// the index of the bracket that closes what the index is in, or of the last token.
+/// Returns the index of the first of these texts, from an index on, that is in no inner bracket. If there is none, it
+/// is the index of the bracket that closes what the index is in, or of the last token.
 pub(crate) fn find(tokens: &[Token], mut at: usize, texts: &[&str]) -> usize {
     while at + 1 < tokens.len() && !tokens[at].is_in(texts) {
         match &*tokens[at].text {
