@@ -128,6 +128,7 @@ END
 18446744073709551615 -9223372036854775808' env LD_LIBRARY_PATH="$folder" python3 "$work/example.py"
 }
 
+# Go refuses flags with a space, and keeps what it has built with those of an earlier prefix. So it is tested with one.
 check_go() {
   mkdir -p "$work/go" && cp "$crate/examples/example.go" "$work/go"
   expect 'the Go example' prints '-4D2
@@ -165,7 +166,7 @@ check_prefix() {
   ! can pkg-config || expect 'pkg-config' links_with_pkg_config
   ! can cmake || expect 'CMake' builds_with_cmake
   ! can python || check_python
-  ! can go || check_go
+  case $prefix in *' '*) ;; *) ! can go || check_go ;; esac
   expect 'uninstalling a copy' removes_copy
   expect 'installing it again' "$@"
   expect 'uninstalling' removes_early
