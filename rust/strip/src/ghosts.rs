@@ -1,6 +1,6 @@
-//! Leaves out values that only contracts read, which are of the types GHOSTS, and calls of laws: fields, parameters,
-//! arguments, variables, and statements that record something. An argument is left out if it is a ghost by its name,
-//! and it must then be one by the parameters of the function that is called.
+//! Leaves out ghosts, which are values of the types GHOSTS that only contracts read, and calls of laws. Parameters and
+//! fields are ghosts by their type, and variables by their value. An argument is one if it names one, and must be one by
+//! the parameters of the function that is called, too. A statement is left out if it makes a ghost or calls its method.
 
 use crate::items::{after_generics, elements, functions, remove, remove_element, remove_without_comment};
 use crate::left_out::Names;
@@ -41,17 +41,77 @@ pub(crate) fn is_of_ghost_type(element: &[Token]) -> bool {
         && texts.find(|text| !["&", "mut"].contains(text)).is_some_and(|text| GHOSTS.contains(&text))
 }
 
+/// The names of the ghosts in a function: its parameters and variables, and the fields of its file.
+struct Ghosts<'a> {
+    variables: Names,
+    fields: &'a Names,
+}
+
+impl Ghosts<'_> {
+    /// Returns whether the name of a ghost is at an index: of a variable, or after `self.` of a field.
+    fn has(&self, tokens: &[Token], at: usize) -> bool {
+        let names = if at > 0 && tokens[at - 1] == "." { self.fields } else { &self.variables };
+        let is_of_other = at > 1 && tokens[at - 1] == "." && tokens[at - 2] != "self";
+        names.contains(&tokens[at].text) && !is_of_other
+    }
+
+    /// Returns whether an argument is a ghost, a reference to one, or a new one.
+    fn has_argument(&self, argument: &[Token]) -> bool {
+        let start = argument.iter().position(|token| !token.is_in(&["&", "mut"])).unwrap_or(0);
+        match &argument[start..] {
+            [_] => self.has(argument, start),
+            [object, dot, _] if *object == "self" && *dot == "." => self.has(argument, start + 2),
+            [ghost, rest @ ..] => ghost.is_in(&GHOSTS) && words(rest) == ":: new ( )",
+            [] => false,
+        }
+    }
+}
+
 /// Leaves out the ghosts of a file, and the calls of laws.
 pub(crate) fn without_ghosts(tokens: &mut Vec<Token>, laws: &Names, signatures: &Signatures) -> Result<(), String> {
-    let ghosts = ghosts_of(tokens);
-    without_statements(tokens, laws, &ghosts)?;
+    let fields: Names = declared_ghosts(tokens).cloned().collect();
+    // From the last one: so the places of the others stay as they are.
+    for function in functions(tokens).into_iter().rev() {
+        let range = function.at..function.whole(tokens).end;
+        let mut code: Vec<Token> = tokens.drain(range.clone()).collect();
+        let variables = declared_ghosts(&code).chain(new_ghosts(&code)).cloned().collect();
+        let ghosts = Ghosts { variables, fields: &fields };
+        without_statements(&mut code, laws, &ghosts)?;
+        without_elements(
+            &mut code,
+            |code, at| check_arguments(code, at, signatures, &ghosts),
+            |element| is_of_ghost_type(element) || ghosts.has_argument(element),
+        )?;
+        tokens.splice(range.start..range.start, code);
+    }
+    without_elements(tokens, |_, _| Ok(()), is_of_ghost_type)
+}
+
+/// Returns the names of parameters and fields that are ghosts.
+fn declared_ghosts(tokens: &[Token]) -> impl Iterator<Item = &String> {
+    let is_declared = |at: &usize| tokens[at + 1] == ":" && is_of_ghost_type(&tokens[*at..]);
+    (0..tokens.len() - 1).filter(is_declared).map(|at| &tokens[at].text)
+}
+
+/// Returns the names of variables that are new ghosts.
+fn new_ghosts(tokens: &[Token]) -> impl Iterator<Item = &String> {
+    let is_new =
+        |part: &&[Token]| part[0].is_in(&["let", "mut"]) && part[2] == "=" && part[3].is_in(&GHOSTS) && part[4] == "::";
+    tokens.windows(5).filter(is_new).map(|part| &part[1].text)
+}
+
+/// Leaves out elements of all lists in brackets, each of which is checked before.
+fn without_elements(
+    tokens: &mut Vec<Token>,
+    check: impl Fn(&[Token], usize) -> Result<(), String>,
+    is_left_out: impl Fn(&[Token]) -> bool,
+) -> Result<(), String> {
     let mut at = 0;
     while at < tokens.len() {
         if tokens[at].is_in(&["(", "{"]) {
-            check_arguments(tokens, at, signatures, &ghosts)?;
+            check(tokens, at)?;
             for element in elements(tokens, at).into_iter().rev() {
-                let each = &tokens[element.clone()];
-                if is_of_ghost_type(each) || is_ghost(each, &ghosts) {
+                if is_left_out(&tokens[element.clone()]) {
                     remove_element(tokens, element);
                 }
             }
@@ -61,32 +121,13 @@ pub(crate) fn without_ghosts(tokens: &mut Vec<Token>, laws: &Names, signatures: 
     Ok(())
 }
 
-/// Returns the names of all ghosts of a file: of fields, parameters and variables.
-fn ghosts_of(tokens: &[Token]) -> Names {
-    let is_new = |at: usize| {
-        let is_variable = at > 0 && tokens[at - 1].is_in(&["let", "mut"]) && tokens[at + 1] == "=";
-        is_variable && tokens[at + 2].is_in(&GHOSTS) && tokens[at + 3] == "::"
-    };
-    let is_declared = |at: usize| tokens[at + 1] == ":" && is_of_ghost_type(&tokens[at..]);
-    let all = (0..tokens.len() - 1).filter(|at| is_new(*at) || is_declared(*at));
-    all.map(|at| tokens[at].text.clone()).collect()
-}
-
-/// Returns whether an argument is a ghost: its name, that of a field of `self`, or a new one.
-fn is_ghost(argument: &[Token], ghosts: &Names) -> bool {
-    let text = words(argument);
-    let value = text.trim_start_matches("& ").trim_start_matches("mut ");
-    let is_new = GHOSTS.iter().any(|ghost| value == format!("{ghost} :: new ( )"));
-    is_new || ghosts.contains(value.trim_start_matches("self . "))
-}
-
 /// Returns an error unless a call has a ghost for each parameter that is one, and for no other.
-fn check_arguments(tokens: &[Token], open: usize, signatures: &Signatures, ghosts: &Names) -> Result<(), String> {
+fn check_arguments(tokens: &[Token], open: usize, signatures: &Signatures, ghosts: &Ghosts) -> Result<(), String> {
     let Some(name) = called(tokens, open) else {
         return Ok(());
     };
     let arguments = elements(tokens, open);
-    let is_here = |at: &usize| is_ghost(&tokens[arguments[*at].clone()], ghosts);
+    let is_here = |at: &usize| ghosts.has_argument(&tokens[arguments[*at].clone()]);
     let found: Vec<usize> = (0..arguments.len()).filter(is_here).collect();
     let mut declared = signatures.get(name).into_iter().flatten().filter(|(count, _)| *count == arguments.len());
     let is_right = match declared.next() {
@@ -116,13 +157,13 @@ fn after_type_arguments(tokens: &[Token], at: usize) -> usize {
 }
 
 /// Leaves out statements that call a law, record something in a ghost, or make a ghost.
-fn without_statements(tokens: &mut Vec<Token>, laws: &Names, ghosts: &Names) -> Result<(), String> {
+fn without_statements(tokens: &mut Vec<Token>, laws: &Names, ghosts: &Ghosts) -> Result<(), String> {
     let mut at = 1;
     while at + 3 < tokens.len() {
-        let is_variable = ghosts.contains(&tokens[at].text) && (tokens[at - 1] != "." || tokens[at - 2] == "self");
-        let is_made = is_variable && tokens[at + 1] == "=" && tokens[at - 1].is_in(&["let", "mut"]);
+        let is_ghost = ghosts.has(tokens, at);
+        let is_made = is_ghost && tokens[at + 1] == "=" && tokens[at - 1].is_in(&["let", "mut"]);
         // The bracket before the arguments of a call.
-        let arguments = if is_variable && tokens[at + 1] == "." && tokens[at + 2].is_word() {
+        let arguments = if is_ghost && tokens[at + 1] == "." && tokens[at + 2].is_word() {
             Some(at + 3)
         } else if laws.contains(&tokens[at].text) && tokens[at - 1] != "fn" {
             Some(after_type_arguments(tokens, at + 1))

@@ -22,6 +22,13 @@ pub(crate) fn without_imports(tokens: &mut Vec<Token>, all: &[Token], is_test: b
             }
         }
         let end = find(tokens, at, &[";"]);
+        let list = &tokens[end.saturating_sub(3)..end];
+        if list[0] == "{" && list[1] != "self" && list[2] == "}" {
+            // One name needs no brackets.
+            tokens.remove(end - 1);
+            tokens.remove(end - 3);
+            continue;
+        }
         if end == at + 1 || words(&tokens[at..end]).ends_with("{ }") {
             remove(tokens, start_with_attributes(tokens, at)..end + 1);
         }

@@ -120,6 +120,11 @@ fn ghosts_are_left_out() {
     body_becomes("let mut t = Turns::new(); t.append(turns); b", "b");
     body_becomes("let a = b / 2; if a > 0 { turns.tick(a); } a", "b / 2");
     body_becomes("g(1, turns, g(1, &mut Turns::new(), 3))", "g(1, g(1, 3))");
+    // The same name may be that of another variable in another function.
+    becomes(
+        "fn f(turns: &mut Turns) { turns.tick(1); } fn h(turns: &mut Vec<u8>) { turns.tick(1); g(turns); }",
+        "#[inline] fn f() {} #[inline] fn h(turns: &mut Vec<u8>) { turns.tick(1); g(turns); }",
+    );
     body_is_refused("if c { turns.tick(b) } 1", "`turns` is not called by a statement of its own");
     body_is_refused("let a: Option<Turns>; 1", "only Rattle has `Turns`");
     for (call, name) in [("g(turns, 1, 2)", "g"), ("g(1, 2, 3)", "g"), ("h(turns)", "h"), ("h::<u8>(turns)", "h")] {
@@ -150,7 +155,7 @@ fn rules_write_tokens_otherwise() {
 #[test]
 fn imports_of_what_is_gone_are_left_out() {
     becomes("use a::{B, in_range, C}; use b::Turns; pub use c::fits_bits;", "use a::{B, C};");
-    becomes("use c::{D, E}; fn f() requires { D } { E }", "use c::{E}; #[inline] fn f() { E }");
+    becomes("use c::{D, E}; fn f() requires { D } { E }", "use c::E; #[inline] fn f() { E }");
 }
 
 #[test]
