@@ -22,8 +22,9 @@ pub(crate) struct Source {
     pub constant: &'static str,
     /// The other modules of which nothing is made, as paths in `src`: only proofs need them, or only Rattle has them.
     pub left_out: &'static str,
-    /// Laws and functions that only record, constants that only contracts read, and modules in which all functions are
-    /// laws.
+    /// Laws, which are functions that only prove something, functions that only record, constants that only contracts
+    /// read, and modules in which all functions are laws. They are listed because no declaration says so: a function
+    /// without a result might be called for what it asserts. One that does more than a law is refused.
     pub laws: &'static str,
     /// What becomes of a call of a public function for which a condition does not hold.
     pub conditions: Conditions,

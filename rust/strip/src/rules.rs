@@ -3,23 +3,23 @@
 use crate::items::{functions, remove_without_comment};
 use crate::tokens::{Token, print, read, read_part, words};
 
-/// Tokens, and those in their place.
+/// Tokens of a source, and those that are written there.
 pub(crate) struct Rule {
     place: Place,
     from: &'static str,
     to: &'static str,
 }
 
-/// Where a rule counts. Each rule must match something there.
+/// Where a rule counts. A rule that matches nothing there is an error.
 #[derive(Clone, Copy, PartialEq)]
 enum Place {
     /// Wherever its tokens are.
     Everywhere,
     /// Wherever its tokens are in a file, a path in `src`.
     File(&'static str),
-    /// In the crate, where its tokens are only once.
+    /// In its crate, where it is an error if the tokens are there more than once.
     Once,
-    /// In the function with this name or its attributes, where its tokens are only once.
+    /// In the functions of its crate with this name and their attributes, where that is an error too.
     Function(&'static str),
 }
 
@@ -55,7 +55,7 @@ impl Pattern {
         Pattern { place: rule.place, of, ..Pattern::for_path(rule.from, rule.to) }
     }
 
-    /// Returns a pattern that writes a path, or another text, for each other one in all crates.
+    /// Returns a pattern that writes a path in the place of another one, in all crates.
     pub fn for_path(from: &str, to: &str) -> Pattern {
         let [from, to] = [from, to].map(|text| {
             let mut tokens = read_part(text).expect("a rule has tokens");

@@ -97,6 +97,7 @@ fn laws_and_their_calls_are_left_out() {
     );
     is_refused("fn in_range() -> u8 { 1 }", "1: in_range is no law");
     is_refused("fn in_range(a: &mut u8) { 1 }", "1: in_range is no law");
+    is_refused("fn in_range(a: u8) { prove!(a < 2); }", "1: in_range is no law");
     for statement in [
         "let b = in_range(a);",
         "in_range(a()?);",
