@@ -52,11 +52,15 @@ impl Source {
         modules.map(|path| path.rsplit('/').next().unwrap_or_default()).collect()
     }
 
-    /// Returns all names that the lists have.
+    /// Returns the names of functions, files and modules that the lists have.
     pub fn names(&self) -> impl Iterator<Item = &'static str> {
         let attributes = self.attributes.iter().map(|(_, names)| *names);
-        let conditions = self.conditions.iter().map(|(_, names)| *names);
-        attributes.chain(conditions).chain([self.constant, self.left_out, self.laws]).flat_map(str::split_whitespace)
+        attributes.chain([self.constant, self.left_out, self.laws]).flat_map(str::split_whitespace)
+    }
+
+    /// Returns the names of all conditions that are listed.
+    pub fn names_of_conditions(&self) -> impl Iterator<Item = &'static str> {
+        self.conditions.iter().flat_map(|(_, names)| names.split_whitespace())
     }
 
     /// Returns whether a function of a file is a law.

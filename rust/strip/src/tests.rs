@@ -1,5 +1,6 @@
 //! Small sources, and what becomes of each. The made files, which the gate compares, show the rest.
 
+use crate::conditions::Unmet;
 use crate::files::{self, without_layout};
 use crate::ghosts::add_signatures;
 use crate::left_out::Names;
@@ -235,6 +236,8 @@ fn a_rule_that_matches_nothing_or_too_much_is_refused() {
     assert!(error.contains("lexical_tables: the rule for `u8`: it matches "), "{error}");
     const OTHER: &[Source] = &[Source { constant: "digit_to_byte", ..SOURCES[1] }];
     assert_eq!(Repository::read(top(), OTHER).err().unwrap(), "lexical_tables: it has no digit_to_byte");
+    const UNNAMED: &[Source] = &[Source { conditions: &[(Unmet::OnAPage, "get_table")], ..SOURCES[1] }];
+    assert_eq!(Repository::read(top(), UNNAMED).err().unwrap(), "lexical_tables: it has no get_table");
 }
 
 /// Here each comment and each layout of the crates is another one, and what is made of the code is the same.
