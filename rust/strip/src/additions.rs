@@ -5,7 +5,7 @@
 use crate::conditions;
 use crate::items::{Function, elements, function};
 use crate::packages::{Source, has};
-use crate::tokens::{Token, close, find, words};
+use crate::tokens::{Token, closing, find, words};
 
 /// Adds it to the functions of a file, a path in `src`.
 pub(crate) fn add(tokens: &mut Vec<Token>, file: &str, source: &Source, pages: &str) -> Result<(), String> {
@@ -14,7 +14,7 @@ pub(crate) fn add(tokens: &mut Vec<Token>, file: &str, source: &Source, pages: &
     let mut after_trait = usize::MAX;
     while at + 1 < tokens.len() {
         if tokens[at] == "trait" {
-            after_trait = tokens.len() - close(tokens, find(tokens, at, &["{"]));
+            after_trait = tokens.len() - closing(tokens, find(tokens, at, &["{"]));
         }
         if let Some(function) = function(tokens, at) {
             let is_in_trait = tokens.len() - at > after_trait;
@@ -35,7 +35,7 @@ pub(crate) fn add(tokens: &mut Vec<Token>, file: &str, source: &Source, pages: &
 
 /// Returns an error if a function that returns something has an empty body.
 fn check_result(tokens: &[Token], function: &Function) -> Result<(), String> {
-    let has_result = tokens[close(tokens, function.parameters) + 1] == "->";
+    let has_result = tokens[closing(tokens, function.parameters) + 1] == "->";
     if has_result && tokens[function.body] == "{" && function.inside(tokens).is_empty() {
         return Err(format!("{}: {} returns nothing", tokens[function.at].line, tokens[function.at + 1].text));
     }

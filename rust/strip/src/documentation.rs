@@ -3,7 +3,7 @@
 
 use crate::items::{is_public, start, start_with_attributes};
 use crate::left_out::Names;
-use crate::tokens::{Token, close, find, words};
+use crate::tokens::{Token, closing, find, words};
 use std::collections::{BTreeMap, BTreeSet};
 
 /// Each name that the package exports, with its path. A name that two modules export is not in it.
@@ -34,7 +34,7 @@ fn add_exports(tokens: &[Token], path: &str, found: &mut Vec<(String, String)>) 
                 let names = names.filter(|name| can_be_a_link(name));
                 found.extend(names.map(|name| (name.clone(), format!("{path}::{name}"))));
             } else if tokens[at] == "mod" && tokens[at + 2] == "{" {
-                let inside = &tokens[at + 3..close(tokens, at + 2)];
+                let inside = &tokens[at + 3..closing(tokens, at + 2)];
                 add_exports(inside, &format!("{path}::{}", tokens[at + 1].text), found);
             }
         }
@@ -44,7 +44,7 @@ fn add_exports(tokens: &[Token], path: &str, found: &mut Vec<(String, String)>) 
 
 /// Returns the index of the next token, or after the brackets that begin here.
 fn after(tokens: &[Token], at: usize) -> usize {
-    if tokens[at] == "{" { close(tokens, at) + 1 } else { at + 1 }
+    if tokens[at] == "{" { closing(tokens, at) + 1 } else { at + 1 }
 }
 
 fn is_hidden(attributes: &[Token]) -> bool {

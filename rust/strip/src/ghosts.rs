@@ -2,9 +2,9 @@
 //! fields are ghosts by their type, and variables by their value. An argument is one if it names one, and must be one by
 //! the parameters of the function that is called, too. A statement is left out if it makes a ghost or calls its method.
 
-use crate::items::{after_generics, elements, functions, remove, remove_element, remove_without_comment};
+use crate::items::{after_generics, elements, functions, remove, remove_and_keep_comment, remove_element};
 use crate::left_out::Names;
-use crate::tokens::{Token, close, find, open, words};
+use crate::tokens::{Token, closing, find, opening, words};
 use std::collections::{BTreeMap, BTreeSet};
 
 /// The types whose values only contracts read.
@@ -195,13 +195,13 @@ fn only_calls(tokens: &[Token], start: usize, arguments: usize, end: usize) -> b
         let is_other_call = tokens[at].is_word() && tokens[at + 1] == "(" && at + 1 != arguments;
         tokens[at].is_in(&EFFECTS) || is_other_call && !tokens[at].is_in(&WITHOUT_EFFECT)
     };
-    close(tokens, arguments) + 1 == end && tokens[start] != "." && !(start..end).any(has_effect)
+    closing(tokens, arguments) + 1 == end && tokens[start] != "." && !(start..end).any(has_effect)
 }
 
 /// Returns where the statement begins that a token is in.
 fn statement(tokens: &[Token], mut at: usize) -> usize {
     while at > 0 && !tokens[at - 1].is_in(&["{", "}", ";"]) {
-        at = if tokens[at - 1].is_in(&[")", "]"]) { open(tokens, at - 1) } else { at - 1 };
+        at = if tokens[at - 1].is_in(&[")", "]"]) { opening(tokens, at - 1) } else { at - 1 };
     }
     at
 }
@@ -226,7 +226,7 @@ fn without_rest(tokens: &mut Vec<Token>, at: usize) -> Result<(), String> {
             |let_: &usize| words(&tokens[*let_..*let_ + 3]) == binding && find(tokens, *let_, &[";"]) == at - 1;
         if let Some(binding) = (0..at - 2).rev().find(is_bound) {
             remove(tokens, at - 1..at + 1);
-            remove_without_comment(tokens, binding..binding + 3);
+            remove_and_keep_comment(tokens, binding..binding + 3);
         }
     }
     Ok(())

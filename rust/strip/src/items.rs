@@ -1,6 +1,6 @@
 //! Finds the items of a source by their first words and their brackets, and removes tokens.
 
-use crate::tokens::{Token, close, find, open};
+use crate::tokens::{Token, closing, find, opening};
 use std::ops::Range;
 
 /// Where the parts of a function are, as indices of tokens.
@@ -22,19 +22,19 @@ pub(crate) struct Function {
 impl Function {
     /// Returns what is between the brackets of its body, or nothing at the `;`.
     pub fn inside(&self, tokens: &[Token]) -> Range<usize> {
-        let end = close(tokens, self.body);
+        let end = closing(tokens, self.body);
         (self.body + 1).min(end)..end
     }
 
     /// Returns all of it, with its documentation.
     pub fn whole(&self, tokens: &[Token]) -> Range<usize> {
-        self.first..close(tokens, self.body) + 1
+        self.first..closing(tokens, self.body) + 1
     }
 
     /// Returns the tokens of its result, with `->`.
     pub fn result<'a>(&self, tokens: &'a [Token]) -> &'a [Token] {
         let end = self.clauses.first().map_or(self.body, |clause| clause.start);
-        &tokens[close(tokens, self.parameters) + 1..end]
+        &tokens[closing(tokens, self.parameters) + 1..end]
     }
 
     pub fn is_public(&self, tokens: &[Token]) -> bool {
@@ -54,13 +54,13 @@ pub(crate) fn function(tokens: &[Token], at: usize) -> Option<Function> {
     }
     let parameters = after_generics(tokens, at + 2);
     let mut clauses = Vec::new();
-    let mut body = close(tokens, parameters) + 1;
+    let mut body = closing(tokens, parameters) + 1;
     while !tokens[body].is_in(&["{", ";", ""]) {
         body = find(tokens, body, &["{", ";", "requires", "ensures"]);
         if tokens[body].is_in(&["requires", "ensures"]) {
             let open = find(tokens, body, &["{", ";"]);
             // A clause without brackets is none, and so refused as a word of Rattle that is left.
-            let end = if tokens[open] == "{" { close(tokens, open) + 1 } else { open };
+            let end = if tokens[open] == "{" { closing(tokens, open) + 1 } else { open };
             if end > open {
                 clauses.push(body..end);
             }
@@ -99,7 +99,7 @@ pub(crate) fn start(tokens: &[Token], mut at: usize) -> usize {
     while at > 0 {
         at = match &*tokens[at - 1].text {
             "pub" | "final" | "const" | "unsafe" | "extern" | "\"C\"" => at - 1,
-            ")" if tokens[open(tokens, at - 1) - 1] == "pub" => open(tokens, at - 1) - 1,
+            ")" if tokens[opening(tokens, at - 1) - 1] == "pub" => opening(tokens, at - 1) - 1,
             _ => break,
         };
     }
@@ -111,7 +111,7 @@ pub(crate) fn start_with_attributes(tokens: &[Token], at: usize) -> usize {
     let mut at = start(tokens, at);
     while at > 0 {
         at = match &*tokens[at - 1].text {
-            "]" if tokens[open(tokens, at - 1) - 1] == "#" => open(tokens, at - 1) - 1,
+            "]" if tokens[opening(tokens, at - 1) - 1] == "#" => opening(tokens, at - 1) - 1,
             text if text.starts_with("///") => at - 1,
             _ => break,
         };
@@ -121,10 +121,10 @@ pub(crate) fn start_with_attributes(tokens: &[Token], at: usize) -> usize {
 
 /// Returns the elements of a list in brackets, each without its comma.
 pub(crate) fn elements(tokens: &[Token], open: usize) -> Vec<Range<usize>> {
-    let (end, mut found, mut from, mut at) = (close(tokens, open), Vec::new(), open + 1, open + 1);
+    let (end, mut found, mut from, mut at) = (closing(tokens, open), Vec::new(), open + 1, open + 1);
     while at < end {
         match &*tokens[at].text {
-            "(" | "[" | "{" => at = close(tokens, at),
+            "(" | "[" | "{" => at = closing(tokens, at),
             "<" if tokens[at - 1] == "::" || is_type(&tokens[at - 1].text) => at = after_generics(tokens, at) - 1,
             "," => {
                 found.push(from..at);
@@ -157,7 +157,7 @@ pub(crate) fn remove(tokens: &mut Vec<Token>, range: Range<usize>) {
 }
 
 /// Removes tokens, and keeps the comments before them, which speak of what follows.
-pub(crate) fn remove_without_comment(tokens: &mut Vec<Token>, range: Range<usize>) {
+pub(crate) fn remove_and_keep_comment(tokens: &mut Vec<Token>, range: Range<usize>) {
     let before = tokens[range.start].before.clone();
     tokens.drain(range.clone());
     let next = &mut tokens[range.start].before;

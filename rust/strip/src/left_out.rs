@@ -2,8 +2,8 @@
 //! end it checks that nothing of Rattle is left.
 
 use crate::ghosts::{GHOSTS, is_of_ghost_type};
-use crate::items::{Function, elements, function, remove, remove_without_comment, start_with_attributes};
-use crate::tokens::{Token, close, find, words};
+use crate::items::{Function, elements, function, remove, remove_and_keep_comment, start_with_attributes};
+use crate::tokens::{Token, closing, find, words};
 use std::collections::BTreeSet;
 use std::ops::Range;
 
@@ -19,8 +19,8 @@ pub(crate) fn without_items(tokens: &mut Vec<Token>, modules: &[&str], laws: &Na
     while at < tokens.len() {
         let is_attribute = tokens[at] == "#" && tokens[at + 1] == "[" && tokens[at + 2] == "tactic";
         if is_attribute {
-            let end = close(tokens, at + 1) + 1;
-            remove_without_comment(tokens, at..end);
+            let end = closing(tokens, at + 1) + 1;
+            remove_and_keep_comment(tokens, at..end);
         } else if let Some(item) = item_left_out(tokens, at, modules, laws)? {
             at = item.start;
             remove(tokens, item);
@@ -47,9 +47,9 @@ fn item_left_out(tokens: &[Token], at: usize, modules: &[&str], laws: &Names) ->
             law.whole(tokens).end
         }
         "impl" if words(&tokens[at..find(tokens, at, &["{"])]).contains(" Model for ") => {
-            close(tokens, find(tokens, at, &["{"])) + 1
+            closing(tokens, find(tokens, at, &["{"])) + 1
         }
-        "#" if next == "!" && tokens[at + 3] == "tactic" => close(tokens, at + 2) + 1,
+        "#" if next == "!" && tokens[at + 3] == "tactic" => closing(tokens, at + 2) + 1,
         _ => return Ok(None),
     };
     Ok(Some(start_with_attributes(tokens, at)..end))
@@ -63,7 +63,7 @@ fn is_ghost_field_or_item(tokens: &[Token], at: usize) -> bool {
 /// Returns an error if a listed law has what no law has: a result, a parameter that it changes, or an assertion. It may
 /// change a counter.
 fn check_law(tokens: &[Token], law: &Function) -> Result<(), String> {
-    let has_result = tokens[close(tokens, law.parameters) + 1] == "->";
+    let has_result = tokens[closing(tokens, law.parameters) + 1] == "->";
     let asserts = tokens[law.inside(tokens)].windows(2).any(|pair| pair[0] == "assert" && pair[1] == "!");
     let is_changed = |parameter: &[Token]| words(parameter).contains("& mut") && !is_of_ghost_type(parameter);
     let mut parameters = elements(tokens, law.parameters).into_iter();

@@ -101,7 +101,7 @@ fn made(top: &Path) -> Result<Files, String> {
 fn made_of(source: &Source, repository: &Repository) -> Result<Files, String> {
     let mut made = Files::new();
     for file in repository.files.iter().filter(|file| file.source.name == source.name) {
-        if let Some(path) = source.made_of(&file.name) {
+        if let Some(path) = source.path_of_made(&file.name) {
             let from = file.path.display();
             let text = translated(file.tokens.clone(), &file.name, source, repository);
             let text = text.map_err(|what| format!("{from}:{what}"))?;
@@ -126,16 +126,14 @@ fn translated(mut code: Vec<Token>, file: &str, source: &Source, repository: &Re
 
 /// Adds examples and links to the documentation of the package. Each part and each item of the root has an example.
 fn complete_documentation(top: &Path, made: &mut Files) -> Result<(), String> {
-    let root = |file: &str| tokens::read(&read(&top.join("rust/cojimuran/src").join(file))?);
+    let root = |file: &str| tokens::lex(&read(&top.join("rust/cojimuran/src").join(file))?);
     let mut exports = documentation::exports(&root("lib.rs")?, "crate");
-    exports.extend(documentation::exports(
-        &tokens::read(&made[Path::new("rust/cojimuran/src/parts.rs")])?,
-        "crate::parts",
-    ));
+    exports
+        .extend(documentation::exports(&tokens::lex(&made[Path::new("rust/cojimuran/src/parts.rs")])?, "crate::parts"));
     let mut shown = BTreeSet::new();
     documentation::add_examples(&mut root("append.rs")?, false, &mut shown)?;
     for (path, text) in made.iter_mut().filter(|(path, _)| path.starts_with("rust/cojimuran")) {
-        let mut code = tokens::read(text)?;
+        let mut code = tokens::lex(text)?;
         let is_of_parts = path.starts_with("rust/cojimuran/src/parts");
         documentation::add_examples(&mut code, is_of_parts, &mut shown)
             .map_err(|what| format!("{}: {what}", path.display()))?;

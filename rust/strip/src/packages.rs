@@ -80,7 +80,7 @@ impl Source {
 
     /// Returns the path of what is made of a file, a path in `src`, or `None` if nothing is. It begins in the folder of
     /// the repository, or in that of what cargo builds.
-    pub fn made_of(&self, file: &str) -> Option<PathBuf> {
+    pub fn path_of_made(&self, file: &str) -> Option<PathBuf> {
         let folder = Path::new("rust").join(self.package).join("src");
         match file {
             _ if is_in(file, self.left_out) || is_in(file, self.laws) => None,

@@ -6,7 +6,7 @@ use crate::ghosts::{Signatures, WITHOUT_EFFECT, add_signatures};
 use crate::items::{functions, names};
 use crate::left_out::Names;
 use crate::packages::{Source, patterns_for_examples};
-use crate::rules::{Pattern, translated};
+use crate::rules::{Pattern, lex_and_apply};
 use crate::tokens::Token;
 use std::collections::BTreeMap;
 use std::path::{Path, PathBuf};
@@ -47,7 +47,7 @@ impl Repository {
             let mut patterns = source.patterns();
             for path in files_of(top, &source.folder_of_crate(), "rt")? {
                 let name = path.strip_prefix(source.folder_of_crate()).unwrap_or(&path).to_string_lossy().into_owned();
-                let tokens = translated(&read(&top.join(&path))?, &mut patterns, &mut for_examples, &name);
+                let tokens = lex_and_apply(&read(&top.join(&path))?, &mut patterns, &mut for_examples, &name);
                 let tokens = tokens.map_err(|what| format!("{}:{what}", path.display()))?;
                 add_signatures(&tokens, &mut repository.signatures);
                 repository.laws.extend(names(&tokens).filter(|law| source.is_law(law, &name)).cloned());

@@ -1,7 +1,7 @@
 //! Rules: tokens of a source, the place where they are, and what is written there.
 
-use crate::items::{functions, remove_without_comment};
-use crate::tokens::{Token, print, read, read_part, words};
+use crate::items::{functions, remove_and_keep_comment};
+use crate::tokens::{Token, lex, lex_part, print, words};
 
 /// Tokens of a source, and those that are written there.
 pub(crate) struct Rule {
@@ -58,7 +58,7 @@ impl Pattern {
     /// Returns a pattern that writes a path in the place of another one, in all crates.
     pub fn for_path(from: &str, to: &str) -> Pattern {
         let [from, to] = [from, to].map(|text| {
-            let mut tokens = read_part(text).expect("a rule has tokens");
+            let mut tokens = lex_part(text).expect("a rule has tokens");
             tokens.pop();
             tokens
         });
@@ -120,7 +120,7 @@ impl Pattern {
         let (line, end) = (tokens[at].line, at + self.from.len());
         let mut to: Vec<Token> = self.to.iter().map(|token| Token { line, ..token.clone() }).collect();
         if to.is_empty() {
-            return remove_without_comment(tokens, at..end);
+            return remove_and_keep_comment(tokens, at..end);
         }
         if to.len() > self.from.len() && words(&to).ends_with(&format!(" {}", words(&self.from))) {
             // What is added comes after the comment, which stays with what it was before.
@@ -141,13 +141,13 @@ impl Pattern {
 
 /// Returns the tokens of a file, with what the patterns make of them. The examples in its documentation have patterns
 /// of their own, and what else a comment says is copied.
-pub(crate) fn translated(
+pub(crate) fn lex_and_apply(
     text: &str,
     patterns: &mut [Pattern],
     for_examples: &mut [Pattern],
     file: &str,
 ) -> Result<Vec<Token>, String> {
-    let mut tokens = read(text)?;
+    let mut tokens = lex(text)?;
     for pattern in patterns {
         pattern.apply(&mut tokens, file);
     }
@@ -158,7 +158,7 @@ pub(crate) fn translated(
             is_example = !is_fenced && language.is_empty();
             is_fenced = !is_fenced;
         } else if is_example {
-            let mut code = read_part(line).map_err(|what| format!("{}: in an example: {what}", token.line))?;
+            let mut code = lex_part(line).map_err(|what| format!("{}: in an example: {what}", token.line))?;
             for pattern in &mut *for_examples {
                 pattern.apply(&mut code, file);
             }

@@ -6,7 +6,7 @@ use crate::ghosts::add_signatures;
 use crate::left_out::Names;
 use crate::packages::{SOURCES, Source, patterns_for_examples};
 use crate::repository::Repository;
-use crate::tokens::{print, read, read_part, words};
+use crate::tokens::{lex, lex_part, print, words};
 use crate::{documentation, rules, translated};
 use std::path::Path;
 
@@ -15,7 +15,7 @@ fn made(text: &str) -> Result<String, String> {
     let source = SOURCES.iter().find(|source| source.name == "lexical_write_integer").unwrap();
     let mut repository = Repository { pages: "`group_digits`".to_owned(), ..Repository::default() };
     repository.laws.extend(["in_range", "fits_bits", "DECIMAL"].map(str::to_owned));
-    let tokens = rules::translated(text, &mut source.patterns(), &mut patterns_for_examples(), "a.rt")?;
+    let tokens = rules::lex_and_apply(text, &mut source.patterns(), &mut patterns_for_examples(), "a.rt")?;
     add_signatures(&tokens, &mut repository.signatures);
     translated(tokens, "a.rt", source, &repository)
 }
@@ -188,7 +188,7 @@ fn conditions_become_panics() {
 #[test]
 fn parts_have_an_example() {
     let example = |text: &str| {
-        let mut tokens = read(text).unwrap();
+        let mut tokens = lex(text).unwrap();
         documentation::add_examples(&mut tokens, true, &mut Names::new()).map(|()| print(&tokens))
     };
     let made = example("/// `Hex(5)` writes `5`.\n#[derive(Debug)]\npub struct Hex;").unwrap();
@@ -203,10 +203,10 @@ fn parts_have_an_example() {
 #[test]
 fn exported_names_are_links() {
     let root = "pub use a::{B, c}; #[doc(hidden)] pub use a::D; pub mod e { pub use f::G_H; } use i::J;";
-    let exports = documentation::exports(&read(root).unwrap(), "crate");
+    let exports = documentation::exports(&lex(root).unwrap(), "crate");
     let names: Vec<_> = exports.iter().map(|(name, path)| format!("{name} {path}")).collect();
     assert_eq!(names, ["B crate::B", "G_H crate::e::G_H"]);
-    let mut tokens = read("/// `B`, [`B`](b), `c` and `D`.\n/// ```\n/// `B`\n/// ```\nstruct S; // `B`").unwrap();
+    let mut tokens = lex("/// `B`, [`B`](b), `c` and `D`.\n/// ```\n/// `B`\n/// ```\nstruct S; // `B`").unwrap();
     documentation::add_links(&mut tokens, &exports);
     let expected = "/// [`B`](crate::B), [`B`](b), `c` and `D`.\n/// ```\n/// `B`\n/// ```\nstruct S; // `B`";
     assert_eq!(print(&tokens), expected);
@@ -244,16 +244,16 @@ fn a_rule_that_matches_nothing_or_too_much_is_refused() {
 #[test]
 fn no_comment_and_no_layout_of_a_source_decides() {
     let repository = Repository::read(top(), SOURCES).unwrap();
-    for file in repository.files.iter().filter(|file| file.source.made_of(&file.name).is_some()) {
-        let mut other = read(&files::read(&top().join(&file.path)).unwrap()).unwrap();
+    for file in repository.files.iter().filter(|file| file.source.path_of_made(&file.name).is_some()) {
+        let mut other = lex(&files::read(&top().join(&file.path)).unwrap()).unwrap();
         for (at, token) in other.iter_mut().enumerate() {
             token.before = if at % 5 == 0 { "\n// ghost requires { #[cold]\n" } else { "\n" }.to_owned();
             token.after.clear();
         }
         let (mut patterns, mut for_examples) = (file.source.patterns(), patterns_for_examples());
-        let other = rules::translated(&print(&other), &mut patterns, &mut for_examples, &file.name).unwrap();
+        let other = rules::lex_and_apply(&print(&other), &mut patterns, &mut for_examples, &file.name).unwrap();
         let made =
-            |tokens| words(&read_part(&translated(tokens, &file.name, file.source, &repository).unwrap()).unwrap());
+            |tokens| words(&lex_part(&translated(tokens, &file.name, file.source, &repository).unwrap()).unwrap());
         assert_eq!(made(file.tokens.clone()), made(other), "{}", file.path.display());
     }
 }

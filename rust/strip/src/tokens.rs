@@ -34,14 +34,14 @@ impl PartialEq<&str> for Token {
 
 /// Returns the tokens of a source, whose brackets match, or an error that begins with the line. The last token is
 /// empty, and has what is after the others.
-pub(crate) fn read(text: &str) -> Result<Vec<Token>, String> {
-    let tokens = read_part(text)?;
+pub(crate) fn lex(text: &str) -> Result<Vec<Token>, String> {
+    let tokens = lex_part(text)?;
     check_brackets(&tokens)?;
     Ok(tokens)
 }
 
 /// Returns the tokens of a part of a source, in which a bracket may be open.
-pub(crate) fn read_part(text: &str) -> Result<Vec<Token>, String> {
+pub(crate) fn lex_part(text: &str) -> Result<Vec<Token>, String> {
     let (mut tokens, mut rest, mut line): (Vec<Token>, _, _) = (Vec::new(), text, 1);
     loop {
         let (mut space, code) = rest.split_at(space_length(rest));
@@ -160,7 +160,7 @@ pub(crate) fn words(tokens: &[Token]) -> String {
 }
 
 /// Returns the index of the bracket that closes the one at an index.
-pub(crate) fn close(tokens: &[Token], open: usize) -> usize {
+pub(crate) fn closing(tokens: &[Token], open: usize) -> usize {
     let mut depth = 0;
     let is_end = |token: &Token| {
         depth += depth_change(token);
@@ -170,7 +170,7 @@ pub(crate) fn close(tokens: &[Token], open: usize) -> usize {
 }
 
 /// Returns the index of the bracket that opens what is closed at an index.
-pub(crate) fn open(tokens: &[Token], close: usize) -> usize {
+pub(crate) fn opening(tokens: &[Token], close: usize) -> usize {
     let mut depth = 0;
     let is_start = |token: &Token| {
         depth += depth_change(token);
@@ -188,7 +188,7 @@ fn depth_change(token: &Token) -> i32 {
 pub(crate) fn find(tokens: &[Token], mut at: usize, texts: &[&str]) -> usize {
     while at + 1 < tokens.len() && !tokens[at].is_in(texts) {
         match &*tokens[at].text {
-            "(" | "[" | "{" => at = close(tokens, at) + 1,
+            "(" | "[" | "{" => at = closing(tokens, at) + 1,
             ")" | "]" | "}" => break,
             _ => at += 1,
         }
