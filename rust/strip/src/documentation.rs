@@ -26,14 +26,14 @@ pub(crate) fn exports(tokens: &[Token], path: &str) -> Exports {
 fn add_exports(tokens: &[Token], path: &str, found: &mut Vec<(String, String)>) {
     let mut at = 0;
     while at < tokens.len() {
-        let attributes = &tokens[start_with_attributes(tokens, at)..at];
-        if is_public(tokens, start(tokens, at)) && !is_hidden(attributes) {
+        let is_item = tokens[at].is_in(&["use", "mod"]) && is_public(tokens, start(tokens, at));
+        if is_item && !is_hidden(&tokens[start_with_attributes(tokens, at)..at]) {
             if tokens[at] == "use" {
                 let is_name = |at: &usize| tokens[*at].is_word() && tokens[at + 1].is_in(&[",", "}", ";"]);
                 let names = (at..find(tokens, at, &[";"])).filter(is_name).map(|at| tokens[at].text.clone());
                 let names = names.filter(|name| can_be_a_link(name));
                 found.extend(names.map(|name| (name.clone(), format!("{path}::{name}"))));
-            } else if tokens[at] == "mod" && tokens[at + 2] == "{" {
+            } else if tokens[at + 2] == "{" {
                 let inside = &tokens[at + 3..closing(tokens, at + 2)];
                 add_exports(inside, &format!("{path}::{}", tokens[at + 1].text), found);
             }

@@ -1,14 +1,14 @@
-//! Leaves out imports: of what is left out, and of what only that has named.
+//! Leaves out imports of what is left out, and of what only that has named.
 
 use crate::ghosts::GHOSTS;
 use crate::items::{remove, remove_element, start, start_with_attributes};
 use crate::left_out::Names;
 use crate::tokens::{Token, find, words};
 
-/// Leaves out such imports of a file, of which all tokens are the source. Tests may import what they do not use.
-pub(crate) fn without_imports(tokens: &mut Vec<Token>, all: &[Token], is_test: bool, laws: &Names) {
+/// Leaves out such imports of a file, which is made of a source. Tests may import what they do not use.
+pub(crate) fn without_imports(tokens: &mut Vec<Token>, source: &[Token], is_test: bool, laws: &Names) {
     let used = words_outside_imports(tokens);
-    let used_before = if is_test { Names::new() } else { words_outside_imports(all) };
+    let used_before = if is_test { Names::new() } else { words_outside_imports(source) };
     let is_left_out = |name: &str| name == "Model" || GHOSTS.contains(&name) || laws.contains(name);
     for at in (0..tokens.len()).rev().filter(|at| tokens[*at] == "use").collect::<Vec<_>>() {
         let is_private = start(tokens, at) == at;
@@ -22,15 +22,13 @@ pub(crate) fn without_imports(tokens: &mut Vec<Token>, all: &[Token], is_test: b
             }
         }
         let end = find(tokens, at, &[";"]);
-        let list = &tokens[end.saturating_sub(3)..end];
-        if list[0] == "{" && list[1] != "self" && list[2] == "}" {
+        let import = words(&tokens[at..end]);
+        if import == "use" || import.ends_with("{ }") {
+            remove(tokens, start_with_attributes(tokens, at)..end + 1);
+        } else if import.ends_with(" }") && tokens[end - 3] == "{" && tokens[end - 2] != "self" {
             // One name needs no brackets.
             tokens.remove(end - 1);
             tokens.remove(end - 3);
-            continue;
-        }
-        if end == at + 1 || words(&tokens[at..end]).ends_with("{ }") {
-            remove(tokens, start_with_attributes(tokens, at)..end + 1);
         }
     }
 }

@@ -126,12 +126,12 @@ fn translated(mut code: Vec<Token>, file: &str, source: &Source, repository: &Re
 
 /// Adds examples and links to the documentation of the package. Each part and each item of the root has an example.
 fn complete_documentation(top: &Path, made: &mut Files) -> Result<(), String> {
-    let root = |file: &str| tokens::lex(&read(&top.join("rust/cojimuran/src").join(file))?);
-    let mut exports = documentation::exports(&root("lib.rs")?, "crate");
-    exports
-        .extend(documentation::exports(&tokens::lex(&made[Path::new("rust/cojimuran/src/parts.rs")])?, "crate::parts"));
+    let by_hand = |file: &str| tokens::lex(&read(&top.join("rust/cojimuran/src").join(file))?);
+    let parts = tokens::lex(&made[Path::new("rust/cojimuran/src/parts.rs")])?;
+    let mut exports = documentation::exports(&by_hand("lib.rs")?, "crate");
+    exports.extend(documentation::exports(&parts, "crate::parts"));
     let mut shown = BTreeSet::new();
-    documentation::add_examples(&mut root("append.rs")?, false, &mut shown)?;
+    documentation::add_examples(&mut by_hand("append.rs")?, false, &mut shown)?;
     for (path, text) in made.iter_mut().filter(|(path, _)| path.starts_with("rust/cojimuran")) {
         let mut code = tokens::lex(text)?;
         let is_of_parts = path.starts_with("rust/cojimuran/src/parts");

@@ -77,17 +77,14 @@ impl Pattern {
     /// Returns what is wrong with a rule that has been used so often, or `None`.
     pub fn fault(&self, uses: usize) -> Option<String> {
         let is_once = matches!(self.place, Place::Once | Place::Function(_));
-        let what = match uses {
-            0 => "it matches nothing".to_owned(),
-            1 => return None,
-            _ if is_once => format!("it matches {uses} times, and not once"),
-            _ => return None,
-        };
-        Some(format!(
-            "{}: the rule for {}: {what}",
-            if self.of.is_empty() { "all crates" } else { self.of },
-            self.name()
-        ))
+        let of = if self.of.is_empty() { "all crates" } else { self.of };
+        match uses {
+            0 => Some(format!("{of}: the rule for {}: it matches nothing", self.name())),
+            2.. if is_once => {
+                Some(format!("{of}: the rule for {}: it matches {uses} times, and not once", self.name()))
+            }
+            _ => None,
+        }
     }
 
     /// Writes the tokens of this rule in the tokens of a file.
@@ -116,6 +113,7 @@ impl Pattern {
         }
     }
 
+    /// Writes at an index, where the tokens of the source begin, those in their place.
     fn write_at(&self, tokens: &mut Vec<Token>, at: usize) {
         let (line, end) = (tokens[at].line, at + self.from.len());
         let mut to: Vec<Token> = self.to.iter().map(|token| Token { line, ..token.clone() }).collect();
