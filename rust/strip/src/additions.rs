@@ -7,78 +7,78 @@ use crate::items::{Function, elements, function};
 use crate::packages::{Source, has};
 use crate::tokens::{Token, closing, find, words};
 
-/// Adds it to the functions of a file, a path in `src`.
-pub(crate) fn add(tokens: &mut Vec<Token>, file: &str, source: &Source, pages: &str) -> Result<(), String> {
-    let mut at = 0;
-    // The number of tokens after the trait that was found last: it stays as it is when others are removed.
-    let mut after_trait = usize::MAX;
-    while at + 1 < tokens.len() {
-        if tokens[at] == "trait" {
-            after_trait = tokens.len() - closing(tokens, find(tokens, at, &["{"]));
-        }
-        if let Some(function) = function(tokens, at) {
-            let is_in_trait = tokens.len() - at > after_trait;
-            check_result(tokens, &function)?;
-            let lines = lines_before(tokens, &function, is_in_trait, file, source, pages)?;
-            insert_lines(&mut tokens[function.visibility], &lines);
-            if function.is_public(tokens) && has(source.constant, &tokens[at + 1].text) {
-                tokens[at].text = "const fn".to_owned();
-            }
-            for clause in function.clauses.into_iter().rev() {
-                tokens.drain(clause);
-            }
-        }
-        at += 1;
-    }
-    Ok(())
+/// What decides what is added.
+pub(crate) struct Additions<'a> {
+    /// The path of the file in `src`.
+    pub file: &'a str,
+    /// The crate that the file is of.
+    pub source: &'a Source,
+    /// The text of the pages of conditions.
+    pub pages: &'a str,
 }
 
-/// Returns an error if a function that returns something has an empty body.
-fn check_result(tokens: &[Token], function: &Function) -> Result<(), String> {
-    let has_result = tokens[closing(tokens, function.parameters) + 1] == "->";
-    if has_result && tokens[function.body] == "{" && function.inside(tokens).is_empty() {
-        return Err(format!("{}: {} returns nothing", tokens[function.at].line, tokens[function.at + 1].text));
-    }
-    Ok(())
-}
-
-/// Returns the lines to be added before the visibility of a function.
-fn lines_before(
-    tokens: &[Token],
-    function: &Function,
-    is_in_trait: bool,
-    file: &str,
-    source: &Source,
-    pages: &str,
-) -> Result<String, String> {
-    let mut lines = String::new();
-    if source.is_documented() && (is_in_trait || function.is_public(tokens)) {
-        lines += &panics(tokens, function, source, pages)?;
-        if must_be_used(tokens, function) {
-            lines += "#[must_use]\n";
+impl Additions<'_> {
+    /// Adds it to all functions of the file.
+    pub fn add(&self, tokens: &mut Vec<Token>) -> Result<(), String> {
+        let mut at = 0;
+        // The number of tokens after the trait that was found last: it stays as it is when others are removed.
+        let mut after_trait = usize::MAX;
+        while at + 1 < tokens.len() {
+            if tokens[at] == "trait" {
+                after_trait = tokens.len() - closing(tokens, find(tokens, at, &["{"]));
+            }
+            if let Some(function) = function(tokens, at) {
+                let is_in_trait = tokens.len() - at > after_trait;
+                let lines = self.lines_before(tokens, &function, is_in_trait);
+                let lines = lines.map_err(|what| format!("{}: {what}", tokens[at].line))?;
+                insert_lines(&mut tokens[function.visibility], &lines);
+                if function.is_public(tokens) && has(self.source.constant, &tokens[at + 1].text) {
+                    tokens[at].text = "const fn".to_owned();
+                }
+                for clause in function.clauses.into_iter().rev() {
+                    tokens.drain(clause);
+                }
+            }
+            at += 1;
         }
+        Ok(())
     }
-    // A function with an ABI has attributes of its own.
-    let is_exported = tokens[function.visibility..function.at].iter().any(|token| *token == "extern");
-    if tokens[function.body] == "{" && !source.is_test() && !is_exported {
+
+    /// Returns the lines to be added before the visibility of a function.
+    fn lines_before(&self, tokens: &[Token], function: &Function, is_in_trait: bool) -> Result<String, String> {
+        let (name, has_body) = (&tokens[function.at + 1].text, tokens[function.body] == "{");
+        if has_body && function.has_result(tokens) && function.inside(tokens).is_empty() {
+            return Err(format!("{name} returns nothing"));
+        }
+        let mut lines = String::new();
+        if self.source.is_documented() && (is_in_trait || function.is_public(tokens)) {
+            lines += &self.panics(tokens, function)?;
+            if must_be_used(tokens, function) {
+                lines += "#[must_use]\n";
+            }
+        }
+        // A function with an ABI has attributes of its own.
+        let is_exported = tokens[function.visibility..function.at].iter().any(|token| *token == "extern");
+        if has_body && !self.source.is_test() && !is_exported {
+            let is_listed = |(_, names): &&(_, &str)| has(names, name) || has(names, self.file);
+            let attribute = self.source.attributes.iter().find(is_listed);
+            lines += attribute.map_or("#[inline]", |(attribute, _)| attribute);
+            lines += "\n";
+        }
+        Ok(lines)
+    }
+
+    /// Returns the lines of documentation that say when a function panics. What is hidden has no documentation.
+    fn panics(&self, tokens: &[Token], function: &Function) -> Result<String, String> {
         let name = &tokens[function.at + 1].text;
-        let is_listed = |(_, names): &&(_, &str)| has(names, name) || has(names, file);
-        let attribute = source.attributes.iter().find(is_listed).map_or("#[inline]", |(attribute, _)| attribute);
-        lines += &format!("{attribute}\n");
+        let required = conditions_of(tokens, function);
+        let panics = conditions::panics(name, &required, self.source.conditions, self.pages)?;
+        let is_hidden = words(&tokens[function.first..function.visibility]).ends_with("# [ doc ( hidden ) ]");
+        if panics.is_empty() || is_hidden {
+            return Ok(String::new());
+        }
+        Ok(format!("///\n/// # Panics\n///\n/// If {}.\n", panics.join(",\n/// or if ")))
     }
-    Ok(lines)
-}
-
-/// Returns the lines of documentation that say when a function panics. What is hidden has no documentation.
-fn panics(tokens: &[Token], function: &Function, source: &Source, pages: &str) -> Result<String, String> {
-    let name = &tokens[function.at + 1].text;
-    let panics = conditions::panics(name, &conditions_of(tokens, function), source.conditions, pages)
-        .map_err(|what| format!("{}: {what}", tokens[function.at].line))?;
-    let is_hidden = words(&tokens[function.first..function.visibility]).ends_with("# [ doc ( hidden ) ]");
-    if panics.is_empty() || is_hidden {
-        return Ok(String::new());
-    }
-    Ok(format!("///\n/// # Panics\n///\n/// If {}.\n", panics.join(",\n/// or if ")))
 }
 
 /// Returns the names of what a function requires: `FUNCTION.CLAUSE`, or `FUNCTION` if the clause has no name.
@@ -95,7 +95,7 @@ fn must_be_used(tokens: &[Token], function: &Function) -> bool {
     let parameters = elements(tokens, function.parameters);
     let changes = |text: String| text.contains("& mut") || text.contains("& 'a mut");
     let is_changing = parameters.into_iter().any(|parameter| changes(words(&tokens[parameter])));
-    result.starts_with("->") && !result.contains("Result <") && !is_changing
+    function.has_result(tokens) && !result.contains("Result <") && !is_changing
 }
 
 /// Inserts lines before a token, after the comments before it, and indents them as the token is.

@@ -63,11 +63,10 @@ fn is_ghost_field_or_item(tokens: &[Token], at: usize) -> bool {
 /// Returns an error if a listed law has what no law has: a result, a parameter that it changes, or an assertion. It may
 /// change a counter.
 fn check_law(tokens: &[Token], law: &Function) -> Result<(), String> {
-    let has_result = tokens[closing(tokens, law.parameters) + 1] == "->";
     let asserts = tokens[law.inside(tokens)].windows(2).any(|pair| pair[0] == "assert" && pair[1] == "!");
     let is_changed = |parameter: &[Token]| words(parameter).contains("& mut") && !is_of_ghost_type(parameter);
     let mut parameters = elements(tokens, law.parameters).into_iter();
-    if has_result || asserts || parameters.any(|parameter| is_changed(&tokens[parameter])) {
+    if law.has_result(tokens) || asserts || parameters.any(|parameter| is_changed(&tokens[parameter])) {
         return Err(format!("{}: {} is no law", tokens[law.at].line, tokens[law.at + 1].text));
     }
     Ok(())

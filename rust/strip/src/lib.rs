@@ -31,6 +31,7 @@ mod rules;
 mod tables;
 mod tokens;
 
+use additions::Additions;
 use files::{files_of, laid_out, read, without_layout, write};
 use packages::{SOURCES, Source};
 use repository::Repository;
@@ -118,7 +119,7 @@ fn translated(mut code: Vec<Token>, file: &str, source: &Source, repository: &Re
     left_out::without_items(&mut code, &source.modules(), &repository.laws)?;
     ghosts::without_ghosts(&mut code, &repository.laws, &repository.signatures)?;
     counted::without_counted(&mut code)?;
-    additions::add(&mut code, file, source, &repository.pages)?;
+    Additions { file, source, pages: &repository.pages }.add(&mut code)?;
     imports::without_imports(&mut code, &all, source.is_test(), &repository.laws);
     left_out::check_rust(&code)?;
     Ok(tokens::print(&code).trim().to_owned() + "\n")
