@@ -1,7 +1,7 @@
 //! Makes the sources of the Rust packages from those of the crates of Rattle.
 //!
 //! A source is read as tokens, and each comment is kept with the token that it stands at. No rule looks at a comment,
-//! so a comment goes to the package as it is, or goes with what it stands at. `translated` has the order of the steps:
+//! so a comment goes to the package as it is, or goes with what it stands at. `made_of` has the order of the steps:
 //!
 //! 1. `rules` writes the patterns of `tables` otherwise, for example `prove!` as `assert!`.
 //! 2. `left_out` and `ghosts` leave out what only the prover reads: ghost items, laws, models, tactics, and counters
@@ -100,27 +100,49 @@ fn made(top: &Path) -> Result<Files, String> {
 
 /// Returns each file that is made of a source. Its first line says what it is made of.
 fn made_of(source: &Source, repository: &Repository) -> Result<Files, String> {
+    let files = repository.files.iter().filter(|file| file.source.name == source.name);
+    let files: Vec<_> = files.filter_map(|file| Some((file, source.path_of_made(&file.name)?))).collect();
+    let (mut merged, mut codes) = (BTreeSet::new(), Vec::new());
+    for (file, _) in &files {
+        let code = without_ghosts(file.tokens.clone(), source, repository, &mut merged);
+        codes.push(code.map_err(|what| format!("{}:{what}", file.path.display()))?);
+    }
     let mut made = Files::new();
-    for file in repository.files.iter().filter(|file| file.source.name == source.name) {
-        if let Some(path) = source.path_of_made(&file.name) {
-            let from = file.path.display();
-            let text = translated(file.tokens.clone(), &file.name, source, repository);
-            let text = text.map_err(|what| format!("{from}:{what}"))?;
-            made.insert(path, format!("// Made by `strip` from {from}. Edit that file, not this one.\n\n{text}"));
-        }
+    for ((file, path), mut code) in files.into_iter().zip(codes) {
+        let from = file.path.display();
+        counted::rename(&mut code, &merged);
+        let text =
+            completed(code, &file.tokens, &file.name, source, repository).map_err(|what| format!("{from}:{what}"))?;
+        made.insert(path, format!("// Made by `strip` from {from}. Edit that file, not this one.\n\n{text}"));
     }
     Ok(made)
 }
 
-/// Returns what is made of a file of a source, a path in `src`, to which the rules are applied. An error begins with
-/// the line.
-fn translated(mut code: Vec<Token>, file: &str, source: &Source, repository: &Repository) -> Result<String, String> {
-    let all = code.clone();
+/// Returns the code of a file, to which the rules are applied, without what only the prover reads. Adds the names of
+/// functions with a counter that then have no counter to a list. An error begins with the line.
+fn without_ghosts(
+    mut code: Vec<Token>,
+    source: &Source,
+    repository: &Repository,
+    merged: &mut BTreeSet<String>,
+) -> Result<Vec<Token>, String> {
     left_out::without_items(&mut code, &source.modules(), &repository.laws)?;
     ghosts::without_ghosts(&mut code, &repository.laws, &repository.signatures)?;
-    counted::without_counted(&mut code)?;
+    counted::without_counted(&mut code, merged)?;
+    Ok(code)
+}
+
+/// Returns what is made of a file, whose code has nothing that only the prover reads but contracts, and of which all was
+/// the code at first. An error begins with the line.
+fn completed(
+    mut code: Vec<Token>,
+    all: &[Token],
+    file: &str,
+    source: &Source,
+    repository: &Repository,
+) -> Result<String, String> {
     Additions { file, source, pages: &repository.pages }.add(&mut code)?;
-    imports::without_imports(&mut code, &all, source.is_test(), &repository.laws);
+    imports::without_imports(&mut code, all, source.is_test(), &repository.laws);
     left_out::check_rust(&code)?;
     Ok(tokens::print(&code).trim().to_owned() + "\n")
 }

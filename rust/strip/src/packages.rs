@@ -170,6 +170,8 @@ pub(crate) const SOURCES: &[Source] = &[
         name: "lexical_write_integer",
         module: "write_integer",
         attributes: &[
+            // In small code a call is left of these, and else rustc has them in the caller.
+            ("#[inline]", "write_32_apart write_64_apart"),
             // What chooses a writer, the decimal writer, the writer of a number whose digits are counted at once, and
             // what `write_apart` calls. If the format is constant in a caller, so is the choice. The others would make
             // the code of a caller long if its radix is known only at run time. rustc has `radix_called` in a caller

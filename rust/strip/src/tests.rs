@@ -6,9 +6,19 @@ use crate::ghosts::add_signatures;
 use crate::left_out::Names;
 use crate::packages::{SOURCES, Source, patterns_for_examples};
 use crate::repository::Repository;
+use crate::tokens::Token;
 use crate::tokens::{lex, lex_part, print, words};
-use crate::{documentation, rules, translated};
+use crate::{completed, counted, documentation, rules, without_ghosts};
+use std::collections::BTreeSet;
 use std::path::Path;
+
+/// Returns what is made of a file with these tokens.
+fn translated(tokens: Vec<Token>, file: &str, source: &Source, repository: &Repository) -> Result<String, String> {
+    let mut merged = BTreeSet::new();
+    let mut code = without_ghosts(tokens.clone(), source, repository, &mut merged)?;
+    counted::rename(&mut code, &merged);
+    completed(code, &tokens, file, source, repository)
+}
 
 /// Returns what is made of a file of `lexical_write_integer`, in which `in_range` and `fits_bits` are laws.
 fn made(text: &str) -> Result<String, String> {
@@ -139,6 +149,11 @@ fn two_functions_become_one() {
     becomes(
         "fn a(n: u8) { a_counted(n, &mut Turns::new()) } pub fn a_counted(n: u8, turns: &mut Turns) { n }",
         "#[inline] fn a(n: u8) { n }",
+    );
+    becomes(
+        "trait A { fn a(self) { self.a_counted(&mut Turns::new()) } fn a_counted(self, turns: &mut Turns); }
+        impl A for u8 { fn a_counted(self, turns: &mut Turns) { self.b() } }",
+        "trait A { fn a(self); } impl A for u8 { #[inline] fn a(self) { self.b() } }",
     );
     is_refused("pub fn a_counted(n: u8) { n }", "1: a public function with a counter: a_counted");
 }
