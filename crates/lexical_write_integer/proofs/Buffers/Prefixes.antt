@@ -2,7 +2,7 @@
 use Rattle.std.proofs.lemmas.Grind.{common_steps}
 use Rattle.std.proofs.Common.{◌≡◌, ℕ, ◌+◌, ◌-◌, ◌≤◌, List, [], ◌++◌, length, take, drop, refl, sym, ap, ◌∙◌, zero-add, length-append, append_assoc, arith}
 use Rattle.std.proofs.lemmas.List.{drop-drop, take_at, drop_at, length-take, length-drop, drop-append-le, take-append-drop}
-use Rattle.lexical_write_integer.specs.Buffer.{Front, Writes}
+use Rattle.lexical_write_integer.specs.Buffer.{Front, Writes, WritesDigits}
 use borrow.Rule.Slice.PartMut.{put_mid}
 
 -- what is written after a text, in the first `room` bytes that follow it
@@ -44,6 +44,12 @@ Writes-part {Is} before after room count w =
     rw zero-add at
     (Writes-after {IsAfter = Is} {IsWhole = Is} [] before before after 0 room count refl record { fits = omega arith; written = refl }
     (λ text is. is) w)
+
+-- digits that are written in the first `room` bytes
+pub digits_in_part : (r n room : ℕ) (before after : List ℕ) (count : ℕ)
+    → WritesDigits r n (take room before) after count → WritesDigits r n before (after ++ drop room before) count
+digits_in_part r n room before after count digits =
+    record { writes = Writes-part before after room count digits.writes; count = digits.count }
 
 -- a text whose length is at most `room` is one of a kind that says so
 pub Writes-short : {Is : List ℕ → Type 0} (room : ℕ) (before after : List ℕ) (count : ℕ)

@@ -16,7 +16,10 @@ mod kernels;
 pub use super::count::decimal_count::{DecimalCount, fallback_digit_count, fast_digit_count};
 pub use super::count::logarithm::fast_log10;
 use crate::turns::Turns;
-use jeaiii::write_decimal;
+use jeaiii::{
+    from_i64, from_u8, from_u8_counted, from_u16, from_u16_counted, from_u32, from_u32_counted,
+    from_u64_counted,
+};
 use lexical_num::num::{LexicalInteger, UnsignedInteger};
 
 /// An unsigned integer type whose numbers are written in decimal, two digits at a time.
@@ -44,15 +47,7 @@ pub trait Decimal: DecimalCount {
         requires number { Self.magnitude self < 10 ^ SIGNED_WIDTH }
         requires room { SIGNED_WIDTH ≤ length buffer.old }
         ensures digits { WritesDigits 10 (Self.magnitude self) buffer.old buffer.new result }
-        ensures short { result ≤ SIGNED_WIDTH }
-    {
-        let number = self.as_u64();
-        prove!(
-            number < 10_000_000_000_000_000_000,
-            "the number is 10^19 or above"
-        );
-        write_decimal(self, Self::SIGNED_WIDTH, buffer, &mut Turns::new())
-    }
+        ensures short { result ≤ SIGNED_WIDTH };
 
     /// Writes the digits as `decimal` does, under the same condition.
     fn decimal_counted(self, buffer: &mut [u8], turns: &mut Turns) -> usize
@@ -62,12 +57,7 @@ pub trait Decimal: DecimalCount {
         ensures turns { length turns.new ≡ length turns.old + (result - 1) / 2 }
         ensures short { result ≤ Self.DECIMAL_WIDTH }
         // The counter records an iteration for each pair of digits after the first.
-        ensures few_turns { length turns.new ≤ length turns.old + 9 }
-    {
-        self.in_range();
-        self.fits_bits();
-        write_decimal(self, Self::DECIMAL_WIDTH, buffer, turns)
-    }
+        ensures few_turns { length turns.new ≤ length turns.old + 9 };
 
     ghost signed_width: { let greatest = 2 ^ (Self.BITS - 1) - 1 in
         IsDecimalWidth (negsuc greatest) (pos greatest) SIGNED_WIDTH };
@@ -79,6 +69,14 @@ impl Decimal for u8 {
     ghost SIGNED_WIDTH = { 3 };
 
     ghost signed_width = { is_decimal_width (lit≤ tt) (lit≤ tt) (lit≤ tt) (lit≤ tt) };
+
+    fn decimal_signed(self, buffer: &mut [u8]) -> usize {
+        from_u8(self, buffer)
+    }
+
+    fn decimal_counted(self, buffer: &mut [u8], turns: &mut Turns) -> usize {
+        from_u8_counted(self, buffer, turns)
+    }
 }
 
 impl Decimal for u16 {
@@ -87,6 +85,14 @@ impl Decimal for u16 {
     ghost SIGNED_WIDTH = { 5 };
 
     ghost signed_width = { is_decimal_width (lit≤ tt) (lit≤ tt) (lit≤ tt) (lit≤ tt) };
+
+    fn decimal_signed(self, buffer: &mut [u8]) -> usize {
+        from_u16(self, buffer)
+    }
+
+    fn decimal_counted(self, buffer: &mut [u8], turns: &mut Turns) -> usize {
+        from_u16_counted(self, buffer, turns)
+    }
 }
 
 impl Decimal for u32 {
@@ -95,6 +101,14 @@ impl Decimal for u32 {
     ghost SIGNED_WIDTH = { 10 };
 
     ghost signed_width = { is_decimal_width (lit≤ tt) (lit≤ tt) (lit≤ tt) (lit≤ tt) };
+
+    fn decimal_signed(self, buffer: &mut [u8]) -> usize {
+        from_u32(self, buffer)
+    }
+
+    fn decimal_counted(self, buffer: &mut [u8], turns: &mut Turns) -> usize {
+        from_u32_counted(self, buffer, turns)
+    }
 }
 
 impl Decimal for u64 {
@@ -103,6 +117,14 @@ impl Decimal for u64 {
     ghost SIGNED_WIDTH = { 19 };
 
     ghost signed_width = { is_decimal_width (lit≤ tt) (lit≤ tt) (lit≤ tt) (lit≤ tt) };
+
+    fn decimal_signed(self, buffer: &mut [u8]) -> usize {
+        from_i64(self, buffer)
+    }
+
+    fn decimal_counted(self, buffer: &mut [u8], turns: &mut Turns) -> usize {
+        from_u64_counted(self, buffer, turns)
+    }
 }
 
 // The constants of `usize` are those of `u64`.
@@ -112,4 +134,12 @@ impl Decimal for usize {
     ghost SIGNED_WIDTH = { 19 };
 
     ghost signed_width = { is_decimal_width (lit≤ tt) (lit≤ tt) (lit≤ tt) (lit≤ tt) };
+
+    fn decimal_signed(self, buffer: &mut [u8]) -> usize {
+        from_i64(self as u64, buffer)
+    }
+
+    fn decimal_counted(self, buffer: &mut [u8], turns: &mut Turns) -> usize {
+        from_u64_counted(self as u64, buffer, turns)
+    }
 }

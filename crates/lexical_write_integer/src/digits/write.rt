@@ -10,36 +10,10 @@ ghost use Rattle.lexical_write_integer.specs.Texts.Text.{digits_need};
 
 use super::count::DigitCount;
 use super::decimal::Decimal;
-use super::decimal::jeaiii::write_decimal;
 use super::radix::{Radix, radix_counted};
 use crate::turns::Turns;
 use lexical_num::format::NumberFormat;
 use lexical_num::num::{LexicalInteger, UnsignedInteger};
-
-// Writes the digits of a number to the start of the buffer, and returns how many there are. In radix 10 they are at
-// most `width`, and the buffer has room for so many.
-fn write_numeral<T: UnsignedInteger>(
-    value: T,
-    radix: u32,
-    width: usize,
-    buffer: &mut [u8],
-    turns: &mut Turns,
-) -> usize
-    requires radix { IsRadix radix }
-    requires width { radix ≡ 10 → digit_count 10 (T.magnitude value) ≤ width }
-    requires room { digits_need radix (T.magnitude value) width ≤ length buffer.old }
-    ensures digits { WritesDigits radix (T.magnitude value) buffer.old buffer.new result }
-    ensures short { result ≤ T.BITS }
-    ensures notes { turns.new ≡ turns.old ++ write_notes T.BITS radix (T.magnitude value) }
-    ensures turns { length turns.new ≡ length turns.old + write_turns radix result }
-{
-    value.fits_bits();
-    if radix == 10 {
-        write_decimal(value, width, buffer, turns)
-    } else {
-        radix_counted(value, radix, buffer, turns)
-    }
-}
 
 /// Writes the digits of the number to the start of the buffer, and returns how many there are. The radix is
 /// from 2 to 36. The buffer has room for `DECIMAL_WIDTH` bytes in radix 10, and for the digits in another radix.
@@ -61,7 +35,11 @@ pub fn write_integer_counted<T: Decimal + DigitCount>(
 {
     value.in_range();
     value.fits_bits();
-    write_numeral(value, radix, T::DECIMAL_WIDTH, buffer, turns)
+    if radix == 10 {
+        value.decimal_counted(buffer, turns)
+    } else {
+        radix_counted(value, radix, buffer, turns)
+    }
 }
 
 /// An unsigned integer type whose numbers are written in every radix.
@@ -91,12 +69,13 @@ pub trait WriteInteger: Decimal + Radix {
         ensures digits { WritesDigits radix (Self.magnitude self) buffer.old buffer.new result }
         ensures short { result ≤ Self.BITS }
     {
-        let number = self.as_u64();
-        prove!(
-            radix != 10 || number < 10_000_000_000_000_000_000,
-            "the number is 10^19 or above"
-        );
-        write_numeral(self, radix, Self::SIGNED_WIDTH, buffer, &mut Turns::new())
+        self.in_range();
+        self.fits_bits();
+        if radix == 10 {
+            self.decimal_signed(buffer)
+        } else {
+            radix_counted(self, radix, buffer, &mut Turns::new())
+        }
     }
 
     /// Writes the digits in the mantissa radix of the format.

@@ -7,7 +7,7 @@
 // Each `_counted` function records in `turns` what an iteration computes: one number for each pair of digits after the
 // first, and at most 9. Examples of the writers are in `crates/library_tests/src/decimal_values.rt`, and
 // of the kernels in `crates/library_tests/src/kernel_values.rt`.
-#![tactic(auto, using(crate::proofs::OfDigits::Count::DigitCounts::widths), unfolding(crate::specs::Digits::DecimalTurns::decimal_notes_32))]
+#![tactic(auto, using(crate::proofs::OfDigits::Count::DigitCounts::widths, crate::proofs::Buffers::Prefixes::digits_in_part), unfolding(crate::specs::Digits::DecimalTurns::decimal_notes_32))]
 
 ghost use Rattle.std.specs.Prelude.{◌≡◌, ◌+◌, ◌-◌, ◌/◌, ◌^◌, ◌<◌, ◌≤◌, ◌++◌, length};
 ghost use Rattle.lexical_write_integer.specs.Buffer.{WritesDigits};
@@ -85,28 +85,26 @@ fn write_64(n: u64, buffer: &mut [u8], turns: &mut Turns) -> usize
     }
 }
 
-// Writes the digits of a number of any type, of which there are at most `width`, to the first `width` bytes of the
-// buffer.
-pub(crate) fn write_decimal<T: UnsignedInteger>(
-    value: T,
-    width: usize,
-    buffer: &mut [u8],
-    turns: &mut Turns,
-) -> usize
-    requires width { digit_count 10 (T.magnitude value) ≤ width }
-    requires room { width ≤ length buffer.old }
-    ensures digits { WritesDigits 10 (T.magnitude value) buffer.old buffer.new result }
-    ensures notes { turns.new ≡ turns.old ++ decimal_notes T.BITS (T.magnitude value) }
+// Writes the digits of a number of up to 32 bits, by a call where a program asks for small code: `write_32` is in each of
+// its callers, and this function need not be. The buffer has just the room for the longest number of a type, so one test
+// of a length takes the place of one at each write.
+fn write_32_apart(n: u32, buffer: &mut [u8], turns: &mut Turns) -> usize
+    requires { digit_count 10 n ≤ length buffer.old }
+    ensures digits { WritesDigits 10 n buffer.old buffer.new result }
+    ensures notes { turns.new ≡ turns.old ++ decimal_notes_32 n }
     ensures turns { length turns.new ≡ length turns.old + (result - 1) / 2 }
 {
-    value.fits_bits();
-    // One test of the length takes the place of one at each write.
-    let room = &mut buffer[..width];
-    if T::BITS == 64 {
-        write_64(value.as_u64(), room, turns)
-    } else {
-        write_32(value.as_u32(), room, turns)
-    }
+    write_32(n, buffer, turns)
+}
+
+// Writes the digits of a number of up to 64 bits, as `write_32_apart` does those of a number of up to 32 bits.
+fn write_64_apart(n: u64, buffer: &mut [u8], turns: &mut Turns) -> usize
+    requires { digit_count 10 n ≤ length buffer.old }
+    ensures digits { WritesDigits 10 n buffer.old buffer.new result }
+    ensures notes { turns.new ≡ turns.old ++ decimal_notes_64 n }
+    ensures turns { length turns.new ≡ length turns.old + (result - 1) / 2 }
+{
+    write_64(n, buffer, turns)
 }
 
 /// Writes the digits of a number to the start of the buffer, and returns how many there are. The buffer has
@@ -169,7 +167,7 @@ pub fn from_u8_counted(n: u8, buffer: &mut [u8], turns: &mut Turns) -> usize
     ensures short { result ≤ 3 }
     ensures few_turns { length turns.new ≤ length turns.old + 9 }
 {
-    write_32(u32::from(n), buffer, turns)
+    write_32_apart(u32::from(n), &mut buffer[..3], turns)
 }
 
 /// Writes the digits as `from_u16` does, under the same condition.
@@ -181,7 +179,7 @@ pub fn from_u16_counted(n: u16, buffer: &mut [u8], turns: &mut Turns) -> usize
     ensures short { result ≤ 5 }
     ensures few_turns { length turns.new ≤ length turns.old + 9 }
 {
-    write_32(u32::from(n), buffer, turns)
+    write_32_apart(u32::from(n), &mut buffer[..5], turns)
 }
 
 /// Writes the digits as `from_u32` does, under the same condition.
@@ -193,7 +191,7 @@ pub fn from_u32_counted(n: u32, buffer: &mut [u8], turns: &mut Turns) -> usize
     ensures short { result ≤ 10 }
     ensures few_turns { length turns.new ≤ length turns.old + 9 }
 {
-    write_32(n, buffer, turns)
+    write_32_apart(n, &mut buffer[..10], turns)
 }
 
 /// Writes the digits as `from_u64` does, under the same condition.
@@ -205,7 +203,7 @@ pub fn from_u64_counted(n: u64, buffer: &mut [u8], turns: &mut Turns) -> usize
     ensures short { result ≤ 20 }
     ensures few_turns { length turns.new ≤ length turns.old + 9 }
 {
-    write_64(n, buffer, turns)
+    write_64_apart(n, &mut buffer[..20], turns)
 }
 
 /// Writes the digits as `from_i64` does, under the same conditions.
@@ -222,5 +220,5 @@ pub fn from_i64_counted(n: u64, buffer: &mut [u8], turns: &mut Turns) -> usize
         n < 10_000_000_000_000_000_000,
         "the number is 10^19 or above"
     );
-    write_64(n, buffer, turns)
+    write_64_apart(n, &mut buffer[..19], turns)
 }

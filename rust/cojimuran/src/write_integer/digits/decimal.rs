@@ -9,7 +9,7 @@ mod kernels;
 pub use super::count::decimal_count::{DecimalCount, fallback_digit_count, fast_digit_count};
 pub use super::count::logarithm::fast_log10;
 use crate::num::num::{LexicalInteger, UnsignedInteger};
-use jeaiii::write_decimal;
+use jeaiii::{from_i64, from_u8, from_u16, from_u32, from_u64};
 
 /// An unsigned integer type whose numbers are written in decimal, two digits at a time.
 pub trait Decimal: DecimalCount {
@@ -23,11 +23,7 @@ pub trait Decimal: DecimalCount {
     /// # Panics
     ///
     /// If the buffer is [too short](crate#conditions).
-    #[inline(always)]
-    #[track_caller]
-    fn decimal(self, buffer: &mut [u8]) -> usize {
-        write_decimal(self, Self::DECIMAL_WIDTH, buffer)
-    }
+    fn decimal(self, buffer: &mut [u8]) -> usize;
 
     /// Writes the digits of the number to the start of the buffer, and returns how many there are. The
     /// number is below 10^`SIGNED_WIDTH`, as is the magnitude of each number of the signed type, and
@@ -37,35 +33,86 @@ pub trait Decimal: DecimalCount {
     ///
     /// If the number is 10^19 or above,
     /// or if the buffer is [too short](crate#conditions).
-    #[inline(always)]
-    #[track_caller]
-    fn decimal_signed(self, buffer: &mut [u8]) -> usize {
-        let number = self.as_u64();
-        assert!(
-            number < 10_000_000_000_000_000_000,
-            "the number is 10^19 or above"
-        );
-        write_decimal(self, Self::SIGNED_WIDTH, buffer)
-    }
+    fn decimal_signed(self, buffer: &mut [u8]) -> usize;
 }
 
 impl Decimal for u8 {
     const SIGNED_WIDTH: usize = 3;
+
+    #[inline(always)]
+    #[track_caller]
+    fn decimal_signed(self, buffer: &mut [u8]) -> usize {
+        from_u8(self, buffer)
+    }
+
+    #[inline(always)]
+    #[track_caller]
+    fn decimal(self, buffer: &mut [u8]) -> usize {
+        from_u8(self, buffer)
+    }
 }
 
 impl Decimal for u16 {
     const SIGNED_WIDTH: usize = 5;
+
+    #[inline(always)]
+    #[track_caller]
+    fn decimal_signed(self, buffer: &mut [u8]) -> usize {
+        from_u16(self, buffer)
+    }
+
+    #[inline(always)]
+    #[track_caller]
+    fn decimal(self, buffer: &mut [u8]) -> usize {
+        from_u16(self, buffer)
+    }
 }
 
 impl Decimal for u32 {
     const SIGNED_WIDTH: usize = 10;
+
+    #[inline(always)]
+    #[track_caller]
+    fn decimal_signed(self, buffer: &mut [u8]) -> usize {
+        from_u32(self, buffer)
+    }
+
+    #[inline(always)]
+    #[track_caller]
+    fn decimal(self, buffer: &mut [u8]) -> usize {
+        from_u32(self, buffer)
+    }
 }
 
 impl Decimal for u64 {
     const SIGNED_WIDTH: usize = 19;
+
+    #[inline(always)]
+    #[track_caller]
+    fn decimal_signed(self, buffer: &mut [u8]) -> usize {
+        from_i64(self, buffer)
+    }
+
+    #[inline(always)]
+    #[track_caller]
+    fn decimal(self, buffer: &mut [u8]) -> usize {
+        from_u64(self, buffer)
+    }
 }
 
 // The constants of `usize` are those of `u64`.
 impl Decimal for usize {
     const SIGNED_WIDTH: usize = 19;
+
+    #[inline(always)]
+    #[track_caller]
+    fn decimal_signed(self, buffer: &mut [u8]) -> usize {
+        from_i64(self as u64, buffer)
+    }
+
+    #[inline(always)]
+    #[track_caller]
+    fn decimal(self, buffer: &mut [u8]) -> usize {
+        from_u64(self as u64, buffer)
+    }
 }

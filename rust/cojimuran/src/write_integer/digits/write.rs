@@ -5,27 +5,9 @@
 
 use super::count::DigitCount;
 use super::decimal::Decimal;
-use super::decimal::jeaiii::write_decimal;
 use super::radix::{Radix, radix_counted};
 use crate::num::format::NumberFormat;
 use crate::num::num::{LexicalInteger, UnsignedInteger};
-
-// Writes the digits of a number to the start of the buffer, and returns how many there are. In radix 10 they are at
-// most `width`, and the buffer has room for so many.
-#[inline(always)]
-#[track_caller]
-fn write_numeral<T: UnsignedInteger>(
-    value: T,
-    radix: u32,
-    width: usize,
-    buffer: &mut [u8],
-) -> usize {
-    if radix == 10 {
-        write_decimal(value, width, buffer)
-    } else {
-        radix_counted(value, radix, buffer)
-    }
-}
 
 /// Writes the digits of the number to the start of the buffer, and returns how many there are. The radix is
 /// from 2 to 36. The buffer has room for `DECIMAL_WIDTH` bytes in radix 10, and for the digits in another radix.
@@ -36,7 +18,11 @@ pub(crate) fn write_integer<T: Decimal + DigitCount>(
     radix: u32,
     buffer: &mut [u8],
 ) -> usize {
-    write_numeral(value, radix, T::DECIMAL_WIDTH, buffer)
+    if radix == 10 {
+        value.decimal(buffer)
+    } else {
+        radix_counted(value, radix, buffer)
+    }
 }
 
 /// An unsigned integer type whose numbers are written in every radix.
@@ -68,12 +54,11 @@ pub trait WriteInteger: Decimal + Radix {
     #[inline(always)]
     #[track_caller]
     fn write_integer_signed(self, radix: u32, buffer: &mut [u8]) -> usize {
-        let number = self.as_u64();
-        assert!(
-            radix != 10 || number < 10_000_000_000_000_000_000,
-            "the number is 10^19 or above"
-        );
-        write_numeral(self, radix, Self::SIGNED_WIDTH, buffer)
+        if radix == 10 {
+            self.decimal_signed(buffer)
+        } else {
+            radix_counted(self, radix, buffer)
+        }
     }
 
     /// Writes the digits in the mantissa radix of the format.

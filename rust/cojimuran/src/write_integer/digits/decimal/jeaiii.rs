@@ -64,22 +64,18 @@ fn write_64(n: u64, buffer: &mut [u8]) -> usize {
     }
 }
 
-// Writes the digits of a number of any type, of which there are at most `width`, to the first `width` bytes of the
-// buffer.
-#[inline(always)]
-#[track_caller]
-pub(crate) fn write_decimal<T: UnsignedInteger>(
-    value: T,
-    width: usize,
-    buffer: &mut [u8],
-) -> usize {
-    // One test of the length takes the place of one at each write.
-    let room = &mut buffer[..width];
-    if T::BITS == 64 {
-        write_64(value.as_u64(), room)
-    } else {
-        write_32(value.as_u32(), room)
-    }
+// Writes the digits of a number of up to 32 bits, by a call where a program asks for small code: `write_32` is in each of
+// its callers, and this function need not be. The buffer has just the room for the longest number of a type, so one test
+// of a length takes the place of one at each write.
+#[inline]
+fn write_32_apart(n: u32, buffer: &mut [u8]) -> usize {
+    write_32(n, buffer)
+}
+
+// Writes the digits of a number of up to 64 bits, as `write_32_apart` does those of a number of up to 32 bits.
+#[inline]
+fn write_64_apart(n: u64, buffer: &mut [u8]) -> usize {
+    write_64(n, buffer)
 }
 
 /// Writes the digits of a number to the start of the buffer, and returns how many there are. The buffer has
@@ -91,7 +87,7 @@ pub(crate) fn write_decimal<T: UnsignedInteger>(
 #[inline(always)]
 #[track_caller]
 pub fn from_u8(n: u8, buffer: &mut [u8]) -> usize {
-    write_32(u32::from(n), buffer)
+    write_32_apart(u32::from(n), &mut buffer[..3])
 }
 
 /// Writes the digits of a number to the start of the buffer, and returns how many there are. The buffer has
@@ -103,7 +99,7 @@ pub fn from_u8(n: u8, buffer: &mut [u8]) -> usize {
 #[inline(always)]
 #[track_caller]
 pub fn from_u16(n: u16, buffer: &mut [u8]) -> usize {
-    write_32(u32::from(n), buffer)
+    write_32_apart(u32::from(n), &mut buffer[..5])
 }
 
 /// Writes the digits of a number to the start of the buffer, and returns how many there are. The buffer has
@@ -115,7 +111,7 @@ pub fn from_u16(n: u16, buffer: &mut [u8]) -> usize {
 #[inline(always)]
 #[track_caller]
 pub fn from_u32(n: u32, buffer: &mut [u8]) -> usize {
-    write_32(n, buffer)
+    write_32_apart(n, &mut buffer[..10])
 }
 
 /// Writes the digits of a number to the start of the buffer, and returns how many there are. The buffer has
@@ -127,7 +123,7 @@ pub fn from_u32(n: u32, buffer: &mut [u8]) -> usize {
 #[inline(always)]
 #[track_caller]
 pub fn from_u64(n: u64, buffer: &mut [u8]) -> usize {
-    write_64(n, buffer)
+    write_64_apart(n, &mut buffer[..20])
 }
 
 /// Writes the digits of a number to the start of the buffer, and returns how many there are. The number is
@@ -144,5 +140,5 @@ pub fn from_i64(n: u64, buffer: &mut [u8]) -> usize {
         n < 10_000_000_000_000_000_000,
         "the number is 10^19 or above"
     );
-    write_64(n, buffer)
+    write_64_apart(n, &mut buffer[..19])
 }
