@@ -2,11 +2,12 @@
 //! measures nanoseconds instead. With `-- --by-digits` it counts decimal and radix 36 by the number of digits, as
 //! `docs/figures/draw` takes it.
 
-use cojimuran::parts::{Decimal, Digits, Hex, Part};
+use cojimuran::parts::{Decimal, Digits, Hex, Joined, Part};
 use cojimuran::{Buffer, NumberFormat, NumberFormatBuilder, Options, ToLexical, ToLexicalWithOptions};
 use lexical_write_integer as lexical;
 use std::hint::black_box;
-use std::io::Write;
+use std::fmt::Write as _;
+use std::io::Write as _;
 use std::process::Command;
 use std::time::Instant;
 
@@ -83,6 +84,42 @@ macro_rules! append {
     }};
 }
 
+/// Returns a loop over groups of numbers, each of which is written to a `String`, which is empty again after some bytes.
+macro_rules! lines {
+    ($count:literal, |$numbers:ident, $text:ident| $call:expr) => {{
+        #[inline(never)]
+        fn each(numbers: &[u64]) -> usize {
+            let (mut total, mut $text) = (0, String::with_capacity(4096));
+            for group in numbers.chunks_exact($count) {
+                let $numbers: &[u64; $count] = black_box(group).try_into().unwrap();
+                if $text.len() > 3800 {
+                    total += $text.len();
+                    $text.clear();
+                }
+                $call;
+                black_box(&$text);
+            }
+            total + $text.len()
+        }
+        Some(each as Loop)
+    }};
+}
+
+/// Appends numbers, each followed by a comma, with `itoa`.
+fn join_by_itoa(numbers: &[u64], text: &mut String) {
+    for number in numbers {
+        text.push_str(itoa::Buffer::new().format(*number));
+        text.push(',');
+    }
+}
+
+/// Appends numbers, each followed by a comma, with the standard library.
+fn join_by_std(numbers: &[u64], text: &mut String) {
+    for number in numbers {
+        write!(text, "{number},").unwrap();
+    }
+}
+
 /// Returns a loop of this package and one of `lexical-write-integer` in a radix.
 macro_rules! radix {
     ($radix:literal) => {{
@@ -149,6 +186,24 @@ fn rows() -> Vec<Row> {
         ("`Digits` in radix 36 as a `&str`", [each!(u64, |n, b| Digits(36, n).to_str(&mut b).len()), None, None, None]),
         ("`{}` of a `u64`", [shown, None, None, std!(u64, |n| "{n}")]),
         ("`id=N flags=0xN`", [line, None, None, std!(u64, |n| "id={n} flags=0x{:X}", n as u16)]),
+        (
+            "each of 8 `u64` with commas, to a `String`",
+            [
+                lines!(8, |numbers, text| text.push_str(Joined(numbers, ",").to_str(&mut [0; 168]))),
+                None,
+                lines!(8, |numbers, text| join_by_itoa(numbers, &mut text)),
+                lines!(8, |numbers, text| join_by_std(numbers, &mut text)),
+            ],
+        ),
+        (
+            "each of 4 `u64` in a line of CSV, to a `String`",
+            [
+                lines!(4, |n, text| text.push_str((n[0], ",", n[1], ",", n[2], ",", n[3], "\n").to_str(&mut [0; 84]))),
+                None,
+                lines!(4, |numbers, text| join_by_itoa(numbers, &mut text)),
+                lines!(4, |n, text| writeln!(text, "{},{},{},{}", n[0], n[1], n[2], n[3]).unwrap()),
+            ],
+        ),
     ]
 }
 
