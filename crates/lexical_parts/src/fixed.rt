@@ -1,5 +1,5 @@
 //! Numbers with a fixed number of decimals.
-#![tactic(auto, using(crate::proofs::Utf8Texts::kinds))]
+#![tactic(auto, using(crate::proofs::Utf8Texts::kinds, crate::proofs::Lengths::lengths))]
 
 ghost use Rattle.std.specs.Prelude.{◌+◌, ◌≤◌, length, max, unsigned_abs, if◌then◌else◌};
 ghost use Rattle.lexical_write_integer.specs.Buffer.{Writes};
@@ -12,7 +12,10 @@ use crate::part::Part;
 use crate::sign::Sign;
 use lexical_write_integer::format::STANDARD;
 use lexical_write_integer::laws::size_suffices;
-use lexical_write_integer::{NumberFormat, ToLexicalWithOptions, group_digits};
+use lexical_write_integer::{NumberFormat, ToLexicalWithOptions, group_digits, sign_len};
+
+// The length of the longest number with decimals, a `u64` in groups of one digit.
+pub(crate) const LONGEST_FIXED: usize = 39;
 
 // In Rust nothing else refuses more decimals.
 fn check_decimals(decimals: usize)
@@ -92,6 +95,10 @@ impl<T: ToLexicalWithOptions> Part for Fixed<T> {
         GroupedFixed(self.0, self.1, &STANDARD).write_to(buffer)
     }
 
+    fn text_len(self) -> Option<usize> {
+        GroupedFixed(self.0, self.1, &STANDARD).text_len()
+    }
+
     fn is_known_utf8(self, own: Own) -> bool {
         GroupedFixed(self.0, self.1, &STANDARD).is_known_utf8(own)
     }
@@ -122,6 +129,16 @@ impl<T: ToLexicalWithOptions> Part for GroupedFixed<'_, T> {
         size_suffices(self.0, &STANDARD);
         let start = Sign(self.0, false).write_to(buffer);
         start + write_grouped_units(self.0, self.1, self.2, &mut buffer[start..])
+    }
+
+    fn text_len(self) -> Option<usize> {
+        check_decimals(self.1);
+        self.0.in_range();
+        self.2.in_range();
+        let digits = self.0.magnitude_digits(10);
+        let whole = digits.saturating_sub(self.1).max(1);
+        let sign = sign_len(self.0, &STANDARD);
+        Some(sign + self.2.grouped_len(whole) + self.1 + self.1.min(1))
     }
 
     fn is_known_utf8(self, _own: Own) -> bool {

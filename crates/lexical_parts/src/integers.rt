@@ -20,6 +20,10 @@ impl Part for u8 {
         Decimal(self).write_to(buffer)
     }
 
+    fn text_len(self) -> Option<usize> {
+        Decimal(self).text_len()
+    }
+
     fn is_known_utf8(self, _own: Own) -> bool {
         true
     }
@@ -36,6 +40,10 @@ impl Part for u16 {
 
     fn write_to(self, buffer: &mut [u8]) -> usize {
         Decimal(self).write_to(buffer)
+    }
+
+    fn text_len(self) -> Option<usize> {
+        Decimal(self).text_len()
     }
 
     fn is_known_utf8(self, _own: Own) -> bool {
@@ -56,6 +64,10 @@ impl Part for u32 {
         Decimal(self).write_to(buffer)
     }
 
+    fn text_len(self) -> Option<usize> {
+        Decimal(self).text_len()
+    }
+
     fn is_known_utf8(self, _own: Own) -> bool {
         true
     }
@@ -72,6 +84,10 @@ impl Part for u64 {
 
     fn write_to(self, buffer: &mut [u8]) -> usize {
         Decimal(self).write_to(buffer)
+    }
+
+    fn text_len(self) -> Option<usize> {
+        Decimal(self).text_len()
     }
 
     fn is_known_utf8(self, _own: Own) -> bool {
@@ -92,6 +108,10 @@ impl Part for usize {
         Decimal(self).write_to(buffer)
     }
 
+    fn text_len(self) -> Option<usize> {
+        Decimal(self).text_len()
+    }
+
     fn is_known_utf8(self, _own: Own) -> bool {
         true
     }
@@ -108,6 +128,10 @@ impl Part for i8 {
 
     fn write_to(self, buffer: &mut [u8]) -> usize {
         Decimal(self).write_to(buffer)
+    }
+
+    fn text_len(self) -> Option<usize> {
+        Decimal(self).text_len()
     }
 
     fn is_known_utf8(self, _own: Own) -> bool {
@@ -128,6 +152,10 @@ impl Part for i16 {
         Decimal(self).write_to(buffer)
     }
 
+    fn text_len(self) -> Option<usize> {
+        Decimal(self).text_len()
+    }
+
     fn is_known_utf8(self, _own: Own) -> bool {
         true
     }
@@ -144,6 +172,10 @@ impl Part for i32 {
 
     fn write_to(self, buffer: &mut [u8]) -> usize {
         Decimal(self).write_to(buffer)
+    }
+
+    fn text_len(self) -> Option<usize> {
+        Decimal(self).text_len()
     }
 
     fn is_known_utf8(self, _own: Own) -> bool {
@@ -164,6 +196,10 @@ impl Part for i64 {
         Decimal(self).write_to(buffer)
     }
 
+    fn text_len(self) -> Option<usize> {
+        Decimal(self).text_len()
+    }
+
     fn is_known_utf8(self, _own: Own) -> bool {
         true
     }
@@ -180,6 +216,10 @@ impl Part for isize {
 
     fn write_to(self, buffer: &mut [u8]) -> usize {
         Decimal(self).write_to(buffer)
+    }
+
+    fn text_len(self) -> Option<usize> {
+        Decimal(self).text_len()
     }
 
     fn is_known_utf8(self, _own: Own) -> bool {

@@ -1,6 +1,6 @@
 //! The parts of a slice, with a separator between adjacent parts.
 
-ghost use Rattle.std.specs.Prelude.{◌≡◌, ◌+◌, ◌*◌, ◌≤◌, All, length, sum_by};
+ghost use Rattle.std.specs.Prelude.{◌≡◌, [], IsTrue, ◌+◌, ◌*◌, ◌≤◌, All, length, sum_by};
 ghost use Rattle.lexical_write_integer.specs.Buffer.{Writes};
 ghost use Rattle.lexical_write_integer.specs.Sequence.{AreJoined, IsExactly};
 ghost use Rattle.lexical_parts.specs.Joined.{joined_room, lead};
@@ -79,7 +79,20 @@ impl<P: Part> Part for Joined<'_, P> {
         count
     }
 
-    fn is_known_utf8(self, own: Own) -> bool {
+    fn text_len(self) -> Option<usize> {
+        let separators = self.0.len().saturating_sub(1);
+        let mut count: usize = 0;
+        for part in self.0 {
+            count = count.checked_add(part.text_len()?)?;
+        }
+        count.checked_add(separators.checked_mul(self.1.len())?)
+    }
+
+    fn is_known_utf8(self, own: Own) -> bool
+        ensures valid { IsTrue result → All P.is_valid self.entry.0.now }
+        ensures utf8 { IsTrue result → All P.is_utf8 self.entry.0.now }
+        ensures empty { self.entry.0.now ≡ [] → IsTrue result }
+    {
         for part in self.0 {
             if !part.is_known_utf8(own) {
                 return false;

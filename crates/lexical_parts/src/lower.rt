@@ -1,5 +1,5 @@
 //! Parts in lowercase.
-#![tactic(auto, using(crate::proofs::Utf8Changes::changes))]
+#![tactic(auto, using(crate::proofs::Utf8Changes::changes, crate::proofs::Lengths::lengths))]
 
 ghost use Rattle.lexical_write_integer.specs.Lowercase.{IsLowercase};
 
@@ -28,6 +28,10 @@ impl<P: Part> Part for Lower<P> {
         let count = self.0.write_to(buffer);
         buffer[..count].make_ascii_lowercase();
         count
+    }
+
+    fn text_len(self) -> Option<usize> {
+        self.0.text_len()
     }
 
     fn is_known_utf8(self, own: Own) -> bool {

@@ -1,5 +1,5 @@
 //! Parts that are one number.
-#![tactic(auto, using(crate::proofs::Utf8Texts::kinds))]
+#![tactic(auto, using(crate::proofs::Utf8Texts::kinds, crate::proofs::Lengths::lengths))]
 
 ghost use Rattle.std.specs.Prelude.{◌≡◌, ◌≤◌};
 ghost use Rattle.lexical_num.specs.Format.{IsRadix, standard};
@@ -15,7 +15,7 @@ use lexical_write_integer::digit_count::DigitCount;
 use lexical_write_integer::format::STANDARD;
 use lexical_write_integer::laws::size_suffices;
 use lexical_write_integer::radix::Radix;
-use lexical_write_integer::{NumberFormat, ToLexicalWithOptions};
+use lexical_write_integer::{NumberFormat, ToLexicalWithOptions, sign_len};
 
 /// A number in decimal, with a `-` if it is negative: `Decimal(-5)` writes `-5`, as the part `-5` does. It
 /// is for generic code, in which the number has a type parameter.
@@ -34,6 +34,10 @@ impl<T: ToLexicalWithOptions> Part for Decimal<T> {
     fn write_to(self, buffer: &mut [u8]) -> usize {
         size_suffices(self.0, &STANDARD);
         self.0.write_lexical(buffer)
+    }
+
+    fn text_len(self) -> Option<usize> {
+        Formatted(self.0, &STANDARD).text_len()
     }
 
     fn is_known_utf8(self, _own: Own) -> bool {
@@ -58,6 +62,10 @@ impl<T: Radix + DigitCount> Part for Digits<T> {
 
     fn write_to(self, buffer: &mut [u8]) -> usize {
         self.1.radix(self.0, buffer)
+    }
+
+    fn text_len(self) -> Option<usize> {
+        Some(self.1.digit_count(self.0))
     }
 
     fn is_known_utf8(self, _own: Own) -> bool {
@@ -108,6 +116,13 @@ impl<T: ToLexicalWithOptions> Part for Formatted<'_, T> {
         formatted_room_suffices(self.0, self.1);
         self.1.in_range();
         self.0.write_text(buffer, self.1)
+    }
+
+    fn text_len(self) -> Option<usize> {
+        self.0.in_range();
+        self.1.in_range();
+        let digits = self.0.magnitude_digits(self.1.mantissa_radix());
+        Some(sign_len(self.0, self.1) + self.1.grouped_len(digits))
     }
 
     fn is_known_utf8(self, _own: Own) -> bool {

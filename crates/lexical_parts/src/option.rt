@@ -1,6 +1,6 @@
 //! Parts that may be absent: the text of `Some(part)` is that of the part, and `None` has no bytes.
 
-ghost use Rattle.std.specs.Prelude.{max};
+ghost use Rattle.std.specs.Prelude.{IfNone, IsTrue, max};
 ghost use Rattle.lexical_parts.specs.Optional.{IsOptional, IsOrElse, IsValidOptional, optional_room};
 
 use crate::own::Own;
@@ -32,7 +32,18 @@ impl<P: Part> Part for Option<P> {
         }
     }
 
-    fn is_known_utf8(self, own: Own) -> bool {
+    fn text_len(self) -> Option<usize> {
+        match self {
+            Some(part) => part.text_len(),
+            None => Some(0),
+        }
+    }
+
+    fn is_known_utf8(self, own: Own) -> bool
+        ensures valid { IsTrue result → IsValidOptional P.is_valid self }
+        ensures utf8 { IsTrue result → IsValidOptional P.is_utf8 self }
+        ensures none { IfNone self (IsTrue result) }
+    {
         match self {
             Some(part) => part.is_known_utf8(own),
             None => true,
@@ -73,6 +84,13 @@ impl<P: Part, Q: Part> Part for OrElse<P, Q> {
         match self.0 {
             Some(present) => present.write_to(buffer),
             None => self.1.write_to(buffer),
+        }
+    }
+
+    fn text_len(self) -> Option<usize> {
+        match self.0 {
+            Some(present) => present.text_len(),
+            None => self.1.text_len(),
         }
     }
 

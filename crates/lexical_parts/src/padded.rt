@@ -1,5 +1,5 @@
 //! Numbers with leading zeros, up to a fixed width.
-#![tactic(auto, using(crate::proofs::Utf8Texts::kinds))]
+#![tactic(auto, using(crate::proofs::Utf8Texts::kinds, crate::proofs::Lengths::lengths))]
 
 ghost use Rattle.std.specs.Prelude.{◌^◌, ◌<◌, IsTrue};
 ghost use Rattle.lexical_num.specs.Format.{IsRadix};
@@ -48,6 +48,10 @@ impl<T: DigitCount + Radix> Part for PaddedDigits<T> {
         self.2
     }
 
+    fn text_len(self) -> Option<usize> {
+        Some(self.2)
+    }
+
     fn is_known_utf8(self, own: Own) -> bool {
         if self.0 == 10 {
             return Padded(self.1, self.2).is_known_utf8(own);
@@ -78,6 +82,10 @@ impl<T: DigitCount + Radix> Part for Padded<T> {
 
     fn write_to(self, buffer: &mut [u8]) -> usize {
         PaddedDigits(10, self.0, self.1).write_to(buffer)
+    }
+
+    fn text_len(self) -> Option<usize> {
+        Some(self.1)
     }
 
     fn is_known_utf8(self, _own: Own) -> bool {

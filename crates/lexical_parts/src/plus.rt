@@ -1,5 +1,5 @@
 //! Numbers with a sign in each case.
-#![tactic(auto, using(crate::proofs::Utf8Texts::kinds))]
+#![tactic(auto, using(crate::proofs::Utf8Texts::kinds, crate::proofs::Lengths::lengths))]
 
 ghost use Rattle.std.specs.Prelude.{◌+◌};
 ghost use Rattle.lexical_parts.specs.Plus.{IsPlus};
@@ -30,6 +30,11 @@ impl<T: ToLexicalWithOptions> Part for Plus<T> {
         self.0.in_range();
         let start = Sign(self.0, true).write_to(buffer);
         start + self.0.write_magnitude(&STANDARD, &mut buffer[start..])
+    }
+
+    fn text_len(self) -> Option<usize> {
+        self.0.in_range();
+        Some(1 + self.0.magnitude_digits(10))
     }
 
     fn is_known_utf8(self, _own: Own) -> bool {

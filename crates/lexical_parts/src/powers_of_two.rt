@@ -1,5 +1,5 @@
 //! Unsigned numbers in radix 16 and in radix 2, in the room of their type, and bytes in radix 16.
-#![tactic(auto, using(crate::proofs::Utf8Texts::kinds))]
+#![tactic(auto, using(crate::proofs::Utf8Texts::kinds, crate::proofs::Lengths::lengths))]
 
 ghost use Rattle.std.specs.Prelude.{◌+◌, ◌-◌, ◌*◌, ◌/◌, length};
 ghost use Rattle.lexical_write_integer.specs.Padded.{IsPadded};
@@ -11,6 +11,7 @@ use crate::own::Own;
 use crate::part::Part;
 use crate::text::str_is_utf8;
 use lexical_tables::get_table;
+use lexical_write_integer::digit_count::DigitCount;
 use lexical_write_integer::laws::digit_count_within_bits;
 use lexical_write_integer::radix::{Radix, constant_radix};
 
@@ -31,6 +32,11 @@ impl<T: Radix> Part for Hex<T> {
     fn write_to(self, buffer: &mut [u8]) -> usize {
         self.0.fits_bits();
         constant_radix(self.0, 16, buffer)
+    }
+
+    fn text_len(self) -> Option<usize> {
+        self.0.fits_bits();
+        Some(self.0.as_u64().digit_count(16))
     }
 
     fn is_known_utf8(self, _own: Own) -> bool {
@@ -55,6 +61,11 @@ impl<T: Radix> Part for Binary<T> {
     fn write_to(self, buffer: &mut [u8]) -> usize {
         digit_count_within_bits(2, self.0);
         self.0.radix(2, buffer)
+    }
+
+    fn text_len(self) -> Option<usize> {
+        self.0.fits_bits();
+        Some(self.0.as_u64().digit_count(2))
     }
 
     fn is_known_utf8(self, _own: Own) -> bool {
@@ -112,6 +123,12 @@ impl Part for HexBytes<'_> {
             count += write_next(index, self.1, HexByte(*byte), &mut buffer[count..]);
         }
         count
+    }
+
+    fn text_len(self) -> Option<usize> {
+        let digits = self.0.len().checked_mul(2)?;
+        let separators = self.0.len().saturating_sub(1);
+        digits.checked_add(separators.checked_mul(self.1.len())?)
     }
 
     fn is_known_utf8(self, _own: Own) -> bool {

@@ -7,6 +7,8 @@ use std::fmt;
 impl<P: Part> Part for &P {
     ghost is_text = { λ part. P.is_text part.now };
 
+    ghost text = { λ part. P.text part.now };
+
     ghost is_valid = { λ part. P.is_valid part.now };
 
     ghost room = { λ part. P.room part.now };
@@ -19,6 +21,10 @@ impl<P: Part> Part for &P {
 
     fn write_to(self, buffer: &mut [u8]) -> usize {
         (*self).write_to(buffer)
+    }
+
+    fn text_len(self) -> Option<usize> {
+        (*self).text_len()
     }
 
     fn is_known_utf8(self, own: Own) -> bool {

@@ -1,5 +1,5 @@
 //! Numbers in scientific notation.
-#![tactic(auto, using(crate::proofs::Utf8Texts::kinds))]
+#![tactic(auto, using(crate::proofs::Utf8Texts::kinds, crate::proofs::Lengths::lengths))]
 
 ghost use Rattle.std.specs.Prelude.{◌≡◌, ◌≢◌, ℕ, ◌+◌, ◌-◌, ◌^◌, ◌<◌, ◌≤◌, length, drop, replicate};
 ghost use Rattle.std.specs.Prelude.{slice_index, unsigned_abs};
@@ -16,6 +16,9 @@ use crate::text::Bytes;
 use lexical_write_integer::ToLexicalWithOptions;
 use lexical_write_integer::format::STANDARD;
 use lexical_write_integer::laws::size_suffices;
+
+// The room of a number in scientific notation of the longest type.
+const LONGEST: usize = 33;
 
 // Returns how many digits are left without the zeros at the end. At least the first `least` digits are left.
 pub(crate) fn count_without_zeros(digits: &[u8], least: usize) -> usize
@@ -109,6 +112,12 @@ impl<T: ToLexicalWithOptions> Part for Scientific<T> {
         size_suffices(self.0, &STANDARD);
         let start = Sign(self.0, false).write_to(buffer);
         start + write_magnitude(self.0, self.1, &mut buffer[start..])
+    }
+
+    fn text_len(self) -> Option<usize> {
+        self.0.in_range();
+        // How many zeros the number ends with, only its digits say.
+        Some(self.write_to(&mut [0; LONGEST]))
     }
 
     fn is_known_utf8(self, _own: Own) -> bool {

@@ -1,7 +1,9 @@
 //! Parts in a format string, whose text is not that of one number.
 
-ghost use Rattle.std.specs.Fmt.{IsPlainFormatter, formatter_spec, spec_width};
-ghost use Rattle.std.specs.Prelude.{IsOk, IsSome};
+ghost use Rattle.std.specs.Fmt.{DisplaysOnOk, IsPlainFormatter, formatter_spec, spec_width};
+ghost use Rattle.std.specs.Prelude.{IsOk, IsSome, Some};
+ghost use Rattle.lexical_parts.specs.Column.{centered_text, left_text, right_text};
+ghost use Rattle.lexical_parts.specs.HexBytes.{hex_bytes_text};
 ghost use Rattle.lexical_parts.specs.ShownParts.{WritesPaddedOnOk, WritesSome, WritesSomeOnOk};
 
 use crate::column::{Center, Left, Right};
@@ -51,9 +53,11 @@ impl<P: Part> Shown<P> {
     }
 
     // Writes the text, or returns an error if this is not possible.
+    #[tactic(auto, using(crate::proofs::ShownParts::displays_only))]
     fn show<W: fmt::Write>(self, f: &mut fmt::Formatter<W>) -> fmt::Result
         ensures plain { IsPlainFormatter f.old → IsOk result
             → WritesSome W.write_str_gives (P.is_text self.0) f.old f.new }
+        ensures writes { DisplaysOnOk W.write_str_gives f.old result (P.text self.0) f.new }
         ensures padded { IsSome (spec_width (formatter_spec f.old))
             → WritesPaddedOnOk W.write_str_gives f.old result (P.is_text self.0) f.new }
     {
@@ -72,6 +76,8 @@ impl<P: Part> Shown<P> {
 }
 
 impl<P: Part> fmt::Display for Shown<P> {
+    ghost output = { λ part. P.text part.0 };
+
     fn fmt<W: fmt::Write>(&self, f: &mut fmt::Formatter<W>) -> fmt::Result {
         Shown(self.0).show(f)
     }
@@ -90,18 +96,24 @@ impl<P: Part> fmt::Display for ZeroPadded<P> {
 }
 
 impl<P: Part> fmt::Display for Left<P> {
+    ghost output = { λ part. left_text part.1 part.2 (P.text part.0) };
+
     fn fmt<W: fmt::Write>(&self, f: &mut fmt::Formatter<W>) -> fmt::Result {
         Shown(*self).show(f)
     }
 }
 
 impl<P: Part> fmt::Display for Right<P> {
+    ghost output = { λ part. right_text part.1 part.2 (P.text part.0) };
+
     fn fmt<W: fmt::Write>(&self, f: &mut fmt::Formatter<W>) -> fmt::Result {
         Shown(*self).show(f)
     }
 }
 
 impl<P: Part> fmt::Display for Center<P> {
+    ghost output = { λ part. centered_text part.1 part.2 (P.text part.0) };
+
     fn fmt<W: fmt::Write>(&self, f: &mut fmt::Formatter<W>) -> fmt::Result {
         Shown(*self).show(f)
     }
@@ -126,6 +138,8 @@ impl<T: ToLexicalWithOptions> fmt::Display for Scientific<T> {
 }
 
 impl fmt::Display for HexBytes<'_> {
+    ghost output = { λ part. Some (hex_bytes_text part.1.now part.0.now) };
+
     fn fmt<W: fmt::Write>(&self, f: &mut fmt::Formatter<W>) -> fmt::Result {
         Shown(*self).show(f)
     }

@@ -1,5 +1,5 @@
 //! The sign of a number, as a part of its own.
-#![tactic(auto, using(crate::proofs::Utf8Texts::kinds))]
+#![tactic(auto, using(crate::proofs::Utf8Texts::kinds, crate::proofs::Lengths::lengths))]
 
 ghost use Rattle.lexical_num.specs.Sign.{sign_of};
 ghost use Rattle.lexical_write_integer.specs.Sequence.{IsExactly};
@@ -31,6 +31,10 @@ impl<T: LexicalInteger> Part for Sign<T> {
         } else {
             0
         }
+    }
+
+    fn text_len(self) -> Option<usize> {
+        Some(usize::from(self.0.is_negative() || self.1))
     }
 
     fn is_known_utf8(self, _own: Own) -> bool {

@@ -1,7 +1,7 @@
 //! Parts that are strings or bytes, whose text is the same bytes, characters, and the words `true` and `false`.
-#![tactic(auto, using(crate::proofs::Utf8Texts::kinds))]
+#![tactic(auto, using(crate::proofs::Utf8Texts::kinds, crate::proofs::Lengths::lengths))]
 
-ghost use Rattle.std.specs.Prelude.{◌≡◌, ◌<◌, ℕ, [], ◌∷◌, encode_utf8, length};
+ghost use Rattle.std.specs.Prelude.{Some, ◌≡◌, ◌<◌, ℕ, [], ◌∷◌, encode_utf8, length};
 ghost use Rattle.std.specs.Str.{IsUtf8};
 ghost use Rattle.lexical_write_integer.specs.Sequence.{IsExactly};
 ghost use Rattle.lexical_parts.specs.Utf8.{AreUtf8};
@@ -21,6 +21,8 @@ pub(crate) fn str_is_utf8(text: &str)
 impl Part for &str {
     ghost is_text = { λ part. IsExactly part.now };
 
+    ghost text = { λ part. Some part.now };
+
     ghost room = { λ part. length part.now };
 
     fn room(self) -> usize {
@@ -29,6 +31,10 @@ impl Part for &str {
 
     fn write_to(self, buffer: &mut [u8]) -> usize {
         copy_to_front(self.as_bytes(), buffer)
+    }
+
+    fn text_len(self) -> Option<usize> {
+        Some(self.len())
     }
 
     fn is_known_utf8(self, _own: Own) -> bool {
@@ -54,6 +60,8 @@ fn word(flag: bool) -> &'static str
 impl Part for bool {
     ghost is_text = { λ flag. IsExactly (word flag) };
 
+    ghost text = { λ flag. Some (word flag) };
+
     ghost room = { λ _. 5 };
 
     fn room(self) -> usize {
@@ -66,6 +74,10 @@ impl Part for bool {
         text.write_to(buffer)
     }
 
+    fn text_len(self) -> Option<usize> {
+        Some(word(self).len())
+    }
+
     fn is_known_utf8(self, _own: Own) -> bool {
         true
     }
@@ -73,6 +85,8 @@ impl Part for bool {
 
 impl Part for char {
     ghost is_text = { λ character. IsExactly (encode_utf8 character) };
+
+    ghost text = { λ character. Some (encode_utf8 character) };
 
     ghost room = { λ _. 4 };
 
@@ -87,6 +101,10 @@ impl Part for char {
         text.write_to(buffer)
     }
 
+    fn text_len(self) -> Option<usize> {
+        Some(self.len_utf8())
+    }
+
     fn is_known_utf8(self, _own: Own) -> bool {
         true
     }
@@ -99,6 +117,8 @@ pub struct Bytes<'a>(pub &'a [u8]);
 impl Part for Bytes<'_> {
     ghost is_text = { λ part. IsExactly part.0.now };
 
+    ghost text = { λ part. Some part.0.now };
+
     ghost room = { λ part. length part.0.now };
 
     ghost is_utf8 = { λ part. IsUtf8 part.0.now };
@@ -109,6 +129,10 @@ impl Part for Bytes<'_> {
 
     fn write_to(self, buffer: &mut [u8]) -> usize {
         copy_to_front(self.0, buffer)
+    }
+
+    fn text_len(self) -> Option<usize> {
+        Some(self.0.len())
     }
 
     fn is_known_utf8(self, _own: Own) -> bool {
@@ -134,6 +158,8 @@ pub struct Byte(pub u8);
 impl Part for Byte {
     ghost is_text = { λ part. IsExactly (part.0 ∷ []) };
 
+    ghost text = { λ part. Some (part.0 ∷ []) };
+
     ghost room = { λ _. 1 };
 
     ghost is_utf8 = { λ part. part.0 < 128 };
@@ -144,6 +170,10 @@ impl Part for Byte {
 
     fn write_to(self, buffer: &mut [u8]) -> usize {
         copy_to_front(&[self.0], buffer)
+    }
+
+    fn text_len(self) -> Option<usize> {
+        Some(1)
     }
 
     fn is_known_utf8(self, _own: Own) -> bool {

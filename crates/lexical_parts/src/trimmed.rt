@@ -1,12 +1,12 @@
 //! Numbers of units without zeros at the end of their fraction.
-#![tactic(auto, using(crate::proofs::Utf8Texts::kinds))]
+#![tactic(auto, using(crate::proofs::Utf8Texts::kinds, crate::proofs::Lengths::lengths))]
 
 ghost use Rattle.std.specs.Prelude.{◌+◌, ◌≤◌, length, max, min, unsigned_abs};
 ghost use Rattle.lexical_write_integer.specs.Buffer.{Writes};
 ghost use Rattle.lexical_parts.specs.Fixed.{fixed_room};
 ghost use Rattle.lexical_parts.specs.Trimmed.{IsTrimmedFixed, IsTrimmedUnits};
 
-use crate::fixed::{Fixed, write_units};
+use crate::fixed::{Fixed, LONGEST_FIXED, write_units};
 use crate::own::Own;
 use crate::part::Part;
 use crate::scientific::count_without_zeros;
@@ -59,6 +59,12 @@ impl<T: ToLexicalWithOptions> Part for TrimmedFixed<T> {
         size_suffices(self.0, &STANDARD);
         let start = Sign(self.0, false).write_to(buffer);
         start + write_trimmed_units(self.0, self.1, &mut buffer[start..])
+    }
+
+    fn text_len(self) -> Option<usize> {
+        self.0.in_range();
+        // How many zeros the fraction ends with, only its digits say.
+        Some(self.write_to(&mut [0; LONGEST_FIXED]))
     }
 
     fn is_known_utf8(self, own: Own) -> bool {

@@ -1,7 +1,8 @@
 //! Tuples of two to twelve parts, whose text is the texts of their members in order.
-#![tactic(auto, using(crate::proofs::Utf8Texts::kinds))]
+#![tactic(auto, using(crate::proofs::Utf8Texts::kinds, crate::proofs::Lengths::lengths))]
 
 ghost use Rattle.std.specs.Prelude.{◌+◌};
+ghost use Rattle.lexical_parts.specs.Length.{both_texts};
 ghost use Rattle.lexical_parts.specs.Sequence.{◌then◌};
 
 use crate::own::Own;
@@ -12,6 +13,8 @@ use std::fmt;
 impl<A: Part, B: Part> Part for (A, B) {
     ghost is_text = { λ p. A.is_text p.0 then B.is_text p.1 };
 
+    ghost text = { λ p. both_texts (A.text p.0) (B.text p.1) };
+
     ghost is_valid = { λ p. A.is_valid p.0 × B.is_valid p.1 };
 
     ghost room = { λ p. A.room p.0 + B.room p.1 };
@@ -20,6 +23,11 @@ impl<A: Part, B: Part> Part for (A, B) {
 
     fn room(self) -> usize {
         self.0.room().saturating_add(self.1.room())
+    }
+
+    fn text_len(self) -> Option<usize> {
+        let first = self.0.text_len()?;
+        first.checked_add(self.1.text_len()?)
     }
 
     fn write_to(self, buffer: &mut [u8]) -> usize {
@@ -46,6 +54,8 @@ impl<A: Part, B: Part> Part for (A, B) {
 impl<A: Part, B: Part, C: Part> Part for (A, B, C) {
     ghost is_text = { λ p. A.is_text p.0 then B.is_text p.1 then C.is_text p.2 };
 
+    ghost text = { λ p. both_texts (A.text p.0) (both_texts (B.text p.1) (C.text p.2)) };
+
     ghost is_valid = { λ p. A.is_valid p.0 × (B.is_valid p.1 × C.is_valid p.2) };
 
     ghost room = { λ p. A.room p.0 + (B.room p.1 + C.room p.2) };
@@ -54,6 +64,10 @@ impl<A: Part, B: Part, C: Part> Part for (A, B, C) {
 
     fn room(self) -> usize {
         (self.0, (self.1, self.2)).room()
+    }
+
+    fn text_len(self) -> Option<usize> {
+        (self.0, (self.1, self.2)).text_len()
     }
 
     fn write_to(self, buffer: &mut [u8]) -> usize {
@@ -80,6 +94,10 @@ impl<A: Part, B: Part, C: Part, D: Part> Part for (A, B, C, D) {
 
     fn room(self) -> usize {
         (self.0, (self.1, self.2, self.3)).room()
+    }
+
+    fn text_len(self) -> Option<usize> {
+        (self.0, (self.1, self.2, self.3)).text_len()
     }
 
     fn write_to(self, buffer: &mut [u8]) -> usize {
@@ -109,6 +127,10 @@ impl<A: Part, B: Part, C: Part, D: Part, E: Part> Part for (A, B, C, D, E) {
 
     fn room(self) -> usize {
         (self.0, (self.1, self.2, self.3, self.4)).room()
+    }
+
+    fn text_len(self) -> Option<usize> {
+        (self.0, (self.1, self.2, self.3, self.4)).text_len()
     }
 
     fn write_to(self, buffer: &mut [u8]) -> usize {
@@ -141,6 +163,10 @@ impl<A: Part, B: Part, C: Part, D: Part, E: Part, F: Part> Part for (A, B, C, D,
         (self.0, (self.1, self.2, self.3, self.4, self.5)).room()
     }
 
+    fn text_len(self) -> Option<usize> {
+        (self.0, (self.1, self.2, self.3, self.4, self.5)).text_len()
+    }
+
     fn write_to(self, buffer: &mut [u8]) -> usize {
         (self.0, (self.1, self.2, self.3, self.4, self.5)).write_to(buffer)
     }
@@ -169,6 +195,10 @@ impl<A: Part, B: Part, C: Part, D: Part, E: Part, F: Part, G: Part> Part for (A,
 
     fn room(self) -> usize {
         (self.0, (self.1, self.2, self.3, self.4, self.5, self.6)).room()
+    }
+
+    fn text_len(self) -> Option<usize> {
+        (self.0, (self.1, self.2, self.3, self.4, self.5, self.6)).text_len()
     }
 
     fn write_to(self, buffer: &mut [u8]) -> usize {
@@ -201,6 +231,11 @@ impl<A: Part, B: Part, C: Part, D: Part, E: Part, F: Part, G: Part, H: Part> Par
     fn room(self) -> usize {
         let (a, b, c, d, e, f, g, h) = self;
         (a, (b, c, d, e, f, g, h)).room()
+    }
+
+    fn text_len(self) -> Option<usize> {
+        let (a, b, c, d, e, f, g, h) = self;
+        (a, (b, c, d, e, f, g, h)).text_len()
     }
 
     fn write_to(self, buffer: &mut [u8]) -> usize {
@@ -241,6 +276,11 @@ impl<A: Part, B: Part, C: Part, D: Part, E: Part, F: Part, G: Part, H: Part, I: 
         (a, (b, c, d, e, f, g, h, i)).room()
     }
 
+    fn text_len(self) -> Option<usize> {
+        let (a, b, c, d, e, f, g, h, i) = self;
+        (a, (b, c, d, e, f, g, h, i)).text_len()
+    }
+
     fn write_to(self, buffer: &mut [u8]) -> usize {
         let (a, b, c, d, e, f, g, h, i) = self;
         (a, (b, c, d, e, f, g, h, i)).write_to(buffer)
@@ -277,6 +317,11 @@ impl<A: Part, B: Part, C: Part, D: Part, E: Part, F: Part, G: Part, H: Part, I: 
     fn room(self) -> usize {
         let (a, b, c, d, e, f, g, h, i, j) = self;
         (a, (b, c, d, e, f, g, h, i, j)).room()
+    }
+
+    fn text_len(self) -> Option<usize> {
+        let (a, b, c, d, e, f, g, h, i, j) = self;
+        (a, (b, c, d, e, f, g, h, i, j)).text_len()
     }
 
     fn write_to(self, buffer: &mut [u8]) -> usize {
@@ -329,6 +374,11 @@ impl<
         (a, (b, c, d, e, f, g, h, i, j, k)).room()
     }
 
+    fn text_len(self) -> Option<usize> {
+        let (a, b, c, d, e, f, g, h, i, j, k) = self;
+        (a, (b, c, d, e, f, g, h, i, j, k)).text_len()
+    }
+
     fn write_to(self, buffer: &mut [u8]) -> usize {
         let (a, b, c, d, e, f, g, h, i, j, k) = self;
         (a, (b, c, d, e, f, g, h, i, j, k)).write_to(buffer)
@@ -378,6 +428,11 @@ impl<
     fn room(self) -> usize {
         let (a, b, c, d, e, f, g, h, i, j, k, l) = self;
         (a, (b, c, d, e, f, g, h, i, j, k, l)).room()
+    }
+
+    fn text_len(self) -> Option<usize> {
+        let (a, b, c, d, e, f, g, h, i, j, k, l) = self;
+        (a, (b, c, d, e, f, g, h, i, j, k, l)).text_len()
     }
 
     fn write_to(self, buffer: &mut [u8]) -> usize {

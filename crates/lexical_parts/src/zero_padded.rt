@@ -1,5 +1,5 @@
 //! Numbers with leading zeros, up to at least a width.
-#![tactic(auto, using(crate::proofs::Utf8Changes::changes))]
+#![tactic(auto, using(crate::proofs::Utf8Changes::changes, crate::proofs::Lengths::lengths))]
 
 ghost use Rattle.std.specs.Prelude.{◌≡◌, ◌≤◌, length, max};
 ghost use Rattle.lexical_parts.specs.ZeroPadded.{IsZeroPadded, sign_length};
@@ -44,6 +44,10 @@ impl<P: Part> Part for ZeroPadded<P> {
         let zeros = self.1.saturating_sub(count);
         insert_fill(b'0', zeros, count - sign, &mut buffer[sign..]);
         zeros + count
+    }
+
+    fn text_len(self) -> Option<usize> {
+        Some(self.0.text_len()?.max(self.1))
     }
 
     fn is_known_utf8(self, own: Own) -> bool {

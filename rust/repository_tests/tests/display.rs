@@ -223,8 +223,8 @@ fn parts_that_are_not_shown() {
     assert!(is_refused((1u8, Digits(37, 1u8))) && is_refused(Joined(&[Padded(1u8, 1), Padded(10, 1)], ",")));
     assert!(is_refused(Bytes(&[200])) && is_refused((Byte(128), 1u8)) && is_refused(Left(1u8, 2, 128)));
     assert!(is_refused(Own) && is_refused(("own", Own)) && is_refused(Fixed(1u8, 20)));
-    assert!(is_refused(Left(1u8, 257, b' ')) && is_refused(Lower(&*"A".repeat(257))));
-    assert!(!is_refused(Left(1u8, 256, b' ')) && !is_refused(Lower(&*"A".repeat(256))));
+    assert!(is_refused(Lower(&*"A".repeat(257))) && !is_refused(Lower(&*"A".repeat(256))));
+    assert_eq!(Left(1u8, 257, b' ').to_string().len(), 257);
 }
 
 #[test]

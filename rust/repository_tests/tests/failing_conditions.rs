@@ -236,7 +236,7 @@ fn messages(called: &mut Vec<Panicking>) {
         "a part is invalid: then `build` returns an error", "the separator is a letter, a digit or a sign":
             builder.digit_grouping(3, b'0').build_strict();
         "the part is not valid", "20 decimals, but at most 19": Fixed(7i64, 20).to_text(buffer), Fixed(7u8, 20).room(),
-            TrimmedFixed(7u8, 20).room(), TrimmedFixed(7u8, 20).write_to(buffer);
+            TrimmedFixed(7u8, 20).room(), TrimmedFixed(7u8, 20).write_to(buffer), Fixed(7u8, 20).text_len();
         "the part is not valid", "90 decimals, but at most 19": Fixed(7u8, 90).to_str(buffer),
             Fixed(7u8, 90).try_write_to(buffer), Fixed(7u8, 90).write_to(buffer), Fixed(7u8, 90).write_at(1, buffer);
         "the part is not valid", "the number has more digits than the width": Padded(2026u16, 2).to_text(buffer),

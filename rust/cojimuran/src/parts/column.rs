@@ -5,6 +5,20 @@
 use crate::parts::fill::{insert_fill, write_fill};
 use crate::parts::own::Own;
 use crate::parts::part::Part;
+use crate::parts::shown::Shown;
+use crate::parts::text::Byte;
+use core::fmt;
+
+// Writes copies of a byte to a formatter, whatever its options are.
+#[inline]
+fn write_copies(f: &mut fmt::Formatter<'_>, byte: u8, count: usize) -> fmt::Result {
+    let mut array = [0; 1];
+    let text = Byte(byte).to_str(&mut array);
+    for _ in 0..count {
+        f.write_str(text)?;
+    }
+    Ok(())
+}
 
 /// A part that is aligned to the left of a column: a byte, often a space, is added after its text, up to
 /// the width. `Left(Decimal(12), 4, b'.')` writes `12..`. Nothing is added to a text longer than the
@@ -30,9 +44,23 @@ impl<P: Part> Part for Left<P> {
         count + write_fill(self.2, self.1.saturating_sub(count), &mut buffer[count..])
     }
 
+    #[inline]
+    fn text_len(self) -> Option<usize> {
+        Some(self.0.text_len()?.max(self.1))
+    }
+
     #[inline(always)]
     fn is_known_utf8(self, own: Own) -> bool {
         self.2 < 128 && self.0.is_known_utf8(own)
+    }
+
+    #[inline]
+    fn write_each(self, f: &mut fmt::Formatter<'_>, _own: Own) -> Option<fmt::Result> {
+        let count = self.0.text_len()?;
+        match Shown(self.0).write(f) {
+            Ok(()) => Some(write_copies(f, self.2, self.1.saturating_sub(count))),
+            Err(error) => Some(Err(error)),
+        }
     }
 }
 
@@ -62,9 +90,23 @@ impl<P: Part> Part for Right<P> {
         added + count
     }
 
+    #[inline]
+    fn text_len(self) -> Option<usize> {
+        Some(self.0.text_len()?.max(self.1))
+    }
+
     #[inline(always)]
     fn is_known_utf8(self, own: Own) -> bool {
         self.2 < 128 && self.0.is_known_utf8(own)
+    }
+
+    #[inline]
+    fn write_each(self, f: &mut fmt::Formatter<'_>, _own: Own) -> Option<fmt::Result> {
+        let count = self.0.text_len()?;
+        match write_copies(f, self.2, self.1.saturating_sub(count)) {
+            Ok(()) => Some(Shown(self.0).write(f)),
+            Err(error) => Some(Err(error)),
+        }
     }
 }
 
@@ -96,8 +138,27 @@ impl<P: Part> Part for Center<P> {
         end + write_fill(self.2, added - before, &mut buffer[end..])
     }
 
+    #[inline]
+    fn text_len(self) -> Option<usize> {
+        Some(self.0.text_len()?.max(self.1))
+    }
+
     #[inline(always)]
     fn is_known_utf8(self, own: Own) -> bool {
         self.2 < 128 && self.0.is_known_utf8(own)
+    }
+
+    #[inline]
+    fn write_each(self, f: &mut fmt::Formatter<'_>, _own: Own) -> Option<fmt::Result> {
+        let count = self.0.text_len()?;
+        let added = self.1.saturating_sub(count);
+        let before = added / 2;
+        if let Err(error) = write_copies(f, self.2, before) {
+            return Some(Err(error));
+        }
+        match Shown(self.0).write(f) {
+            Ok(()) => Some(write_copies(f, self.2, added - before)),
+            Err(error) => Some(Err(error)),
+        }
     }
 }

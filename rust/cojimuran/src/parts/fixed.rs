@@ -7,7 +7,10 @@ use crate::parts::own::Own;
 use crate::parts::part::Part;
 use crate::parts::sign::Sign;
 use crate::write_integer::format::STANDARD;
-use crate::write_integer::{NumberFormat, ToLexicalWithOptions, group_digits};
+use crate::write_integer::{NumberFormat, ToLexicalWithOptions, group_digits, sign_len};
+
+// The length of the longest number with decimals, a `u64` in groups of one digit.
+pub(crate) const LONGEST_FIXED: usize = 39;
 
 // In Rust nothing else refuses more decimals.
 #[inline(always)]
@@ -81,6 +84,11 @@ impl<T: ToLexicalWithOptions> Part for Fixed<T> {
     }
 
     #[inline(always)]
+    fn text_len(self) -> Option<usize> {
+        GroupedFixed(self.0, self.1, &STANDARD).text_len()
+    }
+
+    #[inline(always)]
     fn is_known_utf8(self, own: Own) -> bool {
         GroupedFixed(self.0, self.1, &STANDARD).is_known_utf8(own)
     }
@@ -110,6 +118,15 @@ impl<T: ToLexicalWithOptions> Part for GroupedFixed<'_, T> {
     fn write_to(self, buffer: &mut [u8]) -> usize {
         let start = Sign(self.0, false).write_to(buffer);
         start + write_grouped_units(self.0, self.1, self.2, &mut buffer[start..])
+    }
+
+    #[inline(always)]
+    fn text_len(self) -> Option<usize> {
+        check_decimals(self.1);
+        let digits = self.0.magnitude_digits(10);
+        let whole = digits.saturating_sub(self.1).max(1);
+        let sign = sign_len(self.0, &STANDARD);
+        Some(sign + self.2.grouped_len(whole) + self.1 + self.1.min(1))
     }
 
     #[inline(always)]

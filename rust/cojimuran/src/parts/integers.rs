@@ -18,6 +18,11 @@ impl Part for u8 {
     }
 
     #[inline(always)]
+    fn text_len(self) -> Option<usize> {
+        Decimal(self).text_len()
+    }
+
+    #[inline(always)]
     fn is_known_utf8(self, _own: Own) -> bool {
         true
     }
@@ -32,6 +37,11 @@ impl Part for u16 {
     #[inline(always)]
     fn write_to(self, buffer: &mut [u8]) -> usize {
         Decimal(self).write_to(buffer)
+    }
+
+    #[inline(always)]
+    fn text_len(self) -> Option<usize> {
+        Decimal(self).text_len()
     }
 
     #[inline(always)]
@@ -52,6 +62,11 @@ impl Part for u32 {
     }
 
     #[inline(always)]
+    fn text_len(self) -> Option<usize> {
+        Decimal(self).text_len()
+    }
+
+    #[inline(always)]
     fn is_known_utf8(self, _own: Own) -> bool {
         true
     }
@@ -66,6 +81,11 @@ impl Part for u64 {
     #[inline(always)]
     fn write_to(self, buffer: &mut [u8]) -> usize {
         Decimal(self).write_to(buffer)
+    }
+
+    #[inline(always)]
+    fn text_len(self) -> Option<usize> {
+        Decimal(self).text_len()
     }
 
     #[inline(always)]
@@ -86,6 +106,11 @@ impl Part for usize {
     }
 
     #[inline(always)]
+    fn text_len(self) -> Option<usize> {
+        Decimal(self).text_len()
+    }
+
+    #[inline(always)]
     fn is_known_utf8(self, _own: Own) -> bool {
         true
     }
@@ -100,6 +125,11 @@ impl Part for i8 {
     #[inline(always)]
     fn write_to(self, buffer: &mut [u8]) -> usize {
         Decimal(self).write_to(buffer)
+    }
+
+    #[inline(always)]
+    fn text_len(self) -> Option<usize> {
+        Decimal(self).text_len()
     }
 
     #[inline(always)]
@@ -120,6 +150,11 @@ impl Part for i16 {
     }
 
     #[inline(always)]
+    fn text_len(self) -> Option<usize> {
+        Decimal(self).text_len()
+    }
+
+    #[inline(always)]
     fn is_known_utf8(self, _own: Own) -> bool {
         true
     }
@@ -134,6 +169,11 @@ impl Part for i32 {
     #[inline(always)]
     fn write_to(self, buffer: &mut [u8]) -> usize {
         Decimal(self).write_to(buffer)
+    }
+
+    #[inline(always)]
+    fn text_len(self) -> Option<usize> {
+        Decimal(self).text_len()
     }
 
     #[inline(always)]
@@ -154,6 +194,11 @@ impl Part for i64 {
     }
 
     #[inline(always)]
+    fn text_len(self) -> Option<usize> {
+        Decimal(self).text_len()
+    }
+
+    #[inline(always)]
     fn is_known_utf8(self, _own: Own) -> bool {
         true
     }
@@ -168,6 +213,11 @@ impl Part for isize {
     #[inline(always)]
     fn write_to(self, buffer: &mut [u8]) -> usize {
         Decimal(self).write_to(buffer)
+    }
+
+    #[inline(always)]
+    fn text_len(self) -> Option<usize> {
+        Decimal(self).text_len()
     }
 
     #[inline(always)]

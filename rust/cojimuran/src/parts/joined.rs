@@ -65,6 +65,16 @@ impl<P: Part> Part for Joined<'_, P> {
     }
 
     #[inline(always)]
+    fn text_len(self) -> Option<usize> {
+        let separators = self.0.len().saturating_sub(1);
+        let mut count: usize = 0;
+        for part in self.0 {
+            count = count.checked_add(part.text_len()?)?;
+        }
+        count.checked_add(separators.checked_mul(self.1.len())?)
+    }
+
+    #[inline(always)]
     fn is_known_utf8(self, own: Own) -> bool {
         for part in self.0 {
             if !part.is_known_utf8(own) {

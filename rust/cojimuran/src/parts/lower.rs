@@ -29,6 +29,11 @@ impl<P: Part> Part for Lower<P> {
         count
     }
 
+    #[inline]
+    fn text_len(self) -> Option<usize> {
+        self.0.text_len()
+    }
+
     #[inline(always)]
     fn is_known_utf8(self, own: Own) -> bool {
         self.0.is_known_utf8(own)

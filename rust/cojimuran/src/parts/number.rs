@@ -6,8 +6,9 @@ use crate::num::limits::is_radix;
 use crate::parts::own::Own;
 use crate::parts::part::Part;
 use crate::write_integer::digit_count::DigitCount;
+use crate::write_integer::format::STANDARD;
 use crate::write_integer::radix::Radix;
-use crate::write_integer::{NumberFormat, ToLexicalWithOptions};
+use crate::write_integer::{NumberFormat, ToLexicalWithOptions, sign_len};
 
 /// A number in decimal, with a `-` if it is negative: `Decimal(-5)` writes `-5`, as the part `-5` does. It
 /// is for generic code, in which the number has a type parameter.
@@ -29,6 +30,11 @@ impl<T: ToLexicalWithOptions> Part for Decimal<T> {
     #[inline(always)]
     fn write_to(self, buffer: &mut [u8]) -> usize {
         self.0.write_lexical(buffer)
+    }
+
+    #[inline(always)]
+    fn text_len(self) -> Option<usize> {
+        Formatted(self.0, &STANDARD).text_len()
     }
 
     #[inline(always)]
@@ -56,6 +62,11 @@ impl<T: Radix + DigitCount> Part for Digits<T> {
     #[inline(always)]
     fn write_to(self, buffer: &mut [u8]) -> usize {
         self.1.radix(self.0, buffer)
+    }
+
+    #[inline(always)]
+    fn text_len(self) -> Option<usize> {
+        Some(self.1.digit_count(self.0))
     }
 
     #[inline(always)]
@@ -98,6 +109,12 @@ impl<T: ToLexicalWithOptions> Part for Formatted<'_, T> {
     #[inline(always)]
     fn write_to(self, buffer: &mut [u8]) -> usize {
         self.0.write_text(buffer, self.1)
+    }
+
+    #[inline(always)]
+    fn text_len(self) -> Option<usize> {
+        let digits = self.0.magnitude_digits(self.1.mantissa_radix());
+        Some(sign_len(self.0, self.1) + self.1.grouped_len(digits))
     }
 
     #[inline(always)]

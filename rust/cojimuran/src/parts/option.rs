@@ -25,6 +25,14 @@ impl<P: Part> Part for Option<P> {
         }
     }
 
+    #[inline]
+    fn text_len(self) -> Option<usize> {
+        match self {
+            Some(part) => part.text_len(),
+            None => Some(0),
+        }
+    }
+
     #[inline(always)]
     fn is_known_utf8(self, own: Own) -> bool {
         match self {
@@ -65,6 +73,14 @@ impl<P: Part, Q: Part> Part for OrElse<P, Q> {
         match self.0 {
             Some(present) => present.write_to(buffer),
             None => self.1.write_to(buffer),
+        }
+    }
+
+    #[inline]
+    fn text_len(self) -> Option<usize> {
+        match self.0 {
+            Some(present) => present.text_len(),
+            None => self.1.text_len(),
         }
     }
 

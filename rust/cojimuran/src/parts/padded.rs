@@ -46,6 +46,11 @@ impl<T: DigitCount + Radix> Part for PaddedDigits<T> {
     }
 
     #[inline(always)]
+    fn text_len(self) -> Option<usize> {
+        Some(self.2)
+    }
+
+    #[inline(always)]
     fn is_known_utf8(self, own: Own) -> bool {
         if self.0 == 10 {
             return Padded(self.1, self.2).is_known_utf8(own);
@@ -78,6 +83,11 @@ impl<T: DigitCount + Radix> Part for Padded<T> {
     #[inline(always)]
     fn write_to(self, buffer: &mut [u8]) -> usize {
         PaddedDigits(10, self.0, self.1).write_to(buffer)
+    }
+
+    #[inline(always)]
+    fn text_len(self) -> Option<usize> {
+        Some(self.1)
     }
 
     #[inline(always)]

@@ -33,6 +33,11 @@ impl<T: ToLexicalWithOptions> Part for Plus<T> {
         start + self.0.write_magnitude(&STANDARD, &mut buffer[start..])
     }
 
+    #[inline]
+    fn text_len(self) -> Option<usize> {
+        Some(1 + self.0.magnitude_digits(10))
+    }
+
     #[inline(always)]
     fn is_known_utf8(self, _own: Own) -> bool {
         true

@@ -6,6 +6,7 @@ use crate::parts::joined::write_next;
 use crate::parts::own::Own;
 use crate::parts::part::Part;
 use crate::tables::get_table;
+use crate::write_integer::digit_count::DigitCount;
 use crate::write_integer::radix::{Radix, constant_radix};
 
 /// The digits of an unsigned number in radix 16, without a prefix: `Hex(255u32)` writes `FF`. Its room
@@ -28,6 +29,11 @@ impl<T: Radix> Part for Hex<T> {
     #[inline(always)]
     fn write_to(self, buffer: &mut [u8]) -> usize {
         constant_radix(self.0, 16, buffer)
+    }
+
+    #[inline(always)]
+    fn text_len(self) -> Option<usize> {
+        Some(self.0.as_u64().digit_count(16))
     }
 
     #[inline(always)]
@@ -56,6 +62,11 @@ impl<T: Radix> Part for Binary<T> {
     #[inline(always)]
     fn write_to(self, buffer: &mut [u8]) -> usize {
         self.0.radix(2, buffer)
+    }
+
+    #[inline(always)]
+    fn text_len(self) -> Option<usize> {
+        Some(self.0.as_u64().digit_count(2))
     }
 
     #[inline(always)]
@@ -116,6 +127,13 @@ impl Part for HexBytes<'_> {
             count += write_next(index, self.1, HexByte(*byte), &mut buffer[count..]);
         }
         count
+    }
+
+    #[inline(always)]
+    fn text_len(self) -> Option<usize> {
+        let digits = self.0.len().checked_mul(2)?;
+        let separators = self.0.len().saturating_sub(1);
+        digits.checked_add(separators.checked_mul(self.1.len())?)
     }
 
     #[inline(always)]

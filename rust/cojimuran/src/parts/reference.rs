@@ -17,6 +17,11 @@ impl<P: Part> Part for &P {
         (*self).write_to(buffer)
     }
 
+    #[inline]
+    fn text_len(self) -> Option<usize> {
+        (*self).text_len()
+    }
+
     #[inline(always)]
     fn is_known_utf8(self, own: Own) -> bool {
         (*self).is_known_utf8(own)

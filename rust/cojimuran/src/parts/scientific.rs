@@ -9,6 +9,9 @@ use crate::parts::text::Bytes;
 use crate::write_integer::ToLexicalWithOptions;
 use crate::write_integer::format::STANDARD;
 
+// The room of a number in scientific notation of the longest type.
+const LONGEST: usize = 33;
+
 // Returns how many digits are left without the zeros at the end. At least the first `least` digits are left.
 #[inline]
 pub(crate) fn count_without_zeros(digits: &[u8], least: usize) -> usize {
@@ -79,6 +82,12 @@ impl<T: ToLexicalWithOptions> Part for Scientific<T> {
     fn write_to(self, buffer: &mut [u8]) -> usize {
         let start = Sign(self.0, false).write_to(buffer);
         start + write_magnitude(self.0, self.1, &mut buffer[start..])
+    }
+
+    #[inline]
+    fn text_len(self) -> Option<usize> {
+        // How many zeros the number ends with, only its digits say.
+        Some(self.write_to(&mut [0; LONGEST]))
     }
 
     #[inline(always)]

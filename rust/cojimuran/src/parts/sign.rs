@@ -36,6 +36,11 @@ impl<T: LexicalInteger> Part for Sign<T> {
         }
     }
 
+    #[inline]
+    fn text_len(self) -> Option<usize> {
+        Some(usize::from(self.0.is_negative() || self.1))
+    }
+
     #[inline(always)]
     fn is_known_utf8(self, _own: Own) -> bool {
         true

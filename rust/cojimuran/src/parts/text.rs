@@ -20,6 +20,11 @@ impl Part for &str {
     }
 
     #[inline(always)]
+    fn text_len(self) -> Option<usize> {
+        Some(self.len())
+    }
+
+    #[inline(always)]
     fn is_known_utf8(self, _own: Own) -> bool {
         true
     }
@@ -49,6 +54,11 @@ impl Part for bool {
     }
 
     #[inline(always)]
+    fn text_len(self) -> Option<usize> {
+        Some(word(self).len())
+    }
+
+    #[inline(always)]
     fn is_known_utf8(self, _own: Own) -> bool {
         true
     }
@@ -65,6 +75,11 @@ impl Part for char {
         let mut bytes = [0; 4];
         let text: &str = self.encode_utf8(&mut bytes);
         text.write_to(buffer)
+    }
+
+    #[inline(always)]
+    fn text_len(self) -> Option<usize> {
+        Some(self.len_utf8())
     }
 
     #[inline(always)]
@@ -92,6 +107,11 @@ impl Part for Bytes<'_> {
     #[inline(always)]
     fn write_to(self, buffer: &mut [u8]) -> usize {
         copy_to_front(self.0, buffer)
+    }
+
+    #[inline(always)]
+    fn text_len(self) -> Option<usize> {
+        Some(self.0.len())
     }
 
     #[inline(always)]
@@ -127,6 +147,11 @@ impl Part for Byte {
     #[inline(always)]
     fn write_to(self, buffer: &mut [u8]) -> usize {
         copy_to_front(&[self.0], buffer)
+    }
+
+    #[inline(always)]
+    fn text_len(self) -> Option<usize> {
+        Some(1)
     }
 
     #[inline(always)]

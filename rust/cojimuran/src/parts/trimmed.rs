@@ -2,7 +2,7 @@
 
 //! Numbers of units without zeros at the end of their fraction.
 
-use crate::parts::fixed::{Fixed, write_units};
+use crate::parts::fixed::{Fixed, LONGEST_FIXED, write_units};
 use crate::parts::own::Own;
 use crate::parts::part::Part;
 use crate::parts::scientific::count_without_zeros;
@@ -51,6 +51,12 @@ impl<T: ToLexicalWithOptions> Part for TrimmedFixed<T> {
     fn write_to(self, buffer: &mut [u8]) -> usize {
         let start = Sign(self.0, false).write_to(buffer);
         start + write_trimmed_units(self.0, self.1, &mut buffer[start..])
+    }
+
+    #[inline]
+    fn text_len(self) -> Option<usize> {
+        // How many zeros the fraction ends with, only its digits say.
+        Some(self.write_to(&mut [0; LONGEST_FIXED]))
     }
 
     #[inline(always)]

@@ -14,6 +14,12 @@ impl<A: Part, B: Part> Part for (A, B) {
     }
 
     #[inline(always)]
+    fn text_len(self) -> Option<usize> {
+        let first = self.0.text_len()?;
+        first.checked_add(self.1.text_len()?)
+    }
+
+    #[inline(always)]
     fn write_to(self, buffer: &mut [u8]) -> usize {
         let first = self.0.write_to(buffer);
         first + self.1.write_to(&mut buffer[first..])
@@ -40,6 +46,11 @@ impl<A: Part, B: Part, C: Part> Part for (A, B, C) {
     }
 
     #[inline(always)]
+    fn text_len(self) -> Option<usize> {
+        (self.0, (self.1, self.2)).text_len()
+    }
+
+    #[inline(always)]
     fn write_to(self, buffer: &mut [u8]) -> usize {
         (self.0, (self.1, self.2)).write_to(buffer)
     }
@@ -59,6 +70,11 @@ impl<A: Part, B: Part, C: Part, D: Part> Part for (A, B, C, D) {
     #[inline(always)]
     fn room(self) -> usize {
         (self.0, (self.1, self.2, self.3)).room()
+    }
+
+    #[inline(always)]
+    fn text_len(self) -> Option<usize> {
+        (self.0, (self.1, self.2, self.3)).text_len()
     }
 
     #[inline(always)]
@@ -84,6 +100,11 @@ impl<A: Part, B: Part, C: Part, D: Part, E: Part> Part for (A, B, C, D, E) {
     }
 
     #[inline(always)]
+    fn text_len(self) -> Option<usize> {
+        (self.0, (self.1, self.2, self.3, self.4)).text_len()
+    }
+
+    #[inline(always)]
     fn write_to(self, buffer: &mut [u8]) -> usize {
         (self.0, (self.1, self.2, self.3, self.4)).write_to(buffer)
     }
@@ -103,6 +124,11 @@ impl<A: Part, B: Part, C: Part, D: Part, E: Part, F: Part> Part for (A, B, C, D,
     #[inline(always)]
     fn room(self) -> usize {
         (self.0, (self.1, self.2, self.3, self.4, self.5)).room()
+    }
+
+    #[inline(always)]
+    fn text_len(self) -> Option<usize> {
+        (self.0, (self.1, self.2, self.3, self.4, self.5)).text_len()
     }
 
     #[inline(always)]
@@ -128,6 +154,11 @@ impl<A: Part, B: Part, C: Part, D: Part, E: Part, F: Part, G: Part> Part for (A,
     }
 
     #[inline(always)]
+    fn text_len(self) -> Option<usize> {
+        (self.0, (self.1, self.2, self.3, self.4, self.5, self.6)).text_len()
+    }
+
+    #[inline(always)]
     fn write_to(self, buffer: &mut [u8]) -> usize {
         (self.0, (self.1, self.2, self.3, self.4, self.5, self.6)).write_to(buffer)
     }
@@ -150,6 +181,12 @@ impl<A: Part, B: Part, C: Part, D: Part, E: Part, F: Part, G: Part, H: Part> Par
     fn room(self) -> usize {
         let (a, b, c, d, e, f, g, h) = self;
         (a, (b, c, d, e, f, g, h)).room()
+    }
+
+    #[inline(always)]
+    fn text_len(self) -> Option<usize> {
+        let (a, b, c, d, e, f, g, h) = self;
+        (a, (b, c, d, e, f, g, h)).text_len()
     }
 
     #[inline(always)]
@@ -181,6 +218,12 @@ impl<A: Part, B: Part, C: Part, D: Part, E: Part, F: Part, G: Part, H: Part, I: 
     }
 
     #[inline(always)]
+    fn text_len(self) -> Option<usize> {
+        let (a, b, c, d, e, f, g, h, i) = self;
+        (a, (b, c, d, e, f, g, h, i)).text_len()
+    }
+
+    #[inline(always)]
     fn write_to(self, buffer: &mut [u8]) -> usize {
         let (a, b, c, d, e, f, g, h, i) = self;
         (a, (b, c, d, e, f, g, h, i)).write_to(buffer)
@@ -206,6 +249,12 @@ impl<A: Part, B: Part, C: Part, D: Part, E: Part, F: Part, G: Part, H: Part, I: 
     fn room(self) -> usize {
         let (a, b, c, d, e, f, g, h, i, j) = self;
         (a, (b, c, d, e, f, g, h, i, j)).room()
+    }
+
+    #[inline(always)]
+    fn text_len(self) -> Option<usize> {
+        let (a, b, c, d, e, f, g, h, i, j) = self;
+        (a, (b, c, d, e, f, g, h, i, j)).text_len()
     }
 
     #[inline(always)]
@@ -248,6 +297,12 @@ impl<
     }
 
     #[inline(always)]
+    fn text_len(self) -> Option<usize> {
+        let (a, b, c, d, e, f, g, h, i, j, k) = self;
+        (a, (b, c, d, e, f, g, h, i, j, k)).text_len()
+    }
+
+    #[inline(always)]
     fn write_to(self, buffer: &mut [u8]) -> usize {
         let (a, b, c, d, e, f, g, h, i, j, k) = self;
         (a, (b, c, d, e, f, g, h, i, j, k)).write_to(buffer)
@@ -285,6 +340,12 @@ impl<
     fn room(self) -> usize {
         let (a, b, c, d, e, f, g, h, i, j, k, l) = self;
         (a, (b, c, d, e, f, g, h, i, j, k, l)).room()
+    }
+
+    #[inline(always)]
+    fn text_len(self) -> Option<usize> {
+        let (a, b, c, d, e, f, g, h, i, j, k, l) = self;
+        (a, (b, c, d, e, f, g, h, i, j, k, l)).text_len()
     }
 
     #[inline(always)]

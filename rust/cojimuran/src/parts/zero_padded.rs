@@ -42,6 +42,11 @@ impl<P: Part> Part for ZeroPadded<P> {
         zeros + count
     }
 
+    #[inline]
+    fn text_len(self) -> Option<usize> {
+        Some(self.0.text_len()?.max(self.1))
+    }
+
     #[inline(always)]
     fn is_known_utf8(self, own: Own) -> bool {
         self.0.is_known_utf8(own)
