@@ -3,9 +3,10 @@ use Rattle.std.proofs.Common.{◌≡◌, ℕ, zero, suc, ◌-◌, ◌*◌, ◌/�
 use Rattle.std.proofs.Common.{Option, None, ℤ, unsigned_abs}
 use Rattle.std.proofs.Math.Nat.{mod-lt, one-le-pow, pow-suc, div-le_self, le-mul_of_pos_right, mul_assoc}
 use Rattle.std.proofs.lemmas.Bool.{cond-true}
-use Rattle.lexical_parts.specs.Fixed.{IsFraction, IsGroupedFixed, IsUnits, fraction_text, fixed_text, units_text}
+use Rattle.lexical_parts.specs.Fixed.{IsFixed, IsFraction, IsGroupedFixed, IsUnits, fraction_text, fixed_text, units_text}
 use Rattle.lexical_parts.specs.Length.{IsOnly}
 use Rattle.lexical_parts.specs.Trimmed.{IsTrimmedFixed, IsTrimmedUnits, trimmed_text, trimmed_units_text}
+use Rattle.lexical_parts.proofs.Conversions.{IsDigits-as_text, then_as}
 use Rattle.lexical_parts.proofs.Equations.{only_digits, only_exactly, only_padded, only_text, only_then}
 
 pub only_fraction : (decimals units : ℕ) → units < 10 ^ decimals → IsOnly (IsFraction decimals units) (fraction_text decimals units)
@@ -19,6 +20,12 @@ only_grouped_fixed grouping decimals x small =
     let rest : unsigned_abs x % 10 ^ decimals < 10 ^ decimals = mod-lt (unsigned_abs x) some in
     let whole : unsigned_abs x / 10 ^ decimals < 2 ^ 64 = omega (arith, div-le_self (unsigned_abs x) (10 ^ decimals), small) in
     only_then (only_exactly _) (only_then (only_text _ _ (omega arith) whole) (only_fraction decimals _ rest))
+
+-- without groups
+pub only_fixed : (decimals : ℕ) (x : ℤ) → unsigned_abs x < 2 ^ 64 → IsOnly (IsFixed decimals x) (fixed_text None decimals x)
+only_fixed decimals x small = record {
+  only = λ text is. (only_grouped_fixed None decimals x small).only text (then_as (λ _ sign. sign) (then_as IsDigits-as_text (λ _ fraction. fraction)) text is);
+}
 
 pub fixed_is : (grouping : Option (ℕ × ℕ)) (decimals : ℕ) (x : ℤ) (text : List ℕ) → unsigned_abs x < 2 ^ 64
     → IsGroupedFixed grouping decimals x text → text ≡ fixed_text grouping decimals x

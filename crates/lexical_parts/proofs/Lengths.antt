@@ -17,12 +17,12 @@ use Rattle.lexical_write_integer.specs.DigitCount.{digit_count, digit_count-le}
 use Rattle.lexical_write_integer.proofs.OfDigits.Count.DigitCounts.{digit_count-one, digit_count-pos, digit_count-split}
 use Rattle.lexical_write_integer.proofs.OfDigits.PaddedDigits.{length-IsPadded}
 use Rattle.lexical_write_integer.proofs.OfDigits.Numerals.{length-IsDigits}
-use Rattle.lexical_parts.specs.Column.{IsAtLeft, IsAtRight, IsCentered, left_text, right_text, centered_text}
+use Rattle.lexical_parts.specs.Column.{IsAtLeft, IsAtRight, IsCentered}
 use Rattle.lexical_parts.specs.Fixed.{IsFraction, IsGroupedFixed}
 use Rattle.lexical_parts.specs.Joined.{AreEach}
-use Rattle.lexical_parts.specs.Length.{HasLength, IsOnly, both_texts}
-use Rattle.std.specs.Option.{ForSome, IfSome}
-use Rattle.std.specs.Prelude.{Option, Some, None}
+use Rattle.lexical_parts.specs.Length.{HasLength, IsOnly}
+use Rattle.std.specs.Option.{ForSome}
+use Rattle.std.specs.Prelude.{Option}
 use Rattle.lexical_parts.specs.ZeroPadded.{IsZeroPadded, sign_length}
 
 pub exactly_length : (bytes : List ℕ) (count : ℕ) → count ≡ length bytes → HasLength (IsExactly bytes) count
@@ -209,45 +209,8 @@ each_same IsOf width all (x ∷ xs) = record {
       grind (arith, whole, first, rest);
 }
 
-pub both_only : (First Second : List ℕ → Type 0) (a b : Option (List ℕ)) → IfSome a (λ bytes. IsOnly First bytes) → IfSome b (λ bytes. IsOnly Second bytes)
-    → IfSome (both_texts a b) (λ bytes. IsOnly (Then First Second) bytes)
-both_only First Second None b first second = first
-both_only First Second (Some x) None first second = second
-both_only First Second (Some x) (Some y) first second = record {
-  only = λ text is. is.whole ∙ rw (first.only is.first is.is_first, second.only is.second is.is_second) refl;
-}
-
-pub exactly_only : (bytes : List ℕ) → IsOnly (IsExactly bytes) bytes
-exactly_only bytes = record { only = λ text is. is }
-
-pub left_only : (Is : List ℕ → Type 0) (width fill : ℕ) (o : Option (List ℕ)) → IfSome o (λ bytes. IsOnly Is bytes)
-    → IfSome (left_text width fill o) (λ bytes. IsOnly (IsAtLeft width fill Is) bytes)
-left_only Is width fill None one = one
-left_only Is width fill (Some x) one = record {
-  only = λ text is. is.whole ∙ ap (λ cell. cell ++ replicate (width - length cell) fill) (one.only is.cell is.is);
-}
-
-pub right_only : (Is : List ℕ → Type 0) (width fill : ℕ) (o : Option (List ℕ)) → IfSome o (λ bytes. IsOnly Is bytes)
-    → IfSome (right_text width fill o) (λ bytes. IsOnly (IsAtRight width fill Is) bytes)
-right_only Is width fill None one = one
-right_only Is width fill (Some x) one = record {
-  only = λ text is. is.whole ∙ ap (λ cell. replicate (width - length cell) fill ++ cell) (one.only is.cell is.is);
-}
-
-pub centered_only : (Is : List ℕ → Type 0) (width fill : ℕ) (o : Option (List ℕ)) → IfSome o (λ bytes. IsOnly Is bytes)
-    → IfSome (centered_text width fill o) (λ bytes. IsOnly (IsCentered width fill Is) bytes)
-centered_only Is width fill None one = one
-centered_only Is width fill (Some x) one = record {
-  only = λ text is. is.whole ∙ ap (λ cell. (replicate ((width - length cell) / 2) fill ++ cell) ++ replicate (width - length cell - (width - length cell) / 2) fill) (one.only is.cell is.is);
-}
-
 -- what the check uses for the lengths of texts
 pub ruleset lengths = (
-  both_only,
-  left_only,
-  right_only,
-  centered_only,
-  exactly_only,
   exactly_length,
   digits_length,
   padded_length,

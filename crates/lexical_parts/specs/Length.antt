@@ -1,5 +1,5 @@
 -- The length of the texts of a kind.
-use Rattle.std.specs.Prelude.{◌≡◌, ℕ, ◌<◌, List, ◌++◌, length, Option, Some, None}
+use Rattle.std.specs.Prelude.{◌≡◌, ℕ, ◌<◌, List, length}
 
 -- every text of this kind has this length
 pub record HasLength (Is : List ℕ → Type 0) (count : ℕ) : Type 0 where
@@ -14,9 +14,3 @@ pub record HasLonger (Is : List ℕ → Type 0) (count : ℕ) : Type 0 where
 -- every text of this kind is these bytes
 pub record IsOnly (Is : List ℕ → Type 0) (bytes : List ℕ) : Type 0 where
   pub only : (text : List ℕ) → Is text → text ≡ bytes
-
--- one text after another, if both are known
-abbrev pub both_texts : Option (List ℕ) → Option (List ℕ) → Option (List ℕ)
-both_texts None second = None
-both_texts (Some first) None = None
-both_texts (Some first) (Some second) = Some (first ++ second)

@@ -5,6 +5,7 @@ pub mod Formatted
 pub mod HexBytes
 pub mod Joined
 pub mod Length
+pub mod Lower
 pub mod Optional
 pub mod Plus
 pub mod Scaled

@@ -1,26 +1,26 @@
 //! Parts that are padded to the width of a column.
-#![tactic(auto, using(crate::proofs::Utf8Texts::kinds, crate::proofs::Lengths::lengths))]
+#![tactic(auto, using(crate::proofs::Utf8Texts::kinds, crate::proofs::Lengths::lengths, crate::proofs::OnlyTexts::onlys))]
 
-ghost use Rattle.std.specs.Prelude.{max, replicate, ◌<◌};
-ghost use Rattle.std.specs.Fmt.{WritesStyledOnOk};
+ghost use Rattle.std.specs.Prelude.{IsOk, max, replicate, ◌<◌};
+ghost use Rattle.std.specs.Fmt.{WritesInCalls};
 ghost use Rattle.lexical_parts.specs.Column.{IsAtLeft, IsAtRight, IsCentered, centered_text, left_text, right_text};
 
 use crate::fill::{insert_fill, write_fill};
 use crate::own::Own;
 use crate::part::Part;
-use crate::shown::Shown;
+use crate::show::{Show, write_at_once};
 use crate::text::Byte;
 use std::fmt;
 
-// Writes copies of a byte to a formatter, whatever its options are.
-fn write_copies<W: fmt::Write>(f: &mut fmt::Formatter<W>, byte: u8, count: usize) -> fmt::Result
+// Writes copies of a byte to a writer.
+fn write_copies<O: fmt::Write>(byte: u8, count: usize, out: &mut O) -> fmt::Result
     requires { byte < 128 }
-    ensures { WritesStyledOnOk W.write_str_gives f.old result (replicate count byte) f.new }
+    ensures { IsOk result → WritesInCalls O.write_str_gives out.old (replicate count byte) out.new }
 {
     let mut array = [0; 1];
     let text = Byte(byte).to_str(&mut array);
     for _ in 0..count {
-        f.write_str(text)?;
+        out.write_str(text)?;
     }
     Ok(())
 }
@@ -34,8 +34,6 @@ pub struct Left<P>(pub P, pub usize, pub u8);
 impl<P: Part> Part for Left<P> {
     // `Right` and `Center` have the same members, since the toolchain takes no `impl` that a macro writes.
     ghost is_text = { λ part. IsAtLeft part.1 part.2 (P.is_text part.0) };
-
-    ghost text = { λ part. left_text part.1 part.2 (P.text part.0) };
 
     ghost is_valid = { λ part. P.is_valid part.0 };
 
@@ -59,17 +57,21 @@ impl<P: Part> Part for Left<P> {
     fn is_known_utf8(self, own: Own) -> bool {
         self.2 < 128 && self.0.is_known_utf8(own)
     }
+}
 
-    fn write_each<W: fmt::Write>(
-        self,
-        f: &mut fmt::Formatter<W>,
-        _own: Own,
-    ) -> Option<fmt::Result> {
-        let count = self.0.text_len()?;
-        match Shown(self.0).write(f) {
-            Ok(()) => Some(write_copies(f, self.2, self.1.saturating_sub(count))),
-            Err(error) => Some(Err(error)),
-        }
+impl<P: Show> Show for Left<P> {
+    ghost text = { λ part. left_text part.1 part.2 (P.text part.0) };
+
+    fn is_showable(self) -> bool {
+        self.2 < 128 && self.0.is_showable()
+    }
+
+    fn write_pieces<O: fmt::Write>(self, out: &mut O) -> fmt::Result {
+        let Some(count) = self.0.text_len() else {
+            return write_at_once(self, out);
+        };
+        self.0.write_pieces(out)?;
+        write_copies(self.2, self.1.saturating_sub(count), out)
     }
 }
 
@@ -81,8 +83,6 @@ pub struct Right<P>(pub P, pub usize, pub u8);
 
 impl<P: Part> Part for Right<P> {
     ghost is_text = { λ part. IsAtRight part.1 part.2 (P.is_text part.0) };
-
-    ghost text = { λ part. right_text part.1 part.2 (P.text part.0) };
 
     ghost is_valid = { λ part. P.is_valid part.0 };
 
@@ -108,17 +108,21 @@ impl<P: Part> Part for Right<P> {
     fn is_known_utf8(self, own: Own) -> bool {
         self.2 < 128 && self.0.is_known_utf8(own)
     }
+}
 
-    fn write_each<W: fmt::Write>(
-        self,
-        f: &mut fmt::Formatter<W>,
-        _own: Own,
-    ) -> Option<fmt::Result> {
-        let count = self.0.text_len()?;
-        match write_copies(f, self.2, self.1.saturating_sub(count)) {
-            Ok(()) => Some(Shown(self.0).write(f)),
-            Err(error) => Some(Err(error)),
-        }
+impl<P: Show> Show for Right<P> {
+    ghost text = { λ part. right_text part.1 part.2 (P.text part.0) };
+
+    fn is_showable(self) -> bool {
+        self.2 < 128 && self.0.is_showable()
+    }
+
+    fn write_pieces<O: fmt::Write>(self, out: &mut O) -> fmt::Result {
+        let Some(count) = self.0.text_len() else {
+            return write_at_once(self, out);
+        };
+        write_copies(self.2, self.1.saturating_sub(count), out)?;
+        self.0.write_pieces(out)
     }
 }
 
@@ -130,8 +134,6 @@ pub struct Center<P>(pub P, pub usize, pub u8);
 
 impl<P: Part> Part for Center<P> {
     ghost is_text = { λ part. IsCentered part.1 part.2 (P.is_text part.0) };
-
-    ghost text = { λ part. centered_text part.1 part.2 (P.text part.0) };
 
     ghost is_valid = { λ part. P.is_valid part.0 };
 
@@ -159,21 +161,23 @@ impl<P: Part> Part for Center<P> {
     fn is_known_utf8(self, own: Own) -> bool {
         self.2 < 128 && self.0.is_known_utf8(own)
     }
+}
 
-    fn write_each<W: fmt::Write>(
-        self,
-        f: &mut fmt::Formatter<W>,
-        _own: Own,
-    ) -> Option<fmt::Result> {
-        let count = self.0.text_len()?;
+impl<P: Show> Show for Center<P> {
+    ghost text = { λ part. centered_text part.1 part.2 (P.text part.0) };
+
+    fn is_showable(self) -> bool {
+        self.2 < 128 && self.0.is_showable()
+    }
+
+    fn write_pieces<O: fmt::Write>(self, out: &mut O) -> fmt::Result {
+        let Some(count) = self.0.text_len() else {
+            return write_at_once(self, out);
+        };
         let added = self.1.saturating_sub(count);
         let before = added / 2;
-        if let Err(error) = write_copies(f, self.2, before) {
-            return Some(Err(error));
-        }
-        match Shown(self.0).write(f) {
-            Ok(()) => Some(write_copies(f, self.2, added - before)),
-            Err(error) => Some(Err(error)),
-        }
+        write_copies(self.2, before, out)?;
+        self.0.write_pieces(out)?;
+        write_copies(self.2, added - before, out)
     }
 }

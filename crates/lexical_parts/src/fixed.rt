@@ -1,14 +1,15 @@
 //! Numbers with a fixed number of decimals.
-#![tactic(auto, using(crate::proofs::Utf8Texts::kinds, crate::proofs::Lengths::lengths))]
+#![tactic(auto, using(crate::proofs::Utf8Texts::kinds, crate::proofs::Lengths::lengths, crate::proofs::OnlyTexts::onlys))]
 
-ghost use Rattle.std.specs.Prelude.{◌+◌, ◌≤◌, length, max, unsigned_abs, if◌then◌else◌};
+ghost use Rattle.std.specs.Prelude.{◌+◌, ◌≤◌, None, Some, length, max, unsigned_abs, if◌then◌else◌};
 ghost use Rattle.lexical_write_integer.specs.Buffer.{Writes};
 ghost use Rattle.lexical_parts.specs.Fixed.{AreUnits, IsFixed, IsGroupedFixed, IsGroupedUnits};
-ghost use Rattle.lexical_parts.specs.Fixed.{fixed_room, grouped_units_room};
+ghost use Rattle.lexical_parts.specs.Fixed.{fixed_room, fixed_text, grouped_units_room};
 
 use crate::fill::insert_fill;
 use crate::own::Own;
 use crate::part::Part;
+use crate::show::Show;
 use crate::sign::Sign;
 use lexical_write_integer::format::STANDARD;
 use lexical_write_integer::laws::size_suffices;
@@ -104,6 +105,15 @@ impl<T: ToLexicalWithOptions> Part for Fixed<T> {
     }
 }
 
+impl<T: ToLexicalWithOptions> Show for Fixed<T> {
+    ghost text = { λ part. Some (fixed_text None part.1 (T.number part.0)) };
+
+    fn is_showable(self) -> bool {
+        self.0.in_range();
+        self.is_known_utf8(Own)
+    }
+}
+
 /// A number as `Fixed` writes it, with its whole part in the groups of the format, and nothing else of it:
 /// in groups of three with `,`, `GroupedFixed(-123456, 2, &format)` writes `-1,234.56`.
 #[derive(Clone, Copy, Debug, Drop)]
@@ -143,5 +153,14 @@ impl<T: ToLexicalWithOptions> Part for GroupedFixed<'_, T> {
 
     fn is_known_utf8(self, _own: Own) -> bool {
         19 >= self.1
+    }
+}
+
+impl<T: ToLexicalWithOptions> Show for GroupedFixed<'_, T> {
+    ghost text = { λ part. Some (fixed_text part.2.now.digit_grouping part.1 (T.number part.0)) };
+
+    fn is_showable(self) -> bool {
+        self.0.in_range();
+        self.is_known_utf8(Own)
     }
 }

@@ -1,11 +1,14 @@
 //! The integer types, which are parts: the text of a number is the number in decimal.
 
-ghost use Rattle.std.specs.Prelude.{pos};
+ghost use Rattle.lexical_num.specs.Format.{standard};
+ghost use Rattle.lexical_write_integer.specs.Computed.{text_of};
+ghost use Rattle.std.specs.Prelude.{pos, Some};
 ghost use Rattle.lexical_parts.specs.Sequence.{IsDecimal};
 
 use crate::number::Decimal;
 use crate::own::Own;
 use crate::part::Part;
+use crate::show::Show;
 
 impl Part for u8 {
     ghost is_text = { λ number. IsDecimal (pos number) };
@@ -26,6 +29,14 @@ impl Part for u8 {
 
     fn is_known_utf8(self, _own: Own) -> bool {
         true
+    }
+}
+
+impl Show for u8 {
+    ghost text = { λ number. Some (text_of (pos number) standard) };
+
+    fn is_showable(self) -> bool {
+        self.is_known_utf8(Own)
     }
 }
 
@@ -51,6 +62,14 @@ impl Part for u16 {
     }
 }
 
+impl Show for u16 {
+    ghost text = { λ number. Some (text_of (pos number) standard) };
+
+    fn is_showable(self) -> bool {
+        self.is_known_utf8(Own)
+    }
+}
+
 impl Part for u32 {
     ghost is_text = { λ number. IsDecimal (pos number) };
 
@@ -70,6 +89,14 @@ impl Part for u32 {
 
     fn is_known_utf8(self, _own: Own) -> bool {
         true
+    }
+}
+
+impl Show for u32 {
+    ghost text = { λ number. Some (text_of (pos number) standard) };
+
+    fn is_showable(self) -> bool {
+        self.is_known_utf8(Own)
     }
 }
 
@@ -95,6 +122,14 @@ impl Part for u64 {
     }
 }
 
+impl Show for u64 {
+    ghost text = { λ number. Some (text_of (pos number) standard) };
+
+    fn is_showable(self) -> bool {
+        self.is_known_utf8(Own)
+    }
+}
+
 impl Part for usize {
     ghost is_text = { λ number. IsDecimal (pos number) };
 
@@ -114,6 +149,14 @@ impl Part for usize {
 
     fn is_known_utf8(self, _own: Own) -> bool {
         true
+    }
+}
+
+impl Show for usize {
+    ghost text = { λ number. Some (text_of (pos number) standard) };
+
+    fn is_showable(self) -> bool {
+        self.is_known_utf8(Own)
     }
 }
 
@@ -139,6 +182,14 @@ impl Part for i8 {
     }
 }
 
+impl Show for i8 {
+    ghost text = { λ number. Some (text_of number standard) };
+
+    fn is_showable(self) -> bool {
+        self.is_known_utf8(Own)
+    }
+}
+
 impl Part for i16 {
     ghost is_text = { IsDecimal };
 
@@ -158,6 +209,14 @@ impl Part for i16 {
 
     fn is_known_utf8(self, _own: Own) -> bool {
         true
+    }
+}
+
+impl Show for i16 {
+    ghost text = { λ number. Some (text_of number standard) };
+
+    fn is_showable(self) -> bool {
+        self.is_known_utf8(Own)
     }
 }
 
@@ -183,6 +242,14 @@ impl Part for i32 {
     }
 }
 
+impl Show for i32 {
+    ghost text = { λ number. Some (text_of number standard) };
+
+    fn is_showable(self) -> bool {
+        self.is_known_utf8(Own)
+    }
+}
+
 impl Part for i64 {
     ghost is_text = { IsDecimal };
 
@@ -205,6 +272,14 @@ impl Part for i64 {
     }
 }
 
+impl Show for i64 {
+    ghost text = { λ number. Some (text_of number standard) };
+
+    fn is_showable(self) -> bool {
+        self.is_known_utf8(Own)
+    }
+}
+
 impl Part for isize {
     ghost is_text = { IsDecimal };
 
@@ -224,5 +299,13 @@ impl Part for isize {
 
     fn is_known_utf8(self, _own: Own) -> bool {
         true
+    }
+}
+
+impl Show for isize {
+    ghost text = { λ number. Some (text_of number standard) };
+
+    fn is_showable(self) -> bool {
+        self.is_known_utf8(Own)
     }
 }

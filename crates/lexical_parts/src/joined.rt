@@ -1,16 +1,16 @@
 //! The parts of a slice, with a separator between adjacent parts.
 
-ghost use Rattle.std.specs.Prelude.{◌≡◌, [], IsTrue, ◌+◌, ◌*◌, ◌≤◌, All, length, sum_by};
+ghost use Rattle.std.specs.Prelude.{◌≡◌, [], IfSome, IsTrue, ◌+◌, ◌*◌, ◌≤◌, All, length, sum_by};
 ghost use Rattle.lexical_write_integer.specs.Buffer.{Writes};
 ghost use Rattle.lexical_write_integer.specs.Sequence.{AreJoined, IsExactly};
-ghost use Rattle.lexical_parts.specs.Joined.{joined_room, lead};
+ghost use Rattle.lexical_parts.specs.Joined.{joined_room, joined_text, lead};
+ghost use Rattle.lexical_parts.specs.Length.{IsOnly};
 ghost use Rattle.lexical_parts.specs.Sequence.{◌then◌};
-ghost use Rattle.lexical_parts.specs.ShownParts.{WritesSomeOnOk};
 ghost use Rattle.lexical_parts.specs.Utf8.{AreUtf8};
 
 use crate::own::Own;
 use crate::part::Part;
-use crate::shown::Shown;
+use crate::show::Show;
 use crate::text::str_is_utf8;
 use std::fmt;
 
@@ -100,27 +100,30 @@ impl<P: Part> Part for Joined<'_, P> {
         }
         true
     }
-
-    fn write_each<W: fmt::Write>(
-        self,
-        f: &mut fmt::Formatter<W>,
-        _own: Own,
-    ) -> Option<fmt::Result> {
-        Some(self.write_parts(f))
-    }
 }
 
-impl<P: Part> Joined<'_, P> {
-    // Writes each part to a formatter, with the separator between adjacent parts.
-    fn write_parts<W: fmt::Write>(self, f: &mut fmt::Formatter<W>) -> fmt::Result
-        requires valid { All P.is_valid self.0.now }
-        requires utf8 { All P.is_utf8 self.0.now }
-        ensures { WritesSomeOnOk W.write_str_gives f.old result
-            (AreJoined P.is_text self.entry.1.now self.entry.0.now) f.new }
+impl<P: Show> Show for Joined<'_, P> {
+    ghost text = { λ part. joined_text P.text part.1.now part.0.now };
+
+    fn is_showable(self) -> bool
+        ensures valid { IsTrue result → All P.is_valid self.entry.0.now }
+        ensures utf8 { IsTrue result → All P.is_utf8 self.entry.0.now }
+        ensures only { IsTrue result → IfSome (joined_text P.text self.entry.1.now self.entry.0.now)
+            (λ bytes. IsOnly (AreJoined P.is_text self.entry.1.now self.entry.0.now) bytes) }
+        ensures empty { self.entry.0.now ≡ [] → IsTrue result }
     {
+        for part in self.0 {
+            if !part.is_showable() {
+                return false;
+            }
+        }
+        true
+    }
+
+    fn write_pieces<O: fmt::Write>(self, out: &mut O) -> fmt::Result {
         for (index, part) in self.0.iter().enumerate() {
-            f.write_str(separator_before(index, self.1))?;
-            Shown(*part).write(f)?;
+            out.write_str(separator_before(index, self.1))?;
+            part.write_pieces(out)?;
         }
         Ok(())
     }

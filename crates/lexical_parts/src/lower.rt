@@ -1,10 +1,12 @@
 //! Parts in lowercase.
-#![tactic(auto, using(crate::proofs::Utf8Changes::changes, crate::proofs::Lengths::lengths))]
+#![tactic(auto, using(crate::proofs::Utf8Changes::changes, crate::proofs::Lengths::lengths, crate::proofs::OnlyTexts::onlys))]
 
+ghost use Rattle.lexical_parts.specs.Lower.{lower_text};
 ghost use Rattle.lexical_write_integer.specs.Lowercase.{IsLowercase};
 
 use crate::own::Own;
 use crate::part::Part;
+use crate::show::Show;
 
 /// A part in lowercase: its text with `A` to `Z` as `a` to `z`, and every other byte unchanged.
 /// `Lower(PaddedDigits(16, 255u32, 4))` writes `00ff`.
@@ -36,5 +38,13 @@ impl<P: Part> Part for Lower<P> {
 
     fn is_known_utf8(self, own: Own) -> bool {
         self.0.is_known_utf8(own)
+    }
+}
+
+impl<P: Show> Show for Lower<P> {
+    ghost text = { λ part. lower_text (P.text part.0) };
+
+    fn is_showable(self) -> bool {
+        self.0.is_showable()
     }
 }

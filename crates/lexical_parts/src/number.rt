@@ -1,7 +1,8 @@
 //! Parts that are one number.
-#![tactic(auto, using(crate::proofs::Utf8Texts::kinds, crate::proofs::Lengths::lengths))]
+#![tactic(auto, using(crate::proofs::Utf8Texts::kinds, crate::proofs::Lengths::lengths, crate::proofs::OnlyTexts::onlys))]
 
-ghost use Rattle.std.specs.Prelude.{◌≡◌, ◌≤◌};
+ghost use Rattle.lexical_write_integer.specs.Computed.{digits_text, text_of};
+ghost use Rattle.std.specs.Prelude.{◌≡◌, ◌≤◌, Some};
 ghost use Rattle.lexical_num.specs.Format.{IsRadix, standard};
 ghost use Rattle.lexical_num.specs.declared.constants.TheConstants.{BUFFER_SIZE};
 ghost use Rattle.lexical_write_integer.specs.DigitCount.{digit_count};
@@ -10,6 +11,7 @@ ghost use Rattle.lexical_parts.specs.Formatted.{formatted_room, largest_magnitud
 
 use crate::own::Own;
 use crate::part::Part;
+use crate::show::Show;
 use lexical_num::limits::is_radix;
 use lexical_write_integer::digit_count::DigitCount;
 use lexical_write_integer::format::STANDARD;
@@ -45,6 +47,15 @@ impl<T: ToLexicalWithOptions> Part for Decimal<T> {
     }
 }
 
+impl<T: ToLexicalWithOptions> Show for Decimal<T> {
+    ghost text = { λ part. Some (text_of (T.number part.0) standard) };
+
+    fn is_showable(self) -> bool {
+        self.0.in_range();
+        self.is_known_utf8(Own)
+    }
+}
+
 /// The digits of an unsigned number in a radix from 2 to 36: `Digits(16, 255u32)` writes `FF`.
 #[derive(Clone, Copy, Debug, Drop)]
 pub struct Digits<T>(pub u32, pub T);
@@ -70,6 +81,15 @@ impl<T: Radix + DigitCount> Part for Digits<T> {
 
     fn is_known_utf8(self, _own: Own) -> bool {
         is_radix(u64::from(self.0))
+    }
+}
+
+impl<T: Radix + DigitCount> Show for Digits<T> {
+    ghost text = { λ part. Some (digits_text part.0 (T.magnitude part.1)) };
+
+    fn is_showable(self) -> bool {
+        self.1.fits_bits();
+        self.is_known_utf8(Own)
     }
 }
 
@@ -127,5 +147,15 @@ impl<T: ToLexicalWithOptions> Part for Formatted<'_, T> {
 
     fn is_known_utf8(self, _own: Own) -> bool {
         true
+    }
+}
+
+impl<T: ToLexicalWithOptions> Show for Formatted<'_, T> {
+    ghost text = { λ part. Some (text_of (T.number part.0) part.1.now) };
+
+    fn is_showable(self) -> bool {
+        self.0.in_range();
+        self.1.in_range();
+        self.is_known_utf8(Own)
     }
 }

@@ -1,12 +1,14 @@
 //! Numbers with leading zeros, up to a fixed width.
-#![tactic(auto, using(crate::proofs::Utf8Texts::kinds, crate::proofs::Lengths::lengths))]
+#![tactic(auto, using(crate::proofs::Utf8Texts::kinds, crate::proofs::Lengths::lengths, crate::proofs::OnlyTexts::onlys))]
 
-ghost use Rattle.std.specs.Prelude.{◌^◌, ◌<◌, IsTrue};
+ghost use Rattle.lexical_write_integer.specs.Computed.{padded_text};
+ghost use Rattle.std.specs.Prelude.{◌^◌, ◌<◌, IsTrue, Some};
 ghost use Rattle.lexical_num.specs.Format.{IsRadix};
 ghost use Rattle.lexical_write_integer.specs.Padded.{IsPadded};
 
 use crate::own::Own;
 use crate::part::Part;
+use crate::show::Show;
 use lexical_num::limits::is_radix;
 use lexical_write_integer::digit_count::DigitCount;
 use lexical_write_integer::padded::{fits_decimal_width, write_padded};
@@ -63,6 +65,15 @@ impl<T: DigitCount + Radix> Part for PaddedDigits<T> {
     }
 }
 
+impl<T: DigitCount + Radix> Show for PaddedDigits<T> {
+    ghost text = { λ part. Some (padded_text part.0 part.2 (T.magnitude part.1)) };
+
+    fn is_showable(self) -> bool {
+        self.1.fits_bits();
+        self.is_known_utf8(Own)
+    }
+}
+
 /// An unsigned number in decimal, with leading zeros up to the width: `Padded(3u8, 2)` writes `03`.
 /// The number must be below `10.pow(width)`. `ZeroPadded` writes every number: `ZeroPadded(123u8, 2)`
 /// writes `123`.
@@ -91,5 +102,14 @@ impl<T: DigitCount + Radix> Part for Padded<T> {
     fn is_known_utf8(self, _own: Own) -> bool {
         self.0.fits_bits();
         fits_decimal_width(self.0.as_u64(), self.1)
+    }
+}
+
+impl<T: DigitCount + Radix> Show for Padded<T> {
+    ghost text = { λ part. Some (padded_text 10 part.1 (T.magnitude part.0)) };
+
+    fn is_showable(self) -> bool {
+        self.0.fits_bits();
+        self.is_known_utf8(Own)
     }
 }

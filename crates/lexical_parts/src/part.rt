@@ -1,19 +1,17 @@
 //! The trait that each part of a text implements.
 
 ghost use Rattle.std.specs.Prelude.{◌≡◌, ◌↔◌, ◌+◌, ◌≤◌, IsTrue, List, ℕ, drop, length, min, slice_range, take, ⊤};
-ghost use Rattle.std.specs.Prelude.{IfNone, IfSome, IsSome, None, Option};
+ghost use Rattle.std.specs.Prelude.{IfNone, IfSome, IsSome};
 ghost use Rattle.std.specs.Borrow.{sem};
 ghost use Rattle.lexical_write_integer.specs.Buffer.{Writes};
 ghost use Rattle.lexical_write_integer.specs.Lending.{LendsFront};
 ghost use Rattle.lexical_write_integer.specs.Sequence.{IsExactly};
-ghost use Rattle.lexical_parts.specs.Length.{HasLength, HasLonger, IsOnly};
+ghost use Rattle.lexical_parts.specs.Length.{HasLength, HasLonger};
 ghost use Rattle.lexical_parts.specs.Sequence.{◌then◌};
-ghost use Rattle.lexical_parts.specs.ShownParts.{WritesSomeOnOk};
 ghost use Rattle.lexical_parts.specs.Utf8.{AreUtf8};
 
 use crate::own::Own;
 use lexical_write_integer::buffer::{copy_to_front, front_mut};
-use std::fmt;
 use std::str::{from_utf8, from_utf8_unchecked};
 
 /// A value that has a text, such as a number or a `&str`. A tuple of parts is also a part, and its
@@ -36,9 +34,6 @@ pub trait Part: Copy {
 
     // The condition under which the text is UTF-8: that each byte that the part names is below 128.
     ghost is_utf8: { Self → Type 0 } = { λ _. ⊤ };
-
-    // The text, if the prover computes it.
-    ghost text: { Self → Option (List ℕ) } = { λ _. None };
 
     /// Returns a number of bytes that is enough for the text, or `usize::MAX` if that number does not
     /// fit in a `usize`. The part must be valid.
@@ -70,22 +65,8 @@ pub trait Part: Copy {
     fn is_known_utf8(self, _own: Own) -> bool
         ensures valid { IsTrue result → is_valid self }
         ensures utf8 { IsTrue result → is_utf8 self }
-        ensures only { IsTrue result → IfSome (text self) (λ bytes. IsOnly (is_text self) bytes) }
     {
         false
-    }
-
-    // Writes the text to a formatter, whatever its options are, if the part consists of parts, or has its text already.
-    // Otherwise returns `None`, and writes nothing.
-    #[doc(hidden)]
-    fn write_each<W: fmt::Write>(self, _f: &mut fmt::Formatter<W>, _own: Own) -> Option<fmt::Result>
-        requires valid { is_valid self }
-        requires utf8 { is_utf8 self }
-        ensures text { IfSome result (λ written.
-            WritesSomeOnOk W.write_str_gives _f.old written (is_text self) _f.new) }
-        ensures none { IfNone result (_f.new ≡ _f.old) }
-    {
-        None
     }
 
     /// Writes the text to the start of the buffer, and returns those bytes of the buffer, which the

@@ -1,7 +1,9 @@
 //! Unsigned numbers in radix 16 and in radix 2, in the room of their type, and bytes in radix 16.
-#![tactic(auto, using(crate::proofs::Utf8Texts::kinds, crate::proofs::Lengths::lengths))]
+#![tactic(auto, using(crate::proofs::Utf8Texts::kinds, crate::proofs::Lengths::lengths, crate::proofs::OnlyTexts::onlys))]
 
-ghost use Rattle.std.specs.Prelude.{◌+◌, ◌-◌, ◌*◌, ◌/◌, length};
+ghost use Rattle.lexical_write_integer.specs.Computed.{digits_text};
+ghost use Rattle.lexical_parts.specs.HexBytes.{hex_bytes_text};
+ghost use Rattle.std.specs.Prelude.{◌+◌, ◌-◌, ◌*◌, ◌/◌, length, Some};
 ghost use Rattle.lexical_write_integer.specs.Padded.{IsPadded};
 ghost use Rattle.lexical_write_integer.specs.Sequence.{AreJoined};
 ghost use Rattle.lexical_write_integer.specs.Text.{IsDigits};
@@ -9,6 +11,7 @@ ghost use Rattle.lexical_write_integer.specs.Text.{IsDigits};
 use crate::joined::write_next;
 use crate::own::Own;
 use crate::part::Part;
+use crate::show::Show;
 use crate::text::str_is_utf8;
 use lexical_tables::get_table;
 use lexical_write_integer::digit_count::DigitCount;
@@ -44,6 +47,15 @@ impl<T: Radix> Part for Hex<T> {
     }
 }
 
+impl<T: Radix> Show for Hex<T> {
+    ghost text = { λ part. Some (digits_text 16 (T.magnitude part.0)) };
+
+    fn is_showable(self) -> bool {
+        self.0.fits_bits();
+        self.is_known_utf8(Own)
+    }
+}
+
 /// The digits of an unsigned number in radix 2, without a prefix: `Binary(5u8)` writes `101`. Its room
 /// is that of its type: 8 bytes for a `u8`, and 64 for a `u64`.
 #[derive(Clone, Copy, Debug, Drop)]
@@ -70,6 +82,15 @@ impl<T: Radix> Part for Binary<T> {
 
     fn is_known_utf8(self, _own: Own) -> bool {
         true
+    }
+}
+
+impl<T: Radix> Show for Binary<T> {
+    ghost text = { λ part. Some (digits_text 2 (T.magnitude part.0)) };
+
+    fn is_showable(self) -> bool {
+        self.0.fits_bits();
+        self.is_known_utf8(Own)
     }
 }
 
@@ -133,5 +154,13 @@ impl Part for HexBytes<'_> {
 
     fn is_known_utf8(self, _own: Own) -> bool {
         true
+    }
+}
+
+impl Show for HexBytes<'_> {
+    ghost text = { λ part. Some (hex_bytes_text part.1.now part.0.now) };
+
+    fn is_showable(self) -> bool {
+        self.is_known_utf8(Own)
     }
 }

@@ -2,12 +2,11 @@
 
 use crate::own::Own;
 use crate::part::Part;
+use crate::show::Show;
 use std::fmt;
 
 impl<P: Part> Part for &P {
     ghost is_text = { λ part. P.is_text part.now };
-
-    ghost text = { λ part. P.text part.now };
 
     ghost is_valid = { λ part. P.is_valid part.now };
 
@@ -30,8 +29,16 @@ impl<P: Part> Part for &P {
     fn is_known_utf8(self, own: Own) -> bool {
         (*self).is_known_utf8(own)
     }
+}
 
-    fn write_each<W: fmt::Write>(self, f: &mut fmt::Formatter<W>, own: Own) -> Option<fmt::Result> {
-        (*self).write_each(f, own)
+impl<P: Show> Show for &P {
+    ghost text = { λ part. P.text part.now };
+
+    fn is_showable(self) -> bool {
+        (*self).is_showable()
+    }
+
+    fn write_pieces<O: fmt::Write>(self, out: &mut O) -> fmt::Result {
+        (*self).write_pieces(out)
     }
 }

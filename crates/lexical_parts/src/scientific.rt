@@ -1,16 +1,17 @@
 //! Numbers in scientific notation.
-#![tactic(auto, using(crate::proofs::Utf8Texts::kinds, crate::proofs::Lengths::lengths))]
+#![tactic(auto, using(crate::proofs::Utf8Texts::kinds, crate::proofs::Lengths::lengths, crate::proofs::OnlyTexts::onlys))]
 
 ghost use Rattle.std.specs.Prelude.{◌≡◌, ◌≢◌, ℕ, ◌+◌, ◌-◌, ◌^◌, ◌<◌, ◌≤◌, length, drop, replicate};
-ghost use Rattle.std.specs.Prelude.{slice_index, unsigned_abs};
+ghost use Rattle.std.specs.Prelude.{Some, slice_index, unsigned_abs};
 ghost use Rattle.lexical_write_integer.specs.Buffer.{Writes};
 ghost use Rattle.lexical_write_integer.specs.Text.{IsDigits};
 ghost use Rattle.lexical_parts.specs.Fixed.{IsUnits};
-ghost use Rattle.lexical_parts.specs.Scientific.{IsScientific, IsScientificUnsigned, exponent_of_first};
+ghost use Rattle.lexical_parts.specs.Scientific.{IsScientific, IsScientificUnsigned, exponent_of_first, scientific_text};
 ghost use Rattle.lexical_parts.specs.Sequence.{◌then◌, IsDecimal, IsStr};
 
 use crate::own::Own;
 use crate::part::Part;
+use crate::show::Show;
 use crate::sign::Sign;
 use crate::text::Bytes;
 use lexical_write_integer::ToLexicalWithOptions;
@@ -122,5 +123,14 @@ impl<T: ToLexicalWithOptions> Part for Scientific<T> {
 
     fn is_known_utf8(self, _own: Own) -> bool {
         true
+    }
+}
+
+impl<T: ToLexicalWithOptions> Show for Scientific<T> {
+    ghost text = { λ part. Some (scientific_text (T.number part.0) part.1) };
+
+    fn is_showable(self) -> bool {
+        self.0.in_range();
+        self.is_known_utf8(Own)
     }
 }

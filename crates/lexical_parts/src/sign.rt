@@ -1,11 +1,13 @@
 //! The sign of a number, as a part of its own.
-#![tactic(auto, using(crate::proofs::Utf8Texts::kinds, crate::proofs::Lengths::lengths))]
+#![tactic(auto, using(crate::proofs::Utf8Texts::kinds, crate::proofs::Lengths::lengths, crate::proofs::OnlyTexts::onlys))]
 
+ghost use Rattle.std.specs.Prelude.{Some};
 ghost use Rattle.lexical_num.specs.Sign.{sign_of};
 ghost use Rattle.lexical_write_integer.specs.Sequence.{IsExactly};
 
 use crate::own::Own;
 use crate::part::Part;
+use crate::show::Show;
 use lexical_num::num::LexicalInteger;
 use lexical_write_integer::buffer::copy_to_front;
 
@@ -39,5 +41,13 @@ impl<T: LexicalInteger> Part for Sign<T> {
 
     fn is_known_utf8(self, _own: Own) -> bool {
         true
+    }
+}
+
+impl<T: LexicalInteger> Show for Sign<T> {
+    ghost text = { λ part. Some (sign_of (T.number part.0) part.1) };
+
+    fn is_showable(self) -> bool {
+        self.is_known_utf8(Own)
     }
 }

@@ -1,5 +1,5 @@
 //! Parts that are strings or bytes, whose text is the same bytes, characters, and the words `true` and `false`.
-#![tactic(auto, using(crate::proofs::Utf8Texts::kinds, crate::proofs::Lengths::lengths))]
+#![tactic(auto, using(crate::proofs::Utf8Texts::kinds, crate::proofs::Lengths::lengths, crate::proofs::OnlyTexts::onlys))]
 
 ghost use Rattle.std.specs.Prelude.{Some, ◌≡◌, ◌<◌, ℕ, [], ◌∷◌, encode_utf8, length};
 ghost use Rattle.std.specs.Str.{IsUtf8};
@@ -9,6 +9,7 @@ ghost use Rattle.lexical_parts.specs.Word.{word};
 
 use crate::own::Own;
 use crate::part::Part;
+use crate::show::Show;
 use lexical_write_integer::buffer::copy_to_front;
 use std::fmt;
 use std::str::from_utf8;
@@ -20,8 +21,6 @@ pub(crate) fn str_is_utf8(text: &str)
 
 impl Part for &str {
     ghost is_text = { λ part. IsExactly part.now };
-
-    ghost text = { λ part. Some part.now };
 
     ghost room = { λ part. length part.now };
 
@@ -40,13 +39,17 @@ impl Part for &str {
     fn is_known_utf8(self, _own: Own) -> bool {
         true
     }
+}
 
-    fn write_each<W: fmt::Write>(
-        self,
-        f: &mut fmt::Formatter<W>,
-        _own: Own,
-    ) -> Option<fmt::Result> {
-        Some(f.write_str(self))
+impl Show for &str {
+    ghost text = { λ part. Some part.now };
+
+    fn is_showable(self) -> bool {
+        self.is_known_utf8(Own)
+    }
+
+    fn write_pieces<O: fmt::Write>(self, out: &mut O) -> fmt::Result {
+        out.write_str(self)
     }
 }
 
@@ -59,8 +62,6 @@ fn word(flag: bool) -> &'static str
 
 impl Part for bool {
     ghost is_text = { λ flag. IsExactly (word flag) };
-
-    ghost text = { λ flag. Some (word flag) };
 
     ghost room = { λ _. 5 };
 
@@ -83,10 +84,16 @@ impl Part for bool {
     }
 }
 
+impl Show for bool {
+    ghost text = { λ flag. Some (word flag) };
+
+    fn is_showable(self) -> bool {
+        self.is_known_utf8(Own)
+    }
+}
+
 impl Part for char {
     ghost is_text = { λ character. IsExactly (encode_utf8 character) };
-
-    ghost text = { λ character. Some (encode_utf8 character) };
 
     ghost room = { λ _. 4 };
 
@@ -110,14 +117,20 @@ impl Part for char {
     }
 }
 
+impl Show for char {
+    ghost text = { λ character. Some (encode_utf8 character) };
+
+    fn is_showable(self) -> bool {
+        self.is_known_utf8(Own)
+    }
+}
+
 /// A part whose text is the bytes of a slice: `Bytes(b"ab")` writes `ab`.
 #[derive(Clone, Copy, Debug, Drop)]
 pub struct Bytes<'a>(pub &'a [u8]);
 
 impl Part for Bytes<'_> {
     ghost is_text = { λ part. IsExactly part.0.now };
-
-    ghost text = { λ part. Some part.0.now };
 
     ghost room = { λ part. length part.0.now };
 
@@ -138,15 +151,19 @@ impl Part for Bytes<'_> {
     fn is_known_utf8(self, _own: Own) -> bool {
         from_utf8(self.0).is_ok()
     }
+}
 
-    fn write_each<W: fmt::Write>(
-        self,
-        f: &mut fmt::Formatter<W>,
-        _own: Own,
-    ) -> Option<fmt::Result> {
+impl Show for Bytes<'_> {
+    ghost text = { λ part. Some part.0.now };
+
+    fn is_showable(self) -> bool {
+        self.is_known_utf8(Own)
+    }
+
+    fn write_pieces<O: fmt::Write>(self, out: &mut O) -> fmt::Result {
         match from_utf8(self.0) {
-            Ok(text) => Some(f.write_str(text)),
-            Err(_) => None,
+            Ok(text) => out.write_str(text),
+            Err(_) => Err(fmt::Error),
         }
     }
 }
@@ -157,8 +174,6 @@ pub struct Byte(pub u8);
 
 impl Part for Byte {
     ghost is_text = { λ part. IsExactly (part.0 ∷ []) };
-
-    ghost text = { λ part. Some (part.0 ∷ []) };
 
     ghost room = { λ _. 1 };
 
@@ -178,5 +193,13 @@ impl Part for Byte {
 
     fn is_known_utf8(self, _own: Own) -> bool {
         self.0 < 128
+    }
+}
+
+impl Show for Byte {
+    ghost text = { λ part. Some (part.0 ∷ []) };
+
+    fn is_showable(self) -> bool {
+        self.is_known_utf8(Own)
     }
 }

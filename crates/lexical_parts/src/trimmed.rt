@@ -1,15 +1,16 @@
 //! Numbers of units without zeros at the end of their fraction.
-#![tactic(auto, using(crate::proofs::Utf8Texts::kinds, crate::proofs::Lengths::lengths))]
+#![tactic(auto, using(crate::proofs::Utf8Texts::kinds, crate::proofs::Lengths::lengths, crate::proofs::OnlyTexts::onlys))]
 
-ghost use Rattle.std.specs.Prelude.{◌+◌, ◌≤◌, length, max, min, unsigned_abs};
+ghost use Rattle.std.specs.Prelude.{◌+◌, ◌≤◌, Some, length, max, min, unsigned_abs};
 ghost use Rattle.lexical_write_integer.specs.Buffer.{Writes};
 ghost use Rattle.lexical_parts.specs.Fixed.{fixed_room};
-ghost use Rattle.lexical_parts.specs.Trimmed.{IsTrimmedFixed, IsTrimmedUnits};
+ghost use Rattle.lexical_parts.specs.Trimmed.{IsTrimmedFixed, IsTrimmedUnits, trimmed_text};
 
 use crate::fixed::{Fixed, LONGEST_FIXED, write_units};
 use crate::own::Own;
 use crate::part::Part;
 use crate::scientific::count_without_zeros;
+use crate::show::Show;
 use crate::sign::Sign;
 use crate::text::Bytes;
 use lexical_write_integer::ToLexicalWithOptions;
@@ -69,5 +70,14 @@ impl<T: ToLexicalWithOptions> Part for TrimmedFixed<T> {
 
     fn is_known_utf8(self, own: Own) -> bool {
         Fixed(self.0, self.1).is_known_utf8(own)
+    }
+}
+
+impl<T: ToLexicalWithOptions> Show for TrimmedFixed<T> {
+    ghost text = { λ part. Some (trimmed_text part.1 (T.number part.0)) };
+
+    fn is_showable(self) -> bool {
+        self.0.in_range();
+        self.is_known_utf8(Own)
     }
 }

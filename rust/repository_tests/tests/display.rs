@@ -161,7 +161,7 @@ fn padded_digits() {
 }
 
 /// Checks that a part is shown as its text is, in each width and precision up to some more than it has.
-fn check_text<P: Part>(part: P, text: &str) {
+fn check_text<P: Show>(part: P, text: &str) {
     assert_eq!(format!("{}", Shown(part)), text);
     for n in 0..=text.chars().count() + 3 {
         let expected = format!("{text:n$}|{text:>n$}|{text:é^n$}|{text:.n$}|{text:9.n$}|{text:09}");
@@ -201,28 +201,42 @@ fn columns_and_others() {
     assert_eq!(shown, "5|n/a|01:AB");
 }
 
-/// A caller's own part.
+/// A caller's own part, which is valid if its number is not 0.
 #[derive(Clone, Copy)]
-struct Own;
+struct Own(u8);
 
 impl Part for Own {
     fn room(self) -> usize {
-        0
+        3
     }
 
-    fn write_to(self, _buffer: &mut [u8]) -> usize {
-        0
+    fn write_to(self, buffer: &mut [u8]) -> usize {
+        self.0.write_to(buffer)
+    }
+}
+
+impl Show for Own {
+    fn is_showable(self) -> bool {
+        self.0 != 0
     }
 }
 
 #[test]
+fn own_parts() {
+    check_text(Own(7), "7");
+    check_text(("a", Own(7), "!", Some(Own(42)), &Own(9)), "a7!429");
+    check_text(Joined(&[Own(1), Own(200)], ", "), "1, 200");
+    check_text((Left(Own(5), 3, b'.'), Right(Own(5), 3, b'.'), ZeroPadded(Own(5), 3), Lower(Own(5))), "5....50055");
+}
+
+#[test]
 fn parts_that_are_not_shown() {
-    fn is_refused<P: Part>(part: P) -> bool {
+    fn is_refused<P: Show>(part: P) -> bool {
         write!(String::new(), "{}", Shown(part)).is_err() && write!(String::new(), "{:9}", Shown(part)).is_err()
     }
     assert!(is_refused((1u8, Digits(37, 1u8))) && is_refused(Joined(&[Padded(1u8, 1), Padded(10, 1)], ",")));
     assert!(is_refused(Bytes(&[200])) && is_refused((Byte(128), 1u8)) && is_refused(Left(1u8, 2, 128)));
-    assert!(is_refused(Own) && is_refused(("own", Own)) && is_refused(Fixed(1u8, 20)));
+    assert!(is_refused(Own(0)) && is_refused(("own", Own(0))) && is_refused(Fixed(1u8, 20)));
     assert!(is_refused(Lower(&*"A".repeat(257))) && !is_refused(Lower(&*"A".repeat(256))));
     assert_eq!(Left(1u8, 257, b' ').to_string().len(), 257);
 }

@@ -63,7 +63,7 @@ impl<P: Display> Displayed for InFormat<P> {
     }
 }
 
-impl<P: Part> Displayed for &InFormat<P> {
+impl<P: Show> Displayed for &InFormat<P> {
     fn displayed(&self) -> [String; 2] {
         InFormat(Shown(self.0)).displayed()
     }

@@ -62,6 +62,10 @@ pub(crate) const PARTS: Replaced = &[
     (".to_string(alloc)?", ".to_string()"),
     // Parts can be keys and compared, as values of std can.
     ("#[derive(Clone, Copy, Debug, Drop)]", "#[derive(Clone, Copy, PartialEq, Eq, Hash, Debug)]"),
+    // A formatter has no parameter here, but a lifetime.
+    ("struct Through<'a, W> {\n    f: &'a mut fmt::Formatter<W>,", "struct Through<'a, 'b> {\n    f: &'a mut fmt::Formatter<'b>,"),
+    ("impl<W: fmt::Write> fmt::Write for Through<'_, W>", "impl fmt::Write for Through<'_, '_>"),
+    ("<P: Show, W: fmt::Write>", "<P: Show>"),
     // rustc proves nothing, so a debug build checks.
     ("            // SAFETY: ", "            debug_assert!(from_utf8(text).is_ok());\n            // SAFETY: "),
 ];

@@ -5,17 +5,17 @@
 use crate::parts::fill::{insert_fill, write_fill};
 use crate::parts::own::Own;
 use crate::parts::part::Part;
-use crate::parts::shown::Shown;
+use crate::parts::show::{Show, write_at_once};
 use crate::parts::text::Byte;
 use core::fmt;
 
-// Writes copies of a byte to a formatter, whatever its options are.
+// Writes copies of a byte to a writer.
 #[inline]
-fn write_copies(f: &mut fmt::Formatter<'_>, byte: u8, count: usize) -> fmt::Result {
+fn write_copies<O: fmt::Write>(byte: u8, count: usize, out: &mut O) -> fmt::Result {
     let mut array = [0; 1];
     let text = Byte(byte).to_str(&mut array);
     for _ in 0..count {
-        f.write_str(text)?;
+        out.write_str(text)?;
     }
     Ok(())
 }
@@ -53,14 +53,21 @@ impl<P: Part> Part for Left<P> {
     fn is_known_utf8(self, own: Own) -> bool {
         self.2 < 128 && self.0.is_known_utf8(own)
     }
+}
+
+impl<P: Show> Show for Left<P> {
+    #[inline]
+    fn is_showable(self) -> bool {
+        self.2 < 128 && self.0.is_showable()
+    }
 
     #[inline]
-    fn write_each(self, f: &mut fmt::Formatter<'_>, _own: Own) -> Option<fmt::Result> {
-        let count = self.0.text_len()?;
-        match Shown(self.0).write(f) {
-            Ok(()) => Some(write_copies(f, self.2, self.1.saturating_sub(count))),
-            Err(error) => Some(Err(error)),
-        }
+    fn write_pieces<O: fmt::Write>(self, out: &mut O) -> fmt::Result {
+        let Some(count) = self.0.text_len() else {
+            return write_at_once(self, out);
+        };
+        self.0.write_pieces(out)?;
+        write_copies(self.2, self.1.saturating_sub(count), out)
     }
 }
 
@@ -99,14 +106,21 @@ impl<P: Part> Part for Right<P> {
     fn is_known_utf8(self, own: Own) -> bool {
         self.2 < 128 && self.0.is_known_utf8(own)
     }
+}
+
+impl<P: Show> Show for Right<P> {
+    #[inline]
+    fn is_showable(self) -> bool {
+        self.2 < 128 && self.0.is_showable()
+    }
 
     #[inline]
-    fn write_each(self, f: &mut fmt::Formatter<'_>, _own: Own) -> Option<fmt::Result> {
-        let count = self.0.text_len()?;
-        match write_copies(f, self.2, self.1.saturating_sub(count)) {
-            Ok(()) => Some(Shown(self.0).write(f)),
-            Err(error) => Some(Err(error)),
-        }
+    fn write_pieces<O: fmt::Write>(self, out: &mut O) -> fmt::Result {
+        let Some(count) = self.0.text_len() else {
+            return write_at_once(self, out);
+        };
+        write_copies(self.2, self.1.saturating_sub(count), out)?;
+        self.0.write_pieces(out)
     }
 }
 
@@ -147,18 +161,23 @@ impl<P: Part> Part for Center<P> {
     fn is_known_utf8(self, own: Own) -> bool {
         self.2 < 128 && self.0.is_known_utf8(own)
     }
+}
+
+impl<P: Show> Show for Center<P> {
+    #[inline]
+    fn is_showable(self) -> bool {
+        self.2 < 128 && self.0.is_showable()
+    }
 
     #[inline]
-    fn write_each(self, f: &mut fmt::Formatter<'_>, _own: Own) -> Option<fmt::Result> {
-        let count = self.0.text_len()?;
+    fn write_pieces<O: fmt::Write>(self, out: &mut O) -> fmt::Result {
+        let Some(count) = self.0.text_len() else {
+            return write_at_once(self, out);
+        };
         let added = self.1.saturating_sub(count);
         let before = added / 2;
-        if let Err(error) = write_copies(f, self.2, before) {
-            return Some(Err(error));
-        }
-        match Shown(self.0).write(f) {
-            Ok(()) => Some(write_copies(f, self.2, added - before)),
-            Err(error) => Some(Err(error)),
-        }
+        write_copies(self.2, before, out)?;
+        self.0.write_pieces(out)?;
+        write_copies(self.2, added - before, out)
     }
 }

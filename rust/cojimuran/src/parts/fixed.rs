@@ -5,6 +5,7 @@
 use crate::parts::fill::insert_fill;
 use crate::parts::own::Own;
 use crate::parts::part::Part;
+use crate::parts::show::Show;
 use crate::parts::sign::Sign;
 use crate::write_integer::format::STANDARD;
 use crate::write_integer::{NumberFormat, ToLexicalWithOptions, group_digits, sign_len};
@@ -94,6 +95,13 @@ impl<T: ToLexicalWithOptions> Part for Fixed<T> {
     }
 }
 
+impl<T: ToLexicalWithOptions> Show for Fixed<T> {
+    #[inline(always)]
+    fn is_showable(self) -> bool {
+        self.is_known_utf8(Own)
+    }
+}
+
 /// A number as [`Fixed`](crate::parts::Fixed) writes it, with its whole part in the groups of the format, and nothing else of it:
 /// in groups of three with `,`, `GroupedFixed(-123456, 2, &format)` writes `-1,234.56`.
 ///
@@ -132,5 +140,12 @@ impl<T: ToLexicalWithOptions> Part for GroupedFixed<'_, T> {
     #[inline(always)]
     fn is_known_utf8(self, _own: Own) -> bool {
         19 >= self.1
+    }
+}
+
+impl<T: ToLexicalWithOptions> Show for GroupedFixed<'_, T> {
+    #[inline(always)]
+    fn is_showable(self) -> bool {
+        self.is_known_utf8(Own)
     }
 }

@@ -5,6 +5,7 @@
 use crate::parts::number::Decimal;
 use crate::parts::own::Own;
 use crate::parts::part::Part;
+use crate::parts::show::Show;
 
 impl Part for u8 {
     #[inline(always)]
@@ -25,6 +26,13 @@ impl Part for u8 {
     #[inline(always)]
     fn is_known_utf8(self, _own: Own) -> bool {
         true
+    }
+}
+
+impl Show for u8 {
+    #[inline(always)]
+    fn is_showable(self) -> bool {
+        self.is_known_utf8(Own)
     }
 }
 
@@ -50,6 +58,13 @@ impl Part for u16 {
     }
 }
 
+impl Show for u16 {
+    #[inline(always)]
+    fn is_showable(self) -> bool {
+        self.is_known_utf8(Own)
+    }
+}
+
 impl Part for u32 {
     #[inline(always)]
     fn room(self) -> usize {
@@ -69,6 +84,13 @@ impl Part for u32 {
     #[inline(always)]
     fn is_known_utf8(self, _own: Own) -> bool {
         true
+    }
+}
+
+impl Show for u32 {
+    #[inline(always)]
+    fn is_showable(self) -> bool {
+        self.is_known_utf8(Own)
     }
 }
 
@@ -94,6 +116,13 @@ impl Part for u64 {
     }
 }
 
+impl Show for u64 {
+    #[inline(always)]
+    fn is_showable(self) -> bool {
+        self.is_known_utf8(Own)
+    }
+}
+
 impl Part for usize {
     #[inline(always)]
     fn room(self) -> usize {
@@ -113,6 +142,13 @@ impl Part for usize {
     #[inline(always)]
     fn is_known_utf8(self, _own: Own) -> bool {
         true
+    }
+}
+
+impl Show for usize {
+    #[inline(always)]
+    fn is_showable(self) -> bool {
+        self.is_known_utf8(Own)
     }
 }
 
@@ -138,6 +174,13 @@ impl Part for i8 {
     }
 }
 
+impl Show for i8 {
+    #[inline(always)]
+    fn is_showable(self) -> bool {
+        self.is_known_utf8(Own)
+    }
+}
+
 impl Part for i16 {
     #[inline(always)]
     fn room(self) -> usize {
@@ -157,6 +200,13 @@ impl Part for i16 {
     #[inline(always)]
     fn is_known_utf8(self, _own: Own) -> bool {
         true
+    }
+}
+
+impl Show for i16 {
+    #[inline(always)]
+    fn is_showable(self) -> bool {
+        self.is_known_utf8(Own)
     }
 }
 
@@ -182,6 +232,13 @@ impl Part for i32 {
     }
 }
 
+impl Show for i32 {
+    #[inline(always)]
+    fn is_showable(self) -> bool {
+        self.is_known_utf8(Own)
+    }
+}
+
 impl Part for i64 {
     #[inline(always)]
     fn room(self) -> usize {
@@ -204,6 +261,13 @@ impl Part for i64 {
     }
 }
 
+impl Show for i64 {
+    #[inline(always)]
+    fn is_showable(self) -> bool {
+        self.is_known_utf8(Own)
+    }
+}
+
 impl Part for isize {
     #[inline(always)]
     fn room(self) -> usize {
@@ -223,5 +287,12 @@ impl Part for isize {
     #[inline(always)]
     fn is_known_utf8(self, _own: Own) -> bool {
         true
+    }
+}
+
+impl Show for isize {
+    #[inline(always)]
+    fn is_showable(self) -> bool {
+        self.is_known_utf8(Own)
     }
 }

@@ -4,7 +4,7 @@
 
 use crate::parts::own::Own;
 use crate::parts::part::Part;
-use crate::parts::shown::Shown;
+use crate::parts::show::Show;
 use core::fmt;
 
 // Returns what precedes the part at the index.
@@ -83,20 +83,24 @@ impl<P: Part> Part for Joined<'_, P> {
         }
         true
     }
-
-    #[inline(always)]
-    fn write_each(self, f: &mut fmt::Formatter<'_>, _own: Own) -> Option<fmt::Result> {
-        Some(self.write_parts(f))
-    }
 }
 
-impl<P: Part> Joined<'_, P> {
-    // Writes each part to a formatter, with the separator between adjacent parts.
+impl<P: Show> Show for Joined<'_, P> {
     #[inline(always)]
-    fn write_parts(self, f: &mut fmt::Formatter<'_>) -> fmt::Result {
+    fn is_showable(self) -> bool {
+        for part in self.0 {
+            if !part.is_showable() {
+                return false;
+            }
+        }
+        true
+    }
+
+    #[inline(always)]
+    fn write_pieces<O: fmt::Write>(self, out: &mut O) -> fmt::Result {
         for (index, part) in self.0.iter().enumerate() {
-            f.write_str(separator_before(index, self.1))?;
-            Shown(*part).write(f)?;
+            out.write_str(separator_before(index, self.1))?;
+            part.write_pieces(out)?;
         }
         Ok(())
     }

@@ -4,6 +4,7 @@
 
 use crate::parts::own::Own;
 use crate::parts::part::Part;
+use crate::parts::show::Show;
 
 /// A part in lowercase: its text with `A` to `Z` as `a` to `z`, and every other byte unchanged.
 /// `Lower(PaddedDigits(16, 255u32, 4))` writes `00ff`.
@@ -37,5 +38,12 @@ impl<P: Part> Part for Lower<P> {
     #[inline(always)]
     fn is_known_utf8(self, own: Own) -> bool {
         self.0.is_known_utf8(own)
+    }
+}
+
+impl<P: Show> Show for Lower<P> {
+    #[inline]
+    fn is_showable(self) -> bool {
+        self.0.is_showable()
     }
 }

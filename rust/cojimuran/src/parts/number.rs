@@ -5,6 +5,7 @@
 use crate::num::limits::is_radix;
 use crate::parts::own::Own;
 use crate::parts::part::Part;
+use crate::parts::show::Show;
 use crate::write_integer::digit_count::DigitCount;
 use crate::write_integer::format::STANDARD;
 use crate::write_integer::radix::Radix;
@@ -43,6 +44,13 @@ impl<T: ToLexicalWithOptions> Part for Decimal<T> {
     }
 }
 
+impl<T: ToLexicalWithOptions> Show for Decimal<T> {
+    #[inline(always)]
+    fn is_showable(self) -> bool {
+        self.is_known_utf8(Own)
+    }
+}
+
 /// The digits of an unsigned number in a radix from 2 to 36: `Digits(16, 255u32)` writes `FF`.
 ///
 /// ```
@@ -72,6 +80,13 @@ impl<T: Radix + DigitCount> Part for Digits<T> {
     #[inline(always)]
     fn is_known_utf8(self, _own: Own) -> bool {
         is_radix(u64::from(self.0))
+    }
+}
+
+impl<T: Radix + DigitCount> Show for Digits<T> {
+    #[inline(always)]
+    fn is_showable(self) -> bool {
+        self.is_known_utf8(Own)
     }
 }
 
@@ -120,5 +135,12 @@ impl<T: ToLexicalWithOptions> Part for Formatted<'_, T> {
     #[inline(always)]
     fn is_known_utf8(self, _own: Own) -> bool {
         true
+    }
+}
+
+impl<T: ToLexicalWithOptions> Show for Formatted<'_, T> {
+    #[inline(always)]
+    fn is_showable(self) -> bool {
+        self.is_known_utf8(Own)
     }
 }

@@ -5,6 +5,7 @@
 use crate::num::limits::is_radix;
 use crate::parts::own::Own;
 use crate::parts::part::Part;
+use crate::parts::show::Show;
 use crate::write_integer::digit_count::DigitCount;
 use crate::write_integer::padded::{fits_decimal_width, write_padded};
 use crate::write_integer::radix::Radix;
@@ -61,6 +62,13 @@ impl<T: DigitCount + Radix> Part for PaddedDigits<T> {
     }
 }
 
+impl<T: DigitCount + Radix> Show for PaddedDigits<T> {
+    #[inline(always)]
+    fn is_showable(self) -> bool {
+        self.is_known_utf8(Own)
+    }
+}
+
 /// An unsigned number in decimal, with leading zeros up to the width: `Padded(3u8, 2)` writes `03`.
 /// The number must be below `10.pow(width)`. [`ZeroPadded`](crate::parts::ZeroPadded) writes every number: `ZeroPadded(123u8, 2)`
 /// writes `123`.
@@ -93,5 +101,12 @@ impl<T: DigitCount + Radix> Part for Padded<T> {
     #[inline(always)]
     fn is_known_utf8(self, _own: Own) -> bool {
         fits_decimal_width(self.0.as_u64(), self.1)
+    }
+}
+
+impl<T: DigitCount + Radix> Show for Padded<T> {
+    #[inline(always)]
+    fn is_showable(self) -> bool {
+        self.is_known_utf8(Own)
     }
 }

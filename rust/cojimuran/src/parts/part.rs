@@ -4,7 +4,6 @@
 
 use crate::parts::own::Own;
 use crate::write_integer::buffer::{copy_to_front, front_mut};
-use core::fmt;
 use core::str::{from_utf8, from_utf8_unchecked};
 
 /// A value that has a text, such as a number or a `&str`. A tuple of parts is also a part, and its
@@ -55,14 +54,6 @@ pub trait Part: Copy {
     #[inline(always)]
     fn is_known_utf8(self, _own: Own) -> bool {
         false
-    }
-
-    // Writes the text to a formatter, whatever its options are, if the part consists of parts, or has its text already.
-    // Otherwise returns `None`, and writes nothing.
-    #[doc(hidden)]
-    #[inline]
-    fn write_each(self, _f: &mut fmt::Formatter<'_>, _own: Own) -> Option<fmt::Result> {
-        None
     }
 
     /// Writes the text to the start of the buffer, and returns those bytes of the buffer, which the

@@ -4,6 +4,7 @@
 
 use crate::parts::own::Own;
 use crate::parts::part::Part;
+use crate::parts::show::Show;
 use crate::parts::sign::Sign;
 use crate::write_integer::ToLexicalWithOptions;
 use crate::write_integer::format::STANDARD;
@@ -41,5 +42,12 @@ impl<T: ToLexicalWithOptions> Part for Plus<T> {
     #[inline(always)]
     fn is_known_utf8(self, _own: Own) -> bool {
         true
+    }
+}
+
+impl<T: ToLexicalWithOptions> Show for Plus<T> {
+    #[inline]
+    fn is_showable(self) -> bool {
+        self.is_known_utf8(Own)
     }
 }

@@ -5,6 +5,7 @@
 use crate::parts::joined::write_next;
 use crate::parts::own::Own;
 use crate::parts::part::Part;
+use crate::parts::show::Show;
 use crate::tables::get_table;
 use crate::write_integer::digit_count::DigitCount;
 use crate::write_integer::radix::{Radix, constant_radix};
@@ -42,6 +43,13 @@ impl<T: Radix> Part for Hex<T> {
     }
 }
 
+impl<T: Radix> Show for Hex<T> {
+    #[inline(always)]
+    fn is_showable(self) -> bool {
+        self.is_known_utf8(Own)
+    }
+}
+
 /// The digits of an unsigned number in radix 2, without a prefix: `Binary(5u8)` writes `101`. Its room
 /// is that of its type: 8 bytes for a `u8`, and 64 for a `u64`.
 ///
@@ -72,6 +80,13 @@ impl<T: Radix> Part for Binary<T> {
     #[inline(always)]
     fn is_known_utf8(self, _own: Own) -> bool {
         true
+    }
+}
+
+impl<T: Radix> Show for Binary<T> {
+    #[inline(always)]
+    fn is_showable(self) -> bool {
+        self.is_known_utf8(Own)
     }
 }
 
@@ -139,5 +154,12 @@ impl Part for HexBytes<'_> {
     #[inline(always)]
     fn is_known_utf8(self, _own: Own) -> bool {
         true
+    }
+}
+
+impl Show for HexBytes<'_> {
+    #[inline(always)]
+    fn is_showable(self) -> bool {
+        self.is_known_utf8(Own)
     }
 }

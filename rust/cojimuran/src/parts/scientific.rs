@@ -4,6 +4,7 @@
 
 use crate::parts::own::Own;
 use crate::parts::part::Part;
+use crate::parts::show::Show;
 use crate::parts::sign::Sign;
 use crate::parts::text::Bytes;
 use crate::write_integer::ToLexicalWithOptions;
@@ -93,5 +94,12 @@ impl<T: ToLexicalWithOptions> Part for Scientific<T> {
     #[inline(always)]
     fn is_known_utf8(self, _own: Own) -> bool {
         true
+    }
+}
+
+impl<T: ToLexicalWithOptions> Show for Scientific<T> {
+    #[inline]
+    fn is_showable(self) -> bool {
+        self.is_known_utf8(Own)
     }
 }

@@ -4,6 +4,7 @@
 
 use crate::parts::own::Own;
 use crate::parts::part::Part;
+use crate::parts::show::Show;
 use crate::write_integer::buffer::copy_to_front;
 use core::fmt;
 use core::str::from_utf8;
@@ -28,10 +29,17 @@ impl Part for &str {
     fn is_known_utf8(self, _own: Own) -> bool {
         true
     }
+}
+
+impl Show for &str {
+    #[inline(always)]
+    fn is_showable(self) -> bool {
+        self.is_known_utf8(Own)
+    }
 
     #[inline(always)]
-    fn write_each(self, f: &mut fmt::Formatter<'_>, _own: Own) -> Option<fmt::Result> {
-        Some(f.write_str(self))
+    fn write_pieces<O: fmt::Write>(self, out: &mut O) -> fmt::Result {
+        out.write_str(self)
     }
 }
 
@@ -64,6 +72,13 @@ impl Part for bool {
     }
 }
 
+impl Show for bool {
+    #[inline(always)]
+    fn is_showable(self) -> bool {
+        self.is_known_utf8(Own)
+    }
+}
+
 impl Part for char {
     #[inline(always)]
     fn room(self) -> usize {
@@ -85,6 +100,13 @@ impl Part for char {
     #[inline(always)]
     fn is_known_utf8(self, _own: Own) -> bool {
         true
+    }
+}
+
+impl Show for char {
+    #[inline(always)]
+    fn is_showable(self) -> bool {
+        self.is_known_utf8(Own)
     }
 }
 
@@ -118,12 +140,19 @@ impl Part for Bytes<'_> {
     fn is_known_utf8(self, _own: Own) -> bool {
         from_utf8(self.0).is_ok()
     }
+}
+
+impl Show for Bytes<'_> {
+    #[inline(always)]
+    fn is_showable(self) -> bool {
+        self.is_known_utf8(Own)
+    }
 
     #[inline(always)]
-    fn write_each(self, f: &mut fmt::Formatter<'_>, _own: Own) -> Option<fmt::Result> {
+    fn write_pieces<O: fmt::Write>(self, out: &mut O) -> fmt::Result {
         match from_utf8(self.0) {
-            Ok(text) => Some(f.write_str(text)),
-            Err(_) => None,
+            Ok(text) => out.write_str(text),
+            Err(_) => Err(fmt::Error),
         }
     }
 }
@@ -157,5 +186,12 @@ impl Part for Byte {
     #[inline(always)]
     fn is_known_utf8(self, _own: Own) -> bool {
         self.0 < 128
+    }
+}
+
+impl Show for Byte {
+    #[inline(always)]
+    fn is_showable(self) -> bool {
+        self.is_known_utf8(Own)
     }
 }

@@ -6,6 +6,7 @@ use crate::parts::fixed::{Fixed, LONGEST_FIXED, write_units};
 use crate::parts::own::Own;
 use crate::parts::part::Part;
 use crate::parts::scientific::count_without_zeros;
+use crate::parts::show::Show;
 use crate::parts::sign::Sign;
 use crate::parts::text::Bytes;
 use crate::write_integer::ToLexicalWithOptions;
@@ -62,5 +63,12 @@ impl<T: ToLexicalWithOptions> Part for TrimmedFixed<T> {
     #[inline(always)]
     fn is_known_utf8(self, own: Own) -> bool {
         Fixed(self.0, self.1).is_known_utf8(own)
+    }
+}
+
+impl<T: ToLexicalWithOptions> Show for TrimmedFixed<T> {
+    #[inline]
+    fn is_showable(self) -> bool {
+        self.is_known_utf8(Own)
     }
 }

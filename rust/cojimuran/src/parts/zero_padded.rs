@@ -5,6 +5,7 @@
 use crate::parts::fill::insert_fill;
 use crate::parts::own::Own;
 use crate::parts::part::Part;
+use crate::parts::show::Show;
 
 // Returns the length of the sign with which the text begins: 1 for `-` or `+`, and otherwise 0.
 #[inline]
@@ -50,5 +51,12 @@ impl<P: Part> Part for ZeroPadded<P> {
     #[inline(always)]
     fn is_known_utf8(self, own: Own) -> bool {
         self.0.is_known_utf8(own)
+    }
+}
+
+impl<P: Show> Show for ZeroPadded<P> {
+    #[inline]
+    fn is_showable(self) -> bool {
+        self.0.is_showable()
     }
 }
