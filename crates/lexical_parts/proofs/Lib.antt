@@ -38,6 +38,8 @@ pub mod ShownParts
 pub mod Callers
 -- bytes in radix 16 as the prover computes their text
 pub mod HexTexts
+-- the first characters of texts in a row
+pub mod CutTexts
 -- parts of which the prover computes the text
 pub mod OnlyTexts
 -- the lengths of texts

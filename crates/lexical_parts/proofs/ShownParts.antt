@@ -4,8 +4,12 @@ use Rattle.std.proofs.Common.{append_assoc, append-nil, subst}
 use Rattle.std.proofs.Output.{writes_in_calls_append, writes_in_calls_nil, writes_in_calls_single, has_written_styled_append, has_written_styled_nil}
 use Rattle.std.specs.List.{FoldsTo, concat}
 use Rattle.std.proofs.lemmas.List.{take_more, length-take-le}
-use Rattle.std.specs.Fmt.{HasWrittenStyled, IsFlush, IsPlainFormatter, DisplaysOnOk, DisplaysStyledOnOk, WritesInCalls, formatter_spec, styled_text}
+use Rattle.std.specs.Fmt.{HasWritten, HasWrittenStyled, IsFlush, IsPlainFormatter, DisplaysOnOk, DisplaysStyledOnOk, WritesInCalls, formatter_spec, styled_text}
+use Rattle.std.proofs.Common.{ltb, map}
+use Rattle.std.proofs.lemmas.Bool.{cond_both, ltb-true}
+use Rattle.std.proofs.lemmas.List.{map-append}
 use Rattle.std.specs.Borrow.{MutBor}
+use Rattle.std.specs.Char.{to_ascii_lowercase}
 use Rattle.std.specs.declared.fmt.Formatter.{Formatter}
 use Rattle.lexical_write_integer.specs.Sequence.{AreJoined, IsExactly}
 use Rattle.lexical_write_integer.proofs.OfTexts.Joins.{Leads, AreJoined-push}
@@ -15,7 +19,7 @@ use Rattle.std.specs.Option.{IfSome, option_map}
 use Rattle.std.specs.Prelude.{Option, Some, None, Result, IsOk}
 use Rattle.std.specs.declared.fmt.Error.{Error}
 use Rattle.lexical_parts.specs.Sequence.{◌then◌}
-use Rattle.lexical_parts.specs.ShownParts.{ShowsSome, WritesSome}
+use Rattle.lexical_parts.specs.ShownParts.{IsAligned, ShowsSome, WritesSome, aligned_text}
 
 -- a text of the first kind is written, and then one of the second
 pub WritesSome-then : {W : Type 0} (took : W → List ℕ → W → Type 0) (IsFirst IsSecond : List ℕ → Type 0) (f g h : W) →
@@ -107,19 +111,40 @@ through_closed took in_it = closed_calls (ThroughGives took in_it)
     (λ s. (refl, λ flush. has_written_styled_nil _ _ flush))
     (λ s t u a b first second. (second.0 ∙ first.0, λ flush. let one = first.1 flush in has_written_styled_append _ _ _ _ _ _ one (second.1 one.flush)))
 
+-- what some calls write in lowercase
+abbrev pub LoweringGives : {W T : Type 0} (took : W → List ℕ → W → Type 0) → (T → MutBor W) → T → List ℕ → T → Type 0
+LoweringGives took in_it s bytes t =
+    ((in_it t).ghost_name ≡ (in_it s).ghost_name) × WritesInCalls took (in_it s).now (map to_ascii_lowercase bytes) (in_it t).now
+
+pub lowering_closed : {W T : Type 0} (took : W → List ℕ → W → Type 0) (in_it : T → MutBor W) (s t : T) (text : List ℕ)
+    → WritesInCalls (LoweringGives took in_it) s text t → LoweringGives took in_it s text t
+lowering_closed took in_it = closed_calls (LoweringGives took in_it)
+    (λ s. (refl, writes_in_calls_nil _ _))
+    (λ s t u a b first second.
+    (second.0 ∙ first.0, rw (map-append to_ascii_lowercase a b) (writes_in_calls_append _ _ _ _ _ _ first.1 second.1)))
+
 -- a text that is the only one of its kind is the one that is written
 module _ {W : Type 0} (took : W → List ℕ → W → Type 0) (Is : List ℕ → Type 0) (f g : Formatter W) (r : Result (Unit {0}) Error) where
-  pub displays_styled_only : (o : Option (List ℕ)) → IfSome o (λ bytes. IsOnly Is bytes) → (IsFlush f → IsOk r → ShowsSome took Is f g)
+  displays_known : (o : Option (List ℕ)) → IfSome o (λ bytes. IsOnly Is bytes) → (IsFlush f → IsOk r → ShowsSome took Is f g)
       → DisplaysStyledOnOk took f r (option_map (styled_text (formatter_spec f)) o) g
-  displays_styled_only None one shows = one
-  displays_styled_only (Some bytes) one shows = λ flush ok. let some = shows flush ok in rw (← one.only some.text some.is) some.wrote
+  displays_known None one shows = one
+  displays_known (Some bytes) one shows = λ flush ok. let some = shows flush ok in rw (← one.only some.text some.is) some.wrote
 
-  pub displays_only : (o : Option (List ℕ)) → IfSome o (λ bytes. IsOnly Is bytes) → (IsFlush f → IsOk r → ShowsSome took Is f g) → DisplaysOnOk took f r o g
-  displays_only None one shows = one
-  displays_only (Some bytes) one shows = λ plain ok.
-      let some = shows plain.flush ok in
+  pub displays_styled_only : (o : Option (List ℕ)) → IfSome o (λ bytes. IsOnly Is bytes) → (IsFlush f → IsAligned f → IsOk r → ShowsSome took Is f g)
+      → DisplaysStyledOnOk took f r (aligned_text (formatter_spec f).align (styled_text (formatter_spec f)) o) g
+  displays_styled_only o one shows =
+      cond_both (ltb (formatter_spec f).align 4) _ _ (λ known. DisplaysStyledOnOk took f r known g)
+      (λ small. displays_known o one (λ flush. shows flush (λ _. ltb-true _ 4 small)))
+      (λ _. tt)
+
+  plain_known : (bytes : List ℕ) → IsOnly Is bytes → IsPlainFormatter f → ShowsSome took Is f g → HasWritten took f bytes g
+  plain_known bytes one plain some =
       let wrote = rw (plain.bare.width, plain.bare.precision) at some.wrote.wrote in
       record {
         wrote = rw (← one.only some.text some.is) wrote;
         plain = record { bare = rw some.wrote.spec plain.bare; flush = some.wrote.flush };
       }
+
+  pub displays_only : (o : Option (List ℕ)) → IfSome o (λ bytes. IsOnly Is bytes) → (IsFlush f → IsAligned f → IsOk r → ShowsSome took Is f g) → DisplaysOnOk took f r o g
+  displays_only None one shows = one
+  displays_only (Some bytes) one shows = λ plain ok. plain_known bytes one plain (shows plain.flush (λ wide. absurd (omega (arith, wide, plain.bare.width))) ok)

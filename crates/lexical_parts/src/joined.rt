@@ -15,7 +15,7 @@ use crate::text::str_is_utf8;
 use std::fmt;
 
 // Returns what precedes the part at the index.
-fn separator_before(index: usize, separator: &str) -> &str
+pub(crate) fn separator_before(index: usize, separator: &str) -> &str
     ensures { result.now ≡ lead index separator.now }
 {
     if index == 0 { "" } else { separator }
@@ -98,6 +98,7 @@ impl<P: Part> Part for Joined<'_, P> {
                 return false;
             }
         }
+        // Also without parts, since no bytes are UTF-8.
         true
     }
 }

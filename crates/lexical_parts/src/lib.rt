@@ -33,6 +33,7 @@
 mod buffer;
 mod cell;
 mod column;
+mod cut;
 mod display;
 mod equal;
 mod field;

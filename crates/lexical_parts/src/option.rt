@@ -48,6 +48,7 @@ impl<P: Part> Part for Option<P> {
     {
         match self {
             Some(part) => part.is_known_utf8(own),
+            // No bytes are UTF-8.
             None => true,
         }
     }

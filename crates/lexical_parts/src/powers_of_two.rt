@@ -8,15 +8,16 @@ ghost use Rattle.lexical_write_integer.specs.Padded.{IsPadded};
 ghost use Rattle.lexical_write_integer.specs.Sequence.{AreJoined};
 ghost use Rattle.lexical_write_integer.specs.Text.{IsDigits};
 
-use crate::joined::write_next;
+use crate::joined::{separator_before, write_next};
 use crate::own::Own;
 use crate::part::Part;
-use crate::show::Show;
+use crate::show::{MOST_AT_ONCE, Show, write_at_once};
 use crate::text::str_is_utf8;
 use lexical_tables::get_table;
 use lexical_write_integer::digit_count::DigitCount;
 use lexical_write_integer::laws::digit_count_within_bits;
 use lexical_write_integer::radix::{Radix, constant_radix};
+use std::fmt;
 
 /// The digits of an unsigned number in radix 16, without a prefix: `Hex(255u32)` writes `FF`. Its room
 /// is that of its type: 2 bytes for a `u8`, and 16 for a `u64`.
@@ -162,5 +163,16 @@ impl Show for HexBytes<'_> {
 
     fn is_showable(self) -> bool {
         self.is_known_utf8(Own)
+    }
+
+    fn write_pieces<O: fmt::Write>(self, out: &mut O) -> fmt::Result {
+        if self.room() <= MOST_AT_ONCE {
+            return write_at_once(self, out);
+        }
+        for (index, byte) in self.0.iter().enumerate() {
+            out.write_str(separator_before(index, self.1))?;
+            out.write_str(HexByte(*byte).to_str(&mut [0; 2]))?;
+        }
+        Ok(())
     }
 }

@@ -32,6 +32,7 @@
 mod buffer;
 mod cell;
 mod column;
+mod cut;
 mod display;
 mod field;
 mod fill;

@@ -9,7 +9,7 @@ use core::fmt;
 
 // Returns what precedes the part at the index.
 #[inline(always)]
-fn separator_before(index: usize, separator: &str) -> &str {
+pub(crate) fn separator_before(index: usize, separator: &str) -> &str {
     if index == 0 { "" } else { separator }
 }
 
@@ -81,6 +81,7 @@ impl<P: Part> Part for Joined<'_, P> {
                 return false;
             }
         }
+        // Also without parts, since no bytes are UTF-8.
         true
     }
 }

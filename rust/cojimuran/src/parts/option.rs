@@ -37,6 +37,7 @@ impl<P: Part> Part for Option<P> {
     fn is_known_utf8(self, own: Own) -> bool {
         match self {
             Some(part) => part.is_known_utf8(own),
+            // No bytes are UTF-8.
             None => true,
         }
     }

@@ -2,13 +2,14 @@
 
 //! Unsigned numbers in radix 16 and in radix 2, in the room of their type, and bytes in radix 16.
 
-use crate::parts::joined::write_next;
+use crate::parts::joined::{separator_before, write_next};
 use crate::parts::own::Own;
 use crate::parts::part::Part;
-use crate::parts::show::Show;
+use crate::parts::show::{MOST_AT_ONCE, Show, write_at_once};
 use crate::tables::get_table;
 use crate::write_integer::digit_count::DigitCount;
 use crate::write_integer::radix::{Radix, constant_radix};
+use core::fmt;
 
 /// The digits of an unsigned number in radix 16, without a prefix: `Hex(255u32)` writes `FF`. Its room
 /// is that of its type: 2 bytes for a `u8`, and 16 for a `u64`.
@@ -161,5 +162,17 @@ impl Show for HexBytes<'_> {
     #[inline(always)]
     fn is_showable(self) -> bool {
         self.is_known_utf8(Own)
+    }
+
+    #[inline(always)]
+    fn write_pieces<O: fmt::Write>(self, out: &mut O) -> fmt::Result {
+        if self.room() <= MOST_AT_ONCE {
+            return write_at_once(self, out);
+        }
+        for (index, byte) in self.0.iter().enumerate() {
+            out.write_str(separator_before(index, self.1))?;
+            out.write_str(HexByte(*byte).to_str(&mut [0; 2]))?;
+        }
+        Ok(())
     }
 }

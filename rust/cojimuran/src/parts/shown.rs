@@ -3,6 +3,7 @@
 //! Parts in a format string, whose text is not that of one number.
 
 use crate::parts::column::{Center, Left, Right};
+use crate::parts::cut::{Nowhere, write_first};
 use crate::parts::joined::Joined;
 use crate::parts::lower::Lower;
 use crate::parts::option::OrElse;
@@ -62,9 +63,63 @@ impl<P: Show> Shown<P> {
         }
         match part.try_to_str(&mut [0; MOST_AT_ONCE]) {
             Some(text) => f.pad(text),
-            None => Err(fmt::Error),
+            None => pad_pieces(part, f),
         }
     }
+}
+
+// Writes the text with the width and the precision of the formatter, as std writes a `&str`. The text is written twice,
+// the first time to count its characters. It is cold, and so not inlined: most texts are written at once.
+#[cold]
+#[inline]
+fn pad_pieces<P: Show>(part: P, f: &mut fmt::Formatter<'_>) -> fmt::Result {
+    let most = f.precision().unwrap_or(usize::MAX);
+    let count = most - write_first(part, most, &mut Nowhere)?;
+    let padding = f.width().unwrap_or(0).saturating_sub(count);
+    let before = padding_before(f, padding);
+    write_fill(before, f)?;
+    let left = write_cut(part, most, f)?;
+    // A part has the same text each time.
+    if most.saturating_sub(left) != count {
+        return Err(fmt::Error);
+    }
+    write_fill(padding - before, f)
+}
+
+// Writes the first `most` characters of the text, and returns how many fewer it has.
+#[inline]
+fn write_cut<P: Show>(
+    part: P,
+    most: usize,
+    f: &mut fmt::Formatter<'_>,
+) -> Result<usize, fmt::Error> {
+    let mut through = Through { f };
+    let left = write_first(part, most, &mut through)?;
+    // No effect at run time, but by this use it is known what the formatter is now.
+    let Through { f } = through;
+    let _ = &*f;
+    Ok(left)
+}
+
+// Returns how much of the padding of a `&str` precedes it.
+#[inline]
+fn padding_before(f: &fmt::Formatter<'_>, padding: usize) -> usize {
+    match f.align() {
+        None | Some(fmt::Alignment::Left) => 0,
+        Some(fmt::Alignment::Center) => padding / 2,
+        Some(fmt::Alignment::Right) => padding,
+    }
+}
+
+// Writes copies of the fill of the formatter.
+#[inline]
+fn write_fill(count: usize, f: &mut fmt::Formatter<'_>) -> fmt::Result {
+    let mut array = [0; 4];
+    let fill: &str = f.fill().encode_utf8(&mut array);
+    for _ in 0..count {
+        f.write_str(fill)?;
+    }
+    Ok(())
 }
 
 impl<P: Show> fmt::Display for Shown<P> {
@@ -112,7 +167,7 @@ impl<P: Show> fmt::Display for Center<P> {
 impl<P: Show> fmt::Display for Joined<'_, P> {
     #[inline]
     fn fmt(&self, f: &mut fmt::Formatter<'_>) -> fmt::Result {
-        Shown(*self).show(f)
+        Shown(Joined(self.0, self.1)).show(f)
     }
 }
 
