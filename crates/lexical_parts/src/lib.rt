@@ -25,7 +25,7 @@
 //! decimals, if the radix is not from 2 to 36, or if a [`Padded`] or [`PaddedDigits`] has no digits, more than 64, or
 //! fewer than its number. `{}` of a [`Shown`] writes a tuple or any other part as it does a `&str`, and so does that of
 //! [`Joined`], [`Left`], [`Right`], [`Center`], [`ZeroPadded`], [`Lower`], [`OrElse`], [`Scientific`] and
-//! [`HexBytes`].
+//! [`HexBytes`]. Of these it is an error if the part is not valid, and for a [`ZeroPadded`] with a room above 256 bytes.
 
 // The example is from the test `texts_for_writing` in `crates/uses_tests/src/tests/lines.rt`.
 #![tactic(auto)]

@@ -26,7 +26,7 @@ use std::fmt;
 
 /// A tuple of parts, or another part, in a format string. A width, a fill and a precision work as for a `&str`.
 ///
-/// It is an error if a part in it is not valid.
+/// It is an error if a part in it is not valid, or if a `ZeroPadded` in it has a room above 256 bytes.
 ///
 /// ```
 /// use lexical_parts::{Hex, Shown};
