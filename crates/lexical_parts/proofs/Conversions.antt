@@ -1,5 +1,5 @@
 -- Texts of one kind that are also of another kind.
-use Rattle.std.proofs.Common.{ℕ, List, true, ℤ, pos, unsigned_abs, arith}
+use Rattle.std.proofs.Common.{ℕ, List, refl, true, ℤ, pos, unsigned_abs, arith}
 use Rattle.lexical_num.specs.Format.{standard}
 use Rattle.lexical_num.specs.Sign.{sign_of}
 use Rattle.lexical_write_integer.specs.Buffer.{Writes}
@@ -22,3 +22,7 @@ IsPlus-from_then text is = record { digits = is.second; magnitude = is.is_second
 -- the text of a number without a sign and groups
 pub IsDigits-from_text : {number : ℕ} (text : List ℕ) → IsText (pos number) standard text → IsDigits 10 number text
 IsDigits-from_text text is = rw is.whole is.magnitude
+
+-- and back
+pub IsDigits-as_text : {number : ℕ} (text : List ℕ) → IsDigits 10 number text → IsText (pos number) standard text
+IsDigits-as_text text is = record { digits = text; magnitude = is; whole = refl }

@@ -3,21 +3,33 @@ use Rattle.std.proofs.Common.{◌≡◌, ℕ, zero, suc, ◌-◌, ◌*◌, ◌/�
 use Rattle.std.proofs.Common.{Option, None, ℤ, unsigned_abs}
 use Rattle.std.proofs.Math.Nat.{mod-lt, one-le-pow, pow-suc, div-le_self, le-mul_of_pos_right, mul_assoc}
 use Rattle.std.proofs.lemmas.Bool.{cond-true}
-use Rattle.lexical_parts.specs.Fixed.{IsFraction, IsGroupedFixed, IsUnits, fraction_text, fixed_text, units_text}
+use Rattle.lexical_parts.specs.Fixed.{IsFixed, IsFraction, IsGroupedFixed, IsUnits, fraction_text, fixed_text, units_text}
+use Rattle.lexical_parts.specs.Length.{IsOnly}
 use Rattle.lexical_parts.specs.Trimmed.{IsTrimmedFixed, IsTrimmedUnits, trimmed_text, trimmed_units_text}
-use Rattle.lexical_parts.proofs.Equations.{AreOnly, only_digits, only_exactly, only_padded, only_text, only_then, then_equation}
+use Rattle.lexical_parts.proofs.Conversions.{IsDigits-as_text, then_as}
+use Rattle.lexical_parts.proofs.Equations.{only_digits, only_exactly, only_padded, only_text, only_then}
 
-only_fraction : (decimals units : ℕ) → units < 10 ^ decimals → AreOnly (IsFraction decimals units) (fraction_text decimals units)
+pub only_fraction : (decimals units : ℕ) → units < 10 ^ decimals → IsOnly (IsFraction decimals units) (fraction_text decimals units)
 only_fraction zero units few = only_exactly _
 only_fraction (suc decimals) units few = only_then (only_exactly _) (only_padded 10 (suc decimals) units (omega arith) few)
 
-pub fixed_is : (grouping : Option (ℕ × ℕ)) (decimals : ℕ) (x : ℤ) (text : List ℕ) → unsigned_abs x < 2 ^ 64
-    → IsGroupedFixed grouping decimals x text → text ≡ fixed_text grouping decimals x
-fixed_is grouping decimals x text small is =
+pub only_grouped_fixed : (grouping : Option (ℕ × ℕ)) (decimals : ℕ) (x : ℤ) → unsigned_abs x < 2 ^ 64
+    → IsOnly (IsGroupedFixed grouping decimals x) (fixed_text grouping decimals x)
+only_grouped_fixed grouping decimals x small =
     let some = one-le-pow decimals 10 (omega arith) in
     let rest : unsigned_abs x % 10 ^ decimals < 10 ^ decimals = mod-lt (unsigned_abs x) some in
     let whole : unsigned_abs x / 10 ^ decimals < 2 ^ 64 = omega (arith, div-le_self (unsigned_abs x) (10 ^ decimals), small) in
-    then_equation is (only_exactly _) (only_then (only_text _ _ (omega arith) whole) (only_fraction decimals _ rest)) refl
+    only_then (only_exactly _) (only_then (only_text _ _ (omega arith) whole) (only_fraction decimals _ rest))
+
+-- without groups
+pub only_fixed : (decimals : ℕ) (x : ℤ) → unsigned_abs x < 2 ^ 64 → IsOnly (IsFixed decimals x) (fixed_text None decimals x)
+only_fixed decimals x small = record {
+  only = λ text is. (only_grouped_fixed None decimals x small).only text (then_as (λ _ sign. sign) (then_as IsDigits-as_text (λ _ fraction. fraction)) text is);
+}
+
+pub fixed_is : (grouping : Option (ℕ × ℕ)) (decimals : ℕ) (x : ℤ) (text : List ℕ) → unsigned_abs x < 2 ^ 64
+    → IsGroupedFixed grouping decimals x text → text ≡ fixed_text grouping decimals x
+fixed_is grouping decimals x text small is = (only_grouped_fixed grouping decimals x small).only text is
 
 -- ---- without zeros at the end of the fraction
 
@@ -33,14 +45,14 @@ trimmed_as (suc d) units (suc z) left few whole shortest =
     let minus : suc d - suc z ≡ d - z = omega arith in
     cond-true _ _ _ equal ∙ rw minus (trimmed_as d (units / 10) z left (omega arith) rest (λ none. omega (arith, shortest none)))
 
-only_units : (decimals units : ℕ) → units < 2 ^ 64 → AreOnly (IsUnits decimals units) (units_text None decimals units)
+pub only_units : (decimals units : ℕ) → units < 2 ^ 64 → IsOnly (IsUnits decimals units) (units_text None decimals units)
 only_units decimals units small =
     let some = one-le-pow decimals 10 (omega arith) in
     let rest : units % 10 ^ decimals < 10 ^ decimals = mod-lt units some in
     let whole : units / 10 ^ decimals < 2 ^ 64 = omega (arith, div-le_self units (10 ^ decimals), small) in
     only_then (only_digits 10 _ (omega arith) whole) (only_fraction decimals _ rest)
 
-only_trimmed : (decimals units : ℕ) → units < 2 ^ 64 → AreOnly (IsTrimmedUnits decimals units) (trimmed_units_text decimals units)
+pub only_trimmed : (decimals units : ℕ) → units < 2 ^ 64 → IsOnly (IsTrimmedUnits decimals units) (trimmed_units_text decimals units)
 only_trimmed decimals units small = record {
   only = λ text is.
       let less : is.left ≤ is.left * 10 ^ is.zeros = le-mul_of_pos_right is.left (one-le-pow is.zeros 10 (omega arith)) in
@@ -48,5 +60,8 @@ only_trimmed decimals units small = record {
       (only_units (decimals - is.zeros) is.left below).only text is.is ∙ sym (trimmed_as decimals units is.zeros is.left is.few is.whole is.shortest);
 }
 
+pub only_trimmed_fixed : (decimals : ℕ) (x : ℤ) → unsigned_abs x < 2 ^ 64 → IsOnly (IsTrimmedFixed decimals x) (trimmed_text decimals x)
+only_trimmed_fixed decimals x small = only_then (only_exactly _) (only_trimmed decimals _ small)
+
 pub trimmed_is : (decimals : ℕ) (x : ℤ) (text : List ℕ) → unsigned_abs x < 2 ^ 64 → IsTrimmedFixed decimals x text → text ≡ trimmed_text decimals x
-trimmed_is decimals x text small is = then_equation is (only_exactly _) (only_trimmed decimals _ small) refl
+trimmed_is decimals x text small is = (only_trimmed_fixed decimals x small).only text is

@@ -36,6 +36,16 @@ pub mod ShownNumbers
 pub mod ShownParts
 -- the lemmas that a caller's crate names once
 pub mod Callers
+-- bytes in radix 16 as the prover computes their text
+pub mod HexTexts
+-- the first characters of texts in a row
+pub mod CutTexts
+-- parts of which the prover computes the text
+pub mod OnlyTexts
+-- the lengths of texts
+pub mod Lengths
+-- numbers in scientific notation as the prover computes their text
+pub mod ScientificTexts
 -- what equal texts in a row have in common
 pub mod Splits
 -- texts of equal widths with separators between them

@@ -1,8 +1,8 @@
 -- What `pad_integral` writes of a number, with a required sign as the option `+`.
 use Rattle.std.proofs.lemmas.Grind.{common_steps}
-use Rattle.std.proofs.Common.{◌≡◌, ◌∙◌, refl, true, false, Bool, [], ◌∷◌, ◌++◌, ℕ, suc, ◌+◌, ◌-◌, ◌==◌, length, replicate, List, if◌then◌else◌, append-nil}
+use Rattle.std.proofs.Common.{◌≡◌, ◌∙◌, refl, true, false, Bool, [], ◌∷◌, ◌++◌, ℕ, suc, ◌+◌, ◌-◌, ◌^◌, ◌==◌, length, replicate, List, if◌then◌else◌, append-nil}
 use Rattle.std.proofs.Common.{append_assoc, None, Some, drop, ℤ, arith}
-use Rattle.std.specs.Fmt.{formatter_spec, padded_integral, char_count, sign_text_with, spec_width}
+use Rattle.std.specs.Fmt.{formatter_spec, padded_integral, char_count, sign_text_with, spec_precision, spec_width}
 use Rattle.std.specs.Int.{is_negative}
 use Rattle.lexical_num.specs.Sign.{sign_of}
 use Rattle.std.specs.Option.{unwrap_or, is_some}
@@ -23,6 +23,14 @@ module _ {W : Type 0} (f : Formatter W) where
   -- no width is a width of 0
   pub width_of : unwrap_or (spec_width (formatter_spec f)) 0 ≡ (formatter_spec f).width
   width_of = width_or_zero (formatter_spec f).width
+
+precision_or_most : (n : ℕ) → unwrap_or (if n == 2 ^ 64 - 1 then None else Some n) (2 ^ 64 - 1) ≡ n
+precision_or_most n = grind arith
+
+module _ {W : Type 0} (f : Formatter W) where
+  -- no precision is the largest
+  pub precision_of : unwrap_or (spec_precision (formatter_spec f)) (2 ^ 64 - 1) ≡ (formatter_spec f).precision
+  precision_of = precision_or_most (formatter_spec f).precision
 
 module _ {W : Type 0} (f : Formatter W) (digits : List ℕ) (no_plus : (formatter_spec f).plus ≡ false) where
   -- without zeros, the fill is that of a text that has the sign

@@ -2,7 +2,10 @@ pub mod Cell
 pub mod Column
 pub mod Fixed
 pub mod Formatted
+pub mod HexBytes
 pub mod Joined
+pub mod Length
+pub mod Lower
 pub mod Optional
 pub mod Plus
 pub mod Scaled

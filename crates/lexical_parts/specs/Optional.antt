@@ -17,6 +17,16 @@ abbrev pub IsValidOptional : {P : Type 0} → (P → Type 0) → Option P → Ty
 IsValidOptional IsValid (Some part) = IsValid part
 IsValidOptional IsValid None = ⊤
 
+-- the text of the part as the prover computes it, or no bytes for `None`
+abbrev pub optional_text : {P : Type 0} → (P → Option (List ℕ)) → Option P → Option (List ℕ)
+optional_text text (Some part) = text part
+optional_text text None = Some []
+
+-- the same, or another text for `None`
+abbrev pub or_else_text : {P : Type 0} → (P → Option (List ℕ)) → Option (List ℕ) → Option P → Option (List ℕ)
+or_else_text text other (Some part) = text part
+or_else_text text other None = other
+
 -- the room of the part, or 0 for `None`
 abbrev pub optional_room : {P : Type 0} → (P → ℕ) → Option P → ℕ
 optional_room room (Some part) = room part

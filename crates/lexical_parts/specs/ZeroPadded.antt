@@ -1,6 +1,6 @@
 -- Texts with zeros after the sign, up to a width.
 use Rattle.std.specs.Prelude.{◌≡◌, ℕ, ◌-◌, List, [], ◌∷◌, ◌++◌, length, take, drop, replicate}
-use Rattle.std.specs.Prelude.{◌||◌, ◌==◌, if◌then◌else◌}
+use Rattle.std.specs.Prelude.{◌||◌, ◌==◌, if◌then◌else◌, Option, Some, None}
 
 -- the length of the sign with which a text begins: 1 if its first byte is `-` or `+`, and otherwise 0
 abbrev pub sign_length : List ℕ → ℕ
@@ -13,3 +13,9 @@ pub record IsZeroPadded (width : ℕ) (Is : List ℕ → Type 0) (text : List �
   pub is : Is number
   pub whole : text ≡ take (sign_length number) number
       ++ (replicate (width - length number) 48 ++ drop (sign_length number) number)
+
+-- the same text as the prover computes it
+abbrev pub zero_padded_text : ℕ → Option (List ℕ) → Option (List ℕ)
+zero_padded_text width None = None
+zero_padded_text width (Some number) = Some (take (sign_length number) number
+    ++ (replicate (width - length number) 48 ++ drop (sign_length number) number))

@@ -1,12 +1,29 @@
 //! Parts that are padded to the width of a column.
-#![tactic(auto, using(crate::proofs::Utf8Texts::kinds))]
+#![tactic(auto, using(crate::proofs::Utf8Texts::kinds, crate::proofs::Lengths::lengths, crate::proofs::OnlyTexts::onlys))]
 
-ghost use Rattle.std.specs.Prelude.{max, ◌<◌};
-ghost use Rattle.lexical_parts.specs.Column.{IsAtLeft, IsAtRight, IsCentered};
+ghost use Rattle.std.specs.Prelude.{IsOk, max, replicate, ◌<◌};
+ghost use Rattle.std.specs.Fmt.{WritesInCalls};
+ghost use Rattle.lexical_parts.specs.Column.{IsAtLeft, IsAtRight, IsCentered, centered_text, left_text, right_text};
 
 use crate::fill::{insert_fill, write_fill};
 use crate::own::Own;
 use crate::part::Part;
+use crate::show::{Show, write_at_once};
+use crate::text::Byte;
+use std::fmt;
+
+// Writes copies of a byte to a writer.
+fn write_copies<O: fmt::Write>(byte: u8, count: usize, out: &mut O) -> fmt::Result
+    requires { byte < 128 }
+    ensures { IsOk result → WritesInCalls O.write_str_gives out.old (replicate count byte) out.new }
+{
+    let mut array = [0; 1];
+    let text = Byte(byte).to_str(&mut array);
+    for _ in 0..count {
+        out.write_str(text)?;
+    }
+    Ok(())
+}
 
 /// A part that is aligned to the left of a column: a byte, often a space, is added after its text, up to
 /// the width. `Left(Decimal(12), 4, b'.')` writes `12..`. Nothing is added to a text longer than the
@@ -33,8 +50,28 @@ impl<P: Part> Part for Left<P> {
         count + write_fill(self.2, self.1.saturating_sub(count), &mut buffer[count..])
     }
 
+    fn text_len(self) -> Option<usize> {
+        Some(self.0.text_len()?.max(self.1))
+    }
+
     fn is_known_utf8(self, own: Own) -> bool {
         self.2 < 128 && self.0.is_known_utf8(own)
+    }
+}
+
+impl<P: Show> Show for Left<P> {
+    ghost text = { λ part. left_text part.1 part.2 (P.text part.0) };
+
+    fn is_showable(self) -> bool {
+        self.2 < 128 && self.0.is_showable()
+    }
+
+    fn write_pieces<O: fmt::Write>(self, out: &mut O) -> fmt::Result {
+        let Some(count) = self.0.text_len() else {
+            return write_at_once(self, out);
+        };
+        self.0.write_pieces(out)?;
+        write_copies(self.2, self.1.saturating_sub(count), out)
     }
 }
 
@@ -64,8 +101,28 @@ impl<P: Part> Part for Right<P> {
         added + count
     }
 
+    fn text_len(self) -> Option<usize> {
+        Some(self.0.text_len()?.max(self.1))
+    }
+
     fn is_known_utf8(self, own: Own) -> bool {
         self.2 < 128 && self.0.is_known_utf8(own)
+    }
+}
+
+impl<P: Show> Show for Right<P> {
+    ghost text = { λ part. right_text part.1 part.2 (P.text part.0) };
+
+    fn is_showable(self) -> bool {
+        self.2 < 128 && self.0.is_showable()
+    }
+
+    fn write_pieces<O: fmt::Write>(self, out: &mut O) -> fmt::Result {
+        let Some(count) = self.0.text_len() else {
+            return write_at_once(self, out);
+        };
+        write_copies(self.2, self.1.saturating_sub(count), out)?;
+        self.0.write_pieces(out)
     }
 }
 
@@ -97,7 +154,30 @@ impl<P: Part> Part for Center<P> {
         end + write_fill(self.2, added - before, &mut buffer[end..])
     }
 
+    fn text_len(self) -> Option<usize> {
+        Some(self.0.text_len()?.max(self.1))
+    }
+
     fn is_known_utf8(self, own: Own) -> bool {
         self.2 < 128 && self.0.is_known_utf8(own)
+    }
+}
+
+impl<P: Show> Show for Center<P> {
+    ghost text = { λ part. centered_text part.1 part.2 (P.text part.0) };
+
+    fn is_showable(self) -> bool {
+        self.2 < 128 && self.0.is_showable()
+    }
+
+    fn write_pieces<O: fmt::Write>(self, out: &mut O) -> fmt::Result {
+        let Some(count) = self.0.text_len() else {
+            return write_at_once(self, out);
+        };
+        let added = self.1.saturating_sub(count);
+        let before = added / 2;
+        write_copies(self.2, before, out)?;
+        self.0.write_pieces(out)?;
+        write_copies(self.2, added - before, out)
     }
 }

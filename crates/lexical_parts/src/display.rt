@@ -12,7 +12,7 @@ ghost use Rattle.lexical_parts.specs.Fixed.{fixed_text, units_text};
 ghost use Rattle.lexical_parts.specs.Trimmed.{trimmed_text, trimmed_units_text};
 
 use crate::cell::{is_short_cell, write_cell};
-use crate::fixed::{Fixed, GroupedFixed};
+use crate::fixed::{Fixed, GroupedFixed, LONGEST_FIXED};
 use crate::number::{Decimal, Digits, Formatted, formatted_room_suffices};
 use crate::padded::{Padded, PaddedDigits};
 use crate::part::Part;
@@ -29,9 +29,6 @@ use std::fmt;
 
 // The digits of the longest number, and the most that a padded number can have to be shown.
 const MOST_DIGITS: usize = 64;
-
-// The length of the longest number with decimals, a `u64` in groups of one digit.
-const LONGEST_FIXED: usize = 39;
 
 // Writes a text that begins with `+` as the standard library writes an integer with the option `+`.
 fn pad_with_plus<W: fmt::Write>(f: &mut fmt::Formatter<W>, text: &str) -> fmt::Result

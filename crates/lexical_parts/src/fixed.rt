@@ -1,18 +1,22 @@
 //! Numbers with a fixed number of decimals.
-#![tactic(auto, using(crate::proofs::Utf8Texts::kinds))]
+#![tactic(auto, using(crate::proofs::Utf8Texts::kinds, crate::proofs::Lengths::lengths, crate::proofs::OnlyTexts::onlys))]
 
-ghost use Rattle.std.specs.Prelude.{◌+◌, ◌≤◌, length, max, unsigned_abs, if◌then◌else◌};
+ghost use Rattle.std.specs.Prelude.{◌+◌, ◌≤◌, None, Some, length, max, unsigned_abs, if◌then◌else◌};
 ghost use Rattle.lexical_write_integer.specs.Buffer.{Writes};
 ghost use Rattle.lexical_parts.specs.Fixed.{AreUnits, IsFixed, IsGroupedFixed, IsGroupedUnits};
-ghost use Rattle.lexical_parts.specs.Fixed.{fixed_room, grouped_units_room};
+ghost use Rattle.lexical_parts.specs.Fixed.{fixed_room, fixed_text, grouped_units_room};
 
 use crate::fill::insert_fill;
 use crate::own::Own;
 use crate::part::Part;
+use crate::show::Show;
 use crate::sign::Sign;
 use lexical_write_integer::format::STANDARD;
 use lexical_write_integer::laws::size_suffices;
-use lexical_write_integer::{NumberFormat, ToLexical, group_digits};
+use lexical_write_integer::{NumberFormat, ToLexical, group_digits, sign_len};
+
+// The length of the longest number with decimals, a `u64` in groups of one digit.
+pub(crate) const LONGEST_FIXED: usize = 39;
 
 // In Rust nothing else refuses more decimals.
 fn check_decimals(decimals: usize)
@@ -88,8 +92,21 @@ impl<T: ToLexical> Part for Fixed<T> {
         GroupedFixed(self.0, self.1, &STANDARD).write_to(buffer)
     }
 
+    fn text_len(self) -> Option<usize> {
+        GroupedFixed(self.0, self.1, &STANDARD).text_len()
+    }
+
     fn is_known_utf8(self, own: Own) -> bool {
         GroupedFixed(self.0, self.1, &STANDARD).is_known_utf8(own)
+    }
+}
+
+impl<T: ToLexical> Show for Fixed<T> {
+    ghost text = { λ part. Some (fixed_text None part.1 (T.number part.0)) };
+
+    fn is_showable(self) -> bool {
+        self.0.in_range();
+        self.is_known_utf8(Own)
     }
 }
 
@@ -120,7 +137,26 @@ impl<T: ToLexical> Part for GroupedFixed<'_, T> {
         start + write_grouped_units(self.0, self.1, self.2, &mut buffer[start..])
     }
 
+    fn text_len(self) -> Option<usize> {
+        check_decimals(self.1);
+        self.0.in_range();
+        self.2.in_range();
+        let digits = self.0.magnitude_digits(10);
+        let whole = digits.saturating_sub(self.1).max(1);
+        let sign = sign_len(self.0, &STANDARD);
+        Some(sign + self.2.grouped_len(whole) + self.1 + self.1.min(1))
+    }
+
     fn is_known_utf8(self, _own: Own) -> bool {
         19 >= self.1
+    }
+}
+
+impl<T: ToLexical> Show for GroupedFixed<'_, T> {
+    ghost text = { λ part. Some (fixed_text part.2.now.digit_grouping part.1 (T.number part.0)) };
+
+    fn is_showable(self) -> bool {
+        self.0.in_range();
+        self.is_known_utf8(Own)
     }
 }

@@ -1,11 +1,14 @@
 //! The integer types, which are parts: the text of a number is the number in decimal.
 
-ghost use Rattle.std.specs.Prelude.{pos};
+ghost use Rattle.lexical_num.specs.Format.{standard};
+ghost use Rattle.lexical_write_integer.specs.Computed.{text_of};
+ghost use Rattle.std.specs.Prelude.{pos, Some};
 ghost use Rattle.lexical_parts.specs.Sequence.{IsDecimal};
 
 use crate::number::Decimal;
 use crate::own::Own;
 use crate::part::Part;
+use crate::show::Show;
 
 impl Part for u8 {
     ghost is_text = { λ number. IsDecimal (pos number) };
@@ -20,8 +23,20 @@ impl Part for u8 {
         Decimal(self).write_to(buffer)
     }
 
+    fn text_len(self) -> Option<usize> {
+        Decimal(self).text_len()
+    }
+
     fn is_known_utf8(self, _own: Own) -> bool {
         true
+    }
+}
+
+impl Show for u8 {
+    ghost text = { λ number. Some (text_of (pos number) standard) };
+
+    fn is_showable(self) -> bool {
+        self.is_known_utf8(Own)
     }
 }
 
@@ -38,8 +53,20 @@ impl Part for u16 {
         Decimal(self).write_to(buffer)
     }
 
+    fn text_len(self) -> Option<usize> {
+        Decimal(self).text_len()
+    }
+
     fn is_known_utf8(self, _own: Own) -> bool {
         true
+    }
+}
+
+impl Show for u16 {
+    ghost text = { λ number. Some (text_of (pos number) standard) };
+
+    fn is_showable(self) -> bool {
+        self.is_known_utf8(Own)
     }
 }
 
@@ -56,8 +83,20 @@ impl Part for u32 {
         Decimal(self).write_to(buffer)
     }
 
+    fn text_len(self) -> Option<usize> {
+        Decimal(self).text_len()
+    }
+
     fn is_known_utf8(self, _own: Own) -> bool {
         true
+    }
+}
+
+impl Show for u32 {
+    ghost text = { λ number. Some (text_of (pos number) standard) };
+
+    fn is_showable(self) -> bool {
+        self.is_known_utf8(Own)
     }
 }
 
@@ -74,8 +113,20 @@ impl Part for u64 {
         Decimal(self).write_to(buffer)
     }
 
+    fn text_len(self) -> Option<usize> {
+        Decimal(self).text_len()
+    }
+
     fn is_known_utf8(self, _own: Own) -> bool {
         true
+    }
+}
+
+impl Show for u64 {
+    ghost text = { λ number. Some (text_of (pos number) standard) };
+
+    fn is_showable(self) -> bool {
+        self.is_known_utf8(Own)
     }
 }
 
@@ -92,8 +143,20 @@ impl Part for usize {
         Decimal(self).write_to(buffer)
     }
 
+    fn text_len(self) -> Option<usize> {
+        Decimal(self).text_len()
+    }
+
     fn is_known_utf8(self, _own: Own) -> bool {
         true
+    }
+}
+
+impl Show for usize {
+    ghost text = { λ number. Some (text_of (pos number) standard) };
+
+    fn is_showable(self) -> bool {
+        self.is_known_utf8(Own)
     }
 }
 
@@ -110,8 +173,20 @@ impl Part for i8 {
         Decimal(self).write_to(buffer)
     }
 
+    fn text_len(self) -> Option<usize> {
+        Decimal(self).text_len()
+    }
+
     fn is_known_utf8(self, _own: Own) -> bool {
         true
+    }
+}
+
+impl Show for i8 {
+    ghost text = { λ number. Some (text_of number standard) };
+
+    fn is_showable(self) -> bool {
+        self.is_known_utf8(Own)
     }
 }
 
@@ -128,8 +203,20 @@ impl Part for i16 {
         Decimal(self).write_to(buffer)
     }
 
+    fn text_len(self) -> Option<usize> {
+        Decimal(self).text_len()
+    }
+
     fn is_known_utf8(self, _own: Own) -> bool {
         true
+    }
+}
+
+impl Show for i16 {
+    ghost text = { λ number. Some (text_of number standard) };
+
+    fn is_showable(self) -> bool {
+        self.is_known_utf8(Own)
     }
 }
 
@@ -146,8 +233,20 @@ impl Part for i32 {
         Decimal(self).write_to(buffer)
     }
 
+    fn text_len(self) -> Option<usize> {
+        Decimal(self).text_len()
+    }
+
     fn is_known_utf8(self, _own: Own) -> bool {
         true
+    }
+}
+
+impl Show for i32 {
+    ghost text = { λ number. Some (text_of number standard) };
+
+    fn is_showable(self) -> bool {
+        self.is_known_utf8(Own)
     }
 }
 
@@ -164,8 +263,20 @@ impl Part for i64 {
         Decimal(self).write_to(buffer)
     }
 
+    fn text_len(self) -> Option<usize> {
+        Decimal(self).text_len()
+    }
+
     fn is_known_utf8(self, _own: Own) -> bool {
         true
+    }
+}
+
+impl Show for i64 {
+    ghost text = { λ number. Some (text_of number standard) };
+
+    fn is_showable(self) -> bool {
+        self.is_known_utf8(Own)
     }
 }
 
@@ -182,7 +293,19 @@ impl Part for isize {
         Decimal(self).write_to(buffer)
     }
 
+    fn text_len(self) -> Option<usize> {
+        Decimal(self).text_len()
+    }
+
     fn is_known_utf8(self, _own: Own) -> bool {
         true
+    }
+}
+
+impl Show for isize {
+    ghost text = { λ number. Some (text_of number standard) };
+
+    fn is_showable(self) -> bool {
+        self.is_known_utf8(Own)
     }
 }

@@ -1,21 +1,21 @@
 //! The parts of a slice, with a separator between adjacent parts.
 
-ghost use Rattle.std.specs.Prelude.{◌≡◌, ◌+◌, ◌*◌, ◌≤◌, All, length, sum_by};
+ghost use Rattle.std.specs.Prelude.{◌≡◌, [], IfSome, IsTrue, ◌+◌, ◌*◌, ◌≤◌, All, length, sum_by};
 ghost use Rattle.lexical_write_integer.specs.Buffer.{Writes};
 ghost use Rattle.lexical_write_integer.specs.Sequence.{AreJoined, IsExactly};
-ghost use Rattle.lexical_parts.specs.Joined.{joined_room, lead};
+ghost use Rattle.lexical_parts.specs.Joined.{joined_room, joined_text, lead};
+ghost use Rattle.lexical_parts.specs.Length.{IsOnly};
 ghost use Rattle.lexical_parts.specs.Sequence.{◌then◌};
-ghost use Rattle.lexical_parts.specs.ShownParts.{WritesSomeOnOk};
 ghost use Rattle.lexical_parts.specs.Utf8.{AreUtf8};
 
 use crate::own::Own;
 use crate::part::Part;
-use crate::shown::Shown;
+use crate::show::Show;
 use crate::text::str_is_utf8;
 use std::fmt;
 
 // Returns what precedes the part at the index.
-fn separator_before(index: usize, separator: &str) -> &str
+pub(crate) fn separator_before(index: usize, separator: &str) -> &str
     ensures { result.now ≡ lead index separator.now }
 {
     if index == 0 { "" } else { separator }
@@ -79,35 +79,52 @@ impl<P: Part> Part for Joined<'_, P> {
         count
     }
 
-    fn is_known_utf8(self, own: Own) -> bool {
+    fn text_len(self) -> Option<usize> {
+        let separators = self.0.len().saturating_sub(1);
+        let mut count: usize = 0;
+        for part in self.0 {
+            count = count.checked_add(part.text_len()?)?;
+        }
+        count.checked_add(separators.checked_mul(self.1.len())?)
+    }
+
+    fn is_known_utf8(self, own: Own) -> bool
+        ensures valid { IsTrue result → All P.is_valid self.entry.0.now }
+        ensures utf8 { IsTrue result → All P.is_utf8 self.entry.0.now }
+        ensures empty { self.entry.0.now ≡ [] → IsTrue result }
+    {
         for part in self.0 {
             if !part.is_known_utf8(own) {
+                return false;
+            }
+        }
+        // Also without parts, since no bytes are UTF-8.
+        true
+    }
+}
+
+impl<P: Show> Show for Joined<'_, P> {
+    ghost text = { λ part. joined_text P.text part.1.now part.0.now };
+
+    fn is_showable(self) -> bool
+        ensures valid { IsTrue result → All P.is_valid self.entry.0.now }
+        ensures utf8 { IsTrue result → All P.is_utf8 self.entry.0.now }
+        ensures only { IsTrue result → IfSome (joined_text P.text self.entry.1.now self.entry.0.now)
+            (λ bytes. IsOnly (AreJoined P.is_text self.entry.1.now self.entry.0.now) bytes) }
+        ensures empty { self.entry.0.now ≡ [] → IsTrue result }
+    {
+        for part in self.0 {
+            if !part.is_showable() {
                 return false;
             }
         }
         true
     }
 
-    fn write_each<W: fmt::Write>(
-        self,
-        f: &mut fmt::Formatter<W>,
-        _own: Own,
-    ) -> Option<fmt::Result> {
-        Some(self.write_parts(f))
-    }
-}
-
-impl<P: Part> Joined<'_, P> {
-    // Writes each part to a formatter, with the separator between adjacent parts.
-    fn write_parts<W: fmt::Write>(self, f: &mut fmt::Formatter<W>) -> fmt::Result
-        requires valid { All P.is_valid self.0.now }
-        requires utf8 { All P.is_utf8 self.0.now }
-        ensures { WritesSomeOnOk W.write_str_gives f.old result
-            (AreJoined P.is_text self.entry.1.now self.entry.0.now) f.new }
-    {
+    fn write_pieces<O: fmt::Write>(self, out: &mut O) -> fmt::Result {
         for (index, part) in self.0.iter().enumerate() {
-            f.write_str(separator_before(index, self.1))?;
-            Shown(*part).write(f)?;
+            out.write_str(separator_before(index, self.1))?;
+            part.write_pieces(out)?;
         }
         Ok(())
     }

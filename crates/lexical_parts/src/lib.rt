@@ -25,7 +25,7 @@
 //! decimals, if the radix is not from 2 to 36, or if a [`Padded`] or [`PaddedDigits`] has no digits, more than 64, or
 //! fewer than its number. `{}` of a [`Shown`] writes a tuple or any other part as it does a `&str`, and so does that of
 //! [`Joined`], [`Left`], [`Right`], [`Center`], [`ZeroPadded`], [`Lower`], [`OrElse`], [`Scientific`] and
-//! [`HexBytes`].
+//! [`HexBytes`]. Of these it is an error if the part is not valid, and for a [`ZeroPadded`] with a room above 256 bytes.
 
 // The example is from the test `texts_for_writing` in `crates/uses_tests/src/tests/lines.rt`.
 #![tactic(auto)]
@@ -33,6 +33,7 @@
 mod buffer;
 mod cell;
 mod column;
+mod cut;
 mod display;
 mod equal;
 mod field;
@@ -52,6 +53,7 @@ mod powers_of_two;
 mod reading;
 mod reference;
 mod scientific;
+mod show;
 mod shown;
 mod sign;
 mod text;
@@ -79,6 +81,7 @@ pub use positions::{byte_starts_at, part_starts_at};
 pub use powers_of_two::{Binary, Hex, HexBytes};
 pub use reading::{fixed_read_back, zero_padded_read_back};
 pub use scientific::Scientific;
+pub use show::Show;
 pub use shown::Shown;
 pub use sign::Sign;
 pub use text::{Byte, Bytes};

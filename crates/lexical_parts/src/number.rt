@@ -1,7 +1,8 @@
 //! Parts that are one number.
-#![tactic(auto, using(crate::proofs::Utf8Texts::kinds))]
+#![tactic(auto, using(crate::proofs::Utf8Texts::kinds, crate::proofs::Lengths::lengths, crate::proofs::OnlyTexts::onlys))]
 
-ghost use Rattle.std.specs.Prelude.{◌≡◌, ◌≤◌};
+ghost use Rattle.lexical_write_integer.specs.Computed.{digits_text, text_of};
+ghost use Rattle.std.specs.Prelude.{◌≡◌, ◌≤◌, Some};
 ghost use Rattle.lexical_num.specs.Format.{IsRadix, standard};
 ghost use Rattle.lexical_num.specs.declared.constants.TheConstants.{BUFFER_SIZE};
 ghost use Rattle.lexical_write_integer.specs.DigitCount.{digit_count};
@@ -10,12 +11,13 @@ ghost use Rattle.lexical_parts.specs.Formatted.{formatted_room, largest_magnitud
 
 use crate::own::Own;
 use crate::part::Part;
+use crate::show::Show;
 use lexical_num::limits::is_radix;
 use lexical_write_integer::digit_count::DigitCount;
 use lexical_write_integer::format::STANDARD;
 use lexical_write_integer::laws::size_suffices;
 use lexical_write_integer::radix::Radix;
-use lexical_write_integer::{NumberFormat, ToLexical};
+use lexical_write_integer::{NumberFormat, ToLexical, sign_len};
 
 /// A number in decimal, with a `-` if it is negative: `Decimal(-5)` writes `-5`, as the part `-5` does. It
 /// is for generic code, in which the number has a type parameter.
@@ -36,8 +38,21 @@ impl<T: ToLexical> Part for Decimal<T> {
         self.0.write_lexical(buffer)
     }
 
+    fn text_len(self) -> Option<usize> {
+        Formatted(self.0, &STANDARD).text_len()
+    }
+
     fn is_known_utf8(self, _own: Own) -> bool {
         true
+    }
+}
+
+impl<T: ToLexical> Show for Decimal<T> {
+    ghost text = { λ part. Some (text_of (T.number part.0) standard) };
+
+    fn is_showable(self) -> bool {
+        self.0.in_range();
+        self.is_known_utf8(Own)
     }
 }
 
@@ -63,8 +78,21 @@ impl<T: Radix + DigitCount> Part for Digits<T> {
         self.1.radix(self.0, buffer)
     }
 
+    fn text_len(self) -> Option<usize> {
+        Some(self.1.digit_count(self.0))
+    }
+
     fn is_known_utf8(self, _own: Own) -> bool {
         is_radix(u64::from(self.0))
+    }
+}
+
+impl<T: Radix + DigitCount> Show for Digits<T> {
+    ghost text = { λ part. Some (digits_text part.0 (T.magnitude part.1)) };
+
+    fn is_showable(self) -> bool {
+        self.1.fits_bits();
+        self.is_known_utf8(Own)
     }
 }
 
@@ -113,7 +141,24 @@ impl<T: ToLexical> Part for Formatted<'_, T> {
         self.0.write_text(buffer, self.1)
     }
 
+    fn text_len(self) -> Option<usize> {
+        self.0.in_range();
+        self.1.in_range();
+        let digits = self.0.magnitude_digits(self.1.mantissa_radix());
+        Some(sign_len(self.0, self.1) + self.1.grouped_len(digits))
+    }
+
     fn is_known_utf8(self, _own: Own) -> bool {
         true
+    }
+}
+
+impl<T: ToLexical> Show for Formatted<'_, T> {
+    ghost text = { λ part. Some (text_of (T.number part.0) part.1.now) };
+
+    fn is_showable(self) -> bool {
+        self.0.in_range();
+        self.1.in_range();
+        self.is_known_utf8(Own)
     }
 }

@@ -1,11 +1,13 @@
 //! Parts that may be absent: the text of `Some(part)` is that of the part, and `None` has no bytes.
 
-ghost use Rattle.std.specs.Prelude.{max};
+ghost use Rattle.std.specs.Prelude.{IfNone, IfSome, IsTrue, max};
+ghost use Rattle.lexical_parts.specs.Length.{IsOnly};
 ghost use Rattle.lexical_parts.specs.Optional.{IsOptional, IsOrElse, IsValidOptional, optional_room};
+ghost use Rattle.lexical_parts.specs.Optional.{optional_text, or_else_text};
 
 use crate::own::Own;
 use crate::part::Part;
-use crate::shown::Shown;
+use crate::show::Show;
 use lexical_write_integer::buffer::copy_to_front;
 use std::fmt;
 
@@ -32,21 +34,45 @@ impl<P: Part> Part for Option<P> {
         }
     }
 
-    fn is_known_utf8(self, own: Own) -> bool {
+    fn text_len(self) -> Option<usize> {
+        match self {
+            Some(part) => part.text_len(),
+            None => Some(0),
+        }
+    }
+
+    fn is_known_utf8(self, own: Own) -> bool
+        ensures valid { IsTrue result → IsValidOptional P.is_valid self }
+        ensures utf8 { IsTrue result → IsValidOptional P.is_utf8 self }
+        ensures none { IfNone self (IsTrue result) }
+    {
         match self {
             Some(part) => part.is_known_utf8(own),
+            // No bytes are UTF-8.
+            None => true,
+        }
+    }
+}
+
+impl<P: Show> Show for Option<P> {
+    ghost text = { optional_text P.text };
+
+    fn is_showable(self) -> bool
+        ensures valid { IsTrue result → IsValidOptional P.is_valid self }
+        ensures utf8 { IsTrue result → IsValidOptional P.is_utf8 self }
+        ensures only { IsTrue result → IfSome (optional_text P.text self) (λ bytes. IsOnly (IsOptional P.is_text self) bytes) }
+        ensures none { IfNone self (IsTrue result) }
+    {
+        match self {
+            Some(part) => part.is_showable(),
             None => true,
         }
     }
 
-    fn write_each<W: fmt::Write>(
-        self,
-        f: &mut fmt::Formatter<W>,
-        _own: Own,
-    ) -> Option<fmt::Result> {
+    fn write_pieces<O: fmt::Write>(self, out: &mut O) -> fmt::Result {
         match self {
-            Some(part) => Some(Shown(part).write(f)),
-            None => Some(f.write_str("")),
+            Some(part) => part.write_pieces(out),
+            None => Ok(()),
         }
     }
 }
@@ -76,18 +102,29 @@ impl<P: Part, Q: Part> Part for OrElse<P, Q> {
         }
     }
 
+    fn text_len(self) -> Option<usize> {
+        match self.0 {
+            Some(present) => present.text_len(),
+            None => self.1.text_len(),
+        }
+    }
+
     fn is_known_utf8(self, own: Own) -> bool {
         self.0.is_known_utf8(own) && self.1.is_known_utf8(own)
     }
+}
 
-    fn write_each<W: fmt::Write>(
-        self,
-        f: &mut fmt::Formatter<W>,
-        _own: Own,
-    ) -> Option<fmt::Result> {
+impl<P: Show, Q: Show> Show for OrElse<P, Q> {
+    ghost text = { λ part. or_else_text P.text (Q.text part.1) part.0 };
+
+    fn is_showable(self) -> bool {
+        self.0.is_showable() && self.1.is_showable()
+    }
+
+    fn write_pieces<O: fmt::Write>(self, out: &mut O) -> fmt::Result {
         match self.0 {
-            Some(present) => Some(Shown(present).write(f)),
-            None => Some(Shown(self.1).write(f)),
+            Some(present) => present.write_pieces(out),
+            None => self.1.write_pieces(out),
         }
     }
 }

@@ -1,12 +1,14 @@
 //! Numbers with leading zeros, up to a fixed width.
-#![tactic(auto, using(crate::proofs::Utf8Texts::kinds))]
+#![tactic(auto, using(crate::proofs::Utf8Texts::kinds, crate::proofs::Lengths::lengths, crate::proofs::OnlyTexts::onlys))]
 
-ghost use Rattle.std.specs.Prelude.{◌^◌, ◌<◌, IsTrue};
+ghost use Rattle.lexical_write_integer.specs.Computed.{padded_text};
+ghost use Rattle.std.specs.Prelude.{◌^◌, ◌<◌, IsTrue, Some};
 ghost use Rattle.lexical_num.specs.Format.{IsRadix};
 ghost use Rattle.lexical_write_integer.specs.Padded.{IsPadded};
 
 use crate::own::Own;
 use crate::part::Part;
+use crate::show::Show;
 use lexical_num::limits::is_radix;
 use lexical_write_integer::digit_count::DigitCount;
 use lexical_write_integer::padded::{fits_decimal_width, write_padded};
@@ -48,6 +50,10 @@ impl<T: DigitCount + Radix> Part for PaddedDigits<T> {
         self.2
     }
 
+    fn text_len(self) -> Option<usize> {
+        Some(self.2)
+    }
+
     fn is_known_utf8(self, own: Own) -> bool {
         if self.0 == 10 {
             return Padded(self.1, self.2).is_known_utf8(own);
@@ -56,6 +62,15 @@ impl<T: DigitCount + Radix> Part for PaddedDigits<T> {
         is_radix(u64::from(self.0))
             && (has_few_bits(self.1.as_u64(), self.0, self.2)
                 || self.1.digit_count(self.0) <= self.2)
+    }
+}
+
+impl<T: DigitCount + Radix> Show for PaddedDigits<T> {
+    ghost text = { λ part. Some (padded_text part.0 part.2 (T.magnitude part.1)) };
+
+    fn is_showable(self) -> bool {
+        self.1.fits_bits();
+        self.is_known_utf8(Own)
     }
 }
 
@@ -80,8 +95,21 @@ impl<T: DigitCount + Radix> Part for Padded<T> {
         PaddedDigits(10, self.0, self.1).write_to(buffer)
     }
 
+    fn text_len(self) -> Option<usize> {
+        Some(self.1)
+    }
+
     fn is_known_utf8(self, _own: Own) -> bool {
         self.0.fits_bits();
         fits_decimal_width(self.0.as_u64(), self.1)
+    }
+}
+
+impl<T: DigitCount + Radix> Show for Padded<T> {
+    ghost text = { λ part. Some (padded_text 10 part.1 (T.magnitude part.0)) };
+
+    fn is_showable(self) -> bool {
+        self.0.fits_bits();
+        self.is_known_utf8(Own)
     }
 }

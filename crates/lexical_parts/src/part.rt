@@ -6,13 +6,12 @@ ghost use Rattle.std.specs.Borrow.{sem};
 ghost use Rattle.lexical_write_integer.specs.Buffer.{Writes};
 ghost use Rattle.lexical_write_integer.specs.Lending.{LendsFront};
 ghost use Rattle.lexical_write_integer.specs.Sequence.{IsExactly};
+ghost use Rattle.lexical_parts.specs.Length.{HasLength, HasLonger};
 ghost use Rattle.lexical_parts.specs.Sequence.{◌then◌};
-ghost use Rattle.lexical_parts.specs.ShownParts.{WritesSomeOnOk};
 ghost use Rattle.lexical_parts.specs.Utf8.{AreUtf8};
 
 use crate::own::Own;
-use lexical_write_integer::buffer::front_mut;
-use std::fmt;
+use lexical_write_integer::buffer::{copy_to_front, front_mut};
 use std::str::{from_utf8, from_utf8_unchecked};
 
 /// A value that has a text, such as a number or a `&str`. A tuple of 2 to 12 parts is also a part, and its
@@ -52,6 +51,15 @@ pub trait Part: Copy {
         ensures short { result ≤ room self }
         ensures utf8 { is_utf8 self → AreUtf8 (is_text self) };
 
+    /// Returns the length of the text, if the part knows it without writing the text, and otherwise `None`, as it does
+    /// if you do not define this method. The part must be valid.
+    fn text_len(self) -> Option<usize>
+        requires { is_valid self }
+        ensures { IfSome result (λ count. HasLength (is_text self) count) }
+    {
+        None
+    }
+
     // Whether the values of the part show that it is valid and that its text is UTF-8. A part of another crate cannot
     // define this method, since it cannot name `Own`.
     #[doc(hidden)]
@@ -60,19 +68,6 @@ pub trait Part: Copy {
         ensures utf8 { IsTrue result → is_utf8 self }
     {
         false
-    }
-
-    // Writes the text to a formatter, whatever its options are, if the part consists of parts, or has its text already.
-    // Otherwise returns `None`, and writes nothing.
-    #[doc(hidden)]
-    fn write_each<W: fmt::Write>(self, _f: &mut fmt::Formatter<W>, _own: Own) -> Option<fmt::Result>
-        requires valid { is_valid self }
-        requires utf8 { is_utf8 self }
-        ensures text { IfSome result (λ written.
-            WritesSomeOnOk W.write_str_gives _f.old written (is_text self) _f.new) }
-        ensures none { IfNone result (_f.new ≡ _f.old) }
-    {
-        None
     }
 
     /// Writes the text to the start of the buffer, and returns those bytes of the buffer, which the
@@ -108,21 +103,23 @@ pub trait Part: Copy {
         index + self.write_to(&mut buffer[index..])
     }
 
-    /// If the buffer has `room` bytes or more, writes the text to its start, and returns the length of
-    /// the text; every byte after the text is unchanged. Otherwise returns `None`, and the buffer is
-    /// unchanged. Only the room is tested: the part must be valid.
+    /// If the buffer has `room` bytes or more, or the room is at most 256 bytes and the buffer is as long as the text,
+    /// writes the text to its start, and returns the length of the text; every byte after the text is unchanged.
+    /// Otherwise returns `None`, and the buffer is unchanged. Only the room and the length are tested: the part must be
+    /// valid.
     final fn try_write_to(self, buffer: &mut [u8]) -> Option<usize>
         requires { is_valid self }
-        ensures fits { IsSome result ↔ (room self ≤ length buffer.old) }
+        ensures fits { room self ≤ length buffer.old → IsSome result }
+        ensures longer { IfNone result (room self ≤ 256 → HasLonger (is_text self) (length buffer.old)) }
         ensures text { IfSome result (Writes (is_text self) buffer.old buffer.new) }
         ensures short { IfSome result (λ count. count ≤ room self) }
         ensures utf8 { IfSome result (λ _. is_utf8 self → AreUtf8 (is_text self)) }
         ensures none { IfNone result (buffer.new ≡ buffer.old) }
     {
-        if buffer.len() < self.room() {
-            return None;
+        if self.room() <= buffer.len() {
+            return Some(self.write_to(buffer));
         }
-        Some(self.write_to(buffer))
+        write_if_it_fits(self, buffer)
     }
 
     /// Writes the text into the buffer, and returns it as a `&str`, which borrows the buffer. What the buffer holds
@@ -149,21 +146,56 @@ pub trait Part: Copy {
         }
     }
 
-    /// If the buffer has `room` bytes or more, returns the text as `to_str` does, at the same cost. Otherwise returns
-    /// `None`. Only the room is tested: the part must meet the other conditions of `to_str`.
+    /// Returns the text as `to_str` does, if `try_write_to` writes it. Otherwise returns `None`. The part must meet the
+    /// other conditions of `to_str`.
     final fn try_to_str(self, buffer: &mut [u8]) -> Option<&str>
         requires valid { is_valid self }
         requires utf8 { is_utf8 self }
-        ensures fits { IsSome result ↔ (room self ≤ length buffer.old) }
+        ensures fits { room self ≤ length buffer.old → IsSome result }
+        ensures longer { IfNone result (room self ≤ 256 → HasLonger (is_text self) (length buffer.old)) }
         ensures text { IfSome result (λ text. is_text self text.now) }
         ensures short { IfSome result (λ text. length text.now ≤ room self) }
     {
         if self.room() <= buffer.len() {
-            Some(self.to_str(buffer))
-        } else {
-            None
+            return Some(self.to_str(buffer));
         }
+        str_if_it_fits(self, buffer)
     }
+}
+
+// Writes the text to the start of a buffer that is shorter than the room, if the room is at most 256 bytes and the buffer
+// is as long as the text. It is cold, and so not inlined: the array costs time when a function is entered.
+#[cold]
+fn write_if_it_fits<P: Part>(part: P, buffer: &mut [u8]) -> Option<usize>
+    requires { P.is_valid part }
+    ensures longer { IfNone result (P.room part ≤ 256 → HasLonger (P.is_text part) (length buffer.old)) }
+    ensures text { IfSome result (Writes (P.is_text part) buffer.old buffer.new) }
+    ensures short { IfSome result (λ count. count ≤ P.room part) }
+    ensures utf8 { IfSome result (λ _. P.is_utf8 part → AreUtf8 (P.is_text part)) }
+    ensures none { IfNone result (buffer.new ≡ buffer.old) }
+{
+    let mut array = [0; 256];
+    if array.len() < part.room() {
+        return None;
+    }
+    let text = part.to_text(&mut array);
+    if buffer.len() < text.len() {
+        return None;
+    }
+    Some(copy_to_front(text, buffer))
+}
+
+// Returns what `write_if_it_fits` writes as a `&str`.
+#[cold]
+fn str_if_it_fits<P: Part>(part: P, buffer: &mut [u8]) -> Option<&str>
+    requires valid { P.is_valid part }
+    requires utf8 { P.is_utf8 part }
+    ensures longer { IfNone result (P.room part ≤ 256 → HasLonger (P.is_text part) (length buffer.old)) }
+    ensures text { IfSome result (λ text. P.is_text part text.now) }
+    ensures short { IfSome result (λ text. length text.now ≤ P.room part) }
+{
+    let count = write_if_it_fits(part, buffer)?;
+    Some(from_utf8(&buffer[..count]).unwrap())
 }
 
 // Returns true only if the part is valid, its text is UTF-8, and the buffer has its room. For a part of another crate

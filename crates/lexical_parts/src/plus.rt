@@ -1,11 +1,14 @@
 //! Numbers with a sign in each case.
-#![tactic(auto, using(crate::proofs::Utf8Texts::kinds))]
+#![tactic(auto, using(crate::proofs::Utf8Texts::kinds, crate::proofs::Lengths::lengths, crate::proofs::OnlyTexts::onlys))]
 
-ghost use Rattle.std.specs.Prelude.{◌+◌};
+ghost use Rattle.lexical_num.specs.Format.{standard};
+ghost use Rattle.lexical_write_integer.specs.Computed.{text_of};
+ghost use Rattle.std.specs.Prelude.{◌+◌, Some, true};
 ghost use Rattle.lexical_parts.specs.Plus.{IsPlus};
 
 use crate::own::Own;
 use crate::part::Part;
+use crate::show::Show;
 use crate::sign::Sign;
 use lexical_write_integer::ToLexical;
 use lexical_write_integer::format::STANDARD;
@@ -32,7 +35,21 @@ impl<T: ToLexical> Part for Plus<T> {
         start + self.0.write_magnitude(&STANDARD, &mut buffer[start..])
     }
 
+    fn text_len(self) -> Option<usize> {
+        self.0.in_range();
+        Some(1 + self.0.magnitude_digits(10))
+    }
+
     fn is_known_utf8(self, _own: Own) -> bool {
         true
+    }
+}
+
+impl<T: ToLexical> Show for Plus<T> {
+    ghost text = { λ part. Some (text_of (T.number part.0) (record standard { required_mantissa_sign = true })) };
+
+    fn is_showable(self) -> bool {
+        self.0.in_range();
+        self.is_known_utf8(Own)
     }
 }

@@ -1,18 +1,23 @@
 //! Unsigned numbers in radix 16 and in radix 2, in the room of their type, and bytes in radix 16.
-#![tactic(auto, using(crate::proofs::Utf8Texts::kinds))]
+#![tactic(auto, using(crate::proofs::Utf8Texts::kinds, crate::proofs::Lengths::lengths, crate::proofs::OnlyTexts::onlys))]
 
-ghost use Rattle.std.specs.Prelude.{◌+◌, ◌-◌, ◌*◌, ◌/◌, length};
+ghost use Rattle.lexical_write_integer.specs.Computed.{digits_text};
+ghost use Rattle.lexical_parts.specs.HexBytes.{hex_bytes_text};
+ghost use Rattle.std.specs.Prelude.{◌+◌, ◌-◌, ◌*◌, ◌/◌, length, Some};
 ghost use Rattle.lexical_write_integer.specs.Padded.{IsPadded};
 ghost use Rattle.lexical_write_integer.specs.Sequence.{AreJoined};
 ghost use Rattle.lexical_write_integer.specs.Text.{IsDigits};
 
-use crate::joined::write_next;
+use crate::joined::{separator_before, write_next};
 use crate::own::Own;
 use crate::part::Part;
+use crate::show::{MOST_AT_ONCE, Show, write_at_once};
 use crate::text::str_is_utf8;
 use lexical_tables::get_table;
+use lexical_write_integer::digit_count::DigitCount;
 use lexical_write_integer::laws::digit_count_within_bits;
 use lexical_write_integer::radix::{Radix, constant_radix};
+use std::fmt;
 
 /// The digits of an unsigned number in radix 16, without a prefix: `Hex(255u32)` writes `FF`. Its room
 /// is that of its type: 2 bytes for a `u8`, and 16 for a `u64`.
@@ -33,8 +38,22 @@ impl<T: Radix> Part for Hex<T> {
         constant_radix(self.0, 16, buffer)
     }
 
+    fn text_len(self) -> Option<usize> {
+        self.0.fits_bits();
+        Some(self.0.as_u64().digit_count(16))
+    }
+
     fn is_known_utf8(self, _own: Own) -> bool {
         true
+    }
+}
+
+impl<T: Radix> Show for Hex<T> {
+    ghost text = { λ part. Some (digits_text 16 (T.magnitude part.0)) };
+
+    fn is_showable(self) -> bool {
+        self.0.fits_bits();
+        self.is_known_utf8(Own)
     }
 }
 
@@ -57,8 +76,22 @@ impl<T: Radix> Part for Binary<T> {
         self.0.radix(2, buffer)
     }
 
+    fn text_len(self) -> Option<usize> {
+        self.0.fits_bits();
+        Some(self.0.as_u64().digit_count(2))
+    }
+
     fn is_known_utf8(self, _own: Own) -> bool {
         true
+    }
+}
+
+impl<T: Radix> Show for Binary<T> {
+    ghost text = { λ part. Some (digits_text 2 (T.magnitude part.0)) };
+
+    fn is_showable(self) -> bool {
+        self.0.fits_bits();
+        self.is_known_utf8(Own)
     }
 }
 
@@ -114,7 +147,32 @@ impl Part for HexBytes<'_> {
         count
     }
 
+    fn text_len(self) -> Option<usize> {
+        let digits = self.0.len().checked_mul(2)?;
+        let separators = self.0.len().saturating_sub(1);
+        digits.checked_add(separators.checked_mul(self.1.len())?)
+    }
+
     fn is_known_utf8(self, _own: Own) -> bool {
         true
+    }
+}
+
+impl Show for HexBytes<'_> {
+    ghost text = { λ part. Some (hex_bytes_text part.1.now part.0.now) };
+
+    fn is_showable(self) -> bool {
+        self.is_known_utf8(Own)
+    }
+
+    fn write_pieces<O: fmt::Write>(self, out: &mut O) -> fmt::Result {
+        if self.room() <= MOST_AT_ONCE {
+            return write_at_once(self, out);
+        }
+        for (index, byte) in self.0.iter().enumerate() {
+            out.write_str(separator_before(index, self.1))?;
+            out.write_str(HexByte(*byte).to_str(&mut [0; 2]))?;
+        }
+        Ok(())
     }
 }

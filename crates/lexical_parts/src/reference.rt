@@ -2,6 +2,7 @@
 
 use crate::own::Own;
 use crate::part::Part;
+use crate::show::Show;
 use std::fmt;
 
 impl<P: Part> Part for &P {
@@ -21,11 +22,23 @@ impl<P: Part> Part for &P {
         (*self).write_to(buffer)
     }
 
+    fn text_len(self) -> Option<usize> {
+        (*self).text_len()
+    }
+
     fn is_known_utf8(self, own: Own) -> bool {
         (*self).is_known_utf8(own)
     }
+}
 
-    fn write_each<W: fmt::Write>(self, f: &mut fmt::Formatter<W>, own: Own) -> Option<fmt::Result> {
-        (*self).write_each(f, own)
+impl<P: Show> Show for &P {
+    ghost text = { λ part. P.text part.now };
+
+    fn is_showable(self) -> bool {
+        (*self).is_showable()
+    }
+
+    fn write_pieces<O: fmt::Write>(self, out: &mut O) -> fmt::Result {
+        (*self).write_pieces(out)
     }
 }

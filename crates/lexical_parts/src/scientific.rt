@@ -1,21 +1,25 @@
 //! Numbers in scientific notation.
-#![tactic(auto, using(crate::proofs::Utf8Texts::kinds))]
+#![tactic(auto, using(crate::proofs::Utf8Texts::kinds, crate::proofs::Lengths::lengths, crate::proofs::OnlyTexts::onlys))]
 
 ghost use Rattle.std.specs.Prelude.{◌≡◌, ◌≢◌, ℕ, ◌+◌, ◌-◌, ◌^◌, ◌<◌, ◌≤◌, length, drop, replicate};
-ghost use Rattle.std.specs.Prelude.{slice_index, unsigned_abs};
+ghost use Rattle.std.specs.Prelude.{Some, slice_index, unsigned_abs};
 ghost use Rattle.lexical_write_integer.specs.Buffer.{Writes};
 ghost use Rattle.lexical_write_integer.specs.Text.{IsDigits};
 ghost use Rattle.lexical_parts.specs.Fixed.{IsUnits};
-ghost use Rattle.lexical_parts.specs.Scientific.{IsScientific, IsScientificUnsigned, exponent_of_first};
+ghost use Rattle.lexical_parts.specs.Scientific.{IsScientific, IsScientificUnsigned, exponent_of_first, scientific_text};
 ghost use Rattle.lexical_parts.specs.Sequence.{◌then◌, IsDecimal, IsStr};
 
 use crate::own::Own;
 use crate::part::Part;
+use crate::show::Show;
 use crate::sign::Sign;
 use crate::text::Bytes;
 use lexical_write_integer::ToLexical;
 use lexical_write_integer::format::STANDARD;
 use lexical_write_integer::laws::size_suffices;
+
+// The room of a number in scientific notation of the longest type.
+const LONGEST: usize = 33;
 
 // Returns how many digits are left without the zeros at the end. At least the first `least` digits are left.
 pub(crate) fn count_without_zeros(digits: &[u8], least: usize) -> usize
@@ -111,7 +115,22 @@ impl<T: ToLexical> Part for Scientific<T> {
         start + write_magnitude(self.0, self.1, &mut buffer[start..])
     }
 
+    fn text_len(self) -> Option<usize> {
+        self.0.in_range();
+        // How many zeros the number ends with, only its digits say.
+        Some(self.write_to(&mut [0; LONGEST]))
+    }
+
     fn is_known_utf8(self, _own: Own) -> bool {
         true
+    }
+}
+
+impl<T: ToLexical> Show for Scientific<T> {
+    ghost text = { λ part. Some (scientific_text (T.number part.0) part.1) };
+
+    fn is_showable(self) -> bool {
+        self.0.in_range();
+        self.is_known_utf8(Own)
     }
 }

@@ -1,11 +1,13 @@
 //! The sign of a number, as a part of its own.
-#![tactic(auto, using(crate::proofs::Utf8Texts::kinds))]
+#![tactic(auto, using(crate::proofs::Utf8Texts::kinds, crate::proofs::Lengths::lengths, crate::proofs::OnlyTexts::onlys))]
 
+ghost use Rattle.std.specs.Prelude.{Some};
 ghost use Rattle.lexical_num.specs.Sign.{sign_of};
 ghost use Rattle.lexical_write_integer.specs.Sequence.{IsExactly};
 
 use crate::own::Own;
 use crate::part::Part;
+use crate::show::Show;
 use lexical_num::num::LexicalInteger;
 use lexical_write_integer::buffer::copy_to_front;
 
@@ -33,7 +35,19 @@ impl<T: LexicalInteger> Part for Sign<T> {
         }
     }
 
+    fn text_len(self) -> Option<usize> {
+        Some(usize::from(self.0.is_negative() || self.1))
+    }
+
     fn is_known_utf8(self, _own: Own) -> bool {
         true
+    }
+}
+
+impl<T: LexicalInteger> Show for Sign<T> {
+    ghost text = { λ part. Some (sign_of (T.number part.0) part.1) };
+
+    fn is_showable(self) -> bool {
+        self.is_known_utf8(Own)
     }
 }

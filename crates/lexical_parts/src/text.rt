@@ -1,7 +1,7 @@
 //! Parts that are strings or bytes, whose text is the same bytes, characters, and the words `true` and `false`.
-#![tactic(auto, using(crate::proofs::Utf8Texts::kinds))]
+#![tactic(auto, using(crate::proofs::Utf8Texts::kinds, crate::proofs::Lengths::lengths, crate::proofs::OnlyTexts::onlys))]
 
-ghost use Rattle.std.specs.Prelude.{◌≡◌, ◌<◌, ℕ, [], ◌∷◌, encode_utf8, length};
+ghost use Rattle.std.specs.Prelude.{Some, ◌≡◌, ◌<◌, ℕ, [], ◌∷◌, encode_utf8, length};
 ghost use Rattle.std.specs.Str.{IsUtf8};
 ghost use Rattle.lexical_write_integer.specs.Sequence.{IsExactly};
 ghost use Rattle.lexical_parts.specs.Utf8.{AreUtf8};
@@ -9,6 +9,7 @@ ghost use Rattle.lexical_parts.specs.Word.{word};
 
 use crate::own::Own;
 use crate::part::Part;
+use crate::show::Show;
 use lexical_write_integer::buffer::copy_to_front;
 use std::fmt;
 use std::str::from_utf8;
@@ -31,16 +32,24 @@ impl Part for &str {
         copy_to_front(self.as_bytes(), buffer)
     }
 
+    fn text_len(self) -> Option<usize> {
+        Some(self.len())
+    }
+
     fn is_known_utf8(self, _own: Own) -> bool {
         true
     }
+}
 
-    fn write_each<W: fmt::Write>(
-        self,
-        f: &mut fmt::Formatter<W>,
-        _own: Own,
-    ) -> Option<fmt::Result> {
-        Some(f.write_str(self))
+impl Show for &str {
+    ghost text = { λ part. Some part.now };
+
+    fn is_showable(self) -> bool {
+        self.is_known_utf8(Own)
+    }
+
+    fn write_pieces<O: fmt::Write>(self, out: &mut O) -> fmt::Result {
+        out.write_str(self)
     }
 }
 
@@ -66,8 +75,20 @@ impl Part for bool {
         text.write_to(buffer)
     }
 
+    fn text_len(self) -> Option<usize> {
+        Some(word(self).len())
+    }
+
     fn is_known_utf8(self, _own: Own) -> bool {
         true
+    }
+}
+
+impl Show for bool {
+    ghost text = { λ flag. Some (word flag) };
+
+    fn is_showable(self) -> bool {
+        self.is_known_utf8(Own)
     }
 }
 
@@ -87,8 +108,20 @@ impl Part for char {
         text.write_to(buffer)
     }
 
+    fn text_len(self) -> Option<usize> {
+        Some(self.len_utf8())
+    }
+
     fn is_known_utf8(self, _own: Own) -> bool {
         true
+    }
+}
+
+impl Show for char {
+    ghost text = { λ character. Some (encode_utf8 character) };
+
+    fn is_showable(self) -> bool {
+        self.is_known_utf8(Own)
     }
 }
 
@@ -111,18 +144,26 @@ impl Part for Bytes<'_> {
         copy_to_front(self.0, buffer)
     }
 
+    fn text_len(self) -> Option<usize> {
+        Some(self.0.len())
+    }
+
     fn is_known_utf8(self, _own: Own) -> bool {
         from_utf8(self.0).is_ok()
     }
+}
 
-    fn write_each<W: fmt::Write>(
-        self,
-        f: &mut fmt::Formatter<W>,
-        _own: Own,
-    ) -> Option<fmt::Result> {
+impl Show for Bytes<'_> {
+    ghost text = { λ part. Some part.0.now };
+
+    fn is_showable(self) -> bool {
+        self.is_known_utf8(Own)
+    }
+
+    fn write_pieces<O: fmt::Write>(self, out: &mut O) -> fmt::Result {
         match from_utf8(self.0) {
-            Ok(text) => Some(f.write_str(text)),
-            Err(_) => None,
+            Ok(text) => out.write_str(text),
+            Err(_) => Err(fmt::Error),
         }
     }
 }
@@ -146,7 +187,19 @@ impl Part for Byte {
         copy_to_front(&[self.0], buffer)
     }
 
+    fn text_len(self) -> Option<usize> {
+        Some(1)
+    }
+
     fn is_known_utf8(self, _own: Own) -> bool {
         self.0 < 128
+    }
+}
+
+impl Show for Byte {
+    ghost text = { λ part. Some (part.0 ∷ []) };
+
+    fn is_showable(self) -> bool {
+        self.is_known_utf8(Own)
     }
 }

@@ -1,15 +1,16 @@
 //! Numbers of units without zeros at the end of their fraction.
-#![tactic(auto, using(crate::proofs::Utf8Texts::kinds))]
+#![tactic(auto, using(crate::proofs::Utf8Texts::kinds, crate::proofs::Lengths::lengths, crate::proofs::OnlyTexts::onlys))]
 
-ghost use Rattle.std.specs.Prelude.{◌+◌, ◌≤◌, length, max, min, unsigned_abs};
+ghost use Rattle.std.specs.Prelude.{◌+◌, ◌≤◌, Some, length, max, min, unsigned_abs};
 ghost use Rattle.lexical_write_integer.specs.Buffer.{Writes};
 ghost use Rattle.lexical_parts.specs.Fixed.{fixed_room};
-ghost use Rattle.lexical_parts.specs.Trimmed.{IsTrimmedFixed, IsTrimmedUnits};
+ghost use Rattle.lexical_parts.specs.Trimmed.{IsTrimmedFixed, IsTrimmedUnits, trimmed_text};
 
-use crate::fixed::{Fixed, write_units};
+use crate::fixed::{Fixed, LONGEST_FIXED, write_units};
 use crate::own::Own;
 use crate::part::Part;
 use crate::scientific::count_without_zeros;
+use crate::show::Show;
 use crate::sign::Sign;
 use crate::text::Bytes;
 use lexical_write_integer::ToLexical;
@@ -57,7 +58,22 @@ impl<T: ToLexical> Part for TrimmedFixed<T> {
         start + write_trimmed_units(self.0, self.1, &mut buffer[start..])
     }
 
+    fn text_len(self) -> Option<usize> {
+        self.0.in_range();
+        // How many zeros the fraction ends with, only its digits say.
+        Some(self.write_to(&mut [0; LONGEST_FIXED]))
+    }
+
     fn is_known_utf8(self, own: Own) -> bool {
         Fixed(self.0, self.1).is_known_utf8(own)
+    }
+}
+
+impl<T: ToLexical> Show for TrimmedFixed<T> {
+    ghost text = { λ part. Some (trimmed_text part.1 (T.number part.0)) };
+
+    fn is_showable(self) -> bool {
+        self.0.in_range();
+        self.is_known_utf8(Own)
     }
 }

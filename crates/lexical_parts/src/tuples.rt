@@ -1,12 +1,13 @@
 //! Tuples of two to twelve parts, whose text is the texts of their members in order.
-#![tactic(auto, using(crate::proofs::Utf8Texts::kinds))]
+#![tactic(auto, using(crate::proofs::Utf8Texts::kinds, crate::proofs::Lengths::lengths, crate::proofs::OnlyTexts::onlys))]
 
+ghost use Rattle.std.specs.Fmt.{option_append};
 ghost use Rattle.std.specs.Prelude.{◌+◌};
 ghost use Rattle.lexical_parts.specs.Sequence.{◌then◌};
 
 use crate::own::Own;
 use crate::part::Part;
-use crate::shown::Shown;
+use crate::show::Show;
 use std::fmt;
 
 impl<A: Part, B: Part> Part for (A, B) {
@@ -22,6 +23,11 @@ impl<A: Part, B: Part> Part for (A, B) {
         self.0.room().saturating_add(self.1.room())
     }
 
+    fn text_len(self) -> Option<usize> {
+        let first = self.0.text_len()?;
+        first.checked_add(self.1.text_len()?)
+    }
+
     fn write_to(self, buffer: &mut [u8]) -> usize {
         let first = self.0.write_to(buffer);
         first + self.1.write_to(&mut buffer[first..])
@@ -30,16 +36,18 @@ impl<A: Part, B: Part> Part for (A, B) {
     fn is_known_utf8(self, own: Own) -> bool {
         self.0.is_known_utf8(own) && self.1.is_known_utf8(own)
     }
+}
 
-    fn write_each<W: fmt::Write>(
-        self,
-        f: &mut fmt::Formatter<W>,
-        _own: Own,
-    ) -> Option<fmt::Result> {
-        match Shown(self.0).write(f) {
-            Ok(()) => Some(Shown(self.1).write(f)),
-            Err(error) => Some(Err(error)),
-        }
+impl<A: Show, B: Show> Show for (A, B) {
+    ghost text = { λ p. option_append (A.text p.0) (B.text p.1) };
+
+    fn is_showable(self) -> bool {
+        self.0.is_showable() && self.1.is_showable()
+    }
+
+    fn write_pieces<O: fmt::Write>(self, out: &mut O) -> fmt::Result {
+        self.0.write_pieces(out)?;
+        self.1.write_pieces(out)
     }
 }
 
@@ -56,6 +64,10 @@ impl<A: Part, B: Part, C: Part> Part for (A, B, C) {
         (self.0, (self.1, self.2)).room()
     }
 
+    fn text_len(self) -> Option<usize> {
+        (self.0, (self.1, self.2)).text_len()
+    }
+
     fn write_to(self, buffer: &mut [u8]) -> usize {
         (self.0, (self.1, self.2)).write_to(buffer)
     }
@@ -63,9 +75,17 @@ impl<A: Part, B: Part, C: Part> Part for (A, B, C) {
     fn is_known_utf8(self, own: Own) -> bool {
         (self.0, (self.1, self.2)).is_known_utf8(own)
     }
+}
 
-    fn write_each<W: fmt::Write>(self, f: &mut fmt::Formatter<W>, own: Own) -> Option<fmt::Result> {
-        (self.0, (self.1, self.2)).write_each(f, own)
+impl<A: Show, B: Show, C: Show> Show for (A, B, C) {
+    ghost text = { λ p. option_append (A.text p.0) (option_append (B.text p.1) (C.text p.2)) };
+
+    fn is_showable(self) -> bool {
+        (self.0, (self.1, self.2)).is_showable()
+    }
+
+    fn write_pieces<O: fmt::Write>(self, out: &mut O) -> fmt::Result {
+        (self.0, (self.1, self.2)).write_pieces(out)
     }
 }
 
@@ -82,6 +102,10 @@ impl<A: Part, B: Part, C: Part, D: Part> Part for (A, B, C, D) {
         (self.0, (self.1, self.2, self.3)).room()
     }
 
+    fn text_len(self) -> Option<usize> {
+        (self.0, (self.1, self.2, self.3)).text_len()
+    }
+
     fn write_to(self, buffer: &mut [u8]) -> usize {
         (self.0, (self.1, self.2, self.3)).write_to(buffer)
     }
@@ -89,9 +113,17 @@ impl<A: Part, B: Part, C: Part, D: Part> Part for (A, B, C, D) {
     fn is_known_utf8(self, own: Own) -> bool {
         (self.0, (self.1, self.2, self.3)).is_known_utf8(own)
     }
+}
 
-    fn write_each<W: fmt::Write>(self, f: &mut fmt::Formatter<W>, own: Own) -> Option<fmt::Result> {
-        (self.0, (self.1, self.2, self.3)).write_each(f, own)
+impl<A: Show, B: Show, C: Show, D: Show> Show for (A, B, C, D) {
+    ghost text = { λ p. option_append (A.text p.0) (option_append (B.text p.1) (option_append (C.text p.2) (D.text p.3))) };
+
+    fn is_showable(self) -> bool {
+        (self.0, (self.1, self.2, self.3)).is_showable()
+    }
+
+    fn write_pieces<O: fmt::Write>(self, out: &mut O) -> fmt::Result {
+        (self.0, (self.1, self.2, self.3)).write_pieces(out)
     }
 }
 
@@ -111,6 +143,10 @@ impl<A: Part, B: Part, C: Part, D: Part, E: Part> Part for (A, B, C, D, E) {
         (self.0, (self.1, self.2, self.3, self.4)).room()
     }
 
+    fn text_len(self) -> Option<usize> {
+        (self.0, (self.1, self.2, self.3, self.4)).text_len()
+    }
+
     fn write_to(self, buffer: &mut [u8]) -> usize {
         (self.0, (self.1, self.2, self.3, self.4)).write_to(buffer)
     }
@@ -118,9 +154,17 @@ impl<A: Part, B: Part, C: Part, D: Part, E: Part> Part for (A, B, C, D, E) {
     fn is_known_utf8(self, own: Own) -> bool {
         (self.0, (self.1, self.2, self.3, self.4)).is_known_utf8(own)
     }
+}
 
-    fn write_each<W: fmt::Write>(self, f: &mut fmt::Formatter<W>, own: Own) -> Option<fmt::Result> {
-        (self.0, (self.1, self.2, self.3, self.4)).write_each(f, own)
+impl<A: Show, B: Show, C: Show, D: Show, E: Show> Show for (A, B, C, D, E) {
+    ghost text = { λ p. option_append (A.text p.0) (option_append (B.text p.1) (option_append (C.text p.2) (option_append (D.text p.3) (E.text p.4)))) };
+
+    fn is_showable(self) -> bool {
+        (self.0, (self.1, self.2, self.3, self.4)).is_showable()
+    }
+
+    fn write_pieces<O: fmt::Write>(self, out: &mut O) -> fmt::Result {
+        (self.0, (self.1, self.2, self.3, self.4)).write_pieces(out)
     }
 }
 
@@ -141,6 +185,10 @@ impl<A: Part, B: Part, C: Part, D: Part, E: Part, F: Part> Part for (A, B, C, D,
         (self.0, (self.1, self.2, self.3, self.4, self.5)).room()
     }
 
+    fn text_len(self) -> Option<usize> {
+        (self.0, (self.1, self.2, self.3, self.4, self.5)).text_len()
+    }
+
     fn write_to(self, buffer: &mut [u8]) -> usize {
         (self.0, (self.1, self.2, self.3, self.4, self.5)).write_to(buffer)
     }
@@ -148,9 +196,17 @@ impl<A: Part, B: Part, C: Part, D: Part, E: Part, F: Part> Part for (A, B, C, D,
     fn is_known_utf8(self, own: Own) -> bool {
         (self.0, (self.1, self.2, self.3, self.4, self.5)).is_known_utf8(own)
     }
+}
 
-    fn write_each<W: fmt::Write>(self, f: &mut fmt::Formatter<W>, own: Own) -> Option<fmt::Result> {
-        (self.0, (self.1, self.2, self.3, self.4, self.5)).write_each(f, own)
+impl<A: Show, B: Show, C: Show, D: Show, E: Show, F: Show> Show for (A, B, C, D, E, F) {
+    ghost text = { λ p. option_append (A.text p.0) (option_append (B.text p.1) (option_append (C.text p.2) (option_append (D.text p.3) (option_append (E.text p.4) (F.text p.5))))) };
+
+    fn is_showable(self) -> bool {
+        (self.0, (self.1, self.2, self.3, self.4, self.5)).is_showable()
+    }
+
+    fn write_pieces<O: fmt::Write>(self, out: &mut O) -> fmt::Result {
+        (self.0, (self.1, self.2, self.3, self.4, self.5)).write_pieces(out)
     }
 }
 
@@ -171,6 +227,10 @@ impl<A: Part, B: Part, C: Part, D: Part, E: Part, F: Part, G: Part> Part for (A,
         (self.0, (self.1, self.2, self.3, self.4, self.5, self.6)).room()
     }
 
+    fn text_len(self) -> Option<usize> {
+        (self.0, (self.1, self.2, self.3, self.4, self.5, self.6)).text_len()
+    }
+
     fn write_to(self, buffer: &mut [u8]) -> usize {
         (self.0, (self.1, self.2, self.3, self.4, self.5, self.6)).write_to(buffer)
     }
@@ -178,9 +238,17 @@ impl<A: Part, B: Part, C: Part, D: Part, E: Part, F: Part, G: Part> Part for (A,
     fn is_known_utf8(self, own: Own) -> bool {
         (self.0, (self.1, self.2, self.3, self.4, self.5, self.6)).is_known_utf8(own)
     }
+}
 
-    fn write_each<W: fmt::Write>(self, f: &mut fmt::Formatter<W>, own: Own) -> Option<fmt::Result> {
-        (self.0, (self.1, self.2, self.3, self.4, self.5, self.6)).write_each(f, own)
+impl<A: Show, B: Show, C: Show, D: Show, E: Show, F: Show, G: Show> Show for (A, B, C, D, E, F, G) {
+    ghost text = { λ p. option_append (A.text p.0) (option_append (B.text p.1) (option_append (C.text p.2) (option_append (D.text p.3) (option_append (E.text p.4) (option_append (F.text p.5) (G.text p.6)))))) };
+
+    fn is_showable(self) -> bool {
+        (self.0, (self.1, self.2, self.3, self.4, self.5, self.6)).is_showable()
+    }
+
+    fn write_pieces<O: fmt::Write>(self, out: &mut O) -> fmt::Result {
+        (self.0, (self.1, self.2, self.3, self.4, self.5, self.6)).write_pieces(out)
     }
 }
 
@@ -203,6 +271,11 @@ impl<A: Part, B: Part, C: Part, D: Part, E: Part, F: Part, G: Part, H: Part> Par
         (a, (b, c, d, e, f, g, h)).room()
     }
 
+    fn text_len(self) -> Option<usize> {
+        let (a, b, c, d, e, f, g, h) = self;
+        (a, (b, c, d, e, f, g, h)).text_len()
+    }
+
     fn write_to(self, buffer: &mut [u8]) -> usize {
         let (a, b, c, d, e, f, g, h) = self;
         (a, (b, c, d, e, f, g, h)).write_to(buffer)
@@ -212,10 +285,20 @@ impl<A: Part, B: Part, C: Part, D: Part, E: Part, F: Part, G: Part, H: Part> Par
         let (a, b, c, d, e, f, g, h) = self;
         (a, (b, c, d, e, f, g, h)).is_known_utf8(own)
     }
+}
 
-    fn write_each<W: fmt::Write>(self, f: &mut fmt::Formatter<W>, own: Own) -> Option<fmt::Result> {
-        let (a, b, c, d, e, x, g, h) = self;
-        (a, (b, c, d, e, x, g, h)).write_each(f, own)
+impl<A: Show, B: Show, C: Show, D: Show, E: Show, F: Show, G: Show, H: Show> Show
+    for (A, B, C, D, E, F, G, H) {
+    ghost text = { λ p. option_append (A.text p.0) (option_append (B.text p.1) (option_append (C.text p.2) (option_append (D.text p.3) (option_append (E.text p.4) (option_append (F.text p.5) (option_append (G.text p.6) (H.text p.7))))))) };
+
+    fn is_showable(self) -> bool {
+        let (a, b, c, d, e, f, g, h) = self;
+        (a, (b, c, d, e, f, g, h)).is_showable()
+    }
+
+    fn write_pieces<O: fmt::Write>(self, out: &mut O) -> fmt::Result {
+        let (a, b, c, d, e, f, g, h) = self;
+        (a, (b, c, d, e, f, g, h)).write_pieces(out)
     }
 }
 
@@ -241,6 +324,11 @@ impl<A: Part, B: Part, C: Part, D: Part, E: Part, F: Part, G: Part, H: Part, I: 
         (a, (b, c, d, e, f, g, h, i)).room()
     }
 
+    fn text_len(self) -> Option<usize> {
+        let (a, b, c, d, e, f, g, h, i) = self;
+        (a, (b, c, d, e, f, g, h, i)).text_len()
+    }
+
     fn write_to(self, buffer: &mut [u8]) -> usize {
         let (a, b, c, d, e, f, g, h, i) = self;
         (a, (b, c, d, e, f, g, h, i)).write_to(buffer)
@@ -250,10 +338,20 @@ impl<A: Part, B: Part, C: Part, D: Part, E: Part, F: Part, G: Part, H: Part, I: 
         let (a, b, c, d, e, f, g, h, i) = self;
         (a, (b, c, d, e, f, g, h, i)).is_known_utf8(own)
     }
+}
 
-    fn write_each<W: fmt::Write>(self, f: &mut fmt::Formatter<W>, own: Own) -> Option<fmt::Result> {
-        let (a, b, c, d, e, x, g, h, i) = self;
-        (a, (b, c, d, e, x, g, h, i)).write_each(f, own)
+impl<A: Show, B: Show, C: Show, D: Show, E: Show, F: Show, G: Show, H: Show, I: Show> Show
+    for (A, B, C, D, E, F, G, H, I) {
+    ghost text = { λ p. option_append (A.text p.0) (option_append (B.text p.1) (option_append (C.text p.2) (option_append (D.text p.3) (option_append (E.text p.4) (option_append (F.text p.5) (option_append (G.text p.6) (option_append (H.text p.7) (I.text p.8)))))))) };
+
+    fn is_showable(self) -> bool {
+        let (a, b, c, d, e, f, g, h, i) = self;
+        (a, (b, c, d, e, f, g, h, i)).is_showable()
+    }
+
+    fn write_pieces<O: fmt::Write>(self, out: &mut O) -> fmt::Result {
+        let (a, b, c, d, e, f, g, h, i) = self;
+        (a, (b, c, d, e, f, g, h, i)).write_pieces(out)
     }
 }
 
@@ -279,6 +377,11 @@ impl<A: Part, B: Part, C: Part, D: Part, E: Part, F: Part, G: Part, H: Part, I: 
         (a, (b, c, d, e, f, g, h, i, j)).room()
     }
 
+    fn text_len(self) -> Option<usize> {
+        let (a, b, c, d, e, f, g, h, i, j) = self;
+        (a, (b, c, d, e, f, g, h, i, j)).text_len()
+    }
+
     fn write_to(self, buffer: &mut [u8]) -> usize {
         let (a, b, c, d, e, f, g, h, i, j) = self;
         (a, (b, c, d, e, f, g, h, i, j)).write_to(buffer)
@@ -288,10 +391,20 @@ impl<A: Part, B: Part, C: Part, D: Part, E: Part, F: Part, G: Part, H: Part, I: 
         let (a, b, c, d, e, f, g, h, i, j) = self;
         (a, (b, c, d, e, f, g, h, i, j)).is_known_utf8(own)
     }
+}
 
-    fn write_each<W: fmt::Write>(self, f: &mut fmt::Formatter<W>, own: Own) -> Option<fmt::Result> {
-        let (a, b, c, d, e, x, g, h, i, j) = self;
-        (a, (b, c, d, e, x, g, h, i, j)).write_each(f, own)
+impl<A: Show, B: Show, C: Show, D: Show, E: Show, F: Show, G: Show, H: Show, I: Show, J: Show> Show
+    for (A, B, C, D, E, F, G, H, I, J) {
+    ghost text = { λ p. option_append (A.text p.0) (option_append (B.text p.1) (option_append (C.text p.2) (option_append (D.text p.3) (option_append (E.text p.4) (option_append (F.text p.5) (option_append (G.text p.6) (option_append (H.text p.7) (option_append (I.text p.8) (J.text p.9))))))))) };
+
+    fn is_showable(self) -> bool {
+        let (a, b, c, d, e, f, g, h, i, j) = self;
+        (a, (b, c, d, e, f, g, h, i, j)).is_showable()
+    }
+
+    fn write_pieces<O: fmt::Write>(self, out: &mut O) -> fmt::Result {
+        let (a, b, c, d, e, f, g, h, i, j) = self;
+        (a, (b, c, d, e, f, g, h, i, j)).write_pieces(out)
     }
 }
 
@@ -329,6 +442,11 @@ impl<
         (a, (b, c, d, e, f, g, h, i, j, k)).room()
     }
 
+    fn text_len(self) -> Option<usize> {
+        let (a, b, c, d, e, f, g, h, i, j, k) = self;
+        (a, (b, c, d, e, f, g, h, i, j, k)).text_len()
+    }
+
     fn write_to(self, buffer: &mut [u8]) -> usize {
         let (a, b, c, d, e, f, g, h, i, j, k) = self;
         (a, (b, c, d, e, f, g, h, i, j, k)).write_to(buffer)
@@ -338,10 +456,31 @@ impl<
         let (a, b, c, d, e, f, g, h, i, j, k) = self;
         (a, (b, c, d, e, f, g, h, i, j, k)).is_known_utf8(own)
     }
+}
 
-    fn write_each<W: fmt::Write>(self, f: &mut fmt::Formatter<W>, own: Own) -> Option<fmt::Result> {
-        let (a, b, c, d, e, x, g, h, i, j, k) = self;
-        (a, (b, c, d, e, x, g, h, i, j, k)).write_each(f, own)
+impl<
+    A: Show,
+    B: Show,
+    C: Show,
+    D: Show,
+    E: Show,
+    F: Show,
+    G: Show,
+    H: Show,
+    I: Show,
+    J: Show,
+    K: Show,
+> Show for (A, B, C, D, E, F, G, H, I, J, K) {
+    ghost text = { λ p. option_append (A.text p.0) (option_append (B.text p.1) (option_append (C.text p.2) (option_append (D.text p.3) (option_append (E.text p.4) (option_append (F.text p.5) (option_append (G.text p.6) (option_append (H.text p.7) (option_append (I.text p.8) (option_append (J.text p.9) (K.text p.10)))))))))) };
+
+    fn is_showable(self) -> bool {
+        let (a, b, c, d, e, f, g, h, i, j, k) = self;
+        (a, (b, c, d, e, f, g, h, i, j, k)).is_showable()
+    }
+
+    fn write_pieces<O: fmt::Write>(self, out: &mut O) -> fmt::Result {
+        let (a, b, c, d, e, f, g, h, i, j, k) = self;
+        (a, (b, c, d, e, f, g, h, i, j, k)).write_pieces(out)
     }
 }
 
@@ -380,6 +519,11 @@ impl<
         (a, (b, c, d, e, f, g, h, i, j, k, l)).room()
     }
 
+    fn text_len(self) -> Option<usize> {
+        let (a, b, c, d, e, f, g, h, i, j, k, l) = self;
+        (a, (b, c, d, e, f, g, h, i, j, k, l)).text_len()
+    }
+
     fn write_to(self, buffer: &mut [u8]) -> usize {
         let (a, b, c, d, e, f, g, h, i, j, k, l) = self;
         (a, (b, c, d, e, f, g, h, i, j, k, l)).write_to(buffer)
@@ -389,9 +533,31 @@ impl<
         let (a, b, c, d, e, f, g, h, i, j, k, l) = self;
         (a, (b, c, d, e, f, g, h, i, j, k, l)).is_known_utf8(own)
     }
+}
 
-    fn write_each<W: fmt::Write>(self, f: &mut fmt::Formatter<W>, own: Own) -> Option<fmt::Result> {
-        let (a, b, c, d, e, x, g, h, i, j, k, l) = self;
-        (a, (b, c, d, e, x, g, h, i, j, k, l)).write_each(f, own)
+impl<
+    A: Show,
+    B: Show,
+    C: Show,
+    D: Show,
+    E: Show,
+    F: Show,
+    G: Show,
+    H: Show,
+    I: Show,
+    J: Show,
+    K: Show,
+    L: Show,
+> Show for (A, B, C, D, E, F, G, H, I, J, K, L) {
+    ghost text = { λ p. option_append (A.text p.0) (option_append (B.text p.1) (option_append (C.text p.2) (option_append (D.text p.3) (option_append (E.text p.4) (option_append (F.text p.5) (option_append (G.text p.6) (option_append (H.text p.7) (option_append (I.text p.8) (option_append (J.text p.9) (option_append (K.text p.10) (L.text p.11))))))))))) };
+
+    fn is_showable(self) -> bool {
+        let (a, b, c, d, e, f, g, h, i, j, k, l) = self;
+        (a, (b, c, d, e, f, g, h, i, j, k, l)).is_showable()
+    }
+
+    fn write_pieces<O: fmt::Write>(self, out: &mut O) -> fmt::Result {
+        let (a, b, c, d, e, f, g, h, i, j, k, l) = self;
+        (a, (b, c, d, e, f, g, h, i, j, k, l)).write_pieces(out)
     }
 }

@@ -1,12 +1,13 @@
 //! Numbers with leading zeros, up to at least a width.
-#![tactic(auto, using(crate::proofs::Utf8Changes::changes))]
+#![tactic(auto, using(crate::proofs::Utf8Changes::changes, crate::proofs::Lengths::lengths, crate::proofs::OnlyTexts::onlys))]
 
 ghost use Rattle.std.specs.Prelude.{◌≡◌, ◌≤◌, length, max};
-ghost use Rattle.lexical_parts.specs.ZeroPadded.{IsZeroPadded, sign_length};
+ghost use Rattle.lexical_parts.specs.ZeroPadded.{IsZeroPadded, sign_length, zero_padded_text};
 
 use crate::fill::insert_fill;
 use crate::own::Own;
 use crate::part::Part;
+use crate::show::Show;
 
 // Returns the length of the sign with which the text begins: 1 for `-` or `+`, and otherwise 0.
 fn length_of_sign(text: &[u8]) -> usize
@@ -46,7 +47,19 @@ impl<P: Part> Part for ZeroPadded<P> {
         zeros + count
     }
 
+    fn text_len(self) -> Option<usize> {
+        Some(self.0.text_len()?.max(self.1))
+    }
+
     fn is_known_utf8(self, own: Own) -> bool {
         self.0.is_known_utf8(own)
+    }
+}
+
+impl<P: Show> Show for ZeroPadded<P> {
+    ghost text = { λ part. zero_padded_text part.1 (P.text part.0) };
+
+    fn is_showable(self) -> bool {
+        self.0.is_showable()
     }
 }

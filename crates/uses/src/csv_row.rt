@@ -1,10 +1,11 @@
 //! Writes rows of numbers, as in CSV.
 
-ghost use Rattle.std.specs.Prelude.{◌≡◌, ◌↔◌, ◌+◌, ◌*◌, ◌≤◌, [], ◌∷◌};
+ghost use Rattle.std.specs.Prelude.{◌≡◌, ◌+◌, ◌*◌, ◌≤◌, [], ◌∷◌};
 ghost use Rattle.std.specs.Prelude.{IfNone, IfSome, IsSome, OnOk, codes, length, ⊤};
 ghost use Rattle.lexical_write_integer.specs.Buffer.{Writes};
 ghost use Rattle.lexical_write_integer.specs.Sequence.{AreJoined, IsExactly};
 ghost use Rattle.lexical_parts.specs.Joined.{AreEach, joined_room};
+ghost use Rattle.lexical_parts.specs.Length.{HasLonger};
 ghost use Rattle.lexical_parts.specs.Sequence.{◌then◌, IsDecimal, IsStr};
 ghost use Rattle.uses.specs.CsvRow.{IsEntry, IsRow, row_room};
 
@@ -60,11 +61,14 @@ pub fn write_summary(summary: &Summary, buffer: &mut [u8; ROW_SIZE]) -> usize
 }
 
 /// Writes the numbers in brackets, with `, ` between adjacent numbers, to the start of the buffer, and
-/// returns the number of bytes written. Returns `None`, and leaves the buffer unchanged, if the buffer
-/// does not have 20 bytes for each number, 2 for each separator and 2 for the brackets.
+/// returns the number of bytes written. The room of the text is 20 bytes for each number, 2 for each separator and 2
+/// for the brackets. Returns `None`, and leaves the buffer unchanged, if the buffer does not have the room, and the room
+/// is above 256 bytes or the text does not fit.
 pub fn try_write_list(numbers: &[i64], buffer: &mut [u8]) -> Option<usize>
-    ensures fits { IsSome result
-        ↔ (1 + (joined_room (λ _. 20) 2 numbers.now + 1) ≤ length buffer.old) }
+    ensures fits { 1 + (joined_room (λ _. 20) 2 numbers.now + 1) ≤ length buffer.old → IsSome result }
+    ensures longer { IfNone result (1 + (joined_room (λ _. 20) 2 numbers.now + 1) ≤ 256
+        → HasLonger (IsStr "[" then AreJoined IsDecimal (codes ", ") numbers.now then IsStr "]")
+        (length buffer.old)) }
     ensures text { IfSome result (Writes
         (IsStr "[" then AreJoined IsDecimal (codes ", ") numbers.now then IsStr "]")
         buffer.old buffer.new) }
@@ -94,10 +98,13 @@ impl Part for Row<'_> {
 }
 
 /// Writes the rows, with a newline after each, to the start of the buffer, and returns the number of bytes
-/// written. Returns `None`, and leaves the buffer unchanged, if the buffer does not have their room.
+/// written. Returns `None`, and leaves the buffer unchanged, if the buffer does not have their room, and the room is
+/// above 256 bytes or they do not fit.
 pub fn try_write_rows(rows: &[Row<'_>], buffer: &mut [u8]) -> Option<usize>
-    ensures fits { IsSome result
-        ↔ (joined_room (λ row. row_room row.0.now) 1 rows.now + 1 ≤ length buffer.old) }
+    ensures fits { joined_room (λ row. row_room row.0.now) 1 rows.now + 1 ≤ length buffer.old → IsSome result }
+    ensures longer { IfNone result (joined_room (λ row. row_room row.0.now) 1 rows.now + 1 ≤ 256
+        → HasLonger (AreJoined (λ row. IsRow row.0.now) (codes "\n") rows.now then IsStr "\n")
+        (length buffer.old)) }
     ensures text { IfSome result (Writes
         (AreJoined (λ row. IsRow row.0.now) (codes "\n") rows.now then IsStr "\n") buffer.old buffer.new) }
     ensures none { IfNone result (buffer.new ≡ buffer.old) }

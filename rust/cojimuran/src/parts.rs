@@ -27,11 +27,12 @@
 //! decimals, if the radix is not from 2 to 36, or if a [`Padded`] or [`PaddedDigits`] has no digits, more than 64, or
 //! fewer than its number. `{}` of a [`Shown`] writes a tuple or any other part as it does a `&str`, and so does that of
 //! [`Joined`], [`Left`], [`Right`], [`Center`], [`ZeroPadded`], [`Lower`], [`OrElse`], [`Scientific`] and
-//! [`HexBytes`].
+//! [`HexBytes`]. Of these it is an error if the part is not valid, and for a [`ZeroPadded`] with a room above 256 bytes.
 
 mod buffer;
 mod cell;
 mod column;
+mod cut;
 mod display;
 mod field;
 mod fill;
@@ -48,6 +49,7 @@ mod plus;
 mod powers_of_two;
 mod reference;
 mod scientific;
+mod show;
 mod shown;
 mod sign;
 mod text;
@@ -69,6 +71,7 @@ pub use part::Part;
 pub use plus::Plus;
 pub use powers_of_two::{Binary, Hex, HexBytes};
 pub use scientific::Scientific;
+pub use show::Show;
 pub use shown::Shown;
 pub use sign::Sign;
 pub use text::{Byte, Bytes};

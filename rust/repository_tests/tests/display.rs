@@ -161,7 +161,7 @@ fn padded_digits() {
 }
 
 /// Checks that a part is shown as its text is, in each width and precision up to some more than it has.
-fn check_text<P: Part>(part: P, text: &str) {
+fn check_text<P: Show>(part: P, text: &str) {
     assert_eq!(format!("{}", Shown(part)), text);
     for n in 0..=text.chars().count() + 3 {
         let expected = format!("{text:n$}|{text:>n$}|{text:é^n$}|{text:.n$}|{text:9.n$}|{text:09}");
@@ -201,30 +201,83 @@ fn columns_and_others() {
     assert_eq!(shown, "5|n/a|01:AB");
 }
 
-/// A caller's own part.
-#[derive(Clone, Copy)]
-struct Own;
+/// Checks that a part is shown as its text is, with the options of a string.
+fn check_long_text<P: Show>(part: P, text: &str, n: usize) {
+    let part = Shown(part);
+    assert_eq!(part.to_string(), text);
+    assert_eq!(format!("{part:n$}|{part:é^n$}|{part:𝄞>n$}|{part:<0n$}"), format!("{text:n$}|{text:é^n$}|{text:𝄞>n$}|{text:<0n$}"));
+    assert_eq!(format!("{part:.n$}|{part:+>300.n$}|{part:^#n$.40}"), format!("{text:.n$}|{text:+>300.n$}|{text:^#n$.40}"));
+}
 
-impl Part for Own {
-    fn room(self) -> usize {
-        0
-    }
-
-    fn write_to(self, _buffer: &mut [u8]) -> usize {
-        0
+#[test]
+fn long_texts() {
+    let lengths = (0..70).chain(120..135).chain(250..262).chain((300..5000).step_by(409)).chain([5000]);
+    for length in lengths {
+        for pattern in ["a", "Aé", "x€", "𝄞y", "Ä"] {
+            let mut text = pattern.repeat(length);
+            text.truncate((0..=length).rev().find(|end| text.is_char_boundary(*end)).unwrap());
+            let count = text.chars().count();
+            for n in [0, 1, 63, count / 2, count.saturating_sub(1), count, count + 1, count + 2, 5200] {
+                check_long_text((&*text, ""), &text, n);
+                check_long_text(Lower(&*text), &text.to_ascii_lowercase(), n);
+                check_long_text(("<", Bytes(text.as_bytes()), Some(">")), &format!("<{text}>"), n);
+            }
+            let characters: Vec<char> = text.chars().collect();
+            check_long_text(Joined(&characters, ""), &text, count / 2);
+            assert_eq!(Left(&*text, length + 9, b'.').to_string(), format!("{text:.<w$}", w = count + length + 9 - text.len()));
+            assert_eq!(Right(Lower(&*text), 9, b'.').to_string().len(), text.len().max(9));
+        }
+        let hex = vec![0xAB; length];
+        check_long_text(HexBytes(&hex, ""), &"AB".repeat(length), length);
+        check_long_text(HexBytes(&hex, ", "), &vec!["AB"; length].join(", "), length + 5);
     }
 }
 
 #[test]
+fn examples_of_long_texts() {
+    assert_eq!(HexBytes(&[7; 200], "").to_string(), "07".repeat(200));
+    assert_eq!(Lower(&*"Ab".repeat(150)).to_string(), "ab".repeat(150));
+    assert_eq!(format!("{:>10}", Joined(&[1u64; 100], ",")), format!("{:>10}", vec!["1"; 100].join(",")));
+    assert_eq!(format!("{}", Shown((Own(5), "!"))), "5!");
+}
+
+/// A caller's own part, which is valid if its number is not 0.
+#[derive(Clone, Copy)]
+struct Own(u8);
+
+impl Part for Own {
+    fn room(self) -> usize {
+        3
+    }
+
+    fn write_to(self, buffer: &mut [u8]) -> usize {
+        self.0.write_to(buffer)
+    }
+}
+
+impl Show for Own {
+    fn is_showable(self) -> bool {
+        self.0 != 0
+    }
+}
+
+#[test]
+fn own_parts() {
+    check_text(Own(7), "7");
+    check_text(("a", Own(7), "!", Some(Own(42)), &Own(9)), "a7!429");
+    check_text(Joined(&[Own(1), Own(200)], ", "), "1, 200");
+    check_text(Joined(&[Own(100); 100], ""), &"100".repeat(100));
+    check_text((Left(Own(5), 3, b'.'), Right(Own(5), 3, b'.'), ZeroPadded(Own(5), 3), Lower(Own(5))), "5....50055");
+}
+
+#[test]
 fn parts_that_are_not_shown() {
-    fn is_refused<P: Part>(part: P) -> bool {
+    fn is_refused<P: Show>(part: P) -> bool {
         write!(String::new(), "{}", Shown(part)).is_err() && write!(String::new(), "{:9}", Shown(part)).is_err()
     }
     assert!(is_refused((1u8, Digits(37, 1u8))) && is_refused(Joined(&[Padded(1u8, 1), Padded(10, 1)], ",")));
     assert!(is_refused(Bytes(&[200])) && is_refused((Byte(128), 1u8)) && is_refused(Left(1u8, 2, 128)));
-    assert!(is_refused(Own) && is_refused(("own", Own)) && is_refused(Fixed(1u8, 20)));
-    assert!(is_refused(Left(1u8, 257, b' ')) && is_refused(Lower(&*"A".repeat(257))));
-    assert!(!is_refused(Left(1u8, 256, b' ')) && !is_refused(Lower(&*"A".repeat(256))));
+    assert!(is_refused(Own(0)) && is_refused(("own", Own(0))) && is_refused(Fixed(1u8, 20)));
 }
 
 #[test]

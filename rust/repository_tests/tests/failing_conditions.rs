@@ -9,7 +9,7 @@ use cojimuran::digit_count::DigitCount;
 use cojimuran::format::STANDARD;
 use cojimuran::padded::write_padded;
 use cojimuran::parts::{
-    Bytes, Decimal, Digits, Fixed, Joined, Left, Padded, PaddedDigits, Part, TrimmedFixed, write_field,
+    Byte, Bytes, Decimal, Digits, Fixed, Joined, Left, Padded, PaddedDigits, Part, Show, TrimmedFixed, write_field,
     write_with_length,
 };
 use cojimuran::radix::{Radix, digit_to_char};
@@ -236,7 +236,8 @@ fn messages(called: &mut Vec<Panicking>) {
         "a part is invalid: then `build` returns an error", "the separator is a letter, a digit or a sign":
             builder.digit_grouping(3, b'0').build_strict();
         "the part is not valid", "20 decimals, but at most 19": Fixed(7i64, 20).to_text(buffer), Fixed(7u8, 20).room(),
-            TrimmedFixed(7u8, 20).room(), TrimmedFixed(7u8, 20).write_to(buffer);
+            TrimmedFixed(7u8, 20).room(), TrimmedFixed(7u8, 20).write_to(buffer), Fixed(7u8, 20).text_len(),
+            Fixed(7u8, 20).write_pieces(&mut String::new());
         "the part is not valid", "90 decimals, but at most 19": Fixed(7u8, 90).to_str(buffer),
             Fixed(7u8, 90).try_write_to(buffer), Fixed(7u8, 90).write_to(buffer), Fixed(7u8, 90).write_at(1, buffer);
         "the part is not valid", "the number has more digits than the width": Padded(2026u16, 2).to_text(buffer),
@@ -246,7 +247,8 @@ fn messages(called: &mut Vec<Panicking>) {
             (1u8, Padded(10u8, 1)).append_to(&mut Vec::new());
         "the vector would have more than `isize::MAX` bytes", "capacity overflow": Left("", usize::MAX, b' ').append_to(&mut vec![1]);
         "the text does not have `count` bytes", "the text does not have `count` bytes": write_field("ab", 0, 3, buffer);
-        "the text of the part is not UTF-8", "Utf8Error": not_utf8.to_str(buffer), not_utf8.try_to_str(buffer);
+        "the text of the part is not UTF-8", "Utf8Error": not_utf8.to_str(buffer), not_utf8.try_to_str(buffer),
+            Byte(200).write_pieces(&mut String::new());
         "the length and `extra` together are above `usize::MAX`", "the length and `extra` together are above usize::MAX":
             write_with_length("ab", 10, 20, usize::MAX - 1, buffer);
         "the buffer is too short", "out of range": "ab".write_at(129, buffer), write_with_length("ab", 10, 129, 0, buffer);

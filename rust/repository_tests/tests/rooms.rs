@@ -1,6 +1,7 @@
-//! The room of each part, which its longest text fills: `try_write_to` writes to a buffer of that length, and not to one
-//! that is a byte shorter; the traits of each part; what `{}` writes of it; and rooms near the largest `usize`. And what
-//! no other test calls: `write_sign` of a required `+`, and `write_padded` to no bytes.
+//! The room of each part, which its longest text fills, and the length of that text: `try_write_to` writes to a buffer of
+//! either length, and not to one that is a byte shorter than the text. The traits of each part, what `{}` writes of it, and
+//! rooms near the largest `usize`. And what no other test calls: `write_sign` of a required `+`, and `write_padded` to no
+//! bytes.
 
 use cojimuran::padded::write_padded;
 use cojimuran::parts::*;
@@ -25,11 +26,18 @@ macro_rules! check_rooms {
         has_traits($part);
         assert_eq!($part.room(), $room, "the room of {name}");
         let mut buffer = [b'?'; 130];
-        assert_eq!($part.try_write_to(&mut buffer[..$room - 1]), None, "{name} in a short buffer");
-        assert_eq!(buffer, [b'?'; 130], "{name} in a short buffer");
-        let count = $part.try_write_to(&mut buffer[..$room]);
-        assert_eq!(count, Some($text.len()), "the length of {name}");
-        assert_eq!(&buffer[..$text.len()], $text.as_bytes(), "{name}");
+        let length = $text.len();
+        assert_eq!($part.text_len(), Some(length), "the length of {name}");
+        if let Some(short) = length.checked_sub(1) {
+            assert_eq!($part.try_write_to(&mut buffer[..short]), None, "{name} in a short buffer");
+            assert_eq!(buffer, [b'?'; 130], "{name} in a short buffer");
+        }
+        for count in [$room, length] {
+            buffer.fill(b'?');
+            assert_eq!($part.try_write_to(&mut buffer[..count]), Some(length), "the length of {name}");
+            assert_eq!(buffer[..length], *$text.as_bytes(), "{name}");
+            assert_eq!(buffer[count..], [b'?'; 130][count..], "what follows {name}");
+        }
         let mut bytes = b"ab".to_vec();
         $part.append_to(&mut bytes);
         assert_eq!(bytes, [b"ab", $text.as_bytes()].concat(), "{name} at the end of a vector");
@@ -71,7 +79,7 @@ impl<P: Display> Displayed for InFormat<P> {
     }
 }
 
-impl<P: Part> Displayed for &InFormat<P> {
+impl<P: Show> Displayed for &InFormat<P> {
     fn displayed(&self) -> [String; 2] {
         InFormat(Shown(self.0)).displayed()
     }
@@ -141,7 +149,7 @@ fn each_part_has_a_row() {
     let exports: Vec<(&str, &str)> = exports.filter_map(|path| path.split_once("::")).collect();
     let names = exports.iter().flat_map(|(_, names)| names.split(|c: char| !c.is_alphanumeric()));
     let parts: Vec<&str> = names.filter(|name| name.starts_with(char::is_uppercase)).collect();
-    let has_row = |name: &str| ["Part", "Buffer", "Shown"].contains(&name) || table.contains(&format!("{name}("));
+    let has_row = |name: &str| ["Part", "Buffer", "Show", "Shown"].contains(&name) || table.contains(&format!("{name}("));
     let missing = parts.iter().copied().filter(|name| !has_row(name));
     let files = exports.iter().map(|(module, _)| *module);
     let missing = missing.chain(files.filter(|module| !mistakes.contains(&format!("file: src/{module}.rt"))));

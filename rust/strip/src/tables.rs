@@ -72,6 +72,13 @@ pub(crate) const WRITE_INTEGER: &[Rule] = &[
 pub(crate) const PARTS: &[Rule] = &[
     // Parts can be keys and compared, as values of std can.
     everywhere("#[derive(Clone, Copy, Debug, Drop)]", "#[derive(Clone, Copy, PartialEq, Eq, Hash, Debug)]"),
+    // A formatter has no parameter here, but a lifetime.
+    everywhere(", W: fmt::Write>", ">"),
+    once(
+        "struct Through<'a, W> {\n    f: &'a mut fmt::Formatter<W>,",
+        "struct Through<'a, 'b> {\n    f: &'a mut fmt::Formatter<'b>,",
+    ),
+    once("impl<W: fmt::Write> fmt::Write for Through<'_, W>", "impl fmt::Write for Through<'_, '_>"),
     // rustc proves nothing, so a debug build checks.
     in_function("to_str", "unsafe {", "debug_assert!(from_utf8(text).is_ok()); unsafe {"),
 ];

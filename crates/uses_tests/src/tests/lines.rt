@@ -103,8 +103,7 @@ fn a_name_as_str(rt: HostRuntime) {
     check(&rt, name.try_to_str(&mut buffer[..4]), None);
 }
 
-// Every byte after a text is unchanged, and the whole buffer if it is shorter than the room of the part, which is
-// 8 here.
+// Every byte after a text is unchanged, and the whole buffer if it is shorter than the text. The room is 8 here.
 #[test]
 fn bytes_after_a_text(rt: HostRuntime) {
     let part = (Decimal(-5i8), " °C");
@@ -132,10 +131,16 @@ fn bytes_after_a_str(rt: HostRuntime) {
 #[test]
 fn short_buffers(rt: HostRuntime) {
     let part = (Decimal(-5i8), " °C");
-    let mut short = [7; 7];
+    let text = "-5 °C";
+    let mut short = [7; 5];
     check(&rt, part.try_write_to(&mut short), None);
     check(&rt, part.try_to_str(&mut short), None);
     check_buffer(&rt, &short, 0, b"");
+    let mut exact = [7; 7];
+    check(&rt, part.try_write_to(&mut exact[..6]), Some(6));
+    check_buffer(&rt, &exact, 6, text.as_bytes());
+    check(&rt, part.try_to_str(&mut exact[..6]), Some(text));
+    check(&rt, part.text_len(), Some(6));
 }
 
 #[test]
@@ -164,7 +169,8 @@ fn lists_of_numbers(rt: HostRuntime) {
     let count = try_write_list(&[-1, 20], &mut buffer[..44]);
     check(&rt, count, Some(8));
     check_buffer(&rt, &buffer, 8, b"[-1, 20]");
-    check(&rt, try_write_list(&[-1, 20], &mut [7; 43]), None);
+    check(&rt, try_write_list(&[-1, 20], &mut [7; 8]), Some(8));
+    check(&rt, try_write_list(&[-1, 20], &mut [7; 7]), None);
     check(&rt, try_write_list(&[], &mut [7; 2]), Some(2));
     let mut buffer = [7; 45];
     let count = write_entries(&[5, -6], &mut buffer);
@@ -185,7 +191,11 @@ fn settings(rt: HostRuntime) {
     let none = None::<Decimal<u8>>;
     check(&rt, try_write_setting(b"limit", none, &mut buffer), Some(7));
     check_buffer(&rt, &buffer, 7, b"limit=\n");
-    check(&rt, try_write_setting(b"limit", limit, &mut buffer), None);
+    check(
+        &rt,
+        try_write_setting(b"limit", limit, &mut buffer[..9]),
+        None,
+    );
     check_buffer(&rt, &buffer, 7, b"limit=\n");
 }
 

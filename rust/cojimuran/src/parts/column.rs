@@ -5,6 +5,20 @@
 use crate::parts::fill::{insert_fill, write_fill};
 use crate::parts::own::Own;
 use crate::parts::part::Part;
+use crate::parts::show::{Show, write_at_once};
+use crate::parts::text::Byte;
+use core::fmt;
+
+// Writes copies of a byte to a writer.
+#[inline]
+fn write_copies<O: fmt::Write>(byte: u8, count: usize, out: &mut O) -> fmt::Result {
+    let mut array = [0; 1];
+    let text = Byte(byte).to_str(&mut array);
+    for _ in 0..count {
+        out.write_str(text)?;
+    }
+    Ok(())
+}
 
 /// A part that is aligned to the left of a column: a byte, often a space, is added after its text, up to
 /// the width. `Left(Decimal(12), 4, b'.')` writes `12..`. Nothing is added to a text longer than the
@@ -30,9 +44,30 @@ impl<P: Part> Part for Left<P> {
         count + write_fill(self.2, self.1.saturating_sub(count), &mut buffer[count..])
     }
 
+    #[inline]
+    fn text_len(self) -> Option<usize> {
+        Some(self.0.text_len()?.max(self.1))
+    }
+
     #[inline(always)]
     fn is_known_utf8(self, own: Own) -> bool {
         self.2 < 128 && self.0.is_known_utf8(own)
+    }
+}
+
+impl<P: Show> Show for Left<P> {
+    #[inline]
+    fn is_showable(self) -> bool {
+        self.2 < 128 && self.0.is_showable()
+    }
+
+    #[inline]
+    fn write_pieces<O: fmt::Write>(self, out: &mut O) -> fmt::Result {
+        let Some(count) = self.0.text_len() else {
+            return write_at_once(self, out);
+        };
+        self.0.write_pieces(out)?;
+        write_copies(self.2, self.1.saturating_sub(count), out)
     }
 }
 
@@ -62,9 +97,30 @@ impl<P: Part> Part for Right<P> {
         added + count
     }
 
+    #[inline]
+    fn text_len(self) -> Option<usize> {
+        Some(self.0.text_len()?.max(self.1))
+    }
+
     #[inline(always)]
     fn is_known_utf8(self, own: Own) -> bool {
         self.2 < 128 && self.0.is_known_utf8(own)
+    }
+}
+
+impl<P: Show> Show for Right<P> {
+    #[inline]
+    fn is_showable(self) -> bool {
+        self.2 < 128 && self.0.is_showable()
+    }
+
+    #[inline]
+    fn write_pieces<O: fmt::Write>(self, out: &mut O) -> fmt::Result {
+        let Some(count) = self.0.text_len() else {
+            return write_at_once(self, out);
+        };
+        write_copies(self.2, self.1.saturating_sub(count), out)?;
+        self.0.write_pieces(out)
     }
 }
 
@@ -96,8 +152,32 @@ impl<P: Part> Part for Center<P> {
         end + write_fill(self.2, added - before, &mut buffer[end..])
     }
 
+    #[inline]
+    fn text_len(self) -> Option<usize> {
+        Some(self.0.text_len()?.max(self.1))
+    }
+
     #[inline(always)]
     fn is_known_utf8(self, own: Own) -> bool {
         self.2 < 128 && self.0.is_known_utf8(own)
+    }
+}
+
+impl<P: Show> Show for Center<P> {
+    #[inline]
+    fn is_showable(self) -> bool {
+        self.2 < 128 && self.0.is_showable()
+    }
+
+    #[inline]
+    fn write_pieces<O: fmt::Write>(self, out: &mut O) -> fmt::Result {
+        let Some(count) = self.0.text_len() else {
+            return write_at_once(self, out);
+        };
+        let added = self.1.saturating_sub(count);
+        let before = added / 2;
+        write_copies(self.2, before, out)?;
+        self.0.write_pieces(out)?;
+        write_copies(self.2, added - before, out)
     }
 }

@@ -5,7 +5,7 @@
 
 use crate::num::limits::is_radix;
 use crate::parts::cell::{is_short_cell, write_cell};
-use crate::parts::fixed::{Fixed, GroupedFixed};
+use crate::parts::fixed::{Fixed, GroupedFixed, LONGEST_FIXED};
 use crate::parts::number::{Decimal, Digits, Formatted};
 use crate::parts::padded::{Padded, PaddedDigits};
 use crate::parts::part::Part;
@@ -20,9 +20,6 @@ use core::fmt;
 
 // The digits of the longest number, and the most that a padded number can have to be shown.
 const MOST_DIGITS: usize = 64;
-
-// The length of the longest number with decimals, a `u64` in groups of one digit.
-const LONGEST_FIXED: usize = 39;
 
 // Writes a text that begins with `+` as the standard library writes an integer with the option `+`.
 #[inline]

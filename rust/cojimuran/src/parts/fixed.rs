@@ -5,9 +5,13 @@
 use crate::parts::fill::insert_fill;
 use crate::parts::own::Own;
 use crate::parts::part::Part;
+use crate::parts::show::Show;
 use crate::parts::sign::Sign;
 use crate::write_integer::format::STANDARD;
-use crate::write_integer::{NumberFormat, ToLexical, group_digits};
+use crate::write_integer::{NumberFormat, ToLexical, group_digits, sign_len};
+
+// The length of the longest number with decimals, a `u64` in groups of one digit.
+pub(crate) const LONGEST_FIXED: usize = 39;
 
 // In Rust nothing else refuses more decimals.
 #[inline(always)]
@@ -77,8 +81,20 @@ impl<T: ToLexical> Part for Fixed<T> {
     }
 
     #[inline(always)]
+    fn text_len(self) -> Option<usize> {
+        GroupedFixed(self.0, self.1, &STANDARD).text_len()
+    }
+
+    #[inline(always)]
     fn is_known_utf8(self, own: Own) -> bool {
         GroupedFixed(self.0, self.1, &STANDARD).is_known_utf8(own)
+    }
+}
+
+impl<T: ToLexical> Show for Fixed<T> {
+    #[inline(always)]
+    fn is_showable(self) -> bool {
+        self.is_known_utf8(Own)
     }
 }
 
@@ -109,7 +125,23 @@ impl<T: ToLexical> Part for GroupedFixed<'_, T> {
     }
 
     #[inline(always)]
+    fn text_len(self) -> Option<usize> {
+        check_decimals(self.1);
+        let digits = self.0.magnitude_digits(10);
+        let whole = digits.saturating_sub(self.1).max(1);
+        let sign = sign_len(self.0, &STANDARD);
+        Some(sign + self.2.grouped_len(whole) + self.1 + self.1.min(1))
+    }
+
+    #[inline(always)]
     fn is_known_utf8(self, _own: Own) -> bool {
         19 >= self.1
+    }
+}
+
+impl<T: ToLexical> Show for GroupedFixed<'_, T> {
+    #[inline(always)]
+    fn is_showable(self) -> bool {
+        self.is_known_utf8(Own)
     }
 }

@@ -5,6 +5,7 @@
 use crate::parts::number::Decimal;
 use crate::parts::own::Own;
 use crate::parts::part::Part;
+use crate::parts::show::Show;
 
 impl Part for u8 {
     #[inline(always)]
@@ -18,8 +19,20 @@ impl Part for u8 {
     }
 
     #[inline(always)]
+    fn text_len(self) -> Option<usize> {
+        Decimal(self).text_len()
+    }
+
+    #[inline(always)]
     fn is_known_utf8(self, _own: Own) -> bool {
         true
+    }
+}
+
+impl Show for u8 {
+    #[inline(always)]
+    fn is_showable(self) -> bool {
+        self.is_known_utf8(Own)
     }
 }
 
@@ -35,8 +48,20 @@ impl Part for u16 {
     }
 
     #[inline(always)]
+    fn text_len(self) -> Option<usize> {
+        Decimal(self).text_len()
+    }
+
+    #[inline(always)]
     fn is_known_utf8(self, _own: Own) -> bool {
         true
+    }
+}
+
+impl Show for u16 {
+    #[inline(always)]
+    fn is_showable(self) -> bool {
+        self.is_known_utf8(Own)
     }
 }
 
@@ -52,8 +77,20 @@ impl Part for u32 {
     }
 
     #[inline(always)]
+    fn text_len(self) -> Option<usize> {
+        Decimal(self).text_len()
+    }
+
+    #[inline(always)]
     fn is_known_utf8(self, _own: Own) -> bool {
         true
+    }
+}
+
+impl Show for u32 {
+    #[inline(always)]
+    fn is_showable(self) -> bool {
+        self.is_known_utf8(Own)
     }
 }
 
@@ -69,8 +106,20 @@ impl Part for u64 {
     }
 
     #[inline(always)]
+    fn text_len(self) -> Option<usize> {
+        Decimal(self).text_len()
+    }
+
+    #[inline(always)]
     fn is_known_utf8(self, _own: Own) -> bool {
         true
+    }
+}
+
+impl Show for u64 {
+    #[inline(always)]
+    fn is_showable(self) -> bool {
+        self.is_known_utf8(Own)
     }
 }
 
@@ -86,8 +135,20 @@ impl Part for usize {
     }
 
     #[inline(always)]
+    fn text_len(self) -> Option<usize> {
+        Decimal(self).text_len()
+    }
+
+    #[inline(always)]
     fn is_known_utf8(self, _own: Own) -> bool {
         true
+    }
+}
+
+impl Show for usize {
+    #[inline(always)]
+    fn is_showable(self) -> bool {
+        self.is_known_utf8(Own)
     }
 }
 
@@ -103,8 +164,20 @@ impl Part for i8 {
     }
 
     #[inline(always)]
+    fn text_len(self) -> Option<usize> {
+        Decimal(self).text_len()
+    }
+
+    #[inline(always)]
     fn is_known_utf8(self, _own: Own) -> bool {
         true
+    }
+}
+
+impl Show for i8 {
+    #[inline(always)]
+    fn is_showable(self) -> bool {
+        self.is_known_utf8(Own)
     }
 }
 
@@ -120,8 +193,20 @@ impl Part for i16 {
     }
 
     #[inline(always)]
+    fn text_len(self) -> Option<usize> {
+        Decimal(self).text_len()
+    }
+
+    #[inline(always)]
     fn is_known_utf8(self, _own: Own) -> bool {
         true
+    }
+}
+
+impl Show for i16 {
+    #[inline(always)]
+    fn is_showable(self) -> bool {
+        self.is_known_utf8(Own)
     }
 }
 
@@ -137,8 +222,20 @@ impl Part for i32 {
     }
 
     #[inline(always)]
+    fn text_len(self) -> Option<usize> {
+        Decimal(self).text_len()
+    }
+
+    #[inline(always)]
     fn is_known_utf8(self, _own: Own) -> bool {
         true
+    }
+}
+
+impl Show for i32 {
+    #[inline(always)]
+    fn is_showable(self) -> bool {
+        self.is_known_utf8(Own)
     }
 }
 
@@ -154,8 +251,20 @@ impl Part for i64 {
     }
 
     #[inline(always)]
+    fn text_len(self) -> Option<usize> {
+        Decimal(self).text_len()
+    }
+
+    #[inline(always)]
     fn is_known_utf8(self, _own: Own) -> bool {
         true
+    }
+}
+
+impl Show for i64 {
+    #[inline(always)]
+    fn is_showable(self) -> bool {
+        self.is_known_utf8(Own)
     }
 }
 
@@ -171,7 +280,19 @@ impl Part for isize {
     }
 
     #[inline(always)]
+    fn text_len(self) -> Option<usize> {
+        Decimal(self).text_len()
+    }
+
+    #[inline(always)]
     fn is_known_utf8(self, _own: Own) -> bool {
         true
+    }
+}
+
+impl Show for isize {
+    #[inline(always)]
+    fn is_showable(self) -> bool {
+        self.is_known_utf8(Own)
     }
 }

@@ -4,12 +4,12 @@
 
 use crate::parts::own::Own;
 use crate::parts::part::Part;
-use crate::parts::shown::Shown;
+use crate::parts::show::Show;
 use core::fmt;
 
 // Returns what precedes the part at the index.
 #[inline(always)]
-fn separator_before(index: usize, separator: &str) -> &str {
+pub(crate) fn separator_before(index: usize, separator: &str) -> &str {
     if index == 0 { "" } else { separator }
 }
 
@@ -65,9 +65,32 @@ impl<P: Part> Part for Joined<'_, P> {
     }
 
     #[inline(always)]
+    fn text_len(self) -> Option<usize> {
+        let separators = self.0.len().saturating_sub(1);
+        let mut count: usize = 0;
+        for part in self.0 {
+            count = count.checked_add(part.text_len()?)?;
+        }
+        count.checked_add(separators.checked_mul(self.1.len())?)
+    }
+
+    #[inline(always)]
     fn is_known_utf8(self, own: Own) -> bool {
         for part in self.0 {
             if !part.is_known_utf8(own) {
+                return false;
+            }
+        }
+        // Also without parts, since no bytes are UTF-8.
+        true
+    }
+}
+
+impl<P: Show> Show for Joined<'_, P> {
+    #[inline(always)]
+    fn is_showable(self) -> bool {
+        for part in self.0 {
+            if !part.is_showable() {
                 return false;
             }
         }
@@ -75,18 +98,10 @@ impl<P: Part> Part for Joined<'_, P> {
     }
 
     #[inline(always)]
-    fn write_each(self, f: &mut fmt::Formatter<'_>, _own: Own) -> Option<fmt::Result> {
-        Some(self.write_parts(f))
-    }
-}
-
-impl<P: Part> Joined<'_, P> {
-    // Writes each part to a formatter, with the separator between adjacent parts.
-    #[inline(always)]
-    fn write_parts(self, f: &mut fmt::Formatter<'_>) -> fmt::Result {
+    fn write_pieces<O: fmt::Write>(self, out: &mut O) -> fmt::Result {
         for (index, part) in self.0.iter().enumerate() {
-            f.write_str(separator_before(index, self.1))?;
-            Shown(*part).write(f)?;
+            out.write_str(separator_before(index, self.1))?;
+            part.write_pieces(out)?;
         }
         Ok(())
     }

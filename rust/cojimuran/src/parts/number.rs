@@ -5,9 +5,11 @@
 use crate::num::limits::is_radix;
 use crate::parts::own::Own;
 use crate::parts::part::Part;
+use crate::parts::show::Show;
 use crate::write_integer::digit_count::DigitCount;
+use crate::write_integer::format::STANDARD;
 use crate::write_integer::radix::Radix;
-use crate::write_integer::{NumberFormat, ToLexical};
+use crate::write_integer::{NumberFormat, ToLexical, sign_len};
 
 /// A number in decimal, with a `-` if it is negative: `Decimal(-5)` writes `-5`, as the part `-5` does. It
 /// is for generic code, in which the number has a type parameter.
@@ -32,8 +34,20 @@ impl<T: ToLexical> Part for Decimal<T> {
     }
 
     #[inline(always)]
+    fn text_len(self) -> Option<usize> {
+        Formatted(self.0, &STANDARD).text_len()
+    }
+
+    #[inline(always)]
     fn is_known_utf8(self, _own: Own) -> bool {
         true
+    }
+}
+
+impl<T: ToLexical> Show for Decimal<T> {
+    #[inline(always)]
+    fn is_showable(self) -> bool {
+        self.is_known_utf8(Own)
     }
 }
 
@@ -63,8 +77,20 @@ impl<T: Radix + DigitCount> Part for Digits<T> {
     }
 
     #[inline(always)]
+    fn text_len(self) -> Option<usize> {
+        Some(self.1.digit_count(self.0))
+    }
+
+    #[inline(always)]
     fn is_known_utf8(self, _own: Own) -> bool {
         is_radix(u64::from(self.0))
+    }
+}
+
+impl<T: Radix + DigitCount> Show for Digits<T> {
+    #[inline(always)]
+    fn is_showable(self) -> bool {
+        self.is_known_utf8(Own)
     }
 }
 
@@ -105,7 +131,20 @@ impl<T: ToLexical> Part for Formatted<'_, T> {
     }
 
     #[inline(always)]
+    fn text_len(self) -> Option<usize> {
+        let digits = self.0.magnitude_digits(self.1.mantissa_radix());
+        Some(sign_len(self.0, self.1) + self.1.grouped_len(digits))
+    }
+
+    #[inline(always)]
     fn is_known_utf8(self, _own: Own) -> bool {
         true
+    }
+}
+
+impl<T: ToLexical> Show for Formatted<'_, T> {
+    #[inline(always)]
+    fn is_showable(self) -> bool {
+        self.is_known_utf8(Own)
     }
 }

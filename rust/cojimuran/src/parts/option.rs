@@ -4,7 +4,7 @@
 
 use crate::parts::own::Own;
 use crate::parts::part::Part;
-use crate::parts::shown::Shown;
+use crate::parts::show::Show;
 use crate::write_integer::buffer::copy_to_front;
 use core::fmt;
 
@@ -25,19 +25,38 @@ impl<P: Part> Part for Option<P> {
         }
     }
 
+    #[inline]
+    fn text_len(self) -> Option<usize> {
+        match self {
+            Some(part) => part.text_len(),
+            None => Some(0),
+        }
+    }
+
     #[inline(always)]
     fn is_known_utf8(self, own: Own) -> bool {
         match self {
             Some(part) => part.is_known_utf8(own),
+            // No bytes are UTF-8.
+            None => true,
+        }
+    }
+}
+
+impl<P: Show> Show for Option<P> {
+    #[inline]
+    fn is_showable(self) -> bool {
+        match self {
+            Some(part) => part.is_showable(),
             None => true,
         }
     }
 
     #[inline]
-    fn write_each(self, f: &mut fmt::Formatter<'_>, _own: Own) -> Option<fmt::Result> {
+    fn write_pieces<O: fmt::Write>(self, out: &mut O) -> fmt::Result {
         match self {
-            Some(part) => Some(Shown(part).write(f)),
-            None => Some(f.write_str("")),
+            Some(part) => part.write_pieces(out),
+            None => Ok(()),
         }
     }
 }
@@ -68,16 +87,31 @@ impl<P: Part, Q: Part> Part for OrElse<P, Q> {
         }
     }
 
+    #[inline]
+    fn text_len(self) -> Option<usize> {
+        match self.0 {
+            Some(present) => present.text_len(),
+            None => self.1.text_len(),
+        }
+    }
+
     #[inline(always)]
     fn is_known_utf8(self, own: Own) -> bool {
         self.0.is_known_utf8(own) && self.1.is_known_utf8(own)
     }
+}
+
+impl<P: Show, Q: Show> Show for OrElse<P, Q> {
+    #[inline]
+    fn is_showable(self) -> bool {
+        self.0.is_showable() && self.1.is_showable()
+    }
 
     #[inline]
-    fn write_each(self, f: &mut fmt::Formatter<'_>, _own: Own) -> Option<fmt::Result> {
+    fn write_pieces<O: fmt::Write>(self, out: &mut O) -> fmt::Result {
         match self.0 {
-            Some(present) => Some(Shown(present).write(f)),
-            None => Some(Shown(self.1).write(f)),
+            Some(present) => present.write_pieces(out),
+            None => self.1.write_pieces(out),
         }
     }
 }

@@ -5,6 +5,7 @@
 use crate::num::limits::is_radix;
 use crate::parts::own::Own;
 use crate::parts::part::Part;
+use crate::parts::show::Show;
 use crate::write_integer::digit_count::DigitCount;
 use crate::write_integer::padded::{fits_decimal_width, write_padded};
 use crate::write_integer::radix::Radix;
@@ -46,6 +47,11 @@ impl<T: DigitCount + Radix> Part for PaddedDigits<T> {
     }
 
     #[inline(always)]
+    fn text_len(self) -> Option<usize> {
+        Some(self.2)
+    }
+
+    #[inline(always)]
     fn is_known_utf8(self, own: Own) -> bool {
         if self.0 == 10 {
             return Padded(self.1, self.2).is_known_utf8(own);
@@ -53,6 +59,13 @@ impl<T: DigitCount + Radix> Part for PaddedDigits<T> {
         is_radix(u64::from(self.0))
             && (has_few_bits(self.1.as_u64(), self.0, self.2)
                 || self.1.digit_count(self.0) <= self.2)
+    }
+}
+
+impl<T: DigitCount + Radix> Show for PaddedDigits<T> {
+    #[inline(always)]
+    fn is_showable(self) -> bool {
+        self.is_known_utf8(Own)
     }
 }
 
@@ -81,7 +94,19 @@ impl<T: DigitCount + Radix> Part for Padded<T> {
     }
 
     #[inline(always)]
+    fn text_len(self) -> Option<usize> {
+        Some(self.1)
+    }
+
+    #[inline(always)]
     fn is_known_utf8(self, _own: Own) -> bool {
         fits_decimal_width(self.0.as_u64(), self.1)
+    }
+}
+
+impl<T: DigitCount + Radix> Show for Padded<T> {
+    #[inline(always)]
+    fn is_showable(self) -> bool {
+        self.is_known_utf8(Own)
     }
 }

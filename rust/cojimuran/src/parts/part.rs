@@ -3,8 +3,7 @@
 //! The trait that each part of a text implements.
 
 use crate::parts::own::Own;
-use crate::write_integer::buffer::front_mut;
-use core::fmt;
+use crate::write_integer::buffer::{copy_to_front, front_mut};
 use core::str::{from_utf8, from_utf8_unchecked};
 
 /// A value that has a text, such as a number or a `&str`. A tuple of 2 to 12 parts is also a part, and its
@@ -37,6 +36,18 @@ pub trait Part: Copy {
     /// or if the buffer is [too short](crate#conditions).
     fn write_to(self, buffer: &mut [u8]) -> usize;
 
+    /// Returns the length of the text, if the part knows it without writing the text, and otherwise `None`, as it does
+    /// if you do not define this method. The part must be valid.
+    ///
+    /// # Panics
+    ///
+    /// If the part is not valid.
+    #[must_use]
+    #[inline]
+    fn text_len(self) -> Option<usize> {
+        None
+    }
+
     // Whether the values of the part show that it is valid and that its text is UTF-8. A part of another crate cannot
     // define this method, since it cannot name `Own`.
     #[doc(hidden)]
@@ -44,14 +55,6 @@ pub trait Part: Copy {
     #[inline(always)]
     fn is_known_utf8(self, _own: Own) -> bool {
         false
-    }
-
-    // Writes the text to a formatter, whatever its options are, if the part consists of parts, or has its text already.
-    // Otherwise returns `None`, and writes nothing.
-    #[doc(hidden)]
-    #[inline]
-    fn write_each(self, _f: &mut fmt::Formatter<'_>, _own: Own) -> Option<fmt::Result> {
-        None
     }
 
     /// Writes the text to the start of the buffer, and returns those bytes of the buffer, which the
@@ -80,19 +83,20 @@ pub trait Part: Copy {
         index + self.write_to(&mut buffer[index..])
     }
 
-    /// If the buffer has `room` bytes or more, writes the text to its start, and returns the length of
-    /// the text; every byte after the text is unchanged. Otherwise returns `None`, and the buffer is
-    /// unchanged. Only the room is tested: the part must be valid.
+    /// If the buffer has `room` bytes or more, or the room is at most 256 bytes and the buffer is as long as the text,
+    /// writes the text to its start, and returns the length of the text; every byte after the text is unchanged.
+    /// Otherwise returns `None`, and the buffer is unchanged. Only the room and the length are tested: the part must be
+    /// valid.
     ///
     /// # Panics
     ///
     /// If the part is not valid.
     #[inline]
     fn try_write_to(self, buffer: &mut [u8]) -> Option<usize> {
-        if buffer.len() < self.room() {
-            return None;
+        if self.room() <= buffer.len() {
+            return Some(self.write_to(buffer));
         }
-        Some(self.write_to(buffer))
+        write_if_it_fits(self, buffer)
     }
 
     /// Writes the text into the buffer, and returns it as a `&str`, which borrows the buffer. What the buffer holds
@@ -122,8 +126,8 @@ pub trait Part: Copy {
         }
     }
 
-    /// If the buffer has `room` bytes or more, returns the text as `to_str` does, at the same cost. Otherwise returns
-    /// `None`. Only the room is tested: the part must meet the other conditions of `to_str`.
+    /// Returns the text as `to_str` does, if `try_write_to` writes it. Otherwise returns `None`. The part must meet the
+    /// other conditions of `to_str`.
     ///
     /// # Panics
     ///
@@ -132,11 +136,34 @@ pub trait Part: Copy {
     #[inline]
     fn try_to_str(self, buffer: &mut [u8]) -> Option<&str> {
         if self.room() <= buffer.len() {
-            Some(self.to_str(buffer))
-        } else {
-            None
+            return Some(self.to_str(buffer));
         }
+        str_if_it_fits(self, buffer)
     }
+}
+
+// Writes the text to the start of a buffer that is shorter than the room, if the room is at most 256 bytes and the buffer
+// is as long as the text. It is cold, and so not inlined: the array costs time when a function is entered.
+#[cold]
+#[inline(never)]
+fn write_if_it_fits<P: Part>(part: P, buffer: &mut [u8]) -> Option<usize> {
+    let mut array = [0; 256];
+    if array.len() < part.room() {
+        return None;
+    }
+    let text = part.to_text(&mut array);
+    if buffer.len() < text.len() {
+        return None;
+    }
+    Some(copy_to_front(text, buffer))
+}
+
+// Returns what `write_if_it_fits` writes as a `&str`.
+#[cold]
+#[inline(never)]
+fn str_if_it_fits<P: Part>(part: P, buffer: &mut [u8]) -> Option<&str> {
+    let count = write_if_it_fits(part, buffer)?;
+    Some(from_utf8(&buffer[..count]).unwrap())
 }
 
 // Returns true only if the part is valid, its text is UTF-8, and the buffer has its room. For a part of another crate

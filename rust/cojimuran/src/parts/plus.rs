@@ -4,6 +4,7 @@
 
 use crate::parts::own::Own;
 use crate::parts::part::Part;
+use crate::parts::show::Show;
 use crate::parts::sign::Sign;
 use crate::write_integer::ToLexical;
 use crate::write_integer::format::STANDARD;
@@ -33,8 +34,20 @@ impl<T: ToLexical> Part for Plus<T> {
         start + self.0.write_magnitude(&STANDARD, &mut buffer[start..])
     }
 
+    #[inline]
+    fn text_len(self) -> Option<usize> {
+        Some(1 + self.0.magnitude_digits(10))
+    }
+
     #[inline(always)]
     fn is_known_utf8(self, _own: Own) -> bool {
         true
+    }
+}
+
+impl<T: ToLexical> Show for Plus<T> {
+    #[inline]
+    fn is_showable(self) -> bool {
+        self.is_known_utf8(Own)
     }
 }

@@ -2,11 +2,14 @@
 
 //! Unsigned numbers in radix 16 and in radix 2, in the room of their type, and bytes in radix 16.
 
-use crate::parts::joined::write_next;
+use crate::parts::joined::{separator_before, write_next};
 use crate::parts::own::Own;
 use crate::parts::part::Part;
+use crate::parts::show::{MOST_AT_ONCE, Show, write_at_once};
 use crate::tables::get_table;
+use crate::write_integer::digit_count::DigitCount;
 use crate::write_integer::radix::{Radix, constant_radix};
+use core::fmt;
 
 /// The digits of an unsigned number in radix 16, without a prefix: `Hex(255u32)` writes `FF`. Its room
 /// is that of its type: 2 bytes for a `u8`, and 16 for a `u64`.
@@ -31,8 +34,20 @@ impl<T: Radix> Part for Hex<T> {
     }
 
     #[inline(always)]
+    fn text_len(self) -> Option<usize> {
+        Some(self.0.as_u64().digit_count(16))
+    }
+
+    #[inline(always)]
     fn is_known_utf8(self, _own: Own) -> bool {
         true
+    }
+}
+
+impl<T: Radix> Show for Hex<T> {
+    #[inline(always)]
+    fn is_showable(self) -> bool {
+        self.is_known_utf8(Own)
     }
 }
 
@@ -59,8 +74,20 @@ impl<T: Radix> Part for Binary<T> {
     }
 
     #[inline(always)]
+    fn text_len(self) -> Option<usize> {
+        Some(self.0.as_u64().digit_count(2))
+    }
+
+    #[inline(always)]
     fn is_known_utf8(self, _own: Own) -> bool {
         true
+    }
+}
+
+impl<T: Radix> Show for Binary<T> {
+    #[inline(always)]
+    fn is_showable(self) -> bool {
+        self.is_known_utf8(Own)
     }
 }
 
@@ -119,7 +146,33 @@ impl Part for HexBytes<'_> {
     }
 
     #[inline(always)]
+    fn text_len(self) -> Option<usize> {
+        let digits = self.0.len().checked_mul(2)?;
+        let separators = self.0.len().saturating_sub(1);
+        digits.checked_add(separators.checked_mul(self.1.len())?)
+    }
+
+    #[inline(always)]
     fn is_known_utf8(self, _own: Own) -> bool {
         true
+    }
+}
+
+impl Show for HexBytes<'_> {
+    #[inline(always)]
+    fn is_showable(self) -> bool {
+        self.is_known_utf8(Own)
+    }
+
+    #[inline(always)]
+    fn write_pieces<O: fmt::Write>(self, out: &mut O) -> fmt::Result {
+        if self.room() <= MOST_AT_ONCE {
+            return write_at_once(self, out);
+        }
+        for (index, byte) in self.0.iter().enumerate() {
+            out.write_str(separator_before(index, self.1))?;
+            out.write_str(HexByte(*byte).to_str(&mut [0; 2]))?;
+        }
+        Ok(())
     }
 }

@@ -4,6 +4,7 @@
 
 use crate::parts::own::Own;
 use crate::parts::part::Part;
+use crate::parts::show::Show;
 use core::fmt;
 
 impl<P: Part> Part for &P {
@@ -17,13 +18,25 @@ impl<P: Part> Part for &P {
         (*self).write_to(buffer)
     }
 
+    #[inline]
+    fn text_len(self) -> Option<usize> {
+        (*self).text_len()
+    }
+
     #[inline(always)]
     fn is_known_utf8(self, own: Own) -> bool {
         (*self).is_known_utf8(own)
     }
+}
+
+impl<P: Show> Show for &P {
+    #[inline]
+    fn is_showable(self) -> bool {
+        (*self).is_showable()
+    }
 
     #[inline]
-    fn write_each(self, f: &mut fmt::Formatter<'_>, own: Own) -> Option<fmt::Result> {
-        (*self).write_each(f, own)
+    fn write_pieces<O: fmt::Write>(self, out: &mut O) -> fmt::Result {
+        (*self).write_pieces(out)
     }
 }

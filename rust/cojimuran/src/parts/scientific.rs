@@ -4,10 +4,14 @@
 
 use crate::parts::own::Own;
 use crate::parts::part::Part;
+use crate::parts::show::Show;
 use crate::parts::sign::Sign;
 use crate::parts::text::Bytes;
 use crate::write_integer::ToLexical;
 use crate::write_integer::format::STANDARD;
+
+// The room of a number in scientific notation of the longest type.
+const LONGEST: usize = 33;
 
 // Returns how many digits are left without the zeros at the end. At least the first `least` digits are left.
 #[inline]
@@ -81,8 +85,21 @@ impl<T: ToLexical> Part for Scientific<T> {
         start + write_magnitude(self.0, self.1, &mut buffer[start..])
     }
 
+    #[inline]
+    fn text_len(self) -> Option<usize> {
+        // How many zeros the number ends with, only its digits say.
+        Some(self.write_to(&mut [0; LONGEST]))
+    }
+
     #[inline(always)]
     fn is_known_utf8(self, _own: Own) -> bool {
         true
+    }
+}
+
+impl<T: ToLexical> Show for Scientific<T> {
+    #[inline]
+    fn is_showable(self) -> bool {
+        self.is_known_utf8(Own)
     }
 }

@@ -5,6 +5,7 @@
 use crate::num::num::LexicalInteger;
 use crate::parts::own::Own;
 use crate::parts::part::Part;
+use crate::parts::show::Show;
 use crate::write_integer::buffer::copy_to_front;
 
 /// The sign of a number: `-` if it is below 0, and otherwise nothing, or a `+` if one is required. Before
@@ -36,8 +37,20 @@ impl<T: LexicalInteger> Part for Sign<T> {
         }
     }
 
+    #[inline]
+    fn text_len(self) -> Option<usize> {
+        Some(usize::from(self.0.is_negative() || self.1))
+    }
+
     #[inline(always)]
     fn is_known_utf8(self, _own: Own) -> bool {
         true
+    }
+}
+
+impl<T: LexicalInteger> Show for Sign<T> {
+    #[inline]
+    fn is_showable(self) -> bool {
+        self.is_known_utf8(Own)
     }
 }

@@ -4,6 +4,7 @@
 
 use crate::parts::own::Own;
 use crate::parts::part::Part;
+use crate::parts::show::Show;
 use crate::write_integer::buffer::copy_to_front;
 use core::fmt;
 use core::str::from_utf8;
@@ -20,13 +21,25 @@ impl Part for &str {
     }
 
     #[inline(always)]
-    fn is_known_utf8(self, _own: Own) -> bool {
-        true
+    fn text_len(self) -> Option<usize> {
+        Some(self.len())
     }
 
     #[inline(always)]
-    fn write_each(self, f: &mut fmt::Formatter<'_>, _own: Own) -> Option<fmt::Result> {
-        Some(f.write_str(self))
+    fn is_known_utf8(self, _own: Own) -> bool {
+        true
+    }
+}
+
+impl Show for &str {
+    #[inline(always)]
+    fn is_showable(self) -> bool {
+        self.is_known_utf8(Own)
+    }
+
+    #[inline(always)]
+    fn write_pieces<O: fmt::Write>(self, out: &mut O) -> fmt::Result {
+        out.write_str(self)
     }
 }
 
@@ -49,8 +62,20 @@ impl Part for bool {
     }
 
     #[inline(always)]
+    fn text_len(self) -> Option<usize> {
+        Some(word(self).len())
+    }
+
+    #[inline(always)]
     fn is_known_utf8(self, _own: Own) -> bool {
         true
+    }
+}
+
+impl Show for bool {
+    #[inline(always)]
+    fn is_showable(self) -> bool {
+        self.is_known_utf8(Own)
     }
 }
 
@@ -68,8 +93,20 @@ impl Part for char {
     }
 
     #[inline(always)]
+    fn text_len(self) -> Option<usize> {
+        Some(self.len_utf8())
+    }
+
+    #[inline(always)]
     fn is_known_utf8(self, _own: Own) -> bool {
         true
+    }
+}
+
+impl Show for char {
+    #[inline(always)]
+    fn is_showable(self) -> bool {
+        self.is_known_utf8(Own)
     }
 }
 
@@ -95,15 +132,27 @@ impl Part for Bytes<'_> {
     }
 
     #[inline(always)]
-    fn is_known_utf8(self, _own: Own) -> bool {
-        from_utf8(self.0).is_ok()
+    fn text_len(self) -> Option<usize> {
+        Some(self.0.len())
     }
 
     #[inline(always)]
-    fn write_each(self, f: &mut fmt::Formatter<'_>, _own: Own) -> Option<fmt::Result> {
+    fn is_known_utf8(self, _own: Own) -> bool {
+        from_utf8(self.0).is_ok()
+    }
+}
+
+impl Show for Bytes<'_> {
+    #[inline(always)]
+    fn is_showable(self) -> bool {
+        self.is_known_utf8(Own)
+    }
+
+    #[inline(always)]
+    fn write_pieces<O: fmt::Write>(self, out: &mut O) -> fmt::Result {
         match from_utf8(self.0) {
-            Ok(text) => Some(f.write_str(text)),
-            Err(_) => None,
+            Ok(text) => out.write_str(text),
+            Err(_) => Err(fmt::Error),
         }
     }
 }
@@ -130,7 +179,19 @@ impl Part for Byte {
     }
 
     #[inline(always)]
+    fn text_len(self) -> Option<usize> {
+        Some(1)
+    }
+
+    #[inline(always)]
     fn is_known_utf8(self, _own: Own) -> bool {
         self.0 < 128
+    }
+}
+
+impl Show for Byte {
+    #[inline(always)]
+    fn is_showable(self) -> bool {
+        self.is_known_utf8(Own)
     }
 }

@@ -2,10 +2,11 @@
 
 //! Numbers of units without zeros at the end of their fraction.
 
-use crate::parts::fixed::{Fixed, write_units};
+use crate::parts::fixed::{Fixed, LONGEST_FIXED, write_units};
 use crate::parts::own::Own;
 use crate::parts::part::Part;
 use crate::parts::scientific::count_without_zeros;
+use crate::parts::show::Show;
 use crate::parts::sign::Sign;
 use crate::parts::text::Bytes;
 use crate::write_integer::ToLexical;
@@ -49,8 +50,21 @@ impl<T: ToLexical> Part for TrimmedFixed<T> {
         start + write_trimmed_units(self.0, self.1, &mut buffer[start..])
     }
 
+    #[inline]
+    fn text_len(self) -> Option<usize> {
+        // How many zeros the fraction ends with, only its digits say.
+        Some(self.write_to(&mut [0; LONGEST_FIXED]))
+    }
+
     #[inline(always)]
     fn is_known_utf8(self, own: Own) -> bool {
         Fixed(self.0, self.1).is_known_utf8(own)
+    }
+}
+
+impl<T: ToLexical> Show for TrimmedFixed<T> {
+    #[inline]
+    fn is_showable(self) -> bool {
+        self.is_known_utf8(Own)
     }
 }

@@ -4,13 +4,19 @@
 
 use crate::parts::own::Own;
 use crate::parts::part::Part;
-use crate::parts::shown::Shown;
+use crate::parts::show::Show;
 use core::fmt;
 
 impl<A: Part, B: Part> Part for (A, B) {
     #[inline(always)]
     fn room(self) -> usize {
         self.0.room().saturating_add(self.1.room())
+    }
+
+    #[inline(always)]
+    fn text_len(self) -> Option<usize> {
+        let first = self.0.text_len()?;
+        first.checked_add(self.1.text_len()?)
     }
 
     #[inline(always)]
@@ -23,13 +29,18 @@ impl<A: Part, B: Part> Part for (A, B) {
     fn is_known_utf8(self, own: Own) -> bool {
         self.0.is_known_utf8(own) && self.1.is_known_utf8(own)
     }
+}
+
+impl<A: Show, B: Show> Show for (A, B) {
+    #[inline(always)]
+    fn is_showable(self) -> bool {
+        self.0.is_showable() && self.1.is_showable()
+    }
 
     #[inline(always)]
-    fn write_each(self, f: &mut fmt::Formatter<'_>, _own: Own) -> Option<fmt::Result> {
-        match Shown(self.0).write(f) {
-            Ok(()) => Some(Shown(self.1).write(f)),
-            Err(error) => Some(Err(error)),
-        }
+    fn write_pieces<O: fmt::Write>(self, out: &mut O) -> fmt::Result {
+        self.0.write_pieces(out)?;
+        self.1.write_pieces(out)
     }
 }
 
@@ -37,6 +48,11 @@ impl<A: Part, B: Part, C: Part> Part for (A, B, C) {
     #[inline(always)]
     fn room(self) -> usize {
         (self.0, (self.1, self.2)).room()
+    }
+
+    #[inline(always)]
+    fn text_len(self) -> Option<usize> {
+        (self.0, (self.1, self.2)).text_len()
     }
 
     #[inline(always)]
@@ -48,10 +64,17 @@ impl<A: Part, B: Part, C: Part> Part for (A, B, C) {
     fn is_known_utf8(self, own: Own) -> bool {
         (self.0, (self.1, self.2)).is_known_utf8(own)
     }
+}
+
+impl<A: Show, B: Show, C: Show> Show for (A, B, C) {
+    #[inline(always)]
+    fn is_showable(self) -> bool {
+        (self.0, (self.1, self.2)).is_showable()
+    }
 
     #[inline(always)]
-    fn write_each(self, f: &mut fmt::Formatter<'_>, own: Own) -> Option<fmt::Result> {
-        (self.0, (self.1, self.2)).write_each(f, own)
+    fn write_pieces<O: fmt::Write>(self, out: &mut O) -> fmt::Result {
+        (self.0, (self.1, self.2)).write_pieces(out)
     }
 }
 
@@ -59,6 +82,11 @@ impl<A: Part, B: Part, C: Part, D: Part> Part for (A, B, C, D) {
     #[inline(always)]
     fn room(self) -> usize {
         (self.0, (self.1, self.2, self.3)).room()
+    }
+
+    #[inline(always)]
+    fn text_len(self) -> Option<usize> {
+        (self.0, (self.1, self.2, self.3)).text_len()
     }
 
     #[inline(always)]
@@ -70,10 +98,17 @@ impl<A: Part, B: Part, C: Part, D: Part> Part for (A, B, C, D) {
     fn is_known_utf8(self, own: Own) -> bool {
         (self.0, (self.1, self.2, self.3)).is_known_utf8(own)
     }
+}
+
+impl<A: Show, B: Show, C: Show, D: Show> Show for (A, B, C, D) {
+    #[inline(always)]
+    fn is_showable(self) -> bool {
+        (self.0, (self.1, self.2, self.3)).is_showable()
+    }
 
     #[inline(always)]
-    fn write_each(self, f: &mut fmt::Formatter<'_>, own: Own) -> Option<fmt::Result> {
-        (self.0, (self.1, self.2, self.3)).write_each(f, own)
+    fn write_pieces<O: fmt::Write>(self, out: &mut O) -> fmt::Result {
+        (self.0, (self.1, self.2, self.3)).write_pieces(out)
     }
 }
 
@@ -81,6 +116,11 @@ impl<A: Part, B: Part, C: Part, D: Part, E: Part> Part for (A, B, C, D, E) {
     #[inline(always)]
     fn room(self) -> usize {
         (self.0, (self.1, self.2, self.3, self.4)).room()
+    }
+
+    #[inline(always)]
+    fn text_len(self) -> Option<usize> {
+        (self.0, (self.1, self.2, self.3, self.4)).text_len()
     }
 
     #[inline(always)]
@@ -92,10 +132,17 @@ impl<A: Part, B: Part, C: Part, D: Part, E: Part> Part for (A, B, C, D, E) {
     fn is_known_utf8(self, own: Own) -> bool {
         (self.0, (self.1, self.2, self.3, self.4)).is_known_utf8(own)
     }
+}
+
+impl<A: Show, B: Show, C: Show, D: Show, E: Show> Show for (A, B, C, D, E) {
+    #[inline(always)]
+    fn is_showable(self) -> bool {
+        (self.0, (self.1, self.2, self.3, self.4)).is_showable()
+    }
 
     #[inline(always)]
-    fn write_each(self, f: &mut fmt::Formatter<'_>, own: Own) -> Option<fmt::Result> {
-        (self.0, (self.1, self.2, self.3, self.4)).write_each(f, own)
+    fn write_pieces<O: fmt::Write>(self, out: &mut O) -> fmt::Result {
+        (self.0, (self.1, self.2, self.3, self.4)).write_pieces(out)
     }
 }
 
@@ -103,6 +150,11 @@ impl<A: Part, B: Part, C: Part, D: Part, E: Part, F: Part> Part for (A, B, C, D,
     #[inline(always)]
     fn room(self) -> usize {
         (self.0, (self.1, self.2, self.3, self.4, self.5)).room()
+    }
+
+    #[inline(always)]
+    fn text_len(self) -> Option<usize> {
+        (self.0, (self.1, self.2, self.3, self.4, self.5)).text_len()
     }
 
     #[inline(always)]
@@ -114,10 +166,17 @@ impl<A: Part, B: Part, C: Part, D: Part, E: Part, F: Part> Part for (A, B, C, D,
     fn is_known_utf8(self, own: Own) -> bool {
         (self.0, (self.1, self.2, self.3, self.4, self.5)).is_known_utf8(own)
     }
+}
+
+impl<A: Show, B: Show, C: Show, D: Show, E: Show, F: Show> Show for (A, B, C, D, E, F) {
+    #[inline(always)]
+    fn is_showable(self) -> bool {
+        (self.0, (self.1, self.2, self.3, self.4, self.5)).is_showable()
+    }
 
     #[inline(always)]
-    fn write_each(self, f: &mut fmt::Formatter<'_>, own: Own) -> Option<fmt::Result> {
-        (self.0, (self.1, self.2, self.3, self.4, self.5)).write_each(f, own)
+    fn write_pieces<O: fmt::Write>(self, out: &mut O) -> fmt::Result {
+        (self.0, (self.1, self.2, self.3, self.4, self.5)).write_pieces(out)
     }
 }
 
@@ -125,6 +184,11 @@ impl<A: Part, B: Part, C: Part, D: Part, E: Part, F: Part, G: Part> Part for (A,
     #[inline(always)]
     fn room(self) -> usize {
         (self.0, (self.1, self.2, self.3, self.4, self.5, self.6)).room()
+    }
+
+    #[inline(always)]
+    fn text_len(self) -> Option<usize> {
+        (self.0, (self.1, self.2, self.3, self.4, self.5, self.6)).text_len()
     }
 
     #[inline(always)]
@@ -136,10 +200,17 @@ impl<A: Part, B: Part, C: Part, D: Part, E: Part, F: Part, G: Part> Part for (A,
     fn is_known_utf8(self, own: Own) -> bool {
         (self.0, (self.1, self.2, self.3, self.4, self.5, self.6)).is_known_utf8(own)
     }
+}
+
+impl<A: Show, B: Show, C: Show, D: Show, E: Show, F: Show, G: Show> Show for (A, B, C, D, E, F, G) {
+    #[inline(always)]
+    fn is_showable(self) -> bool {
+        (self.0, (self.1, self.2, self.3, self.4, self.5, self.6)).is_showable()
+    }
 
     #[inline(always)]
-    fn write_each(self, f: &mut fmt::Formatter<'_>, own: Own) -> Option<fmt::Result> {
-        (self.0, (self.1, self.2, self.3, self.4, self.5, self.6)).write_each(f, own)
+    fn write_pieces<O: fmt::Write>(self, out: &mut O) -> fmt::Result {
+        (self.0, (self.1, self.2, self.3, self.4, self.5, self.6)).write_pieces(out)
     }
 }
 
@@ -153,6 +224,12 @@ impl<A: Part, B: Part, C: Part, D: Part, E: Part, F: Part, G: Part, H: Part> Par
     }
 
     #[inline(always)]
+    fn text_len(self) -> Option<usize> {
+        let (a, b, c, d, e, f, g, h) = self;
+        (a, (b, c, d, e, f, g, h)).text_len()
+    }
+
+    #[inline(always)]
     fn write_to(self, buffer: &mut [u8]) -> usize {
         let (a, b, c, d, e, f, g, h) = self;
         (a, (b, c, d, e, f, g, h)).write_to(buffer)
@@ -163,11 +240,21 @@ impl<A: Part, B: Part, C: Part, D: Part, E: Part, F: Part, G: Part, H: Part> Par
         let (a, b, c, d, e, f, g, h) = self;
         (a, (b, c, d, e, f, g, h)).is_known_utf8(own)
     }
+}
+
+impl<A: Show, B: Show, C: Show, D: Show, E: Show, F: Show, G: Show, H: Show> Show
+    for (A, B, C, D, E, F, G, H)
+{
+    #[inline(always)]
+    fn is_showable(self) -> bool {
+        let (a, b, c, d, e, f, g, h) = self;
+        (a, (b, c, d, e, f, g, h)).is_showable()
+    }
 
     #[inline(always)]
-    fn write_each(self, f: &mut fmt::Formatter<'_>, own: Own) -> Option<fmt::Result> {
-        let (a, b, c, d, e, x, g, h) = self;
-        (a, (b, c, d, e, x, g, h)).write_each(f, own)
+    fn write_pieces<O: fmt::Write>(self, out: &mut O) -> fmt::Result {
+        let (a, b, c, d, e, f, g, h) = self;
+        (a, (b, c, d, e, f, g, h)).write_pieces(out)
     }
 }
 
@@ -181,6 +268,12 @@ impl<A: Part, B: Part, C: Part, D: Part, E: Part, F: Part, G: Part, H: Part, I: 
     }
 
     #[inline(always)]
+    fn text_len(self) -> Option<usize> {
+        let (a, b, c, d, e, f, g, h, i) = self;
+        (a, (b, c, d, e, f, g, h, i)).text_len()
+    }
+
+    #[inline(always)]
     fn write_to(self, buffer: &mut [u8]) -> usize {
         let (a, b, c, d, e, f, g, h, i) = self;
         (a, (b, c, d, e, f, g, h, i)).write_to(buffer)
@@ -191,11 +284,21 @@ impl<A: Part, B: Part, C: Part, D: Part, E: Part, F: Part, G: Part, H: Part, I: 
         let (a, b, c, d, e, f, g, h, i) = self;
         (a, (b, c, d, e, f, g, h, i)).is_known_utf8(own)
     }
+}
+
+impl<A: Show, B: Show, C: Show, D: Show, E: Show, F: Show, G: Show, H: Show, I: Show> Show
+    for (A, B, C, D, E, F, G, H, I)
+{
+    #[inline(always)]
+    fn is_showable(self) -> bool {
+        let (a, b, c, d, e, f, g, h, i) = self;
+        (a, (b, c, d, e, f, g, h, i)).is_showable()
+    }
 
     #[inline(always)]
-    fn write_each(self, f: &mut fmt::Formatter<'_>, own: Own) -> Option<fmt::Result> {
-        let (a, b, c, d, e, x, g, h, i) = self;
-        (a, (b, c, d, e, x, g, h, i)).write_each(f, own)
+    fn write_pieces<O: fmt::Write>(self, out: &mut O) -> fmt::Result {
+        let (a, b, c, d, e, f, g, h, i) = self;
+        (a, (b, c, d, e, f, g, h, i)).write_pieces(out)
     }
 }
 
@@ -209,6 +312,12 @@ impl<A: Part, B: Part, C: Part, D: Part, E: Part, F: Part, G: Part, H: Part, I: 
     }
 
     #[inline(always)]
+    fn text_len(self) -> Option<usize> {
+        let (a, b, c, d, e, f, g, h, i, j) = self;
+        (a, (b, c, d, e, f, g, h, i, j)).text_len()
+    }
+
+    #[inline(always)]
     fn write_to(self, buffer: &mut [u8]) -> usize {
         let (a, b, c, d, e, f, g, h, i, j) = self;
         (a, (b, c, d, e, f, g, h, i, j)).write_to(buffer)
@@ -219,11 +328,21 @@ impl<A: Part, B: Part, C: Part, D: Part, E: Part, F: Part, G: Part, H: Part, I: 
         let (a, b, c, d, e, f, g, h, i, j) = self;
         (a, (b, c, d, e, f, g, h, i, j)).is_known_utf8(own)
     }
+}
+
+impl<A: Show, B: Show, C: Show, D: Show, E: Show, F: Show, G: Show, H: Show, I: Show, J: Show> Show
+    for (A, B, C, D, E, F, G, H, I, J)
+{
+    #[inline(always)]
+    fn is_showable(self) -> bool {
+        let (a, b, c, d, e, f, g, h, i, j) = self;
+        (a, (b, c, d, e, f, g, h, i, j)).is_showable()
+    }
 
     #[inline(always)]
-    fn write_each(self, f: &mut fmt::Formatter<'_>, own: Own) -> Option<fmt::Result> {
-        let (a, b, c, d, e, x, g, h, i, j) = self;
-        (a, (b, c, d, e, x, g, h, i, j)).write_each(f, own)
+    fn write_pieces<O: fmt::Write>(self, out: &mut O) -> fmt::Result {
+        let (a, b, c, d, e, f, g, h, i, j) = self;
+        (a, (b, c, d, e, f, g, h, i, j)).write_pieces(out)
     }
 }
 
@@ -248,6 +367,12 @@ impl<
     }
 
     #[inline(always)]
+    fn text_len(self) -> Option<usize> {
+        let (a, b, c, d, e, f, g, h, i, j, k) = self;
+        (a, (b, c, d, e, f, g, h, i, j, k)).text_len()
+    }
+
+    #[inline(always)]
     fn write_to(self, buffer: &mut [u8]) -> usize {
         let (a, b, c, d, e, f, g, h, i, j, k) = self;
         (a, (b, c, d, e, f, g, h, i, j, k)).write_to(buffer)
@@ -258,11 +383,32 @@ impl<
         let (a, b, c, d, e, f, g, h, i, j, k) = self;
         (a, (b, c, d, e, f, g, h, i, j, k)).is_known_utf8(own)
     }
+}
+
+impl<
+    A: Show,
+    B: Show,
+    C: Show,
+    D: Show,
+    E: Show,
+    F: Show,
+    G: Show,
+    H: Show,
+    I: Show,
+    J: Show,
+    K: Show,
+> Show for (A, B, C, D, E, F, G, H, I, J, K)
+{
+    #[inline(always)]
+    fn is_showable(self) -> bool {
+        let (a, b, c, d, e, f, g, h, i, j, k) = self;
+        (a, (b, c, d, e, f, g, h, i, j, k)).is_showable()
+    }
 
     #[inline(always)]
-    fn write_each(self, f: &mut fmt::Formatter<'_>, own: Own) -> Option<fmt::Result> {
-        let (a, b, c, d, e, x, g, h, i, j, k) = self;
-        (a, (b, c, d, e, x, g, h, i, j, k)).write_each(f, own)
+    fn write_pieces<O: fmt::Write>(self, out: &mut O) -> fmt::Result {
+        let (a, b, c, d, e, f, g, h, i, j, k) = self;
+        (a, (b, c, d, e, f, g, h, i, j, k)).write_pieces(out)
     }
 }
 
@@ -288,6 +434,12 @@ impl<
     }
 
     #[inline(always)]
+    fn text_len(self) -> Option<usize> {
+        let (a, b, c, d, e, f, g, h, i, j, k, l) = self;
+        (a, (b, c, d, e, f, g, h, i, j, k, l)).text_len()
+    }
+
+    #[inline(always)]
     fn write_to(self, buffer: &mut [u8]) -> usize {
         let (a, b, c, d, e, f, g, h, i, j, k, l) = self;
         (a, (b, c, d, e, f, g, h, i, j, k, l)).write_to(buffer)
@@ -298,10 +450,32 @@ impl<
         let (a, b, c, d, e, f, g, h, i, j, k, l) = self;
         (a, (b, c, d, e, f, g, h, i, j, k, l)).is_known_utf8(own)
     }
+}
+
+impl<
+    A: Show,
+    B: Show,
+    C: Show,
+    D: Show,
+    E: Show,
+    F: Show,
+    G: Show,
+    H: Show,
+    I: Show,
+    J: Show,
+    K: Show,
+    L: Show,
+> Show for (A, B, C, D, E, F, G, H, I, J, K, L)
+{
+    #[inline(always)]
+    fn is_showable(self) -> bool {
+        let (a, b, c, d, e, f, g, h, i, j, k, l) = self;
+        (a, (b, c, d, e, f, g, h, i, j, k, l)).is_showable()
+    }
 
     #[inline(always)]
-    fn write_each(self, f: &mut fmt::Formatter<'_>, own: Own) -> Option<fmt::Result> {
-        let (a, b, c, d, e, x, g, h, i, j, k, l) = self;
-        (a, (b, c, d, e, x, g, h, i, j, k, l)).write_each(f, own)
+    fn write_pieces<O: fmt::Write>(self, out: &mut O) -> fmt::Result {
+        let (a, b, c, d, e, f, g, h, i, j, k, l) = self;
+        (a, (b, c, d, e, f, g, h, i, j, k, l)).write_pieces(out)
     }
 }

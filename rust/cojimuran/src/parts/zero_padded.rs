@@ -5,6 +5,7 @@
 use crate::parts::fill::insert_fill;
 use crate::parts::own::Own;
 use crate::parts::part::Part;
+use crate::parts::show::Show;
 
 // Returns the length of the sign with which the text begins: 1 for `-` or `+`, and otherwise 0.
 #[inline]
@@ -42,8 +43,20 @@ impl<P: Part> Part for ZeroPadded<P> {
         zeros + count
     }
 
+    #[inline]
+    fn text_len(self) -> Option<usize> {
+        Some(self.0.text_len()?.max(self.1))
+    }
+
     #[inline(always)]
     fn is_known_utf8(self, own: Own) -> bool {
         self.0.is_known_utf8(own)
+    }
+}
+
+impl<P: Show> Show for ZeroPadded<P> {
+    #[inline]
+    fn is_showable(self) -> bool {
+        self.0.is_showable()
     }
 }

@@ -1,0 +1,56 @@
+//! Parts that `{}` can write.
+#![tactic(auto, using(crate::proofs::ShownParts::written_at_once))]
+
+ghost use Rattle.std.specs.Prelude.{IfSome, IsOk, IsTrue, List, None, Option, ℕ};
+ghost use Rattle.lexical_parts.specs.Length.{IsOnly};
+ghost use Rattle.lexical_parts.specs.ShownParts.{WritesSome};
+
+use crate::part::Part;
+use std::fmt;
+
+// The largest room of a part that is written at once.
+pub(crate) const MOST_AT_ONCE: usize = 256;
+
+/// A part that can be in a format string, by itself or in a `Shown`: `("id=", 7u8)` writes `id=7`, and so does `{}` of
+/// `Shown(("id=", 7u8))`. The parts of this crate are such parts, and so is a tuple, a `Joined` or a column of such parts.
+///
+/// A part of your own becomes one if you define `is_showable`. Then a tuple with it can be in a format string.
+pub trait Show: Part {
+    // The text, if the prover computes it.
+    ghost text: { Self → Option (List ℕ) } = { λ _. None };
+
+    /// Returns whether the values of the part show that it is valid, and that its text is UTF-8. If they do not, `{}` of
+    /// it is an error. For a part that is always valid define it as `true`.
+    fn is_showable(self) -> bool
+        ensures valid { IsTrue result → Self.is_valid self }
+        ensures utf8 { IsTrue result → Self.is_utf8 self }
+        ensures only { IsTrue result → IfSome (text self) (λ bytes. IsOnly (Self.is_text self) bytes) };
+
+    /// Writes the text to a writer, in one piece or in several. The part must be valid.
+    ///
+    /// The method that you get, if you do not define this one, needs a room of at most 256 bytes. A longer part calls
+    /// this method of the parts that it consists of, one after another.
+    ///
+    /// # Errors
+    ///
+    /// Returns the error of the writer, or an error if the room is above 256 bytes and you do not define this method.
+    fn write_pieces<O: fmt::Write>(self, out: &mut O) -> fmt::Result
+        requires valid { Self.is_valid self }
+        requires utf8 { Self.is_utf8 self }
+        ensures { IsOk result → WritesSome O.write_str_gives (Self.is_text self) out.old out.new }
+    {
+        write_at_once(self, out)
+    }
+}
+
+// Writes the text to a writer with one call, or returns an error if the room is above 256 bytes.
+pub(crate) fn write_at_once<P: Part, O: fmt::Write>(part: P, out: &mut O) -> fmt::Result
+    requires valid { P.is_valid part }
+    requires utf8 { P.is_utf8 part }
+    ensures { IsOk result → WritesSome O.write_str_gives (P.is_text part) out.old out.new }
+{
+    match part.try_to_str(&mut [0; MOST_AT_ONCE]) {
+        Some(text) => out.write_str(text),
+        None => Err(fmt::Error),
+    }
+}
