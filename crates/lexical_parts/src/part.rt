@@ -164,8 +164,7 @@ pub trait Part: Copy {
 }
 
 // Writes the text to the start of a buffer that is shorter than the room, if the room is at most 256 bytes and the buffer
-// is as long as the text. It is cold, and so not inlined: the array costs time when a function is entered.
-#[cold]
+// is as long as the text. If rustc did not inline it, each caller would write its part to the stack for this call.
 fn write_if_it_fits<P: Part>(part: P, buffer: &mut [u8]) -> Option<usize>
     requires { P.is_valid part }
     ensures longer { IfNone result (P.room part ≤ 256 → HasLonger (P.is_text part) (length buffer.old)) }
@@ -186,7 +185,6 @@ fn write_if_it_fits<P: Part>(part: P, buffer: &mut [u8]) -> Option<usize>
 }
 
 // Returns what `write_if_it_fits` writes as a `&str`.
-#[cold]
 fn str_if_it_fits<P: Part>(part: P, buffer: &mut [u8]) -> Option<&str>
     requires valid { P.is_valid part }
     requires utf8 { P.is_utf8 part }

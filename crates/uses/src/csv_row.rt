@@ -10,8 +10,9 @@ ghost use Rattle.lexical_parts.specs.Sequence.{◌then◌, IsDecimal, IsStr};
 ghost use Rattle.uses.specs.CsvRow.{IsEntry, IsRow, row_room};
 
 use lexical_num::FormattedSize;
-use lexical_parts::{Joined, Part, rooms_at_most};
+use lexical_parts::{Joined, Part, Show, rooms_at_most};
 use std::alloc::AllocError;
+use std::fmt;
 
 /// A number of bytes that is enough for a row: eight numbers, and a comma or a newline after each.
 pub const ROW_SIZE: usize = 8 * (i64::FORMATTED_SIZE_DECIMAL + 1);
@@ -94,6 +95,16 @@ impl Part for Row<'_> {
 
     fn write_to(self, buffer: &mut [u8]) -> usize {
         Joined(self.0, ",").write_to(buffer)
+    }
+}
+
+impl Show for Row<'_> {
+    fn is_showable(self) -> bool {
+        true
+    }
+
+    fn write_pieces<O: fmt::Write>(self, out: &mut O) -> fmt::Result {
+        Joined(self.0, ",").write_pieces(out)
     }
 }
 

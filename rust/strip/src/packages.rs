@@ -202,8 +202,6 @@ pub(crate) const SOURCES: &[Source] = &[
         // A tuple of parts and what it often contains. So the texts and the widths that are constant in a caller are
         // known.
         attributes: &[
-            // Each has an array, which costs time when a function is entered.
-            ("#[inline(never)]", "write_if_it_fits str_if_it_fits"),
             // The only function of the package that is not safe code.
             ("#[inline(always)]\n#[allow(unsafe_code)]", "to_str"),
             (

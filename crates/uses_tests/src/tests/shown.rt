@@ -2,7 +2,7 @@
 
 use super::check;
 use lexical_parts::{
-    Binary, Decimal, Fixed, Formatted, GroupedFixed, Hex, Padded, Plus, TrimmedFixed,
+    Binary, Decimal, Fixed, Formatted, GroupedFixed, Hex, Padded, Plus, Shown, TrimmedFixed,
 };
 use lexical_write_integer::NumberFormatBuilder;
 use std::alloc::{Alloc, Global};
@@ -10,7 +10,7 @@ use std::fmt::Display;
 use std::io::{self, Write};
 use std::process::Abort;
 use std::test::Fail;
-use uses::csv_row::push_entries;
+use uses::csv_row::{Row, push_entries};
 use uses::log_lines::{push_line, push_str_line, write_line};
 use uses::printed::{amount_string, flags_in_column};
 
@@ -24,6 +24,22 @@ fn check_shown<D: Display + Drop>(rt: &impl Abort, alloc: Global, shown: D, text
 #[should_panic(expected = "left: \"FF\"")]
 fn a_wrong_text_in_a_format_string_fails(rt: HostRuntime) {
     check_shown(&rt, rt.alloc(), Hex(255u8), "FE");
+}
+
+// Parts of a caller, with the options of a `&str`.
+#[test]
+fn own_parts_in_format_strings(rt: HostRuntime) {
+    check_shown(
+        &rt,
+        rt.alloc(),
+        format_args!(
+            "{}|{:>8}|{:.3}",
+            Shown((Row(&[1, -2]), ";")),
+            Shown(Row(&[30, 4])),
+            Shown(Row(&[30, 4]))
+        ),
+        "1,-2;|    30,4|30,",
+    );
 }
 
 // What Rust writes of the same texts: `format!("{:>8}", "FF")`, and so on.

@@ -143,9 +143,8 @@ pub trait Part: Copy {
 }
 
 // Writes the text to the start of a buffer that is shorter than the room, if the room is at most 256 bytes and the buffer
-// is as long as the text. It is cold, and so not inlined: the array costs time when a function is entered.
-#[cold]
-#[inline(never)]
+// is as long as the text. If rustc did not inline it, each caller would write its part to the stack for this call.
+#[inline]
 fn write_if_it_fits<P: Part>(part: P, buffer: &mut [u8]) -> Option<usize> {
     let mut array = [0; 256];
     if array.len() < part.room() {
@@ -159,8 +158,7 @@ fn write_if_it_fits<P: Part>(part: P, buffer: &mut [u8]) -> Option<usize> {
 }
 
 // Returns what `write_if_it_fits` writes as a `&str`.
-#[cold]
-#[inline(never)]
+#[inline]
 fn str_if_it_fits<P: Part>(part: P, buffer: &mut [u8]) -> Option<&str> {
     let count = write_if_it_fits(part, buffer)?;
     Some(from_utf8(&buffer[..count]).unwrap())
