@@ -40,6 +40,10 @@ impl<P: Part> Part for Lower<P> {
         self.0.text_len()
     }
 
+    fn most_room(self, own: Own) -> usize {
+        self.0.most_room(own)
+    }
+
     fn is_known_utf8(self, own: Own) -> bool {
         self.0.is_known_utf8(own)
     }

@@ -13,7 +13,7 @@ use crate::own::Own;
 use crate::part::Part;
 use crate::show::Show;
 use lexical_num::limits::is_radix;
-use lexical_write_integer::digit_count::DigitCount;
+use lexical_write_integer::digit_count::{DigitCount, most_digits};
 use lexical_write_integer::format::STANDARD;
 use lexical_write_integer::laws::size_suffices;
 use lexical_write_integer::radix::Radix;
@@ -80,6 +80,11 @@ impl<T: Radix + DigitCount> Part for Digits<T> {
 
     fn text_len(self) -> Option<usize> {
         Some(self.1.digit_count(self.0))
+    }
+
+    fn most_room(self, _own: Own) -> usize {
+        self.1.fits_bits();
+        most_digits::<T>(self.0)
     }
 
     fn is_known_utf8(self, _own: Own) -> bool {

@@ -70,6 +70,16 @@ pub trait Part: Copy {
         false
     }
 
+    // Returns a number of bytes that is enough for the text, as `room` does. It may be larger, and then takes fewer
+    // instructions.
+    #[doc(hidden)]
+    fn most_room(self, _own: Own) -> usize
+        requires { is_valid self }
+        ensures { min (room self) usize.MAX ≤ result }
+    {
+        self.room()
+    }
+
     /// Writes the text to the start of the buffer, and returns those bytes of the buffer, which the
     /// caller may read and change. Every byte after the text is unchanged. The part must be valid,
     /// and the buffer must have `room` bytes or more.
@@ -203,5 +213,13 @@ fn is_sure<P: Part>(part: P, buffer: &[u8]) -> bool
     ensures utf8 { IsTrue result → P.is_utf8 part }
     ensures room { IsTrue result → P.room part ≤ length buffer.now }
 {
-    part.is_known_utf8(Own) && part.room() <= buffer.len()
+    part.is_known_utf8(Own) && has_room(part, buffer)
+}
+
+// Returns whether the buffer has the room of a part.
+fn has_room<P: Part>(part: P, buffer: &[u8]) -> bool
+    requires { P.is_valid part }
+    ensures { IsTrue result → P.room part ≤ length buffer.now }
+{
+    part.most_room(Own) <= buffer.len() || part.room() <= buffer.len()
 }

@@ -46,7 +46,7 @@ pub(crate) const WRITE_INTEGER: Conditions = &[
     ),
     (
         RADIX,
-        "digit_count slow_digit_count magnitude_digits radix.radix constant_radix.radix algorithm.radix compact.radix
+        "digit_count slow_digit_count magnitude_digits most_digits radix.radix constant_radix.radix algorithm.radix compact.radix
         write_integer.radix write_integer_signed.radix write_padded.radix",
     ),
     (
@@ -77,6 +77,7 @@ pub(crate) const PARTS: Conditions = &[
     (Panics("the length has more digits than `width`"), "write_with_length.fits"),
     (Panics("the length and `extra` together are above `usize::MAX`"), "write_with_length.sum"),
     (OnAPage, "room"),
+    (Internal, "most_room"),
 ];
 
 pub(crate) const LINES: Conditions = &[

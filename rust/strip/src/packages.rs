@@ -183,7 +183,7 @@ pub(crate) const SOURCES: &[Source] = &[
             (
                 "#[inline(always)]",
                 "digits/pairs.rt digits/decimal/kernels.rt digits/decimal/decimal_pairs.rt write_digits write_at_once
-                write_by_table radix_counted constant_radix digit_count fast_log2 write_after_count last_four write_four
+                write_by_table radix_counted constant_radix digit_count most_digits fast_log2 write_after_count last_four write_four
                 write_counted write_one_or_two write_one_pair write_short remove_two remove_four fourth_power
                 count_short count_one_or_two count_three_or_four write_three_or_four count_some
                 count_and_write_one_or_two count_and_write_up_to_four count_and_write_five_to_eight
@@ -206,7 +206,7 @@ pub(crate) const SOURCES: &[Source] = &[
             ("#[inline(always)]\n#[allow(unsafe_code)]", "to_str"),
             (
                 "#[inline(always)]",
-                "tuples.rt joined.rt integers.rt number.rt text.rt powers_of_two.rt padded.rt fixed.rt is_known_utf8
+                "tuples.rt joined.rt integers.rt number.rt text.rt powers_of_two.rt padded.rt fixed.rt is_known_utf8 most_room has_room
                 is_sure format to_text",
             ),
         ],

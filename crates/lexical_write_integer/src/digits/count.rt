@@ -1,6 +1,6 @@
 //! Counting the digits of a number in any radix.
 
-ghost use Rattle.std.specs.Prelude.{◌≡◌, ◌+◌, ◌/◌, ◌^◌, ◌<◌, ◌≤◌, ◌↔◌, ◌++◌, [], ◌∷◌, IsTrue, IfNone, IfSome, length};
+ghost use Rattle.std.specs.Prelude.{◌≡◌, ◌+◌, ◌/◌, ◌^◌, ◌<◌, ◌≤◌, ◌↔◌, ◌++◌, [], ◌∷◌, IsTrue, IfNone, IfSome, length, ℕ};
 ghost use Rattle.lexical_num.specs.Format.{IsRadix};
 ghost use Rattle.lexical_num.specs.BitWidth.{IsBitWidth};
 ghost use Rattle.lexical_write_integer.specs.Digits.DigitCount.{digit_count};
@@ -117,6 +117,23 @@ pub fn digit_count_counted<T: DecimalCount>(x: T, radix: u32, turns: &mut Turns)
         10 => x.decimal_count(),
         _ => slow_digit_count_counted(x, radix, turns),
     }
+}
+
+/// Returns a number of digits that is enough for each number of the type in the radix, which is from 2 to 36. It takes
+/// fewer instructions than to count the digits of one number, and may be more than the longest number has.
+///
+/// ```
+/// use lexical_write_integer::digit_count::most_digits;
+///
+/// assert_eq!(rt; (most_digits::<u64>(36), most_digits::<u8>(10)), (13, 3));
+/// ```
+pub fn most_digits<T: UnsignedInteger>(radix: u32) -> usize
+    requires { IsRadix radix }
+    ensures enough { (number : ℕ) → number < 2 ^ T.BITS → digit_count radix number ≤ result }
+    ensures at_most_64 { result ≤ 64 }
+{
+    // A digit has at least as many bits as the logarithm of the radix.
+    (T::BITS - 1) / fast_log2(radix) + 1
 }
 
 /// An unsigned integer type whose digits are counted in every radix.

@@ -37,6 +37,11 @@ impl<P: Part> Part for Lower<P> {
     }
 
     #[inline(always)]
+    fn most_room(self, own: Own) -> usize {
+        self.0.most_room(own)
+    }
+
+    #[inline(always)]
     fn is_known_utf8(self, own: Own) -> bool {
         self.0.is_known_utf8(own)
     }

@@ -6,7 +6,7 @@ use crate::num::limits::is_radix;
 use crate::parts::own::Own;
 use crate::parts::part::Part;
 use crate::parts::show::Show;
-use crate::write_integer::digit_count::DigitCount;
+use crate::write_integer::digit_count::{DigitCount, most_digits};
 use crate::write_integer::format::STANDARD;
 use crate::write_integer::radix::Radix;
 use crate::write_integer::{NumberFormat, ToLexical, sign_len};
@@ -79,6 +79,11 @@ impl<T: Radix + DigitCount> Part for Digits<T> {
     #[inline(always)]
     fn text_len(self) -> Option<usize> {
         Some(self.1.digit_count(self.0))
+    }
+
+    #[inline(always)]
+    fn most_room(self, _own: Own) -> usize {
+        most_digits::<T>(self.0)
     }
 
     #[inline(always)]

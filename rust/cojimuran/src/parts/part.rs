@@ -57,6 +57,15 @@ pub trait Part: Copy {
         false
     }
 
+    // Returns a number of bytes that is enough for the text, as `room` does. It may be larger, and then takes fewer
+    // instructions.
+    #[doc(hidden)]
+    #[must_use]
+    #[inline(always)]
+    fn most_room(self, _own: Own) -> usize {
+        self.room()
+    }
+
     /// Writes the text to the start of the buffer, and returns those bytes of the buffer, which the
     /// caller may read and change. Every byte after the text is unchanged. The part must be valid,
     /// and the buffer must have `room` bytes or more.
@@ -168,5 +177,11 @@ fn str_if_it_fits<P: Part>(part: P, buffer: &mut [u8]) -> Option<&str> {
 // it returns false, because nothing is known of the text of such a part.
 #[inline(always)]
 fn is_sure<P: Part>(part: P, buffer: &[u8]) -> bool {
-    part.is_known_utf8(Own) && part.room() <= buffer.len()
+    part.is_known_utf8(Own) && has_room(part, buffer)
+}
+
+// Returns whether the buffer has the room of a part.
+#[inline(always)]
+fn has_room<P: Part>(part: P, buffer: &[u8]) -> bool {
+    part.most_room(Own) <= buffer.len() || part.room() <= buffer.len()
 }

@@ -1,10 +1,10 @@
 -- Logarithms, rounded down, and what follows from them for the number of digits.
 use Rattle.std.proofs.lemmas.Grind.{common_steps}
 use Rattle.std.proofs.Common.{◌≡◌, ℕ, zero, suc, ◌+◌, ◌-◌, ◌*◌, ◌/◌, ◌^◌, ◌<◌, ◌≤◌, Bool, true, ◌&&◌, ltb, leb, refl, inl, inr, arith}
-use Rattle.std.proofs.Math.Nat.{pow-suc, pow-le-pow_right, one-le-pow}
+use Rattle.std.proofs.Math.Nat.{pow-suc, pow-le-pow_left, pow-le-pow_right, one-le-pow}
 use Rattle.std.proofs.lemmas.Bool.{and_parts, cases_lt, cases_eq, ltb-true, leb-true}
 use Rattle.lexical_write_integer.specs.Digits.Logarithm.{IsGreatestPower, IsLog2, IsLog10Estimate}
-use Rattle.lexical_write_integer.specs.Digits.DigitCount.{digit_count}
+use Rattle.lexical_write_integer.specs.Digits.DigitCount.{digit_count, digit_count-le}
 use Rattle.lexical_write_integer.proofs.OfDigits.Count.DigitCounts.{digit_count-is}
 use Rattle.lexical_write_integer.proofs.OfDigits.Powers.{pow-pow}
 
@@ -81,3 +81,19 @@ digit_count-log2 number k step some log =
       | inr none ↦ absurd (omega (arith, log.of_zero (omega arith)))
     ] in
     digit_count-is (2 ^ step) number (q + 1) two (omega arith) (rw pow-pow high) (λ more. rw (last, pow-pow) (low (omega arith)))
+
+-- in any radix
+pub IsLog2-some : (r k : ℕ) → 2 ≤ r → IsLog2 r k → 0 < k
+IsLog2-some r k two log = (log.of_positive (omega (arith, two))).greatest 1 (omega (arith, two))
+
+-- a digit has at least as many bits as the logarithm of the radix
+pub digit_count-le_log2 : (r n bits k : ℕ) → 2 ≤ r → IsLog2 r k → 1 ≤ bits → n < 2 ^ bits → digit_count r n ≤ (bits - 1) / k + 1
+digit_count-le_log2 r n bits k two log some fits =
+    let power = log.of_positive (omega (arith, two)) in
+    let one = IsLog2-some r k two log in
+    let most = (bits - 1) / k + 1 in
+    let enough : bits ≤ k * most = omega (arith, one, some) in
+    let of_bits = pow-le-pow_right {n = 2} (omega arith) {i = bits} {j = k * most} enough in
+    let of_radix : (2 ^ k) ^ most ≤ r ^ most = pow-le-pow_left {n = 2 ^ k} {m = r} power.within most in
+    let below : 2 ^ (k * most) ≤ r ^ most = rw pow-pow at of_radix in
+    digit_count-le r n most (omega arith) (omega (arith, fits, of_bits, below))

@@ -79,6 +79,25 @@ pub(crate) fn digit_count<T: DecimalCount>(x: T, radix: u32) -> usize {
     }
 }
 
+/// Returns a number of digits that is enough for each number of the type in the radix, which is from 2 to 36. It takes
+/// fewer instructions than to count the digits of one number, and may be more than the longest number has.
+///
+/// ```
+/// use cojimuran::digit_count::most_digits;
+///
+/// assert_eq!((most_digits::<u64>(36), most_digits::<u8>(10)), (13, 3));
+/// ```
+///
+/// # Panics
+///
+/// If the radix is not from 2 to 36.
+#[must_use]
+#[inline(always)]
+pub fn most_digits<T: UnsignedInteger>(radix: u32) -> usize {
+    // A digit has at least as many bits as the logarithm of the radix.
+    (T::BITS - 1) / fast_log2(radix) + 1
+}
+
 /// An unsigned integer type whose digits are counted in every radix.
 pub trait DigitCount: DecimalCount {
     /// Returns how many digits the number has. The radix is from 2 to 36.
