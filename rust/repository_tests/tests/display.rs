@@ -205,8 +205,14 @@ fn columns_and_others() {
 fn check_long_text<P: Show>(part: P, text: &str, n: usize) {
     let part = Shown(part);
     assert_eq!(part.to_string(), text);
-    assert_eq!(format!("{part:n$}|{part:é^n$}|{part:𝄞>n$}|{part:<0n$}"), format!("{text:n$}|{text:é^n$}|{text:𝄞>n$}|{text:<0n$}"));
-    assert_eq!(format!("{part:.n$}|{part:+>300.n$}|{part:^#n$.40}"), format!("{text:.n$}|{text:+>300.n$}|{text:^#n$.40}"));
+    assert_eq!(
+        format!("{part:n$}|{part:é^n$}|{part:𝄞>n$}|{part:<0n$}"),
+        format!("{text:n$}|{text:é^n$}|{text:𝄞>n$}|{text:<0n$}")
+    );
+    assert_eq!(
+        format!("{part:.n$}|{part:+>300.n$}|{part:^#n$.40}"),
+        format!("{text:.n$}|{text:+>300.n$}|{text:^#n$.40}")
+    );
 }
 
 #[test]
@@ -224,7 +230,10 @@ fn long_texts() {
             }
             let characters: Vec<char> = text.chars().collect();
             check_long_text(Joined(&characters, ""), &text, count / 2);
-            assert_eq!(Left(&*text, length + 9, b'.').to_string(), format!("{text:.<w$}", w = count + length + 9 - text.len()));
+            assert_eq!(
+                Left(&*text, length + 9, b'.').to_string(),
+                format!("{text:.<w$}", w = count + length + 9 - text.len())
+            );
             assert_eq!(Right(Lower(&*text), 9, b'.').to_string().len(), text.len().max(9));
         }
         let hex = vec![0xAB; length];

@@ -149,7 +149,8 @@ fn each_part_has_a_row() {
     let exports: Vec<(&str, &str)> = exports.filter_map(|path| path.split_once("::")).collect();
     let names = exports.iter().flat_map(|(_, names)| names.split(|c: char| !c.is_alphanumeric()));
     let parts: Vec<&str> = names.filter(|name| name.starts_with(char::is_uppercase)).collect();
-    let has_row = |name: &str| ["Part", "Buffer", "Show", "Shown"].contains(&name) || table.contains(&format!("{name}("));
+    let has_row =
+        |name: &str| ["Part", "Buffer", "Show", "Shown"].contains(&name) || table.contains(&format!("{name}("));
     let missing = parts.iter().copied().filter(|name| !has_row(name));
     let files = exports.iter().map(|(module, _)| *module);
     let missing = missing.chain(files.filter(|module| !mistakes.contains(&format!("file: src/{module}.rt"))));
