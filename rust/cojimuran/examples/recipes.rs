@@ -1,7 +1,7 @@
 //! The recipes of the README, each beside the text that it writes.
 
 use cojimuran::parts::{
-    Digits, Fixed, Formatted, Hex, HexBytes, Joined, Left, Lower, Padded, Part, Right, Shown,
+    Digits, Fixed, Formatted, Hex, HexBytes, Joined, Left, Lower, Padded, Part, Right, Show, Shown,
     ZeroPadded,
 };
 use cojimuran::{Buffer, NumberFormat, NumberFormatBuilder};
@@ -36,6 +36,9 @@ fn main() {
     let row = (7u32, ",", Fixed(1999u32, 2), ",", sizes, "\n");
     csv.push_str(row.to_str(&mut buffer));
     assert_eq!(csv, "id,price,sizes\n7,19.99,38 40\n");
+    // The same without a buffer.
+    row.write_pieces(&mut csv).unwrap();
+    assert_eq!(csv, "id,price,sizes\n7,19.99,38 40\n7,19.99,38 40\n");
     // A line of a log, with a field that may be absent.
     let user = Some(1000u64).map(|user| (" user=", user));
     let line = (time, " [info]", user, " flags=0x", Hex(255u16));

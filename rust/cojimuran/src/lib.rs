@@ -31,7 +31,7 @@
 //! # A `String`, a `Vec`, a format string
 //!
 //! ```
-//! use cojimuran::parts::{Padded, Shown};
+//! use cojimuran::parts::{Padded, Show, Shown};
 //! use cojimuran::{Buffer, Digits, Hex, Part};
 //!
 //! // The end of a `String`. Radix 36 has at most 13 digits for a `u64`.
@@ -39,6 +39,10 @@
 //! path.push_str(Buffer::new().format(7u64));
 //! path.push_str(("/", Digits(36, 1000u64)).to_str(&mut [0; 14]));
 //! assert_eq!(path, "/l/7/RS");
+//!
+//! // The same without a buffer.
+//! ("/", Digits(36, 1000u64)).write_pieces(&mut path).unwrap();
+//! assert_eq!(path, "/l/7/RS/RS");
 //!
 //! // The end of a `Vec<u8>`.
 //! let mut bytes = b"time ".to_vec();
