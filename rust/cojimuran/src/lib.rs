@@ -149,7 +149,7 @@ pub mod digit_count {
     //! Counting the digits of a number in any radix.
     pub use crate::write_integer::digit_count::DigitCount;
     #[doc(hidden)]
-    pub use crate::write_integer::digit_count::fast_log2;
+    pub use crate::write_integer::digit_count::{fast_log2, most_digits};
 }
 
 pub mod format {

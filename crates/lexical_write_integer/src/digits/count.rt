@@ -132,6 +132,7 @@ pub fn most_digits<T: UnsignedInteger>(radix: u32) -> usize
     ensures enough { (number : ℕ) → number < 2 ^ T.BITS → digit_count radix number ≤ result }
     ensures at_most_64 { result ≤ 64 }
 {
+    prove!(is_radix(radix as u64), "the radix is not from 2 to 36");
     // A digit has at least as many bits as the logarithm of the radix.
     (T::BITS - 1) / fast_log2(radix) + 1
 }

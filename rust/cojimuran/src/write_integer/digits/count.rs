@@ -94,6 +94,7 @@ pub(crate) fn digit_count<T: DecimalCount>(x: T, radix: u32) -> usize {
 #[must_use]
 #[inline(always)]
 pub fn most_digits<T: UnsignedInteger>(radix: u32) -> usize {
+    assert!(is_radix(radix as u64), "the radix is not from 2 to 36");
     // A digit has at least as many bits as the logarithm of the radix.
     (T::BITS - 1) / fast_log2(radix) + 1
 }
