@@ -5,7 +5,7 @@ use cojimuran::algorithm::algorithm;
 use cojimuran::buffer::{copy_to_front, front_mut};
 use cojimuran::compact::Compact;
 use cojimuran::decimal::Decimal as _;
-use cojimuran::digit_count::{DigitCount, most_digits};
+use cojimuran::digit_count::DigitCount;
 use cojimuran::format::STANDARD;
 use cojimuran::padded::write_padded;
 use cojimuran::parts::{
@@ -226,7 +226,7 @@ fn messages(called: &mut Vec<Panicking>) {
             7u64.magnitude_digits(37), write_padded(0u8, 37, &mut []), write_with_length("a", 37, 1, 0, buffer), 7u32.write_integer_signed(37, buffer);
         "the radix is not from 2 to 36", "radix": 7u32.write_integer(0, buffer), 7u8.radix(1, buffer),
             7u64.compact(37, buffer), 7u16.write_integer(255, buffer), 7u64.radix(u32::MAX, buffer),
-            Digits(1, 7u8).write_to(buffer), Digits(37, 7u8).room(), most_digits::<u8>(37), algorithm(7u8, 37, table(36), buffer);
+            Digits(1, 7u8).write_to(buffer), Digits(37, 7u8).room(), algorithm(7u8, 37, table(36), buffer);
         "a part is invalid: then `build` returns an error", "the mantissa radix is not from 2 to 36":
             builder.radix(37).build_strict();
         "a part is invalid: then `build` returns an error", "the exponent radix is not from 2 to 36":

@@ -127,6 +127,7 @@ pub fn digit_count_counted<T: DecimalCount>(x: T, radix: u32, turns: &mut Turns)
 ///
 /// assert_eq!(rt; (most_digits::<u64>(36), most_digits::<u8>(10)), (13, 3));
 /// ```
+#[doc(hidden)]
 pub fn most_digits<T: UnsignedInteger>(radix: u32) -> usize
     requires { IsRadix radix }
     ensures enough { (number : ℕ) → number < 2 ^ T.BITS → digit_count radix number ≤ result }

@@ -87,10 +87,7 @@ pub(crate) fn digit_count<T: DecimalCount>(x: T, radix: u32) -> usize {
 ///
 /// assert_eq!((most_digits::<u64>(36), most_digits::<u8>(10)), (13, 3));
 /// ```
-///
-/// # Panics
-///
-/// If the radix is not from 2 to 36.
+#[doc(hidden)]
 #[must_use]
 #[inline(always)]
 pub fn most_digits<T: UnsignedInteger>(radix: u32) -> usize {
