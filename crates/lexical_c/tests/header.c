@@ -89,24 +89,36 @@ static void check_changes(void)
     check(lexical_check_format(&format) != 0, "lexical_check_format of a changed format");
 }
 
-/* A radix that is no constant may have any type, is evaluated once, and is valid or refused. */
+/*
+ * A constant radix may be that of a static object. A radix that is no constant may have any integer type, is evaluated
+ * once, and is valid or becomes 0, whatever a compiler knows of it: in C, a constant object is no constant expression.
+ */
+static const struct lexical_format octal = LEXICAL_RADIX(8);
+enum { BINARY = 2 };
+static const struct lexical_format binary = LEXICAL_RADIX(BINARY);
+
 static void check_radices(void)
 {
     static const int INVALID[] = { -1, 0, 1, 37, 74, 266, 2147483647 };
     unsigned char byte = 36;
     long number = 16;
+    uint64_t great = (uint64_t)1 << 32 | 10;
+    int64_t negative = -(int64_t)(great - 20);
     int count = 2;
     struct lexical_format base_36 = LEXICAL_RADIX(byte), base_16 = LEXICAL_RADIX(number), base_2 = LEXICAL_RADIX(count++);
     check(base_36.radix == 36 && base_16.radix == 16 && base_2.radix == 2 && count == 3, "a variable radix");
+    check(octal.radix == 8 && binary.radix == 2, "a constant radix");
     for (count = 0; count < 7; count++) {
         struct lexical_format format = LEXICAL_RADIX(INVALID[count]);
         check(lexical_check_format(&format) == LEXICAL_INVALID_RADIX, "a variable radix that is invalid");
     }
-#if defined(__cplusplus) && __cplusplus >= 201103L
-    long long great = 4294967296 + 10;
-    base_16 = lexical_format(LEXICAL_RADIX(great));
-    check(lexical_check_format(&base_16) == LEXICAL_INVALID_RADIX, "a radix of more than 32 bits");
+#ifndef __cplusplus
+    const int constant = 37;
+    struct lexical_format base_37 = LEXICAL_RADIX(constant);
+    check(lexical_check_format(&base_37) == LEXICAL_INVALID_RADIX, "a radix of a constant object");
 #endif
+    struct lexical_format long_radix = LEXICAL_RADIX(great), negative_radix = LEXICAL_RADIX(negative);
+    check(long_radix.radix == 0 && negative_radix.radix == 0, "a radix of more than 32 bits");
 }
 
 /* In C++14 and later no overload throws, fields that an initializer leaves out are 0, and `= {}` makes all fields 0. */
@@ -196,6 +208,12 @@ static void check_choice(void)
     TRY(long long, -4611686018427387904LL, "-4611686018427387904", "-4000_0000_0000_0000")
     room = sizeof text;
     check_text(lexical_write(48879, RADIX(16), text, room), "BEEF");
+#ifndef __cplusplus
+    check_text(lexical_write(1234567, &(const struct lexical_format){ .radix = 10, .group_size = 3, .mark = ',' }, text, room),
+               "1,234,567");
+    check(lexical_length(1234567, &(const struct lexical_format){ .radix = 2, .required_sign = 1 }) == 22, "a literal");
+    check_text(lexical_decimal(7, (char *[1]){ text }[0], room), "7");
+#endif
     check(lexical_length(100, RADIX(2)) == 7 && lexical_length(100, RADIX(36)) == 2, "LEXICAL_RADIX as an argument");
 #endif
 #endif

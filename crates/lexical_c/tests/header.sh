@@ -31,7 +31,7 @@ takes_32_bits() {
 other_macros() {
   echo '#include "lexical.h"' > "$work/macros.c"
   $1 -I"$crate/include" -E -dM "$work/macros.c" | sed -n 's/^#define \([Ll][Ee][Xx][A-Za-z0-9_]*\).*/\1/p' | grep -Evx \
-    'LEXICAL_(BUFFER_SIZE|VERSION|INVALID_).*|LEXICAL_(H|STANDARD_FORMAT|RADIX|FROM_2_TO_36|IS_WRONG|FOR_TYPE)|lexical_(radix|decimal|write|length)' || :
+    'LEXICAL_(BUFFER_SIZE|VERSION|INVALID_|PRIVATE_).*|LEXICAL_(H|STANDARD_FORMAT|RADIX)|lexical_(decimal|write|length)' || :
 }
 
 # says_failed SOURCE: whether a program with a wrong text says so, and ends with status 1.
@@ -88,7 +88,7 @@ check_refused() {
   esac
   for type in $types; do expect "a $type is refused by $1" reports "$1" '' 1 "($type)1" -w; done
   case ${1##*=} in c++98) return ;; c++*) format= ;; *) format='\&(const struct lexical_format)' ;; esac
-  for radix in -1 0 1 37 74 266; do
+  for radix in -1 0 1 37 74 266 4294967306LL; do
     expect "radix $radix is refused by $1" reports "$1" '' ' FORMAT' "${format}LEXICAL_RADIX($radix)" -w
   done
 }
