@@ -12,27 +12,28 @@
  *     const struct lexical_format hexadecimal = LEXICAL_RADIX(16);
  *     count = lexical_write_u32(48879, &hexadecimal, buffer, sizeof buffer);
  *
- * For a string, reserve a further byte, which is not part of `length`:
+ * This makes a string of -42, which has a byte 0 after its text:
  *
  *     char text[LEXICAL_BUFFER_SIZE_DECIMAL_I32 + 1];
- *     size_t count = lexical_decimal_i32(-42, text, sizeof text - 1);
- *     text[count] = '\0';
+ *     size_t count = lexical_decimal_i32(-42, text, sizeof text);
+ *     lexical_terminate(count, text, sizeof text);
  *
- * For a width of 8 with leading zeros, write an unsigned number below 100000000
- * after 8 zeros:
+ * This writes 0000BEEF, which has zeros up to a width of 8 bytes:
  *
- *     char text[8 + LEXICAL_BUFFER_SIZE_DECIMAL_U32];
- *     memset(text, '0', 8);
- *     size_t count = lexical_decimal_u32(42, text + 8, sizeof text - 8);
+ *     count = lexical_write_u32(48879, &hexadecimal, buffer, sizeof buffer);
+ *     count = lexical_pad(count, 8, buffer, sizeof buffer);
  *
- * The 8 bytes at text + count are 00000042. A number with more than 8 digits would
- * lose its first digits, so check the number before.
+ * And this writes 0xBEEF:
+ *
+ *     memcpy(buffer, "0x", 2);
+ *     count = 2 + lexical_write_u32(48879, &hexadecimal, buffer + 2, sizeof buffer - 2);
  *
  * Text. A negative number begins with '-'. Another number begins with '+' if the
  * format requires a sign, and otherwise with its first digit. The digits are '0' to
  * '9' and 'A' to 'Z', or 'a' to 'z' if the format requests lowercase. The most
- * significant digit is the first one, and there are no leading zeros. If the format
- * has groups, a separator (its mark) is written between groups of digits.
+ * significant digit is the first one, and there are no leading zeros, but lexical_pad
+ * inserts them. If the format has groups, a separator (its mark) is written between
+ * groups of digits.
  *
  * Format. `format` points to a struct lexical_format, which the call only
  * reads. The pointer must not be NULL. Any values of the fields are safe: with an
@@ -53,14 +54,15 @@
  * never a copy.
  *
  * Return value. On success lexical_decimal and lexical_write return the length of the
- * text that they have written, without a terminating 0, lexical_length returns the
- * length that the text has, and lexical_buffer_size a size that is enough. None of
- * these is 0.
+ * text that they have written, without a terminating 0, lexical_pad and
+ * lexical_terminate the length of the text in the buffer, lexical_length the length
+ * that the text has, and lexical_buffer_size a size that is enough. None of these is 0.
  *
- * Errors. If the text does not fit the buffer or the format is not valid, the buffer
- * is unchanged and the call returns 0. To know which, call lexical_check_format: it
- * returns 0 for a valid format, so the buffer was too short, and otherwise a number
- * that names the first invalid field. No call changes errno.
+ * Errors. If the text does not fit the buffer or the format is not valid, the call
+ * returns 0 and the buffer is unchanged; only lexical_terminate then writes an empty
+ * string. To know which, call lexical_check_format: it returns 0 for a valid format,
+ * so the buffer was too short, and otherwise a number that names the first invalid
+ * field. No call changes errno.
  *
  * Proof. The sources of the library are proved for all arguments that meet the
  * conditions above under "Format" and "Buffer". The caller's code is not proved, and
@@ -174,10 +176,10 @@ extern "C" {
 /*
  * The version of this header, as a string, and as a number: 1000000 times the
  * major number, plus 1000 times the minor number, plus the patch number. The
- * major number is also that of the name liblexical_c.so.3.
+ * major number is also that of the name liblexical_c.so.1.
  */
-#define LEXICAL_VERSION_STRING "3.1.1"
-#define LEXICAL_VERSION 3001001
+#define LEXICAL_VERSION_STRING "1.0.0"
+#define LEXICAL_VERSION 1000000
 #define LEXICAL_VERSION_MAJOR (LEXICAL_VERSION / 1000000)
 #define LEXICAL_VERSION_MINOR (LEXICAL_VERSION / 1000 % 1000)
 #define LEXICAL_VERSION_PATCH (LEXICAL_VERSION % 1000)
@@ -420,6 +422,33 @@ size_t lexical_write_i32(int32_t value, const struct lexical_format *format,
 LEXICAL_WRITES
 size_t lexical_write_i64(int64_t value, const struct lexical_format *format,
                          char *buffer, size_t length) LEXICAL_NOEXCEPT;
+
+/* ---- zeros and strings ----------------------------------------------------- */
+
+/*
+ * lexical_pad: inserts zeros into the text of `count` bytes at the start of the
+ * buffer, after its sign if it has one, so that it has at least `width` bytes. It
+ * returns the length of the text, which is the greater of the two numbers. Every byte
+ * after the text is unchanged. The zeros are not in groups.
+ *
+ * Returns 0 if and only if the count is 0, or the length is less than the count or
+ * the width. The buffer is then unchanged. So the count can be what another call has
+ * returned, even if that is 0.
+ */
+LEXICAL_HAS((nothrow, warn_unused_result)) LEXICAL_ACCESS((read_write, 3, 4))
+size_t lexical_pad(size_t count, size_t width, char *buffer, size_t length) LEXICAL_NOEXCEPT;
+
+/*
+ * lexical_terminate: writes a 0 after the text of `count` bytes at the start of the
+ * buffer, which is one of the `length` bytes, and returns the count. The buffer then
+ * holds a string.
+ *
+ * Returns 0 if and only if the count is 0, or the buffer has no byte for the 0 because
+ * the length is at most the count. The buffer then holds an empty string: its first
+ * byte is 0. If the length is 0, nothing is written.
+ */
+LEXICAL_HAS((nothrow)) LEXICAL_ACCESS((read_write, 2, 3))
+size_t lexical_terminate(size_t count, char *buffer, size_t length) LEXICAL_NOEXCEPT;
 
 #ifdef __cplusplus
 }

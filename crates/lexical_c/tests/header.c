@@ -36,24 +36,28 @@ static void check(int is_right, const char *what)
     HAS(size_t lexical_length_##NAME(TYPE, const struct lexical_format *))     \
     HAS(size_t lexical_buffer_size_##NAME(const struct lexical_format *))
 FOR_EACH_TYPE(HAS_EACH)
+HAS(size_t lexical_pad(size_t, size_t, char *, size_t))
+HAS(size_t lexical_terminate(size_t, char *, size_t))
 HAS(uint32_t lexical_version(void))
 HAS(uint32_t lexical_check_format(const struct lexical_format *))
 
-/* The examples of the header: two numbers, a format as an argument, a string, and zeros before the digits. */
+/* The examples of the header. */
 static void check_examples(void)
 {
-    char buffer[LEXICAL_BUFFER_SIZE], text[LEXICAL_BUFFER_SIZE_DECIMAL_I32 + 1], padded[8 + LEXICAL_BUFFER_SIZE_DECIMAL_U32];
+    char buffer[LEXICAL_BUFFER_SIZE], text[LEXICAL_BUFFER_SIZE_DECIMAL_I32 + 1];
     size_t count = lexical_decimal_u32(48879, buffer, sizeof buffer);
     check(count == 5 + WRONG_TEXT && memcmp(buffer, "48879", 5) == 0, "the first example");
     const struct lexical_format hexadecimal = LEXICAL_RADIX(16);
     count = lexical_write_u32(48879, &hexadecimal, buffer, sizeof buffer);
     check(count == 4 && memcmp(buffer, "BEEF", 4) == 0, "the second example");
-    count = lexical_decimal_i32(-42, text, sizeof text - 1);
-    text[count] = '\0';
+    count = lexical_pad(count, 8, buffer, sizeof buffer);
+    check(count == 8 && memcmp(buffer, "0000BEEF", 8) == 0, "the example of zeros");
+    memcpy(buffer, "0x", 2);
+    count = 2 + lexical_write_u32(48879, &hexadecimal, buffer + 2, sizeof buffer - 2);
+    check(count == 6 && memcmp(buffer, "0xBEEF", 6) == 0, "the example of a prefix");
+    count = lexical_decimal_i32(-42, text, sizeof text);
+    lexical_terminate(count, text, sizeof text);
     check(strcmp(text, "-42") == 0, "the example of a string");
-    memset(padded, '0', 8);
-    count = lexical_decimal_u32(42, padded + 8, sizeof padded - 8);
-    check(memcmp(padded + count, "00000042", 8) == 0, "the example of zeros");
 }
 
 /* The example of the version that is running, and the version as a number and as a string. */

@@ -361,6 +361,44 @@ static void check_long_buffers(void)
     munmap(map, LENGTHS[3]);
 }
 
+/* Checks the result of a call, and that the buffer, which is next to a page that may not be accessed, has this text. */
+static void check_buffer(const char *call, size_t result, size_t wanted, const char *buffer, const char *text, size_t length)
+{
+    if (!check(result == wanted && memcmp(buffer, text, length) == 0, call) && failures <= 5)
+        printf("    %zu in place of %zu, %.*s in place of %.*s\n", result, wanted, (int)length, buffer, (int)length, text);
+}
+
+/* Checks zeros up to a width, as snprintf writes them, and strings, with buffers of each length. */
+static void check_endings(void)
+{
+    static const int NUMBERS[] = { 7, -42, 2147483647, -1, 0 };
+    for (size_t length = 0; length <= 20; length++)
+        for (size_t width = 0; width <= 21; width++)
+            for (int i = 0; i < 11; i++) {
+                char text[32] = "", padded[64], *buffer = buffers + page_size - length;
+                size_t count = 0, result;
+                memset(padded, '#', sizeof padded);
+                if (i < 10)
+                    count = (size_t)snprintf(text, sizeof text, i < 5 ? "%d" : "%+d", NUMBERS[i % 5]);
+                memset(text + count, '#', sizeof text - count);
+                memcpy(buffer, text, length);
+                result = lexical_pad(count, width, buffer, length);
+                bool fits = count != 0 && count <= length && width <= length;
+                size_t wanted = count > width ? count : width;
+                if (i < 10) {
+                    snprintf(padded, sizeof padded, i < 5 ? "%0*d" : "%+0*d", (int)width, NUMBERS[i % 5]);
+                    padded[wanted] = '#';
+                }
+                check_buffer("lexical_pad", result, fits ? wanted : 0, buffer, fits ? padded : text, length);
+                memcpy(buffer, text, length);
+                result = lexical_terminate(count, buffer, length);
+                wanted = count < length ? count : 0;
+                text[wanted] = '\0';
+                check_buffer("lexical_terminate", result, wanted, buffer, text, length);
+            }
+    check(lexical_pad(1, 1, NULL, 0) == 0 && lexical_terminate(1, NULL, 0) == 0, "no buffer");
+}
+
 static unsigned passed, failed;
 
 static void run(const char *name, void (*test)(void))
@@ -390,6 +428,7 @@ int main(int argument_count, char **arguments)
     run("every field", check_fields);
     run("random formats", check_random_formats);
     run("long buffers", check_long_buffers);
+    run("zeros and strings", check_endings);
     printf("%u passed, %u failed\n", passed, failed);
     return failed == 0 ? EXIT_SUCCESS : EXIT_FAILURE;
 }
