@@ -181,7 +181,7 @@ makes_packages() (
     rpmbuild --build-in-place --nodeps -bb --define "_topdir $work/package/rpm" crates/lexical_c/package/lexical_c.spec &&
       for file in ../rpm/RPMS/*/*.rpm; do rpm2archive - < "$file" | tar xzf - -C ../root || exit; done
   fi || exit 1
-  library=$(find ../root -name liblexical_c.so) && [ -n "$library" ] && ls ../root/usr/share/man/man3/lexical_decimal.3* &&
+  prints '' find ../root -name manifest && library=$(find ../root -name liblexical_c.so) && [ -n "$library" ] && ls ../root/usr/share/man/man3/lexical_decimal.3* &&
     $CC -I../root/usr/include -o ../first crates/lexical_c/examples/first.c "$library" && prints 1234567 env LD_LIBRARY_PATH="$(dirname "$library")" ../first
 )
 

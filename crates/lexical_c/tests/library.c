@@ -88,7 +88,7 @@ static struct expected plain_text(const struct type *type, uint64_t bits, const 
     do {
         if (format->group_size != 0 && digits != 0 && digits % format->group_size == 0)
             *--start = (char)format->mark;
-        *--start = (char)(digit_chars[rest % format->radix] + WRONG_TEXT);
+        *--start = digit_chars[rest % format->radix];
         digits++;
         rest /= format->radix;
     } while (rest != 0);
