@@ -1,5 +1,5 @@
-// Prints how long the library takes beside std::to_chars, and beside {fmt} if it is there, in nanoseconds per number: the
-// best of 100 interleaved passes over 10,000 numbers of 1 to 64 bits, each length as often. Their order is random, since a
+// Prints how long the library takes beside std::to_chars, snprintf, and {fmt} if it is there, in nanoseconds per number:
+// the best of 100 interleaved passes over 10,000 numbers of 1 to 64 bits, each length as often. Their order is random, since a
 // processor learns to predict lengths that follow a pattern. {fmt} has format strings that are compiled (FMT_COMPILE), and
 // in the first row fmt::format_int, which writes to a buffer of its own.
 #include <lexical.h>
@@ -7,6 +7,7 @@
 #include <algorithm>
 #include <charconv>
 #include <chrono>
+#include <cinttypes>
 #include <cstdio>
 #include <cstring>
 #include <random>
@@ -38,6 +39,13 @@ template <int radix>
 [[gnu::noinline]] size_t to_chars(uint64_t value)
 {
     return static_cast<size_t>(std::to_chars(buffer, buffer + sizeof buffer, value, radix).ptr - buffer);
+}
+
+template <int radix, bool lowercase>
+[[gnu::noinline]] size_t printed(uint64_t value)
+{
+    const char *format = radix == 8 ? "%" PRIo64 : radix == 10 ? "%" PRIu64 : lowercase ? "%" PRIx64 : "%" PRIX64;
+    return static_cast<size_t>(std::snprintf(buffer, sizeof buffer, format, value));
 }
 
 [[gnu::noinline]] size_t fmt_decimal(uint64_t value)
@@ -79,8 +87,8 @@ double nanoseconds(Writer writer)
 
 struct Row {
     const char *name;
-    Writer writers[3];
-    double best[3];
+    Writer writers[4];
+    double best[4];
 };
 
 }  // namespace
@@ -96,22 +104,22 @@ int main()
     }
     std::shuffle(numbers.begin(), numbers.end(), std::mt19937_64());
     Row rows[] = {
-        { "lexical_decimal_u64", { decimal, to_chars<10>, fmt_decimal }, {} },
-        { "radix 10", { lexical<10, 0>, to_chars<10>, fmt_text<10, false> }, {} },
-        { "radix 2", { lexical<2, 0>, to_chars<2>, fmt_text<2, false> }, {} },
-        { "radix 8", { lexical<8, 0>, to_chars<8>, fmt_text<8, false> }, {} },
-        { "radix 16", { lexical<16, 0>, nullptr, fmt_text<16, false> }, {} },
-        { "radix 16, lowercase", { lexical<16, 1>, to_chars<16>, fmt_text<16, true> }, {} },
-        { "radix 36", { lexical<36, 0>, nullptr, nullptr }, {} },
-        { "radix 36, lowercase", { lexical<36, 1>, to_chars<36>, nullptr }, {} },
+        { "lexical_decimal_u64", { decimal, to_chars<10>, printed<10, false>, fmt_decimal }, {} },
+        { "radix 10", { lexical<10, 0>, to_chars<10>, printed<10, false>, fmt_text<10, false> }, {} },
+        { "radix 2", { lexical<2, 0>, to_chars<2>, nullptr, fmt_text<2, false> }, {} },
+        { "radix 8", { lexical<8, 0>, to_chars<8>, printed<8, false>, fmt_text<8, false> }, {} },
+        { "radix 16", { lexical<16, 0>, nullptr, printed<16, false>, fmt_text<16, false> }, {} },
+        { "radix 16, lowercase", { lexical<16, 1>, to_chars<16>, printed<16, true>, fmt_text<16, true> }, {} },
+        { "radix 36", { lexical<36, 0>, nullptr, nullptr, nullptr }, {} },
+        { "radix 36, lowercase", { lexical<36, 1>, to_chars<36>, nullptr, nullptr }, {} },
     };
     for (int pass = 0; pass < 100; pass++)
         for (Row &row : rows)
-            for (int i = 0; i < 2 + HAS_FMT; i++) {
+            for (int i = 0; i < 3 + HAS_FMT; i++) {
                 double taken = row.writers[i] == nullptr ? 0 : nanoseconds(row.writers[i]);
                 if (pass == 0 || taken < row.best[i]) row.best[i] = taken;
             }
-    std::puts("| `u64` | lexical | `to_chars` | {fmt} |\n|---|---|---|---|");
+    std::puts("| `u64` | lexical | `to_chars` | `snprintf` | {fmt} |\n|---|---|---|---|---|");
     for (const Row &row : rows) {
         std::printf("| %s |", row.name);
         for (double best : row.best) best == 0 ? std::printf(" - |") : std::printf(" %.1f |", best);

@@ -7,7 +7,7 @@ class Format(ctypes.Structure):
         ("reserved", ctypes.c_uint32 * 2),
     ]
 
-library = ctypes.CDLL("liblexical_c.so.3")
+library = ctypes.CDLL("liblexical_c.so.1")
 signed, unsigned = library.lexical_write_i64, library.lexical_write_u64
 for function, number in (signed, ctypes.c_int64), (unsigned, ctypes.c_uint64):
     function.restype = ctypes.c_size_t

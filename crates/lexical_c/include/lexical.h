@@ -12,27 +12,28 @@
  *     const struct lexical_format hexadecimal = LEXICAL_RADIX(16);
  *     count = lexical_write_u32(48879, &hexadecimal, buffer, sizeof buffer);
  *
- * For a string, reserve a further byte, which is not part of `length`:
+ * This makes a string of -42, which has a byte 0 after its text:
  *
  *     char text[LEXICAL_BUFFER_SIZE_DECIMAL_I32 + 1];
- *     size_t count = lexical_decimal_i32(-42, text, sizeof text - 1);
- *     text[count] = '\0';
+ *     size_t count = lexical_decimal_i32(-42, text, sizeof text);
+ *     lexical_terminate(count, text, sizeof text);
  *
- * For a width of 8 with leading zeros, write an unsigned number below 100000000
- * after 8 zeros:
+ * This writes 0000BEEF, which has zeros up to a width of 8 bytes:
  *
- *     char text[8 + LEXICAL_BUFFER_SIZE_DECIMAL_U32];
- *     memset(text, '0', 8);
- *     size_t count = lexical_decimal_u32(42, text + 8, sizeof text - 8);
+ *     count = lexical_write_u32(48879, &hexadecimal, buffer, sizeof buffer);
+ *     count = lexical_pad(count, 8, buffer, sizeof buffer);
  *
- * The 8 bytes at text + count are 00000042. A number with more than 8 digits would
- * lose its first digits, so check the number before.
+ * And this writes 0xBEEF:
+ *
+ *     memcpy(buffer, "0x", 2);
+ *     count = 2 + lexical_write_u32(48879, &hexadecimal, buffer + 2, sizeof buffer - 2);
  *
  * Text. A negative number begins with '-'. Another number begins with '+' if the
  * format requires a sign, and otherwise with its first digit. The digits are '0' to
  * '9' and 'A' to 'Z', or 'a' to 'z' if the format requests lowercase. The most
- * significant digit is the first one, and there are no leading zeros. If the format
- * has groups, a separator (its mark) is written between groups of digits.
+ * significant digit is the first one, and there are no leading zeros, but lexical_pad
+ * inserts them. If the format has groups, a separator (its mark) is written between
+ * groups of digits.
  *
  * Format. `format` points to a struct lexical_format, which the call only
  * reads. The pointer must not be NULL. Any values of the fields are safe: with an
@@ -53,14 +54,15 @@
  * never a copy.
  *
  * Return value. On success lexical_decimal and lexical_write return the length of the
- * text that they have written, without a terminating 0, lexical_length returns the
- * length that the text has, and lexical_buffer_size a size that is enough. None of
- * these is 0.
+ * text that they have written, without a terminating 0, lexical_pad and
+ * lexical_terminate the length of the text in the buffer, lexical_length the length
+ * that the text has, and lexical_buffer_size a size that is enough. None of these is 0.
  *
- * Errors. If the text does not fit the buffer or the format is not valid, the buffer
- * is unchanged and the call returns 0. To know which, call lexical_check_format: it
- * returns 0 for a valid format, so the buffer was too short, and otherwise a number
- * that names the first invalid field. No call changes errno.
+ * Errors. If the text does not fit the buffer or the format is not valid, the call
+ * returns 0 and the buffer is unchanged; only lexical_terminate then writes an empty
+ * string. To know which, call lexical_check_format: it returns 0 for a valid format,
+ * so the buffer was too short, and otherwise a number that names the first invalid
+ * field. No call changes errno.
  *
  * Proof. The sources of the library are proved for all arguments that meet the
  * conditions above under "Format" and "Buffer". The caller's code is not proved, and
@@ -68,6 +70,9 @@
  *
  * Threads and signals. The functions have no state and allocate nothing: any thread
  * and any signal handler may call them.
+ *
+ * Names. All names begin with lexical_ or LEXICAL_. Those that begin with
+ * lexical_private_ or LEXICAL_PRIVATE_ may change in each version, so do not use them.
  */
 #ifndef LEXICAL_H
 #define LEXICAL_H
@@ -110,32 +115,56 @@
     LEXICAL_HAS((nothrow, pure, nonnull(n), warn_unused_result))               \
     LEXICAL_ACCESS((read_only, n))
 
-/* The radix of LEXICAL_RADIX as a field. A constant that is not from 2 to 36 is refused by an array of a negative size. */
-#if defined(__cplusplus) && __cplusplus >= 201103L
+/* The radix of LEXICAL_RADIX as a field: the number if it is from 2 to 36, and otherwise 0. */
+#if defined(__cplusplus)
 extern "C++" {
-template <typename T>
-constexpr uint32_t
-lexical_radix(T number) noexcept
+#if __cplusplus >= 201103L
+constexpr
+#endif
+inline uint32_t
+lexical_private_radix(uint64_t number) LEXICAL_NOEXCEPT
 {
     return number < 2 || number > 36 ? 0 : static_cast<uint32_t>(number);
 }
 }
-#elif defined(__cplusplus)
-#define lexical_radix(number) static_cast<uint32_t>(number)
+#define LEXICAL_PRIVATE_CHECKED_RADIX(number) lexical_private_radix(static_cast<uint64_t>(number))
+#if defined(__GNUC__) && __cplusplus >= 201103L
+/* A constant that is no radix is refused by an array of a negative size. */
+#define LEXICAL_PRIVATE_RADIX(number)                                          \
+    (__extension__ sizeof(                                                     \
+         char[__builtin_constant_p(number) && LEXICAL_PRIVATE_CHECKED_RADIX(number) == 0 ? -1 : 1]) \
+         ? LEXICAL_PRIVATE_CHECKED_RADIX(number) : 0)
 #else
-#define lexical_radix(number) (uint32_t)(number)
+#define LEXICAL_PRIVATE_RADIX(number) LEXICAL_PRIVATE_CHECKED_RADIX(number)
 #endif
-#if !defined(__GNUC__)
-#define LEXICAL_FROM_2_TO_36(number) lexical_radix(number)
+#elif defined(__GNUC__) || (defined(__STDC_VERSION__) && __STDC_VERSION__ >= 201112L)
+#if defined(__GNUC__)
+#define LEXICAL_PRIVATE_EXTENSION __extension__
+static __inline__ uint32_t
 #else
-#if defined(__cplusplus)
-#define LEXICAL_IS_WRONG(number) (__builtin_constant_p(number) && ((number) < 2 || (number) > 36))
-#else
-#define LEXICAL_IS_WRONG(number)                                               \
-    __builtin_choose_expr(__builtin_constant_p(number), (number) < 2 || (number) > 36, 0)
+#define LEXICAL_PRIVATE_EXTENSION
+static inline uint32_t
 #endif
-#define LEXICAL_FROM_2_TO_36(number)                                           \
-    (__extension__ sizeof(char[LEXICAL_IS_WRONG(number) ? -1 : 1]) ? lexical_radix(number) : 0)
+lexical_private_radix(uint64_t number)
+{
+    return number < 2 || number > 36 ? 0 : (uint32_t)number;
+}
+/*
+ * Yields the first value for an integer constant expression, as the standard of C defines it, and otherwise the second.
+ * Only 0 times a constant expression is a null pointer constant, and so the type of the conditional is that of its
+ * other pointer. The result does not depend on what a compiler optimizes. The number is not evaluated.
+ */
+#define LEXICAL_PRIVATE_IF_CONSTANT(number, value, other)                      \
+    _Generic(1 ? (void *)((intptr_t)(number) * 0) : (int *)0, int *: (value), default: (other))
+/* A constant that is no radix is refused by an array of a negative size. A variable is evaluated once. */
+#define LEXICAL_PRIVATE_RADIX(number)                                          \
+    (LEXICAL_PRIVATE_EXTENSION LEXICAL_PRIVATE_IF_CONSTANT(                    \
+        number,                                                                \
+        sizeof(char[LEXICAL_PRIVATE_IF_CONSTANT(number, (number) < 2 || (number) > 36, 0) ? -1 : 1]) \
+            ? (uint32_t)(number) : 0,                                          \
+        lexical_private_radix((uint64_t)(number))))
+#else
+#define LEXICAL_PRIVATE_RADIX(number) ((number) < 2 || (number) > 36 ? 0 : (uint32_t)(number))
 #endif
 
 #ifdef __cplusplus
@@ -147,10 +176,10 @@ extern "C" {
 /*
  * The version of this header, as a string, and as a number: 1000000 times the
  * major number, plus 1000 times the minor number, plus the patch number. The
- * major number is also that of the name liblexical_c.so.3.
+ * major number is also that of the name liblexical_c.so.1.
  */
-#define LEXICAL_VERSION_STRING "3.1.1"
-#define LEXICAL_VERSION 3001001
+#define LEXICAL_VERSION_STRING "1.0.0"
+#define LEXICAL_VERSION 1000000
 #define LEXICAL_VERSION_MAJOR (LEXICAL_VERSION / 1000000)
 #define LEXICAL_VERSION_MINOR (LEXICAL_VERSION / 1000 % 1000)
 #define LEXICAL_VERSION_PATCH (LEXICAL_VERSION % 1000)
@@ -241,11 +270,13 @@ struct lexical_format {
 
 /*
  * The format of a radix, as an initializer: with no '+' and no groups, in uppercase.
- * With gcc and clang a constant that is not from 2 to 36 does not compile. A variable
- * may have any integer type: in C++11 and later a number that is not from 2 to 36
- * becomes 0, which is not valid, and otherwise the number is converted to uint32_t.
+ * The radix may have any integer type. A number that is not from 2 to 36 becomes 0,
+ * so the format is not valid, and lexical_check_format tells it. If the number is a
+ * constant expression, it does not compile, in C11, in C++11, and with gcc and clang
+ * also in C99. The radix is evaluated once, except before C11 with compilers other
+ * than gcc and clang.
  */
-#define LEXICAL_RADIX(radix) { LEXICAL_FROM_2_TO_36(radix), 0, 0, 0, 0, { 0, 0 } }
+#define LEXICAL_RADIX(radix) { LEXICAL_PRIVATE_RADIX(radix), 0, 0, 0, 0, { 0, 0 } }
 
 /*
  * The standard format, as an initializer and as an object: decimal, with no '+'
@@ -253,7 +284,7 @@ struct lexical_format {
  * own, which it does not export. With compilers other than gcc and clang, each file in
  * C or in C++ before C++17 has one of its own.
  */
-#define LEXICAL_STANDARD_FORMAT LEXICAL_RADIX(10)
+#define LEXICAL_STANDARD_FORMAT { 10, 0, 0, 0, 0, { 0, 0 } }
 #if defined(__cplusplus) && __cplusplus >= 201703L
 LEXICAL_HAS((visibility("hidden")))
 inline constexpr lexical_format lexical_standard_format = LEXICAL_STANDARD_FORMAT;
@@ -392,6 +423,33 @@ LEXICAL_WRITES
 size_t lexical_write_i64(int64_t value, const struct lexical_format *format,
                          char *buffer, size_t length) LEXICAL_NOEXCEPT;
 
+/* ---- zeros and strings ----------------------------------------------------- */
+
+/*
+ * lexical_pad: inserts zeros into the text of `count` bytes at the start of the
+ * buffer, after its sign if it has one, so that it has at least `width` bytes. It
+ * returns the length of the text, which is the greater of the two numbers. Every byte
+ * after the text is unchanged. The zeros are not in groups.
+ *
+ * Returns 0 if and only if the count is 0, or the length is less than the count or
+ * the width. The buffer is then unchanged. So the count can be what another call has
+ * returned, even if that is 0.
+ */
+LEXICAL_HAS((nothrow, warn_unused_result)) LEXICAL_ACCESS((read_write, 3, 4))
+size_t lexical_pad(size_t count, size_t width, char *buffer, size_t length) LEXICAL_NOEXCEPT;
+
+/*
+ * lexical_terminate: writes a 0 after the text of `count` bytes at the start of the
+ * buffer, which is one of the `length` bytes, and returns the count. The buffer then
+ * holds a string.
+ *
+ * Returns 0 if and only if the count is 0, or the buffer has no byte for the 0 because
+ * the length is at most the count. The buffer then holds an empty string: its first
+ * byte is 0. If the length is 0, nothing is written.
+ */
+LEXICAL_HAS((nothrow)) LEXICAL_ACCESS((read_write, 2, 3))
+size_t lexical_terminate(size_t count, char *buffer, size_t length) LEXICAL_NOEXCEPT;
+
 #ifdef __cplusplus
 }
 #endif
@@ -411,7 +469,11 @@ size_t lexical_write_i64(int64_t value, const struct lexical_format *format,
  *
  *     count = lexical_write(48879, LEXICAL_RADIX(16), buffer, sizeof buffer);
  *
- * In C99 and later a pointer to it is &(const struct lexical_format)LEXICAL_RADIX(16).
+ * In C99 and later a pointer to it is &(const struct lexical_format)LEXICAL_RADIX(16),
+ * and in C11 and later you can write all fields where you call:
+ *
+ *     count = lexical_write(1234567, &(const struct lexical_format){ .radix = 10,
+ *         .group_size = 3, .mark = ',' }, buffer, sizeof buffer);
  */
 #if defined(__cplusplus)
 extern "C++" {
@@ -485,18 +547,19 @@ inline size_t lexical_length(T value, const lexical_format &format) LEXICAL_NOEX
 #undef LEXICAL_REFUSED
 }
 #elif defined(__STDC_VERSION__) && __STDC_VERSION__ >= 201112L
-#define LEXICAL_FOR_TYPE(function, value)                                      \
+#define LEXICAL_PRIVATE_FOR_TYPE(function, value)                              \
     _Generic((value), unsigned char: function##_u8, unsigned short: function##_u16, \
              unsigned int: function##_u32, unsigned long: function##_u64,      \
              unsigned long long: function##_u64, signed char: function##_i8,   \
              short: function##_i16, int: function##_i32, long: function##_i64, \
              long long: function##_i64)
-#define lexical_decimal(value, buffer, length)                                 \
-    LEXICAL_FOR_TYPE(lexical_decimal, value)(value, buffer, length)
-#define lexical_write(value, format, buffer, length)                           \
-    LEXICAL_FOR_TYPE(lexical_write, value)(value, format, buffer, length)
-#define lexical_length(value, format)                                          \
-    LEXICAL_FOR_TYPE(lexical_length, value)(value, format)
+/* The names of the parameters would not help: a compound literal has commas that no parentheses enclose. */
+#define lexical_decimal(value, ...)                                            \
+    LEXICAL_PRIVATE_FOR_TYPE(lexical_decimal, value)(value, __VA_ARGS__)
+#define lexical_write(value, ...)                                              \
+    LEXICAL_PRIVATE_FOR_TYPE(lexical_write, value)(value, __VA_ARGS__)
+#define lexical_length(value, ...)                                             \
+    LEXICAL_PRIVATE_FOR_TYPE(lexical_length, value)(value, __VA_ARGS__)
 #endif
 
 #undef LEXICAL_HAS

@@ -1,4 +1,5 @@
 pub mod Buffer
 pub mod BufferSize
+pub mod Ending
 pub mod Format
 pub mod Length

@@ -12,6 +12,7 @@
 
 mod buffer_size;
 mod decimal;
+mod ending;
 mod format;
 mod general;
 mod hexadecimal;

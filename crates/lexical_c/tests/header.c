@@ -36,24 +36,28 @@ static void check(int is_right, const char *what)
     HAS(size_t lexical_length_##NAME(TYPE, const struct lexical_format *))     \
     HAS(size_t lexical_buffer_size_##NAME(const struct lexical_format *))
 FOR_EACH_TYPE(HAS_EACH)
+HAS(size_t lexical_pad(size_t, size_t, char *, size_t))
+HAS(size_t lexical_terminate(size_t, char *, size_t))
 HAS(uint32_t lexical_version(void))
 HAS(uint32_t lexical_check_format(const struct lexical_format *))
 
-/* The examples of the header: two numbers, a format as an argument, a string, and zeros before the digits. */
+/* The examples of the header. */
 static void check_examples(void)
 {
-    char buffer[LEXICAL_BUFFER_SIZE], text[LEXICAL_BUFFER_SIZE_DECIMAL_I32 + 1], padded[8 + LEXICAL_BUFFER_SIZE_DECIMAL_U32];
+    char buffer[LEXICAL_BUFFER_SIZE], text[LEXICAL_BUFFER_SIZE_DECIMAL_I32 + 1];
     size_t count = lexical_decimal_u32(48879, buffer, sizeof buffer);
-    check(count == 5 + WRONG_TEXT && memcmp(buffer, "48879", 5) == 0, "the first example");
+    check(count == 5 && memcmp(buffer, "48879", 5) == 0, "the first example");
     const struct lexical_format hexadecimal = LEXICAL_RADIX(16);
     count = lexical_write_u32(48879, &hexadecimal, buffer, sizeof buffer);
     check(count == 4 && memcmp(buffer, "BEEF", 4) == 0, "the second example");
-    count = lexical_decimal_i32(-42, text, sizeof text - 1);
-    text[count] = '\0';
+    count = lexical_pad(count, 8, buffer, sizeof buffer);
+    check(count == 8 && memcmp(buffer, "0000BEEF", 8) == 0, "the example of zeros");
+    memcpy(buffer, "0x", 2);
+    count = 2 + lexical_write_u32(48879, &hexadecimal, buffer + 2, sizeof buffer - 2);
+    check(count == 6 && memcmp(buffer, "0xBEEF", 6) == 0, "the example of a prefix");
+    count = lexical_decimal_i32(-42, text, sizeof text);
+    lexical_terminate(count, text, sizeof text);
     check(strcmp(text, "-42") == 0, "the example of a string");
-    memset(padded, '0', 8);
-    count = lexical_decimal_u32(42, padded + 8, sizeof padded - 8);
-    check(memcmp(padded + count, "00000042", 8) == 0, "the example of zeros");
 }
 
 /* The example of the version that is running, and the version as a number and as a string. */
@@ -79,34 +83,41 @@ static void check_changes(void)
     check(length == 3 && lexical_length_##NAME(100, &format) == 7, "lexical_length_" #NAME " of a changed format"); \
     check(size < lexical_buffer_size_##NAME(&format), "lexical_buffer_size_" #NAME " of a changed format");
     FOR_EACH_TYPE(CHANGES)
-#ifdef __cplusplus
-    length = lexical_length(100, format) * 10 + lexical_length(100, &format);
-    format.radix = 10;
-    check(length + lexical_length(100, format) + lexical_length(100, &format) == 83, "lexical_length");
-#endif
     check(sizeof format == 28 && lexical_check_format(&format) == 0, "LEXICAL_STANDARD_FORMAT");
     format.radix = 1;
     check(lexical_check_format(&format) != 0, "lexical_check_format of a changed format");
 }
 
-/* A radix that is no constant may have any type, is evaluated once, and is valid or refused. */
+/*
+ * A constant radix may be that of a static object. A radix that is no constant may have any integer type, is evaluated
+ * once, and is valid or becomes 0, whatever a compiler knows of it: in C, a constant object is no constant expression.
+ */
+static const struct lexical_format octal = LEXICAL_RADIX(8);
+enum { BINARY = 2 };
+static const struct lexical_format binary = LEXICAL_RADIX(BINARY);
+
 static void check_radices(void)
 {
     static const int INVALID[] = { -1, 0, 1, 37, 74, 266, 2147483647 };
     unsigned char byte = 36;
     long number = 16;
+    uint64_t great = (uint64_t)1 << 32 | 10;
+    int64_t negative = -(int64_t)(great - 20);
     int count = 2;
     struct lexical_format base_36 = LEXICAL_RADIX(byte), base_16 = LEXICAL_RADIX(number), base_2 = LEXICAL_RADIX(count++);
     check(base_36.radix == 36 && base_16.radix == 16 && base_2.radix == 2 && count == 3, "a variable radix");
+    check(octal.radix == 8 && binary.radix == 2, "a constant radix");
     for (count = 0; count < 7; count++) {
         struct lexical_format format = LEXICAL_RADIX(INVALID[count]);
         check(lexical_check_format(&format) == LEXICAL_INVALID_RADIX, "a variable radix that is invalid");
     }
-#if defined(__cplusplus) && __cplusplus >= 201103L
-    long long great = 4294967296 + 10;
-    base_16 = lexical_format(LEXICAL_RADIX(great));
-    check(lexical_check_format(&base_16) == LEXICAL_INVALID_RADIX, "a radix of more than 32 bits");
+#ifndef __cplusplus
+    const int constant = 37;
+    struct lexical_format base_37 = LEXICAL_RADIX(constant);
+    check(lexical_check_format(&base_37) == LEXICAL_INVALID_RADIX, "a radix of a constant object");
 #endif
+    struct lexical_format long_radix = LEXICAL_RADIX(great), negative_radix = LEXICAL_RADIX(negative);
+    check(long_radix.radix == 0 && negative_radix.radix == 0, "a radix of more than 32 bits");
 }
 
 /* In C++14 and later no overload throws, fields that an initializer leaves out are 0, and `= {}` makes all fields 0. */
@@ -132,21 +143,13 @@ static void check_cpp(void)
 #endif
 }
 
-/* ---- the function that a type chooses, with buffers of each length ------- */
+/* ---- the function that a type chooses ------------------------------------- */
 
-/* The buffer, and the number of bytes of it that are passed. */
 static char text[LEXICAL_BUFFER_SIZE];
-static size_t room;
 
-/* Checks the result of a call, and that it left the bytes after its text, or a text that does not fit, unchanged. */
 static void check_text(size_t count, const char *wanted)
 {
-    size_t length = strlen(wanted) <= room ? strlen(wanted) : 0, i;
-    int is_right = count == length && memcmp(text, wanted, length) == 0;
-    for (i = length; i < sizeof text; i++)
-        is_right = is_right && text[i] == '#';
-    memset(text, '#', sizeof text);
-    check(is_right, wanted);
+    check(count == strlen(wanted) && memcmp(text, wanted, count) == 0, wanted);
 }
 
 /* The format of a radix as an argument, and a call that only C++ has: there a format may also be an object. */
@@ -159,21 +162,19 @@ static void check_text(size_t count, const char *wanted)
 #endif
 
 #define TRY(type, value, decimal, hexadecimal)                                 \
-    for (room = 0; room <= sizeof text; room++) {                              \
+    {                                                                          \
         const type number = (type)(value);                                     \
-        check_text(lexical_decimal(number, text, room), decimal);              \
-        check_text(lexical_write(number, &HEXADECIMAL, text, room), hexadecimal); \
+        check_text(lexical_decimal(number, text, sizeof text), decimal);       \
+        check_text(lexical_write(number, &HEXADECIMAL, text, sizeof text), hexadecimal); \
         check(lexical_length(number, &HEXADECIMAL) == strlen(hexadecimal), "lexical_length of " #type); \
-        IN_CPP(check_text(lexical_write(number, HEXADECIMAL, text, room), hexadecimal)) \
+        IN_CPP(check_text(lexical_write(number, HEXADECIMAL, text, sizeof text), hexadecimal)) \
         IN_CPP(check(lexical_length(number, HEXADECIMAL) == strlen(hexadecimal), "lexical_length of " #type)) \
     }
 
 static void check_choice(void)
 {
-    memset(text, '#', sizeof text);
-    room = sizeof text;
 #ifndef __cplusplus
-    check_text(lexical_write_u32(48879, RADIX(16), text, room), "BEEF");
+    check_text(lexical_write_u32(48879, RADIX(16), text, sizeof text), "BEEF");
 #endif
 #if defined(__cplusplus) || __STDC_VERSION__ >= 201112L
     static const struct lexical_format HEXADECIMAL = FORMAT(16, 1, 4, '_', 0);
@@ -194,8 +195,13 @@ static void check_choice(void)
 #if !defined(__cplusplus) || __cplusplus >= 201103L
     TRY(unsigned long long, -1, "18446744073709551615", "+FFFF_FFFF_FFFF_FFFF")
     TRY(long long, -4611686018427387904LL, "-4611686018427387904", "-4000_0000_0000_0000")
-    room = sizeof text;
-    check_text(lexical_write(48879, RADIX(16), text, room), "BEEF");
+    check_text(lexical_write(48879, RADIX(16), text, sizeof text), "BEEF");
+#ifndef __cplusplus
+    check_text(lexical_write(1234567, &(const struct lexical_format){ .radix = 10, .group_size = 3, .mark = ',' }, text,
+                             sizeof text), "1,234,567");
+    check(lexical_length(1234567, &(const struct lexical_format){ .radix = 2, .required_sign = 1 }) == 22, "a literal");
+    check_text(lexical_decimal(7, (char *[1]){ text }[0], 1), "7");
+#endif
     check(lexical_length(100, RADIX(2)) == 7 && lexical_length(100, RADIX(36)) == 2, "LEXICAL_RADIX as an argument");
 #endif
 #endif

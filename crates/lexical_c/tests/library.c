@@ -88,7 +88,7 @@ static struct expected plain_text(const struct type *type, uint64_t bits, const 
     do {
         if (format->group_size != 0 && digits != 0 && digits % format->group_size == 0)
             *--start = (char)format->mark;
-        *--start = (char)(digit_chars[rest % format->radix] + WRONG_TEXT);
+        *--start = digit_chars[rest % format->radix];
         digits++;
         rest /= format->radix;
     } while (rest != 0);
@@ -322,8 +322,8 @@ static void check_fields(void)
                     struct lexical_format format = FORMATS[f];
                     uint32_t number = i < 256 ? i : i < 288 ? (uint32_t)1 << (i - 256) : GREAT[i - 288];
                     memcpy((char *)&format + 4 * field, &number, 4);
-                    uint64_t bits = i % 3 == 0 ? 77 : largest_bits(&TYPES[t]) / 3 * 2;
-                    check_number(&TYPES[t], bits, &format, i % 64 == 3);
+                    check_number(&TYPES[t], 77, &format, false);
+                    check_number(&TYPES[t], largest_bits(&TYPES[t]) / 3 * 2, &format, i % 64 == 3);
                 }
 }
 
@@ -338,7 +338,8 @@ static void check_random_formats(void)
         }
         struct lexical_format format;
         memcpy(&format, numbers, sizeof format);
-        const struct type *type = &TYPES[i % TYPE_COUNT];
+        /* Three formats in a row, of which one has large fields, have the same type. */
+        const struct type *type = &TYPES[i / 3 % TYPE_COUNT];
         check_number(type, next_random() & largest_bits(type), &format, false);
     }
 }
@@ -358,6 +359,44 @@ static void check_long_buffers(void)
             check(count == is_long && strcmp(map, is_long ? "7" : "") == 0, "a long buffer");
         }
     munmap(map, LENGTHS[3]);
+}
+
+/* Checks the result of a call, and that the buffer, which is next to a page that may not be accessed, has this text. */
+static void check_buffer(const char *call, size_t result, size_t wanted, const char *buffer, const char *text, size_t length)
+{
+    if (!check(result == wanted && memcmp(buffer, text, length) == 0, call) && failures <= 5)
+        printf("    %zu in place of %zu, %.*s in place of %.*s\n", result, wanted, (int)length, buffer, (int)length, text);
+}
+
+/* Checks zeros up to a width, as snprintf writes them, and strings, with buffers of each length. */
+static void check_endings(void)
+{
+    static const int NUMBERS[] = { 7, -42, 2147483647, -1, 0 };
+    for (size_t length = 0; length <= 20; length++)
+        for (size_t width = 0; width <= 21; width++)
+            for (int i = 0; i < 11; i++) {
+                char text[32] = "", padded[64], *buffer = buffers + page_size - length;
+                size_t count = 0, result;
+                memset(padded, '#', sizeof padded);
+                if (i < 10)
+                    count = (size_t)snprintf(text, sizeof text, i < 5 ? "%d" : "%+d", NUMBERS[i % 5]);
+                memset(text + count, '#', sizeof text - count);
+                memcpy(buffer, text, length);
+                result = lexical_pad(count, width, buffer, length);
+                bool fits = count != 0 && count <= length && width <= length;
+                size_t wanted = count > width ? count : width;
+                if (i < 10) {
+                    snprintf(padded, sizeof padded, i < 5 ? "%0*d" : "%+0*d", (int)width, NUMBERS[i % 5]);
+                    padded[wanted] = '#';
+                }
+                check_buffer("lexical_pad", result, fits ? wanted : 0, buffer, fits ? padded : text, length);
+                memcpy(buffer, text, length);
+                result = lexical_terminate(count, buffer, length);
+                wanted = count < length ? count : 0;
+                text[wanted] = '\0';
+                check_buffer("lexical_terminate", result, wanted, buffer, text, length);
+            }
+    check(lexical_pad(1, 1, NULL, 0) == 0 && lexical_terminate(1, NULL, 0) == 0, "no buffer");
 }
 
 static unsigned passed, failed;
@@ -389,6 +428,7 @@ int main(int argument_count, char **arguments)
     run("every field", check_fields);
     run("random formats", check_random_formats);
     run("long buffers", check_long_buffers);
+    run("zeros and strings", check_endings);
     printf("%u passed, %u failed\n", passed, failed);
     return failed == 0 ? EXIT_SUCCESS : EXIT_FAILURE;
 }

@@ -13,8 +13,3 @@
 /* The initializer of a format, for C++17 too, which has no names in initializers. */
 #define FORMAT(radix, required_sign, group_size, mark, lowercase)              \
     { radix, required_sign, group_size, mark, lowercase, { 0, 0 } }
-
-/* 1 in a run that must fail: then each program compares with a text that is wrong. */
-#ifndef WRONG_TEXT
-#define WRONG_TEXT 0
-#endif

@@ -3,6 +3,7 @@
 
 mod buffer_size;
 mod decimal;
+mod ending;
 mod format;
 mod general;
 mod hexadecimal;
@@ -12,13 +13,13 @@ mod plain;
 mod version;
 mod write;
 
-/// Exports the writers, which take a slice, as functions that take a pointer and a length.
+use format::CFormat;
+
+/// Exports the functions that take a slice, as functions that take a pointer and a length.
 macro_rules! export {
-    ($($module:ident::$name:ident($number:ty $(, $format:ident)?)),* $(,)?) => { $(
+    ($($module:ident::$name:ident($($argument:ident: $type:ty),*)),* $(,)?) => { $(
         #[unsafe(no_mangle)]
-        unsafe extern "C" fn $name(
-            value: $number, $($format: &format::CFormat,)? buffer: *mut u8, length: usize,
-        ) -> usize {
+        unsafe extern "C" fn $name($($argument: $type,)* buffer: *mut u8, length: usize) -> usize {
             if length == 0 {
                 return 0; // The pointer may be NULL, which is no slice, and no text fits.
             }
@@ -26,20 +27,27 @@ macro_rules! export {
             // that may be written, that they do not overlap the format, and that nothing else uses them during the
             // call. The caller may not have initialized them, but no compiler sees its code together with this.
             let buffer = unsafe { core::slice::from_raw_parts_mut(buffer, length) };
-            $module::$name(value, $($format,)? buffer)
+            $module::$name($($argument,)* buffer)
         }
     )* };
 }
 
 export! {
-    write::lexical_write_u8(u8, format), write::lexical_write_u16(u16, format), write::lexical_write_u32(u32, format),
-    write::lexical_write_u64(u64, format), write::lexical_write_size(usize, format),
-    write::lexical_write_i8(i8, format), write::lexical_write_i16(i16, format), write::lexical_write_i32(i32, format),
-    write::lexical_write_i64(i64, format),
-    decimal::lexical_decimal_u8(u8), decimal::lexical_decimal_u16(u16), decimal::lexical_decimal_u32(u32),
-    decimal::lexical_decimal_u64(u64), decimal::lexical_decimal_size(usize),
-    decimal::lexical_decimal_i8(i8), decimal::lexical_decimal_i16(i16), decimal::lexical_decimal_i32(i32),
-    decimal::lexical_decimal_i64(i64),
+    write::lexical_write_u8(value: u8, format: &CFormat),
+    write::lexical_write_u16(value: u16, format: &CFormat),
+    write::lexical_write_u32(value: u32, format: &CFormat),
+    write::lexical_write_u64(value: u64, format: &CFormat),
+    write::lexical_write_size(value: usize, format: &CFormat),
+    write::lexical_write_i8(value: i8, format: &CFormat),
+    write::lexical_write_i16(value: i16, format: &CFormat),
+    write::lexical_write_i32(value: i32, format: &CFormat),
+    write::lexical_write_i64(value: i64, format: &CFormat),
+    decimal::lexical_decimal_u8(value: u8), decimal::lexical_decimal_u16(value: u16),
+    decimal::lexical_decimal_u32(value: u32), decimal::lexical_decimal_u64(value: u64),
+    decimal::lexical_decimal_size(value: usize), decimal::lexical_decimal_i8(value: i8),
+    decimal::lexical_decimal_i16(value: i16), decimal::lexical_decimal_i32(value: i32),
+    decimal::lexical_decimal_i64(value: i64),
+    ending::lexical_pad(count: usize, width: usize), ending::lexical_terminate(count: usize),
 }
 
 #[link(name = "c")]

@@ -99,6 +99,7 @@ pub(crate) const STREAMS: &[Rule] = &[
 pub(crate) const FOR_C: &[Rule] = &[
     in_file("write.rt", "#[unsafe(no_mangle)] pub extern \"C\" fn", "pub fn"),
     in_file("decimal.rt", "#[unsafe(no_mangle)] pub extern \"C\" fn", "pub fn"),
+    in_file("ending.rt", "#[unsafe(no_mangle)] pub extern \"C\" fn", "pub fn"),
 ];
 
 /// What `repository_tests/src/runtime.rs` has in place of the runtime of Rattle. What is not known here, rustc refuses.
