@@ -1,6 +1,6 @@
 //! The trait that each part of a text implements.
 
-ghost use Rattle.std.specs.Prelude.{◌≡◌, ◌↔◌, ◌+◌, ◌≤◌, IsTrue, List, ℕ, drop, length, min, slice_range, take, ⊤};
+ghost use Rattle.std.specs.Prelude.{◌≡◌, ◌↔◌, ◌+◌, ◌<◌, ◌≤◌, IsTrue, List, ℕ, drop, length, min, slice_range, take, ⊤};
 ghost use Rattle.std.specs.Prelude.{IfNone, IfSome, IsSome};
 ghost use Rattle.std.specs.Borrow.{sem};
 ghost use Rattle.lexical_write_integer.specs.Buffer.{Writes};
@@ -121,6 +121,7 @@ pub trait Part: Copy {
         requires { is_valid self }
         ensures fits { room self ≤ length buffer.old → IsSome result }
         ensures longer { IfNone result (room self ≤ 256 → HasLonger (is_text self) (length buffer.old)) }
+        ensures large { IsSome result → 256 < room self → room self ≤ length buffer.old }
         ensures text { IfSome result (Writes (is_text self) buffer.old buffer.new) }
         ensures short { IfSome result (λ count. count ≤ room self) }
         ensures utf8 { IfSome result (λ _. is_utf8 self → AreUtf8 (is_text self)) }
@@ -163,6 +164,7 @@ pub trait Part: Copy {
         requires utf8 { is_utf8 self }
         ensures fits { room self ≤ length buffer.old → IsSome result }
         ensures longer { IfNone result (room self ≤ 256 → HasLonger (is_text self) (length buffer.old)) }
+        ensures large { IsSome result → 256 < room self → room self ≤ length buffer.old }
         ensures text { IfSome result (λ text. is_text self text.now) }
         ensures short { IfSome result (λ text. length text.now ≤ room self) }
     {
@@ -178,6 +180,7 @@ pub trait Part: Copy {
 fn write_if_it_fits<P: Part>(part: P, buffer: &mut [u8]) -> Option<usize>
     requires { P.is_valid part }
     ensures longer { IfNone result (P.room part ≤ 256 → HasLonger (P.is_text part) (length buffer.old)) }
+    ensures at_most_256 { IsSome result → P.room part ≤ 256 }
     ensures text { IfSome result (Writes (P.is_text part) buffer.old buffer.new) }
     ensures short { IfSome result (λ count. count ≤ P.room part) }
     ensures utf8 { IfSome result (λ _. P.is_utf8 part → AreUtf8 (P.is_text part)) }
@@ -199,6 +202,7 @@ fn str_if_it_fits<P: Part>(part: P, buffer: &mut [u8]) -> Option<&str>
     requires valid { P.is_valid part }
     requires utf8 { P.is_utf8 part }
     ensures longer { IfNone result (P.room part ≤ 256 → HasLonger (P.is_text part) (length buffer.old)) }
+    ensures at_most_256 { IsSome result → P.room part ≤ 256 }
     ensures text { IfSome result (λ text. P.is_text part text.now) }
     ensures short { IfSome result (λ text. length text.now ≤ P.room part) }
 {
