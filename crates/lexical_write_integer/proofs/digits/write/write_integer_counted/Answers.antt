@@ -16,6 +16,11 @@ pub returns-else-radix-eq10-clause-short : goal.returns-else-radix-eq10-clause-s
 returns-else-radix-eq10-clause-short g c =
     WritesDigits-short c.radix_counted.ensures.digits c.requires.radix.at_least_two g.met.T.UnsignedInteger.range.width c.fits_bits.ensures
 
+-- the check finds this proof by itself, but with an answer the refusal of a mistake says what is wrong
+pub returns-else-radix-eq10-clause-notes : goal.returns-else-radix-eq10-clause-notes
+returns-else-radix-eq10-clause-notes g c =
+    rw (ne_eqb c.args.radix 10 c.if-radix-eq10.false) c.radix_counted.ensures.notes
+
 pub returns-else-radix-eq10-clause-turns : goal.returns-else-radix-eq10-clause-turns
 returns-else-radix-eq10-clause-turns g c =
     let other = ne_eqb c.args.radix 10 c.if-radix-eq10.false in

@@ -9,3 +9,7 @@ returns-then-radix-eq10-clause-short g c =
 pub returns-else-radix-eq10-clause-short : goal.returns-else-radix-eq10-clause-short
 returns-else-radix-eq10-clause-short g c =
     WritesDigits-short c.radix_counted.ensures.digits c.requires.radix.at_least_two g.met.Self.UnsignedInteger.range.width c.fits_bits.ensures
+
+-- the check finds this proof by itself, but with an answer the refusal of a mistake says what is wrong
+pub returns-then-radix-eq10-clause-digits : goal.returns-then-radix-eq10-clause-digits
+returns-then-radix-eq10-clause-digits g c = rw c.if-radix-eq10.true c.decimal_signed.ensures.digits
