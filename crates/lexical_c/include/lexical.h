@@ -553,7 +553,7 @@ inline size_t lexical_length(T value, const lexical_format &format) LEXICAL_NOEX
              unsigned long long: function##_u64, signed char: function##_i8,   \
              short: function##_i16, int: function##_i32, long: function##_i64, \
              long long: function##_i64)
-/* The names of the parameters would not help: a compound literal has commas that no parentheses enclose. */
+/* The arguments after the value are passed on as they are, because a compound literal has commas of its own. */
 #define lexical_decimal(value, ...)                                            \
     LEXICAL_PRIVATE_FOR_TYPE(lexical_decimal, value)(value, __VA_ARGS__)
 #define lexical_write(value, ...)                                              \
