@@ -23,10 +23,12 @@
  *     count = lexical_write_u32(48879, &hexadecimal, buffer, sizeof buffer);
  *     count = lexical_pad(count, 8, buffer, sizeof buffer);
  *
- * And this writes 0xBEEF:
+ * And this writes 0xBEEF. The two bytes of the prefix are missing in the length, and a
+ * result of 0 stays 0. A negative number would become 0x-BEEF.
  *
  *     memcpy(buffer, "0x", 2);
- *     count = 2 + lexical_write_u32(48879, &hexadecimal, buffer + 2, sizeof buffer - 2);
+ *     count = lexical_write_u32(48879, &hexadecimal, buffer + 2, sizeof buffer - 2);
+ *     count = count == 0 ? 0 : count + 2;
  *
  * Text. A negative number begins with '-'. Another number begins with '+' if the
  * format requires a sign, and otherwise with its first digit. The digits are '0' to
@@ -65,8 +67,8 @@
  * field. No call changes errno.
  *
  * Proof. The sources of the library are proved for all arguments that meet the
- * conditions above under "Format" and "Buffer". The caller's code is not proved, and
- * what a compiler makes of the sources is tested.
+ * conditions above under "Format" and "Buffer". The step from C pointers to these
+ * sources is written by hand and tested, and so is what a compiler makes of them.
  *
  * Threads and signals. The functions have no state and allocate nothing: any thread
  * and any signal handler may call them.
@@ -271,9 +273,9 @@ struct lexical_format {
 /*
  * The format of a radix, as an initializer: with no '+' and no groups, in uppercase.
  * The radix may have any integer type. A number that is not from 2 to 36 becomes 0,
- * so the format is not valid, and lexical_check_format tells it. If the number is a
- * constant expression, it does not compile, in C11, in C++11, and with gcc and clang
- * also in C99. The radix is evaluated once, except before C11 with compilers other
+ * so the format is not valid, and lexical_check_format reports it. With gcc and clang a
+ * constant expression that is not from 2 to 36 does not compile, and in C11 with other
+ * compilers too. The radix is evaluated once, except before C11 with compilers other
  * than gcc and clang.
  */
 #define LEXICAL_RADIX(radix) { LEXICAL_PRIVATE_RADIX(radix), 0, 0, 0, 0, { 0, 0 } }
@@ -462,7 +464,7 @@ size_t lexical_terminate(size_t count, char *buffer, size_t length) LEXICAL_NOEX
  * for an int. A variable of the type char or bool is refused, and in C++ also wchar_t,
  * char8_t, char16_t and char32_t: a cast says whether you mean the number or a letter.
  * In C the expressions 'x', true and a > b are of the type int, so they are accepted.
- * In C11 a bit-field needs a cast too.
+ * In C11 gcc also needs a cast for a bit-field.
  *
  * In C++ the format may also be passed as an object, and in C++11 and later as
  * an initializer:

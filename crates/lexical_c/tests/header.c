@@ -53,7 +53,8 @@ static void check_examples(void)
     count = lexical_pad(count, 8, buffer, sizeof buffer);
     check(count == 8 && memcmp(buffer, "0000BEEF", 8) == 0, "the example of zeros");
     memcpy(buffer, "0x", 2);
-    count = 2 + lexical_write_u32(48879, &hexadecimal, buffer + 2, sizeof buffer - 2);
+    count = lexical_write_u32(48879, &hexadecimal, buffer + 2, sizeof buffer - 2);
+    count = count == 0 ? 0 : count + 2;
     check(count == 6 && memcmp(buffer, "0xBEEF", 6) == 0, "the example of a prefix");
     count = lexical_decimal_i32(-42, text, sizeof text);
     lexical_terminate(count, text, sizeof text);
