@@ -1,6 +1,7 @@
 //! Writes integers as text, in every radix from 2 to 36, into a buffer that you supply. No call allocates, except that of
-//! `Append`. The sources of the other calls are proved: [when its conditions hold](#conditions), a call writes exactly the
-//! right bytes and does not panic.
+//! `Append`. The sources of the other calls are written in Rattle, a dialect of Rust with contracts, and are proved there:
+//! [when its conditions hold](#conditions), a call writes exactly the right bytes and does not panic. This Rust code is
+//! made from them by a program, and is tested.
 //!
 //! # A first program
 //!

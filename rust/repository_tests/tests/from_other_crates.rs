@@ -64,7 +64,8 @@ fn from_format() {
     let (mut text, mut buffer) = (String::new(), [0; 64]);
     text.push_str((a, ",", b, "\n").to_str(&mut buffer));
     assert_eq!(text, format!("{a},{b}\n"));
-    assert_eq!(Padded(number, 2).to_str(&mut buffer), format!("{number:02}"));
+    assert_eq!(Padded(number, 6).to_str(&mut buffer), format!("{number:06}"));
+    assert_eq!(ZeroPadded(number, 6).to_str(&mut buffer), format!("{number:06}"));
     assert_eq!(ZeroPadded(a, 6).to_str(&mut buffer), format!("{a:06}"));
     assert_eq!(Right(number, 8, b' ').to_str(&mut buffer), format!("{number:>8}"));
     assert_eq!(Hex(number).to_str(&mut buffer), format!("{number:X}"));

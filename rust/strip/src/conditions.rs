@@ -68,7 +68,7 @@ pub(crate) const PARTS: Conditions = &[
     (TOO_SHORT, "to_text.room to_str.room write_to.room write_at.room write_field.inside write_with_length.room"),
     (
         Panics("the part is not valid"),
-        "to_text.valid to_str.valid try_to_str.valid try_write_to write_to.valid write_at.valid text_len write_pieces.valid
+        "to_text.valid to_str.valid try_to_str.valid try_write_to write_to.valid write_at.valid write_pieces.valid
         write_field.valid write_with_length.valid",
     ),
     (Panics("the text of the part is not UTF-8"), "to_str.utf8 try_to_str.utf8 write_pieces.utf8"),
@@ -76,7 +76,7 @@ pub(crate) const PARTS: Conditions = &[
     (RADIX, "write_with_length.radix"),
     (Panics("the length has more digits than `width`"), "write_with_length.fits"),
     (Panics("the length and `extra` together are above `usize::MAX`"), "write_with_length.sum"),
-    (OnAPage, "room"),
+    (OnAPage, "room text_len"),
     (Internal, "most_room"),
 ];
 

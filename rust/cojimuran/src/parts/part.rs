@@ -38,10 +38,6 @@ pub trait Part: Copy {
 
     /// Returns the length of the text, if the part knows it without writing the text, and otherwise `None`, as it does
     /// if you do not define this method. The part must be valid.
-    ///
-    /// # Panics
-    ///
-    /// If the part is not valid.
     #[must_use]
     #[inline]
     fn text_len(self) -> Option<usize> {
