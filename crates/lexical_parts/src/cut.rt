@@ -37,8 +37,8 @@ fn end_of_chars(text: &[u8], most: usize) -> (usize, usize)
     ensures left { result.1 ≡ most - char_count text.now }
 {
     let mut left = most;
-    for index in 0..text.len() {
-        if is_char_start(text[index]) {
+    for (index, byte) in text.iter().enumerate() {
+        if is_char_start(*byte) {
             if left == 0 {
                 return (index, 0);
             }
@@ -52,7 +52,7 @@ fn end_of_chars(text: &[u8], most: usize) -> (usize, usize)
 fn is_char_start(byte: u8) -> bool
     ensures { result ≡ is_char_start byte }
 {
-    byte < 128 || byte >= 192
+    !(128..192).contains(&byte)
 }
 
 // Writes the first `most` characters of the text, and returns how many fewer than that it has.

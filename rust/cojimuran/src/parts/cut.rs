@@ -30,8 +30,8 @@ impl<O: fmt::Write> fmt::Write for Cut<'_, O> {
 #[inline]
 fn end_of_chars(text: &[u8], most: usize) -> (usize, usize) {
     let mut left = most;
-    for index in 0..text.len() {
-        if is_char_start(text[index]) {
+    for (index, byte) in text.iter().enumerate() {
+        if is_char_start(*byte) {
             if left == 0 {
                 return (index, 0);
             }
@@ -44,7 +44,7 @@ fn end_of_chars(text: &[u8], most: usize) -> (usize, usize) {
 // Returns whether the byte is the first of a character.
 #[inline]
 fn is_char_start(byte: u8) -> bool {
-    byte < 128 || byte >= 192
+    !(128..192).contains(&byte)
 }
 
 // Writes the first `most` characters of the text, and returns how many fewer than that it has.
