@@ -59,7 +59,7 @@ impl<P: Show> Tried for P {
             assert_eq!(self.try_to_str(&mut shorter), None);
             assert!(shorter.iter().all(|byte| *byte == b'?'));
         }
-        let text = str::from_utf8(&buffer[..length]).unwrap();
+        let text = std::str::from_utf8(&buffer[..length]).unwrap();
         // `{}` of a `ZeroPadded` has a limit.
         if random.below(8) == 0 && (self.room() <= 256 || !type_name::<P>().contains("ZeroPadded")) {
             let width = random.below(300) as usize;
