@@ -1,6 +1,6 @@
 //! Writes rows of numbers, as in CSV.
 
-ghost use Rattle.std.specs.Prelude.{◌≡◌, ◌+◌, ◌*◌, ◌≤◌, [], ◌∷◌};
+ghost use Rattle.std.specs.Prelude.{◌≡◌, ◌+◌, ◌*◌, ◌<◌, ◌≤◌, [], ◌∷◌};
 ghost use Rattle.std.specs.Prelude.{IfNone, IfSome, IsSome, OnOk, codes, length, ⊤};
 ghost use Rattle.lexical_write_integer.specs.Buffer.{Writes};
 ghost use Rattle.lexical_write_integer.specs.Sequence.{AreJoined, IsExactly};
@@ -70,6 +70,8 @@ pub fn try_write_list(numbers: &[i64], buffer: &mut [u8]) -> Option<usize>
     ensures longer { IfNone result (1 + (joined_room (λ _. 20) 2 numbers.now + 1) ≤ 256
         → HasLonger (IsStr "[" then AreJoined IsDecimal (codes ", ") numbers.now then IsStr "]")
         (length buffer.old)) }
+    ensures large { IsSome result → 256 < 1 + (joined_room (λ _. 20) 2 numbers.now + 1)
+        → 1 + (joined_room (λ _. 20) 2 numbers.now + 1) ≤ length buffer.old }
     ensures text { IfSome result (Writes
         (IsStr "[" then AreJoined IsDecimal (codes ", ") numbers.now then IsStr "]")
         buffer.old buffer.new) }
@@ -116,6 +118,8 @@ pub fn try_write_rows(rows: &[Row<'_>], buffer: &mut [u8]) -> Option<usize>
     ensures longer { IfNone result (joined_room (λ row. row_room row.0.now) 1 rows.now + 1 ≤ 256
         → HasLonger (AreJoined (λ row. IsRow row.0.now) (codes "\n") rows.now then IsStr "\n")
         (length buffer.old)) }
+    ensures large { IsSome result → 256 < joined_room (λ row. row_room row.0.now) 1 rows.now + 1
+        → joined_room (λ row. row_room row.0.now) 1 rows.now + 1 ≤ length buffer.old }
     ensures text { IfSome result (Writes
         (AreJoined (λ row. IsRow row.0.now) (codes "\n") rows.now then IsStr "\n") buffer.old buffer.new) }
     ensures none { IfNone result (buffer.new ≡ buffer.old) }

@@ -1,6 +1,6 @@
 //! Writes a setting: a key, `=` and a number of any type, if there is one.
 
-ghost use Rattle.std.specs.Prelude.{◌≡◌, ◌+◌, ◌≤◌, IfNone, IfSome, IsSome, length};
+ghost use Rattle.std.specs.Prelude.{◌≡◌, ◌+◌, ◌<◌, ◌≤◌, IfNone, IfSome, IsSome, length};
 ghost use Rattle.lexical_write_integer.specs.Buffer.{Writes};
 ghost use Rattle.lexical_write_integer.specs.Sequence.{IsExactly};
 ghost use Rattle.lexical_parts.specs.Length.{HasLonger};
@@ -24,6 +24,8 @@ pub fn try_write_setting<T: ToLexicalWithOptions>(
     ensures longer { IfNone result (length key.now + 2 + optional_room (λ _. T.FORMATTED_SIZE_DECIMAL) number ≤ 256
         → HasLonger (IsExactly key.now then IsStr "=" then IsOptional (λ d. IsDecimal (T.number d.0)) number
         then IsStr "\n") (length buffer.old)) }
+    ensures large { IsSome result → 256 < length key.now + 2 + optional_room (λ _. T.FORMATTED_SIZE_DECIMAL) number
+        → length key.now + 2 + optional_room (λ _. T.FORMATTED_SIZE_DECIMAL) number ≤ length buffer.old }
     ensures text { IfSome result (Writes
         (IsExactly key.now then IsStr "=" then IsOptional (λ d. IsDecimal (T.number d.0)) number
         then IsStr "\n") buffer.old buffer.new) }

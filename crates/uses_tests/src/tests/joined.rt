@@ -149,6 +149,7 @@ fn rows_of_rows(rt: HostRuntime) {
     let rows = [Row(&[1, -2]), Row(&[]), Row(&[3])];
     check(&rt, try_write_rows(&rows, &mut buffer), Some(8));
     check_buffer(&rt, &buffer, 8, b"1,-2\n\n3\n");
+    check(&rt, try_write_rows(&rows, &mut [7; 63]), Some(8));
     check(&rt, try_write_rows(&rows, &mut [7; 8]), Some(8));
     check(&rt, try_write_rows(&rows, &mut [7; 7]), None);
 }

@@ -169,8 +169,12 @@ fn lists_of_numbers(rt: HostRuntime) {
     let count = try_write_list(&[-1, 20], &mut buffer[..44]);
     check(&rt, count, Some(8));
     check_buffer(&rt, &buffer, 8, b"[-1, 20]");
+    check(&rt, try_write_list(&[-1, 20], &mut [7; 43]), Some(8));
     check(&rt, try_write_list(&[-1, 20], &mut [7; 8]), Some(8));
     check(&rt, try_write_list(&[-1, 20], &mut [7; 7]), None);
+    // The room of twelve numbers is 264 bytes, so their 36 bytes need all of it.
+    check(&rt, try_write_list(&[0; 12], &mut [7; 264]), Some(36));
+    check(&rt, try_write_list(&[0; 12], &mut [7; 263]), None);
     check(&rt, try_write_list(&[], &mut [7; 2]), Some(2));
     let mut buffer = [7; 45];
     let count = write_entries(&[5, -6], &mut buffer);
