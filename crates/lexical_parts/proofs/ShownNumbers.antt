@@ -2,7 +2,7 @@
 use Rattle.std.proofs.lemmas.Grind.{common_steps}
 use Rattle.std.proofs.Common.{◌≡◌, ◌∙◌, refl, true, false, Bool, [], ◌∷◌, ◌++◌, ℕ, suc, ◌+◌, ◌-◌, ◌^◌, ◌==◌, length, replicate, List, if◌then◌else◌, append-nil}
 use Rattle.std.proofs.Common.{append_assoc, None, Some, drop, ℤ, arith}
-use Rattle.std.specs.Fmt.{formatter_spec, padded_integral, char_count, sign_text_with, spec_precision, spec_width}
+use Rattle.std.specs.Fmt.{fill_text, formatter_spec, padded_integral, padding_before, char_count, sign_text_with, spec_precision, spec_width}
 use Rattle.std.specs.Int.{is_negative}
 use Rattle.lexical_num.specs.Sign.{sign_of}
 use Rattle.std.specs.Option.{unwrap_or, is_some}
@@ -94,6 +94,33 @@ sign_as_digit f plus true digits no_plus no_zeros =
     let minus : padded_integral (formatter_spec f) false [] (45 ∷ digits) ≡ padded_integral (formatter_spec f) true [] digits =
     rw (no_plus, no_zeros, cond_same {A = List ℕ} f.spec.alternate [] [] [] refl refl, same) (simp (append-nil, append_assoc)) in
     minus ∙ negative_sign f plus digits
+
+module _ {W : Type 0} (f : Formatter W) (digits : List ℕ) where
+  -- the pieces of a number, with fill or with zeros
+  pieces_in_order : (zero : Bool) (sign : List ℕ) (missing fill before : ℕ) →
+      fill ≡ (if zero then 0 else missing) → before ≡ padding_before (formatter_spec f) fill 3 →
+      fill_text (formatter_spec f) before ++ (sign ++ (replicate (missing - fill) 48 ++ (digits ++ fill_text (formatter_spec f) (fill - before))))
+      ≡ (fill_text (formatter_spec f) (if zero then 0 else padding_before (formatter_spec f) missing 3) ++ sign ++ [] ++ replicate (if zero then missing else 0) 48)
+      ++ (digits ++ fill_text (formatter_spec f) (if zero then 0 else missing - padding_before (formatter_spec f) missing 3))
+  pieces_in_order true sign missing fill before is_fill is_before =
+      let none : missing - 0 ≡ missing = omega arith in
+      rw (is_before, is_fill, padding_before_none (formatter_spec f) 3, none) (simp (append-nil, append_assoc))
+  pieces_in_order false sign missing fill before is_fill is_before =
+      let none : missing - missing ≡ 0 = omega arith in
+      rw (is_before, is_fill, none) (simp (append-nil, append_assoc))
+
+  -- what is written of a number piece by piece: fill, the sign, zeros, the digits and fill
+  pub pieces_of_number : (missing fill before : ℕ) →
+      missing ≡ (formatter_spec f).width - length digits - length (sign_text_with (formatter_spec f).plus false) →
+      fill ≡ (if (formatter_spec f).zero then 0 else missing) → before ≡ padding_before (formatter_spec f) fill 3 →
+      fill_text (formatter_spec f) before ++ (sign_text_with (formatter_spec f).plus false
+      ++ (replicate (missing - fill) 48 ++ (digits ++ fill_text (formatter_spec f) (fill - before))))
+      ≡ padded_integral (formatter_spec f) false [] digits
+  unfolding padded_integral char_count
+  pieces_of_number missing fill before short is_fill is_before =
+      let whole : f.spec.width - length digits - length (sign_text_with f.spec.plus false) - 0 ≡ missing = omega (arith, short) in
+      rw (cond_same {A = List ℕ} f.spec.alternate [] [] [] refl refl, whole)
+      (pieces_in_order f.spec.zero (sign_text_with f.spec.plus false) missing fill before is_fill is_before)
 
 -- the text of a number without its sign
 pub without_sign : (n : ℤ) (required : Bool) (digits : List ℕ)

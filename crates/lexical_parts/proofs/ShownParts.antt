@@ -1,6 +1,6 @@
 -- Texts that are written to a writer one after another.
 use Rattle.std.proofs.Common.{replicate, ◌/◌, ◌-◌, ◌≡◌, ℕ, ◌+◌, ◌<◌, List, [], ◌∷◌, ◌++◌, length, take, get_or, refl, sym, ap, ◌∙◌, arith}
-use Rattle.std.proofs.Common.{append_assoc, append-nil, subst}
+use Rattle.std.proofs.Common.{append_assoc, append-nil, length-append, subst}
 use Rattle.std.proofs.Output.{writes_in_calls_append, writes_in_calls_nil, writes_in_calls_single, has_written_styled_append, has_written_styled_nil}
 use Rattle.std.specs.List.{FoldsTo, concat}
 use Rattle.std.proofs.lemmas.List.{take_more, length-take-le}
@@ -14,7 +14,7 @@ use Rattle.std.specs.declared.fmt.Formatter.{Formatter}
 use Rattle.lexical_write_integer.specs.Sequence.{AreJoined, IsExactly}
 use Rattle.lexical_write_integer.proofs.OfTexts.Joins.{Leads, AreJoined-push}
 use Rattle.lexical_parts.specs.Column.{IsAtLeft, IsAtRight, IsCentered}
-use Rattle.lexical_parts.specs.Length.{HasLength, IsOnly}
+use Rattle.lexical_parts.specs.Length.{IsOfLength, IsOnly}
 use Rattle.std.specs.Option.{IfSome, option_map}
 use Rattle.std.specs.Prelude.{Option, Some, None, Result, IsOk}
 use Rattle.std.specs.declared.fmt.Error.{Error}
@@ -45,42 +45,42 @@ WritesSome-joined took IsOf separator lead xs {i} {y} f g h k inside is leads te
       wrote = writes_in_calls_append _ _ _ _ _ _ texts.wrote added.wrote;
     })
 
--- copies of the fill are written, and then a text of one length
+-- copies of the fill are written, and then a text of this length
 pub WritesSome-right : {W : Type 0} (took : W → List ℕ → W → Type 0) (Is : List ℕ → Type 0) (width fill count : ℕ) (f g h : W) →
-    HasLength Is count → WritesInCalls took f (replicate (width - count) fill) g → WritesSome took Is g h → WritesSome took (IsAtRight width fill Is) f h
-WritesSome-right took Is width fill count f g h long filled cell = record {
+    WritesInCalls took f (replicate (width - count) fill) g → WritesSome took (IsOfLength Is count) g h → WritesSome took (IsAtRight width fill Is) f h
+WritesSome-right took Is width fill count f g h filled cell = record {
   text = replicate (width - count) fill ++ cell.text;
   is = record {
     cell = cell.text;
-    is = cell.is;
-    whole = ap (λ n. replicate (width - n) fill ++ cell.text) (sym (long.each cell.text cell.is));
+    is = cell.is.is;
+    whole = ap (λ n. replicate (width - n) fill ++ cell.text) (sym cell.is.counted);
   };
   wrote = writes_in_calls_append _ _ _ _ _ _ filled cell.wrote;
 }
 
--- a text of one length is written, and then copies of the fill
+-- a text of this length is written, and then copies of the fill
 pub WritesSome-left : {W : Type 0} (took : W → List ℕ → W → Type 0) (Is : List ℕ → Type 0) (width fill count : ℕ) (f g h : W) →
-    HasLength Is count → WritesSome took Is f g → WritesInCalls took g (replicate (width - count) fill) h → WritesSome took (IsAtLeft width fill Is) f h
-WritesSome-left took Is width fill count f g h long cell filled = record {
+    WritesSome took (IsOfLength Is count) f g → WritesInCalls took g (replicate (width - count) fill) h → WritesSome took (IsAtLeft width fill Is) f h
+WritesSome-left took Is width fill count f g h cell filled = record {
   text = cell.text ++ replicate (width - count) fill;
   is = record {
     cell = cell.text;
-    is = cell.is;
-    whole = ap (λ n. cell.text ++ replicate (width - n) fill) (sym (long.each cell.text cell.is));
+    is = cell.is.is;
+    whole = ap (λ n. cell.text ++ replicate (width - n) fill) (sym cell.is.counted);
   };
   wrote = writes_in_calls_append _ _ _ _ _ _ cell.wrote filled;
 }
 
--- copies of the fill, a text of one length, and the other copies
+-- copies of the fill, a text of this length, and the other copies
 pub WritesSome-centered : {W : Type 0} (took : W → List ℕ → W → Type 0) (Is : List ℕ → Type 0) (width fill count : ℕ) (f g h k : W) →
-    HasLength Is count → WritesInCalls took f (replicate ((width - count) / 2) fill) g → WritesSome took Is g h
+    WritesInCalls took f (replicate ((width - count) / 2) fill) g → WritesSome took (IsOfLength Is count) g h
     → WritesInCalls took h (replicate (width - count - (width - count) / 2) fill) k → WritesSome took (IsCentered width fill Is) f k
-WritesSome-centered took Is width fill count f g h k long before cell after = record {
+WritesSome-centered took Is width fill count f g h k before cell after = record {
   text = (replicate ((width - count) / 2) fill ++ cell.text) ++ replicate (width - count - (width - count) / 2) fill;
   is = record {
     cell = cell.text;
-    is = cell.is;
-    whole = ap (λ n. (replicate ((width - n) / 2) fill ++ cell.text) ++ replicate (width - n - (width - n) / 2) fill) (sym (long.each cell.text cell.is));
+    is = cell.is.is;
+    whole = ap (λ n. (replicate ((width - n) / 2) fill ++ cell.text) ++ replicate (width - n - (width - n) / 2) fill) (sym cell.is.counted);
   };
   wrote = writes_in_calls_append _ _ _ _ _ _ (writes_in_calls_append _ _ _ _ _ _ before cell.wrote) after;
 }
@@ -122,6 +122,21 @@ lowering_closed took in_it = closed_calls (LoweringGives took in_it)
     (λ s. (refl, writes_in_calls_nil _ _))
     (λ s t u a b first second.
     (second.0 ∙ first.0, rw (map-append to_ascii_lowercase a b) (writes_in_calls_append _ _ _ _ _ _ first.1 second.1)))
+
+-- what some calls write whose bytes are counted
+abbrev pub CountedGives : {W T : Type 0} (took : W → List ℕ → W → Type 0) → (T → MutBor W) → (T → ℕ) → T → List ℕ → T → Type 0
+CountedGives took in_it left s bytes t =
+    ((in_it t).ghost_name ≡ (in_it s).ghost_name) × WritesInCalls took (in_it s).now bytes (in_it t).now × (length bytes + left t ≡ left s)
+
+pub counted_closed : {W T : Type 0} (took : W → List ℕ → W → Type 0) (in_it : T → MutBor W) (left : T → ℕ) (s t : T) (text : List ℕ)
+    → WritesInCalls (CountedGives took in_it left) s text t → CountedGives took in_it left s text t
+counted_closed took in_it left = closed_calls (CountedGives took in_it left)
+    (λ s. (refl, writes_in_calls_nil _ _, omega arith))
+    (λ s t u a b first second. (
+      second.0 ∙ first.0,
+      writes_in_calls_append _ _ _ _ _ _ first.1 second.1,
+      rw (length-append a b) (omega (arith, first.2, second.2)),
+    ))
 
 -- a text that is the only one of its kind is the one that is written
 module _ {W : Type 0} (took : W → List ℕ → W → Type 0) (Is : List ℕ → Type 0) (f g : Formatter W) (r : Result (Unit {0}) Error) where

@@ -1,6 +1,6 @@
 -- How many digits a number of a type has.
-use Rattle.std.proofs.Common.{◌≡◌, ℕ, ◌-◌, ◌*◌, ◌/◌, ◌^◌, ◌<◌, ◌≤◌, arith, inl, inr, ℤ, ◌≤ℤ◌, unsigned_abs, Bool, true, false}
-use Rattle.std.proofs.Math.Nat.{pow-le-pow_left, pow-le-pow_right}
+use Rattle.std.proofs.Common.{◌≡◌, ℕ, zero, suc, ◌-◌, ◌*◌, ◌/◌, ◌^◌, ◌<◌, ◌≤◌, arith, inl, inr, min, ℤ, ◌≤ℤ◌, unsigned_abs, Bool, true, false}
+use Rattle.std.proofs.Math.Nat.{pow-le-pow_left, pow-le-pow_right, pow-zero}
 use Rattle.std.proofs.lemmas.Bool.{cases_lt}
 use Rattle.lexical_num.proofs.Magnitudes.{decimal_width-le_20}
 use Rattle.lexical_num.specs.BitWidth.{IsBitWidth, is_8, is_16, is_32, is_64}
@@ -26,6 +26,30 @@ pub fits_width : (r n width count : ℕ) → 2 ≤ r → count ≡ digit_count r
 fits_width r n width count two is few =
     let power = pow-le-pow_right {n = r} (omega (arith, two)) {i = digit_count r n} {j = width} (omega (arith, is, few)) in
     omega (arith, digit_count-fits r n two, power)
+
+pub zero_fits : (r n width : ℕ) → 2 ≤ r → n ≡ 0 → n < r ^ width
+zero_fits r n width two none =
+    let power = pow-le-pow_right {n = r} (omega (arith, two)) {i = 0} {j = width} (omega arith) in
+    omega (arith, none, power, pow-zero r)
+
+-- and one that is below that power has no more digits, or it is 0
+pub few_or_none : (r n width : ℕ) → width < digit_count r n → n < r ^ width → n ≡ 0
+few_or_none r n zero many fits = omega (arith, fits, pow-zero r)
+few_or_none r n (suc width) many fits =
+    let few = digit_count-le r n (suc width) (omega arith) fits in
+    absurd (omega (arith, few, many))
+
+-- a number of at most 64 bits has at most 64 digits
+pub fits_in_64 : (r n width : ℕ) → 2 ≤ r → n < 2 ^ 64 → n < r ^ width → n < r ^ min width 64
+fits_in_64 r n width two small fits =
+    elim (cases_lt 64 width) [
+      | inl wide ↦
+          let same : min width 64 ≡ 64 = omega (arith, wide) in
+          rw same (omega (arith, small, pow-le-pow_left two 64))
+      | inr narrow ↦
+          let same : min width 64 ≡ width = omega (arith, narrow) in
+          rw same fits
+    ]
 
 -- so is one that has few enough bits, if each digit of the radix has room for `bits` of them
 pub fits_bits : (r bits n width : ℕ) → 2 ^ bits ≤ r → n < 2 ^ (bits * width) → n < r ^ width

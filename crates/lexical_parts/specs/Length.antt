@@ -5,6 +5,11 @@ use Rattle.std.specs.Prelude.{◌≡◌, ℕ, ◌<◌, List, length}
 pub record HasLength (Is : List ℕ → Type 0) (count : ℕ) : Type 0 where
   pub each : (text : List ℕ) → Is text → length text ≡ count
 
+-- a text of this kind that has this length
+pub record IsOfLength (Is : List ℕ → Type 0) (count : ℕ) (text : List ℕ) : Type 0 where
+  pub is : Is text
+  pub counted : length text ≡ count
+
 -- a text of this kind is longer
 pub record HasLonger (Is : List ℕ → Type 0) (count : ℕ) : Type 0 where
   pub text : List ℕ

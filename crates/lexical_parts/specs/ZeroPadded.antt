@@ -7,15 +7,27 @@ abbrev pub sign_length : List ℕ → ℕ
 sign_length [] = 0
 sign_length (byte ∷ _) = if byte == 45 || byte == 43 then 1 else 0
 
+-- the text with zeros between its sign and its other bytes
+abbrev pub with_zeros : ℕ → List ℕ → List ℕ
+with_zeros count text = take (sign_length text) text ++ (replicate count 48 ++ drop (sign_length text) text)
+
 -- a text that satisfies `Is`, with zeros between its sign and its other bytes, up to the width
 pub record IsZeroPadded (width : ℕ) (Is : List ℕ → Type 0) (text : List ℕ) : Type 0 where
   pub number : List ℕ
   pub is : Is number
-  pub whole : text ≡ take (sign_length number) number
-      ++ (replicate (width - length number) 48 ++ drop (sign_length number) number)
+  pub whole : text ≡ with_zeros (width - length number) number
 
 -- the same text as the prover computes it
 abbrev pub zero_padded_text : ℕ → Option (List ℕ) → Option (List ℕ)
 zero_padded_text width None = None
-zero_padded_text width (Some number) = Some (take (sign_length number) number
-    ++ (replicate (width - length number) 48 ++ drop (sign_length number) number))
+zero_padded_text width (Some number) = Some (with_zeros (width - length number) number)
+
+-- what is written of a text that comes in pieces, where zeros are still to be added to the piece that begins it
+abbrev pub piece_with_zeros : ℕ → List ℕ → List ℕ
+piece_with_zeros count [] = []
+piece_with_zeros count (byte ∷ rest) = with_zeros count (byte ∷ rest)
+
+-- how many zeros are still to be added after a piece
+abbrev pub zeros_after : ℕ → List ℕ → ℕ
+zeros_after count [] = count
+zeros_after count (_ ∷ _) = 0

@@ -1,9 +1,9 @@
 //! Parts in a format string: `{}` of a part writes its text, with the sign, the width and the fill of the format. A
-//! part that is not valid is an error, and so is a `Padded` in no digits, or in more than 64.
+//! part that is not valid is an error.
 
-ghost use Rattle.std.specs.Prelude.{◌≡◌, ◌↔◌, ◌<◌, ◌≤◌, ◌^◌, None, Some, IfOk, IsOk, true, false, [], ◌∷◌, ◌++◌, drop};
-ghost use Rattle.std.specs.Prelude.{length, unsigned_abs, if◌then◌else◌};
-ghost use Rattle.std.specs.Fmt.{WritesOnOk, WritesStyledOnOk, formatter_spec, padded_integral, sign_text_with};
+ghost use Rattle.std.specs.Prelude.{◌≡◌, ◌↔◌, ◌<◌, ◌≤◌, ◌^◌, None, Some, ◌-◌, IfOk, IsOk, IsTrue, true, false, [], ◌∷◌, ◌++◌, drop};
+ghost use Rattle.std.specs.Prelude.{length, replicate, unsigned_abs, if◌then◌else◌};
+ghost use Rattle.std.specs.Fmt.{WritesOnOk, WritesStyledOnOk, formatter_spec, padded_integral, padding_before, sign_text_with};
 ghost use Rattle.std.specs.Int.{is_negative};
 ghost use Rattle.lexical_num.specs.Format.{IsRadix, standard};
 ghost use Rattle.lexical_write_integer.specs.Computed.{digits_text, padded_text, text_of};
@@ -14,10 +14,11 @@ ghost use Rattle.lexical_parts.specs.Trimmed.{trimmed_text, trimmed_units_text};
 use crate::cell::{is_short_cell, write_cell};
 use crate::fixed::{Fixed, GroupedFixed, LONGEST_FIXED};
 use crate::number::{Decimal, Digits, Formatted, formatted_room_suffices};
-use crate::padded::{Padded, PaddedDigits};
+use crate::padded::{MOST_DIGITS, Padded, PaddedDigits};
 use crate::part::Part;
 use crate::plus::Plus;
 use crate::powers_of_two::{Binary, Hex};
+use crate::shown::write_fill;
 use crate::trimmed::TrimmedFixed;
 use lexical_num::limits::is_radix;
 use lexical_write_integer::digit_count::DigitCount;
@@ -26,9 +27,6 @@ use lexical_write_integer::laws::{digit_count_within_bits, digits_computed, text
 use lexical_write_integer::radix::Radix;
 use lexical_write_integer::{BUFFER_SIZE, NumberFormatBuilder, ToLexical};
 use std::fmt;
-
-// The digits of the longest number, and the most that a padded number can have to be shown.
-const MOST_DIGITS: usize = 64;
 
 // Writes a text that begins with `+` as the standard library writes an integer with the option `+`.
 fn pad_with_plus<W: fmt::Write>(f: &mut fmt::Formatter<W>, text: &str) -> fmt::Result
@@ -45,10 +43,46 @@ fn pad_with_plus<W: fmt::Write>(f: &mut fmt::Formatter<W>, text: &str) -> fmt::R
     }
     f.write_str("+")?;
     let zeros = f.width().unwrap_or(0).saturating_sub(text.len());
-    for _ in 0..zeros {
+    write_zeros(zeros, f)?;
+    f.write_str(digits)
+}
+
+// Writes zeros to a formatter, whatever its options are.
+fn write_zeros<W: fmt::Write>(count: usize, f: &mut fmt::Formatter<W>) -> fmt::Result
+    ensures { WritesStyledOnOk W.write_str_gives f.old result (replicate count 48) f.new }
+{
+    for _ in 0..count {
         f.write_str("0")?;
     }
-    f.write_str(digits)
+    Ok(())
+}
+
+// Returns the sign that the format asks for before a number that is not negative.
+fn plus_of<W: fmt::Write>(f: &fmt::Formatter<W>) -> &'static str
+    ensures { result.now ≡ sign_text_with (formatter_spec f.now).plus false }
+{
+    if f.sign_plus() { "+" } else { "" }
+}
+
+// Returns how many copies of the fill a number gets that is so many characters shorter than the width. The others are
+// zeros before its digits.
+fn fill_of_number<W: fmt::Write>(f: &fmt::Formatter<W>, missing: usize) -> usize
+    ensures within { result ≤ missing }
+    ensures value { result ≡ (if (formatter_spec f.now).zero then 0 else missing) }
+{
+    if f.sign_aware_zero_pad() { 0 } else { missing }
+}
+
+// Returns how many copies of the fill precede a number.
+fn fill_before_number<W: fmt::Write>(f: &fmt::Formatter<W>, fill: usize) -> usize
+    ensures within { result ≤ fill }
+    ensures side { result ≡ padding_before (formatter_spec f.now) fill 3 }
+{
+    match f.align() {
+        Some(fmt::Alignment::Left) => 0,
+        Some(fmt::Alignment::Center) => fill / 2,
+        None | Some(fmt::Alignment::Right) => fill,
+    }
 }
 
 // Writes a text as `pad_number` does, in a format with a width or another option. It is cold, and so not inlined:
@@ -203,21 +237,51 @@ impl<T: DigitCount + Radix> fmt::Display for Digits<T> {
     }
 }
 
+// Writes zeros and then digits as the standard library writes an integer. It is cold, and so not inlined: few numbers
+// have more than 64 digits.
+#[cold]
+fn pad_wide<W: fmt::Write>(f: &mut fmt::Formatter<W>, zeros: usize, digits: &str) -> fmt::Result
+    ensures writes { WritesOnOk W.write_str_gives f.old result (replicate zeros 48 ++ digits.now) f.new }
+    ensures styled { WritesStyledOnOk W.write_str_gives f.old result
+        (padded_integral (formatter_spec f.old) false [] (replicate zeros 48 ++ digits.now)) f.new }
+{
+    let plus = plus_of(f);
+    let width = f.width().unwrap_or(0);
+    let missing = width
+        .saturating_sub(zeros)
+        .saturating_sub(digits.len())
+        .saturating_sub(plus.len());
+    let fill = fill_of_number(f, missing);
+    let before = fill_before_number(f, fill);
+    write_fill(before, f)?;
+    f.write_str(plus)?;
+    write_zeros(missing - fill, f)?;
+    write_zeros(zeros, f)?;
+    f.write_str(digits)?;
+    write_fill(fill - before, f)
+}
+
 impl<T: DigitCount + Radix> PaddedDigits<T> {
-    // Returns the text, or an error if the radix is not from 2 to 36, the number does not fit in the width, or the
-    // width is not from 1 to 64.
-    fn shown(self, buffer: &mut [u8; MOST_DIGITS]) -> Result<&str, fmt::Error>
-        ensures ok { IsOk result ↔ (IsRadix self.0 × (T.magnitude self.1 < self.0 ^ self.2) × (1 ≤ self.2)
-            × (self.2 ≤ 64)) }
-        ensures text { IfOk result (λ text. text.now ≡ padded_text self.0 self.2 (T.magnitude self.1)) }
+    // Returns whether the number has at most as many digits as the width.
+    fn fits(self) -> bool
+        requires { IsRadix self.0 }
+        ensures { IsTrue result ↔ T.magnitude self.1 < self.0 ^ self.2 }
     {
-        if !is_radix(u64::from(self.0)) {
+        self.1.digit_count(self.0) <= self.2 || self.1.as_u64() == 0
+    }
+
+    // Returns the last 64 digits of the text, or all if it has fewer. It is an error if the radix is not from 2 to 36,
+    // or if the number does not fit in the width.
+    fn shown(self, buffer: &mut [u8; MOST_DIGITS]) -> Result<&str, fmt::Error>
+        ensures ok { IsOk result ↔ (IsRadix self.0 × (T.magnitude self.1 < self.0 ^ self.2)) }
+        ensures text { IfOk result (λ text.
+            replicate (self.2 - 64) 48 ++ text.now ≡ padded_text self.0 self.2 (T.magnitude self.1)) }
+    {
+        if !is_radix(u64::from(self.0)) || !self.fits() {
             return Err(fmt::Error);
         }
-        if MOST_DIGITS < self.2 || self.2 < self.1.digit_count(self.0) {
-            return Err(fmt::Error);
-        }
-        Ok(self.to_str(buffer))
+        self.1.fits_bits();
+        Ok(PaddedDigits(self.0, self.1, self.2.min(MOST_DIGITS)).to_str(buffer))
     }
 }
 
@@ -229,8 +293,12 @@ impl<T: DigitCount + Radix> fmt::Display for PaddedDigits<T> {
 
     fn fmt<W: fmt::Write>(&self, f: &mut fmt::Formatter<W>) -> fmt::Result {
         let mut buffer = [0; MOST_DIGITS];
-        let text = PaddedDigits(self.0, self.1, self.2).shown(&mut buffer)?;
-        pad_number(f, false, false, text)
+        let digits = PaddedDigits(self.0, self.1, self.2).shown(&mut buffer)?;
+        if self.2 <= MOST_DIGITS {
+            pad_number(f, false, false, digits)
+        } else {
+            pad_wide(f, self.2 - MOST_DIGITS, digits)
+        }
     }
 }
 

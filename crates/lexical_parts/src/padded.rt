@@ -6,13 +6,18 @@ ghost use Rattle.std.specs.Prelude.{◌^◌, ◌<◌, IsTrue, Some};
 ghost use Rattle.lexical_num.specs.Format.{IsRadix};
 ghost use Rattle.lexical_write_integer.specs.Padded.{IsPadded};
 
+use crate::fill::write_copies;
 use crate::own::Own;
 use crate::part::Part;
-use crate::show::Show;
+use crate::show::{Show, write_at_once};
 use lexical_num::limits::is_radix;
 use lexical_write_integer::digit_count::DigitCount;
 use lexical_write_integer::padded::{fits_decimal_width, write_padded};
 use lexical_write_integer::radix::Radix;
+use std::fmt;
+
+// The digits of the longest number, and the most that are written to a writer at once.
+pub(crate) const MOST_DIGITS: usize = 64;
 
 // Returns whether the number has so few bits that it is below `radix^width`. To count its digits costs more, and is not
 // needed if the radix is a power of two.
@@ -72,6 +77,13 @@ impl<T: DigitCount + Radix> Show for PaddedDigits<T> {
         self.1.fits_bits();
         self.is_known_utf8(Own)
     }
+
+    fn write_pieces<O: fmt::Write>(self, out: &mut O) -> fmt::Result {
+        self.1.fits_bits();
+        let width = self.2.min(MOST_DIGITS);
+        write_copies(b'0', self.2 - width, out)?;
+        write_at_once(PaddedDigits(self.0, self.1, width), out)
+    }
 }
 
 /// An unsigned number in decimal, with leading zeros up to the width: `Padded(3u8, 2)` writes `03`.
@@ -111,5 +123,9 @@ impl<T: DigitCount + Radix> Show for Padded<T> {
     fn is_showable(self) -> bool {
         self.0.fits_bits();
         self.is_known_utf8(Own)
+    }
+
+    fn write_pieces<O: fmt::Write>(self, out: &mut O) -> fmt::Result {
+        PaddedDigits(10, self.0, self.1).write_pieces(out)
     }
 }

@@ -14,26 +14,28 @@ pub(crate) const MOST_AT_ONCE: usize = 256;
 /// A part that can be in a format string, by itself or in a `Shown`: `("id=", 7u8)` writes `id=7`, and so does `{}` of
 /// `Shown(("id=", 7u8))`. The parts of this crate are such parts, and so is a tuple, a `Joined` or a column of such parts.
 ///
-/// A part of your own becomes one if you define `is_showable`. Then a tuple with it can be in a format string.
+/// A part of your own becomes one if you define `is_showable`. Then a tuple with it can be in a format string. If its room
+/// can be above 256 bytes, define `write_pieces` too.
 pub trait Show: Part {
     // The text, if the prover computes it.
     ghost text: { Self → Option (List ℕ) } = { λ _. None };
 
-    /// Returns whether the values of the part show that it is valid, and that its text is UTF-8. If they do not, `{}` of
-    /// it is an error. For a part that is always valid define it as `true`.
+    /// Returns whether the part is valid and its text is UTF-8, as `to_str` requires. If it returns `false`, `{}` of the
+    /// part is an error. For a part of your own that is always valid, return `true`.
     fn is_showable(self) -> bool
         ensures valid { IsTrue result → Self.is_valid self }
         ensures utf8 { IsTrue result → Self.is_utf8 self }
         ensures only { IsTrue result → IfSome (text self) (λ bytes. IsOnly (Self.is_text self) bytes) };
 
-    /// Writes the text to a writer, in one piece or in several. The part must be valid.
+    /// Writes the text to a writer, such as a `String`, in one piece or in several. The part must be valid.
     ///
-    /// The method that you get, if you do not define this one, needs a room of at most 256 bytes. A longer part calls
-    /// this method of the parts that it consists of, one after another.
+    /// If you do not define this method, it writes the text at once, for which the room must be at most 256 bytes. A part
+    /// that can be longer calls this method of the parts that it consists of, one after another.
     ///
     /// # Errors
     ///
-    /// Returns the error of the writer, or an error if the room is above 256 bytes and you do not define this method.
+    /// Returns the error of the writer. For a part of your own it also returns an error if its room is above 256 bytes and
+    /// you do not define this method, or if it does not write the same text each time.
     fn write_pieces<O: fmt::Write>(self, out: &mut O) -> fmt::Result
         requires valid { Self.is_valid self }
         requires utf8 { Self.is_utf8 self }

@@ -26,7 +26,7 @@ use std::fmt;
 
 /// A tuple of parts, or another part, in a format string. A width, a fill and a precision work as for a `&str`.
 ///
-/// It is an error if a part in it is not valid, or if a `ZeroPadded` in it has a room above 256 bytes.
+/// It is an error if a part in it is not valid, or if it contains a byte that `to_str` refuses.
 ///
 /// ```
 /// use lexical_parts::{Hex, Shown};
@@ -145,7 +145,7 @@ fn padding_before<W: fmt::Write>(f: &fmt::Formatter<W>, padding: usize) -> usize
 }
 
 // Writes copies of the fill of the formatter.
-fn write_fill<W: fmt::Write>(count: usize, f: &mut fmt::Formatter<W>) -> fmt::Result
+pub(crate) fn write_fill<W: fmt::Write>(count: usize, f: &mut fmt::Formatter<W>) -> fmt::Result
     ensures { WritesStyledOnOk W.write_str_gives f.old result (fill_text (formatter_spec f.old) count) f.new }
 {
     let mut array = [0; 4];

@@ -1,13 +1,16 @@
 //! Numbers with leading zeros, up to at least a width.
 #![tactic(auto, using(crate::proofs::Utf8Changes::changes, crate::proofs::Lengths::lengths, crate::proofs::OnlyTexts::onlys))]
 
+ghost use Rattle.std.specs.Fmt.{WritesInCalls};
 ghost use Rattle.std.specs.Prelude.{◌≡◌, ◌≤◌, length, max};
-ghost use Rattle.lexical_parts.specs.ZeroPadded.{IsZeroPadded, sign_length, zero_padded_text};
+ghost use Rattle.lexical_parts.specs.ZeroPadded.{IsZeroPadded, piece_with_zeros, sign_length, zero_padded_text, zeros_after};
 
-use crate::fill::insert_fill;
+use crate::counted::{count_bytes, write_counted};
+use crate::fill::{insert_fill, write_copies};
 use crate::own::Own;
 use crate::part::Part;
-use crate::show::Show;
+use crate::show::{MOST_AT_ONCE, Show, write_at_once};
+use std::fmt;
 
 // Returns the length of the sign with which the text begins: 1 for `-` or `+`, and otherwise 0.
 fn length_of_sign(text: &[u8]) -> usize
@@ -21,8 +24,8 @@ fn length_of_sign(text: &[u8]) -> usize
 }
 
 /// A part with zeros after its sign, up to the width: `ZeroPadded(Decimal(-42), 6)` writes `-00042`, as
-/// `{:06}` does in Rust. A text longer than the width has no zeros. `Padded` has a width that the number
-/// must fit.
+/// `{:06}` does in Rust. A text longer than the width, which counts bytes, has no zeros. `Padded` has a
+/// width that the number must fit.
 #[derive(Clone, Copy, Debug, Drop)]
 pub struct ZeroPadded<P>(pub P, pub usize);
 
@@ -61,5 +64,53 @@ impl<P: Show> Show for ZeroPadded<P> {
 
     fn is_showable(self) -> bool {
         self.0.is_showable()
+    }
+
+    fn write_pieces<O: fmt::Write>(self, out: &mut O) -> fmt::Result {
+        if self.room() <= MOST_AT_ONCE {
+            return write_at_once(self, out);
+        }
+        let count = count_bytes(self.0)?;
+        let mut adding = AddingZeros {
+            out,
+            zeros: self.1.saturating_sub(count),
+        };
+        write_counted(self.0, count, &mut adding)?;
+        // A text without a byte has begun no piece.
+        let zeros = adding.zeros;
+        // By this use it is known what the writer is now.
+        let AddingZeros { out, .. } = adding;
+        write_copies(b'0', zeros, out)
+    }
+}
+
+// A writer that adds zeros after the sign of the first piece that is not empty.
+#[derive(Drop)]
+struct AddingZeros<'a, O> {
+    out: &'a mut O,
+    // How many zeros are still to be added.
+    zeros: usize,
+}
+
+impl<O: fmt::Write> fmt::Write for AddingZeros<'_, O> {
+    ghost write_str_gives = { λ s bytes t. (t.out.ghost_name ≡ s.out.ghost_name)
+        × WritesInCalls O.write_str_gives s.out.now (piece_with_zeros s.zeros bytes) t.out.now
+        × (t.zeros ≡ zeros_after s.zeros bytes) };
+
+    fn write_str(&mut self, text: &str) -> fmt::Result {
+        if text.is_empty() {
+            return Ok(());
+        }
+        let sign = length_of_sign(text.as_bytes());
+        let zeros = self.zeros;
+        self.zeros = 0;
+        match (text.get(..sign), text.get(sign..)) {
+            (Some(sign), Some(number)) => {
+                self.out.write_str(sign)?;
+                write_copies(b'0', zeros, self.out)?;
+                self.out.write_str(number)
+            }
+            _ => Err(fmt::Error),
+        }
     }
 }

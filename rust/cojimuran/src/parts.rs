@@ -23,15 +23,15 @@
 //!
 //! [`Decimal`], [`Formatted`], [`Plus`], [`Hex`], [`Binary`], [`Digits`], [`Padded`], [`PaddedDigits`], [`Fixed`],
 //! [`GroupedFixed`] and [`TrimmedFixed`] also have `Display`: `{}` of such a part writes its text, with the sign, the
-//! width and the fill as of an integer, and `#` and a precision do nothing. It is an error if there are more than 19
-//! decimals, if the radix is not from 2 to 36, or if a [`Padded`] or [`PaddedDigits`] has no digits, more than 64, or
-//! fewer than its number. `{}` of a [`Shown`] writes a tuple or any other part as it does a `&str`, and so does that of
-//! [`Joined`], [`Left`], [`Right`], [`Center`], [`ZeroPadded`], [`Lower`], [`OrElse`], [`Scientific`] and
-//! [`HexBytes`]. Of these it is an error if the part is not valid, and for a [`ZeroPadded`] with a room above 256 bytes.
+//! width and the fill as of an integer, and `#` and a precision do nothing. `{}` of a [`Shown`] writes a tuple or any
+//! other part as it does a `&str`, and so does that of [`Joined`], [`Left`], [`Right`], [`Center`], [`ZeroPadded`],
+//! [`Lower`], [`OrElse`], [`Scientific`] and [`HexBytes`]. `{}` is an error if the part is not valid, or if it contains
+//! a byte that [`Part::to_str`] refuses.
 
 mod buffer;
 mod cell;
 mod column;
+mod counted;
 mod cut;
 mod display;
 mod field;

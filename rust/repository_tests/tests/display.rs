@@ -132,23 +132,31 @@ fn decimals() {
 fn padded_numbers() {
     for number in [0, 9, 10, 12345, u64::MAX] {
         let digits = number.to_string().len();
-        for width in digits..=64 {
+        for width in (digits..=70).chain([255, 256, 257, 1000]) {
             let (part, text) = (Padded(number, width), format!("{number:0width$}"));
-            assert_eq!(format!("{part}|{part:70}|{part:*^70}"), format!("{text}|{text:>70}|{text:*^70}"));
+            assert_eq!(format!("{part}|{part:70}|{part:*^300}"), format!("{text}|{text:>70}|{text:*^300}"));
+            assert_eq!(format!("{part:<260}|{part:é>260}|{part:.9}"), format!("{text:<260}|{text:é>260}|{text}"));
+            assert_eq!(format!("{part:+}|{part:+300}"), format!("+{text}|{:>300}", format!("+{text}")));
+            let plus = format!("+{number:0width$}", width = width.max(299));
+            assert_eq!(format!("{part:0300}|{part:+0300}"), format!("{number:0w$}|{plus}", w = width.max(300)));
+            assert_eq!(Shown(part).to_string(), text);
         }
     }
     assert_eq!(format!("{:05}|{:+}|{}", Padded(7u8, 3), Padded(7u16, 3), Padded(7u32, 3)), "00007|+007|007");
-    // The type of the width bounds no room.
-    for refused in [Padded(10u64, 1), Padded(0, 0), Padded(7, 65), Padded(7, usize::MAX)] {
+    // The number 0 has no digits in no width, and no other number fits there.
+    assert_eq!(format!("{}|{:3}|{:+03}", Padded(0u8, 0), Padded(0u8, 0), Padded(0u8, 0)), "|   |+00");
+    for refused in [Padded(10u64, 1), Padded(1, 0)] {
         assert!(write!(String::new(), "{refused}").is_err());
     }
 }
 
 #[test]
 fn padded_digits() {
-    for refused in [PaddedDigits(1, 0u8, 2), PaddedDigits(37, 0, 2), PaddedDigits(16, 16, 1), PaddedDigits(2, 0, 65)] {
+    for refused in [PaddedDigits(1, 0u8, 2), PaddedDigits(37, 0, 2), PaddedDigits(16, 16, 1), PaddedDigits(2, 1, 0)] {
         assert!(write!(String::new(), "{refused}").is_err());
     }
+    assert_eq!(PaddedDigits(2, u64::MAX, 300).to_string(), format!("{:0300b}", u64::MAX));
+    assert_eq!(format!("{:_>300}", PaddedDigits(16, 255u8, 200)), format!("{:_>300}", format!("{:0200X}", 255)));
     assert!(write!(String::new(), "{}", Digits(37, 5u8)).is_err());
     // The largest number of the width, and one more.
     for (radix, width, most) in [(7, 23, u64::MAX), (7, 22, 7u64.pow(22) - 1), (3, 2, 8), (36, 12, 36u64.pow(12) - 1)] {
@@ -242,6 +250,31 @@ fn long_texts() {
     }
 }
 
+/// Checks a part with zeros after its sign, as std writes an integer.
+fn check_zeros(number: i64, width: usize) {
+    let text = format!("{number:0width$}");
+    assert_eq!(ZeroPadded(number, width).to_string(), text);
+    if let Some(own) = Own::of(number) {
+        assert_eq!(Shown((ZeroPadded(own, width), "!")).to_string(), format!("{text}!"));
+    }
+    let plus = format!("{:+0width$}", number.unsigned_abs());
+    assert_eq!(ZeroPadded(Joined(&[("+", number.unsigned_abs())], ""), width).to_string(), plus);
+}
+
+#[test]
+fn long_numbers_with_zeros() {
+    for number in [0, 7, -7, 1234567, i64::MIN, i64::MAX] {
+        for width in [0, 1, 9, 20, 255, 256, 257, 300, 4000] {
+            check_zeros(number, width);
+        }
+    }
+    // The sign is in the first piece that is not empty.
+    let pieces = ("", Joined(&["", "-", ""], ""), "12", 3u8);
+    assert_eq!(ZeroPadded(pieces, 300).to_string(), format!("-{:0299}", 123));
+    assert_eq!(ZeroPadded(("", ""), 300).to_string(), "0".repeat(300));
+    assert_eq!(format!("{:>305}", ZeroPadded("+", 300)), format!("     +{}", "0".repeat(299)));
+}
+
 #[test]
 fn examples_of_long_texts() {
     assert_eq!(HexBytes(&[7; 200], "").to_string(), "07".repeat(200));
@@ -250,13 +283,20 @@ fn examples_of_long_texts() {
     assert_eq!(format!("{}", Shown((Own(5), "!"))), "5!");
 }
 
-/// A caller's own part, which is valid if its number is not 0.
+/// A caller's own part, which is valid if its number is not the least one.
 #[derive(Clone, Copy)]
-struct Own(u8);
+struct Own(i64);
+
+impl Own {
+    /// Returns the part of a number that has one.
+    fn of(number: i64) -> Option<Own> {
+        Some(Own(number)).filter(|own| own.is_showable())
+    }
+}
 
 impl Part for Own {
     fn room(self) -> usize {
-        3
+        20
     }
 
     fn write_to(self, buffer: &mut [u8]) -> usize {
@@ -266,7 +306,50 @@ impl Part for Own {
 
 impl Show for Own {
     fn is_showable(self) -> bool {
-        self.0 != 0
+        self.0 != i64::MIN
+    }
+}
+
+/// A caller's own part with a long text, whose length it does not say.
+#[derive(Clone, Copy)]
+struct Long<'a>(&'a str);
+
+impl Part for Long<'_> {
+    fn room(self) -> usize {
+        2 * self.0.len()
+    }
+
+    fn write_to(self, buffer: &mut [u8]) -> usize {
+        (self.0, self.0).write_to(buffer)
+    }
+}
+
+impl Show for Long<'_> {
+    fn is_showable(self) -> bool {
+        true
+    }
+
+    fn write_pieces<O: Write>(self, out: &mut O) -> std::fmt::Result {
+        (self.0, self.0).write_pieces(out)
+    }
+}
+
+#[test]
+fn columns_of_long_own_parts() {
+    for length in [0, 1, 100, 128, 129, 400] {
+        let text = "-é".repeat(length);
+        let (part, whole) = (Long(&text), text.repeat(2));
+        for width in [0, 3, whole.len(), whole.len() + 1, whole.len() + 300] {
+            let added = width.saturating_sub(whole.len());
+            let dots = |count: usize| ".".repeat(count);
+            assert_eq!(Left(part, width, b'.').to_string(), whole.clone() + &dots(added));
+            assert_eq!(Right(part, width, b'.').to_string(), dots(added) + &whole);
+            let centre = dots(added / 2) + &whole + &dots(added - added / 2);
+            assert_eq!(Center(part, width, b'.').to_string(), centre);
+            let zeros = "0".repeat(added);
+            let number = whole.strip_prefix('-').map_or(zeros.clone(), |rest| format!("-{zeros}{rest}"));
+            assert_eq!(ZeroPadded(part, width).to_string(), number);
+        }
     }
 }
 
@@ -286,7 +369,7 @@ fn parts_that_are_not_shown() {
     }
     assert!(is_refused((1u8, Digits(37, 1u8))) && is_refused(Joined(&[Padded(1u8, 1), Padded(10, 1)], ",")));
     assert!(is_refused(Bytes(&[200])) && is_refused((Byte(128), 1u8)) && is_refused(Left(1u8, 2, 128)));
-    assert!(is_refused(Own(0)) && is_refused(("own", Own(0))) && is_refused(Fixed(1u8, 20)));
+    assert!(is_refused(Own(i64::MIN)) && is_refused(("own", Own(i64::MIN))) && is_refused(Fixed(1u8, 20)));
 }
 
 #[test]

@@ -2,27 +2,16 @@
 
 //! Parts that are padded to the width of a column.
 
-use crate::parts::fill::{insert_fill, write_fill};
+use crate::parts::counted::{count_bytes, write_counted};
+use crate::parts::fill::{insert_fill, write_copies, write_fill};
 use crate::parts::own::Own;
 use crate::parts::part::Part;
-use crate::parts::show::{Show, write_at_once};
-use crate::parts::text::Byte;
+use crate::parts::show::{MOST_AT_ONCE, Show, write_at_once};
 use core::fmt;
-
-// Writes copies of a byte to a writer.
-#[inline]
-fn write_copies<O: fmt::Write>(byte: u8, count: usize, out: &mut O) -> fmt::Result {
-    let mut array = [0; 1];
-    let text = Byte(byte).to_str(&mut array);
-    for _ in 0..count {
-        out.write_str(text)?;
-    }
-    Ok(())
-}
 
 /// A part that is aligned to the left of a column: a byte, often a space, is added after its text, up to
 /// the width. `Left(Decimal(12), 4, b'.')` writes `12..`. Nothing is added to a text longer than the
-/// width.
+/// width, which counts bytes and not characters.
 ///
 /// ```
 /// use cojimuran::parts::{Decimal, Left, Part};
@@ -63,17 +52,18 @@ impl<P: Show> Show for Left<P> {
 
     #[inline]
     fn write_pieces<O: fmt::Write>(self, out: &mut O) -> fmt::Result {
-        let Some(count) = self.0.text_len() else {
+        if self.room() <= MOST_AT_ONCE {
             return write_at_once(self, out);
-        };
-        self.0.write_pieces(out)?;
+        }
+        let count = count_bytes(self.0)?;
+        write_counted(self.0, count, out)?;
         write_copies(self.2, self.1.saturating_sub(count), out)
     }
 }
 
 /// A part that is aligned to the right of a column: a byte, often a space, is added before its text, up
 /// to the width. `Right(Decimal(42), 4, b'.')` writes `..42`. Nothing is added to a text
-/// longer than the width.
+/// longer than the width, which counts bytes and not characters.
 ///
 /// ```
 /// use cojimuran::parts::{Decimal, Part, Right};
@@ -116,17 +106,19 @@ impl<P: Show> Show for Right<P> {
 
     #[inline]
     fn write_pieces<O: fmt::Write>(self, out: &mut O) -> fmt::Result {
-        let Some(count) = self.0.text_len() else {
+        if self.room() <= MOST_AT_ONCE {
             return write_at_once(self, out);
-        };
+        }
+        let count = count_bytes(self.0)?;
         write_copies(self.2, self.1.saturating_sub(count), out)?;
-        self.0.write_pieces(out)
+        write_counted(self.0, count, out)
     }
 }
 
 /// A part in the centre of a column: a byte, often a space, is added before and after its text, up to
 /// the width. Of an odd number of bytes the larger half is after the text, as with `{:^6}` in Rust:
-/// `Center(Decimal(-12), 6, b'*')` writes `*-12**`. Nothing is added to a text longer than the width.
+/// `Center(Decimal(-12), 6, b'*')` writes `*-12**`. Nothing is added to a text longer than the width,
+/// which counts bytes and not characters.
 ///
 /// ```
 /// use cojimuran::parts::{Center, Decimal, Part};
@@ -171,13 +163,14 @@ impl<P: Show> Show for Center<P> {
 
     #[inline]
     fn write_pieces<O: fmt::Write>(self, out: &mut O) -> fmt::Result {
-        let Some(count) = self.0.text_len() else {
+        if self.room() <= MOST_AT_ONCE {
             return write_at_once(self, out);
-        };
+        }
+        let count = count_bytes(self.0)?;
         let added = self.1.saturating_sub(count);
         let before = added / 2;
         write_copies(self.2, before, out)?;
-        self.0.write_pieces(out)?;
+        write_counted(self.0, count, out)?;
         write_copies(self.2, added - before, out)
     }
 }

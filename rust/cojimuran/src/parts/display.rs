@@ -1,25 +1,23 @@
 // Made by `strip` from crates/lexical_parts/src/display.rt. Edit that file, not this one.
 
 //! Parts in a format string: `{}` of a part writes its text, with the sign, the width and the fill of the format. A
-//! part that is not valid is an error, and so is a [`Padded`](crate::parts::Padded) in no digits, or in more than 64.
+//! part that is not valid is an error.
 
 use crate::num::limits::is_radix;
 use crate::parts::cell::{is_short_cell, write_cell};
 use crate::parts::fixed::{Fixed, GroupedFixed, LONGEST_FIXED};
 use crate::parts::number::{Decimal, Digits, Formatted};
-use crate::parts::padded::{Padded, PaddedDigits};
+use crate::parts::padded::{MOST_DIGITS, Padded, PaddedDigits};
 use crate::parts::part::Part;
 use crate::parts::plus::Plus;
 use crate::parts::powers_of_two::{Binary, Hex};
+use crate::parts::shown::write_fill;
 use crate::parts::trimmed::TrimmedFixed;
 use crate::write_integer::digit_count::DigitCount;
 use crate::write_integer::format::STANDARD;
 use crate::write_integer::radix::Radix;
 use crate::write_integer::{BUFFER_SIZE, NumberFormatBuilder, ToLexical};
 use core::fmt;
-
-// The digits of the longest number, and the most that a padded number can have to be shown.
-const MOST_DIGITS: usize = 64;
 
 // Writes a text that begins with `+` as the standard library writes an integer with the option `+`.
 #[inline]
@@ -33,10 +31,40 @@ fn pad_with_plus(f: &mut fmt::Formatter<'_>, text: &str) -> fmt::Result {
     }
     f.write_str("+")?;
     let zeros = f.width().unwrap_or(0).saturating_sub(text.len());
-    for _ in 0..zeros {
+    write_zeros(zeros, f)?;
+    f.write_str(digits)
+}
+
+// Writes zeros to a formatter, whatever its options are.
+#[inline]
+fn write_zeros(count: usize, f: &mut fmt::Formatter<'_>) -> fmt::Result {
+    for _ in 0..count {
         f.write_str("0")?;
     }
-    f.write_str(digits)
+    Ok(())
+}
+
+// Returns the sign that the format asks for before a number that is not negative.
+#[inline]
+fn plus_of(f: &fmt::Formatter<'_>) -> &'static str {
+    if f.sign_plus() { "+" } else { "" }
+}
+
+// Returns how many copies of the fill a number gets that is so many characters shorter than the width. The others are
+// zeros before its digits.
+#[inline]
+fn fill_of_number(f: &fmt::Formatter<'_>, missing: usize) -> usize {
+    if f.sign_aware_zero_pad() { 0 } else { missing }
+}
+
+// Returns how many copies of the fill precede a number.
+#[inline]
+fn fill_before_number(f: &fmt::Formatter<'_>, fill: usize) -> usize {
+    match f.align() {
+        Some(fmt::Alignment::Left) => 0,
+        Some(fmt::Alignment::Center) => fill / 2,
+        None | Some(fmt::Alignment::Right) => fill,
+    }
 }
 
 // Writes a text as `pad_number` does, in a format with a width or another option. It is cold, and so not inlined:
@@ -146,18 +174,42 @@ impl<T: DigitCount + Radix> fmt::Display for Digits<T> {
     }
 }
 
+// Writes zeros and then digits as the standard library writes an integer. It is cold, and so not inlined: few numbers
+// have more than 64 digits.
+#[cold]
+#[inline]
+fn pad_wide(f: &mut fmt::Formatter<'_>, zeros: usize, digits: &str) -> fmt::Result {
+    let plus = plus_of(f);
+    let width = f.width().unwrap_or(0);
+    let missing = width
+        .saturating_sub(zeros)
+        .saturating_sub(digits.len())
+        .saturating_sub(plus.len());
+    let fill = fill_of_number(f, missing);
+    let before = fill_before_number(f, fill);
+    write_fill(before, f)?;
+    f.write_str(plus)?;
+    write_zeros(missing - fill, f)?;
+    write_zeros(zeros, f)?;
+    f.write_str(digits)?;
+    write_fill(fill - before, f)
+}
+
 impl<T: DigitCount + Radix> PaddedDigits<T> {
-    // Returns the text, or an error if the radix is not from 2 to 36, the number does not fit in the width, or the
-    // width is not from 1 to 64.
+    // Returns whether the number has at most as many digits as the width.
+    #[inline]
+    fn fits(self) -> bool {
+        self.1.digit_count(self.0) <= self.2 || self.1.as_u64() == 0
+    }
+
+    // Returns the last 64 digits of the text, or all if it has fewer. It is an error if the radix is not from 2 to 36,
+    // or if the number does not fit in the width.
     #[inline]
     fn shown(self, buffer: &mut [u8; MOST_DIGITS]) -> Result<&str, fmt::Error> {
-        if !is_radix(u64::from(self.0)) {
+        if !is_radix(u64::from(self.0)) || !self.fits() {
             return Err(fmt::Error);
         }
-        if MOST_DIGITS < self.2 || self.2 < self.1.digit_count(self.0) {
-            return Err(fmt::Error);
-        }
-        Ok(self.to_str(buffer))
+        Ok(PaddedDigits(self.0, self.1, self.2.min(MOST_DIGITS)).to_str(buffer))
     }
 }
 
@@ -165,8 +217,12 @@ impl<T: DigitCount + Radix> fmt::Display for PaddedDigits<T> {
     #[inline]
     fn fmt(&self, f: &mut fmt::Formatter<'_>) -> fmt::Result {
         let mut buffer = [0; MOST_DIGITS];
-        let text = PaddedDigits(self.0, self.1, self.2).shown(&mut buffer)?;
-        pad_number(f, false, false, text)
+        let digits = PaddedDigits(self.0, self.1, self.2).shown(&mut buffer)?;
+        if self.2 <= MOST_DIGITS {
+            pad_number(f, false, false, digits)
+        } else {
+            pad_wide(f, self.2 - MOST_DIGITS, digits)
+        }
     }
 }
 

@@ -3,12 +3,17 @@
 //! Numbers with leading zeros, up to a fixed width.
 
 use crate::num::limits::is_radix;
+use crate::parts::fill::write_copies;
 use crate::parts::own::Own;
 use crate::parts::part::Part;
-use crate::parts::show::Show;
+use crate::parts::show::{Show, write_at_once};
 use crate::write_integer::digit_count::DigitCount;
 use crate::write_integer::padded::{fits_decimal_width, write_padded};
 use crate::write_integer::radix::Radix;
+use core::fmt;
+
+// The digits of the longest number, and the most that are written to a writer at once.
+pub(crate) const MOST_DIGITS: usize = 64;
 
 // Returns whether the number has so few bits that it is below `radix^width`. To count its digits costs more, and is not
 // needed if the radix is a power of two.
@@ -67,6 +72,13 @@ impl<T: DigitCount + Radix> Show for PaddedDigits<T> {
     fn is_showable(self) -> bool {
         self.is_known_utf8(Own)
     }
+
+    #[inline(always)]
+    fn write_pieces<O: fmt::Write>(self, out: &mut O) -> fmt::Result {
+        let width = self.2.min(MOST_DIGITS);
+        write_copies(b'0', self.2 - width, out)?;
+        write_at_once(PaddedDigits(self.0, self.1, width), out)
+    }
 }
 
 /// An unsigned number in decimal, with leading zeros up to the width: `Padded(3u8, 2)` writes `03`.
@@ -108,5 +120,10 @@ impl<T: DigitCount + Radix> Show for Padded<T> {
     #[inline(always)]
     fn is_showable(self) -> bool {
         self.is_known_utf8(Own)
+    }
+
+    #[inline(always)]
+    fn write_pieces<O: fmt::Write>(self, out: &mut O) -> fmt::Result {
+        PaddedDigits(10, self.0, self.1).write_pieces(out)
     }
 }

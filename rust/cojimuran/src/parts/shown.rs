@@ -16,7 +16,7 @@ use core::fmt;
 
 /// A tuple of parts, or another part, in a format string. A width, a fill and a precision work as for a `&str`.
 ///
-/// It is an error if a part in it is not valid, or if a [`ZeroPadded`](crate::parts::ZeroPadded) in it has a room above 256 bytes.
+/// It is an error if a part in it is not valid, or if it contains a byte that `to_str` refuses.
 ///
 /// ```
 /// use cojimuran::parts::{Hex, Shown};
@@ -113,7 +113,7 @@ fn padding_before(f: &fmt::Formatter<'_>, padding: usize) -> usize {
 
 // Writes copies of the fill of the formatter.
 #[inline]
-fn write_fill(count: usize, f: &mut fmt::Formatter<'_>) -> fmt::Result {
+pub(crate) fn write_fill(count: usize, f: &mut fmt::Formatter<'_>) -> fmt::Result {
     let mut array = [0; 4];
     let fill: &str = f.fill().encode_utf8(&mut array);
     for _ in 0..count {

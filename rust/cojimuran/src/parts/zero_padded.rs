@@ -2,10 +2,12 @@
 
 //! Numbers with leading zeros, up to at least a width.
 
-use crate::parts::fill::insert_fill;
+use crate::parts::counted::{count_bytes, write_counted};
+use crate::parts::fill::{insert_fill, write_copies};
 use crate::parts::own::Own;
 use crate::parts::part::Part;
-use crate::parts::show::Show;
+use crate::parts::show::{MOST_AT_ONCE, Show, write_at_once};
+use core::fmt;
 
 // Returns the length of the sign with which the text begins: 1 for `-` or `+`, and otherwise 0.
 #[inline]
@@ -17,8 +19,8 @@ fn length_of_sign(text: &[u8]) -> usize {
 }
 
 /// A part with zeros after its sign, up to the width: `ZeroPadded(Decimal(-42), 6)` writes `-00042`, as
-/// `{:06}` does in Rust. A text longer than the width has no zeros. [`Padded`](crate::parts::Padded) has a width that the number
-/// must fit.
+/// `{:06}` does in Rust. A text longer than the width, which counts bytes, has no zeros. [`Padded`](crate::parts::Padded) has a
+/// width that the number must fit.
 ///
 /// ```
 /// use cojimuran::parts::{Decimal, Part, ZeroPadded};
@@ -58,5 +60,50 @@ impl<P: Show> Show for ZeroPadded<P> {
     #[inline]
     fn is_showable(self) -> bool {
         self.0.is_showable()
+    }
+
+    #[inline]
+    fn write_pieces<O: fmt::Write>(self, out: &mut O) -> fmt::Result {
+        if self.room() <= MOST_AT_ONCE {
+            return write_at_once(self, out);
+        }
+        let count = count_bytes(self.0)?;
+        let mut adding = AddingZeros {
+            out,
+            zeros: self.1.saturating_sub(count),
+        };
+        write_counted(self.0, count, &mut adding)?;
+        // A text without a byte has begun no piece.
+        let zeros = adding.zeros;
+        // By this use it is known what the writer is now.
+        let AddingZeros { out, .. } = adding;
+        write_copies(b'0', zeros, out)
+    }
+}
+
+// A writer that adds zeros after the sign of the first piece that is not empty.
+struct AddingZeros<'a, O> {
+    out: &'a mut O,
+    // How many zeros are still to be added.
+    zeros: usize,
+}
+
+impl<O: fmt::Write> fmt::Write for AddingZeros<'_, O> {
+    #[inline]
+    fn write_str(&mut self, text: &str) -> fmt::Result {
+        if text.is_empty() {
+            return Ok(());
+        }
+        let sign = length_of_sign(text.as_bytes());
+        let zeros = self.zeros;
+        self.zeros = 0;
+        match (text.get(..sign), text.get(sign..)) {
+            (Some(sign), Some(number)) => {
+                self.out.write_str(sign)?;
+                write_copies(b'0', zeros, self.out)?;
+                self.out.write_str(number)
+            }
+            _ => Err(fmt::Error),
+        }
     }
 }

@@ -1,9 +1,9 @@
-use Rattle.std.proofs.Common.{◌≡◌, ◌∙◌, ap, suc, false, true, sym, refl, [], ◌∷◌, drop, length, ◌<◌, ◌-◌, arith}
+use Rattle.std.proofs.Common.{◌≡◌, ◌∙◌, ap, suc, false, true, sym, refl, [], drop, length, ◌<◌, ◌-◌, arith}
 use Rattle.std.specs.Fmt.{formatter_spec, padded_integral}
 use Rattle.std.specs.Option.{unwrap_or}
 use Rattle.std.proofs.lemmas.Str.{IsCharBoundary-after_ascii}
 use Rattle.std.proofs.Output.{has_written_styled_append, has_written_styled_of_eq}
-use Rattle.lexical_parts.proofs.ShownNumbers.{filled, replicate_more, width_of, zeros_after_plus}
+use Rattle.lexical_parts.proofs.ShownNumbers.{filled, width_of, zeros_after_plus}
 use Rattle.lexical_parts.proofs.display.pad_with_plus.Goals as goal
 
 pub range_from-digits-requires : goal.range_from-digits-requires
@@ -20,15 +20,6 @@ returns-then-not-sign_aware_zero_pad g c = λ p ok.
     has_written_styled_of_eq _ _ _ _ _ (whole ∙ filled f (drop 1 c.args.text.now) no_plus no_zeros)
     (c.pad_integral-then-not-sign_aware_zero_pad.ensures.styled p ok)
 
-pub loop-init : goal.loop-init
-loop-init g c = λ p. c.in_ok-write_str.ensures.styled p refl
-
-pub loop-preserved : goal.loop-preserved
-loop-preserved g c = λ p.
-    let so_far = c.loop.invariant p in
-    has_written_styled_of_eq _ _ _ _ _ (ap (λ l. 43 ∷ l) (replicate_more 48 c.loop.counter))
-    (has_written_styled_append _ _ _ _ _ _ so_far (c.in_ok-write_str-2.ensures.styled so_far.flush refl))
-
 pub returns : goal.returns
 returns g c = λ p ok.
     let f = c.args.f.now in
@@ -39,8 +30,8 @@ returns g c = λ p ok.
     let width : c.unwrap_or.result ≡ f.spec.width =
     c.unwrap_or.ensures ∙ ap (λ w. unwrap_or w 0) c.width.ensures.value ∙ width_of c.write_str.new.self ∙ ap (λ s. s.width) same in
     let long : length text ≡ suc (length (drop 1 text)) = ap length c.requires in
-    let count : c.loop.counter ≡ f.spec.width - suc (length (drop 1 text)) =
-    omega (arith, width, long, c.saturating_sub-zeros.ensures, c.loop-test.false, c.loop.auto.counter-end) in
-    let so_far = c.loop.invariant p in
+    let count : c.saturating_sub-zeros.result ≡ f.spec.width - suc (length (drop 1 text)) = omega (arith, width, long, c.saturating_sub-zeros.ensures) in
+    let plus = c.in_ok-write_str.ensures.styled p refl in
+    let filled = c.in_ok-write_zeros.ensures plus.flush refl in
     has_written_styled_of_eq _ _ _ _ _ (rw (count, c.range_from-digits.ensures.value) (zeros_after_plus f (drop 1 text) no_plus zeros))
-    (has_written_styled_append _ _ _ _ _ _ so_far (c.write_str-2.ensures.styled so_far.flush ok))
+    (has_written_styled_append _ _ _ _ _ _ plus (has_written_styled_append _ _ _ _ _ _ filled (c.write_str-2.ensures.styled filled.flush ok)))

@@ -1,6 +1,6 @@
 use Rattle.std.proofs.Common.{replicate}
 use Rattle.std.specs.Fmt.{WritesInCalls}
-use Rattle.lexical_parts.proofs.column.write_copies.Given as goal
+use Rattle.lexical_parts.proofs.fill.write_copies.Given as goal
 
 -- some copies are written
 abbrev pub invariant-loop : goal.invariant-loop

@@ -1,7 +1,7 @@
 use Rattle.std.proofs.Common.{◌≡◌, refl, arith}
 use Rattle.std.proofs.Output.{writes_in_calls_append, writes_in_calls_nil, writes_in_calls_single}
 use Rattle.lexical_parts.proofs.ShownNumbers.{replicate_more}
-use Rattle.lexical_parts.proofs.column.write_copies.Goals as goal
+use Rattle.lexical_parts.proofs.fill.write_copies.Goals as goal
 
 pub loop-init : goal.loop-init
 loop-init g c = writes_in_calls_nil _ _
