@@ -203,11 +203,12 @@ pub(crate) const SOURCES: &[Source] = &[
         // known.
         attributes: &[
             // The only function of the package that is not safe code.
-            ("#[inline(always)]\n#[allow(unsafe_code)]", "to_str"),
+            ("#[inline(always)]\n#[track_caller]\n#[allow(unsafe_code)]", "to_str"),
+            ("#[inline(always)]", "padded.rt is_known_utf8 most_room has_room is_sure"),
+            // A panic of a short buffer names the line of the caller.
             (
-                "#[inline(always)]",
-                "tuples.rt joined.rt integers.rt number.rt text.rt powers_of_two.rt padded.rt fixed.rt is_known_utf8 most_room has_room
-                is_sure format to_text",
+                "#[inline(always)]\n#[track_caller]",
+                "tuples.rt joined.rt integers.rt number.rt text.rt powers_of_two.rt fixed.rt format to_text",
             ),
         ],
         laws: "equal positions reading rooms_at_most formatted_room_suffices str_is_utf8",

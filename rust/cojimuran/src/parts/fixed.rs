@@ -15,6 +15,7 @@ pub(crate) const LONGEST_FIXED: usize = 39;
 
 // In Rust nothing else refuses more decimals.
 #[inline(always)]
+#[track_caller]
 fn check_decimals(decimals: usize) {
     assert!(
         decimals <= 19,
@@ -26,6 +27,7 @@ fn check_decimals(decimals: usize) {
 // Writes the digits of a number to the start of the buffer, after the zeros that a digit before the point requires, and
 // returns the number of bytes written.
 #[inline(always)]
+#[track_caller]
 pub(crate) fn write_units<T: ToLexical>(number: T, decimals: usize, buffer: &mut [u8]) -> usize {
     check_decimals(decimals);
     let count = number.write_magnitude(&STANDARD, buffer);
@@ -39,6 +41,7 @@ pub(crate) fn write_units<T: ToLexical>(number: T, decimals: usize, buffer: &mut
 // Writes the absolute value of a number of units of 10^-`decimals` to the start of the buffer, with its whole part in
 // the groups of the format, and returns the number of bytes written.
 #[inline(always)]
+#[track_caller]
 fn write_grouped_units<T: ToLexical>(
     number: T,
     decimals: usize,
@@ -71,16 +74,19 @@ pub struct Fixed<T>(pub T, pub usize);
 
 impl<T: ToLexical> Part for Fixed<T> {
     #[inline(always)]
+    #[track_caller]
     fn room(self) -> usize {
         GroupedFixed(self.0, self.1, &STANDARD).room()
     }
 
     #[inline(always)]
+    #[track_caller]
     fn write_to(self, buffer: &mut [u8]) -> usize {
         GroupedFixed(self.0, self.1, &STANDARD).write_to(buffer)
     }
 
     #[inline(always)]
+    #[track_caller]
     fn text_len(self) -> Option<usize> {
         GroupedFixed(self.0, self.1, &STANDARD).text_len()
     }
@@ -93,6 +99,7 @@ impl<T: ToLexical> Part for Fixed<T> {
 
 impl<T: ToLexical> Show for Fixed<T> {
     #[inline(always)]
+    #[track_caller]
     fn is_showable(self) -> bool {
         self.is_known_utf8(Own)
     }
@@ -112,6 +119,7 @@ pub struct GroupedFixed<'a, T>(pub T, pub usize, pub &'a NumberFormat);
 
 impl<T: ToLexical> Part for GroupedFixed<'_, T> {
     #[inline(always)]
+    #[track_caller]
     fn room(self) -> usize {
         check_decimals(self.1);
         let whole = T::DECIMAL_WIDTH.max(self.1 + 1) - self.1;
@@ -119,12 +127,14 @@ impl<T: ToLexical> Part for GroupedFixed<'_, T> {
     }
 
     #[inline(always)]
+    #[track_caller]
     fn write_to(self, buffer: &mut [u8]) -> usize {
         let start = Sign(self.0, false).write_to(buffer);
         start + write_grouped_units(self.0, self.1, self.2, &mut buffer[start..])
     }
 
     #[inline(always)]
+    #[track_caller]
     fn text_len(self) -> Option<usize> {
         check_decimals(self.1);
         let digits = self.0.magnitude_digits(10);
@@ -141,6 +151,7 @@ impl<T: ToLexical> Part for GroupedFixed<'_, T> {
 
 impl<T: ToLexical> Show for GroupedFixed<'_, T> {
     #[inline(always)]
+    #[track_caller]
     fn is_showable(self) -> bool {
         self.is_known_utf8(Own)
     }

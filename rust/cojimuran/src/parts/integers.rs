@@ -9,16 +9,19 @@ use crate::parts::show::Show;
 
 impl Part for u8 {
     #[inline(always)]
+    #[track_caller]
     fn room(self) -> usize {
         3
     }
 
     #[inline(always)]
+    #[track_caller]
     fn write_to(self, buffer: &mut [u8]) -> usize {
         Decimal(self).write_to(buffer)
     }
 
     #[inline(always)]
+    #[track_caller]
     fn text_len(self) -> Option<usize> {
         Decimal(self).text_len()
     }
@@ -31,6 +34,7 @@ impl Part for u8 {
 
 impl Show for u8 {
     #[inline(always)]
+    #[track_caller]
     fn is_showable(self) -> bool {
         self.is_known_utf8(Own)
     }
@@ -38,16 +42,19 @@ impl Show for u8 {
 
 impl Part for u16 {
     #[inline(always)]
+    #[track_caller]
     fn room(self) -> usize {
         5
     }
 
     #[inline(always)]
+    #[track_caller]
     fn write_to(self, buffer: &mut [u8]) -> usize {
         Decimal(self).write_to(buffer)
     }
 
     #[inline(always)]
+    #[track_caller]
     fn text_len(self) -> Option<usize> {
         Decimal(self).text_len()
     }
@@ -60,6 +67,7 @@ impl Part for u16 {
 
 impl Show for u16 {
     #[inline(always)]
+    #[track_caller]
     fn is_showable(self) -> bool {
         self.is_known_utf8(Own)
     }
@@ -67,16 +75,19 @@ impl Show for u16 {
 
 impl Part for u32 {
     #[inline(always)]
+    #[track_caller]
     fn room(self) -> usize {
         10
     }
 
     #[inline(always)]
+    #[track_caller]
     fn write_to(self, buffer: &mut [u8]) -> usize {
         Decimal(self).write_to(buffer)
     }
 
     #[inline(always)]
+    #[track_caller]
     fn text_len(self) -> Option<usize> {
         Decimal(self).text_len()
     }
@@ -89,6 +100,7 @@ impl Part for u32 {
 
 impl Show for u32 {
     #[inline(always)]
+    #[track_caller]
     fn is_showable(self) -> bool {
         self.is_known_utf8(Own)
     }
@@ -96,16 +108,19 @@ impl Show for u32 {
 
 impl Part for u64 {
     #[inline(always)]
+    #[track_caller]
     fn room(self) -> usize {
         20
     }
 
     #[inline(always)]
+    #[track_caller]
     fn write_to(self, buffer: &mut [u8]) -> usize {
         Decimal(self).write_to(buffer)
     }
 
     #[inline(always)]
+    #[track_caller]
     fn text_len(self) -> Option<usize> {
         Decimal(self).text_len()
     }
@@ -118,6 +133,7 @@ impl Part for u64 {
 
 impl Show for u64 {
     #[inline(always)]
+    #[track_caller]
     fn is_showable(self) -> bool {
         self.is_known_utf8(Own)
     }
@@ -125,16 +141,19 @@ impl Show for u64 {
 
 impl Part for usize {
     #[inline(always)]
+    #[track_caller]
     fn room(self) -> usize {
         20
     }
 
     #[inline(always)]
+    #[track_caller]
     fn write_to(self, buffer: &mut [u8]) -> usize {
         Decimal(self).write_to(buffer)
     }
 
     #[inline(always)]
+    #[track_caller]
     fn text_len(self) -> Option<usize> {
         Decimal(self).text_len()
     }
@@ -147,6 +166,7 @@ impl Part for usize {
 
 impl Show for usize {
     #[inline(always)]
+    #[track_caller]
     fn is_showable(self) -> bool {
         self.is_known_utf8(Own)
     }
@@ -154,16 +174,19 @@ impl Show for usize {
 
 impl Part for i8 {
     #[inline(always)]
+    #[track_caller]
     fn room(self) -> usize {
         4
     }
 
     #[inline(always)]
+    #[track_caller]
     fn write_to(self, buffer: &mut [u8]) -> usize {
         Decimal(self).write_to(buffer)
     }
 
     #[inline(always)]
+    #[track_caller]
     fn text_len(self) -> Option<usize> {
         Decimal(self).text_len()
     }
@@ -176,6 +199,7 @@ impl Part for i8 {
 
 impl Show for i8 {
     #[inline(always)]
+    #[track_caller]
     fn is_showable(self) -> bool {
         self.is_known_utf8(Own)
     }
@@ -183,16 +207,19 @@ impl Show for i8 {
 
 impl Part for i16 {
     #[inline(always)]
+    #[track_caller]
     fn room(self) -> usize {
         6
     }
 
     #[inline(always)]
+    #[track_caller]
     fn write_to(self, buffer: &mut [u8]) -> usize {
         Decimal(self).write_to(buffer)
     }
 
     #[inline(always)]
+    #[track_caller]
     fn text_len(self) -> Option<usize> {
         Decimal(self).text_len()
     }
@@ -205,6 +232,7 @@ impl Part for i16 {
 
 impl Show for i16 {
     #[inline(always)]
+    #[track_caller]
     fn is_showable(self) -> bool {
         self.is_known_utf8(Own)
     }
@@ -212,16 +240,19 @@ impl Show for i16 {
 
 impl Part for i32 {
     #[inline(always)]
+    #[track_caller]
     fn room(self) -> usize {
         11
     }
 
     #[inline(always)]
+    #[track_caller]
     fn write_to(self, buffer: &mut [u8]) -> usize {
         Decimal(self).write_to(buffer)
     }
 
     #[inline(always)]
+    #[track_caller]
     fn text_len(self) -> Option<usize> {
         Decimal(self).text_len()
     }
@@ -234,6 +265,7 @@ impl Part for i32 {
 
 impl Show for i32 {
     #[inline(always)]
+    #[track_caller]
     fn is_showable(self) -> bool {
         self.is_known_utf8(Own)
     }
@@ -241,16 +273,19 @@ impl Show for i32 {
 
 impl Part for i64 {
     #[inline(always)]
+    #[track_caller]
     fn room(self) -> usize {
         20
     }
 
     #[inline(always)]
+    #[track_caller]
     fn write_to(self, buffer: &mut [u8]) -> usize {
         Decimal(self).write_to(buffer)
     }
 
     #[inline(always)]
+    #[track_caller]
     fn text_len(self) -> Option<usize> {
         Decimal(self).text_len()
     }
@@ -263,6 +298,7 @@ impl Part for i64 {
 
 impl Show for i64 {
     #[inline(always)]
+    #[track_caller]
     fn is_showable(self) -> bool {
         self.is_known_utf8(Own)
     }
@@ -270,16 +306,19 @@ impl Show for i64 {
 
 impl Part for isize {
     #[inline(always)]
+    #[track_caller]
     fn room(self) -> usize {
         20
     }
 
     #[inline(always)]
+    #[track_caller]
     fn write_to(self, buffer: &mut [u8]) -> usize {
         Decimal(self).write_to(buffer)
     }
 
     #[inline(always)]
+    #[track_caller]
     fn text_len(self) -> Option<usize> {
         Decimal(self).text_len()
     }
@@ -292,6 +331,7 @@ impl Part for isize {
 
 impl Show for isize {
     #[inline(always)]
+    #[track_caller]
     fn is_showable(self) -> bool {
         self.is_known_utf8(Own)
     }

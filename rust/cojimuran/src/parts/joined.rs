@@ -9,6 +9,7 @@ use core::fmt;
 
 // Returns what precedes the part at the index.
 #[inline(always)]
+#[track_caller]
 pub(crate) fn separator_before(index: usize, separator: &str) -> &str {
     if index == 0 { "" } else { separator }
 }
@@ -16,6 +17,7 @@ pub(crate) fn separator_before(index: usize, separator: &str) -> &str {
 // Writes what precedes the part at the index, which is nothing before the first part and otherwise the separator, and
 // then the part. Returns their length.
 #[inline(always)]
+#[track_caller]
 pub(crate) fn write_next<P: Part>(
     index: usize,
     separator: &str,
@@ -46,6 +48,7 @@ pub struct Joined<'a, P>(pub &'a [P], pub &'a str);
 
 impl<P: Part> Part for Joined<'_, P> {
     #[inline(always)]
+    #[track_caller]
     fn room(self) -> usize {
         let separators = self.0.len().saturating_sub(1);
         let mut room = separators.saturating_mul(self.1.len());
@@ -56,6 +59,7 @@ impl<P: Part> Part for Joined<'_, P> {
     }
 
     #[inline(always)]
+    #[track_caller]
     fn write_to(self, buffer: &mut [u8]) -> usize {
         let mut count = 0;
         for (index, part) in self.0.iter().enumerate() {
@@ -65,6 +69,7 @@ impl<P: Part> Part for Joined<'_, P> {
     }
 
     #[inline(always)]
+    #[track_caller]
     fn text_len(self) -> Option<usize> {
         let separators = self.0.len().saturating_sub(1);
         let mut count: usize = 0;
@@ -88,6 +93,7 @@ impl<P: Part> Part for Joined<'_, P> {
 
 impl<P: Show> Show for Joined<'_, P> {
     #[inline(always)]
+    #[track_caller]
     fn is_showable(self) -> bool {
         for part in self.0 {
             if !part.is_showable() {
@@ -98,6 +104,7 @@ impl<P: Show> Show for Joined<'_, P> {
     }
 
     #[inline(always)]
+    #[track_caller]
     fn write_pieces<O: fmt::Write>(self, out: &mut O) -> fmt::Result {
         for (index, part) in self.0.iter().enumerate() {
             out.write_str(separator_before(index, self.1))?;

@@ -24,16 +24,19 @@ pub struct Decimal<T>(pub T);
 
 impl<T: ToLexical> Part for Decimal<T> {
     #[inline(always)]
+    #[track_caller]
     fn room(self) -> usize {
         T::FORMATTED_SIZE_DECIMAL
     }
 
     #[inline(always)]
+    #[track_caller]
     fn write_to(self, buffer: &mut [u8]) -> usize {
         self.0.write_lexical(buffer)
     }
 
     #[inline(always)]
+    #[track_caller]
     fn text_len(self) -> Option<usize> {
         Formatted(self.0, &STANDARD).text_len()
     }
@@ -46,6 +49,7 @@ impl<T: ToLexical> Part for Decimal<T> {
 
 impl<T: ToLexical> Show for Decimal<T> {
     #[inline(always)]
+    #[track_caller]
     fn is_showable(self) -> bool {
         self.is_known_utf8(Own)
     }
@@ -67,16 +71,19 @@ pub struct Digits<T>(pub u32, pub T);
 
 impl<T: Radix + DigitCount> Part for Digits<T> {
     #[inline(always)]
+    #[track_caller]
     fn room(self) -> usize {
         self.1.digit_count(self.0)
     }
 
     #[inline(always)]
+    #[track_caller]
     fn write_to(self, buffer: &mut [u8]) -> usize {
         self.1.radix(self.0, buffer)
     }
 
     #[inline(always)]
+    #[track_caller]
     fn text_len(self) -> Option<usize> {
         Some(self.1.digit_count(self.0))
     }
@@ -94,6 +101,7 @@ impl<T: Radix + DigitCount> Part for Digits<T> {
 
 impl<T: Radix + DigitCount> Show for Digits<T> {
     #[inline(always)]
+    #[track_caller]
     fn is_showable(self) -> bool {
         self.is_known_utf8(Own)
     }
@@ -101,6 +109,7 @@ impl<T: Radix + DigitCount> Show for Digits<T> {
 
 // Returns the largest absolute value of a number of the type.
 #[inline(always)]
+#[track_caller]
 fn largest_magnitude<T: ToLexical>() -> u64 {
     let all_bits = u64::MAX >> (64 - T::BITS);
     if T::IS_SIGNED {
@@ -124,6 +133,7 @@ pub struct Formatted<'a, T>(pub T, pub &'a NumberFormat);
 
 impl<T: ToLexical> Part for Formatted<'_, T> {
     #[inline(always)]
+    #[track_caller]
     fn room(self) -> usize {
         let sign = usize::from(T::IS_SIGNED || self.1.required_mantissa_sign());
         let digits = largest_magnitude::<T>().digit_count(self.1.mantissa_radix());
@@ -131,11 +141,13 @@ impl<T: ToLexical> Part for Formatted<'_, T> {
     }
 
     #[inline(always)]
+    #[track_caller]
     fn write_to(self, buffer: &mut [u8]) -> usize {
         self.0.write_text(buffer, self.1)
     }
 
     #[inline(always)]
+    #[track_caller]
     fn text_len(self) -> Option<usize> {
         let digits = self.0.magnitude_digits(self.1.mantissa_radix());
         Some(sign_len(self.0, self.1) + self.1.grouped_len(digits))
@@ -149,6 +161,7 @@ impl<T: ToLexical> Part for Formatted<'_, T> {
 
 impl<T: ToLexical> Show for Formatted<'_, T> {
     #[inline(always)]
+    #[track_caller]
     fn is_showable(self) -> bool {
         self.is_known_utf8(Own)
     }

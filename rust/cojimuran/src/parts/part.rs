@@ -71,6 +71,7 @@ pub trait Part: Copy {
     /// If the part is not valid,
     /// or if the buffer is [too short](crate#conditions).
     #[inline(always)]
+    #[track_caller]
     fn to_text(self, buffer: &mut [u8]) -> &mut [u8] {
         let count = self.write_to(buffer);
         front_mut(buffer, count)
@@ -117,6 +118,7 @@ pub trait Part: Copy {
     /// or if the text of the part is not UTF-8,
     /// or if the buffer is [too short](crate#conditions).
     #[inline(always)]
+    #[track_caller]
     #[allow(unsafe_code)]
     fn to_str(self, buffer: &mut [u8]) -> &str {
         let is_sure = is_sure(self, buffer);

@@ -24,16 +24,19 @@ pub struct Hex<T>(pub T);
 
 impl<T: Radix> Part for Hex<T> {
     #[inline(always)]
+    #[track_caller]
     fn room(self) -> usize {
         T::BITS / 4
     }
 
     #[inline(always)]
+    #[track_caller]
     fn write_to(self, buffer: &mut [u8]) -> usize {
         constant_radix(self.0, 16, buffer)
     }
 
     #[inline(always)]
+    #[track_caller]
     fn text_len(self) -> Option<usize> {
         Some(self.0.as_u64().digit_count(16))
     }
@@ -46,6 +49,7 @@ impl<T: Radix> Part for Hex<T> {
 
 impl<T: Radix> Show for Hex<T> {
     #[inline(always)]
+    #[track_caller]
     fn is_showable(self) -> bool {
         self.is_known_utf8(Own)
     }
@@ -64,16 +68,19 @@ pub struct Binary<T>(pub T);
 
 impl<T: Radix> Part for Binary<T> {
     #[inline(always)]
+    #[track_caller]
     fn room(self) -> usize {
         T::BITS
     }
 
     #[inline(always)]
+    #[track_caller]
     fn write_to(self, buffer: &mut [u8]) -> usize {
         self.0.radix(2, buffer)
     }
 
     #[inline(always)]
+    #[track_caller]
     fn text_len(self) -> Option<usize> {
         Some(self.0.as_u64().digit_count(2))
     }
@@ -86,6 +93,7 @@ impl<T: Radix> Part for Binary<T> {
 
 impl<T: Radix> Show for Binary<T> {
     #[inline(always)]
+    #[track_caller]
     fn is_showable(self) -> bool {
         self.is_known_utf8(Own)
     }
@@ -97,11 +105,13 @@ struct HexByte(u8);
 
 impl Part for HexByte {
     #[inline(always)]
+    #[track_caller]
     fn room(self) -> usize {
         2
     }
 
     #[inline(always)]
+    #[track_caller]
     fn write_to(self, buffer: &mut [u8]) -> usize {
         let table = get_table(16);
         let index = 2 * usize::from(self.0);
@@ -129,6 +139,7 @@ pub struct HexBytes<'a>(pub &'a [u8], pub &'a str);
 
 impl Part for HexBytes<'_> {
     #[inline(always)]
+    #[track_caller]
     fn room(self) -> usize {
         let separators = self.0.len().saturating_sub(1);
         let digits = self.0.len().saturating_mul(2);
@@ -136,6 +147,7 @@ impl Part for HexBytes<'_> {
     }
 
     #[inline(always)]
+    #[track_caller]
     fn write_to(self, buffer: &mut [u8]) -> usize {
         // The loop of `Joined`, whose slice contains the parts: here each byte becomes one.
         let mut count = 0;
@@ -146,6 +158,7 @@ impl Part for HexBytes<'_> {
     }
 
     #[inline(always)]
+    #[track_caller]
     fn text_len(self) -> Option<usize> {
         let digits = self.0.len().checked_mul(2)?;
         let separators = self.0.len().saturating_sub(1);
@@ -160,11 +173,13 @@ impl Part for HexBytes<'_> {
 
 impl Show for HexBytes<'_> {
     #[inline(always)]
+    #[track_caller]
     fn is_showable(self) -> bool {
         self.is_known_utf8(Own)
     }
 
     #[inline(always)]
+    #[track_caller]
     fn write_pieces<O: fmt::Write>(self, out: &mut O) -> fmt::Result {
         if self.room() <= MOST_AT_ONCE {
             return write_at_once(self, out);

@@ -11,16 +11,19 @@ use core::str::from_utf8;
 
 impl Part for &str {
     #[inline(always)]
+    #[track_caller]
     fn room(self) -> usize {
         self.len()
     }
 
     #[inline(always)]
+    #[track_caller]
     fn write_to(self, buffer: &mut [u8]) -> usize {
         copy_to_front(self.as_bytes(), buffer)
     }
 
     #[inline(always)]
+    #[track_caller]
     fn text_len(self) -> Option<usize> {
         Some(self.len())
     }
@@ -33,11 +36,13 @@ impl Part for &str {
 
 impl Show for &str {
     #[inline(always)]
+    #[track_caller]
     fn is_showable(self) -> bool {
         self.is_known_utf8(Own)
     }
 
     #[inline(always)]
+    #[track_caller]
     fn write_pieces<O: fmt::Write>(self, out: &mut O) -> fmt::Result {
         out.write_str(self)
     }
@@ -45,23 +50,27 @@ impl Show for &str {
 
 // Returns `true` or `false`.
 #[inline(always)]
+#[track_caller]
 fn word(flag: bool) -> &'static str {
     if flag { "true" } else { "false" }
 }
 
 impl Part for bool {
     #[inline(always)]
+    #[track_caller]
     fn room(self) -> usize {
         5
     }
 
     #[inline(always)]
+    #[track_caller]
     fn write_to(self, buffer: &mut [u8]) -> usize {
         let text = word(self);
         text.write_to(buffer)
     }
 
     #[inline(always)]
+    #[track_caller]
     fn text_len(self) -> Option<usize> {
         Some(word(self).len())
     }
@@ -74,6 +83,7 @@ impl Part for bool {
 
 impl Show for bool {
     #[inline(always)]
+    #[track_caller]
     fn is_showable(self) -> bool {
         self.is_known_utf8(Own)
     }
@@ -81,11 +91,13 @@ impl Show for bool {
 
 impl Part for char {
     #[inline(always)]
+    #[track_caller]
     fn room(self) -> usize {
         4
     }
 
     #[inline(always)]
+    #[track_caller]
     fn write_to(self, buffer: &mut [u8]) -> usize {
         let mut bytes = [0; 4];
         let text: &str = self.encode_utf8(&mut bytes);
@@ -93,6 +105,7 @@ impl Part for char {
     }
 
     #[inline(always)]
+    #[track_caller]
     fn text_len(self) -> Option<usize> {
         Some(self.len_utf8())
     }
@@ -105,6 +118,7 @@ impl Part for char {
 
 impl Show for char {
     #[inline(always)]
+    #[track_caller]
     fn is_showable(self) -> bool {
         self.is_known_utf8(Own)
     }
@@ -122,16 +136,19 @@ pub struct Bytes<'a>(pub &'a [u8]);
 
 impl Part for Bytes<'_> {
     #[inline(always)]
+    #[track_caller]
     fn room(self) -> usize {
         self.0.len()
     }
 
     #[inline(always)]
+    #[track_caller]
     fn write_to(self, buffer: &mut [u8]) -> usize {
         copy_to_front(self.0, buffer)
     }
 
     #[inline(always)]
+    #[track_caller]
     fn text_len(self) -> Option<usize> {
         Some(self.0.len())
     }
@@ -144,11 +161,13 @@ impl Part for Bytes<'_> {
 
 impl Show for Bytes<'_> {
     #[inline(always)]
+    #[track_caller]
     fn is_showable(self) -> bool {
         self.is_known_utf8(Own)
     }
 
     #[inline(always)]
+    #[track_caller]
     fn write_pieces<O: fmt::Write>(self, out: &mut O) -> fmt::Result {
         match from_utf8(self.0) {
             Ok(text) => out.write_str(text),
@@ -169,16 +188,19 @@ pub struct Byte(pub u8);
 
 impl Part for Byte {
     #[inline(always)]
+    #[track_caller]
     fn room(self) -> usize {
         1
     }
 
     #[inline(always)]
+    #[track_caller]
     fn write_to(self, buffer: &mut [u8]) -> usize {
         copy_to_front(&[self.0], buffer)
     }
 
     #[inline(always)]
+    #[track_caller]
     fn text_len(self) -> Option<usize> {
         Some(1)
     }
@@ -191,6 +213,7 @@ impl Part for Byte {
 
 impl Show for Byte {
     #[inline(always)]
+    #[track_caller]
     fn is_showable(self) -> bool {
         self.is_known_utf8(Own)
     }

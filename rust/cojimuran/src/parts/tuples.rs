@@ -9,17 +9,20 @@ use core::fmt;
 
 impl<A: Part, B: Part> Part for (A, B) {
     #[inline(always)]
+    #[track_caller]
     fn room(self) -> usize {
         self.0.room().saturating_add(self.1.room())
     }
 
     #[inline(always)]
+    #[track_caller]
     fn text_len(self) -> Option<usize> {
         let first = self.0.text_len()?;
         first.checked_add(self.1.text_len()?)
     }
 
     #[inline(always)]
+    #[track_caller]
     fn write_to(self, buffer: &mut [u8]) -> usize {
         let first = self.0.write_to(buffer);
         first + self.1.write_to(&mut buffer[first..])
@@ -33,11 +36,13 @@ impl<A: Part, B: Part> Part for (A, B) {
 
 impl<A: Show, B: Show> Show for (A, B) {
     #[inline(always)]
+    #[track_caller]
     fn is_showable(self) -> bool {
         self.0.is_showable() && self.1.is_showable()
     }
 
     #[inline(always)]
+    #[track_caller]
     fn write_pieces<O: fmt::Write>(self, out: &mut O) -> fmt::Result {
         self.0.write_pieces(out)?;
         self.1.write_pieces(out)
@@ -46,16 +51,19 @@ impl<A: Show, B: Show> Show for (A, B) {
 
 impl<A: Part, B: Part, C: Part> Part for (A, B, C) {
     #[inline(always)]
+    #[track_caller]
     fn room(self) -> usize {
         (self.0, (self.1, self.2)).room()
     }
 
     #[inline(always)]
+    #[track_caller]
     fn text_len(self) -> Option<usize> {
         (self.0, (self.1, self.2)).text_len()
     }
 
     #[inline(always)]
+    #[track_caller]
     fn write_to(self, buffer: &mut [u8]) -> usize {
         (self.0, (self.1, self.2)).write_to(buffer)
     }
@@ -68,11 +76,13 @@ impl<A: Part, B: Part, C: Part> Part for (A, B, C) {
 
 impl<A: Show, B: Show, C: Show> Show for (A, B, C) {
     #[inline(always)]
+    #[track_caller]
     fn is_showable(self) -> bool {
         (self.0, (self.1, self.2)).is_showable()
     }
 
     #[inline(always)]
+    #[track_caller]
     fn write_pieces<O: fmt::Write>(self, out: &mut O) -> fmt::Result {
         (self.0, (self.1, self.2)).write_pieces(out)
     }
@@ -80,16 +90,19 @@ impl<A: Show, B: Show, C: Show> Show for (A, B, C) {
 
 impl<A: Part, B: Part, C: Part, D: Part> Part for (A, B, C, D) {
     #[inline(always)]
+    #[track_caller]
     fn room(self) -> usize {
         (self.0, (self.1, self.2, self.3)).room()
     }
 
     #[inline(always)]
+    #[track_caller]
     fn text_len(self) -> Option<usize> {
         (self.0, (self.1, self.2, self.3)).text_len()
     }
 
     #[inline(always)]
+    #[track_caller]
     fn write_to(self, buffer: &mut [u8]) -> usize {
         (self.0, (self.1, self.2, self.3)).write_to(buffer)
     }
@@ -102,11 +115,13 @@ impl<A: Part, B: Part, C: Part, D: Part> Part for (A, B, C, D) {
 
 impl<A: Show, B: Show, C: Show, D: Show> Show for (A, B, C, D) {
     #[inline(always)]
+    #[track_caller]
     fn is_showable(self) -> bool {
         (self.0, (self.1, self.2, self.3)).is_showable()
     }
 
     #[inline(always)]
+    #[track_caller]
     fn write_pieces<O: fmt::Write>(self, out: &mut O) -> fmt::Result {
         (self.0, (self.1, self.2, self.3)).write_pieces(out)
     }
@@ -114,16 +129,19 @@ impl<A: Show, B: Show, C: Show, D: Show> Show for (A, B, C, D) {
 
 impl<A: Part, B: Part, C: Part, D: Part, E: Part> Part for (A, B, C, D, E) {
     #[inline(always)]
+    #[track_caller]
     fn room(self) -> usize {
         (self.0, (self.1, self.2, self.3, self.4)).room()
     }
 
     #[inline(always)]
+    #[track_caller]
     fn text_len(self) -> Option<usize> {
         (self.0, (self.1, self.2, self.3, self.4)).text_len()
     }
 
     #[inline(always)]
+    #[track_caller]
     fn write_to(self, buffer: &mut [u8]) -> usize {
         (self.0, (self.1, self.2, self.3, self.4)).write_to(buffer)
     }
@@ -136,11 +154,13 @@ impl<A: Part, B: Part, C: Part, D: Part, E: Part> Part for (A, B, C, D, E) {
 
 impl<A: Show, B: Show, C: Show, D: Show, E: Show> Show for (A, B, C, D, E) {
     #[inline(always)]
+    #[track_caller]
     fn is_showable(self) -> bool {
         (self.0, (self.1, self.2, self.3, self.4)).is_showable()
     }
 
     #[inline(always)]
+    #[track_caller]
     fn write_pieces<O: fmt::Write>(self, out: &mut O) -> fmt::Result {
         (self.0, (self.1, self.2, self.3, self.4)).write_pieces(out)
     }
@@ -148,16 +168,19 @@ impl<A: Show, B: Show, C: Show, D: Show, E: Show> Show for (A, B, C, D, E) {
 
 impl<A: Part, B: Part, C: Part, D: Part, E: Part, F: Part> Part for (A, B, C, D, E, F) {
     #[inline(always)]
+    #[track_caller]
     fn room(self) -> usize {
         (self.0, (self.1, self.2, self.3, self.4, self.5)).room()
     }
 
     #[inline(always)]
+    #[track_caller]
     fn text_len(self) -> Option<usize> {
         (self.0, (self.1, self.2, self.3, self.4, self.5)).text_len()
     }
 
     #[inline(always)]
+    #[track_caller]
     fn write_to(self, buffer: &mut [u8]) -> usize {
         (self.0, (self.1, self.2, self.3, self.4, self.5)).write_to(buffer)
     }
@@ -170,11 +193,13 @@ impl<A: Part, B: Part, C: Part, D: Part, E: Part, F: Part> Part for (A, B, C, D,
 
 impl<A: Show, B: Show, C: Show, D: Show, E: Show, F: Show> Show for (A, B, C, D, E, F) {
     #[inline(always)]
+    #[track_caller]
     fn is_showable(self) -> bool {
         (self.0, (self.1, self.2, self.3, self.4, self.5)).is_showable()
     }
 
     #[inline(always)]
+    #[track_caller]
     fn write_pieces<O: fmt::Write>(self, out: &mut O) -> fmt::Result {
         (self.0, (self.1, self.2, self.3, self.4, self.5)).write_pieces(out)
     }
@@ -182,16 +207,19 @@ impl<A: Show, B: Show, C: Show, D: Show, E: Show, F: Show> Show for (A, B, C, D,
 
 impl<A: Part, B: Part, C: Part, D: Part, E: Part, F: Part, G: Part> Part for (A, B, C, D, E, F, G) {
     #[inline(always)]
+    #[track_caller]
     fn room(self) -> usize {
         (self.0, (self.1, self.2, self.3, self.4, self.5, self.6)).room()
     }
 
     #[inline(always)]
+    #[track_caller]
     fn text_len(self) -> Option<usize> {
         (self.0, (self.1, self.2, self.3, self.4, self.5, self.6)).text_len()
     }
 
     #[inline(always)]
+    #[track_caller]
     fn write_to(self, buffer: &mut [u8]) -> usize {
         (self.0, (self.1, self.2, self.3, self.4, self.5, self.6)).write_to(buffer)
     }
@@ -204,11 +232,13 @@ impl<A: Part, B: Part, C: Part, D: Part, E: Part, F: Part, G: Part> Part for (A,
 
 impl<A: Show, B: Show, C: Show, D: Show, E: Show, F: Show, G: Show> Show for (A, B, C, D, E, F, G) {
     #[inline(always)]
+    #[track_caller]
     fn is_showable(self) -> bool {
         (self.0, (self.1, self.2, self.3, self.4, self.5, self.6)).is_showable()
     }
 
     #[inline(always)]
+    #[track_caller]
     fn write_pieces<O: fmt::Write>(self, out: &mut O) -> fmt::Result {
         (self.0, (self.1, self.2, self.3, self.4, self.5, self.6)).write_pieces(out)
     }
@@ -218,18 +248,21 @@ impl<A: Part, B: Part, C: Part, D: Part, E: Part, F: Part, G: Part, H: Part> Par
     for (A, B, C, D, E, F, G, H)
 {
     #[inline(always)]
+    #[track_caller]
     fn room(self) -> usize {
         let (a, b, c, d, e, f, g, h) = self;
         (a, (b, c, d, e, f, g, h)).room()
     }
 
     #[inline(always)]
+    #[track_caller]
     fn text_len(self) -> Option<usize> {
         let (a, b, c, d, e, f, g, h) = self;
         (a, (b, c, d, e, f, g, h)).text_len()
     }
 
     #[inline(always)]
+    #[track_caller]
     fn write_to(self, buffer: &mut [u8]) -> usize {
         let (a, b, c, d, e, f, g, h) = self;
         (a, (b, c, d, e, f, g, h)).write_to(buffer)
@@ -246,12 +279,14 @@ impl<A: Show, B: Show, C: Show, D: Show, E: Show, F: Show, G: Show, H: Show> Sho
     for (A, B, C, D, E, F, G, H)
 {
     #[inline(always)]
+    #[track_caller]
     fn is_showable(self) -> bool {
         let (a, b, c, d, e, f, g, h) = self;
         (a, (b, c, d, e, f, g, h)).is_showable()
     }
 
     #[inline(always)]
+    #[track_caller]
     fn write_pieces<O: fmt::Write>(self, out: &mut O) -> fmt::Result {
         let (a, b, c, d, e, f, g, h) = self;
         (a, (b, c, d, e, f, g, h)).write_pieces(out)
@@ -262,18 +297,21 @@ impl<A: Part, B: Part, C: Part, D: Part, E: Part, F: Part, G: Part, H: Part, I: 
     for (A, B, C, D, E, F, G, H, I)
 {
     #[inline(always)]
+    #[track_caller]
     fn room(self) -> usize {
         let (a, b, c, d, e, f, g, h, i) = self;
         (a, (b, c, d, e, f, g, h, i)).room()
     }
 
     #[inline(always)]
+    #[track_caller]
     fn text_len(self) -> Option<usize> {
         let (a, b, c, d, e, f, g, h, i) = self;
         (a, (b, c, d, e, f, g, h, i)).text_len()
     }
 
     #[inline(always)]
+    #[track_caller]
     fn write_to(self, buffer: &mut [u8]) -> usize {
         let (a, b, c, d, e, f, g, h, i) = self;
         (a, (b, c, d, e, f, g, h, i)).write_to(buffer)
@@ -290,12 +328,14 @@ impl<A: Show, B: Show, C: Show, D: Show, E: Show, F: Show, G: Show, H: Show, I: 
     for (A, B, C, D, E, F, G, H, I)
 {
     #[inline(always)]
+    #[track_caller]
     fn is_showable(self) -> bool {
         let (a, b, c, d, e, f, g, h, i) = self;
         (a, (b, c, d, e, f, g, h, i)).is_showable()
     }
 
     #[inline(always)]
+    #[track_caller]
     fn write_pieces<O: fmt::Write>(self, out: &mut O) -> fmt::Result {
         let (a, b, c, d, e, f, g, h, i) = self;
         (a, (b, c, d, e, f, g, h, i)).write_pieces(out)
@@ -306,18 +346,21 @@ impl<A: Part, B: Part, C: Part, D: Part, E: Part, F: Part, G: Part, H: Part, I: 
     for (A, B, C, D, E, F, G, H, I, J)
 {
     #[inline(always)]
+    #[track_caller]
     fn room(self) -> usize {
         let (a, b, c, d, e, f, g, h, i, j) = self;
         (a, (b, c, d, e, f, g, h, i, j)).room()
     }
 
     #[inline(always)]
+    #[track_caller]
     fn text_len(self) -> Option<usize> {
         let (a, b, c, d, e, f, g, h, i, j) = self;
         (a, (b, c, d, e, f, g, h, i, j)).text_len()
     }
 
     #[inline(always)]
+    #[track_caller]
     fn write_to(self, buffer: &mut [u8]) -> usize {
         let (a, b, c, d, e, f, g, h, i, j) = self;
         (a, (b, c, d, e, f, g, h, i, j)).write_to(buffer)
@@ -334,12 +377,14 @@ impl<A: Show, B: Show, C: Show, D: Show, E: Show, F: Show, G: Show, H: Show, I: 
     for (A, B, C, D, E, F, G, H, I, J)
 {
     #[inline(always)]
+    #[track_caller]
     fn is_showable(self) -> bool {
         let (a, b, c, d, e, f, g, h, i, j) = self;
         (a, (b, c, d, e, f, g, h, i, j)).is_showable()
     }
 
     #[inline(always)]
+    #[track_caller]
     fn write_pieces<O: fmt::Write>(self, out: &mut O) -> fmt::Result {
         let (a, b, c, d, e, f, g, h, i, j) = self;
         (a, (b, c, d, e, f, g, h, i, j)).write_pieces(out)
@@ -361,18 +406,21 @@ impl<
 > Part for (A, B, C, D, E, F, G, H, I, J, K)
 {
     #[inline(always)]
+    #[track_caller]
     fn room(self) -> usize {
         let (a, b, c, d, e, f, g, h, i, j, k) = self;
         (a, (b, c, d, e, f, g, h, i, j, k)).room()
     }
 
     #[inline(always)]
+    #[track_caller]
     fn text_len(self) -> Option<usize> {
         let (a, b, c, d, e, f, g, h, i, j, k) = self;
         (a, (b, c, d, e, f, g, h, i, j, k)).text_len()
     }
 
     #[inline(always)]
+    #[track_caller]
     fn write_to(self, buffer: &mut [u8]) -> usize {
         let (a, b, c, d, e, f, g, h, i, j, k) = self;
         (a, (b, c, d, e, f, g, h, i, j, k)).write_to(buffer)
@@ -400,12 +448,14 @@ impl<
 > Show for (A, B, C, D, E, F, G, H, I, J, K)
 {
     #[inline(always)]
+    #[track_caller]
     fn is_showable(self) -> bool {
         let (a, b, c, d, e, f, g, h, i, j, k) = self;
         (a, (b, c, d, e, f, g, h, i, j, k)).is_showable()
     }
 
     #[inline(always)]
+    #[track_caller]
     fn write_pieces<O: fmt::Write>(self, out: &mut O) -> fmt::Result {
         let (a, b, c, d, e, f, g, h, i, j, k) = self;
         (a, (b, c, d, e, f, g, h, i, j, k)).write_pieces(out)
@@ -428,18 +478,21 @@ impl<
 > Part for (A, B, C, D, E, F, G, H, I, J, K, L)
 {
     #[inline(always)]
+    #[track_caller]
     fn room(self) -> usize {
         let (a, b, c, d, e, f, g, h, i, j, k, l) = self;
         (a, (b, c, d, e, f, g, h, i, j, k, l)).room()
     }
 
     #[inline(always)]
+    #[track_caller]
     fn text_len(self) -> Option<usize> {
         let (a, b, c, d, e, f, g, h, i, j, k, l) = self;
         (a, (b, c, d, e, f, g, h, i, j, k, l)).text_len()
     }
 
     #[inline(always)]
+    #[track_caller]
     fn write_to(self, buffer: &mut [u8]) -> usize {
         let (a, b, c, d, e, f, g, h, i, j, k, l) = self;
         (a, (b, c, d, e, f, g, h, i, j, k, l)).write_to(buffer)
@@ -468,12 +521,14 @@ impl<
 > Show for (A, B, C, D, E, F, G, H, I, J, K, L)
 {
     #[inline(always)]
+    #[track_caller]
     fn is_showable(self) -> bool {
         let (a, b, c, d, e, f, g, h, i, j, k, l) = self;
         (a, (b, c, d, e, f, g, h, i, j, k, l)).is_showable()
     }
 
     #[inline(always)]
+    #[track_caller]
     fn write_pieces<O: fmt::Write>(self, out: &mut O) -> fmt::Result {
         let (a, b, c, d, e, f, g, h, i, j, k, l) = self;
         (a, (b, c, d, e, f, g, h, i, j, k, l)).write_pieces(out)
