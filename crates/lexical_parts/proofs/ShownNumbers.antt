@@ -56,9 +56,15 @@ cond_self_number t n = cond_same t n n n refl refl
 none_is_zero : (n : ℕ) → is_some (if n == 0 then None else Some n) ≡ false → n ≡ 0
 none_is_zero n = grind arith
 
+none_is_most : (n : ℕ) → is_some (if n == 2 ^ 64 - 1 then None else Some n) ≡ false → n ≡ 2 ^ 64 - 1
+none_is_most n = grind arith
+
 module _ {W : Type 0} (f : Formatter W) where
   pub no_width : is_some (spec_width (formatter_spec f)) ≡ false → (formatter_spec f).width ≡ 0
   no_width = none_is_zero (formatter_spec f).width
+
+  pub no_precision : is_some (spec_precision (formatter_spec f)) ≡ false → (formatter_spec f).precision ≡ 2 ^ 64 - 1
+  no_precision = none_is_most (formatter_spec f).precision
 
   -- without a width there is only the sign
   pub unpadded : (plus negative : Bool) (digits : List ℕ) → (formatter_spec f).width ≡ 0 → (formatter_spec f).plus ≡ false

@@ -2,7 +2,7 @@
 
 ghost use Rattle.std.specs.Fmt.{DisplaysOnOk, DisplaysStyledOnOk, HasWrittenStyled, IsFlush, WritesStyledOnOk, char_count, fill_text, formatter_spec};
 ghost use Rattle.std.specs.Fmt.{padded, padding_before, styled_text, take_chars};
-ghost use Rattle.std.specs.Prelude.{◌≡◌, ℕ, ◌-◌, ◌<◌, ◌≤◌, IfOk, IsOk, List, Some};
+ghost use Rattle.std.specs.Prelude.{◌≡◌, ℕ, ◌-◌, ◌<◌, ◌≤◌, ◌^◌, IfOk, IsOk, IsTrue, List, Some};
 ghost use Rattle.lexical_parts.specs.Column.{centered_text, left_text, right_text};
 ghost use Rattle.lexical_parts.specs.HexBytes.{hex_bytes_text};
 ghost use Rattle.lexical_parts.specs.Joined.{joined_text};
@@ -80,7 +80,7 @@ impl<P: Show> Shown<P> {
         if !part.is_showable() {
             return Err(fmt::Error);
         }
-        if f.width().is_none() && f.precision().is_none() {
+        if is_bare(f) {
             return write_through(part, f);
         }
         match part.try_to_str(&mut [0; MOST_AT_ONCE]) {
@@ -88,6 +88,17 @@ impl<P: Show> Shown<P> {
             None => pad_pieces(part, f),
         }
     }
+}
+
+// Returns whether the format has no width and no precision.
+fn is_bare<W: fmt::Write>(f: &fmt::Formatter<W>) -> bool
+    ensures width { IsTrue result → (formatter_spec f.now).width ≡ 0 }
+    ensures precision { IsTrue result → (formatter_spec f.now).precision ≡ 2 ^ 64 - 1 }
+    ensures bare { (formatter_spec f.now).width ≡ 0 → (formatter_spec f.now).precision ≡ 2 ^ 64 - 1 → IsTrue result }
+{
+    let width = f.width();
+    let precision = f.precision();
+    width.is_none() && precision.is_none()
 }
 
 // Writes the text with the width and the precision of the formatter, as std writes a `&str`. The text is written twice,

@@ -58,7 +58,7 @@ impl<P: Show> Shown<P> {
         if !part.is_showable() {
             return Err(fmt::Error);
         }
-        if f.width().is_none() && f.precision().is_none() {
+        if is_bare(f) {
             return write_through(part, f);
         }
         match part.try_to_str(&mut [0; MOST_AT_ONCE]) {
@@ -66,6 +66,14 @@ impl<P: Show> Shown<P> {
             None => pad_pieces(part, f),
         }
     }
+}
+
+// Returns whether the format has no width and no precision.
+#[inline]
+fn is_bare(f: &fmt::Formatter<'_>) -> bool {
+    let width = f.width();
+    let precision = f.precision();
+    width.is_none() && precision.is_none()
 }
 
 // Writes the text with the width and the precision of the formatter, as std writes a `&str`. The text is written twice,

@@ -1,4 +1,4 @@
-use Rattle.std.proofs.Common.{◌≤◌, ◌-◌, ◌≡◌, arith}
+use Rattle.std.proofs.Common.{◌≤◌, ◌-◌, ◌≡◌, arith, refl}
 use Rattle.lexical_num.specs.Format.{IsRadix}
 use Rattle.lexical_parts.proofs.Equations.{bits-small, wide_computed}
 use Rattle.lexical_parts.proofs.Widths.{fits_in_64}
@@ -16,3 +16,9 @@ returns-clause-text g c =
     let within : c.min.result ≤ c.args.self.2 = omega (arith, c.min.ensures) in
     let zeros : c.args.self.2 - c.min.result ≡ c.args.self.2 - 64 = omega (arith, c.min.ensures) in
     rw (← zeros) (wide_computed _ _ _ _ _ radix.at_least_two within (c.fits.ensures.0 c.if-not-fits.false) c.to_str.ensures.text)
+
+-- the check finds this proof by itself, but with an answer the refusal of a mistake says what is wrong
+pub returns-clause-ok : goal.returns-clause-ok
+returns-clause-ok g c =
+    let radix : IsRadix c.args.self.0 = rw c.from.ensures at c.is_radix.ensures.0 c.if-not-is_radix.false in
+    (λ ok. (radix, c.fits.ensures.0 c.if-not-fits.false), λ valid. refl)
