@@ -1,45 +1,107 @@
-//! Parts at the end of a vector. This file is written by hand: it only finds the room for what is proved.
+//! Parts at the end of a `Vec` or a `String`. This file is written by hand: it only finds the room for what is proved.
 
 use crate::parts::Part;
+use alloc::string::String;
+use alloc::vec;
 use alloc::vec::Vec;
 
-/// Appends a part to a `Vec`. It is there with the feature `alloc`, which is off by default.
+/// Appends a part to a `Vec<u8>` or a `String`, with the feature `alloc`, which is off by default.
 ///
 /// ```
 /// use cojimuran::Append;
 /// use cojimuran::parts::{Fixed, Joined};
 ///
-/// let mut csv = b"id,price,sizes\n".to_vec();
-/// (7u32, ",", Fixed(1999u32, 2), ",", Joined(&[38u8, 40], " "), "\n").append_to(&mut csv);
-/// assert_eq!(csv, b"id,price,sizes\n7,19.99,38 40\n");
+/// let row = (7u32, ",", Fixed(1999u32, 2), ",", Joined(&[38u8, 40], " "), "\n");
+/// let mut csv = String::from("id,price,sizes\n");
+/// row.append_to(&mut csv);
+/// assert_eq!(csv, "id,price,sizes\n7,19.99,38 40\n");
+///
+/// let mut bytes = b"id,price,sizes\n".to_vec();
+/// row.append_to(&mut bytes);
+/// assert_eq!(bytes, csv.as_bytes());
 /// ```
 ///
-/// A `String` takes the `&str` of a part:
+/// An iterator is written by a loop:
 ///
 /// ```
-/// use cojimuran::parts::{Digits, Part};
+/// use cojimuran::Append;
 ///
-/// let mut path = String::from("/l/");
-/// path.push_str(Digits(36, 1000u64).to_str(&mut [0; 13]));
-/// assert_eq!(path, "/l/RS");
+/// let mut squares = String::new();
+/// for number in (1u64..).map(|number| number * number).take(3) {
+///     (number, ";").append_to(&mut squares);
+/// }
+/// assert_eq!(squares, "1;4;9;");
 /// ```
 pub trait Append: Part {
-    /// Appends the text to the vector. Before that the vector gets the [`room`](Part::room) of the part, if it does not
-    /// have it. The part must be valid.
+    /// Appends the text to a `Vec<u8>` or a `String`. The part must be valid, and for a `String` its text must be UTF-8,
+    /// as [`to_str`](Part::to_str) says.
+    ///
+    /// A `String` grows by the length of the text, as with `push_str`. So does a `Vec` if the [`room`](Part::room) of the
+    /// part is at most 256 bytes; otherwise the vector must have, or gets, the room.
     ///
     /// # Panics
     ///
-    /// If the part is not valid, or if the vector would have more than `isize::MAX` bytes. Then the vector may have zeros
-    /// at its end. If there is not enough memory for fewer bytes, the process aborts, as it does for `Vec::push`.
-    fn append_to(self, bytes: &mut Vec<u8>);
+    /// If the part is not valid, if the text in a `String` is not UTF-8, or if more than `isize::MAX` bytes would be
+    /// reserved. Then a `String` is unchanged, and a `Vec` may have zeros at its end. If there is not enough memory for
+    /// fewer bytes, the process aborts, as it does for `Vec::push`.
+    fn append_to<T: AppendTarget>(self, target: &mut T);
 }
 
 impl<P: Part> Append for P {
     #[inline]
-    fn append_to(self, bytes: &mut Vec<u8>) {
-        let start = bytes.len();
-        bytes.resize(start.saturating_add(self.room()), 0);
-        let end = self.write_at(start, bytes);
-        bytes.truncate(end);
+    fn append_to<T: AppendTarget>(self, target: &mut T) {
+        target.append_part(self);
+    }
+}
+
+/// What [`Append`] can write to: `Vec<u8>` and `String`.
+///
+/// ```
+/// use cojimuran::{Append, AppendTarget};
+///
+/// fn append_id(id: u32, target: &mut impl AppendTarget) {
+///     ("id=", id).append_to(target);
+/// }
+///
+/// let mut line = String::new();
+/// append_id(7, &mut line);
+/// assert_eq!(line, "id=7");
+/// ```
+pub trait AppendTarget: sealed::Sealed {
+    #[doc(hidden)]
+    fn append_part<P: Part>(&mut self, part: P);
+}
+
+mod sealed {
+    pub trait Sealed {}
+
+    impl Sealed for super::Vec<u8> {}
+    impl Sealed for super::String {}
+}
+
+/// The largest room of a part that is written to an array first.
+const MOST_AT_ONCE: usize = 256;
+
+impl AppendTarget for Vec<u8> {
+    #[inline]
+    fn append_part<P: Part>(&mut self, part: P) {
+        let (start, room) = (self.len(), part.room());
+        if room <= MOST_AT_ONCE && self.capacity() - start < room {
+            self.extend_from_slice(part.to_text(&mut [0; MOST_AT_ONCE]));
+            return;
+        }
+        self.resize(start.saturating_add(room), 0);
+        let end = part.write_at(start, self);
+        self.truncate(end);
+    }
+}
+
+impl AppendTarget for String {
+    #[inline]
+    fn append_part<P: Part>(&mut self, part: P) {
+        match part.try_to_str(&mut [0; MOST_AT_ONCE]) {
+            Some(text) => self.push_str(text),
+            None => self.push_str(part.to_str(&mut vec![0; part.room()])),
+        }
     }
 }

@@ -92,6 +92,9 @@ extern crate alloc;
 
 #[cfg(feature = "alloc")]
 mod append;
+mod displayed;
+#[cfg(feature = "alloc")]
+mod strings;
 
 // The sources in Rattle, as `strip` makes them: what users have of them is exported below.
 #[allow(
@@ -112,7 +115,8 @@ mod write_integer;
 mod misuse;
 
 #[cfg(feature = "alloc")]
-pub use append::Append;
+pub use append::{Append, AppendTarget};
+pub use displayed::Displayed;
 pub use num::options::{Options, OptionsBuilder, WriteOptions};
 pub use num::{
     BUFFER_SIZE, Error, FormattedSize, LexicalInteger, NumberFormat, NumberFormatBuilder, Result,

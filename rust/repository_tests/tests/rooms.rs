@@ -41,6 +41,9 @@ macro_rules! check_rooms {
         let mut bytes = b"ab".to_vec();
         $part.append_to(&mut bytes);
         assert_eq!(bytes, [b"ab", $text.as_bytes()].concat(), "{name} at the end of a vector");
+        let mut string = String::from("ab");
+        $part.append_to(&mut string);
+        assert_eq!(string, format!("ab{}", $text), "{name} at the end of a string");
     )+ };
 }
 

@@ -154,7 +154,9 @@ fn complete_documentation(top: &Path, made: &mut Files) -> Result<(), String> {
     let mut exports = documentation::exports(&by_hand("lib.rs")?, "crate");
     exports.extend(documentation::exports(&parts, "crate::parts"));
     let mut shown = BTreeSet::new();
-    documentation::add_examples(&mut by_hand("append.rs")?, false, &mut shown)?;
+    for file in ["append.rs", "displayed.rs"] {
+        documentation::add_examples(&mut by_hand(file)?, false, &mut shown)?;
+    }
     for (path, text) in made.iter_mut().filter(|(path, _)| path.starts_with("rust/cojimuran")) {
         let mut code = tokens::lex(text)?;
         let is_of_parts = path.starts_with("rust/cojimuran/src/parts");

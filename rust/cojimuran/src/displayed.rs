@@ -1,0 +1,98 @@
+//! Values that have `Display`, as parts. This file is written by hand and is not proved.
+
+use crate::parts::{Part, Show};
+use core::fmt::{self, Display, Write};
+
+/// A value that has `Display`, such as a float or an IP address, as a part: its text is what `{}` writes.
+///
+/// ```
+/// use cojimuran::parts::{Part, Padded};
+/// use cojimuran::Displayed;
+///
+/// let mut buffer = [0; 64];
+/// let row = (7u32, ",", Displayed(&-1.5), ",", Padded(5u8, 2));
+/// assert_eq!(row.to_str(&mut buffer), "7,-1.5,05");
+///
+/// // With a precision or another option, by `format_args!`.
+/// let row = ("t=", Displayed(&format_args!("{:.3}", 0.25)), " s");
+/// assert_eq!(row.to_str(&mut buffer), "t=0.250 s");
+/// ```
+///
+/// The value is formatted once to write it, and once more each time that a call asks for its [`room`](Part::room) or its
+/// length, as `try_to_str` does. It must write the same text each time.
+///
+/// This part is not proved: what it writes is what the `Display` of the value does.
+///
+/// # Panics
+///
+/// Calls that write this part or ask for its room panic if `Display` of the value returns an error, and, as with every
+/// part, if the buffer is too short.
+#[derive(Debug)]
+pub struct Displayed<'a, T: ?Sized>(pub &'a T);
+
+impl<T: ?Sized> Clone for Displayed<'_, T> {
+    #[inline]
+    fn clone(&self) -> Self {
+        *self
+    }
+}
+
+impl<T: ?Sized> Copy for Displayed<'_, T> {}
+
+/// A writer that only counts bytes.
+struct Count(usize);
+
+impl Write for Count {
+    #[inline]
+    fn write_str(&mut self, text: &str) -> fmt::Result {
+        self.0 = self.0.saturating_add(text.len());
+        Ok(())
+    }
+}
+
+/// A writer to the rest of a buffer. It returns an error if the text does not fit.
+struct Rest<'a>(&'a mut [u8]);
+
+impl Write for Rest<'_> {
+    #[inline]
+    fn write_str(&mut self, text: &str) -> fmt::Result {
+        let (front, rest) = core::mem::take(&mut self.0).split_at_mut_checked(text.len()).ok_or(fmt::Error)?;
+        front.copy_from_slice(text.as_bytes());
+        self.0 = rest;
+        Ok(())
+    }
+}
+
+impl<T: Display + ?Sized> Part for Displayed<'_, T> {
+    #[inline]
+    fn room(self) -> usize {
+        let mut count = Count(0);
+        write!(count, "{}", self.0).expect("`Display` of the value returns no error");
+        count.0
+    }
+
+    #[inline]
+    fn write_to(self, buffer: &mut [u8]) -> usize {
+        let length = buffer.len();
+        let mut rest = Rest(buffer);
+        write!(rest, "{}", self.0).expect("the buffer has room for the value, and its `Display` returns no error");
+        length - rest.0.len()
+    }
+
+    #[inline]
+    fn text_len(self) -> Option<usize> {
+        Some(self.room())
+    }
+}
+
+impl<T: Display + ?Sized> Show for Displayed<'_, T> {
+    #[inline]
+    fn is_showable(self) -> bool {
+        true
+    }
+
+    #[inline]
+    fn write_pieces<O: Write>(self, out: &mut O) -> fmt::Result {
+        write!(out, "{}", self.0)
+    }
+}

@@ -1,0 +1,93 @@
+//! What the package has by hand: the ends of a `Vec` and of a `String`, values with `Display`, and owned strings.
+
+use cojimuran::parts::{Bytes, Joined, Padded, Part, Show, Shown};
+use cojimuran::{Append, Displayed};
+use std::borrow::Cow;
+use std::fmt;
+use std::net::Ipv4Addr;
+use std::panic::{AssertUnwindSafe, catch_unwind};
+
+#[test]
+fn ends_of_strings_and_vectors() {
+    for count in [0, 1, 12, 13, 100] {
+        // Each room is 20 bytes, so 13 numbers have more than 256.
+        let numbers = vec![u64::MAX; count];
+        let expected = format!("é{}", vec!["18446744073709551615"; count].join(","));
+        let mut string = String::from("é");
+        Joined(&numbers, ",").append_to(&mut string);
+        assert_eq!(string, expected);
+        for spare in [0, 1, 300, 3000] {
+            let mut bytes = Vec::with_capacity(2 + spare);
+            bytes.extend_from_slice("é".as_bytes());
+            Joined(&numbers, ",").append_to(&mut bytes);
+            assert_eq!(bytes, expected.as_bytes());
+        }
+    }
+}
+
+#[test]
+fn only_what_the_text_needs_is_reserved() {
+    let row = (1u64, ",", 2u64);
+    let (mut string, mut bytes) = (String::new(), Vec::new());
+    row.append_to(&mut string);
+    row.append_to(&mut bytes);
+    assert_eq!((string.as_str(), bytes.as_slice()), ("1,2", b"1,2".as_slice()));
+    // The least that the standard library reserves.
+    assert_eq!((string.capacity(), bytes.capacity()), (8, 8));
+}
+
+#[test]
+fn strings_stay_as_they_are_if_a_part_is_refused() {
+    let mut string = String::from("ab");
+    assert!(catch_unwind(AssertUnwindSafe(|| Bytes(&[200]).append_to(&mut string))).is_err());
+    assert!(catch_unwind(AssertUnwindSafe(|| (1u8, Padded(123u8, 2)).append_to(&mut string))).is_err());
+    let long = [200; 300];
+    assert!(catch_unwind(AssertUnwindSafe(|| Bytes(&long).append_to(&mut string))).is_err());
+    assert_eq!(string, "ab");
+}
+
+#[test]
+fn values_with_display() {
+    let address = Ipv4Addr::new(127, 0, 0, 1);
+    let line = ("t=", Displayed(&-1.5), " at ", Displayed(&address), ":", 80u16);
+    let text = "t=-1.5 at 127.0.0.1:80";
+    assert_eq!(line.to_str(&mut [0; 40]), text);
+    assert_eq!((line.text_len(), line.room()), (Some(22), 25));
+    assert_eq!(format!("{:>30}", Shown(line)), format!("{text:>30}"));
+    assert_eq!(Displayed("text").to_text(&mut [0; 4]), b"text");
+    assert_eq!(Displayed(&format_args!("{:.3}", 0.25)).to_text(&mut [0; 9]), b"0.250");
+    let mut exact = [b'?'; 23];
+    assert_eq!(line.try_write_to(&mut exact[..21]), None);
+    assert_eq!(line.try_write_to(&mut exact[..22]), Some(22));
+    assert_eq!(&exact, b"t=-1.5 at 127.0.0.1:80?");
+    let mut pieces = String::new();
+    line.write_pieces(&mut pieces).unwrap();
+    assert_eq!(pieces, text);
+}
+
+/// A value that cannot be formatted.
+struct Never;
+
+impl fmt::Display for Never {
+    fn fmt(&self, _: &mut fmt::Formatter<'_>) -> fmt::Result {
+        Err(fmt::Error)
+    }
+}
+
+#[test]
+fn values_that_are_not_written() {
+    assert!(catch_unwind(|| Displayed(&Never).room()).is_err());
+    assert!(catch_unwind(|| Displayed(&Never).write_to(&mut [0; 9])).is_err());
+    assert!(catch_unwind(|| Displayed(&12345).write_to(&mut [0; 4])).is_err());
+    assert!(Displayed(&Never).write_pieces(&mut String::new()).is_err());
+}
+
+#[test]
+fn owned_strings() {
+    let (string, boxed, cow) = (String::from("é"), Box::<str>::from("b"), Cow::Borrowed("c"));
+    let parts = (&string, &boxed, &cow, &"d", &&"e", 5u8);
+    assert_eq!(parts.to_str(&mut [0; 9]), "ébcde5");
+    assert_eq!((parts.text_len(), parts.room()), (Some(7), 9));
+    assert_eq!(format!("{:*^9}", Shown((&string, &cow))), "***éc****");
+    assert_eq!(Joined(&[&string, &string], "-").to_text(&mut [0; 5]), "é-é".as_bytes());
+}
