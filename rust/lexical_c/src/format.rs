@@ -40,9 +40,7 @@ pub extern "C" fn lexical_check_format(format: &CFormat) -> u32 {
         INVALID_GROUP_SIZE
     } else if format.group_size != 0 && !is_mark(u64::from(format.mark)) {
         INVALID_GROUP_MARK
-    } else if format.reserved_1 != 0 {
-        INVALID_RESERVED
-    } else if format.reserved_2 != 0 {
+    } else if format.reserved_1 != 0 || format.reserved_2 != 0 {
         INVALID_RESERVED
     } else {
         0
