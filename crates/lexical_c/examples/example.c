@@ -1,4 +1,4 @@
-/* Writes a number in decimal, in radix 16 and in groups of three digits. */
+/* Writes a number in radix 16, and another one in groups of three digits. */
 #include <lexical.h>
 #include <stdio.h>
 
@@ -7,17 +7,9 @@ int main(void)
     const struct lexical_format hexadecimal = LEXICAL_RADIX(16);
     const struct lexical_format grouped = { .radix = 10, .group_size = 3, .mark = ',' };
     char buffer[LEXICAL_BUFFER_SIZE];
-    size_t count = lexical_decimal_u32(1234567, buffer, sizeof buffer);
-    if (count == 0)
-        return 1;
-    printf("%.*s\n", (int)count, buffer);
-    count = lexical_write_i64(-1234, &hexadecimal, buffer, sizeof buffer);
-    if (count == 0)
-        return 1;
+    size_t count = lexical_write_i64(-1234, &hexadecimal, buffer, sizeof buffer);
     printf("%.*s\n", (int)count, buffer);
     count = lexical_write_u64(UINT64_MAX, &grouped, buffer, sizeof buffer);
-    if (count == 0)
-        return 1;
     printf("%.*s\n", (int)count, buffer);
-    return 0;
+    return count == 0;
 }

@@ -25,3 +25,7 @@ def write(value, radix):
     return buffer.raw[:count].decode("ascii")
 
 print(write(-1295, 36))
+try:
+    write(2**64, 10)
+except ValueError as error:
+    print(error)
