@@ -1,7 +1,7 @@
 // Prints how long the library takes beside std::to_chars, snprintf, and {fmt} if it is there, in nanoseconds per number:
-// the best of 100 interleaved passes over 10,000 numbers of 1 to 64 bits, each length as often. Their order is random, since a
-// processor learns to predict lengths that follow a pattern. {fmt} has format strings that are compiled (FMT_COMPILE), and
-// in the first row fmt::format_int, which writes to a buffer of its own.
+// the best of 100 interleaved passes over 10,000 numbers of 1 to 64 bits, each length as often. Their order is random,
+// since a processor learns to predict lengths that follow a pattern. {fmt} has format strings that are compiled
+// (FMT_COMPILE), and in the first row fmt::format_int, which writes to a buffer of its own.
 #include <lexical.h>
 
 #include <algorithm>
@@ -15,63 +15,43 @@
 #if __has_include(<fmt/compile.h>)
 #define FMT_HEADER_ONLY
 #include <fmt/compile.h>
-#define HAS_FMT 1
+#define FMT(text) [](uint64_t value) { return size_t(fmt::format_to(buffer, FMT_COMPILE(text), value) - buffer); }
 #else
-#define HAS_FMT 0
+#define FMT(text) nullptr
 #endif
+#define PRINTF(format) [](uint64_t value) { return size_t(std::snprintf(buffer, sizeof buffer, format, value)); }
 
 namespace {
 
 char buffer[LEXICAL_BUFFER_SIZE];
 using Writer = size_t (*)(uint64_t);
 
-// Each function is called, as that of a library is.
-[[gnu::noinline]] size_t decimal(uint64_t value) { return lexical_decimal_u64(value, buffer, sizeof buffer); }
+// Each writer is called by a pointer, as a function of a library is.
+size_t decimal(uint64_t value) { return lexical_decimal_u64(value, buffer, sizeof buffer); }
 
 template <unsigned radix, unsigned lowercase>
-[[gnu::noinline]] size_t lexical(uint64_t value)
+size_t lexical(uint64_t value)
 {
     static const lexical_format format = { radix, 0, 0, 0, lowercase, { 0, 0 } };
     return lexical_write_u64(value, &format, buffer, sizeof buffer);
 }
 
 template <int radix>
-[[gnu::noinline]] size_t to_chars(uint64_t value)
+size_t to_chars(uint64_t value)
 {
-    return static_cast<size_t>(std::to_chars(buffer, buffer + sizeof buffer, value, radix).ptr - buffer);
+    return size_t(std::to_chars(buffer, buffer + sizeof buffer, value, radix).ptr - buffer);
 }
 
-template <int radix, bool lowercase>
-[[gnu::noinline]] size_t printed(uint64_t value)
+#if __has_include(<fmt/compile.h>)
+size_t format_int(uint64_t value)
 {
-    const char *format = radix == 8 ? "%" PRIo64 : radix == 10 ? "%" PRIu64 : lowercase ? "%" PRIx64 : "%" PRIX64;
-    return static_cast<size_t>(std::snprintf(buffer, sizeof buffer, format, value));
-}
-
-[[gnu::noinline]] size_t fmt_decimal(uint64_t value)
-{
-#if HAS_FMT
     fmt::format_int text(value);
     asm volatile("" : : "r"(text.data()) : "memory");  // The text is read.
     return text.size();
-#else
-    return value;
-#endif
 }
-
-template <int radix, bool lowercase>
-[[gnu::noinline]] size_t fmt_text(uint64_t value)
-{
-#if HAS_FMT
-    if (radix == 10) return static_cast<size_t>(fmt::format_to(buffer, FMT_COMPILE("{}"), value) - buffer);
-    if (radix == 2) return static_cast<size_t>(fmt::format_to(buffer, FMT_COMPILE("{:b}"), value) - buffer);
-    if (radix == 8) return static_cast<size_t>(fmt::format_to(buffer, FMT_COMPILE("{:o}"), value) - buffer);
-    if (lowercase) return static_cast<size_t>(fmt::format_to(buffer, FMT_COMPILE("{:x}"), value) - buffer);
-    return static_cast<size_t>(fmt::format_to(buffer, FMT_COMPILE("{:X}"), value) - buffer);
 #else
-    return value;
+const Writer format_int = nullptr;
 #endif
-}
 
 std::vector<uint64_t> numbers;
 
@@ -104,18 +84,18 @@ int main()
     }
     std::shuffle(numbers.begin(), numbers.end(), std::mt19937_64());
     Row rows[] = {
-        { "lexical_decimal_u64", { decimal, to_chars<10>, printed<10, false>, fmt_decimal }, {} },
-        { "radix 10", { lexical<10, 0>, to_chars<10>, printed<10, false>, fmt_text<10, false> }, {} },
-        { "radix 2", { lexical<2, 0>, to_chars<2>, nullptr, fmt_text<2, false> }, {} },
-        { "radix 8", { lexical<8, 0>, to_chars<8>, printed<8, false>, fmt_text<8, false> }, {} },
-        { "radix 16", { lexical<16, 0>, nullptr, printed<16, false>, fmt_text<16, false> }, {} },
-        { "radix 16, lowercase", { lexical<16, 1>, to_chars<16>, printed<16, true>, fmt_text<16, true> }, {} },
+        { "lexical_decimal_u64", { decimal, to_chars<10>, PRINTF("%" PRIu64), format_int }, {} },
+        { "radix 10", { lexical<10, 0>, to_chars<10>, PRINTF("%" PRIu64), FMT("{}") }, {} },
+        { "radix 2", { lexical<2, 0>, to_chars<2>, nullptr, FMT("{:b}") }, {} },
+        { "radix 8", { lexical<8, 0>, to_chars<8>, PRINTF("%" PRIo64), FMT("{:o}") }, {} },
+        { "radix 16", { lexical<16, 0>, nullptr, PRINTF("%" PRIX64), FMT("{:X}") }, {} },
+        { "radix 16, lowercase", { lexical<16, 1>, to_chars<16>, PRINTF("%" PRIx64), FMT("{:x}") }, {} },
         { "radix 36", { lexical<36, 0>, nullptr, nullptr, nullptr }, {} },
         { "radix 36, lowercase", { lexical<36, 1>, to_chars<36>, nullptr, nullptr }, {} },
     };
     for (int pass = 0; pass < 100; pass++)
         for (Row &row : rows)
-            for (int i = 0; i < 3 + HAS_FMT; i++) {
+            for (int i = 0; i < 4; i++) {
                 double taken = row.writers[i] == nullptr ? 0 : nanoseconds(row.writers[i]);
                 if (pass == 0 || taken < row.best[i]) row.best[i] = taken;
             }
