@@ -2,29 +2,29 @@
 /*
  * lexical.h: converts integers to text, in every radix from 2 to 36.
  *
- * Examples. This writes 48879 to the buffer and returns 5:
+ * Examples. These lines write 48879 to the buffer and set the count to 5:
  *
  *     char buffer[LEXICAL_BUFFER_SIZE];
  *     size_t count = lexical_decimal_u32(48879, buffer, sizeof buffer);
  *
- * This writes BEEF and returns 4:
+ * These write BEEF and set it to 4:
  *
  *     const struct lexical_format hexadecimal = LEXICAL_RADIX(16);
  *     count = lexical_write_u32(48879, &hexadecimal, buffer, sizeof buffer);
  *
- * This makes a string of -42, which has a byte 0 after its text:
+ * These make the string "-42", which ends with a NUL:
  *
  *     char text[LEXICAL_BUFFER_SIZE_DECIMAL_I32 + 1];
  *     size_t count = lexical_decimal_i32(-42, text, sizeof text);
  *     lexical_terminate(count, text, sizeof text);
  *
- * This writes 0000BEEF, which has zeros up to a width of 8 bytes:
+ * These write 0000BEEF, with zeros up to 8 bytes:
  *
  *     count = lexical_write_u32(48879, &hexadecimal, buffer, sizeof buffer);
  *     count = lexical_pad(count, 8, buffer, sizeof buffer);
  *
- * And this writes 0xBEEF. The two bytes of the prefix are missing in the length, and a
- * result of 0 stays 0. A negative number would become 0x-BEEF.
+ * These write 0xBEEF, and set the count to 6, or to 0 if the number does not fit. Use
+ * them only for unsigned types, because a '-' would come after the prefix:
  *
  *     memcpy(buffer, "0x", 2);
  *     count = lexical_write_u32(48879, &hexadecimal, buffer + 2, sizeof buffer - 2);
@@ -37,41 +37,40 @@
  * inserts them. If the format has groups, a separator (its mark) is written between
  * groups of digits.
  *
- * Format. `format` points to a struct lexical_format, which the call only
- * reads. The pointer must not be NULL. Any values of the fields are safe: with an
- * invalid format the call returns 0.
+ * Format. `format` points to a struct lexical_format, which a call only reads. The
+ * pointer must not be NULL. The fields may have any values, because a call returns 0
+ * for an invalid format.
  *
- * Buffer. `buffer` points to `length` bytes that the call may write. They must
- * not overlap the format, and no other thread may use them during the call. The
- * pointer may be NULL if the length is 0. The length must be at most
- * PTRDIFF_MAX, since no object is longer. The buffer may be uninitialized. Bytes
- * after the text keep their values, but a call may write the same value again. It
- * writes nothing outside the buffer, and keeps no pointer to it.
+ * Buffer. `buffer` points to `length` bytes that the call may write. The length must be
+ * at most PTRDIFF_MAX, which no object exceeds. The pointer may be NULL if the length
+ * is 0. The bytes may be uninitialized. They must not overlap the format, and no other
+ * thread may use them during the call. The call writes nothing outside the buffer, and
+ * keeps no pointer to it. Bytes after the text keep their values.
  *
- * Length of the buffer. LEXICAL_BUFFER_SIZE bytes are enough for every number of
- * every type in every format. lexical_decimal is the fastest call. lexical_write is
- * fastest if the format has no groups, no required sign and uppercase digits. If the
- * buffer is shorter than the size of the type (the constants below), the text may be
- * written to an array first and then copied. With LEXICAL_BUFFER_SIZE bytes there is
- * never a copy.
+ * Size of the buffer. LEXICAL_BUFFER_SIZE bytes are enough for every number of every
+ * type in every format.
  *
- * Return value. On success lexical_decimal and lexical_write return the length of the
- * text that they have written, without a terminating 0, lexical_pad and
- * lexical_terminate the length of the text in the buffer, lexical_length the length
- * that the text has, and lexical_buffer_size a size that is enough. None of these is 0.
+ * Return value. A call that writes returns the length of the text in the buffer. This
+ * length does not count a NUL. It is never 0, because every text has a digit.
  *
- * Errors. If the text does not fit the buffer or the format is not valid, the call
- * returns 0 and the buffer is unchanged; only lexical_terminate then writes an empty
- * string. To know which, call lexical_check_format: it returns 0 for a valid format,
- * so the buffer was too short, and otherwise a number that names the first invalid
- * field. No call changes errno.
+ * Errors. If the text does not fit the buffer or the format is invalid, a call returns
+ * 0 and leaves the buffer unchanged. Only lexical_terminate then writes an empty
+ * string. To learn which of the two it was, call lexical_check_format. If it returns 0,
+ * the format is valid, so the buffer was too short. Otherwise it returns a number that
+ * names the first invalid field. No call changes errno.
+ *
+ * Speed. lexical_decimal is the fastest call. lexical_write is fastest if the format
+ * has no groups, no required sign and uppercase digits. If the buffer is shorter than
+ * the size of the type (a constant below), a call may write the text to an array first
+ * and then copy it. With LEXICAL_BUFFER_SIZE bytes it never copies.
  *
  * Proof. The sources of the library are proved for all arguments that meet the
- * conditions above under "Format" and "Buffer". The step from C pointers to these
- * sources is written by hand and tested, and so is what a compiler makes of them.
+ * conditions above under "Format" and "Buffer". One file, which turns C pointers into
+ * slices, is written by hand. That file and the compiled library are tested, not
+ * proved.
  *
- * Threads and signals. The functions have no state and allocate nothing: any thread
- * and any signal handler may call them.
+ * Threads and signals. The functions have no state and allocate nothing, so you can
+ * call them in any thread and in any signal handler.
  *
  * Names. All names begin with lexical_ or LEXICAL_. Those that begin with
  * lexical_private_ or LEXICAL_PRIVATE_ may change in each version, so do not use them.
@@ -210,11 +209,14 @@ LEXICAL_HAS((nothrow, const)) uint32_t lexical_version(void) LEXICAL_NOEXCEPT;
 #define LEXICAL_BUFFER_SIZE_DECIMAL_I64 20
 
 /*
- * lexical_decimal_T: writes a number in decimal, as lexical_write_T does in the
- * standard format, to the start of the buffer, and returns the length of the text,
- * which is never 0. Every byte after the text is unchanged.
+ * lexical_decimal_T: writes a number in decimal.
  *
- * Returns 0 if and only if the text does not fit the buffer, which is then unchanged.
+ *     value   the number
+ *     buffer  where the text begins
+ *     length  the size of the buffer in bytes
+ *
+ * Returns the length of the text, or 0 if the text does not fit the buffer. Then the
+ * buffer is unchanged. lexical_write_T writes the same text in the standard format.
  */
 LEXICAL_WRITES_DECIMAL
 size_t lexical_decimal_u8(uint8_t value, char *buffer, size_t length) LEXICAL_NOEXCEPT;
@@ -329,11 +331,11 @@ uint32_t lexical_check_format(const struct lexical_format *format) LEXICAL_NOEXC
 #define LEXICAL_BUFFER_SIZE_I64 128
 
 /*
- * lexical_buffer_size_T: returns a buffer size, from 1 to LEXICAL_BUFFER_SIZE,
- * that is enough for every number of the type in the format, including its sign
- * and its separators. Returns 0 if the format is not valid.
+ * lexical_buffer_size_T: returns a buffer size that is enough for every number of the
+ * type in the format, with its sign and its separators. With a buffer of this size,
+ * lexical_write_T never returns 0 for this format.
  *
- * With a buffer of that size, lexical_write_T in the same format never returns 0.
+ * The size is from 1 to LEXICAL_BUFFER_SIZE, or 0 if the format is invalid.
  */
 LEXICAL_READS(1)
 size_t lexical_buffer_size_u8(const struct lexical_format *format) LEXICAL_NOEXCEPT;
@@ -355,10 +357,10 @@ LEXICAL_READS(1)
 size_t lexical_buffer_size_i64(const struct lexical_format *format) LEXICAL_NOEXCEPT;
 
 /*
- * lexical_length_T: returns the length of the text of a number in the format,
- * from 1 to LEXICAL_BUFFER_SIZE. Returns 0 if the format is not valid.
+ * lexical_length_T: returns the length of the text that lexical_write_T writes for the
+ * number in the format, if the buffer is long enough.
  *
- * lexical_write_T returns the same length if the buffer is at least that long.
+ * The length is from 1 to LEXICAL_BUFFER_SIZE, or 0 if the format is invalid.
  */
 LEXICAL_READS(2)
 size_t lexical_length_u8(uint8_t value,
@@ -391,11 +393,15 @@ size_t lexical_length_i64(int64_t value,
 /* ---- writing ------------------------------------------------------------- */
 
 /*
- * lexical_write_T: writes the text of a number to the start of the buffer, and
- * returns its length, which is never 0. Every byte after the text is unchanged.
+ * lexical_write_T: writes a number in a format.
  *
- * Returns 0 if and only if the format is not valid or the text does not fit the
- * buffer. The buffer is then unchanged. A ptrdiff_t is written by lexical_write_i64.
+ *     value   the number; for a ptrdiff_t use lexical_write_i64
+ *     format  the radix and how else the number is written
+ *     buffer  where the text begins
+ *     length  the size of the buffer in bytes
+ *
+ * Returns the length of the text, or 0 if the format is invalid or the text does not
+ * fit the buffer. Then the buffer is unchanged.
  */
 LEXICAL_WRITES
 size_t lexical_write_u8(uint8_t value, const struct lexical_format *format,
@@ -428,26 +434,31 @@ size_t lexical_write_i64(int64_t value, const struct lexical_format *format,
 /* ---- zeros and strings ----------------------------------------------------- */
 
 /*
- * lexical_pad: inserts zeros into the text of `count` bytes at the start of the
- * buffer, after its sign if it has one, so that it has at least `width` bytes. It
- * returns the length of the text, which is the greater of the two numbers. Every byte
- * after the text is unchanged. The zeros are not in groups.
+ * lexical_pad: inserts zeros into a text, after its sign, until it has `width` bytes.
  *
- * Returns 0 if and only if the count is 0, or the length is less than the count or
- * the width. The buffer is then unchanged. So the count can be what another call has
- * returned, even if that is 0.
+ *     count   the length of the text, which another call has returned
+ *     width   the length that the text is to have; a longer text stays as it is
+ *     buffer  where the text begins
+ *     length  the size of the buffer in bytes
+ *
+ * Returns the length of the text, which is the greater of the count and the width. The
+ * zeros are not in groups. Returns 0 if the count is 0, or if the length is less than
+ * the count or the width. Then the buffer is unchanged. So you can pass the result of
+ * another call as the count, even if it is 0.
  */
 LEXICAL_HAS((nothrow, warn_unused_result)) LEXICAL_ACCESS((read_write, 3, 4))
 size_t lexical_pad(size_t count, size_t width, char *buffer, size_t length) LEXICAL_NOEXCEPT;
 
 /*
- * lexical_terminate: writes a 0 after the text of `count` bytes at the start of the
- * buffer, which is one of the `length` bytes, and returns the count. The buffer then
- * holds a string.
+ * lexical_terminate: writes a NUL after a text, which makes it a string.
  *
- * Returns 0 if and only if the count is 0, or the buffer has no byte for the 0 because
- * the length is at most the count. The buffer then holds an empty string: its first
- * byte is 0. If the length is 0, nothing is written.
+ *     count   the length of the text, which another call has returned
+ *     buffer  where the text begins
+ *     length  the size of the buffer in bytes, with a byte for the NUL
+ *
+ * Returns the count. Returns 0 if the count is 0, or if the length is at most the count,
+ * so that the NUL does not fit. Then the first byte becomes NUL, so the buffer has an
+ * empty string. If the length is 0, nothing is written.
  */
 LEXICAL_HAS((nothrow)) LEXICAL_ACCESS((read_write, 2, 3))
 size_t lexical_terminate(size_t count, char *buffer, size_t length) LEXICAL_NOEXCEPT;
