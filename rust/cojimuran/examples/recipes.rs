@@ -4,7 +4,7 @@ use cojimuran::parts::{
     Digits, Fixed, Formatted, Hex, HexBytes, Joined, Left, Lower, Padded, Part, Right, Show, Shown,
     ZeroPadded,
 };
-use cojimuran::{Buffer, NumberFormat, NumberFormatBuilder};
+use cojimuran::{Append, Buffer, Displayed, NumberFormat, NumberFormatBuilder};
 
 const THOUSANDS: NumberFormat = NumberFormatBuilder::new()
     .digit_grouping(3, b',')
@@ -30,15 +30,16 @@ fn main() {
     // Bytes in hexadecimal.
     let bytes = HexBytes(&[0xDE, 0xAD, 1], ":");
     assert_eq!(bytes.to_str(&mut buffer), "DE:AD:01");
-    // A row of CSV at the end of a `String`.
-    let mut csv = String::from("id,price,sizes\n");
+    // A row of CSV at the end of a `String`, with a float.
+    let mut csv = String::from("id,price,sizes,ratio\n");
     let sizes = Joined(&[38u8, 40], " ");
-    let row = (7u32, ",", Fixed(1999u32, 2), ",", sizes, "\n");
-    csv.push_str(row.to_str(&mut buffer));
-    assert_eq!(csv, "id,price,sizes\n7,19.99,38 40\n");
-    // The same without a buffer.
+    let price = Fixed(1999u32, 2);
+    let row = (7u32, ",", price, ",", sizes, ",", Displayed(&0.5), "\n");
+    row.append_to(&mut csv);
+    assert_eq!(csv, "id,price,sizes,ratio\n7,19.99,38 40,0.5\n");
+    // The same without the feature `alloc`, to any `fmt::Write`.
     row.write_pieces(&mut csv).unwrap();
-    assert_eq!(csv, "id,price,sizes\n7,19.99,38 40\n7,19.99,38 40\n");
+    assert_eq!(csv.lines().last(), Some("7,19.99,38 40,0.5"));
     // A line of a log, with a field that may be absent.
     let user = Some(1000u64).map(|user| (" user=", user));
     let line = (time, " [info]", user, " flags=0x", Hex(255u16));

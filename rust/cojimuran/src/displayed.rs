@@ -56,7 +56,9 @@ struct Rest<'a>(&'a mut [u8]);
 impl Write for Rest<'_> {
     #[inline]
     fn write_str(&mut self, text: &str) -> fmt::Result {
-        let (front, rest) = core::mem::take(&mut self.0).split_at_mut_checked(text.len()).ok_or(fmt::Error)?;
+        let (front, rest) = core::mem::take(&mut self.0)
+            .split_at_mut_checked(text.len())
+            .ok_or(fmt::Error)?;
         front.copy_from_slice(text.as_bytes());
         self.0 = rest;
         Ok(())
@@ -75,7 +77,8 @@ impl<T: Display + ?Sized> Part for Displayed<'_, T> {
     fn write_to(self, buffer: &mut [u8]) -> usize {
         let length = buffer.len();
         let mut rest = Rest(buffer);
-        write!(rest, "{}", self.0).expect("the buffer has room for the value, and its `Display` returns no error");
+        write!(rest, "{}", self.0)
+            .expect("the buffer has room for the value, and its `Display` returns no error");
         length - rest.0.len()
     }
 

@@ -1,7 +1,8 @@
-//! Writes integers as text, in every radix from 2 to 36, into a buffer that you supply. No call allocates, except that of
-//! `Append`. The sources of the other calls are written in Rattle, a dialect of Rust with contracts, and are proved there:
-//! [when its conditions hold](#conditions), a call writes exactly the right bytes and does not panic. This Rust code is
-//! made from them by a program, and is tested.
+//! Writes integers as text, in every radix from 2 to 36, into a buffer that you supply. No call allocates, except
+//! `append_to`. The sources are written in Rattle, a dialect of Rust with contracts, and are proved there:
+//! [when its conditions hold](#conditions), a call writes exactly the right bytes and does not panic. A program makes this
+//! Rust code from them, and the Rust code is tested. [`Displayed`] and what needs the feature `alloc` are written by hand
+//! and tested.
 //!
 //! # A first program
 //!
@@ -19,11 +20,12 @@
 //!   [`to_str`](Part::to_str) writes the text to a buffer and returns a `&str`. [`to_text`](Part::to_text) returns bytes.
 //! - [`Digits`] is an unsigned number in a radix, [`Hex`] one in radix 16, [`Fixed`] an amount such as `-19.95`,
 //!   [`Joined`] a slice with a separator between its elements, and [`Decimal`] a number in generic code. [`parts`] has
-//!   all others: groups of digits, fixed widths, columns, bytes in hexadecimal, options.
+//!   all others: groups of digits, fixed widths, columns, bytes in hexadecimal, absent values (`Option`).
+//! - [`Displayed`] is any value with `Display`, such as a float, as a part: `("t=", Displayed(&1.5))`.
 //! - [`ToLexical`] writes one number in decimal and returns bytes. [`ToLexicalWithOptions`] does so in a
 //!   [`NumberFormat`], which has a radix, a required `+` and groups of digits.
-//! - `Append`, with the feature `alloc`, writes a part to the end of a `Vec<u8>`:
-//!   `(7u8, " apples").append_to(&mut bytes)`.
+//! - `Append`, with the feature `alloc`, writes a part to the end of a `String` or a `Vec<u8>`:
+//!   `(7u8, " apples").append_to(&mut string)`. With this feature, references to a `String` are parts too.
 //!
 //! The other modules and the items that are not in this list mirror the Rust crate `lexical-write-integer`, so that a
 //! program can move from that crate: options, which have no effect, the writers of digits without a sign, and their
@@ -35,15 +37,15 @@
 //! use cojimuran::parts::{Padded, Show, Shown};
 //! use cojimuran::{Buffer, Digits, Hex, Part};
 //!
-//! // The end of a `String`. Radix 36 has at most 13 digits for a `u64`.
+//! // The end of a `String`, or of any other `fmt::Write`. With the feature `alloc`, `append_to` does this too.
 //! let mut path = String::from("/l/");
-//! path.push_str(Buffer::new().format(7u64));
-//! path.push_str(("/", Digits(36, 1000u64)).to_str(&mut [0; 14]));
+//! (7u64, "/", Digits(36, 1000u64)).write_pieces(&mut path).unwrap();
 //! assert_eq!(path, "/l/7/RS");
 //!
-//! // The same without a buffer.
-//! ("/", Digits(36, 1000u64)).write_pieces(&mut path).unwrap();
-//! assert_eq!(path, "/l/7/RS/RS");
+//! // The same with a buffer. Radix 36 has at most 13 digits for a `u64`.
+//! path.push_str(("/", Digits(36, 1000u64)).to_str(&mut [0; 14]));
+//! path.push_str(Buffer::new().format(7u64));
+//! assert_eq!(path, "/l/7/RS/RS7");
 //!
 //! // The end of a `Vec<u8>`.
 //! let mut bytes = b"time ".to_vec();
@@ -77,8 +79,8 @@
 //!
 //! # Versions
 //!
-//! The versions follow semantic versioning, as cargo reads it: a version 0.x.y is compatible with 0.x.0, and a version
-//! 0.x.0 may break your program, where the changelog says so. The integer traits are sealed, so a compatible version may
+//! The versions follow semantic versioning, by cargo's rules for 0.x versions: a version 0.x.y is compatible with 0.x.0,
+//! and a version 0.x.0 may break your program, where the changelog says so. The integer traits are sealed, so a compatible version may
 //! add methods to them.
 #![no_std]
 #![deny(unsafe_code)]

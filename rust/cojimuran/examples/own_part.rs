@@ -1,0 +1,37 @@
+//! A part of your own, by another part.
+
+use cojimuran::parts::{Padded, Part, Show, Shown};
+
+#[derive(Clone, Copy)]
+struct Time {
+    hour: u8,
+    minute: u8,
+}
+
+impl Time {
+    fn text(self) -> impl Show {
+        (Padded(self.hour, 2), ":", Padded(self.minute, 2))
+    }
+}
+
+impl Part for Time {
+    fn room(self) -> usize {
+        self.text().room()
+    }
+
+    fn write_to(self, buffer: &mut [u8]) -> usize {
+        self.text().write_to(buffer)
+    }
+}
+
+impl Show for Time {
+    fn is_showable(self) -> bool {
+        self.text().is_showable()
+    }
+}
+
+fn main() {
+    let time = Time { hour: 7, minute: 5 };
+    assert_eq!((time, " start").to_str(&mut [0; 11]), "07:05 start");
+    assert_eq!(format!("{}", Shown((time, " start"))), "07:05 start");
+}
