@@ -181,7 +181,7 @@ pub(crate) const SOURCES: &[Source] = &[
                 "buffer.rt texts/api.rt texts/integers.rt digits/write.rt digits/decimal.rt digits/decimal/jeaiii.rt",
             ),
             (
-                "#[inline(always)]",
+                "#[inline(always)]\n#[track_caller]",
                 "digits/pairs.rt digits/decimal/kernels.rt digits/decimal/decimal_pairs.rt write_digits write_at_once
                 write_by_table radix_counted constant_radix digit_count most_digits fast_log2 write_after_count last_four write_four
                 write_counted write_one_or_two write_one_pair write_short remove_two remove_four fourth_power

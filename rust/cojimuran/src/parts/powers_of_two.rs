@@ -12,7 +12,7 @@ use crate::write_integer::radix::{Radix, constant_radix};
 use core::fmt;
 
 /// The digits of an unsigned number in radix 16, without a prefix: `Hex(255u32)` writes `FF`. Its room
-/// is that of its type: 2 bytes for a `u8`, and 16 for a `u64`.
+/// is that of its type: 2 bytes for a `u8`, and 16 for a `u64`. So a literal needs a type: `Hex(255u8)`.
 ///
 /// ```
 /// use cojimuran::parts::{Hex, Part};
@@ -56,7 +56,7 @@ impl<T: Radix> Show for Hex<T> {
 }
 
 /// The digits of an unsigned number in radix 2, without a prefix: `Binary(5u8)` writes `101`. Its room
-/// is that of its type: 8 bytes for a `u8`, and 64 for a `u64`.
+/// is that of its type: 8 bytes for a `u8`, and 64 for a `u64`. So a literal needs a type: `Binary(5u8)`.
 ///
 /// ```
 /// use cojimuran::parts::{Binary, Part};

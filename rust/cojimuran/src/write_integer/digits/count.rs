@@ -65,6 +65,7 @@ pub(crate) fn counts_at_once(radix: u32) -> bool {
 /// Returns how many digits the number has. They are counted from the highest set bit if the radix is a
 /// power of 2, by `decimal_count` in radix 10, and otherwise by division. The radix is from 2 to 36.
 #[inline(always)]
+#[track_caller]
 pub(crate) fn digit_count<T: DecimalCount>(x: T, radix: u32) -> usize {
     assert!(is_radix(radix as u64), "the radix is not from 2 to 36");
     match radix {
@@ -90,6 +91,7 @@ pub(crate) fn digit_count<T: DecimalCount>(x: T, radix: u32) -> usize {
 #[doc(hidden)]
 #[must_use]
 #[inline(always)]
+#[track_caller]
 pub fn most_digits<T: UnsignedInteger>(radix: u32) -> usize {
     assert!(is_radix(radix as u64), "the radix is not from 2 to 36");
     // A digit has at least as many bits as the logarithm of the radix.
@@ -105,6 +107,7 @@ pub trait DigitCount: DecimalCount {
     /// If the radix is not from 2 to 36.
     #[must_use]
     #[inline(always)]
+    #[track_caller]
     fn digit_count(self, radix: u32) -> usize {
         digit_count(self, radix)
     }

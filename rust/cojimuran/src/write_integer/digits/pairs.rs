@@ -13,6 +13,7 @@ pub(super) struct RadixTable<'a, const R: u32> {
 impl<const R: u32> RadixTable<'static, R> {
     // Returns the table that `get_table` returns.
     #[inline(always)]
+    #[track_caller]
     pub(super) fn new() -> Self {
         RadixTable {
             pairs: get_table(R),
@@ -23,6 +24,7 @@ impl<const R: u32> RadixTable<'static, R> {
 impl<const R: u32> RadixTable<'_, R> {
     // Writes the pair of a number at index `at`.
     #[inline(always)]
+    #[track_caller]
     pub(super) fn write(self, number: u32, buffer: &mut [u8], at: usize) {
         let index = 2 * number as usize;
         let pair = &self.pairs[index..index + 2];

@@ -22,6 +22,7 @@ use table_writer::{
 // Writes a number in the radix `R`, whose digits are counted without division, with a table that begins with the digit
 // pairs of that radix.
 #[inline(always)]
+#[track_caller]
 fn write_at_once<const R: u32>(number: u64, table: &[u8], buffer: &mut [u8]) -> usize {
     let table = RadixTable::<R> { pairs: table };
     if R == 2 && number >= 256 {
@@ -36,6 +37,7 @@ fn write_at_once<const R: u32>(number: u64, table: &[u8], buffer: &mut [u8]) -> 
 // Writes a number in the radix `R`, with a table that begins with the digit pairs of that radix: after the count of
 // the digits if that needs no division, and otherwise while they are counted.
 #[inline(always)]
+#[track_caller]
 fn write_digits<T: UnsignedInteger, const R: u32>(
     value: T,
     table: &[u8],
@@ -58,6 +60,7 @@ fn write_digits<T: UnsignedInteger, const R: u32>(
 
 // Writes a number with the table of the radix.
 #[inline(always)]
+#[track_caller]
 fn write_by_table<T: UnsignedInteger, const R: u32>(value: T, buffer: &mut [u8]) -> usize {
     write_digits::<T, R>(value, get_table(R), buffer)
 }
@@ -89,6 +92,7 @@ fn write_short_or_apart<T: UnsignedInteger, const R: u32>(value: T, buffer: &mut
 // 10 before it.
 #[cold]
 #[inline(always)]
+#[track_caller]
 pub(crate) fn radix_counted<T: UnsignedInteger>(value: T, radix: u32, buffer: &mut [u8]) -> usize {
     by_radix!(radix, write_by_table or write_short_or_apart::<T>(value, buffer))
 }
@@ -108,6 +112,7 @@ fn radix_called<T: UnsignedInteger>(value: T, radix: u32, buffer: &mut [u8]) -> 
 /// If the radix is not from 2 to 36,
 /// or if the buffer is [too short](crate#conditions).
 #[inline(always)]
+#[track_caller]
 pub fn constant_radix<T: UnsignedInteger>(value: T, radix: u32, buffer: &mut [u8]) -> usize {
     radix_counted(value, radix, buffer)
 }

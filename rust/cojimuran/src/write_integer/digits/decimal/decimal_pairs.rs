@@ -20,6 +20,7 @@ const FIRST_PAIRS: [u8; 200] = *b"\
 
 // Returns the digits of a number below 100, and in the place of the second digit a zero if there is only one.
 #[inline(always)]
+#[track_caller]
 fn first_pair(pair: u32) -> (u8, u8) {
     let index = 2 * pair as usize;
     (FIRST_PAIRS[index], FIRST_PAIRS[index + 1])
@@ -28,6 +29,7 @@ fn first_pair(pair: u32) -> (u8, u8) {
 /// Writes the one or two digits of a number below 100 to the start of the buffer, and returns how many
 /// there are.
 #[inline(always)]
+#[track_caller]
 pub(crate) fn write_one_or_two(pair: u32, buffer: &mut [u8]) -> usize {
     // A single digit is written over the zero after it, to avoid a branch.
     let is_pair = pair >= 10;
@@ -40,6 +42,7 @@ pub(crate) fn write_one_or_two(pair: u32, buffer: &mut [u8]) -> usize {
 // Writes the one or two digits of a number below 100 to the start of the buffer, and returns how many there are. After
 // a single digit it writes a zero, which the next digits replace.
 #[inline(always)]
+#[track_caller]
 fn write_first(pair: u32, buffer: &mut [u8]) -> usize {
     let (first, second) = first_pair(pair);
     buffer[1] = second;
@@ -51,6 +54,7 @@ fn write_first(pair: u32, buffer: &mut [u8]) -> usize {
 /// many there are. They are the whole part of the fraction, which has one or two digits, and
 /// `pair_count` pairs after it. Each of these pairs takes one iteration, in which `next2` computes a product.
 #[inline(always)]
+#[track_caller]
 pub(crate) fn write_pairs(fraction: u64, pair_count: usize, buffer: &mut [u8]) -> usize {
     let mut count = write_first((fraction >> 32) as u32, buffer);
     let table = RadixTable::<10>::new();
@@ -65,12 +69,14 @@ pub(crate) fn write_pairs(fraction: u64, pair_count: usize, buffer: &mut [u8]) -
 
 // Writes the two digits of a number below 100 at index `at`.
 #[inline(always)]
+#[track_caller]
 fn write_pair_at(pair: u32, buffer: &mut [u8], at: usize) {
     RadixTable::<10>::new().write(pair, buffer, at);
 }
 
 // Writes a number below 10000 as four digits at index `at`, with leading zeros. The last pair is first.
 #[inline(always)]
+#[track_caller]
 fn write_four_at(number: u32, buffer: &mut [u8], at: usize) {
     write_pair_at(number % 100, buffer, at + 2);
     write_pair_at(number / 100, buffer, at);
@@ -78,6 +84,7 @@ fn write_four_at(number: u32, buffer: &mut [u8], at: usize) {
 
 /// Writes the last ten digits of a number at index `at`. The last pair is first.
 #[inline(always)]
+#[track_caller]
 pub(crate) fn write_last_ten(number: u64, buffer: &mut [u8], at: usize) {
     let low = number % 10_000_000_000;
     let front = (low / 10_000) as u32;
@@ -89,6 +96,7 @@ pub(crate) fn write_last_ten(number: u64, buffer: &mut [u8], at: usize) {
 /// Writes the digits of a number with leading zeros over the whole buffer, two at a time and the last ones first. The
 /// number is below 10 to the power of the length of the buffer.
 #[inline(always)]
+#[track_caller]
 pub(crate) fn write_decimal_block(number: u64, buffer: &mut [u8]) {
     let table = RadixTable::<10>::new();
     let mut left = number;

@@ -11,6 +11,7 @@
 /// If the number is not in this range.
 #[must_use]
 #[inline(always)]
+#[track_caller]
 pub fn fixed_2(n: u32) -> u64 {
     assert!(n < 10_000);
     u64::from(n) * 42_949_673
@@ -23,6 +24,7 @@ pub fn fixed_2(n: u32) -> u64 {
 /// If the number is not in this range.
 #[must_use]
 #[inline(always)]
+#[track_caller]
 pub fn fixed_4(n: u32) -> u64 {
     assert!(n < 1_000_000);
     u64::from(n) * 429_497
@@ -36,6 +38,7 @@ pub fn fixed_4(n: u32) -> u64 {
 /// If the number is not in this range.
 #[must_use]
 #[inline(always)]
+#[track_caller]
 pub fn fixed_6(n: u32) -> u64 {
     assert!(n >= 1_000_000);
     assert!(n < 100_000_000);
@@ -50,6 +53,7 @@ pub fn fixed_6(n: u32) -> u64 {
 /// If the number is not in this range.
 #[must_use]
 #[inline(always)]
+#[track_caller]
 pub fn fixed_8_nine(n: u32) -> u64 {
     assert!(n >= 100_000_000);
     assert!(n < 1_000_000_000);
@@ -64,6 +68,7 @@ pub fn fixed_8_nine(n: u32) -> u64 {
 /// If the number is not in this range.
 #[must_use]
 #[inline(always)]
+#[track_caller]
 pub fn fixed_8_ten(n: u32) -> u64 {
     assert!(n >= 1_000_000_000);
     // The multiplier for nine digits is 1 more: with it, 4,294,967,295 would end in 8.
@@ -77,6 +82,7 @@ pub fn fixed_8_ten(n: u32) -> u64 {
 /// If the number is not in this range.
 #[must_use]
 #[inline(always)]
+#[track_caller]
 pub fn fixed_8_wide(n: u64) -> u64 {
     assert!(n >= 1_000_000_000);
     assert!(n < 10_000_000_000);
@@ -87,6 +93,7 @@ pub fn fixed_8_wide(n: u64) -> u64 {
 /// Returns the next pair of digits of a fraction. The part after the point is multiplied by 100, and
 /// the whole part of the product is the pair.
 #[inline(always)]
+#[track_caller]
 pub fn next2(prod: &mut u64) -> u32 {
     *prod = (*prod & 0xFFFF_FFFF) * 100;
     (*prod >> 32) as u32

@@ -7,6 +7,7 @@ use crate::write_integer::digits::pairs::RadixTable;
 
 // Returns the fourth power of the radix: the divisor that removes four digits.
 #[inline(always)]
+#[track_caller]
 pub(super) fn fourth_power(radix: u32) -> u64 {
     let square = u64::from(radix * radix);
     square * square
@@ -14,18 +15,21 @@ pub(super) fn fourth_power(radix: u32) -> u64 {
 
 // Returns the number without its last four digits.
 #[inline(always)]
+#[track_caller]
 pub(super) fn remove_four<const R: u32>(value: u64) -> u64 {
     value / fourth_power(R)
 }
 
 // Returns the last four digits of a number, as a number.
 #[inline(always)]
+#[track_caller]
 fn last_four<const R: u32>(value: u64) -> u32 {
     (value % fourth_power(R)) as u32
 }
 
 // Writes a number of up to four digits at index `at`, with leading zeros, as two pairs.
 #[inline(always)]
+#[track_caller]
 fn write_four<const R: u32>(number: u32, table: RadixTable<'_, R>, buffer: &mut [u8], at: usize) {
     let square = R * R;
     // rustc tests the end of these bytes once.
@@ -36,12 +40,14 @@ fn write_four<const R: u32>(number: u32, table: RadixTable<'_, R>, buffer: &mut 
 
 // Returns a number of up to four digits without its last two.
 #[inline(always)]
+#[track_caller]
 pub(super) fn remove_two<const R: u32>(number: u64) -> u64 {
     number / u64::from(R * R)
 }
 
 // Returns how many digits a number of three or four digits has.
 #[inline(always)]
+#[track_caller]
 fn count_three_or_four(number: u64, radix: u32) -> usize {
     3 + usize::from(number >= u64::from(radix * radix * radix))
 }
@@ -49,6 +55,7 @@ fn count_three_or_four(number: u64, radix: u32) -> usize {
 // Writes the three or four digits of a number to the start of the buffer, and returns how many there are: the first
 // pair as two characters, of which the first is written over if it is a leading zero, and then the last pair.
 #[inline(always)]
+#[track_caller]
 fn write_three_or_four<const R: u32>(
     number: u64,
     table: RadixTable<'_, R>,
@@ -68,6 +75,7 @@ fn write_three_or_four<const R: u32>(
 
 // Returns how many digits a number has that is not 0. Its logarithm is one instruction, which that of 0 is not.
 #[inline(always)]
+#[track_caller]
 pub(super) fn count_some(value: u64, radix: u32) -> usize {
     let bits = fast_log2(radix);
     if radix == 1 << bits {
@@ -85,6 +93,7 @@ pub(super) fn count_some(value: u64, radix: u32) -> usize {
 
 // Writes the one to four digits of a number, which are counted, to the start of the buffer.
 #[inline(always)]
+#[track_caller]
 fn write_counted<const R: u32>(
     number: u32,
     digits: usize,
@@ -102,6 +111,7 @@ fn write_counted<const R: u32>(
 // four are left. In a power of 2 the first four digits of the number are then written, which are found before the loop,
 // so that the number takes no register in it, and otherwise those that are left.
 #[inline(always)]
+#[track_caller]
 pub(super) fn write_after_count<const R: u32>(
     value: u64,
     table: RadixTable<'_, R>,
@@ -136,6 +146,7 @@ pub(super) fn write_after_count<const R: u32>(
 
 // Returns how many digits a number of one or two digits has, by a division.
 #[inline(always)]
+#[track_caller]
 fn count_one_or_two(number: u32, radix: u32) -> usize {
     let left = number / radix;
     1 + usize::from(left > 0)
@@ -144,6 +155,7 @@ fn count_one_or_two(number: u32, radix: u32) -> usize {
 // Returns how many digits a number of one or two digits has: by a division unless the digits in the radix are counted
 // at once.
 #[inline(always)]
+#[track_caller]
 fn count_short(number: u64, radix: u32) -> usize {
     if counts_at_once(radix) {
         1 + usize::from(number >= u64::from(radix))
@@ -155,6 +167,7 @@ fn count_short(number: u64, radix: u32) -> usize {
 // Writes the one or two digits of a number, which are counted, to the start of the buffer: two characters, of which the
 // first is written over if it is a leading zero.
 #[inline(always)]
+#[track_caller]
 fn write_one_or_two<const R: u32>(
     number: u32,
     digits: usize,
@@ -171,6 +184,7 @@ fn write_one_or_two<const R: u32>(
 // Writes the one or two digits of a number as `write_one_or_two` does. It reads both characters as one number, in one
 // instruction, but into one of few registers, so it writes no part of a longer number.
 #[inline(always)]
+#[track_caller]
 fn write_one_pair<const R: u32>(
     number: u64,
     digits: usize,
@@ -189,6 +203,7 @@ fn write_one_pair<const R: u32>(
 
 // Counts the one or two digits of a number, and writes them.
 #[inline(always)]
+#[track_caller]
 pub(super) fn write_short<const R: u32>(
     number: u64,
     table: RadixTable<'_, R>,
@@ -201,6 +216,7 @@ pub(super) fn write_short<const R: u32>(
 
 // Counts the one to four digits of a number by division, and writes them.
 #[inline(always)]
+#[track_caller]
 pub(super) fn count_and_write_up_to_four<const R: u32>(
     number: u32,
     table: RadixTable<'_, R>,
@@ -217,6 +233,7 @@ pub(super) fn count_and_write_up_to_four<const R: u32>(
 
 // Counts five to eight digits by division, and writes them.
 #[inline(always)]
+#[track_caller]
 pub(super) fn count_and_write_five_to_eight<const R: u32>(
     value: u64,
     table: RadixTable<'_, R>,
@@ -232,6 +249,7 @@ pub(super) fn count_and_write_five_to_eight<const R: u32>(
 
 // Counts up to eight digits by division, and writes them.
 #[inline(always)]
+#[track_caller]
 fn count_and_write_up_to_eight<const R: u32>(
     value: u64,
     table: RadixTable<'_, R>,
@@ -246,6 +264,7 @@ fn count_and_write_up_to_eight<const R: u32>(
 
 // Counts the one or two digits of a number by division, and writes them.
 #[inline(always)]
+#[track_caller]
 fn count_and_write_one_or_two<const R: u32>(
     number: u32,
     table: RadixTable<'_, R>,
