@@ -29,6 +29,10 @@ pub const MAX_ANSWER: usize = BUFFER_SIZE + 11;
 
 /// Writes the answer to a line to the start of `buffer`, and returns its length in bytes and whether
 /// the line is valid. `line` is `None` if the line is longer than 64 bytes.
+///
+/// # Panics
+///
+/// If the buffer is [too short](crate#conditions).
 pub fn write_answer(line: Option<&[u8]>, line_number: u64, buffer: &mut [u8]) -> (usize, bool)
     requires short { IfSome line (λ bytes. length bytes.now ≤ 64) }
     requires room { BUFFER_SIZE + 11 ≤ length buffer.old }

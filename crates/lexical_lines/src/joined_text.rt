@@ -18,6 +18,10 @@ use lexical_write_integer::laws::sizes_suffice;
 ///
 /// For each value, the buffer must have the buffer size of the type in the format plus one byte. The
 /// bytes after the written ones are unchanged. The options have no effect.
+///
+/// # Panics
+///
+/// If the buffer is [too short](crate#conditions).
 pub fn write_joined<T: ToLexicalWithOptions>(
     values: &[T],
     separator: u8,
@@ -53,6 +57,10 @@ pub fn write_joined<T: ToLexicalWithOptions>(
 ///
 /// The buffer length required is that of `write_joined`. The returned slice borrows from `buffer`, so
 /// a caller that changes it changes `buffer`. The bytes after the prefix are unchanged.
+///
+/// # Panics
+///
+/// If the buffer is [too short](crate#conditions).
 pub fn join<'a, T: ToLexicalWithOptions>(
     values: &[T],
     separator: u8,

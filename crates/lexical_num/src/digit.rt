@@ -8,6 +8,10 @@ const CHARACTERS: [u8; 36] = *b"0123456789ABCDEFGHIJKLMNOPQRSTUVWXYZ";
 
 /// Returns the character of a digit: `0` to `9` for a digit below ten, and `A` for 10 to `Z` for 35. The
 /// digit is below 36.
+///
+/// # Panics
+///
+/// If the digit is 36 or above.
 pub fn digit_to_char(digit: u32) -> u8
     requires { digit < 36 }
     ensures { result ≡ digit_char digit }

@@ -36,7 +36,7 @@ impl Parts {
 /// A valid format. Both radices are from 2 to 36. If the digits are grouped, a group has from 1 to 64
 /// digits, and the separator is a printable ASCII character other than a letter, a digit or a sign.
 ///
-/// `NumberFormatBuilder` builds a format.
+/// [`NumberFormatBuilder`](super::NumberFormatBuilder) builds a format.
 ///
 /// ```
 /// use lexical_write_integer::{NumberFormat, NumberFormatBuilder};
@@ -115,6 +115,10 @@ impl NumberFormat {
     /// Returns the number of bytes that `count` digits take in the format. If the digits are grouped,
     /// a separator precedes each group but the first: 9 for 7 digits in groups of three. The count is at most
     /// `isize::MAX`.
+    ///
+    /// # Panics
+    ///
+    /// If the digits are grouped and the count is above `isize::MAX`.
     pub fn grouped_len(&self, count: usize) -> usize
         requires { count < 2 ^ 63 }
         ensures { result ≡ grouped_length self.now.digit_grouping count }

@@ -61,6 +61,10 @@ impl NumberFormatBuilder {
 
     /// Returns the format whose radices are both `radix`, from 2 to 36, with no required sign and no
     /// groups.
+    ///
+    /// # Panics
+    ///
+    /// If the radix is not from 2 to 36.
     pub fn from_radix(radix: u8) -> NumberFormat
         requires { IsRadix radix }
         ensures { result ≡ record standard { mantissa_radix = radix; exponent_radix = radix } }
@@ -157,6 +161,10 @@ impl NumberFormatBuilder {
     /// Returns the format with these parts, which are valid. Both radices are from 2 to 36. If groups
     /// were set, their size is from 1 to 64, and the separator is from 32 to 126 and is not a letter,
     /// a digit, `+` or `-`.
+    ///
+    /// # Panics
+    ///
+    /// If a part is invalid: then `build` returns an error.
     pub fn build_strict(&self) -> NumberFormat
         requires { IsValid self.now }
         ensures { result ≡ self.now }

@@ -361,11 +361,19 @@ pub trait UnsignedInteger: LexicalInteger {
     ghost magnitude: { Self → ℕ };
 
     /// Returns the number as a value of this type, which it fits.
+    ///
+    /// # Panics
+    ///
+    /// If the type does not have the number.
     fn from_u32(value: u32) -> Self
         requires { value < 2 ^ Self.BITS }
         ensures { magnitude result ≡ value };
 
     /// Returns the number as a `u32`, which it fits.
+    ///
+    /// # Panics
+    ///
+    /// If the number is 2^32 or above.
     final fn as_u32(self) -> u32
         requires { magnitude self < 2 ^ 32 }
         ensures { result ≡ magnitude self }
@@ -385,6 +393,10 @@ pub trait UnsignedInteger: LexicalInteger {
         ensures { result ≡ magnitude self };
 
     /// Returns the quotient and the remainder of the division by `by`, which is not 0.
+    ///
+    /// # Panics
+    ///
+    /// If `by` is 0.
     fn div_rem(self, by: Self) -> (Self, Self)
         requires { 0 < magnitude by }
         ensures quotient { magnitude result.0 ≡ magnitude self / magnitude by }

@@ -14,6 +14,12 @@ use std::fmt;
 /// A part that is aligned to the left of a column: a byte, often a space, is added after its text, up to
 /// the width. `Left(Decimal(12), 4, b'.')` writes `12..`. Nothing is added to a text longer than the
 /// width, which counts bytes and not characters.
+///
+/// ```
+/// use lexical_parts::{Decimal, Left, Part};
+///
+/// assert_eq!(rt; Left(Decimal(12), 4, b'.').to_str(&mut [0; 64]), "12..");
+/// ```
 #[derive(Clone, Copy, Debug, Drop)]
 pub struct Left<P>(pub P, pub usize, pub u8);
 
@@ -65,6 +71,12 @@ impl<P: Show> Show for Left<P> {
 /// A part that is aligned to the right of a column: a byte, often a space, is added before its text, up
 /// to the width. `Right(Decimal(42), 4, b'.')` writes `..42`. Nothing is added to a text
 /// longer than the width, which counts bytes and not characters.
+///
+/// ```
+/// use lexical_parts::{Decimal, Part, Right};
+///
+/// assert_eq!(rt; Right(Decimal(42), 4, b'.').to_str(&mut [0; 64]), "..42");
+/// ```
 #[derive(Clone, Copy, Debug, Drop)]
 pub struct Right<P>(pub P, pub usize, pub u8);
 
@@ -118,6 +130,12 @@ impl<P: Show> Show for Right<P> {
 /// the width. Of an odd number of bytes the larger half is after the text, as with `{:^6}` in Rust:
 /// `Center(Decimal(-12), 6, b'*')` writes `*-12**`. Nothing is added to a text longer than the width,
 /// which counts bytes and not characters.
+///
+/// ```
+/// use lexical_parts::{Center, Decimal, Part};
+///
+/// assert_eq!(rt; Center(Decimal(-12), 6, b'*').to_str(&mut [0; 64]), "*-12**");
+/// ```
 #[derive(Clone, Copy, Debug, Drop)]
 pub struct Center<P>(pub P, pub usize, pub u8);
 

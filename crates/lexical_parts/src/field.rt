@@ -14,6 +14,11 @@ use crate::part::Part;
 /// write_field(PaddedDigits(8, 420u16, 4), 5, 4, &mut header);
 /// assert_eq!(rt; header, *b"size:0644;");
 /// ```
+///
+/// # Panics
+///
+/// If the part is not valid, or if the text does not have `count` bytes, or if the buffer is
+/// [too short](crate#conditions).
 pub fn write_field<P: Part>(part: P, index: usize, count: usize, buffer: &mut [u8])
     requires valid { P.is_valid part }
     requires room { P.room part ≤ count }

@@ -74,6 +74,13 @@ fn write_grouped_units<T: ToLexical>(
 /// A number of units of 10^-`decimals`, such as an amount in cents: `Fixed(-5i64, 2)` writes `-0.05`,
 /// and `Fixed(1234u32, 3)` writes `1.234`. At least one digit precedes the point, and `decimals`
 /// digits follow it; a number without decimals has no point. There are at most 19 decimals.
+///
+/// ```
+/// use lexical_parts::{Fixed, Part};
+///
+/// assert_eq!(rt; Fixed(-5i64, 2).to_str(&mut [0; 64]), "-0.05");
+/// assert_eq!(rt; Fixed(1234u32, 3).to_str(&mut [0; 64]), "1.234");
+/// ```
 #[derive(Clone, Copy, Debug, Drop)]
 pub struct Fixed<T>(pub T, pub usize);
 
@@ -110,8 +117,15 @@ impl<T: ToLexical> Show for Fixed<T> {
     }
 }
 
-/// A number as `Fixed` writes it, with its whole part in the groups of the format, and nothing else of it:
+/// A number as [`Fixed`] writes it, with its whole part in the groups of the format, and nothing else of it:
 /// in groups of three with `,`, `GroupedFixed(-123456, 2, &format)` writes `-1,234.56`.
+///
+/// ```
+/// use lexical_parts::{GroupedFixed, Part};
+///
+/// let format = lexical_write_integer::NumberFormatBuilder::new().digit_grouping(3, b',').build_strict();
+/// assert_eq!(rt; GroupedFixed(-123456, 2, &format).to_str(&mut [0; 64]), "-1,234.56");
+/// ```
 #[derive(Clone, Copy, Debug, Drop)]
 pub struct GroupedFixed<'a, T>(pub T, pub usize, pub &'a NumberFormat);
 

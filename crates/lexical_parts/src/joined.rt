@@ -49,6 +49,13 @@ pub(crate) fn write_next<P: Part>(
 /// The parts of a slice, with the separator between adjacent parts: `Joined(&[-1, 20], ", ")` writes
 /// `-1, 20`. An array of other values becomes parts by `map`: `Joined(&[10u8, 2].map(Hex), ":")` writes
 /// `A:2`.
+///
+/// ```
+/// use lexical_parts::{Hex, Joined, Part};
+///
+/// assert_eq!(rt; Joined(&[-1, 20], ", ").to_str(&mut [0; 64]), "-1, 20");
+/// assert_eq!(rt; Joined(&[10u8, 2].map(Hex), ":").to_str(&mut [0; 64]), "A:2");
+/// ```
 #[derive(Clone, Copy, Debug, Drop)]
 pub struct Joined<'a, P>(pub &'a [P], pub &'a str);
 

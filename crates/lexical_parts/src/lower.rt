@@ -14,6 +14,12 @@ use std::fmt;
 
 /// A part in lowercase: its text with `A` to `Z` as `a` to `z`, and every other byte unchanged.
 /// `Lower(PaddedDigits(16, 255u32, 4))` writes `00ff`.
+///
+/// ```
+/// use lexical_parts::{Lower, PaddedDigits, Part};
+///
+/// assert_eq!(rt; Lower(PaddedDigits(16, 255u32, 4)).to_str(&mut [0; 64]), "00ff");
+/// ```
 #[derive(Clone, Copy, Debug, Drop)]
 pub struct Lower<P>(pub P);
 

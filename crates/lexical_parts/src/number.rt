@@ -21,6 +21,12 @@ use lexical_write_integer::{NumberFormat, ToLexical, sign_len};
 
 /// A number in decimal, with a `-` if it is negative: `Decimal(-5)` writes `-5`, as the part `-5` does. It
 /// is for generic code, in which the number has a type parameter.
+///
+/// ```
+/// use lexical_parts::{Decimal, Part};
+///
+/// assert_eq!(rt; Decimal(-5).to_str(&mut [0; 64]), "-5");
+/// ```
 #[derive(Clone, Copy, Debug, Drop)]
 pub struct Decimal<T>(pub T);
 
@@ -60,6 +66,13 @@ impl<T: ToLexical> Show for Decimal<T> {
 /// to `Z`; `Lower(Digits(16, 255u32))` writes `ff`. With another radix the part is not valid.
 ///
 /// The number has a type of its own, so a literal needs one: `Digits(36, 1000u64)`. Its room is the number of its digits.
+///
+/// ```
+/// use lexical_parts::{Digits, Lower, Part};
+///
+/// assert_eq!(rt; Digits(16, 255u32).to_str(&mut [0; 64]), "FF");
+/// assert_eq!(rt; Lower(Digits(16, 255u32)).to_str(&mut [0; 64]), "ff");
+/// ```
 #[derive(Clone, Copy, Debug, Drop)]
 pub struct Digits<T>(pub u32, pub T);
 
@@ -125,6 +138,13 @@ pub fn formatted_room_suffices<T: ToLexical>(number: T, format: &NumberFormat)
 
 /// A number in a format, with its sign and its groups: in a format with groups of three digits and
 /// the separator `,`, `Formatted(1234567, &format)` writes `1,234,567`.
+///
+/// ```
+/// use lexical_parts::{Formatted, Part};
+///
+/// let format = lexical_write_integer::NumberFormatBuilder::new().digit_grouping(3, b',').build_strict();
+/// assert_eq!(rt; Formatted(1234567, &format).to_str(&mut [0; 64]), "1,234,567");
+/// ```
 #[derive(Clone, Copy, Debug, Drop)]
 pub struct Formatted<'a, T>(pub T, pub &'a NumberFormat);
 

@@ -79,6 +79,13 @@ impl<P: Show> Show for Option<P> {
 
 /// A part that may be absent, and the part that is written in its place: `OrElse(Some(5u8), "n/a")` writes `5`, and
 /// `OrElse(None::<u8>, "n/a")` writes `n/a`. Both must be valid.
+///
+/// ```
+/// use lexical_parts::{OrElse, Part};
+///
+/// assert_eq!(rt; OrElse(Some(5u8), "n/a").to_str(&mut [0; 64]), "5");
+/// assert_eq!(rt; OrElse(None::<u8>, "n/a").to_str(&mut [0; 64]), "n/a");
+/// ```
 #[derive(Clone, Copy, Debug, Drop)]
 pub struct OrElse<P, Q>(pub Option<P>, pub Q);
 

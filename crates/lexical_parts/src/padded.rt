@@ -34,6 +34,12 @@ fn has_few_bits(number: u64, radix: u32, width: usize) -> bool
 
 /// The digits of an unsigned number in a radix from 2 to 36, with leading zeros up to the width:
 /// `PaddedDigits(16, 1u8, 2)` writes `01`. The number must be below `radix.pow(width)`, and a literal needs a type.
+///
+/// ```
+/// use lexical_parts::{PaddedDigits, Part};
+///
+/// assert_eq!(rt; PaddedDigits(16, 1u8, 2).to_str(&mut [0; 64]), "01");
+/// ```
 #[derive(Clone, Copy, Debug, Drop)]
 pub struct PaddedDigits<T>(pub u32, pub T, pub usize);
 
@@ -87,8 +93,15 @@ impl<T: DigitCount + Radix> Show for PaddedDigits<T> {
 }
 
 /// An unsigned number in decimal, with leading zeros up to the width: `Padded(3u8, 2)` writes `03`.
-/// The number must be below `10.pow(width)`, and a literal needs a type. `ZeroPadded` writes every
-/// number: `ZeroPadded(123u8, 2)` writes `123`.
+/// The number must be below `10.pow(width)`, and a literal needs a type. [`ZeroPadded`](super::ZeroPadded)
+/// writes every number: `ZeroPadded(123u8, 2)` writes `123`.
+///
+/// ```
+/// use lexical_parts::{Padded, Part, ZeroPadded};
+///
+/// assert_eq!(rt; Padded(3u8, 2).to_str(&mut [0; 64]), "03");
+/// assert_eq!(rt; ZeroPadded(123u8, 2).to_str(&mut [0; 64]), "123");
+/// ```
 #[derive(Clone, Copy, Debug, Drop)]
 pub struct Padded<T>(pub T, pub usize);
 

@@ -23,6 +23,12 @@ use std::str::{from_utf8, from_utf8_unchecked};
 /// A part is *valid* if it meets the condition of its type: a radix is from 2 to 36, and a padded number
 /// fits in its width. A part that contains parts is valid if they are valid. A part without a condition is
 /// always valid.
+///
+/// ```
+/// use lexical_parts::Part;
+///
+/// assert_eq!(rt; (250, " g").to_str(&mut [0; 64]), "250 g");
+/// ```
 pub trait Part: Copy {
     // Whether these bytes are the text of the part.
     ghost is_text: { Self → List ℕ → Type 0 };
@@ -44,6 +50,10 @@ pub trait Part: Copy {
 
     /// Writes the text to the start of the buffer, and returns its length. Every byte after the
     /// text is unchanged. The part must be valid, and the buffer must have `room` bytes or more.
+    ///
+    /// # Panics
+    ///
+    /// If the part is not valid, or if the buffer is [too short](crate#conditions).
     fn write_to(self, buffer: &mut [u8]) -> usize
         requires valid { is_valid self }
         requires room { room self ≤ length buffer.old }
@@ -83,6 +93,10 @@ pub trait Part: Copy {
     /// Writes the text to the start of the buffer, and returns those bytes of the buffer, which the
     /// caller may read and change. Every byte after the text is unchanged. The part must be valid,
     /// and the buffer must have `room` bytes or more.
+    ///
+    /// # Panics
+    ///
+    /// If the part is not valid, or if the buffer is [too short](crate#conditions).
     final fn to_text(self, buffer: &mut [u8]) -> &mut [u8]
         requires valid { is_valid self }
         requires room { room self ≤ length buffer.old }
@@ -97,6 +111,10 @@ pub trait Part: Copy {
 
     /// Writes the text to the buffer from `index` on, and returns the index after the text. Every other byte is
     /// unchanged. The part must be valid, and the buffer must have `room` bytes or more from `index` on.
+    ///
+    /// # Panics
+    ///
+    /// If the part is not valid, or if the buffer is [too short](crate#conditions).
     final fn write_at(self, index: usize, buffer: &mut [u8]) -> usize
         requires valid { is_valid self }
         requires room { index + room self ≤ length buffer.old }
@@ -117,6 +135,10 @@ pub trait Part: Copy {
     /// writes the text to its start, and returns the length of the text; every byte after the text is unchanged.
     /// Otherwise returns `None`, and the buffer is unchanged. Only the room and the length are tested: the part must be
     /// valid.
+    ///
+    /// # Panics
+    ///
+    /// If the part is not valid.
     final fn try_write_to(self, buffer: &mut [u8]) -> Option<usize>
         requires { is_valid self }
         ensures fits { room self ≤ length buffer.old → IsSome result }
@@ -134,11 +156,16 @@ pub trait Part: Copy {
     }
 
     /// Writes the text into the buffer, and returns it as a `&str`, which borrows the buffer. What the buffer holds
-    /// afterwards is not promised. The part must be valid, each `Byte` in it and each byte of a column must be below
-    /// 128, each `Bytes` in it must be UTF-8, and the buffer must have `room` bytes or more.
+    /// afterwards is not promised. The part must be valid, each [`Byte`](super::Byte) in it and each byte of a column
+    /// must be below 128, each [`Bytes`](super::Bytes) in it must be UTF-8, and the buffer must have `room` bytes or more.
     ///
     /// The text of your own parts and of a `Bytes` is checked by `std::str::from_utf8`, which reads it once. Other texts
     /// need no check.
+    ///
+    /// # Panics
+    ///
+    /// If the part is not valid, or if the text of the part is not UTF-8, or if the buffer is
+    /// [too short](crate#conditions).
     final fn to_str(self, buffer: &mut [u8]) -> &str
         requires valid { is_valid self }
         requires utf8 { is_utf8 self }
@@ -159,6 +186,10 @@ pub trait Part: Copy {
 
     /// Returns the text as `to_str` does, if `try_write_to` writes it. Otherwise returns `None`. The part must meet the
     /// other conditions of `to_str`.
+    ///
+    /// # Panics
+    ///
+    /// If the part is not valid, or if the text of the part is not UTF-8.
     final fn try_to_str(self, buffer: &mut [u8]) -> Option<&str>
         requires valid { is_valid self }
         requires utf8 { is_utf8 self }

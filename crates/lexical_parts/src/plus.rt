@@ -16,6 +16,14 @@ use lexical_write_integer::laws::size_suffices;
 
 /// A number in decimal with a sign in each case, `+` if it is not negative: `Plus(5u8)` writes `+5`, and
 /// `Plus(-5)` writes `-5`. `ZeroPadded(Plus(42), 8)` writes `+0000042`, as `{:+08}` does in Rust.
+///
+/// ```
+/// use lexical_parts::{Part, Plus, ZeroPadded};
+///
+/// assert_eq!(rt; Plus(5u8).to_str(&mut [0; 64]), "+5");
+/// assert_eq!(rt; Plus(-5).to_str(&mut [0; 64]), "-5");
+/// assert_eq!(rt; ZeroPadded(Plus(42), 8).to_str(&mut [0; 64]), "+0000042");
+/// ```
 #[derive(Clone, Copy, Debug, Drop)]
 pub struct Plus<T>(pub T);
 

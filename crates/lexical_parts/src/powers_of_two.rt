@@ -21,6 +21,12 @@ use std::fmt;
 
 /// The digits of an unsigned number in radix 16, without a prefix: `Hex(255u32)` writes `FF`. Its room
 /// is that of its type: 2 bytes for a `u8`, and 16 for a `u64`. So a literal needs a type: `Hex(255u8)`.
+///
+/// ```
+/// use lexical_parts::{Hex, Part};
+///
+/// assert_eq!(rt; Hex(255u32).to_str(&mut [0; 64]), "FF");
+/// ```
 #[derive(Clone, Copy, Debug, Drop)]
 pub struct Hex<T>(pub T);
 
@@ -59,6 +65,12 @@ impl<T: Radix> Show for Hex<T> {
 
 /// The digits of an unsigned number in radix 2, without a prefix: `Binary(5u8)` writes `101`. Its room
 /// is that of its type: 8 bytes for a `u8`, and 64 for a `u64`. So a literal needs a type: `Binary(5u8)`.
+///
+/// ```
+/// use lexical_parts::{Binary, Part};
+///
+/// assert_eq!(rt; Binary(5u8).to_str(&mut [0; 64]), "101");
+/// ```
 #[derive(Clone, Copy, Debug, Drop)]
 pub struct Binary<T>(pub T);
 
@@ -123,6 +135,13 @@ impl Part for HexByte {
 
 /// The bytes of a slice in radix 16, each in two digits, with a separator between adjacent bytes:
 /// `HexBytes(&[1, 255], "")` writes `01FF`, and `HexBytes(&[1, 255], ":")` writes `01:FF`.
+///
+/// ```
+/// use lexical_parts::{HexBytes, Part};
+///
+/// assert_eq!(rt; HexBytes(&[1, 255], "").to_str(&mut [0; 64]), "01FF");
+/// assert_eq!(rt; HexBytes(&[1, 255], ":").to_str(&mut [0; 64]), "01:FF");
+/// ```
 #[derive(Clone, Copy, Debug, Drop)]
 pub struct HexBytes<'a>(pub &'a [u8], pub &'a str);
 

@@ -11,11 +11,18 @@ use std::fmt;
 // The largest room of a part that is written at once.
 pub(crate) const MOST_AT_ONCE: usize = 256;
 
-/// A part that can be in a format string, by itself or in a `Shown`: `("id=", 7u8)` writes `id=7`, and so does `{}` of
-/// `Shown(("id=", 7u8))`. The parts of this crate are such parts, and so is a tuple, a `Joined` or a column of such parts.
+/// A part that can be in a format string, by itself or in a [`Shown`](super::Shown): `("id=", 7u8)` writes `id=7`, and
+/// so does `{}` of `Shown(("id=", 7u8))`. The parts of this crate are such parts, and so is a tuple, a
+/// [`Joined`](super::Joined) or a column of such parts.
 ///
 /// A part of your own becomes one if you define `is_showable`. Then a tuple with it can be in a format string. If its room
 /// can be above 256 bytes, define `write_pieces` too.
+///
+/// ```
+/// use lexical_parts::Part;
+///
+/// assert_eq!(rt; ("id=", 7u8).to_str(&mut [0; 64]), "id=7");
+/// ```
 pub trait Show: Part {
     // The text, if the prover computes it.
     ghost text: { Self → Option (List ℕ) } = { λ _. None };
@@ -36,6 +43,10 @@ pub trait Show: Part {
     ///
     /// Returns the error of the writer. For a part of your own it also returns an error if its room is above 256 bytes and
     /// you do not define this method, or if it does not write the same text each time.
+    ///
+    /// # Panics
+    ///
+    /// If the part is not valid, or if the text of the part is not UTF-8.
     fn write_pieces<O: fmt::Write>(self, out: &mut O) -> fmt::Result
         requires valid { Self.is_valid self }
         requires utf8 { Self.is_utf8 self }

@@ -13,6 +13,13 @@ use lexical_write_integer::buffer::copy_to_front;
 
 /// The sign of a number: `-` if it is below 0, and otherwise nothing, or a `+` if one is required. Before
 /// other parts, `Sign(-5, false)` writes `-`, as `Sign(-5, true)` does, and `Sign(5, true)` writes `+`.
+///
+/// ```
+/// use lexical_parts::{Part, Sign};
+///
+/// assert_eq!(rt; Sign(-5, false).to_str(&mut [0; 64]), "-");
+/// assert_eq!(rt; Sign(5, true).to_str(&mut [0; 64]), "+");
+/// ```
 #[derive(Clone, Copy, Debug, Drop)]
 pub struct Sign<T>(pub T, pub bool);
 

@@ -126,6 +126,12 @@ impl Show for char {
 }
 
 /// A part whose text is the bytes of a slice: `Bytes(b"ab")` writes `ab`.
+///
+/// ```
+/// use lexical_parts::{Bytes, Part};
+///
+/// assert_eq!(rt; Bytes(b"ab").to_str(&mut [0; 64]), "ab");
+/// ```
 #[derive(Clone, Copy, Debug, Drop)]
 pub struct Bytes<'a>(pub &'a [u8]);
 
@@ -169,6 +175,12 @@ impl Show for Bytes<'_> {
 }
 
 /// A part whose text is one byte: `Byte(b'a')` writes `a`.
+///
+/// ```
+/// use lexical_parts::{Byte, Part};
+///
+/// assert_eq!(rt; Byte(b'a').to_str(&mut [0; 64]), "a");
+/// ```
 #[derive(Clone, Copy, Debug, Drop)]
 pub struct Byte(pub u8);
 

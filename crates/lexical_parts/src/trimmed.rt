@@ -36,8 +36,15 @@ fn write_trimmed_units<T: ToLexical>(number: T, decimals: usize, buffer: &mut [u
     (Bytes(&units[..whole]), ".", Bytes(&units[whole..kept])).write_to(buffer)
 }
 
-/// A number as `Fixed` writes it, without zeros at the end of its fraction, and without a point if no decimal
-/// is left: `TrimmedFixed(-1500, 3)` writes `-1.5`, and `TrimmedFixed(2000u32, 3)` writes `2`.
+/// A number as [`Fixed`](super::Fixed) writes it, without zeros at the end of its fraction, and without a point if no
+/// decimal is left: `TrimmedFixed(-1500, 3)` writes `-1.5`, and `TrimmedFixed(2000u32, 3)` writes `2`.
+///
+/// ```
+/// use lexical_parts::{Part, TrimmedFixed};
+///
+/// assert_eq!(rt; TrimmedFixed(-1500, 3).to_str(&mut [0; 64]), "-1.5");
+/// assert_eq!(rt; TrimmedFixed(2000u32, 3).to_str(&mut [0; 64]), "2");
+/// ```
 #[derive(Clone, Copy, Debug, Drop)]
 pub struct TrimmedFixed<T>(pub T, pub usize);
 

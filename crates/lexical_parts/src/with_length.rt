@@ -22,6 +22,11 @@ use lexical_write_integer::padded::write_padded;
 /// assert_eq!(rt; write_with_length("done\n", 16, 4, 4, &mut buffer), 5);
 /// assert_eq!(rt; buffer, *b"0009done\n");
 /// ```
+///
+/// # Panics
+///
+/// If the part is not valid, or if the radix is not from 2 to 36, or if the buffer is [too short](crate#conditions), or
+/// if the length has more digits than `width`, or if the length and `extra` together are above `usize::MAX`.
 pub fn write_with_length<P: Part>(
     part: P,
     radix: u32,

@@ -24,8 +24,14 @@ fn length_of_sign(text: &[u8]) -> usize
 }
 
 /// A part with zeros after its sign, up to the width: `ZeroPadded(Decimal(-42), 6)` writes `-00042`, as
-/// `{:06}` does in Rust. A text longer than the width, which counts bytes, has no zeros. `Padded` has a
-/// width that the number must fit.
+/// `{:06}` does in Rust. A text longer than the width, which counts bytes, has no zeros.
+/// [`Padded`](super::Padded) has a width that the number must fit.
+///
+/// ```
+/// use lexical_parts::{Decimal, Part, ZeroPadded};
+///
+/// assert_eq!(rt; ZeroPadded(Decimal(-42), 6).to_str(&mut [0; 64]), "-00042");
+/// ```
 #[derive(Clone, Copy, Debug, Drop)]
 pub struct ZeroPadded<P>(pub P, pub usize);
 

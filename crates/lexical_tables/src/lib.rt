@@ -33,6 +33,10 @@ pub use digit_pairs::{
 
 /// Returns the table of a radix from 2 to 36. It has two bytes for each number below the square of
 /// the radix: the bytes at `2 * i` and `2 * i + 1` are the characters of the two digits of `i`.
+///
+/// # Panics
+///
+/// If the radix is not from 2 to 36.
 #[tactic(auto, using(crate::proofs::Pairs::reads))]
 pub fn get_table(radix: u32) -> &'static [u8]
     requires at_least_two { 2 ≤ radix }

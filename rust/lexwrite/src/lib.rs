@@ -13,6 +13,7 @@
 #![forbid(unsafe_code)]
 #![warn(missing_docs, clippy::missing_errors_doc)]
 
+// Only this package calls `parse`, with lines of at most 64 bytes, as its contract requires.
 #[doc = include_str!(concat!(env!("OUT_DIR"), "/lexical_lines/lib.md"))]
 #[allow(unused_imports, reason = "only contracts use the methods of some traits")]
 #[allow(clippy::new_without_default, reason = "an answerer is at the start of an input")]

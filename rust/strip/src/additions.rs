@@ -1,8 +1,7 @@
-//! Adds what a package says of a function and the crate does not: when a public function panics, `#[must_use]`,
-//! attributes for inlining, and `const`. Without `#[inline]` rustc would inline few functions of a package into another
-//! one. With `# Panics` said, the clauses are left out.
+//! Adds what a package says of a function and the crate does not: `#[must_use]`, attributes for inlining, and `const`.
+//! Without `#[inline]` rustc would inline few functions of a package into another one. Leaves out the clauses, after a
+//! check that the documentation says when the function panics.
 
-use crate::conditions;
 use crate::items::{Function, elements, function};
 use crate::packages::{Source, has};
 use crate::tokens::{Token, closing, find, words};
@@ -52,7 +51,7 @@ impl Additions<'_> {
         }
         let mut lines = String::new();
         if self.source.is_documented() && (is_in_trait || function.is_public(tokens)) {
-            lines += &self.panics(tokens, function)?;
+            self.check_documentation(tokens, function)?;
             if must_be_used(tokens, function) {
                 lines += "#[must_use]\n";
             }
@@ -68,25 +67,19 @@ impl Additions<'_> {
         Ok(lines)
     }
 
-    /// Returns the lines of documentation that say when a function panics. What is hidden has no documentation.
-    fn panics(&self, tokens: &[Token], function: &Function) -> Result<String, String> {
+    /// Returns an error if a function requires something, and neither `# Panics` in its documentation nor a page says
+    /// what becomes of a call without it. In Rattle no such call compiles. What is hidden has no documentation.
+    fn check_documentation(&self, tokens: &[Token], function: &Function) -> Result<(), String> {
         let name = &tokens[function.at + 1].text;
-        let required = conditions_of(tokens, function);
-        let panics = conditions::panics(name, &required, self.source.conditions, self.pages)?;
-        let is_hidden = words(&tokens[function.first..function.visibility]).ends_with("# [ doc ( hidden ) ]");
-        if panics.is_empty() || is_hidden {
-            return Ok(String::new());
+        let head = &tokens[function.first..function.visibility];
+        let requires = function.clauses.iter().any(|clause| tokens[clause.start] == "requires");
+        let is_hidden = words(head).contains("# [ doc ( hidden ) ]");
+        let is_said = head.iter().any(|line| *line == "/// # Panics") || self.pages.contains(&format!("`{name}`"));
+        if requires && !is_hidden && !is_said {
+            return Err(format!("{name} requires something, but its documentation has no section `# Panics`"));
         }
-        Ok(format!("///\n/// # Panics\n///\n/// If {}.\n", panics.join(",\n/// or if ")))
+        Ok(())
     }
-}
-
-/// Returns the names of what a function requires: `FUNCTION.CLAUSE`, or `FUNCTION` if the clause has no name.
-pub(crate) fn conditions_of(tokens: &[Token], function: &Function) -> Vec<String> {
-    let required = function.clauses.iter().filter(|clause| tokens[clause.start] == "requires");
-    let name = &tokens[function.at + 1].text;
-    let named = |at: usize| if tokens[at] == "{" { name.clone() } else { format!("{name}.{}", tokens[at].text) };
-    required.map(|clause| named(clause.start + 1)).collect()
 }
 
 /// Returns whether the result of a function is all that it is called for.

@@ -17,9 +17,7 @@
 #![forbid(unsafe_code)]
 
 mod additions;
-mod conditions;
 mod counted;
-mod documentation;
 mod files;
 mod ghosts;
 mod imports;
@@ -89,7 +87,6 @@ fn made(top: &Path) -> Result<Files, String> {
             made.insert(path, laid_out(&text, top)?);
         }
     }
-    complete_documentation(top, &mut made)?;
     let specs = Path::new("crates/lexical_parts/specs");
     made.insert(specs.join("Lib.antt"), list_of_definitions(top, specs)?);
     for name in ["LICENSE-APACHE", "LICENSE-MIT"] {
@@ -145,31 +142,6 @@ fn completed(
     imports::without_imports(&mut code, all, source.is_test(), &repository.laws);
     left_out::check_rust(&code)?;
     Ok(tokens::print(&code).trim().to_owned() + "\n")
-}
-
-/// Adds examples and links to the documentation of the package. Each part and each item of the root has an example.
-fn complete_documentation(top: &Path, made: &mut Files) -> Result<(), String> {
-    let by_hand = |file: &str| tokens::lex(&read(&top.join("rust/cojimuran/src").join(file))?);
-    let parts = tokens::lex(&made[Path::new("rust/cojimuran/src/parts.rs")])?;
-    let mut exports = documentation::exports(&by_hand("lib.rs")?, "crate");
-    exports.extend(documentation::exports(&parts, "crate::parts"));
-    let mut shown = BTreeSet::new();
-    for file in ["append.rs", "displayed.rs"] {
-        documentation::add_examples(&mut by_hand(file)?, false, &mut shown)?;
-    }
-    for (path, text) in made.iter_mut().filter(|(path, _)| path.starts_with("rust/cojimuran")) {
-        let mut code = tokens::lex(text)?;
-        let is_of_parts = path.starts_with("rust/cojimuran/src/parts");
-        documentation::add_examples(&mut code, is_of_parts, &mut shown)
-            .map_err(|what| format!("{}: {what}", path.display()))?;
-        documentation::add_links(&mut code, &exports);
-        *text = tokens::print(&code);
-    }
-    let is_for_users = |path: &str| path.starts_with("crate::parts::") || path.matches("::").count() == 1;
-    match exports.iter().find(|(name, path)| is_for_users(path) && !shown.contains(*name)) {
-        Some((name, _)) => Err(format!("{name} has no example")),
-        None => Ok(()),
-    }
 }
 
 /// Returns the list of the other files in a folder of definitions.

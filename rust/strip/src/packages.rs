@@ -1,6 +1,5 @@
 //! Which crate becomes which files, and what the files have that the crate does not say.
 
-use crate::conditions::{self, Conditions};
 use crate::rules::{Pattern, Rule};
 use crate::tables::{self, EVERYWHERE, EXAMPLES, EXPORTS};
 use std::path::{Path, PathBuf};
@@ -26,8 +25,6 @@ pub(crate) struct Source {
     /// read, and modules in which all functions are laws. They are listed because no declaration says so: a function
     /// without a result might be called for what it asserts. One that does more than a law is refused.
     pub laws: &'static str,
-    /// What becomes of a call of a public function for which a condition does not hold.
-    pub conditions: Conditions,
     /// What is written in Rattle, and what is written in its place.
     pub rules: &'static [Rule],
 }
@@ -56,11 +53,6 @@ impl Source {
     pub fn names(&self) -> impl Iterator<Item = &'static str> {
         let attributes = self.attributes.iter().map(|(_, names)| *names);
         attributes.chain([self.constant, self.left_out, self.laws]).flat_map(str::split_whitespace)
-    }
-
-    /// Returns the names of all conditions that are listed.
-    pub fn names_of_conditions(&self) -> impl Iterator<Item = &'static str> {
-        self.conditions.iter().flat_map(|(_, names)| names.split_whitespace())
     }
 
     /// Returns whether a function of a file is a law.
@@ -140,7 +132,6 @@ const LIBRARY: Source = Source {
     constant: "",
     left_out: "",
     laws: "",
-    conditions: &[],
     rules: &[],
 };
 
@@ -161,11 +152,10 @@ pub(crate) const SOURCES: &[Source] = &[
             build_unchecked buffer_size_const builder rebuild",
         left_out: "ghost_log",
         laws: "in_range fits_bits",
-        conditions: conditions::NUM,
         rules: tables::NUM,
         ..LIBRARY
     },
-    Source { name: "lexical_tables", module: "tables", conditions: conditions::TABLES, ..LIBRARY },
+    Source { name: "lexical_tables", module: "tables", ..LIBRARY },
     Source {
         name: "lexical_write_integer",
         module: "write_integer",
@@ -192,7 +182,6 @@ pub(crate) const SOURCES: &[Source] = &[
         ],
         left_out: "turns",
         laws: "laws record_pair record_up_to_eight",
-        conditions: conditions::WRITE_INTEGER,
         rules: tables::WRITE_INTEGER,
         ..LIBRARY
     },
@@ -212,7 +201,6 @@ pub(crate) const SOURCES: &[Source] = &[
             ),
         ],
         laws: "equal positions reading rooms_at_most formatted_room_suffices str_is_utf8",
-        conditions: conditions::PARTS,
         rules: tables::PARTS,
         ..LIBRARY
     },
@@ -221,14 +209,12 @@ pub(crate) const SOURCES: &[Source] = &[
         module: "lines",
         left_out: "devices/trace",
         laws: "laws note_put record_flush",
-        conditions: conditions::LINES,
         rules: tables::LINES,
         ..PROGRAM
     },
     Source {
         name: "lexical_streams",
         module: "streams",
-        conditions: conditions::STREAMS,
         rules: tables::STREAMS,
         ..PROGRAM
     },

@@ -1,9 +1,8 @@
 //! Reads the crates of the repository, and checks that each rule and each name of a list is for something in them.
 
-use crate::additions::conditions_of;
 use crate::files::{files_of, read};
 use crate::ghosts::{Signatures, WITHOUT_EFFECT, add_signatures};
-use crate::items::{functions, names};
+use crate::items::names;
 use crate::left_out::Names;
 use crate::packages::{Source, patterns_for_examples};
 use crate::rules::{Pattern, lex_and_apply};
@@ -63,17 +62,17 @@ impl Repository {
         Ok(repository)
     }
 
-    /// Returns an error if a list of a crate has a name, or a condition, that is not in the crate.
+    /// Returns an error if a list of a crate has a name that is not in the crate.
     fn check_names(&self, source: &Source) -> Result<(), String> {
-        let (mut found, mut conditions) = (Names::new(), Names::new());
+        let mut found = Names::new();
         for file in self.files.iter().filter(|file| file.source.name == source.name) {
             found.extend([file.name.clone(), file.name.trim_end_matches(".rt").to_owned()]);
             found.extend(file.tokens.iter().map(|token| token.text.clone()));
-            conditions.extend(functions(&file.tokens).iter().flat_map(|each| conditions_of(&file.tokens, each)));
         }
-        let gone = source.names().find(|name| !found.contains(*name));
-        let gone = gone.or_else(|| source.names_of_conditions().find(|name| !conditions.contains(*name)));
-        gone.map_or(Ok(()), |name| Err(format!("{}: it has no {name}", source.name)))
+        match source.names().find(|name| !found.contains(*name)) {
+            Some(name) => Err(format!("{}: it has no {name}", source.name)),
+            None => Ok(()),
+        }
     }
 
     /// Returns an error if a function has the name of a law and is none, or if no source has a name of WITHOUT_EFFECT.

@@ -1,14 +1,12 @@
 //! Small sources, and what becomes of each. The made files, which the gate compares, show the rest.
 
-use crate::conditions::Unmet;
 use crate::files::{self, without_layout};
 use crate::ghosts::add_signatures;
-use crate::left_out::Names;
 use crate::packages::{SOURCES, Source, patterns_for_examples};
 use crate::repository::Repository;
 use crate::tokens::Token;
 use crate::tokens::{lex, lex_part, print, words};
-use crate::{completed, counted, documentation, rules, without_ghosts};
+use crate::{completed, counted, rules, without_ghosts};
 use std::collections::BTreeSet;
 use std::path::Path;
 
@@ -185,46 +183,15 @@ fn examples_have_the_paths_of_a_user() {
 }
 
 #[test]
-fn conditions_become_panics() {
-    let text = made("pub fn from_u8(n: u8) -> usize requires { a } { b }").unwrap();
-    let lines = "///\n/// # Panics\n///\n/// If the buffer is [too short](crate#conditions).\n#[must_use]\n";
-    assert!(text.starts_with(lines), "{text}");
-    assert!(!made("pub fn group_digits() requires some { a } { b }").unwrap().contains("Panics"));
-    is_refused(
-        "pub fn fallback_digit_count() requires { a } { b }",
-        "1: no page of conditions names fallback_digit_count",
-    );
-    is_refused(
-        "pub fn from_u8() requires room { a } { b }",
-        "1: no list says what becomes of a call without the condition from_u8.room",
-    );
-}
-
-#[test]
-fn parts_have_an_example() {
-    let example = |text: &str| {
-        let mut tokens = lex(text).unwrap();
-        documentation::add_examples(&mut tokens, true, &mut Names::new()).map(|()| print(&tokens))
-    };
-    let made = example("/// `Hex(5)` writes `5`.\n#[derive(Debug)]\npub struct Hex;").unwrap();
-    let code = "/// use cojimuran::parts::{Hex, Part};\n///\n/// assert_eq!(Hex(5).to_text(&mut [0; 64]), b\"5\");";
-    assert_eq!(
-        made,
-        format!("/// `Hex(5)` writes `5`.\n///\n/// ```\n{code}\n/// ```\n#[derive(Debug)]\npub struct Hex;")
-    );
-    assert_eq!(example("/// A part.\npub struct A;").unwrap_err(), "A has no example such as `A(5)` writes `5`");
-}
-
-#[test]
-fn exported_names_are_links() {
-    let root = "pub use a::{B, c}; #[doc(hidden)] pub use a::D; pub mod e { pub use f::G_H; } use i::J;";
-    let exports = documentation::exports(&lex(root).unwrap(), "crate");
-    let names: Vec<_> = exports.iter().map(|(name, path)| format!("{name} {path}")).collect();
-    assert_eq!(names, ["B crate::B", "G_H crate::e::G_H"]);
-    let mut tokens = lex("/// `B`, [`B`](b), `c` and `D`.\n/// ```\n/// `B`\n/// ```\nstruct S; // `B`").unwrap();
-    documentation::add_links(&mut tokens, &exports);
-    let expected = "/// [`B`](crate::B), [`B`](b), `c` and `D`.\n/// ```\n/// `B`\n/// ```\nstruct S; // `B`";
-    assert_eq!(print(&tokens), expected);
+fn a_condition_needs_a_section_panics() {
+    let error = "1: f requires something, but its documentation has no section `# Panics`";
+    is_refused("pub fn f() requires { a } { b }", error);
+    is_refused("trait T { fn f() requires { a }; }", error);
+    let made = made("/// # Panics\n///\n/// If b.\npub fn f() requires { a } { b }").unwrap();
+    assert_eq!(made, "/// # Panics\n///\n/// If b.\n#[inline]\npub fn f() { b }\n");
+    becomes("fn f() requires { a } { b }", "#[inline] fn f() { b }");
+    becomes("#[doc(hidden)] pub fn f() requires { a } { b }", "#[doc(hidden)] #[inline] pub fn f() { b }");
+    becomes("pub fn group_digits() requires some { a } { b }", "#[inline] pub fn group_digits() { b }");
 }
 
 #[test]
@@ -251,8 +218,6 @@ fn a_rule_that_matches_nothing_or_too_much_is_refused() {
     assert!(error.contains("lexical_tables: the rule for `u8`: it matches "), "{error}");
     const OTHER: &[Source] = &[Source { constant: "digit_to_byte", ..SOURCES[1] }];
     assert_eq!(Repository::read(top(), OTHER).err().unwrap(), "lexical_tables: it has no digit_to_byte");
-    const UNNAMED: &[Source] = &[Source { conditions: &[(Unmet::OnAPage, "get_table")], ..SOURCES[1] }];
-    assert_eq!(Repository::read(top(), UNNAMED).err().unwrap(), "lexical_tables: it has no get_table");
 }
 
 /// Here each comment and each layout of the crates is another one, and what is made of the code is the same.

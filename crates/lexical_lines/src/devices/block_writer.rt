@@ -43,6 +43,10 @@ impl<K: BlockSink, const SIZE: usize> Model for BlockWriter<K, SIZE> {
 
 impl<K: BlockSink, const SIZE: usize> BlockWriter<K, SIZE> {
     /// Returns a writer with an empty block. `SIZE` must not be 0.
+    ///
+    /// # Panics
+    ///
+    /// If `SIZE` is 0.
     pub fn new(sink: K) -> BlockWriter<K, SIZE>
         requires { 0 < SIZE }
         ensures { result ≡ record {

@@ -141,6 +141,10 @@ pub fn most_digits<T: UnsignedInteger>(radix: u32) -> usize
 /// An unsigned integer type whose digits are counted in every radix.
 pub trait DigitCount: DecimalCount {
     /// Returns how many digits the number has. The radix is from 2 to 36.
+    ///
+    /// # Panics
+    ///
+    /// If the radix is not from 2 to 36.
     fn digit_count(self, radix: u32) -> usize
         requires { IsRadix radix }
         ensures count { result ≡ digit_count radix (Self.magnitude self) }
@@ -152,6 +156,10 @@ pub trait DigitCount: DecimalCount {
 
     /// Returns how many digits the number has, as `digit_count` does, but counts them by division.
     /// The radix is from 2 to 36.
+    ///
+    /// # Panics
+    ///
+    /// If the radix is not from 2 to 36.
     fn slow_digit_count(self, radix: u32) -> usize
         requires { IsRadix radix }
         ensures count { result ≡ digit_count radix (Self.magnitude self) }

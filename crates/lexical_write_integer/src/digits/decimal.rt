@@ -32,6 +32,10 @@ pub trait Decimal: DecimalCount {
 
     /// Writes the digits of the number to the start of the buffer, and returns how many there are. The
     /// buffer has room for `DECIMAL_WIDTH` bytes.
+    ///
+    /// # Panics
+    ///
+    /// If the buffer is [too short](crate#conditions).
     final fn decimal(self, buffer: &mut [u8]) -> usize
         requires { Self.DECIMAL_WIDTH ≤ length buffer.old }
         ensures digits { WritesDigits 10 (Self.magnitude self) buffer.old buffer.new result }
@@ -43,6 +47,10 @@ pub trait Decimal: DecimalCount {
     /// Writes the digits of the number to the start of the buffer, and returns how many there are. The
     /// number is below 10^`SIGNED_WIDTH`, as is the magnitude of each number of the signed type, and
     /// the buffer has room for `SIGNED_WIDTH` bytes.
+    ///
+    /// # Panics
+    ///
+    /// If the number is 10^19 or above, or if the buffer is [too short](crate#conditions).
     fn decimal_signed(self, buffer: &mut [u8]) -> usize
         requires number { Self.magnitude self < 10 ^ SIGNED_WIDTH }
         requires room { SIGNED_WIDTH ≤ length buffer.old }

@@ -27,6 +27,10 @@ pub fn fits_decimal_width(number: u64, width: usize) -> bool
 
 /// Writes the number with leading zeros over the whole buffer, and returns the length of the buffer.
 /// The radix is from 2 to 36, and the number is below the radix to the power of that length.
+///
+/// # Panics
+///
+/// If the radix is not from 2 to 36, or if the number has more digits than the buffer has bytes.
 pub fn write_padded<T: DigitCount + Radix>(value: T, radix: u32, buffer: &mut [u8]) -> usize
     requires radix { IsRadix radix }
     requires fits { T.magnitude value < radix ^ length buffer.old }

@@ -174,6 +174,10 @@ fn radix_called<T: UnsignedInteger>(
 
 /// Writes the digits of the number as `Radix::radix` does, by code that rustc has in each caller: the radix is to be
 /// constant there. It is from 2 to 36, and the buffer has room for the digits.
+///
+/// # Panics
+///
+/// If the radix is not from 2 to 36, or if the buffer is [too short](crate#conditions).
 pub fn constant_radix<T: UnsignedInteger>(value: T, radix: u32, buffer: &mut [u8]) -> usize
     requires radix { IsRadix radix }
     requires room { digit_count radix (T.magnitude value) ≤ length buffer.old }
@@ -188,6 +192,10 @@ pub fn constant_radix<T: UnsignedInteger>(value: T, radix: u32, buffer: &mut [u8
 pub trait Radix: UnsignedInteger {
     /// Writes the digits of the number to the start of the buffer, and returns how many there are. The
     /// radix is from 2 to 36, and the buffer has room for the digits.
+    ///
+    /// # Panics
+    ///
+    /// If the radix is not from 2 to 36, or if the buffer is [too short](crate#conditions).
     fn radix(self, radix: u32, buffer: &mut [u8]) -> usize
         requires radix { IsRadix radix }
         requires room { digit_count radix (Self.magnitude self) ≤ length buffer.old }

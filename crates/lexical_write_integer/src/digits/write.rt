@@ -50,6 +50,10 @@ pub fn write_integer_counted<T: Decimal + DigitCount>(
 /// buffer has room for `SIGNED_WIDTH` bytes.
 pub trait WriteInteger: Decimal + Radix {
     /// Writes the digits in a radix from 2 to 36.
+    ///
+    /// # Panics
+    ///
+    /// If the radix is not from 2 to 36, or if the buffer is [too short](crate#conditions).
     fn write_integer(self, radix: u32, buffer: &mut [u8]) -> usize
         requires radix { IsRadix radix }
         requires room { digits_need radix (Self.magnitude self) Self.DECIMAL_WIDTH
@@ -61,6 +65,11 @@ pub trait WriteInteger: Decimal + Radix {
     }
 
     /// Writes the digits of the magnitude of a signed number, without its sign, in a radix from 2 to 36.
+    ///
+    /// # Panics
+    ///
+    /// If the radix is not from 2 to 36, or if the radix is 10 and the number is 10^19 or above, or if the buffer is
+    /// [too short](crate#conditions).
     fn write_integer_signed(self, radix: u32, buffer: &mut [u8]) -> usize
         requires radix { IsRadix radix }
         requires number { radix ≡ 10 → Self.magnitude self < 10 ^ Self.SIGNED_WIDTH }
@@ -79,6 +88,10 @@ pub trait WriteInteger: Decimal + Radix {
     }
 
     /// Writes the digits in the mantissa radix of the format.
+    ///
+    /// # Panics
+    ///
+    /// If the buffer is [too short](crate#conditions).
     fn write_mantissa(self, format: &NumberFormat, buffer: &mut [u8]) -> usize
         requires { digits_need format.now.mantissa_radix (Self.magnitude self) Self.DECIMAL_WIDTH
             ≤ length buffer.old }
@@ -90,6 +103,10 @@ pub trait WriteInteger: Decimal + Radix {
     }
 
     /// Writes the digits of the magnitude of a signed number, without its sign, in the mantissa radix of the format.
+    ///
+    /// # Panics
+    ///
+    /// If the radix is 10 and the number is 10^19 or above, or if the buffer is [too short](crate#conditions).
     fn write_mantissa_signed(self, format: &NumberFormat, buffer: &mut [u8]) -> usize
         requires number { format.now.mantissa_radix ≡ 10
             → Self.magnitude self < 10 ^ Self.SIGNED_WIDTH }
@@ -103,6 +120,10 @@ pub trait WriteInteger: Decimal + Radix {
     }
 
     /// Writes the digits in the exponent radix of the format.
+    ///
+    /// # Panics
+    ///
+    /// If the buffer is [too short](crate#conditions).
     fn write_exponent(self, format: &NumberFormat, buffer: &mut [u8]) -> usize
         requires { digits_need format.now.exponent_radix (Self.magnitude self) Self.DECIMAL_WIDTH
             ≤ length buffer.old }
@@ -114,6 +135,10 @@ pub trait WriteInteger: Decimal + Radix {
     }
 
     /// Writes the digits of the magnitude of a signed number, without its sign, in the exponent radix of the format.
+    ///
+    /// # Panics
+    ///
+    /// If the radix is 10 and the number is 10^19 or above, or if the buffer is [too short](crate#conditions).
     fn write_exponent_signed(self, format: &NumberFormat, buffer: &mut [u8]) -> usize
         requires number { format.now.exponent_radix ≡ 10
             → Self.magnitude self < 10 ^ Self.SIGNED_WIDTH }

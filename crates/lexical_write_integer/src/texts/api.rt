@@ -33,6 +33,10 @@ pub trait ToLexical: LexicalInteger + FormattedSize {
     /// Writes the number in decimal to the start of the buffer, and returns the length of its text: a
     /// `-` if it is below 0, and then the digits. Every byte after the text is unchanged. The buffer
     /// must have room for `DECIMAL_WIDTH` bytes, and for one further byte if there is a `-`.
+    ///
+    /// # Panics
+    ///
+    /// If the buffer is [too short](crate#conditions).
     final fn write_lexical(self, buffer: &mut [u8]) -> usize
         requires { need (Self.number self) Self.DECIMAL_WIDTH standard ≤ length buffer.old }
         ensures text { WritesText (Self.number self) standard buffer.old buffer.new result }
@@ -44,6 +48,10 @@ pub trait ToLexical: LexicalInteger + FormattedSize {
     /// Writes the digits of the absolute value to the start of the buffer, in the mantissa radix of the
     /// format and without groups, and returns how many there are. The buffer must have room for
     /// `DECIMAL_WIDTH` bytes in radix 10, and for the digits in any other radix.
+    ///
+    /// # Panics
+    ///
+    /// If the buffer is [too short](crate#conditions).
     fn write_magnitude(self, format: &NumberFormat, buffer: &mut [u8]) -> usize
         requires { digits_need format.now.mantissa_radix (unsigned_abs (Self.number self)) Self.DECIMAL_WIDTH
             ≤ length buffer.old }
@@ -51,6 +59,10 @@ pub trait ToLexical: LexicalInteger + FormattedSize {
             buffer.old buffer.new result };
 
     /// Returns the number of digits of the absolute value in the radix, which is from 2 to 36.
+    ///
+    /// # Panics
+    ///
+    /// If the radix is not from 2 to 36.
     fn magnitude_digits(self, radix: u32) -> usize
         requires { IsRadix radix }
         ensures { result ≡ digit_count radix (unsigned_abs (Self.number self)) };
@@ -58,6 +70,10 @@ pub trait ToLexical: LexicalInteger + FormattedSize {
     /// Writes the number in the format to the start of the buffer, and returns the length of its text.
     /// Every byte after the text is unchanged. The buffer must have room for the number of bytes that
     /// `ToLexicalWithOptions::required_len` returns. The other methods that write a text call this one.
+    ///
+    /// # Panics
+    ///
+    /// If the buffer is [too short](crate#conditions).
     final fn write_text(self, buffer: &mut [u8], format: &NumberFormat) -> usize
         requires { need (Self.number self) Self.DECIMAL_WIDTH format.now ≤ length buffer.old }
         ensures text { WritesText (Self.number self) format.now buffer.old buffer.new result }
@@ -81,6 +97,10 @@ pub trait ToLexical: LexicalInteger + FormattedSize {
     /// Writes the number as `write_lexical` does, under the same condition, and returns its text: a
     /// mutable slice of the first bytes of the buffer. What the caller then writes to the slice
     /// changes those bytes, and every other byte of the buffer is unchanged.
+    ///
+    /// # Panics
+    ///
+    /// If the buffer is [too short](crate#conditions).
     final fn to_lexical(self, buffer: &mut [u8]) -> &mut [u8]
         requires { need (Self.number self) Self.DECIMAL_WIDTH standard ≤ length buffer.old }
         ensures* lends { sem 𝓛 (LendsFront buffer.entry (length result.now) result) }
@@ -113,6 +133,10 @@ pub trait ToLexicalWithOptions: ToLexical {
     /// The buffer must have room for the number of bytes that `required_len` returns, which is enough
     /// for the sign, the digits and the separators between their groups. In radix 10 it is enough for
     /// `DECIMAL_WIDTH` digits, even if the number has fewer.
+    ///
+    /// # Panics
+    ///
+    /// If the buffer is [too short](crate#conditions).
     final fn write_lexical_with_options(
         self,
         buffer: &mut [u8],
@@ -130,7 +154,7 @@ pub trait ToLexicalWithOptions: ToLexical {
     }
 
     /// Returns the required length, which is the length of the shortest buffer that
-    /// `write_lexical_with_options` accepts. It is at most `BUFFER_SIZE`.
+    /// `write_lexical_with_options` accepts. It is at most [`BUFFER_SIZE`](crate::BUFFER_SIZE).
     final fn required_len(self, format: &NumberFormat) -> usize
         ensures need { result ≡ need (Self.number self) Self.DECIMAL_WIDTH format.now }
         ensures short { result ≤ BUFFER_SIZE }
@@ -149,6 +173,10 @@ pub trait ToLexicalWithOptions: ToLexical {
     /// its text: a mutable slice of the first bytes of the buffer. What the caller then writes to the
     /// slice changes those bytes, and every other byte of the buffer is unchanged. Without its
     /// separators the text is that in the format without groups.
+    ///
+    /// # Panics
+    ///
+    /// If the buffer is [too short](crate#conditions).
     final fn to_lexical_with_options<'a>(
         self,
         buffer: &'a mut [u8],
@@ -223,6 +251,10 @@ pub fn sign_len<T: LexicalInteger>(number: T, format: &NumberFormat) -> usize
 /// let mut buffer = [0; 1];
 /// assert_eq!(rt; (write_sign(-5, &mut buffer, &STANDARD), buffer), (1, *b"-"));
 /// ```
+///
+/// # Panics
+///
+/// If the buffer is [too short](crate#conditions).
 pub fn write_sign<T: LexicalInteger>(number: T, buffer: &mut [u8], format: &NumberFormat) -> usize
     requires { 1 ≤ length buffer.old }
     ensures sign { take result buffer.new ≡ sign_of (T.number number) format.now.required_mantissa_sign }

@@ -27,6 +27,10 @@ use lexical_num::format::NumberFormat;
 /// assert_eq!(rt; group_digits(7, &thousands, &mut buffer), 9);
 /// assert_eq!(rt; buffer, *b"1,234,567");
 /// ```
+///
+/// # Panics
+///
+/// If the buffer is [too short](crate#conditions).
 pub fn group_digits(count: usize, format: &NumberFormat, buffer: &mut [u8]) -> usize
     requires some { 1 ≤ count }
     requires room { grouped_length format.now.digit_grouping count ≤ length buffer.old }

@@ -33,7 +33,7 @@ impl Parts {
 /// A valid format. Both radices are from 2 to 36. If the digits are grouped, a group has from 1 to 64
 /// digits, and the separator is a printable ASCII character other than a letter, a digit or a sign.
 ///
-/// [`NumberFormatBuilder`](crate::NumberFormatBuilder) builds a format.
+/// [`NumberFormatBuilder`](super::NumberFormatBuilder) builds a format.
 ///
 /// ```
 /// use cojimuran::{NumberFormat, NumberFormatBuilder};

@@ -16,7 +16,7 @@ use core::fmt;
 /// ```
 /// use cojimuran::parts::{Decimal, Left, Part};
 ///
-/// assert_eq!(Left(Decimal(12), 4, b'.').to_text(&mut [0; 64]), b"12..");
+/// assert_eq!(Left(Decimal(12), 4, b'.').to_str(&mut [0; 64]), "12..");
 /// ```
 #[derive(Clone, Copy, PartialEq, Eq, Hash, Debug)]
 pub struct Left<P>(pub P, pub usize, pub u8);
@@ -68,7 +68,7 @@ impl<P: Show> Show for Left<P> {
 /// ```
 /// use cojimuran::parts::{Decimal, Part, Right};
 ///
-/// assert_eq!(Right(Decimal(42), 4, b'.').to_text(&mut [0; 64]), b"..42");
+/// assert_eq!(Right(Decimal(42), 4, b'.').to_str(&mut [0; 64]), "..42");
 /// ```
 #[derive(Clone, Copy, PartialEq, Eq, Hash, Debug)]
 pub struct Right<P>(pub P, pub usize, pub u8);
@@ -123,7 +123,7 @@ impl<P: Show> Show for Right<P> {
 /// ```
 /// use cojimuran::parts::{Center, Decimal, Part};
 ///
-/// assert_eq!(Center(Decimal(-12), 6, b'*').to_text(&mut [0; 64]), b"*-12**");
+/// assert_eq!(Center(Decimal(-12), 6, b'*').to_str(&mut [0; 64]), "*-12**");
 /// ```
 #[derive(Clone, Copy, PartialEq, Eq, Hash, Debug)]
 pub struct Center<P>(pub P, pub usize, pub u8);

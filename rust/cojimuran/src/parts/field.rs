@@ -17,9 +17,8 @@ use crate::parts::part::Part;
 ///
 /// # Panics
 ///
-/// If the part is not valid,
-/// or if the text does not have `count` bytes,
-/// or if the buffer is [too short](crate#conditions).
+/// If the part is not valid, or if the text does not have `count` bytes, or if the buffer is
+/// [too short](crate#conditions).
 #[inline]
 pub fn write_field<P: Part>(part: P, index: usize, count: usize, buffer: &mut [u8]) {
     let end = part.write_at(index, buffer);

@@ -66,8 +66,8 @@ fn write_grouped_units<T: ToLexical>(
 /// ```
 /// use cojimuran::parts::{Fixed, Part};
 ///
-/// assert_eq!(Fixed(-5i64, 2).to_text(&mut [0; 64]), b"-0.05");
-/// assert_eq!(Fixed(1234u32, 3).to_text(&mut [0; 64]), b"1.234");
+/// assert_eq!(Fixed(-5i64, 2).to_str(&mut [0; 64]), "-0.05");
+/// assert_eq!(Fixed(1234u32, 3).to_str(&mut [0; 64]), "1.234");
 /// ```
 #[derive(Clone, Copy, PartialEq, Eq, Hash, Debug)]
 pub struct Fixed<T>(pub T, pub usize);
@@ -105,14 +105,14 @@ impl<T: ToLexical> Show for Fixed<T> {
     }
 }
 
-/// A number as [`Fixed`](crate::parts::Fixed) writes it, with its whole part in the groups of the format, and nothing else of it:
+/// A number as [`Fixed`] writes it, with its whole part in the groups of the format, and nothing else of it:
 /// in groups of three with `,`, `GroupedFixed(-123456, 2, &format)` writes `-1,234.56`.
 ///
 /// ```
 /// use cojimuran::parts::{GroupedFixed, Part};
 ///
 /// let format = cojimuran::NumberFormatBuilder::new().digit_grouping(3, b',').build_strict();
-/// assert_eq!(GroupedFixed(-123456, 2, &format).to_text(&mut [0; 64]), b"-1,234.56");
+/// assert_eq!(GroupedFixed(-123456, 2, &format).to_str(&mut [0; 64]), "-1,234.56");
 /// ```
 #[derive(Clone, Copy, PartialEq, Eq, Hash, Debug)]
 pub struct GroupedFixed<'a, T>(pub T, pub usize, pub &'a NumberFormat);

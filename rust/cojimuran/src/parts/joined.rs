@@ -40,8 +40,8 @@ pub(crate) fn write_next<P: Part>(
 /// ```
 /// use cojimuran::parts::{Hex, Joined, Part};
 ///
-/// assert_eq!(Joined(&[-1, 20], ", ").to_text(&mut [0; 64]), b"-1, 20");
-/// assert_eq!(Joined(&[10u8, 2].map(Hex), ":").to_text(&mut [0; 64]), b"A:2");
+/// assert_eq!(Joined(&[-1, 20], ", ").to_str(&mut [0; 64]), "-1, 20");
+/// assert_eq!(Joined(&[10u8, 2].map(Hex), ":").to_str(&mut [0; 64]), "A:2");
 /// ```
 #[derive(Clone, Copy, PartialEq, Eq, Hash, Debug)]
 pub struct Joined<'a, P>(pub &'a [P], pub &'a str);

@@ -13,7 +13,7 @@ use core::fmt;
 /// ```
 /// use cojimuran::parts::{Lower, PaddedDigits, Part};
 ///
-/// assert_eq!(Lower(PaddedDigits(16, 255u32, 4)).to_text(&mut [0; 64]), b"00ff");
+/// assert_eq!(Lower(PaddedDigits(16, 255u32, 4)).to_str(&mut [0; 64]), "00ff");
 /// ```
 #[derive(Clone, Copy, PartialEq, Eq, Hash, Debug)]
 pub struct Lower<P>(pub P);

@@ -17,7 +17,7 @@ use crate::write_integer::{NumberFormat, ToLexical, sign_len};
 /// ```
 /// use cojimuran::parts::{Decimal, Part};
 ///
-/// assert_eq!(Decimal(-5).to_text(&mut [0; 64]), b"-5");
+/// assert_eq!(Decimal(-5).to_str(&mut [0; 64]), "-5");
 /// ```
 #[derive(Clone, Copy, PartialEq, Eq, Hash, Debug)]
 pub struct Decimal<T>(pub T);
@@ -63,8 +63,8 @@ impl<T: ToLexical> Show for Decimal<T> {
 /// ```
 /// use cojimuran::parts::{Digits, Lower, Part};
 ///
-/// assert_eq!(Digits(16, 255u32).to_text(&mut [0; 64]), b"FF");
-/// assert_eq!(Lower(Digits(16, 255u32)).to_text(&mut [0; 64]), b"ff");
+/// assert_eq!(Digits(16, 255u32).to_str(&mut [0; 64]), "FF");
+/// assert_eq!(Lower(Digits(16, 255u32)).to_str(&mut [0; 64]), "ff");
 /// ```
 #[derive(Clone, Copy, PartialEq, Eq, Hash, Debug)]
 pub struct Digits<T>(pub u32, pub T);
@@ -126,7 +126,7 @@ fn largest_magnitude<T: ToLexical>() -> u64 {
 /// use cojimuran::parts::{Formatted, Part};
 ///
 /// let format = cojimuran::NumberFormatBuilder::new().digit_grouping(3, b',').build_strict();
-/// assert_eq!(Formatted(1234567, &format).to_text(&mut [0; 64]), b"1,234,567");
+/// assert_eq!(Formatted(1234567, &format).to_str(&mut [0; 64]), "1,234,567");
 /// ```
 #[derive(Clone, Copy, PartialEq, Eq, Hash, Debug)]
 pub struct Formatted<'a, T>(pub T, pub &'a NumberFormat);

@@ -67,8 +67,8 @@ impl<P: Show> Show for Option<P> {
 /// ```
 /// use cojimuran::parts::{OrElse, Part};
 ///
-/// assert_eq!(OrElse(Some(5u8), "n/a").to_text(&mut [0; 64]), b"5");
-/// assert_eq!(OrElse(None::<u8>, "n/a").to_text(&mut [0; 64]), b"n/a");
+/// assert_eq!(OrElse(Some(5u8), "n/a").to_str(&mut [0; 64]), "5");
+/// assert_eq!(OrElse(None::<u8>, "n/a").to_str(&mut [0; 64]), "n/a");
 /// ```
 #[derive(Clone, Copy, PartialEq, Eq, Hash, Debug)]
 pub struct OrElse<P, Q>(pub Option<P>, pub Q);

@@ -1,8 +1,8 @@
 // Made by `strip` from crates/lexical_parts/src/own.rt. Edit that file, not this one.
 
-//! Seals the methods of [`Part`](crate::parts::Part) that only the parts of this library may define, so that `to_str` can rely on them.
+//! Seals the methods of `Part` that only the parts of this library may define, so that `to_str` can rely on them.
 
-/// An argument of the sealed methods of [`Part`](crate::parts::Part). No other crate can name this type, so no other crate can define or call
+/// An argument of the sealed methods of `Part`. No other crate can name this type, so no other crate can define or call
 /// a method that takes it.
 #[doc(hidden)]
 #[derive(Clone, Copy, PartialEq, Eq, Hash, Debug)]

@@ -32,7 +32,7 @@ fn has_few_bits(number: u64, radix: u32, width: usize) -> bool {
 /// ```
 /// use cojimuran::parts::{PaddedDigits, Part};
 ///
-/// assert_eq!(PaddedDigits(16, 1u8, 2).to_text(&mut [0; 64]), b"01");
+/// assert_eq!(PaddedDigits(16, 1u8, 2).to_str(&mut [0; 64]), "01");
 /// ```
 #[derive(Clone, Copy, PartialEq, Eq, Hash, Debug)]
 pub struct PaddedDigits<T>(pub u32, pub T, pub usize);
@@ -82,14 +82,14 @@ impl<T: DigitCount + Radix> Show for PaddedDigits<T> {
 }
 
 /// An unsigned number in decimal, with leading zeros up to the width: `Padded(3u8, 2)` writes `03`.
-/// The number must be below `10.pow(width)`, and a literal needs a type. [`ZeroPadded`](crate::parts::ZeroPadded) writes every
-/// number: `ZeroPadded(123u8, 2)` writes `123`.
+/// The number must be below `10.pow(width)`, and a literal needs a type. [`ZeroPadded`](super::ZeroPadded)
+/// writes every number: `ZeroPadded(123u8, 2)` writes `123`.
 ///
 /// ```
 /// use cojimuran::parts::{Padded, Part, ZeroPadded};
 ///
-/// assert_eq!(Padded(3u8, 2).to_text(&mut [0; 64]), b"03");
-/// assert_eq!(ZeroPadded(123u8, 2).to_text(&mut [0; 64]), b"123");
+/// assert_eq!(Padded(3u8, 2).to_str(&mut [0; 64]), "03");
+/// assert_eq!(ZeroPadded(123u8, 2).to_str(&mut [0; 64]), "123");
 /// ```
 #[derive(Clone, Copy, PartialEq, Eq, Hash, Debug)]
 pub struct Padded<T>(pub T, pub usize);

@@ -19,7 +19,7 @@ use core::str::{from_utf8, from_utf8_unchecked};
 /// ```
 /// use cojimuran::parts::Part;
 ///
-/// assert_eq!((250, " g").to_text(&mut [0; 64]), b"250 g");
+/// assert_eq!((250, " g").to_str(&mut [0; 64]), "250 g");
 /// ```
 pub trait Part: Copy {
     /// Returns a number of bytes that is enough for the text, or `usize::MAX` if that number does not
@@ -32,8 +32,7 @@ pub trait Part: Copy {
     ///
     /// # Panics
     ///
-    /// If the part is not valid,
-    /// or if the buffer is [too short](crate#conditions).
+    /// If the part is not valid, or if the buffer is [too short](crate#conditions).
     fn write_to(self, buffer: &mut [u8]) -> usize;
 
     /// Returns the length of the text, if the part knows it without writing the text, and otherwise `None`, as it does
@@ -68,8 +67,7 @@ pub trait Part: Copy {
     ///
     /// # Panics
     ///
-    /// If the part is not valid,
-    /// or if the buffer is [too short](crate#conditions).
+    /// If the part is not valid, or if the buffer is [too short](crate#conditions).
     #[inline(always)]
     #[track_caller]
     fn to_text(self, buffer: &mut [u8]) -> &mut [u8] {
@@ -82,8 +80,7 @@ pub trait Part: Copy {
     ///
     /// # Panics
     ///
-    /// If the part is not valid,
-    /// or if the buffer is [too short](crate#conditions).
+    /// If the part is not valid, or if the buffer is [too short](crate#conditions).
     #[inline]
     fn write_at(self, index: usize, buffer: &mut [u8]) -> usize {
         index + self.write_to(&mut buffer[index..])
@@ -106,17 +103,16 @@ pub trait Part: Copy {
     }
 
     /// Writes the text into the buffer, and returns it as a `&str`, which borrows the buffer. What the buffer holds
-    /// afterwards is not promised. The part must be valid, each [`Byte`](crate::parts::Byte) in it and each byte of a column must be below
-    /// 128, each [`Bytes`](crate::parts::Bytes) in it must be UTF-8, and the buffer must have `room` bytes or more.
+    /// afterwards is not promised. The part must be valid, each [`Byte`](super::Byte) in it and each byte of a column
+    /// must be below 128, each [`Bytes`](super::Bytes) in it must be UTF-8, and the buffer must have `room` bytes or more.
     ///
-    /// The text of your own parts and of a [`Bytes`](crate::parts::Bytes) is checked by `std::str::from_utf8`, which reads it once. Other texts
+    /// The text of your own parts and of a `Bytes` is checked by `std::str::from_utf8`, which reads it once. Other texts
     /// need no check.
     ///
     /// # Panics
     ///
-    /// If the part is not valid,
-    /// or if the text of the part is not UTF-8,
-    /// or if the buffer is [too short](crate#conditions).
+    /// If the part is not valid, or if the text of the part is not UTF-8, or if the buffer is
+    /// [too short](crate#conditions).
     #[inline(always)]
     #[track_caller]
     #[allow(unsafe_code)]
@@ -138,8 +134,7 @@ pub trait Part: Copy {
     ///
     /// # Panics
     ///
-    /// If the part is not valid,
-    /// or if the text of the part is not UTF-8.
+    /// If the part is not valid, or if the text of the part is not UTF-8.
     #[inline]
     fn try_to_str(self, buffer: &mut [u8]) -> Option<&str> {
         if self.room() <= buffer.len() {

@@ -15,9 +15,9 @@ use crate::write_integer::format::STANDARD;
 /// ```
 /// use cojimuran::parts::{Part, Plus, ZeroPadded};
 ///
-/// assert_eq!(Plus(5u8).to_text(&mut [0; 64]), b"+5");
-/// assert_eq!(Plus(-5).to_text(&mut [0; 64]), b"-5");
-/// assert_eq!(ZeroPadded(Plus(42), 8).to_text(&mut [0; 64]), b"+0000042");
+/// assert_eq!(Plus(5u8).to_str(&mut [0; 64]), "+5");
+/// assert_eq!(Plus(-5).to_str(&mut [0; 64]), "-5");
+/// assert_eq!(ZeroPadded(Plus(42), 8).to_str(&mut [0; 64]), "+0000042");
 /// ```
 #[derive(Clone, Copy, PartialEq, Eq, Hash, Debug)]
 pub struct Plus<T>(pub T);

@@ -17,7 +17,7 @@ use core::fmt;
 /// ```
 /// use cojimuran::parts::{Hex, Part};
 ///
-/// assert_eq!(Hex(255u32).to_text(&mut [0; 64]), b"FF");
+/// assert_eq!(Hex(255u32).to_str(&mut [0; 64]), "FF");
 /// ```
 #[derive(Clone, Copy, PartialEq, Eq, Hash, Debug)]
 pub struct Hex<T>(pub T);
@@ -61,7 +61,7 @@ impl<T: Radix> Show for Hex<T> {
 /// ```
 /// use cojimuran::parts::{Binary, Part};
 ///
-/// assert_eq!(Binary(5u8).to_text(&mut [0; 64]), b"101");
+/// assert_eq!(Binary(5u8).to_str(&mut [0; 64]), "101");
 /// ```
 #[derive(Clone, Copy, PartialEq, Eq, Hash, Debug)]
 pub struct Binary<T>(pub T);
@@ -131,8 +131,8 @@ impl Part for HexByte {
 /// ```
 /// use cojimuran::parts::{HexBytes, Part};
 ///
-/// assert_eq!(HexBytes(&[1, 255], "").to_text(&mut [0; 64]), b"01FF");
-/// assert_eq!(HexBytes(&[1, 255], ":").to_text(&mut [0; 64]), b"01:FF");
+/// assert_eq!(HexBytes(&[1, 255], "").to_str(&mut [0; 64]), "01FF");
+/// assert_eq!(HexBytes(&[1, 255], ":").to_str(&mut [0; 64]), "01:FF");
 /// ```
 #[derive(Clone, Copy, PartialEq, Eq, Hash, Debug)]
 pub struct HexBytes<'a>(pub &'a [u8], pub &'a str);

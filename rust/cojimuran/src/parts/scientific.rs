@@ -62,13 +62,13 @@ fn write_magnitude<T: ToLexical>(number: T, exponent: i32, buffer: &mut [u8]) ->
 
 /// A number times a power of ten, as `{:e}` writes it in Rust: `Scientific(1234, -59)` writes `1.234e-56`,
 /// and `Scientific(-1000, 0)` writes `-1e3`. The digits have no zeros at the end, and a point after the
-/// first if there are more. Its room is 13 bytes more than that of [`Decimal`](crate::parts::Decimal).
+/// first if there are more. Its room is 13 bytes more than that of [`Decimal`](super::Decimal).
 ///
 /// ```
 /// use cojimuran::parts::{Part, Scientific};
 ///
-/// assert_eq!(Scientific(1234, -59).to_text(&mut [0; 64]), b"1.234e-56");
-/// assert_eq!(Scientific(-1000, 0).to_text(&mut [0; 64]), b"-1e3");
+/// assert_eq!(Scientific(1234, -59).to_str(&mut [0; 64]), "1.234e-56");
+/// assert_eq!(Scientific(-1000, 0).to_str(&mut [0; 64]), "-1e3");
 /// ```
 #[derive(Clone, Copy, PartialEq, Eq, Hash, Debug)]
 pub struct Scientific<T>(pub T, pub i32);

@@ -8,8 +8,9 @@ use core::fmt;
 // The largest room of a part that is written at once.
 pub(crate) const MOST_AT_ONCE: usize = 256;
 
-/// A part that can be in a format string, by itself or in a [`Shown`](crate::parts::Shown): `("id=", 7u8)` writes `id=7`, and so does `{}` of
-/// `Shown(("id=", 7u8))`. The parts of this crate are such parts, and so is a tuple, a [`Joined`](crate::parts::Joined) or a column of such parts.
+/// A part that can be in a format string, by itself or in a [`Shown`](super::Shown): `("id=", 7u8)` writes `id=7`, and
+/// so does `{}` of `Shown(("id=", 7u8))`. The parts of this crate are such parts, and so is a tuple, a
+/// [`Joined`](super::Joined) or a column of such parts.
 ///
 /// A part of your own becomes one if you define `is_showable`. Then a tuple with it can be in a format string. If its room
 /// can be above 256 bytes, define `write_pieces` too.
@@ -17,7 +18,7 @@ pub(crate) const MOST_AT_ONCE: usize = 256;
 /// ```
 /// use cojimuran::parts::Part;
 ///
-/// assert_eq!(("id=", 7u8).to_text(&mut [0; 64]), b"id=7");
+/// assert_eq!(("id=", 7u8).to_str(&mut [0; 64]), "id=7");
 /// ```
 pub trait Show: Part {
     /// Returns whether the part is valid and its text is UTF-8, as `to_str` requires. If it returns `false`, `{}` of the
@@ -37,8 +38,7 @@ pub trait Show: Part {
     ///
     /// # Panics
     ///
-    /// If the part is not valid,
-    /// or if the text of the part is not UTF-8.
+    /// If the part is not valid, or if the text of the part is not UTF-8.
     #[inline]
     fn write_pieces<O: fmt::Write>(self, out: &mut O) -> fmt::Result {
         write_at_once(self, out)

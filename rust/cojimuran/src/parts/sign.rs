@@ -14,8 +14,8 @@ use crate::write_integer::buffer::copy_to_front;
 /// ```
 /// use cojimuran::parts::{Part, Sign};
 ///
-/// assert_eq!(Sign(-5, false).to_text(&mut [0; 64]), b"-");
-/// assert_eq!(Sign(5, true).to_text(&mut [0; 64]), b"+");
+/// assert_eq!(Sign(-5, false).to_str(&mut [0; 64]), "-");
+/// assert_eq!(Sign(5, true).to_str(&mut [0; 64]), "+");
 /// ```
 #[derive(Clone, Copy, PartialEq, Eq, Hash, Debug)]
 pub struct Sign<T>(pub T, pub bool);

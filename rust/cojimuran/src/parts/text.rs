@@ -129,7 +129,7 @@ impl Show for char {
 /// ```
 /// use cojimuran::parts::{Bytes, Part};
 ///
-/// assert_eq!(Bytes(b"ab").to_text(&mut [0; 64]), b"ab");
+/// assert_eq!(Bytes(b"ab").to_str(&mut [0; 64]), "ab");
 /// ```
 #[derive(Clone, Copy, PartialEq, Eq, Hash, Debug)]
 pub struct Bytes<'a>(pub &'a [u8]);
@@ -181,7 +181,7 @@ impl Show for Bytes<'_> {
 /// ```
 /// use cojimuran::parts::{Byte, Part};
 ///
-/// assert_eq!(Byte(b'a').to_text(&mut [0; 64]), b"a");
+/// assert_eq!(Byte(b'a').to_str(&mut [0; 64]), "a");
 /// ```
 #[derive(Clone, Copy, PartialEq, Eq, Hash, Debug)]
 pub struct Byte(pub u8);

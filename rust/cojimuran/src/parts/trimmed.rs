@@ -26,14 +26,14 @@ fn write_trimmed_units<T: ToLexical>(number: T, decimals: usize, buffer: &mut [u
     (Bytes(&units[..whole]), ".", Bytes(&units[whole..kept])).write_to(buffer)
 }
 
-/// A number as [`Fixed`](crate::parts::Fixed) writes it, without zeros at the end of its fraction, and without a point if no decimal
-/// is left: `TrimmedFixed(-1500, 3)` writes `-1.5`, and `TrimmedFixed(2000u32, 3)` writes `2`.
+/// A number as [`Fixed`](super::Fixed) writes it, without zeros at the end of its fraction, and without a point if no
+/// decimal is left: `TrimmedFixed(-1500, 3)` writes `-1.5`, and `TrimmedFixed(2000u32, 3)` writes `2`.
 ///
 /// ```
 /// use cojimuran::parts::{Part, TrimmedFixed};
 ///
-/// assert_eq!(TrimmedFixed(-1500, 3).to_text(&mut [0; 64]), b"-1.5");
-/// assert_eq!(TrimmedFixed(2000u32, 3).to_text(&mut [0; 64]), b"2");
+/// assert_eq!(TrimmedFixed(-1500, 3).to_str(&mut [0; 64]), "-1.5");
+/// assert_eq!(TrimmedFixed(2000u32, 3).to_str(&mut [0; 64]), "2");
 /// ```
 #[derive(Clone, Copy, PartialEq, Eq, Hash, Debug)]
 pub struct TrimmedFixed<T>(pub T, pub usize);

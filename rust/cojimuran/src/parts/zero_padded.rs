@@ -19,13 +19,13 @@ fn length_of_sign(text: &[u8]) -> usize {
 }
 
 /// A part with zeros after its sign, up to the width: `ZeroPadded(Decimal(-42), 6)` writes `-00042`, as
-/// `{:06}` does in Rust. A text longer than the width, which counts bytes, has no zeros. [`Padded`](crate::parts::Padded) has a
-/// width that the number must fit.
+/// `{:06}` does in Rust. A text longer than the width, which counts bytes, has no zeros.
+/// [`Padded`](super::Padded) has a width that the number must fit.
 ///
 /// ```
 /// use cojimuran::parts::{Decimal, Part, ZeroPadded};
 ///
-/// assert_eq!(ZeroPadded(Decimal(-42), 6).to_text(&mut [0; 64]), b"-00042");
+/// assert_eq!(ZeroPadded(Decimal(-42), 6).to_str(&mut [0; 64]), "-00042");
 /// ```
 #[derive(Clone, Copy, PartialEq, Eq, Hash, Debug)]
 pub struct ZeroPadded<P>(pub P, pub usize);

@@ -109,6 +109,10 @@ fn write_64_apart(n: u64, buffer: &mut [u8], turns: &mut Turns) -> usize
 
 /// Writes the digits of a number to the start of the buffer, and returns how many there are. The buffer has
 /// room for 3 bytes.
+///
+/// # Panics
+///
+/// If the buffer is [too short](crate#conditions).
 pub fn from_u8(n: u8, buffer: &mut [u8]) -> usize
     requires { 3 ≤ length buffer.old }
     ensures digits { WritesDigits 10 n buffer.old buffer.new result }
@@ -119,6 +123,10 @@ pub fn from_u8(n: u8, buffer: &mut [u8]) -> usize
 
 /// Writes the digits of a number to the start of the buffer, and returns how many there are. The buffer has
 /// room for 5 bytes.
+///
+/// # Panics
+///
+/// If the buffer is [too short](crate#conditions).
 pub fn from_u16(n: u16, buffer: &mut [u8]) -> usize
     requires { 5 ≤ length buffer.old }
     ensures digits { WritesDigits 10 n buffer.old buffer.new result }
@@ -129,6 +137,10 @@ pub fn from_u16(n: u16, buffer: &mut [u8]) -> usize
 
 /// Writes the digits of a number to the start of the buffer, and returns how many there are. The buffer has
 /// room for 10 bytes.
+///
+/// # Panics
+///
+/// If the buffer is [too short](crate#conditions).
 pub fn from_u32(n: u32, buffer: &mut [u8]) -> usize
     requires { 10 ≤ length buffer.old }
     ensures digits { WritesDigits 10 n buffer.old buffer.new result }
@@ -139,6 +151,10 @@ pub fn from_u32(n: u32, buffer: &mut [u8]) -> usize
 
 /// Writes the digits of a number to the start of the buffer, and returns how many there are. The buffer has
 /// room for 20 bytes.
+///
+/// # Panics
+///
+/// If the buffer is [too short](crate#conditions).
 pub fn from_u64(n: u64, buffer: &mut [u8]) -> usize
     requires { 20 ≤ length buffer.old }
     ensures digits { WritesDigits 10 n buffer.old buffer.new result }
@@ -149,6 +165,10 @@ pub fn from_u64(n: u64, buffer: &mut [u8]) -> usize
 
 /// Writes the digits of a number to the start of the buffer, and returns how many there are. The number is
 /// below 10^19, as is the magnitude of each `i64`, and the buffer has room for 19 bytes.
+///
+/// # Panics
+///
+/// If the number is 10^19 or above, or if the buffer is [too short](crate#conditions).
 pub fn from_i64(n: u64, buffer: &mut [u8]) -> usize
     requires number { n < 10 ^ 19 }
     requires room { 19 ≤ length buffer.old }

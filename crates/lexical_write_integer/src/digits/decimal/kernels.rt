@@ -6,6 +6,10 @@ ghost use Rattle.std.specs.Prelude.{◌≡◌, ℕ, ◌-◌, ◌*◌, ◌/◌, �
 ghost use Rattle.lexical_write_integer.specs.Digits.Carries.{Carries};
 
 /// Returns the fraction of a number below 10^4: its first pair of digits, and one pair after it.
+///
+/// # Panics
+///
+/// If the number is not in this range.
 pub fn fixed_2(n: u32) -> u64
     requires { n < 10 ^ 4 }
     ensures number { result ≡ n * 42949673 }
@@ -16,6 +20,10 @@ pub fn fixed_2(n: u32) -> u64
 }
 
 /// Returns the fraction of a number below 10^6: its first pair of digits, and two pairs after it.
+///
+/// # Panics
+///
+/// If the number is not in this range.
 pub fn fixed_4(n: u32) -> u64
     requires { n < 10 ^ 6 }
     ensures number { result ≡ n * 429497 }
@@ -27,6 +35,10 @@ pub fn fixed_4(n: u32) -> u64
 
 /// Returns the fraction of a number from 10^6 to below 10^8: its first pair of digits, and three
 /// pairs after it.
+///
+/// # Panics
+///
+/// If the number is not in this range.
 pub fn fixed_6(n: u32) -> u64
     requires at_least { 10 ^ 6 ≤ n }
     requires below { n < 10 ^ 8 }
@@ -40,6 +52,10 @@ pub fn fixed_6(n: u32) -> u64
 
 /// Returns the fraction of a number of nine digits: its first pair of digits, which is a single
 /// digit, and four pairs after it.
+///
+/// # Panics
+///
+/// If the number is not in this range.
 pub fn fixed_8_nine(n: u32) -> u64
     requires at_least { 10 ^ 8 ≤ n }
     requires below { n < 10 ^ 9 }
@@ -53,6 +69,10 @@ pub fn fixed_8_nine(n: u32) -> u64
 
 /// Returns the fraction of a number of ten digits that fits in 32 bits: its first pair of digits, and
 /// four pairs after it.
+///
+/// # Panics
+///
+/// If the number is not in this range.
 pub fn fixed_8_ten(n: u32) -> u64
     requires { 10 ^ 9 ≤ n }
     ensures number { result ≡ n * 1441151881 / 2 ^ 25 }
@@ -64,6 +84,10 @@ pub fn fixed_8_ten(n: u32) -> u64
 }
 
 /// Returns the fraction of a number of ten digits: its first pair of digits, and four pairs after it.
+///
+/// # Panics
+///
+/// If the number is not in this range.
 pub fn fixed_8_wide(n: u64) -> u64
     requires at_least { 10 ^ 9 ≤ n }
     requires below { n < 10 ^ 10 }

@@ -74,6 +74,11 @@ pub fn algorithm_counted<T: DigitCount>(
 /// Writes the digits of the number to the start of the buffer, and returns how many there are. The radix is
 /// from 2 to 36, the table begins with the digit pairs of the radix, and the buffer has room for the
 /// digits.
+///
+/// # Panics
+///
+/// If the radix is not from 2 to 36, or if the table does not begin with the digit pairs of the radix, or if the buffer
+/// is [too short](crate#conditions).
 pub fn algorithm<T: DigitCount>(value: T, radix: u32, table: &[u8], buffer: &mut [u8]) -> usize
     requires radix { IsRadix radix }
     requires table { BeginsWithPairs radix table.now }

@@ -31,8 +31,7 @@ pub trait Decimal: DecimalCount {
     ///
     /// # Panics
     ///
-    /// If the number is 10^19 or above,
-    /// or if the buffer is [too short](crate#conditions).
+    /// If the number is 10^19 or above, or if the buffer is [too short](crate#conditions).
     fn decimal_signed(self, buffer: &mut [u8]) -> usize;
 }
 

@@ -109,8 +109,7 @@ fn radix_called<T: UnsignedInteger>(value: T, radix: u32, buffer: &mut [u8]) -> 
 ///
 /// # Panics
 ///
-/// If the radix is not from 2 to 36,
-/// or if the buffer is [too short](crate#conditions).
+/// If the radix is not from 2 to 36, or if the buffer is [too short](crate#conditions).
 #[inline(always)]
 #[track_caller]
 pub fn constant_radix<T: UnsignedInteger>(value: T, radix: u32, buffer: &mut [u8]) -> usize {
@@ -124,8 +123,7 @@ pub trait Radix: UnsignedInteger {
     ///
     /// # Panics
     ///
-    /// If the radix is not from 2 to 36,
-    /// or if the buffer is [too short](crate#conditions).
+    /// If the radix is not from 2 to 36, or if the buffer is [too short](crate#conditions).
     #[inline]
     fn radix(self, radix: u32, buffer: &mut [u8]) -> usize {
         radix_called(self, radix, buffer)

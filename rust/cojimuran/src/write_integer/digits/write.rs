@@ -36,8 +36,7 @@ pub trait WriteInteger: Decimal + Radix {
     ///
     /// # Panics
     ///
-    /// If the radix is not from 2 to 36,
-    /// or if the buffer is [too short](crate#conditions).
+    /// If the radix is not from 2 to 36, or if the buffer is [too short](crate#conditions).
     #[inline(always)]
     #[track_caller]
     fn write_integer(self, radix: u32, buffer: &mut [u8]) -> usize {
@@ -48,9 +47,8 @@ pub trait WriteInteger: Decimal + Radix {
     ///
     /// # Panics
     ///
-    /// If the radix is not from 2 to 36,
-    /// or if the radix is 10 and the number is 10^19 or above,
-    /// or if the buffer is [too short](crate#conditions).
+    /// If the radix is not from 2 to 36, or if the radix is 10 and the number is 10^19 or above, or if the buffer is
+    /// [too short](crate#conditions).
     #[inline(always)]
     #[track_caller]
     fn write_integer_signed(self, radix: u32, buffer: &mut [u8]) -> usize {
@@ -76,8 +74,7 @@ pub trait WriteInteger: Decimal + Radix {
     ///
     /// # Panics
     ///
-    /// If the radix is 10 and the number is 10^19 or above,
-    /// or if the buffer is [too short](crate#conditions).
+    /// If the radix is 10 and the number is 10^19 or above, or if the buffer is [too short](crate#conditions).
     #[inline(always)]
     #[track_caller]
     fn write_mantissa_signed(self, format: &NumberFormat, buffer: &mut [u8]) -> usize {
@@ -99,8 +96,7 @@ pub trait WriteInteger: Decimal + Radix {
     ///
     /// # Panics
     ///
-    /// If the radix is 10 and the number is 10^19 or above,
-    /// or if the buffer is [too short](crate#conditions).
+    /// If the radix is 10 and the number is 10^19 or above, or if the buffer is [too short](crate#conditions).
     #[inline(always)]
     #[track_caller]
     fn write_exponent_signed(self, format: &NumberFormat, buffer: &mut [u8]) -> usize {

@@ -131,8 +131,7 @@ pub fn from_u64(n: u64, buffer: &mut [u8]) -> usize {
 ///
 /// # Panics
 ///
-/// If the number is 10^19 or above,
-/// or if the buffer is [too short](crate#conditions).
+/// If the number is 10^19 or above, or if the buffer is [too short](crate#conditions).
 #[inline(always)]
 #[track_caller]
 pub fn from_i64(n: u64, buffer: &mut [u8]) -> usize {

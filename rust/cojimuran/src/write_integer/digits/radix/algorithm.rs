@@ -34,9 +34,8 @@ fn begins_with_pairs(radix: u32, table: &[u8]) -> bool {
 ///
 /// # Panics
 ///
-/// If the radix is not from 2 to 36,
-/// or if the table does not begin with the digit pairs of the radix,
-/// or if the buffer is [too short](crate#conditions).
+/// If the radix is not from 2 to 36, or if the table does not begin with the digit pairs of the radix, or if the buffer
+/// is [too short](crate#conditions).
 #[inline]
 pub fn algorithm<T: DigitCount>(value: T, radix: u32, table: &[u8], buffer: &mut [u8]) -> usize {
     assert!(

@@ -68,8 +68,7 @@ pub trait Compact: UnsignedInteger + FormattedSize {
     ///
     /// # Panics
     ///
-    /// If the radix is not from 2 to 36,
-    /// or if the buffer is [too short](crate#conditions).
+    /// If the radix is not from 2 to 36, or if the buffer is [too short](crate#conditions).
     #[inline]
     fn compact(self, radix: u32, buffer: &mut [u8]) -> usize {
         compact(self, radix, buffer)
