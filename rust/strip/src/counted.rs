@@ -1,49 +1,52 @@
-//! Makes one function of two: one without a counter, `NAME`, which only passes its parameters on, and the one with a
-//! counter that it calls, `NAME_counted`.
+//! Makes one function of two: `NAME`, which only passes its parameters on, with a new counter, to `NAME_counted`.
 
-use crate::items::{Function, elements, functions, names, remove};
+use crate::items::{Function, elements, functions, remove};
+use crate::packages::has;
 use crate::tokens::{Token, words};
-use std::collections::BTreeSet;
 
-/// Gives each `NAME` the body of its `NAME_counted`, from which the counter is already left out, and adds `NAME_counted`
-/// to a list. If a trait only declares `NAME_counted`, it declares `NAME` then, and the types define that.
-pub(crate) fn without_counted(tokens: &mut Vec<Token>, merged: &mut BTreeSet<String>) -> Result<(), String> {
-    let names: BTreeSet<String> = names(tokens).filter(|name| name.ends_with("_counted")).cloned().collect();
-    for name in names {
-        let all = functions(tokens);
-        let counted = all.iter().find(|each| tokens[each.at + 1].text == name).expect("it has this name");
-        if let Some(caller) = all.iter().find(|each| passes_on(tokens, each, counted)) {
-            let (whole, place) = (counted.whole(tokens), caller.body..caller.whole(tokens).end);
-            let body = tokens[counted.body..whole.end].to_vec();
-            // What is later in the file comes first: so the place of the other stays as it is.
-            if whole.start < place.start {
-                tokens.splice(place, body);
-                remove(tokens, whole);
-            } else {
-                remove(tokens, whole);
-                tokens.splice(place, body);
-            }
-            merged.insert(name);
-        } else if counted.is_public(tokens) {
-            return Err(format!("{}: a public function with a counter: {name}", tokens[counted.at].line));
-        }
+/// The ending of the name of a function with a counter.
+const ENDING: &str = "_counted";
+
+/// Gives each `NAME_counted` of a list, from which the counter is already left out, the name `NAME`, and makes one of two
+/// functions that then have one name. A public function with a counter must be in the list.
+pub(crate) fn without_counted(tokens: &mut Vec<Token>, counted: &str) -> Result<(), String> {
+    for token in tokens.iter_mut().filter(|token| has(counted, &token.text)) {
+        token.text = token.text.trim_end_matches(ENDING).to_owned();
     }
-    Ok(())
-}
-
-/// Gives each `NAME_counted` of a list that is left, in a call or in a type, the name `NAME`.
-pub(crate) fn rename(tokens: &mut [Token], merged: &BTreeSet<String>) {
-    for token in tokens.iter_mut().filter(|token| merged.contains(&token.text)) {
-        token.text = token.text.trim_end_matches("_counted").to_owned();
+    for name in counted.split_whitespace() {
+        make_one(tokens, name.trim_end_matches(ENDING));
+    }
+    let is_other = |each: &Function| each.is_public(tokens) && tokens[each.at + 1].text.ends_with(ENDING);
+    match functions(tokens).into_iter().find(is_other) {
+        Some(each) => Err(format!("{}: no list has {}", tokens[each.at].line, tokens[each.at + 1].text)),
+        None => Ok(()),
     }
 }
 
-/// Returns whether a function has the name of the other without `_counted`, and only passes its parameters on to it.
-fn passes_on(tokens: &[Token], function: &Function, counted: &Function) -> bool {
-    let name = &tokens[counted.at + 1].text;
-    let parameters = elements(tokens, counted.parameters).into_iter().map(|range| &*tokens[range.start].text);
+/// If a function of this name only calls itself, gives it the body of the first other one of that name, which goes. If
+/// that is only declared in a trait, so is the function then.
+fn make_one(tokens: &mut Vec<Token>, name: &str) {
+    let named = functions(tokens).into_iter().filter(|each| tokens[each.at + 1] == name);
+    let (callers, others): (Vec<_>, Vec<_>) = named.partition(|each| only_calls_itself(tokens, each));
+    let ([caller], [other, ..]) = (&*callers, &*others) else {
+        return;
+    };
+    let (whole, place) = (other.whole(tokens), caller.body..caller.whole(tokens).end);
+    let body = tokens[other.body..whole.end].to_vec();
+    // What is later in the file comes first: so the place of the other stays as it is.
+    if whole.start < place.start {
+        tokens.splice(place, body);
+        remove(tokens, whole);
+    } else {
+        remove(tokens, whole);
+        tokens.splice(place, body);
+    }
+}
+
+/// Returns whether a function does nothing but to call itself with its own parameters.
+fn only_calls_itself(tokens: &[Token], function: &Function) -> bool {
+    let parameters = elements(tokens, function.parameters).into_iter().map(|range| &*tokens[range.start].text);
     let parameters: Vec<&str> = parameters.filter(|parameter| *parameter != "self").collect();
-    let call = format!("{name} ( {} )", parameters.join(" , ")).replace("  ", " ");
-    *name == format!("{}_counted", tokens[function.at + 1].text)
-        && words(&tokens[function.inside(tokens)]).trim_start_matches("self . ") == call
+    let call = format!("{} ( {} )", tokens[function.at + 1].text, parameters.join(" , ")).replace("  ", " ");
+    words(&tokens[function.inside(tokens)]).trim_start_matches("self . ") == call
 }

@@ -1,18 +1,18 @@
-//! Makes the sources of the Rust packages from those of the crates of Rattle.
+//! Makes the sources of the Rust packages from those of the crates of Rattle: `cargo run -p strip`. It needs rustfmt.
 //!
 //! A source is read as tokens, and each comment is kept with the token that it stands at. No rule looks at a comment,
-//! so a comment goes to the package as it is, or goes with what it stands at. `made_of` has the order of the steps:
+//! so a comment goes to the package as it is, or is left out with what it stands at. `tokens` reads and prints,
+//! `items` finds functions and their parts, and `repository` reads all crates. These are the steps:
 //!
-//! 1. `rules` writes the patterns of `tables` otherwise, for example `prove!` as `assert!`.
+//! 1. `rules` writes what `tables` lists otherwise, for example `prove!` as `assert!`.
 //! 2. `left_out` and `ghosts` leave out what only the prover reads: ghost items, laws, models, tactics, and counters
 //!    with all that passes them on. `counted` makes one function of two that then are the same.
-//! 3. `additions` writes what a package says and the crate does not: `#[inline]`, `const`, `#[must_use]` and
-//!    `# Panics`. With that the clauses of contracts are left out too.
+//! 3. `additions` writes what a package needs and the crate does not say: `#[inline]`, `const` and `#[must_use]`. It
+//!    leaves out the contracts, after a check that the documentation says when a function panics.
 //! 4. `imports` leaves out imports of what is gone, and the last check refuses each word of Rattle that is left.
 //!
-//! `packages` lists the crates, what is made of each, and the functions that the steps need to know, such as laws.
-//! `repository` checks that each rule and each name of these lists is for something. What no step knows is an error
-//! with the file and the line. At last `documentation` adds examples and links to that of the package.
+//! `packages` lists the crates, what is made of each, and the functions that the steps need to know, such as laws. What
+//! no step knows is an error with the file and the line. A rule or a listed name that is for nothing is an error too.
 
 #![forbid(unsafe_code)]
 
@@ -30,10 +30,10 @@ mod tables;
 mod tokens;
 
 use additions::Additions;
-use files::{files_of, laid_out, read, without_layout, write};
+use files::{laid_out, read, without_layout, write};
 use packages::{SOURCES, Source};
 use repository::Repository;
-use std::collections::{BTreeMap, BTreeSet};
+use std::collections::BTreeMap;
 use std::path::{Path, PathBuf};
 use tokens::Token;
 
@@ -62,7 +62,7 @@ pub fn check(top: &Path) -> Result<(), String> {
 /// Makes the files of a package that are not committed, in the folder of what its build script makes. The documentation
 /// of a root is a file of its own, because a file that is included cannot have that of the one that includes it.
 pub fn make_built(top: &Path, package: &str, folder: &Path) -> Result<(), String> {
-    let repository = Repository::read(top, SOURCES)?;
+    let repository = Repository::read(top, SOURCES, tables::rules())?;
     for source in SOURCES.iter().filter(|source| source.package == package) {
         for (path, text) in made_of(source, &repository)? {
             let (file, is_root) = (folder.join(&path), path.ends_with("lib.rs"));
@@ -80,76 +80,40 @@ pub fn make_built(top: &Path, package: &str, folder: &Path) -> Result<(), String
 
 /// Returns each file that is made of the repository in this folder.
 fn made(top: &Path) -> Result<Files, String> {
-    let repository = Repository::read(top, SOURCES)?;
+    let repository = Repository::read(top, SOURCES, tables::rules())?;
     let mut made = Files::new();
     for source in SOURCES.iter().filter(|source| source.is_committed()) {
         for (path, text) in made_of(source, &repository)? {
             made.insert(path, laid_out(&text, top)?);
         }
     }
-    let specs = Path::new("crates/lexical_parts/specs");
-    made.insert(specs.join("Lib.antt"), list_of_definitions(top, specs)?);
-    for name in ["LICENSE-APACHE", "LICENSE-MIT"] {
-        made.insert(Path::new("rust/cojimuran").join(name), read(&top.join(name))?);
-    }
     Ok(made)
 }
 
 /// Returns each file that is made of a source. Its first line says what it is made of.
 fn made_of(source: &Source, repository: &Repository) -> Result<Files, String> {
-    let files = repository.files.iter().filter(|file| file.source.name == source.name);
-    let files: Vec<_> = files.filter_map(|file| Some((file, source.path_of_made(&file.name)?))).collect();
-    let (mut merged, mut codes) = (BTreeSet::new(), Vec::new());
-    for (file, _) in &files {
-        let code = without_ghosts(file.tokens.clone(), source, repository, &mut merged);
-        codes.push(code.map_err(|what| format!("{}:{what}", file.path.display()))?);
-    }
     let mut made = Files::new();
-    for ((file, path), mut code) in files.into_iter().zip(codes) {
-        let from = file.path.display();
-        counted::rename(&mut code, &merged);
-        let text =
-            completed(code, &file.tokens, &file.name, source, repository).map_err(|what| format!("{from}:{what}"))?;
-        made.insert(path, format!("// Made by `strip` from {from}. Edit that file, not this one.\n\n{text}"));
+    for file in repository.files.iter().filter(|file| file.source.name == source.name) {
+        if let Some(path) = source.path_of_made(&file.name) {
+            let from = file.path.display();
+            let code = translated(&file.tokens, &file.name, source, repository);
+            let code = code.map_err(|what| format!("{from}:{what}"))?;
+            made.insert(path, format!("// Made by `strip` from {from}. Edit that file, not this one.\n\n{code}"));
+        }
     }
     Ok(made)
 }
 
-/// Returns the code of a file, to which the rules are applied, without what only the prover reads. Adds the names of
-/// functions with a counter that then have no counter to a list. An error begins with the line.
-fn without_ghosts(
-    mut code: Vec<Token>,
-    source: &Source,
-    repository: &Repository,
-    merged: &mut BTreeSet<String>,
-) -> Result<Vec<Token>, String> {
+/// Returns the code that is made of a file, to whose tokens the rules are applied. An error begins with the line.
+fn translated(tokens: &[Token], file: &str, source: &Source, repository: &Repository) -> Result<String, String> {
+    let mut code = tokens.to_vec();
     left_out::without_items(&mut code, &source.modules(), &repository.laws)?;
     ghosts::without_ghosts(&mut code, &repository.laws, &repository.signatures)?;
-    counted::without_counted(&mut code, merged)?;
-    Ok(code)
-}
-
-/// Returns what is made of a file, whose code has nothing that only the prover reads but contracts, and of which all was
-/// the code at first. An error begins with the line.
-fn completed(
-    mut code: Vec<Token>,
-    all: &[Token],
-    file: &str,
-    source: &Source,
-    repository: &Repository,
-) -> Result<String, String> {
+    counted::without_counted(&mut code, source.counted)?;
     Additions { file, source, pages: &repository.pages }.add(&mut code)?;
-    imports::without_imports(&mut code, all, source.is_test(), &repository.laws);
+    imports::without_imports(&mut code, tokens, source.is_test(), &repository.laws);
     left_out::check_rust(&code)?;
     Ok(tokens::print(&code).trim().to_owned() + "\n")
-}
-
-/// Returns the list of the other files in a folder of definitions.
-fn list_of_definitions(top: &Path, folder: &Path) -> Result<String, String> {
-    let files = files_of(top, folder, "antt")?.into_iter();
-    let names = files.filter_map(|file| Some(file.file_stem()?.to_string_lossy().into_owned()));
-    let names: BTreeSet<String> = names.filter(|name| name != "Lib").collect();
-    Ok(names.iter().map(|name| format!("pub mod {name}\n")).collect())
 }
 
 #[cfg(test)]

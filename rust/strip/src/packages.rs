@@ -1,7 +1,6 @@
 //! Which crate becomes which files, and what the files have that the crate does not say.
 
-use crate::rules::{Pattern, Rule};
-use crate::tables::{self, EVERYWHERE, EXAMPLES, EXPORTS};
+use crate::rules::{Rule, everywhere};
 use std::path::{Path, PathBuf};
 
 /// A crate of Rattle, and the files that are made of it. rustc checks what is added. White space parts the names of a
@@ -25,8 +24,8 @@ pub(crate) struct Source {
     /// read, and modules in which all functions are laws. They are listed because no declaration says so: a function
     /// without a result might be called for what it asserts. One that does more than a law is refused.
     pub laws: &'static str,
-    /// What is written in Rattle, and what is written in its place.
-    pub rules: &'static [Rule],
+    /// Functions with a counter, each of which is called `NAME_counted`, and that are called `NAME` without it.
+    pub counted: &'static str,
 }
 
 /// Texts, and the names that each is for.
@@ -52,7 +51,7 @@ impl Source {
     /// Returns the names of functions, files and modules that the lists have.
     pub fn names(&self) -> impl Iterator<Item = &'static str> {
         let attributes = self.attributes.iter().map(|(_, names)| *names);
-        attributes.chain([self.constant, self.left_out, self.laws]).flat_map(str::split_whitespace)
+        attributes.chain([self.constant, self.left_out, self.laws, self.counted]).flat_map(str::split_whitespace)
     }
 
     /// Returns whether a function of a file is a law.
@@ -83,34 +82,23 @@ impl Source {
         }
     }
 
-    /// Returns the rules for the code of the crate.
-    pub fn patterns(&self) -> Vec<Pattern> {
-        // The crates of tests have their rules together.
-        let owner = if self.is_test() { self.package } else { self.name };
-        let own = self.rules.iter().map(|rule| Pattern::new(rule, owner));
-        let shared = EVERYWHERE.iter().map(|rule| Pattern::new(rule, ""));
-        let mut patterns: Vec<Pattern> = own.chain(shared).collect();
+    /// Returns rules that write the paths of the package in the place of those of the crate.
+    pub fn paths(&self) -> Vec<Rule> {
+        let mut paths = Vec::new();
         if !self.module.is_empty() {
-            patterns.insert(0, Pattern::for_path("crate::", &format!("crate::{}::", self.module)));
+            paths.push(everywhere("crate::", &format!("crate::{}::", self.module)));
         }
         let is_in_package = |source: &&Source| source.is_documented() && source.package == self.package;
         for library in SOURCES.iter().filter(is_in_package) {
             let (from, to) = (format!("{}::", library.name), format!("crate::{}::", library.module));
-            patterns.push(Pattern::for_path(&from, &to));
+            paths.push(everywhere(&from, &to));
         }
-        patterns.extend(EXPORTS.iter().map(|(from, to)| Pattern::for_path(from, to)));
         // The packages that are not committed need std.
         if self.is_committed() {
-            patterns.push(Pattern::for_path("std::", "core::"));
+            paths.push(everywhere("std::", "core::"));
         }
-        patterns
+        paths
     }
-}
-
-/// Returns the rules for the examples in the documentation of each crate.
-pub(crate) fn patterns_for_examples() -> Vec<Pattern> {
-    let rules = EXAMPLES.iter().map(|rule| Pattern::new(rule, "the examples"));
-    rules.chain(EXPORTS.iter().map(|(from, to)| Pattern::for_path(from, to))).collect()
 }
 
 /// Returns whether a file is of one of these modules.
@@ -132,14 +120,14 @@ const LIBRARY: Source = Source {
     constant: "",
     left_out: "",
     laws: "",
-    rules: &[],
+    counted: "",
 };
 
 /// The lines and the streams of the program.
 const PROGRAM: Source = Source { package: "lexwrite", ..LIBRARY };
 
 /// What calls the libraries as the repository's tests do.
-const TESTS: Source = Source { package: "repository_tests", rules: tables::IN_TESTS, ..LIBRARY };
+const TESTS: Source = Source { package: "repository_tests", ..LIBRARY };
 
 /// The crates of which files are made.
 pub(crate) const SOURCES: &[Source] = &[
@@ -152,7 +140,6 @@ pub(crate) const SOURCES: &[Source] = &[
             build_unchecked buffer_size_const builder rebuild",
         left_out: "ghost_log",
         laws: "in_range fits_bits",
-        rules: tables::NUM,
         ..LIBRARY
     },
     Source { name: "lexical_tables", module: "tables", ..LIBRARY },
@@ -181,8 +168,11 @@ pub(crate) const SOURCES: &[Source] = &[
             ),
         ],
         left_out: "turns",
+        counted: "
+            algorithm_counted compact_counted decimal_counted digit_count_counted from_i64_counted from_u16_counted
+            from_u32_counted from_u64_counted from_u8_counted slow_digit_count_counted
+            write_integer_counted",
         laws: "laws record_pair record_up_to_eight",
-        rules: tables::WRITE_INTEGER,
         ..LIBRARY
     },
     Source {
@@ -201,7 +191,6 @@ pub(crate) const SOURCES: &[Source] = &[
             ),
         ],
         laws: "equal positions reading rooms_at_most formatted_room_suffices str_is_utf8",
-        rules: tables::PARTS,
         ..LIBRARY
     },
     Source {
@@ -209,13 +198,11 @@ pub(crate) const SOURCES: &[Source] = &[
         module: "lines",
         left_out: "devices/trace",
         laws: "laws note_put record_flush",
-        rules: tables::LINES,
         ..PROGRAM
     },
     Source {
         name: "lexical_streams",
         module: "streams",
-        rules: tables::STREAMS,
         ..PROGRAM
     },
     Source {
@@ -229,7 +216,6 @@ pub(crate) const SOURCES: &[Source] = &[
             ("#[inline(always)]", "plain.rt"),
         ],
         laws: "DECIMAL",
-        rules: tables::FOR_C,
         ..LIBRARY
     },
     Source {

@@ -4,10 +4,9 @@ use crate::files::{files_of, read};
 use crate::ghosts::{Signatures, WITHOUT_EFFECT, add_signatures};
 use crate::items::names;
 use crate::left_out::Names;
-use crate::packages::{Source, patterns_for_examples};
-use crate::rules::{Pattern, lex_and_apply};
+use crate::packages::Source;
+use crate::rules::{Rule, lex_and_apply};
 use crate::tokens::Token;
-use std::collections::BTreeMap;
 use std::path::{Path, PathBuf};
 
 /// The pages that name the functions with conditions that a package does not check.
@@ -37,26 +36,26 @@ pub(crate) struct File {
 }
 
 impl Repository {
-    /// Reads the crates of the repository in a folder.
-    pub fn read(top: &Path, sources: &'static [Source]) -> Result<Repository, String> {
+    /// Reads the crates of the repository in a folder, and applies these rules to them.
+    pub fn read(top: &Path, sources: &'static [Source], mut rules: Vec<Rule>) -> Result<Repository, String> {
         let mut repository = Repository::default();
-        let mut used = Vec::new();
-        let mut for_examples = patterns_for_examples();
         for source in sources {
-            let mut patterns = source.patterns();
+            let mut paths = source.paths();
             for path in files_of(top, &source.folder_of_crate(), "rt")? {
                 let name = path.strip_prefix(source.folder_of_crate()).unwrap_or(&path).to_string_lossy().into_owned();
-                let tokens = lex_and_apply(&read(&top.join(&path))?, &mut patterns, &mut for_examples, &name);
+                let place = [source.name, source.package, &name];
+                let tokens = lex_and_apply(&read(&top.join(&path))?, place, &mut paths, &mut rules);
                 let tokens = tokens.map_err(|what| format!("{}:{what}", path.display()))?;
                 add_signatures(&tokens, &mut repository.signatures);
                 repository.laws.extend(names(&tokens).filter(|law| source.is_law(law, &name)).cloned());
                 repository.files.push(File { source, path, name, tokens });
             }
             repository.check_names(source)?;
-            used.extend(patterns);
         }
-        used.extend(for_examples);
-        check_uses(&used)?;
+        let faults: Vec<String> = rules.iter().filter_map(Rule::fault).collect();
+        if !faults.is_empty() {
+            return Err(faults.join("\n"));
+        }
         repository.check_laws()?;
         repository.pages = PAGES.map(|page| read(&top.join(page))).into_iter().collect::<Result<_, _>>()?;
         Ok(repository)
@@ -88,15 +87,4 @@ impl Repository {
             None => Ok(()),
         }
     }
-}
-
-/// Returns an error that names each rule that matches nothing, or more often than it says. A rule of all crates, of
-/// which each crate has a copy, counts once.
-fn check_uses(patterns: &[Pattern]) -> Result<(), String> {
-    let mut uses: BTreeMap<_, (&Pattern, usize)> = BTreeMap::new();
-    for pattern in patterns {
-        uses.entry((pattern.of, pattern.name())).or_insert((pattern, 0)).1 += pattern.uses;
-    }
-    let faults: Vec<String> = uses.into_values().filter_map(|(pattern, uses)| pattern.fault(uses)).collect();
-    if faults.is_empty() { Ok(()) } else { Err(faults.join("\n")) }
 }

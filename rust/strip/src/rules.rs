@@ -1,114 +1,76 @@
 //! Rules: tokens of a source, the place where they are, and what is written there.
 
-use crate::items::{functions, remove_and_keep_comment};
+use crate::items::remove_and_keep_comment;
 use crate::tokens::{Token, lex, lex_part, print, words};
 
-/// Tokens of a source, and those that are written there.
+/// Tokens of a source, and those that are written there. A rule that matches nothing is an error.
+#[derive(Clone)]
 pub(crate) struct Rule {
-    place: Place,
-    from: &'static str,
-    to: &'static str,
-}
-
-/// Where a rule counts. A rule that matches nothing there is an error.
-#[derive(Clone, Copy, PartialEq)]
-enum Place {
-    /// Wherever its tokens are.
-    Everywhere,
-    /// Wherever its tokens are in a file, a path in `src`.
-    File(&'static str),
-    /// In its crate, where it is an error if the tokens are there more than once.
-    Once,
-    /// In the functions of its crate with this name and their attributes, where that is an error too.
-    Function(&'static str),
-}
-
-pub(crate) const fn everywhere(from: &'static str, to: &'static str) -> Rule {
-    Rule { place: Place::Everywhere, from, to }
-}
-
-pub(crate) const fn in_file(file: &'static str, from: &'static str, to: &'static str) -> Rule {
-    Rule { place: Place::File(file), from, to }
-}
-
-pub(crate) const fn once(from: &'static str, to: &'static str) -> Rule {
-    Rule { place: Place::Once, from, to }
-}
-
-pub(crate) const fn in_function(name: &'static str, from: &'static str, to: &'static str) -> Rule {
-    Rule { place: Place::Function(name), from, to }
-}
-
-/// A rule that is read.
-pub(crate) struct Pattern {
-    place: Place,
+    /// What it is for, as of an `Of`.
+    of: &'static str,
+    /// The only file that it is for, a path in `src`, or empty for all.
+    file: &'static str,
+    /// Whether it is an error if the tokens are there more than once.
+    is_once: bool,
     from: Vec<Token>,
     to: Vec<Token>,
-    /// What it is for: a crate, a package of tests, or empty for all crates.
-    pub of: &'static str,
     /// How often it has been used.
-    pub uses: usize,
+    uses: usize,
 }
 
-impl Pattern {
-    pub fn new(rule: &Rule, of: &'static str) -> Pattern {
-        Pattern { place: rule.place, of, ..Pattern::for_path(rule.from, rule.to) }
+pub(crate) fn everywhere(from: &str, to: &str) -> Rule {
+    let [from, to] = [from, to].map(|text| {
+        let mut tokens = lex_part(text).expect("a rule has tokens");
+        tokens.pop();
+        tokens
+    });
+    Rule { of: "", file: "", is_once: false, from, to, uses: 0 }
+}
+
+pub(crate) fn in_file(file: &'static str, from: &str, to: &str) -> Rule {
+    Rule { file, ..everywhere(from, to) }
+}
+
+pub(crate) fn once(from: &str, to: &str) -> Rule {
+    Rule { is_once: true, ..everywhere(from, to) }
+}
+
+/// What rules are for: a crate, a package, or all crates and the examples in their documentation if it is empty.
+pub(crate) struct Of(pub &'static str);
+
+impl Of {
+    pub fn rules<const N: usize>(self, rules: [Rule; N]) -> Vec<Rule> {
+        rules.into_iter().map(|rule| Rule { of: self.0, ..rule }).collect()
+    }
+}
+
+impl Rule {
+    /// Returns whether it is for a file of a crate, of which files of a package are made.
+    fn is_for(&self, krate: &str, package: &str, file: &str) -> bool {
+        ["", krate, package].contains(&self.of) && ["", file].contains(&self.file)
     }
 
-    /// Returns a pattern that writes a path in the place of another one, in all crates.
-    pub fn for_path(from: &str, to: &str) -> Pattern {
-        let [from, to] = [from, to].map(|text| {
-            let mut tokens = lex_part(text).expect("a rule has tokens");
-            tokens.pop();
-            tokens
-        });
-        Pattern { place: Place::Everywhere, from, to, of: "", uses: 0 }
-    }
-
-    /// Returns the rule as an error names it.
-    pub fn name(&self) -> String {
-        let text = print(&self.from);
-        match self.place {
-            Place::Everywhere | Place::Once => format!("`{text}`"),
-            Place::File(place) | Place::Function(place) => format!("`{text}` in {place}"),
-        }
-    }
-
-    /// Returns what is wrong with a rule that has been used so often, or `None`.
-    pub fn fault(&self, uses: usize) -> Option<String> {
-        let is_once = matches!(self.place, Place::Once | Place::Function(_));
+    /// Returns what is wrong with how often the rule has been used, or `None`.
+    pub fn fault(&self) -> Option<String> {
         let of = if self.of.is_empty() { "all crates" } else { self.of };
-        match uses {
-            0 => Some(format!("{of}: the rule for {}: it matches nothing", self.name())),
-            2.. if is_once => {
-                Some(format!("{of}: the rule for {}: it matches {uses} times, and not once", self.name()))
-            }
+        let rule = format!("{of}: the rule for `{}`", print(&self.from));
+        match self.uses {
+            0 => Some(format!("{rule}: it matches nothing")),
+            2.. if self.is_once => Some(format!("{rule}: it matches {} times, and not once", self.uses)),
             _ => None,
         }
     }
 
-    /// Writes the tokens of this rule in the tokens of a file.
-    fn apply(&mut self, tokens: &mut Vec<Token>, file: &str) {
+    /// Writes the tokens of this rule wherever it matches.
+    pub fn apply(&mut self, tokens: &mut Vec<Token>) {
         let mut at = 0;
         while at + self.from.len() <= tokens.len() {
-            let is_equal = self.from.iter().zip(&tokens[at..]).all(|(from, token)| from.text == token.text);
-            if is_equal && self.counts_at(tokens, at, file) {
+            if self.from.iter().zip(&tokens[at..]).all(|(from, token)| from.text == token.text) {
                 self.uses += 1;
                 self.write_at(tokens, at);
                 at += self.to.len();
             } else {
                 at += 1;
-            }
-        }
-    }
-
-    fn counts_at(&self, tokens: &[Token], at: usize, file: &str) -> bool {
-        match self.place {
-            Place::Everywhere | Place::Once => true,
-            Place::File(name) => name == file,
-            Place::Function(name) => {
-                let mut named = functions(tokens).into_iter().filter(|each| tokens[each.at + 1] == name);
-                named.any(|function| function.whole(tokens).contains(&at))
             }
         }
     }
@@ -137,17 +99,17 @@ impl Pattern {
     }
 }
 
-/// Returns the tokens of a file, with what the patterns make of them. The examples in its documentation have patterns
-/// of their own, and what else a comment says is copied.
+/// Returns the tokens of a file, with what the paths and rules for its crate and its package make of them. The rules for
+/// all crates are also for the examples in its documentation. What else a comment says is copied.
 pub(crate) fn lex_and_apply(
     text: &str,
-    patterns: &mut [Pattern],
-    for_examples: &mut [Pattern],
-    file: &str,
+    [krate, package, file]: [&str; 3],
+    paths: &mut [Rule],
+    rules: &mut [Rule],
 ) -> Result<Vec<Token>, String> {
     let mut tokens = lex(text)?;
-    for pattern in patterns {
-        pattern.apply(&mut tokens, file);
+    for rule in paths.iter_mut().chain(rules.iter_mut().filter(|rule| rule.is_for(krate, package, file))) {
+        rule.apply(&mut tokens);
     }
     let (mut is_fenced, mut is_example) = (false, false);
     for token in tokens.iter_mut().filter(|token| token.is_documentation()) {
@@ -157,8 +119,8 @@ pub(crate) fn lex_and_apply(
             is_fenced = !is_fenced;
         } else if is_example {
             let mut code = lex_part(line).map_err(|what| format!("{}: in an example: {what}", token.line))?;
-            for pattern in &mut *for_examples {
-                pattern.apply(&mut code, file);
+            for rule in rules.iter_mut().filter(|rule| rule.of.is_empty()) {
+                rule.apply(&mut code);
             }
             token.text = format!("{mark}{}", print(&code));
         }

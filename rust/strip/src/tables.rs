@@ -1,32 +1,6 @@
 //! The rules of each crate: what is written in Rattle, and what is written in its place.
 
-use crate::rules::{Rule, everywhere, in_file, in_function, once};
-
-/// The rules for the code of every crate.
-pub(crate) const EVERYWHERE: &[Rule] = &[
-    // rustc proves nothing, so it checks.
-    everywhere("prove!(", "assert!("),
-    // A function that is final for the prover.
-    everywhere("final fn", "fn"),
-    // In Rattle a type says that it can be dropped.
-    everywhere("#[derive(Drop)]\npub struct", "#[derive(Debug)]\npub struct"),
-    everywhere("#[derive(Drop)]", ""),
-    everywhere(", Drop)]", ")]"),
-    everywhere("+ Drop", ""),
-    // The formatter of Rattle has its writer as a parameter.
-    everywhere("<W: fmt::Write>", ""),
-    everywhere("fmt::Formatter<W>", "fmt::Formatter<'_>"),
-    // An assertion takes the runtime, and a vector its allocator.
-    everywhere("!(rt;", "!("),
-    everywhere("Vec::new(alloc)", "Vec::new()"),
-];
-
-/// The rules for the examples in the documentation of every crate. EXPORTS are for them too: a user writes these paths.
-pub(crate) const EXAMPLES: &[Rule] = &[
-    everywhere("!(rt;", "!("),
-    everywhere("Vec::new(alloc)", "Vec::new()"),
-    everywhere(".to_string(alloc)?", ".to_string()"),
-];
+use crate::rules::{Of, Rule, everywhere, in_file, once};
 
 /// The paths under which the packages export what the root of each crate has, and two of its modules.
 pub(crate) const EXPORTS: &[(&str, &str)] = &[
@@ -40,100 +14,118 @@ pub(crate) const EXPORTS: &[(&str, &str)] = &[
     ("lexical_streams::", "lexwrite::streams::"),
 ];
 
-pub(crate) const NUM: &[Rule] = &[
-    // So neither a new method nor a new error breaks a user.
-    once("pub trait LexicalInteger: Copy {", "pub trait LexicalInteger: Copy + crate::sealed::Sealed {"),
-    once("pub enum Error {", "#[non_exhaustive]\npub enum Error {"),
-    // Nor does a field of the options or their builder.
-    once("pub struct Options {", "#[non_exhaustive]\npub struct Options {"),
-    once("pub struct OptionsBuilder {", "#[non_exhaustive]\npub struct OptionsBuilder {"),
-];
-
-pub(crate) const WRITE_INTEGER: &[Rule] = &[
-    // The root of the package exports it.
-    once("pub use lexical_tables as table;", ""),
-    // Its message names what does not hold, and nothing else.
-    in_file("digits/radix/by_radix.rt", "unreachable!", "panic!"),
-    // With this attribute rustc would save registers here.
-    in_function("write_after_count", "#[cold]", ""),
-    in_function("write_more_than_ten", "#[cold]", ""),
-    in_function("write_binary", "#[cold]", ""),
-    // The counter of each of these is left out, and others call them too.
-    once("pub fn slow_digit_count_counted", "pub(crate) fn slow_digit_count"),
-    everywhere("slow_digit_count_counted", "slow_digit_count"),
-    once("pub fn digit_count_counted", "pub(crate) fn digit_count"),
-    everywhere("digit_count_counted", "digit_count"),
-    once("pub fn write_integer_counted", "pub(crate) fn write_integer"),
-    everywhere("write_integer_counted", "write_integer"),
-    once("pub fn compact_counted", "pub(crate) fn compact"),
-    everywhere("compact_counted", "compact"),
-];
-
-pub(crate) const PARTS: &[Rule] = &[
-    // Parts can be keys and compared, as values of std can.
-    everywhere("#[derive(Clone, Copy, Debug, Drop)]", "#[derive(Clone, Copy, PartialEq, Eq, Hash, Debug)]"),
-    // A formatter has no parameter here, but a lifetime.
-    everywhere(", W: fmt::Write>", ">"),
-    once(
-        "struct Through<'a, W> {\n    f: &'a mut fmt::Formatter<W>,",
-        "struct Through<'a, 'b> {\n    f: &'a mut fmt::Formatter<'b>,",
-    ),
-    once("impl<W: fmt::Write> fmt::Write for Through<'_, W>", "impl fmt::Write for Through<'_, '_>"),
-    // rustc proves nothing, so a debug build checks.
-    in_function("to_str", "unsafe {", "debug_assert!(from_utf8(text).is_ok()); unsafe {"),
-];
-
-pub(crate) const LINES: &[Rule] = &[
-    // In Rattle each field of a value with a ghost is bound, and the ghost is dropped.
-    in_function("into_inner", "let Writing { writer, trace } = self; drop(trace); writer", "self.writer"),
-];
-
-/// In Rattle the runtime permits input and output, and returns their streams.
-pub(crate) const STREAMS: &[Rule] = &[
-    in_function("answer_lines", "(rt: HostRuntime)", "()"),
-    in_function("answer_lines", "rt.reader()", "io::stdin().lock()"),
-    in_function("answer_lines", "io::writer(&rt)", "io::stdout().lock()"),
-];
-
-/// A slice has no C ABI in rustc. So the root exports functions with the names of the writers, which call these.
-pub(crate) const FOR_C: &[Rule] = &[
-    in_file("write.rt", "#[unsafe(no_mangle)] pub extern \"C\" fn", "pub fn"),
-    in_file("decimal.rt", "#[unsafe(no_mangle)] pub extern \"C\" fn", "pub fn"),
-    in_file("ending.rt", "#[unsafe(no_mangle)] pub extern \"C\" fn", "pub fn"),
-];
-
-/// What `repository_tests/src/runtime.rs` has in place of the runtime of Rattle. What is not known here, rustc refuses.
-pub(crate) const IN_TESTS: &[Rule] = &[
-    // The runtime is passed to what prints, allocates or ends the process.
-    everywhere("(rt: HostRuntime) {", "() {\n    let rt = repository_tests::runtime::HostRuntime;"),
-    everywhere(
-        "(rt: HostRuntime) -> Result<(), Fail> {",
-        "() -> Result<(), Fail> {\n    let rt = repository_tests::runtime::HostRuntime;",
-    ),
-    everywhere("println!(rt;", "repository_tests::println_in!("),
-    everywhere("format!(in alloc;", "repository_tests::format_in!("),
-    everywhere(".clone().expect(&rt, \"clone\")", ".clone()"),
-    everywhere(".clone().expect(rt, \"clone\")", ".clone()"),
-    everywhere(".expect(rt,", ".expect("),
-    // What std has only there.
-    everywhere("use std::process::Abort;", "use repository_tests::runtime::Abort;"),
-    everywhere("use std::alloc::", "use repository_tests::runtime::"),
-    everywhere("use std::fmt::InlineText;", "use repository_tests::runtime::InlineText;"),
-    everywhere("use std::test::Fail;", "use repository_tests::runtime::Fail;"),
-    everywhere("::Err: Drop", "::Err: Sized"),
-    // The callers are a module here.
-    everywhere("use uses::", "use repository_tests::uses::"),
-    // What allocates takes an allocator and returns a `Result`.
-    everywhere("::new(rt.alloc())", "::new()"),
-    everywhere("log.resize(", "repository_tests::runtime::resize(log, "),
-    everywhere("log.extend_from_slice(", "std::io::Write::write_all(log, "),
-    everywhere("log.push_str(", "repository_tests::runtime::push_str(log, "),
-    everywhere(
-        "Formatted(amount, format).to_string(alloc)",
-        "repository_tests::format_in!(\"{}\", Formatted(amount, format))",
-    ),
-    // In the package the errors are non-exhaustive.
-    everywhere("Some((\"group mark\", byte)), }", "Some((\"group mark\", byte)), _ => None, }"),
-    // Rust has this method since 1.87.
-    everywhere(".cast_signed()", " as i64"),
-];
+/// Returns all rules, in the order in which they are applied. If one were missing, rustc or the last check of `strip`
+/// would refuse what is left.
+pub(crate) fn rules() -> Vec<Rule> {
+    let exports = EXPORTS.iter().map(|(from, to)| everywhere(from, to)).collect();
+    [
+        Of("lexical_num").rules([
+            // So neither a new method nor a new error breaks a user.
+            once("pub trait LexicalInteger: Copy {", "pub trait LexicalInteger: Copy + crate::sealed::Sealed {"),
+            once("pub enum Error {", "#[non_exhaustive]\npub enum Error {"),
+            // Nor does a field of the options or their builder.
+            once("pub struct Options {", "#[non_exhaustive]\npub struct Options {"),
+            once("pub struct OptionsBuilder {", "#[non_exhaustive]\npub struct OptionsBuilder {"),
+        ]),
+        Of("lexical_write_integer").rules([
+            // The root of the package exports it.
+            once("pub use lexical_tables as table;", ""),
+            // Its message names what does not hold, and nothing else.
+            everywhere("unreachable!", "panic!"),
+            // With this attribute rustc would save registers here.
+            once("#[cold] pub(super) fn write_after_count", "pub(super) fn write_after_count"),
+            once("#[cold] fn write_more_than_ten", "fn write_more_than_ten"),
+            once("#[cold] pub(super) fn write_binary", "pub(super) fn write_binary"),
+            // Without its counter each of these is as a method that the root exports.
+            once("pub fn slow_digit_count_counted", "pub(crate) fn slow_digit_count_counted"),
+            once("pub fn digit_count_counted", "pub(crate) fn digit_count_counted"),
+            once("pub fn write_integer_counted", "pub(crate) fn write_integer_counted"),
+            once("pub fn compact_counted", "pub(crate) fn compact_counted"),
+        ]),
+        Of("lexical_parts").rules([
+            // Parts can be keys and compared, as values of std can.
+            everywhere("#[derive(Clone, Copy, Debug, Drop)]", "#[derive(Clone, Copy, PartialEq, Eq, Hash, Debug)]"),
+            // A formatter has no parameter here, but a lifetime.
+            everywhere(", W: fmt::Write>", ">"),
+            once(
+                "struct Through<'a, W> {\n    f: &'a mut fmt::Formatter<W>,",
+                "struct Through<'a, 'b> {\n    f: &'a mut fmt::Formatter<'b>,",
+            ),
+            once("impl<W: fmt::Write> fmt::Write for Through<'_, W>", "impl fmt::Write for Through<'_, '_>"),
+            // rustc proves nothing, so a debug build checks.
+            once("unsafe {", "debug_assert!(from_utf8(text).is_ok()); unsafe {"),
+        ]),
+        Of("lexical_lines").rules([
+            // In Rattle each field of a value with a ghost is bound, and the ghost is dropped.
+            once("let Writing { writer, trace } = self; drop(trace); writer", "self.writer"),
+        ]),
+        Of("lexical_streams").rules([
+            // In Rattle the runtime permits input and output, and returns their streams.
+            once("(rt: HostRuntime)", "()"),
+            once("rt.reader()", "io::stdin().lock()"),
+            once("io::writer(&rt)", "io::stdout().lock()"),
+        ]),
+        Of("lexical_c").rules([
+            // A slice has no C ABI in rustc. So the root exports functions with these names, which call these.
+            in_file("write.rt", "#[unsafe(no_mangle)] pub extern \"C\" fn", "pub fn"),
+            in_file("decimal.rt", "#[unsafe(no_mangle)] pub extern \"C\" fn", "pub fn"),
+            in_file("ending.rt", "#[unsafe(no_mangle)] pub extern \"C\" fn", "pub fn"),
+        ]),
+        // `repository_tests/src/runtime.rs` is in place of the runtime of Rattle.
+        Of("repository_tests").rules([
+            // The runtime is passed to what prints, allocates or ends the process.
+            everywhere("(rt: HostRuntime) {", "() {\n    let rt = repository_tests::runtime::HostRuntime;"),
+            everywhere(
+                "(rt: HostRuntime) -> Result<(), Fail> {",
+                "() -> Result<(), Fail> {\n    let rt = repository_tests::runtime::HostRuntime;",
+            ),
+            everywhere("println!(rt;", "repository_tests::println_in!("),
+            everywhere("format!(in alloc;", "repository_tests::format_in!("),
+            everywhere(".clone().expect(&rt, \"clone\")", ".clone()"),
+            everywhere(".clone().expect(rt, \"clone\")", ".clone()"),
+            everywhere(".expect(rt,", ".expect("),
+            // What std has only there.
+            everywhere("use std::process::Abort;", "use repository_tests::runtime::Abort;"),
+            everywhere("use std::alloc::", "use repository_tests::runtime::"),
+            everywhere("use std::fmt::InlineText;", "use repository_tests::runtime::InlineText;"),
+            everywhere("use std::test::Fail;", "use repository_tests::runtime::Fail;"),
+            everywhere("::Err: Drop", "::Err: Sized"),
+            // The callers are a module here.
+            everywhere("use uses::", "use repository_tests::uses::"),
+            // What allocates takes an allocator and returns a `Result`.
+            everywhere("::new(rt.alloc())", "::new()"),
+            everywhere("log.resize(", "repository_tests::runtime::resize(log, "),
+            everywhere("log.extend_from_slice(", "std::io::Write::write_all(log, "),
+            everywhere("log.push_str(", "repository_tests::runtime::push_str(log, "),
+            everywhere(
+                "Formatted(amount, format).to_string(alloc)",
+                "repository_tests::format_in!(\"{}\", Formatted(amount, format))",
+            ),
+            // In the package the errors are non-exhaustive.
+            everywhere("Some((\"group mark\", byte)), }", "Some((\"group mark\", byte)), _ => None, }"),
+            // Rust has this method since 1.87.
+            everywhere(".cast_signed()", " as i64"),
+        ]),
+        // For all crates, and for the examples in their documentation.
+        Of("").rules([
+            // rustc proves nothing, so it checks.
+            everywhere("prove!(", "assert!("),
+            // A function that is final for the prover.
+            everywhere("final fn", "fn"),
+            // In Rattle a type says that it can be dropped.
+            everywhere("#[derive(Drop)]\npub struct", "#[derive(Debug)]\npub struct"),
+            everywhere("#[derive(Drop)]", ""),
+            everywhere(", Drop)]", ")]"),
+            everywhere("+ Drop", ""),
+            // The formatter of Rattle has its writer as a parameter.
+            everywhere("<W: fmt::Write>", ""),
+            everywhere("fmt::Formatter<W>", "fmt::Formatter<'_>"),
+            // An assertion takes the runtime, and a vector its allocator.
+            everywhere("!(rt;", "!("),
+            everywhere("Vec::new(alloc)", "Vec::new()"),
+            everywhere(".to_string(alloc)?", ".to_string()"),
+        ]),
+        exports,
+    ]
+    .concat()
+}

@@ -2,30 +2,21 @@
 
 use crate::files::{self, without_layout};
 use crate::ghosts::add_signatures;
-use crate::packages::{SOURCES, Source, patterns_for_examples};
+use crate::packages::{SOURCES, Source};
 use crate::repository::Repository;
-use crate::tokens::Token;
-use crate::tokens::{lex, lex_part, print, words};
-use crate::{completed, counted, rules, without_ghosts};
-use std::collections::BTreeSet;
+use crate::tokens::{Token, lex, lex_part, print, words};
+use crate::{rules, tables, translated};
 use std::path::Path;
-
-/// Returns what is made of a file with these tokens.
-fn translated(tokens: Vec<Token>, file: &str, source: &Source, repository: &Repository) -> Result<String, String> {
-    let mut merged = BTreeSet::new();
-    let mut code = without_ghosts(tokens.clone(), source, repository, &mut merged)?;
-    counted::rename(&mut code, &merged);
-    completed(code, &tokens, file, source, repository)
-}
 
 /// Returns what is made of a file of `lexical_write_integer`, in which `in_range` and `fits_bits` are laws.
 fn made(text: &str) -> Result<String, String> {
     let source = SOURCES.iter().find(|source| source.name == "lexical_write_integer").unwrap();
     let mut repository = Repository { pages: "`group_digits`".to_owned(), ..Repository::default() };
     repository.laws.extend(["in_range", "fits_bits", "DECIMAL"].map(str::to_owned));
-    let tokens = rules::lex_and_apply(text, &mut source.patterns(), &mut patterns_for_examples(), "a.rt")?;
+    let place = [source.name, source.package, "a.rt"];
+    let tokens = rules::lex_and_apply(text, place, &mut source.paths(), &mut tables::rules())?;
     add_signatures(&tokens, &mut repository.signatures);
-    translated(tokens, "a.rt", source, &repository)
+    translated(&tokens, "a.rt", source, &repository)
 }
 
 #[track_caller]
@@ -56,8 +47,14 @@ fn body_is_refused(body: &str, error: &str) {
 /// Such an attribute was once left out by the words of the comment above it.
 #[test]
 fn a_reworded_comment_changes_only_the_comment() {
-    becomes("// It is cold.\n#[cold]\nfn write_binary() {}", "// It is cold.\n#[inline]\nfn write_binary() {}");
-    becomes("// Reworded.\n#[cold]\nfn write_binary() {}", "// Reworded.\n#[inline]\nfn write_binary() {}");
+    becomes(
+        "// It is cold.\n#[cold]\nfn write_more_than_ten() {}",
+        "// It is cold.\n#[inline]\nfn write_more_than_ten() {}",
+    );
+    becomes(
+        "// Reworded.\n#[cold]\nfn write_more_than_ten() {}",
+        "// Reworded.\n#[inline]\nfn write_more_than_ten() {}",
+    );
     becomes("// It is cold.\n#[cold]\nfn other() {}", "// It is cold.\n#[cold]\n#[inline]\nfn other() {}");
 }
 
@@ -78,7 +75,7 @@ fn a_function_keeps_its_result() {
 #[test]
 fn a_comment_goes_with_what_it_stands_at() {
     becomes("// Of all.\n\n// Of it.\nghost use a;\nstruct B; // b", "// Of all.\n\nstruct B; // b");
-    becomes("#[cold] // So it is not inlined.\nfn write_binary() {}", "#[inline] fn write_binary() {}");
+    becomes("#[cold] // So it is not inlined.\nfn write_more_than_ten() {}", "#[inline] fn write_more_than_ten() {}");
     becomes("// Of f.\n#[tactic(auto)]\nfn f() {}", "// Of f.\n#[inline]\nfn f() {}");
     becomes("// Of f.\nfinal fn f() {}", "// Of f.\n#[inline]\nfn f() {}");
 }
@@ -145,15 +142,15 @@ fn ghosts_are_left_out() {
 #[test]
 fn two_functions_become_one() {
     becomes(
-        "fn a(n: u8) { a_counted(n, &mut Turns::new()) } pub fn a_counted(n: u8, turns: &mut Turns) { n }",
-        "#[inline] fn a(n: u8) { n }",
+        "fn decimal(n: u8) { decimal_counted(n, &mut Turns::new()) } pub fn decimal_counted(n: u8, turns: &mut Turns) { n }",
+        "#[inline] fn decimal(n: u8) { n }",
     );
     becomes(
-        "trait A { fn a(self) { self.a_counted(&mut Turns::new()) } fn a_counted(self, turns: &mut Turns); }
-        impl A for u8 { fn a_counted(self, turns: &mut Turns) { self.b() } }",
-        "trait A { fn a(self); } impl A for u8 { #[inline] fn a(self) { self.b() } }",
+        "trait A { fn decimal(self) { self.decimal_counted(&mut Turns::new()) } fn decimal_counted(self, turns: &mut Turns); }
+        impl A for u8 { fn decimal_counted(self, turns: &mut Turns) { self.b() } }",
+        "trait A { fn decimal(self); } impl A for u8 { #[inline] fn decimal(self) { self.b() } }",
     );
-    is_refused("pub fn a_counted(n: u8) { n }", "1: a public function with a counter: a_counted");
+    is_refused("pub fn a_counted(n: u8) { n }", "1: no list has a_counted");
 }
 
 #[test]
@@ -210,30 +207,32 @@ fn top() -> &'static Path {
 
 #[test]
 fn a_rule_that_matches_nothing_or_too_much_is_refused() {
-    const GONE: &[Source] = &[Source { rules: &[rules::everywhere("gone", "")], ..SOURCES[1] }];
-    let error = Repository::read(top(), GONE).err().unwrap();
-    assert!(error.contains("lexical_tables: the rule for `gone`: it matches nothing"), "{error}");
-    const OFTEN: &[Source] = &[Source { rules: &[rules::once("u8", "")], ..SOURCES[1] }];
-    let error = Repository::read(top(), OFTEN).err().unwrap();
-    assert!(error.contains("lexical_tables: the rule for `u8`: it matches "), "{error}");
+    let error =
+        |rule| Repository::read(top(), &SOURCES[1..2], rules::Of("lexical_tables").rules([rule])).err().unwrap();
+    assert_eq!(error(rules::everywhere("gone", "")), "lexical_tables: the rule for `gone`: it matches nothing");
+    let often = error(rules::once("u8", ""));
+    assert!(often.starts_with("lexical_tables: the rule for `u8`: it matches "), "{often}");
     const OTHER: &[Source] = &[Source { constant: "digit_to_byte", ..SOURCES[1] }];
-    assert_eq!(Repository::read(top(), OTHER).err().unwrap(), "lexical_tables: it has no digit_to_byte");
+    let error = Repository::read(top(), OTHER, Vec::new()).err().unwrap();
+    assert_eq!(error, "lexical_tables: it has no digit_to_byte");
 }
 
 /// Here each comment and each layout of the crates is another one, and what is made of the code is the same.
 #[test]
 fn no_comment_and_no_layout_of_a_source_decides() {
-    let repository = Repository::read(top(), SOURCES).unwrap();
+    let repository = Repository::read(top(), SOURCES, tables::rules()).unwrap();
     for file in repository.files.iter().filter(|file| file.source.path_of_made(&file.name).is_some()) {
         let mut other = lex(&files::read(&top().join(&file.path)).unwrap()).unwrap();
         for (at, token) in other.iter_mut().enumerate() {
             token.before = if at % 5 == 0 { "\n// ghost requires { #[cold]\n" } else { "\n" }.to_owned();
             token.after.clear();
         }
-        let (mut patterns, mut for_examples) = (file.source.patterns(), patterns_for_examples());
-        let other = rules::lex_and_apply(&print(&other), &mut patterns, &mut for_examples, &file.name).unwrap();
-        let made =
-            |tokens| words(&lex_part(&translated(tokens, &file.name, file.source, &repository).unwrap()).unwrap());
-        assert_eq!(made(file.tokens.clone()), made(other), "{}", file.path.display());
+        let place = [file.source.name, file.source.package, &file.name];
+        let (mut paths, mut rules) = (file.source.paths(), tables::rules());
+        let other = rules::lex_and_apply(&print(&other), place, &mut paths, &mut rules).unwrap();
+        let made = |tokens: &[Token]| {
+            words(&lex_part(&translated(tokens, &file.name, file.source, &repository).unwrap()).unwrap())
+        };
+        assert_eq!(made(&file.tokens), made(&other), "{}", file.path.display());
     }
 }
