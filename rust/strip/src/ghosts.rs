@@ -1,21 +1,15 @@
-//! Leaves out ghosts, which are values of the types GHOSTS that only contracts read, and calls of laws. Parameters and
-//! fields are ghosts by their type, and variables by their value. An argument is one if it names one, and must be one by
-//! the parameters of the function that is called, too. A statement is left out if it makes a ghost or calls its method.
+//! Leaves out ghosts, which are values of the types GHOSTS that only contracts read. Parameters and fields are ghosts by
+//! their type, and variables by their value. An argument is one if it names one, and must be one by the parameters of
+//! the function that is called, too. First `statements` leaves out what only makes a ghost, or calls its method or a law.
 
-use crate::items::{after_generics, elements, functions, remove, remove_and_keep_comment, remove_element};
+use crate::items::{after_type_arguments, elements, functions, remove_element};
 use crate::left_out::Names;
-use crate::tokens::{Token, closing, find, opening, words};
+use crate::statements::without_statements;
+use crate::tokens::{Token, words};
 use std::collections::{BTreeMap, BTreeSet};
 
 /// The types whose values only contracts read.
 pub(crate) const GHOSTS: [&str; 3] = ["Turns", "Trace", "GhostLog"];
-
-/// The functions that the arguments of laws call. They change nothing, so they are left out with the call of the law.
-pub(crate) const WITHOUT_EFFECT: [&str; 6] =
-    ["as_bytes", "as_u64", "exponent_radix", "from", "from_radix", "mantissa_radix"];
-
-/// Words and punctuation of a statement that does more than a call.
-const EFFECTS: [&str; 10] = ["?", "!", "=", "=>", "return", "let", "if", "match", "for", "while"];
 
 /// The number of parameters and the ghosts among them, for each name of functions that have ghosts.
 pub(crate) type Signatures = BTreeMap<String, BTreeSet<(usize, Vec<usize>)>>;
@@ -42,14 +36,14 @@ pub(crate) fn is_of_ghost_type(element: &[Token]) -> bool {
 }
 
 /// The names of the ghosts in a function: its parameters and variables, and the fields of its file.
-struct Ghosts<'a> {
+pub(crate) struct Ghosts<'a> {
     variables: Names,
     fields: &'a Names,
 }
 
 impl Ghosts<'_> {
     /// Returns whether the name of a ghost is at an index: of a variable, or after `self.` of a field.
-    fn has(&self, tokens: &[Token], at: usize) -> bool {
+    pub fn has(&self, tokens: &[Token], at: usize) -> bool {
         let names = if at > 0 && tokens[at - 1] == "." { self.fields } else { &self.variables };
         let is_of_other = at > 1 && tokens[at - 1] == "." && tokens[at - 2] != "self";
         names.contains(&tokens[at].text) && !is_of_other
@@ -148,86 +142,4 @@ fn called(tokens: &[Token], open: usize) -> Option<&str> {
     }
     let is_call = tokens[open] == "(" && end > 1 && tokens[end - 1].is_word() && tokens[end - 2] != "fn";
     is_call.then(|| &*tokens[end - 1].text)
-}
-
-/// Returns the index after `::<..>`, if that is here.
-fn after_type_arguments(tokens: &[Token], at: usize) -> usize {
-    let is_here = tokens[at] == "::" && tokens[at + 1] == "<";
-    if is_here { after_generics(tokens, at + 1) } else { at }
-}
-
-/// Leaves out statements that call a law, record something in a ghost, or make a ghost.
-fn without_statements(tokens: &mut Vec<Token>, laws: &Names, ghosts: &Ghosts) -> Result<(), String> {
-    let mut at = 1;
-    while at + 3 < tokens.len() {
-        let is_ghost = ghosts.has(tokens, at);
-        let is_made = is_ghost && tokens[at + 1] == "=" && tokens[at - 1].is_in(&["let", "mut"]);
-        // The bracket before the arguments of a call.
-        let arguments = if is_ghost && tokens[at + 1] == "." && tokens[at + 2].is_word() {
-            Some(at + 3)
-        } else if laws.contains(&tokens[at].text) && tokens[at - 1] != "fn" {
-            Some(after_type_arguments(tokens, at + 1))
-        } else {
-            None
-        };
-        let arguments = arguments.filter(|arguments| tokens[*arguments] == "(");
-        if !is_made && arguments.is_none() {
-            at += 1;
-            continue;
-        }
-        let (start, end) = (statement(tokens, at), find(tokens, at, &[";"]));
-        let is_whole = tokens[end] == ";" && arguments.is_none_or(|open| only_calls(tokens, start, open, end));
-        if !is_whole {
-            let (line, name) = (tokens[at].line, &tokens[at].text);
-            return Err(format!("{line}: `{name}` is not called by a statement of its own"));
-        }
-        remove(tokens, start..end + 1);
-        without_rest(tokens, start)?;
-        at = 1;
-    }
-    Ok(())
-}
-
-/// Returns whether a statement is one call with these arguments, and does nothing else: neither what it is called of
-/// nor an argument has an effect.
-fn only_calls(tokens: &[Token], start: usize, arguments: usize, end: usize) -> bool {
-    let has_effect = |at: usize| {
-        let is_other_call = tokens[at].is_word() && tokens[at + 1] == "(" && at + 1 != arguments;
-        tokens[at].is_in(&EFFECTS) || is_other_call && !tokens[at].is_in(&WITHOUT_EFFECT)
-    };
-    closing(tokens, arguments) + 1 == end && tokens[start] != "." && !(start..end).any(has_effect)
-}
-
-/// Returns where the statement begins that a token is in.
-fn statement(tokens: &[Token], mut at: usize) -> usize {
-    while at > 0 && !tokens[at - 1].is_in(&["{", "}", ";"]) {
-        at = if tokens[at - 1].is_in(&[")", "]"]) { opening(tokens, at - 1) } else { at - 1 };
-    }
-    at
-}
-
-/// Leaves out what is left around a statement that was at an index. That is an `if` with nothing in it whose condition
-/// calls nothing. And in `let NAME = VALUE; NAME }`, where only the statement read the name, it leaves `VALUE }`.
-fn without_rest(tokens: &mut Vec<Token>, at: usize) -> Result<(), String> {
-    if tokens[at - 1] == "{" && tokens[at] == "}" {
-        let start = statement(tokens, at - 1);
-        let head = words(&tokens[start..at - 1]);
-        if head.starts_with("if ") && !head.contains('(') && tokens[at + 1] != "else" {
-            remove(tokens, start..at + 1);
-            return without_rest(tokens, start);
-        }
-        if !head.contains("fn ") {
-            return Err(format!("{}: nothing is left of this block", tokens[at].line));
-        }
-    }
-    if tokens[at - 1] == ";" && tokens[at].is_word() && tokens[at + 1] == "}" {
-        let binding = format!("let {} =", tokens[at].text);
-        let is_bound =
-            |let_: &usize| words(&tokens[*let_..*let_ + 3]) == binding && find(tokens, *let_, &[";"]) == at - 1;
-        if let Some(binding) = (0..at - 2).rev().find(is_bound) {
-            remove(tokens, at - 1..at + 1);
-            remove_and_keep_comment(tokens, binding..binding + 3);
-        }
-    }
-    Ok(())
 }

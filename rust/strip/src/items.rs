@@ -98,6 +98,12 @@ pub(crate) fn after_generics(tokens: &[Token], mut at: usize) -> usize {
     }
 }
 
+/// Returns the index after `::<..>`, if that is here.
+pub(crate) fn after_type_arguments(tokens: &[Token], at: usize) -> usize {
+    let is_here = tokens[at] == "::" && tokens[at + 1] == "<";
+    if is_here { after_generics(tokens, at + 1) } else { at }
+}
+
 /// Returns the index of the first token of the item whose word is at an index, after its attributes.
 pub(crate) fn start(tokens: &[Token], mut at: usize) -> usize {
     while at > 0 {

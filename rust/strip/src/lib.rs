@@ -5,8 +5,8 @@
 //! `items` finds functions and their parts, and `repository` reads all crates. These are the steps:
 //!
 //! 1. `rules` writes what `tables` lists otherwise, for example `prove!` as `assert!`.
-//! 2. `left_out` and `ghosts` leave out what only the prover reads: ghost items, laws, models, tactics, and counters
-//!    with all that passes them on. `counted` makes one function of two that then are the same.
+//! 2. `left_out`, `ghosts` and `statements` leave out what only the prover reads: ghost items, laws, models, tactics,
+//!    and counters with all that passes them on. `counted` makes one function of two that then are the same.
 //! 3. `additions` writes what a package needs and the crate does not say: `#[inline]`, `const` and `#[must_use]`. It
 //!    leaves out the contracts, after a check that the documentation says when a function panics.
 //! 4. `imports` leaves out imports of what is gone, and the last check refuses each word of Rattle that is left.
@@ -26,6 +26,7 @@ mod left_out;
 mod packages;
 mod repository;
 mod rules;
+mod statements;
 mod tables;
 mod tokens;
 

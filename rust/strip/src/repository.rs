@@ -1,11 +1,12 @@
 //! Reads the crates of the repository, and checks that each rule and each name of a list is for something in them.
 
 use crate::files::{files_of, read};
-use crate::ghosts::{Signatures, WITHOUT_EFFECT, add_signatures};
+use crate::ghosts::{Signatures, add_signatures};
 use crate::items::names;
 use crate::left_out::Names;
 use crate::packages::Source;
 use crate::rules::{Rule, lex_and_apply};
+use crate::statements::WITHOUT_EFFECT;
 use crate::tokens::Token;
 use std::path::{Path, PathBuf};
 
