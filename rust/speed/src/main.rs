@@ -78,8 +78,11 @@ fn show_progress(line: &str) {
     }
 }
 
+/// The columns of the times, as README.md says.
+const COLUMNS: &str = "| text | numbers | to | here, ns | std, ns | ratio |";
+
 fn print_times(count: usize) -> Result<(), String> {
-    println!("| text | numbers | to | here, ns | std, ns | ratio |\n|---|---|---|---|---|---|");
+    println!("{COLUMNS}\n|---|---|---|---|---|---|");
     for row in rows() {
         for (distribution, name) in DISTRIBUTIONS.iter().enumerate() {
             let numbers = numbers(distribution);
@@ -168,6 +171,11 @@ mod tests {
         assert!((990..1000).contains(&numbers(0).into_iter().max().unwrap()));
         assert!((1..64).all(|bits| lengths(1).any(|length| length == bits)) && lengths(2).min() > Some(48));
         assert_eq!([0, 1, 2].map(|distribution| numbers(distribution).len()), [COUNT; 3]);
+    }
+
+    #[test]
+    fn the_page_has_the_columns() {
+        assert!(include_str!("../README.md").contains(&format!("\n    {COLUMNS}\n")));
     }
 
     #[test]
