@@ -16,9 +16,9 @@ pub(crate) fn without_counted(tokens: &mut Vec<Token>, counted: &str) -> Result<
     for name in counted.split_whitespace() {
         make_one(tokens, name.trim_end_matches(ENDING));
     }
-    let is_other = |each: &Function| each.is_public(tokens) && tokens[each.at + 1].text.ends_with(ENDING);
+    let is_other = |each: &Function| each.is_public(tokens) && each.name(tokens).ends_with(ENDING);
     match functions(tokens).into_iter().find(is_other) {
-        Some(each) => Err(format!("{}: no list has {}", tokens[each.at].line, tokens[each.at + 1].text)),
+        Some(each) => Err(format!("{}: no list has {}", tokens[each.at].line, each.name(tokens))),
         None => Ok(()),
     }
 }
@@ -26,7 +26,7 @@ pub(crate) fn without_counted(tokens: &mut Vec<Token>, counted: &str) -> Result<
 /// If a function of this name only calls itself, gives it the body of the first other one of that name, which goes. If
 /// that is only declared in a trait, so is the function then.
 fn make_one(tokens: &mut Vec<Token>, name: &str) {
-    let named = functions(tokens).into_iter().filter(|each| tokens[each.at + 1] == name);
+    let named = functions(tokens).into_iter().filter(|each| each.name(tokens) == name);
     let (callers, others): (Vec<_>, Vec<_>) = named.partition(|each| only_calls_itself(tokens, each));
     let ([caller], [other, ..]) = (&*callers, &*others) else {
         return;
@@ -47,6 +47,6 @@ fn make_one(tokens: &mut Vec<Token>, name: &str) {
 fn only_calls_itself(tokens: &[Token], function: &Function) -> bool {
     let parameters = elements(tokens, function.parameters).into_iter().map(|range| &*tokens[range.start].text);
     let parameters: Vec<&str> = parameters.filter(|parameter| *parameter != "self").collect();
-    let call = format!("{} ( {} )", tokens[function.at + 1].text, parameters.join(" , ")).replace("  ", " ");
+    let call = format!("{} ( {} )", function.name(tokens), parameters.join(" , ")).replace("  ", " ");
     words(&tokens[function.inside(tokens)]).trim_start_matches("self . ") == call
 }

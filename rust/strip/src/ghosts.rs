@@ -22,7 +22,7 @@ pub(crate) fn add_signatures(tokens: &[Token], signatures: &mut Signatures) {
         let is_ghost = |at: &usize| is_of_ghost_type(&tokens[parameters[*at].clone()]);
         let ghosts: Vec<usize> = (0..parameters.len()).filter(is_ghost).collect();
         if !ghosts.is_empty() {
-            let name = tokens[function.at + 1].text.clone();
+            let name = function.name(tokens).to_owned();
             signatures.entry(name).or_default().insert((parameters.len(), ghosts));
         }
     }

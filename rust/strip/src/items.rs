@@ -20,6 +20,10 @@ pub(crate) struct Function {
 }
 
 impl Function {
+    pub fn name<'a>(&self, tokens: &'a [Token]) -> &'a str {
+        &tokens[self.at + 1].text
+    }
+
     /// Returns what is between the brackets of its body, or nothing at the `;`.
     pub fn inside(&self, tokens: &[Token]) -> Range<usize> {
         let end = closing(tokens, self.body);

@@ -2,7 +2,7 @@
 //! end it checks that nothing of Rattle is left.
 
 use crate::ghosts::{GHOSTS, is_of_ghost_type};
-use crate::items::{Function, elements, function, remove, remove_and_keep_comment, start_with_attributes};
+use crate::items::{Function, elements, function, functions, remove, remove_and_keep_comment, start_with_attributes};
 use crate::tokens::{Token, closing, find, words};
 use std::collections::BTreeSet;
 use std::ops::Range;
@@ -67,13 +67,18 @@ fn check_law(tokens: &[Token], law: &Function) -> Result<(), String> {
     let is_changed = |parameter: &[Token]| words(parameter).contains("& mut") && !is_of_ghost_type(parameter);
     let mut parameters = elements(tokens, law.parameters).into_iter();
     if law.has_result(tokens) || asserts || parameters.any(|parameter| is_changed(&tokens[parameter])) {
-        return Err(format!("{}: {} is no law", tokens[law.at].line, tokens[law.at + 1].text));
+        return Err(format!("{}: {} is no law", tokens[law.at].line, law.name(tokens)));
     }
     Ok(())
 }
 
-/// Returns an error if code has what only Rattle has.
+/// Returns an error if code has what only Rattle has, or a function that returns something has lost all of its body.
 pub(crate) fn check_rust(tokens: &[Token]) -> Result<(), String> {
+    let is_empty =
+        |each: &Function| each.has_result(tokens) && tokens[each.body] == "{" && each.inside(tokens).is_empty();
+    if let Some(function) = functions(tokens).iter().find(|each| is_empty(each)) {
+        return Err(format!("{}: {} returns nothing", tokens[function.at].line, function.name(tokens)));
+    }
     let is_literal = |text: &str| ["\"", "'", "b\"", "b'", "//"].iter().any(|start| text.starts_with(start));
     let is_unknown = |token: &&Token| token.is_in(&OF_RATTLE) || token.is_in(&GHOSTS) || !token.text.is_ascii();
     match tokens.iter().filter(|token| !is_literal(&token.text)).find(is_unknown) {
