@@ -71,14 +71,12 @@ pub(crate) fn without_ghosts(tokens: &mut Vec<Token>, laws: &Names, signatures: 
         let variables = declared_ghosts(&code).chain(new_ghosts(&code)).cloned().collect();
         let ghosts = Ghosts { variables, fields: &fields };
         without_statements(&mut code, laws, &ghosts)?;
-        without_elements(
-            &mut code,
-            |code, at| check_arguments(code, at, signatures, &ghosts),
-            |element| is_of_ghost_type(element) || ghosts.has_argument(element),
-        )?;
+        (0..code.len()).try_for_each(|at| check_arguments(&code, at, signatures, &ghosts))?;
+        without_elements(&mut code, |element| is_of_ghost_type(element) || ghosts.has_argument(element));
         tokens.splice(range.start..range.start, code);
     }
-    without_elements(tokens, |_, _| Ok(()), is_of_ghost_type)
+    without_elements(tokens, is_of_ghost_type);
+    Ok(())
 }
 
 /// Returns the names of parameters and fields that are ghosts.
@@ -94,16 +92,11 @@ fn new_ghosts(tokens: &[Token]) -> impl Iterator<Item = &String> {
     tokens.windows(5).filter(is_new).map(|part| &part[1].text)
 }
 
-/// Leaves out elements of all lists in brackets, each of which is checked before.
-fn without_elements(
-    tokens: &mut Vec<Token>,
-    check: impl Fn(&[Token], usize) -> Result<(), String>,
-    is_left_out: impl Fn(&[Token]) -> bool,
-) -> Result<(), String> {
+/// Leaves out elements of all lists in brackets.
+fn without_elements(tokens: &mut Vec<Token>, is_left_out: impl Fn(&[Token]) -> bool) {
     let mut at = 0;
     while at < tokens.len() {
         if tokens[at].is_in(&["(", "{"]) {
-            check(tokens, at)?;
             for element in elements(tokens, at).into_iter().rev() {
                 if is_left_out(&tokens[element.clone()]) {
                     remove_element(tokens, element);
@@ -112,10 +105,9 @@ fn without_elements(
         }
         at += 1;
     }
-    Ok(())
 }
 
-/// Returns an error unless a call has a ghost for each parameter that is one, and for no other.
+/// Returns an error unless a call, whose arguments begin with the bracket at an index, has a ghost for each parameter that is one, and for no other.
 fn check_arguments(tokens: &[Token], open: usize, signatures: &Signatures, ghosts: &Ghosts) -> Result<(), String> {
     let Some(name) = called(tokens, open) else {
         return Ok(());
