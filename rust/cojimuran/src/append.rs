@@ -41,8 +41,8 @@ pub trait Append: Part {
     ///
     /// # Panics
     ///
-    /// If the part is not valid, if the text in a `String` is not UTF-8, or if more than `isize::MAX` bytes would be
-    /// reserved. Then a `String` is unchanged, and a `Vec` may have zeros at its end. If there is not enough memory for
+    /// If the part is not valid, or if the text for a `String` is not UTF-8, or if more than `isize::MAX` bytes would be
+    /// reserved. A `String` is then unchanged, and a `Vec` may have zeros at its end. If there is not enough memory for
     /// fewer bytes, the process aborts, as it does for `Vec::push`.
     fn append_to<T: AppendTarget>(self, target: &mut T);
 }

@@ -21,12 +21,8 @@ use core::fmt::{self, Display, Write};
 /// The value is formatted once to write it, and once more each time that a call asks for its [`room`](Part::room) or its
 /// length, as `try_to_str` does. It must write the same text each time.
 ///
-/// This part is not proved: what it writes is what the `Display` of the value does.
-///
-/// # Panics
-///
-/// Calls that write this part or ask for its room panic if `Display` of the value returns an error, and, as with every
-/// part, if the buffer is too short.
+/// This part is not proved: what it writes is what the `Display` of the value does. A call that writes it or asks for its
+/// room panics if that `Display` returns an error, and, as with every part, if the buffer is too short.
 #[derive(Debug)]
 pub struct Displayed<'a, T: ?Sized>(pub &'a T);
 

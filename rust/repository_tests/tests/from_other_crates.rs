@@ -6,7 +6,8 @@ mod number_of_128_bits;
 
 use cojimuran::parts::{Digits, Fixed, Hex, Lower, Padded, Part, Right, ZeroPadded};
 use cojimuran::{
-    BUFFER_SIZE, Buffer, FormattedSize, NumberFormat, NumberFormatBuilder, Options, ToLexical, ToLexicalWithOptions,
+    Append, BUFFER_SIZE, Buffer, Displayed, FormattedSize, NumberFormat, NumberFormatBuilder, Options, ToLexical,
+    ToLexicalWithOptions,
 };
 use number_of_128_bits::{format_i128, format_u128};
 
@@ -60,10 +61,11 @@ fn text_of(value: impl ToLexical) -> String {
 
 #[test]
 fn from_format() {
-    let (number, a, b, cents) = (7u32, -1i64, 2i64, 1995u64);
+    let (number, a, b, cents, float) = (7u32, -1i64, 2i64, 1995u64, 0.5);
     let (mut text, mut buffer) = (String::new(), [0; 64]);
-    text.push_str((a, ",", b, "\n").to_str(&mut buffer));
-    assert_eq!(text, format!("{a},{b}\n"));
+    (a, ",", b, "\n").append_to(&mut text);
+    (Displayed(&format_args!("{float:.2}")), ",", b, "\n").append_to(&mut text);
+    assert_eq!(text, format!("{a},{b}\n{float:.2},{b}\n"));
     assert_eq!(Padded(number, 6).to_str(&mut buffer), format!("{number:06}"));
     assert_eq!(ZeroPadded(number, 6).to_str(&mut buffer), format!("{number:06}"));
     assert_eq!(ZeroPadded(a, 6).to_str(&mut buffer), format!("{a:06}"));
