@@ -54,6 +54,8 @@ pub mod EqualWidths
 pub mod TextsAtIndex
 -- where a text ends
 pub mod Ends
+-- parts of a buffer that a later write leaves as they are
+pub mod Kept
 -- numbers of units as the prover computes their texts
 pub mod FixedTexts
 -- numbers of units without their point, which std reads

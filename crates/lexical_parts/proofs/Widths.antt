@@ -21,6 +21,12 @@ hex_digits _ n is_16 fits = digit_count-le 16 n 4 (omega arith) fits
 hex_digits _ n is_32 fits = digit_count-le 16 n 8 (omega arith) fits
 hex_digits _ n is_64 fits = digit_count-le 16 n 16 (omega arith) fits
 
+pub fits_full_hex : (bits n : ℕ) → IsBitWidth bits → n < 2 ^ bits → n < 16 ^ (bits / 4)
+fits_full_hex _ n is_8 fits = fits
+fits_full_hex _ n is_16 fits = fits
+fits_full_hex _ n is_32 fits = fits
+fits_full_hex _ n is_64 fits = fits
+
 -- a number of at most this many digits is below that power of the radix
 pub fits_width : (r n width count : ℕ) → 2 ≤ r → count ≡ digit_count r n → count ≤ width → n < r ^ width
 fits_width r n width count two is few =

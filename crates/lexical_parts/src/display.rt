@@ -1,7 +1,7 @@
 //! Parts in a format string: `{}` of a part writes its text, with the sign, the width and the fill of the format. A
 //! part that is not valid is an error.
 
-ghost use Rattle.std.specs.Prelude.{◌≡◌, ◌↔◌, ◌<◌, ◌≤◌, ◌^◌, None, Some, ◌-◌, IfOk, IsOk, IsTrue, true, false, [], ◌∷◌, ◌++◌, drop};
+ghost use Rattle.std.specs.Prelude.{◌≡◌, ◌↔◌, ◌<◌, ◌≤◌, ◌/◌, ◌^◌, None, Some, ◌-◌, IfOk, IsOk, IsTrue, true, false, [], ◌∷◌, ◌++◌, drop};
 ghost use Rattle.std.specs.Prelude.{length, replicate, unsigned_abs, if◌then◌else◌};
 ghost use Rattle.std.specs.Fmt.{WritesOnOk, WritesStyledOnOk, formatter_spec, padded_integral, padding_before, sign_text_with};
 ghost use Rattle.std.specs.Int.{is_negative};
@@ -17,7 +17,7 @@ use crate::number::{Decimal, Digits, Formatted, formatted_room_suffices};
 use crate::padded::{MOST_DIGITS, Padded, PaddedDigits};
 use crate::part::Part;
 use crate::plus::Plus;
-use crate::powers_of_two::{Binary, Hex};
+use crate::powers_of_two::{Binary, FullHex, Hex};
 use crate::shown::write_fill;
 use crate::trimmed::TrimmedFixed;
 use lexical_num::limits::is_radix;
@@ -310,6 +310,17 @@ impl<T: DigitCount + Radix> fmt::Display for Padded<T> {
 
     fn fmt<W: fmt::Write>(&self, f: &mut fmt::Formatter<W>) -> fmt::Result {
         fmt::Display::fmt(&PaddedDigits(10, self.0, self.1), f)
+    }
+}
+
+impl<T: DigitCount + Radix> fmt::Display for FullHex<T> {
+    ghost output = { λ part. Some (padded_text 16 (T.BITS / 4) (T.magnitude part.0)) };
+
+    ghost styled_output = { λ part spec. Some (padded_integral spec false []
+        (padded_text 16 (T.BITS / 4) (T.magnitude part.0))) };
+
+    fn fmt<W: fmt::Write>(&self, f: &mut fmt::Formatter<W>) -> fmt::Result {
+        fmt::Display::fmt(&PaddedDigits(16, self.0, T::BITS / 4), f)
     }
 }
 

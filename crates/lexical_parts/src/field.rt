@@ -27,6 +27,9 @@ pub fn write_field<P: Part>(part: P, index: usize, count: usize, buffer: &mut [u
     ensures field { P.is_text part (slice_range buffer.new index (index + count)) }
     ensures before { take index buffer.new ≡ take index buffer.old }
     ensures after { drop (index + count) buffer.new ≡ drop (index + count) buffer.old }
+    ensures kept_before { (from to : ℕ) → to ≤ index → slice_range buffer.new from to ≡ slice_range buffer.old from to }
+    ensures kept_after { (from to : ℕ) → index + count ≤ from
+        → slice_range buffer.new from to ≡ slice_range buffer.old from to }
     ensures same_length { length buffer.new ≡ length buffer.old }
 {
     let end = part.write_at(index, buffer);

@@ -19,7 +19,7 @@
 //!
 //! The calls are the methods of [`Part`]. The other types here are parts, and so are the integer types.
 //!
-//! [`Decimal`], [`Formatted`], [`Plus`], [`Hex`], [`Binary`], [`Digits`], [`Padded`], [`PaddedDigits`], [`Fixed`],
+//! [`Decimal`], [`Formatted`], [`Plus`], [`Hex`], [`FullHex`], [`Binary`], [`Digits`], [`Padded`], [`PaddedDigits`], [`Fixed`],
 //! [`GroupedFixed`] and [`TrimmedFixed`] also have `Display`: `{}` of such a part writes its text, with the sign, the
 //! width and the fill as of an integer, and `#` and a precision do nothing. `{}` of a [`Shown`] writes a tuple or any
 //! other part as it does a `&str`, and so does that of [`Joined`], [`Left`], [`Right`], [`Center`], [`ZeroPadded`],
@@ -78,7 +78,7 @@ pub use padded::{Padded, PaddedDigits};
 pub use part::Part;
 pub use plus::Plus;
 pub use positions::{byte_starts_at, part_starts_at};
-pub use powers_of_two::{Binary, Hex, HexBytes};
+pub use powers_of_two::{Binary, FullHex, Hex, HexBytes};
 pub use reading::{fixed_read_back, zero_padded_read_back};
 pub use scientific::Scientific;
 pub use show::Show;

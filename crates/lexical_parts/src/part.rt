@@ -18,7 +18,7 @@ use std::str::{from_utf8, from_utf8_unchecked};
 /// text consists of the texts of its elements, in order: `(250, " g")` writes `250 g`.
 ///
 /// For a `String` write `string.as_str()`. A literal needs a type where the part takes unsigned numbers only:
-/// `Hex(255u8)` and `Digits(36, 1000u32)`, and not `Hex(255)`. One part alone needs no tuple: `(part,)` is none.
+/// `Hex(255u8)` and `Digits(36, 1000u32)`, and not `Hex(255)`. A tuple of one element, `(part,)`, is not a part.
 ///
 /// A part is *valid* if it meets the condition of its type: a radix is from 2 to 36, and a padded number
 /// fits in its width. A part that contains parts is valid if they are valid. A part without a condition is
@@ -121,9 +121,13 @@ pub trait Part: Copy {
         ensures text { Writes (IsExactly (take index buffer.old) then is_text self) buffer.old buffer.new result }
         ensures front { (IsExactly (take index buffer.old) then is_text self) (take result buffer.new) }
         ensures before { take index buffer.new ≡ take index buffer.old }
-        ensures there { is_text self (slice_range buffer.new index result) }
+        ensures field { is_text self (slice_range buffer.new index result) }
         ensures after { drop result buffer.new ≡ drop result buffer.old }
-        ensures some { index ≤ result }
+        ensures after_index { index ≤ result }
+        ensures kept_before { (from to : ℕ) → to ≤ index
+            → slice_range buffer.new from to ≡ slice_range buffer.old from to }
+        ensures kept_after { (from to : ℕ) → result ≤ from
+            → slice_range buffer.new from to ≡ slice_range buffer.old from to }
         ensures short { result ≤ index + room self }
         ensures utf8 { is_utf8 self → AreUtf8 (is_text self) }
         ensures same_length { length buffer.new ≡ length buffer.old }

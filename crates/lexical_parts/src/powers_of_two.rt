@@ -1,7 +1,7 @@
 //! Unsigned numbers in radix 16 and in radix 2, in the room of their type, and bytes in radix 16.
 #![tactic(auto, using(crate::proofs::Utf8Texts::kinds, crate::proofs::Lengths::lengths, crate::proofs::OnlyTexts::onlys))]
 
-ghost use Rattle.lexical_write_integer.specs.Computed.{digits_text};
+ghost use Rattle.lexical_write_integer.specs.Computed.{digits_text, padded_text};
 ghost use Rattle.lexical_parts.specs.HexBytes.{hex_bytes_text};
 ghost use Rattle.std.specs.Prelude.{◌+◌, ◌-◌, ◌*◌, ◌/◌, length, Some};
 ghost use Rattle.lexical_write_integer.specs.Padded.{IsPadded};
@@ -10,6 +10,7 @@ ghost use Rattle.lexical_write_integer.specs.Text.{IsDigits};
 
 use crate::joined::{separator_before, write_next};
 use crate::own::Own;
+use crate::padded::PaddedDigits;
 use crate::part::Part;
 use crate::show::{MOST_AT_ONCE, Show, write_at_once};
 use crate::text::str_is_utf8;
@@ -100,6 +101,49 @@ impl<T: Radix> Part for Binary<T> {
 
 impl<T: Radix> Show for Binary<T> {
     ghost text = { λ part. Some (digits_text 2 (T.magnitude part.0)) };
+
+    fn is_showable(self) -> bool {
+        self.0.fits_bits();
+        self.is_known_utf8(Own)
+    }
+}
+
+/// All digits of an unsigned number in radix 16, with leading zeros up to the width of its type, which is 2 for a `u8` and
+/// 16 for a `u64`: `FullHex(255u16)` writes `00FF`. So a literal needs a type.
+///
+/// ```
+/// use lexical_parts::{FullHex, Part};
+///
+/// assert_eq!(rt; FullHex(255u16).to_str(&mut [0; 64]), "00FF");
+/// ```
+#[derive(Clone, Copy, Debug, Drop)]
+pub struct FullHex<T>(pub T);
+
+impl<T: DigitCount + Radix> Part for FullHex<T> {
+    ghost is_text = { λ part. IsPadded 16 (T.BITS / 4) (T.magnitude part.0) };
+
+    ghost room = { λ _. T.BITS / 4 };
+
+    fn room(self) -> usize {
+        T::BITS / 4
+    }
+
+    fn write_to(self, buffer: &mut [u8]) -> usize {
+        self.0.fits_bits();
+        PaddedDigits(16, self.0, T::BITS / 4).write_to(buffer)
+    }
+
+    fn text_len(self) -> Option<usize> {
+        Some(T::BITS / 4)
+    }
+
+    fn is_known_utf8(self, _own: Own) -> bool {
+        true
+    }
+}
+
+impl<T: DigitCount + Radix> Show for FullHex<T> {
+    ghost text = { λ part. Some (padded_text 16 (T.BITS / 4) (T.magnitude part.0)) };
 
     fn is_showable(self) -> bool {
         self.0.fits_bits();

@@ -1,5 +1,5 @@
-//! Writes integers as text, in every radix from 2 to 36, into a buffer that you supply. No call allocates, except
-//! `append_to`. The sources are written in Rattle, a dialect of Rust with contracts, and are proved there:
+//! Writes integers as text, in every radix from 2 to 36, into a buffer that you supply. No call allocates by itself, but
+//! `append_to` and `write_pieces` grow the target that you pass. The sources are written in Rattle, a dialect of Rust with contracts, and are proved there:
 //! [when its conditions hold](#conditions), a call writes exactly the right bytes and does not panic. A program makes this
 //! Rust code from them, and the Rust code is tested. [`Displayed`] and what needs the feature `alloc` are written by hand
 //! and tested.
@@ -21,21 +21,24 @@
 //! - [`Digits`] is an unsigned number in a radix, [`Hex`] one in radix 16, [`Fixed`] an amount such as `-19.95`,
 //!   [`Joined`] a slice with a separator between its elements, and [`Decimal`] a number in generic code. [`parts`] has
 //!   all others: groups of digits, fixed widths, columns, bytes in hexadecimal, absent values (`Option`).
+//! - [`Show`] is a part that a format string can have: `{}` of [`Shown(part)`](Shown) writes its text. Its method
+//!   [`write_pieces`](Show::write_pieces) writes the text to a `String` or any other `fmt::Write`.
 //! - [`Displayed`] is any value with `Display`, such as a float, as a part: `("t=", Displayed(&1.5))`.
 //! - [`ToLexical`] writes one number in decimal and returns bytes. [`ToLexicalWithOptions`] does so in a
 //!   [`NumberFormat`], which has a radix, a required `+` and groups of digits.
 //! - `Append`, with the feature `alloc`, writes a part to the end of a `String` or a `Vec<u8>`:
 //!   `(7u8, " apples").append_to(&mut string)`. With this feature, references to a `String` are parts too.
 //!
-//! The other modules and the items that are not in this list mirror the Rust crate `lexical-write-integer`, so that a
-//! program can move from that crate: options, which have no effect, the writers of digits without a sign, and their
-//! tables. New programs do not need them.
+//! Most programs need nothing else. [`padded::write_padded`] fills a buffer with a number, [`group_digits`] and
+//! [`write_sign`] are for writers of your own, and [`compact::Compact`] is for little code. The other modules and items
+//! mirror the Rust crate `lexical-write-integer`, so that a program can move from that crate: options, which have no
+//! effect, the writers of digits without a sign, and their tables.
 //!
 //! # A `String`, a `Vec`, a format string
 //!
 //! ```
-//! use cojimuran::parts::{Padded, Show, Shown};
-//! use cojimuran::{Buffer, Digits, Hex, Part};
+//! use cojimuran::parts::Padded;
+//! use cojimuran::{Buffer, Digits, Hex, Part, Show, Shown};
 //!
 //! // The end of a `String`, or of any other `fmt::Write`. With the feature `alloc`, `append_to` does this too.
 //! let mut path = String::from("/l/");
@@ -125,7 +128,7 @@ pub use num::{
     UnsignedInteger,
 };
 #[doc(inline)]
-pub use parts::{Buffer, Decimal, Digits, Fixed, Hex, Joined, Part};
+pub use parts::{Buffer, Decimal, Digits, Fixed, Hex, Joined, Part, Show, Shown};
 pub use write_integer::{ToLexical, ToLexicalWithOptions, group_digits, sign_len, write_sign};
 
 #[doc(hidden)]

@@ -21,7 +21,7 @@
 //!
 //! The calls are the methods of [`Part`]. The other types here are parts, and so are the integer types.
 //!
-//! [`Decimal`], [`Formatted`], [`Plus`], [`Hex`], [`Binary`], [`Digits`], [`Padded`], [`PaddedDigits`], [`Fixed`],
+//! [`Decimal`], [`Formatted`], [`Plus`], [`Hex`], [`FullHex`], [`Binary`], [`Digits`], [`Padded`], [`PaddedDigits`], [`Fixed`],
 //! [`GroupedFixed`] and [`TrimmedFixed`] also have `Display`: `{}` of such a part writes its text, with the sign, the
 //! width and the fill as of an integer, and `#` and a precision do nothing. `{}` of a [`Shown`] writes a tuple or any
 //! other part as it does a `&str`, and so does that of [`Joined`], [`Left`], [`Right`], [`Center`], [`ZeroPadded`],
@@ -69,7 +69,7 @@ pub use option::OrElse;
 pub use padded::{Padded, PaddedDigits};
 pub use part::Part;
 pub use plus::Plus;
-pub use powers_of_two::{Binary, Hex, HexBytes};
+pub use powers_of_two::{Binary, FullHex, Hex, HexBytes};
 pub use scientific::Scientific;
 pub use show::Show;
 pub use shown::Shown;

@@ -39,6 +39,7 @@ macro_rules! each_part {
             Digits(v.few as u32 % 40, v.bits as u8) => 8, "11111111", few = 2;
             Digits(v.width as u32, v.bits) => 1, "0", width = 36, bits = 0;
             Hex(v.bits as u32) => 8, "FFFFFFFF";
+            FullHex(v.bits as u16) => 4, "00FF", bits = 255;
             Binary(v.bits as u8) => 8, "11111111";
             Padded(v.bits as u8, v.width / 16) => 3, "007", bits = 7, width = 48;
             Padded(v.bits, v.width) => 20, "18446744073709551615", width = 20;

@@ -51,6 +51,10 @@ macro_rules! check_digits {
     ($($number:ty),+) => { $(
         for number in [<$number>::MIN, <$number>::MAX, 1, 10, <$number>::MAX / 3] {
             check_options!(Hex(number), number, "X": "" "<" "^" "*>" "+" "0" "+0");
+            for w in [0, 3, 20, 40] {
+                let (part, text) = (FullHex(number), format!("{number:0width$X}", width = <$number>::BITS as usize / 4));
+                assert_eq!(format!("{part}|{part:w$}|{part:*^w$}"), format!("{text}|{text:>w$}|{text:*^w$}"));
+            }
             check_options!(Binary(number), number, "b": "" "<" "^" "*>" "+" "0" "+0");
             check_options!(Digits(16, number), number, "X": "" "<" "^" "*>" "+" "0" "+0");
             check_options!(Digits(8, number), number, "o": "" "<" "^" "*>" "+" "0" "+0");

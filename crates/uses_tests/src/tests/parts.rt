@@ -2,7 +2,7 @@
 
 use super::{check, check_buffer, check_part, check_room, check_str};
 use lexical_parts::{
-    Binary, Center, Decimal, Fixed, Formatted, GroupedFixed, Hex, Left, Lower, OrElse,
+    Binary, Center, Decimal, Fixed, Formatted, FullHex, GroupedFixed, Hex, Left, Lower, OrElse,
     PaddedDigits, Part, Plus, Right, Sign, TrimmedFixed, ZeroPadded,
 };
 use lexical_write_integer::format::STANDARD;
@@ -38,6 +38,9 @@ fn numbers_with_the_room_of_their_type(rt: HostRuntime) {
     check_part(&rt, (Lower(Hex(0xC0DEu32)), Binary(5u8)), b"c0de101");
     check_part(&rt, Hex(u64::MAX), b"FFFFFFFFFFFFFFFF");
     check_room(&rt, Hex(1u8), 2);
+    check_part(&rt, (FullHex(255u16), FullHex(0u8)), b"00FF00");
+    check_part(&rt, FullHex(u64::MAX), b"FFFFFFFFFFFFFFFF");
+    check_room(&rt, FullHex(1u32), 8);
     check_room(&rt, Hex(1u64), 16);
     check_room(&rt, Binary(1u8), 8);
     check_room(&rt, Binary(1u64), 64);

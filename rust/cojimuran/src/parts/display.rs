@@ -10,7 +10,7 @@ use crate::parts::number::{Decimal, Digits, Formatted};
 use crate::parts::padded::{MOST_DIGITS, Padded, PaddedDigits};
 use crate::parts::part::Part;
 use crate::parts::plus::Plus;
-use crate::parts::powers_of_two::{Binary, Hex};
+use crate::parts::powers_of_two::{Binary, FullHex, Hex};
 use crate::parts::shown::write_fill;
 use crate::parts::trimmed::TrimmedFixed;
 use crate::write_integer::digit_count::DigitCount;
@@ -230,6 +230,13 @@ impl<T: DigitCount + Radix> fmt::Display for Padded<T> {
     #[inline]
     fn fmt(&self, f: &mut fmt::Formatter<'_>) -> fmt::Result {
         fmt::Display::fmt(&PaddedDigits(10, self.0, self.1), f)
+    }
+}
+
+impl<T: DigitCount + Radix> fmt::Display for FullHex<T> {
+    #[inline]
+    fn fmt(&self, f: &mut fmt::Formatter<'_>) -> fmt::Result {
+        fmt::Display::fmt(&PaddedDigits(16, self.0, T::BITS / 4), f)
     }
 }
 

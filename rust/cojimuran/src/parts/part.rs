@@ -10,7 +10,7 @@ use core::str::{from_utf8, from_utf8_unchecked};
 /// text consists of the texts of its elements, in order: `(250, " g")` writes `250 g`.
 ///
 /// For a `String` write `string.as_str()`. A literal needs a type where the part takes unsigned numbers only:
-/// `Hex(255u8)` and `Digits(36, 1000u32)`, and not `Hex(255)`. One part alone needs no tuple: `(part,)` is none.
+/// `Hex(255u8)` and `Digits(36, 1000u32)`, and not `Hex(255)`. A tuple of one element, `(part,)`, is not a part.
 ///
 /// A part is *valid* if it meets the condition of its type: a radix is from 2 to 36, and a padded number
 /// fits in its width. A part that contains parts is valid if they are valid. A part without a condition is

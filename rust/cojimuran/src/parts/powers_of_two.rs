@@ -4,6 +4,7 @@
 
 use crate::parts::joined::{separator_before, write_next};
 use crate::parts::own::Own;
+use crate::parts::padded::PaddedDigits;
 use crate::parts::part::Part;
 use crate::parts::show::{MOST_AT_ONCE, Show, write_at_once};
 use crate::tables::get_table;
@@ -92,6 +93,50 @@ impl<T: Radix> Part for Binary<T> {
 }
 
 impl<T: Radix> Show for Binary<T> {
+    #[inline(always)]
+    #[track_caller]
+    fn is_showable(self) -> bool {
+        self.is_known_utf8(Own)
+    }
+}
+
+/// All digits of an unsigned number in radix 16, with leading zeros up to the width of its type, which is 2 for a `u8` and
+/// 16 for a `u64`: `FullHex(255u16)` writes `00FF`. So a literal needs a type.
+///
+/// ```
+/// use cojimuran::parts::{FullHex, Part};
+///
+/// assert_eq!(FullHex(255u16).to_str(&mut [0; 64]), "00FF");
+/// ```
+#[derive(Clone, Copy, PartialEq, Eq, Hash, Debug)]
+pub struct FullHex<T>(pub T);
+
+impl<T: DigitCount + Radix> Part for FullHex<T> {
+    #[inline(always)]
+    #[track_caller]
+    fn room(self) -> usize {
+        T::BITS / 4
+    }
+
+    #[inline(always)]
+    #[track_caller]
+    fn write_to(self, buffer: &mut [u8]) -> usize {
+        PaddedDigits(16, self.0, T::BITS / 4).write_to(buffer)
+    }
+
+    #[inline(always)]
+    #[track_caller]
+    fn text_len(self) -> Option<usize> {
+        Some(T::BITS / 4)
+    }
+
+    #[inline(always)]
+    fn is_known_utf8(self, _own: Own) -> bool {
+        true
+    }
+}
+
+impl<T: DigitCount + Radix> Show for FullHex<T> {
     #[inline(always)]
     #[track_caller]
     fn is_showable(self) -> bool {
