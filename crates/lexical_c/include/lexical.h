@@ -116,56 +116,11 @@
     LEXICAL_HAS((nothrow, pure, nonnull(n), warn_unused_result))               \
     LEXICAL_ACCESS((read_only, n))
 
-/* The radix of LEXICAL_RADIX as a field: the number if it is from 2 to 36, and otherwise 0. */
-#if defined(__cplusplus)
-extern "C++" {
-#if __cplusplus >= 201103L
-constexpr
-#endif
-inline uint32_t
-lexical_private_radix(uint64_t number) LEXICAL_NOEXCEPT
-{
-    return number < 2 || number > 36 ? 0 : static_cast<uint32_t>(number);
-}
-}
-#define LEXICAL_PRIVATE_CHECKED_RADIX(number) lexical_private_radix(static_cast<uint64_t>(number))
-#if defined(__GNUC__) && __cplusplus >= 201103L
-/* A constant that is no radix is refused by an array of a negative size. */
-#define LEXICAL_PRIVATE_RADIX(number)                                          \
-    (__extension__ sizeof(                                                     \
-         char[__builtin_constant_p(number) && LEXICAL_PRIVATE_CHECKED_RADIX(number) == 0 ? -1 : 1]) \
-         ? LEXICAL_PRIVATE_CHECKED_RADIX(number) : 0)
+/* The default of a field of a format, so that g++ does not warn of fields that you do not name. */
+#if defined(__cplusplus) && __cplusplus >= 201402L
+#define LEXICAL_DEFAULT(value) = value
 #else
-#define LEXICAL_PRIVATE_RADIX(number) LEXICAL_PRIVATE_CHECKED_RADIX(number)
-#endif
-#elif defined(__GNUC__) || (defined(__STDC_VERSION__) && __STDC_VERSION__ >= 201112L)
-#if defined(__GNUC__)
-#define LEXICAL_PRIVATE_EXTENSION __extension__
-static __inline__ uint32_t
-#else
-#define LEXICAL_PRIVATE_EXTENSION
-static inline uint32_t
-#endif
-lexical_private_radix(uint64_t number)
-{
-    return number < 2 || number > 36 ? 0 : (uint32_t)number;
-}
-/*
- * Yields the first value for an integer constant expression, as the standard of C defines it, and otherwise the second.
- * Only 0 times a constant expression is a null pointer constant, and so the type of the conditional is that of its
- * other pointer. The result does not depend on what a compiler optimizes. The number is not evaluated.
- */
-#define LEXICAL_PRIVATE_IF_CONSTANT(number, value, other)                      \
-    _Generic(1 ? (void *)((intptr_t)(number) * 0) : (int *)0, int *: (value), default: (other))
-/* A constant that is no radix is refused by an array of a negative size. A variable is evaluated once. */
-#define LEXICAL_PRIVATE_RADIX(number)                                          \
-    (LEXICAL_PRIVATE_EXTENSION LEXICAL_PRIVATE_IF_CONSTANT(                    \
-        number,                                                                \
-        sizeof(char[LEXICAL_PRIVATE_IF_CONSTANT(number, (number) < 2 || (number) > 36, 0) ? -1 : 1]) \
-            ? (uint32_t)(number) : 0,                                          \
-        lexical_private_radix((uint64_t)(number))))
-#else
-#define LEXICAL_PRIVATE_RADIX(number) ((number) < 2 || (number) > 36 ? 0 : (uint32_t)(number))
+#define LEXICAL_DEFAULT(value)
 #endif
 
 #ifdef __cplusplus
@@ -255,11 +210,6 @@ size_t lexical_decimal_i64(int64_t value, char *buffer, size_t length) LEXICAL_N
  * set a format to zeros by memset: write `format = {}`. A union with a format as a
  * member needs a constructor.
  */
-#if defined(__cplusplus) && __cplusplus >= 201402L
-#define LEXICAL_DEFAULT(value) = value /* so that g++ does not warn of fields that are not named */
-#else
-#define LEXICAL_DEFAULT(value)
-#endif
 struct lexical_format {
     uint32_t radix;         /* from 2 to 36 */
     uint32_t required_sign LEXICAL_DEFAULT(0); /* 0 for no '+', and any other number for a '+' */
@@ -573,6 +523,60 @@ inline size_t lexical_length(T value, const lexical_format &format) LEXICAL_NOEX
     LEXICAL_PRIVATE_FOR_TYPE(lexical_write, value)(value, __VA_ARGS__)
 #define lexical_length(value, ...)                                             \
     LEXICAL_PRIVATE_FOR_TYPE(lexical_length, value)(value, __VA_ARGS__)
+#endif
+
+/* ---- how LEXICAL_RADIX checks a radix ------------------------------------------ */
+
+/* The value of the field radix: the number, or 0 if it is not from 2 to 36. */
+#if defined(__cplusplus)
+extern "C++" {
+#if __cplusplus >= 201103L
+constexpr
+#endif
+inline uint32_t
+lexical_private_radix(uint64_t number) LEXICAL_NOEXCEPT
+{
+    return number < 2 || number > 36 ? 0 : static_cast<uint32_t>(number);
+}
+}
+#define LEXICAL_PRIVATE_CHECKED_RADIX(number) lexical_private_radix(static_cast<uint64_t>(number))
+#if defined(__GNUC__) && __cplusplus >= 201103L
+/* A constant that is no radix is refused by an array of a negative size. */
+#define LEXICAL_PRIVATE_RADIX(number)                                          \
+    (__extension__ sizeof(                                                     \
+         char[__builtin_constant_p(number) && LEXICAL_PRIVATE_CHECKED_RADIX(number) == 0 ? -1 : 1]) \
+         ? LEXICAL_PRIVATE_CHECKED_RADIX(number) : 0)
+#else
+#define LEXICAL_PRIVATE_RADIX(number) LEXICAL_PRIVATE_CHECKED_RADIX(number)
+#endif
+#elif defined(__GNUC__) || (defined(__STDC_VERSION__) && __STDC_VERSION__ >= 201112L)
+#if defined(__GNUC__)
+#define LEXICAL_PRIVATE_EXTENSION __extension__
+static __inline__ uint32_t
+#else
+#define LEXICAL_PRIVATE_EXTENSION
+static inline uint32_t
+#endif
+lexical_private_radix(uint64_t number)
+{
+    return number < 2 || number > 36 ? 0 : (uint32_t)number;
+}
+/*
+ * Yields the first value if the number is an integer constant expression, and otherwise the second. 0 times such an
+ * expression is a null pointer constant, so ?: has the type int *. Otherwise it has the type void *. The result does
+ * not depend on what a compiler optimizes. The number is not evaluated.
+ */
+#define LEXICAL_PRIVATE_IF_CONSTANT(number, value, other)                      \
+    _Generic(1 ? (void *)((intptr_t)(number) * 0) : (int *)0, int *: (value), default: (other))
+/* A constant that is no radix is refused by an array of a negative size. A variable is evaluated once. */
+#define LEXICAL_PRIVATE_RADIX(number)                                          \
+    (LEXICAL_PRIVATE_EXTENSION LEXICAL_PRIVATE_IF_CONSTANT(                    \
+        number,                                                                \
+        sizeof(char[LEXICAL_PRIVATE_IF_CONSTANT(number, (number) < 2 || (number) > 36, 0) ? -1 : 1]) \
+            ? (uint32_t)(number) : 0,                                          \
+        lexical_private_radix((uint64_t)(number))))
+#else
+#define LEXICAL_PRIVATE_RADIX(number) ((number) < 2 || (number) > 36 ? 0 : (uint32_t)(number))
 #endif
 
 #undef LEXICAL_HAS
