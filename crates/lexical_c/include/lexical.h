@@ -2,20 +2,20 @@
 /*
  * lexical.h: converts integers to text, in every radix from 2 to 36.
  *
- * Examples. These lines write 48879 to the buffer and set the count to 5:
+ * Examples. These lines write 48879 in decimal, and count becomes 5:
  *
  *     char buffer[LEXICAL_BUFFER_SIZE];
  *     size_t count = lexical_decimal_u32(48879, buffer, sizeof buffer);
  *
- * These write BEEF and set it to 4:
+ * These write it in hexadecimal, which is BEEF, and count becomes 4:
  *
  *     const struct lexical_format hexadecimal = LEXICAL_RADIX(16);
  *     count = lexical_write_u32(48879, &hexadecimal, buffer, sizeof buffer);
  *
- * These make the string "-42", which ends with a NUL:
+ * These make the NUL-terminated string "-42":
  *
  *     char text[LEXICAL_BUFFER_SIZE_DECIMAL_I32 + 1];
- *     size_t count = lexical_decimal_i32(-42, text, sizeof text);
+ *     count = lexical_decimal_i32(-42, text, sizeof text);
  *     lexical_terminate(count, text, sizeof text);
  *
  * These write 0000BEEF, with zeros up to 8 bytes:
@@ -23,8 +23,8 @@
  *     count = lexical_write_u32(48879, &hexadecimal, buffer, sizeof buffer);
  *     count = lexical_pad(count, 8, buffer, sizeof buffer);
  *
- * These write 0xBEEF, and set the count to 6, or to 0 if the number does not fit. Use
- * them only for unsigned types, because a '-' would come after the prefix:
+ * These write 0xBEEF, and count becomes 6, or 0 if the number does not fit. Use them
+ * only for unsigned types, because a '-' would come after the prefix:
  *
  *     memcpy(buffer, "0x", 2);
  *     count = lexical_write_u32(48879, &hexadecimal, buffer + 2, sizeof buffer - 2);
@@ -33,40 +33,45 @@
  * Text. A negative number begins with '-'. Another number begins with '+' if the
  * format requires a sign, and otherwise with its first digit. The digits are '0' to
  * '9' and 'A' to 'Z', or 'a' to 'z' if the format requests lowercase. The most
- * significant digit is the first one, and there are no leading zeros, but lexical_pad
- * inserts them. If the format has groups, a separator (its mark) is written between
- * groups of digits.
+ * significant digit is the first one. There are no leading zeros, but lexical_pad can
+ * add them. If the format has groups, a separator (its mark) is written between groups
+ * of digits.
  *
- * Format. `format` points to a struct lexical_format, which a call only reads. The
- * pointer must not be NULL. The fields may have any values, because a call returns 0
- * for an invalid format.
+ * Format. `format` points to a struct lexical_format. A call only reads it. The pointer
+ * must not be NULL. The fields may have any values, because every function that returns
+ * a size returns 0 for an invalid format.
  *
  * Buffer. `buffer` points to `length` bytes that the call may write. The length must be
  * at most PTRDIFF_MAX, which no object exceeds. The pointer may be NULL if the length
- * is 0. The bytes may be uninitialized. They must not overlap the format, and no other
- * thread may use them during the call. The call writes nothing outside the buffer, and
- * keeps no pointer to it. Bytes after the text keep their values.
+ * is 0. The bytes may be uninitialized, except the text that you pass to lexical_pad.
+ * They must not overlap the format, and no other thread may use them during the call.
+ * The call writes nothing outside the buffer, and keeps no pointer to it. Bytes after
+ * the text keep their values.
  *
  * Size of the buffer. LEXICAL_BUFFER_SIZE bytes are enough for every number of every
  * type in every format.
  *
  * Return value. A call that writes returns the length of the text in the buffer. This
- * length does not count a NUL. It is never 0, because every text has a digit.
+ * length does not count a NUL. A text has at least one digit, so 0 always means an
+ * error.
  *
- * Errors. If the text does not fit the buffer or the format is invalid, a call returns
- * 0 and leaves the buffer unchanged. Only lexical_terminate then writes an empty
- * string. To learn which of the two it was, call lexical_check_format. If it returns 0,
- * the format is valid, so the buffer was too short. Otherwise it returns a number that
- * names the first invalid field. No call changes errno.
+ * Errors. If the text does not fit the buffer or the format is invalid, a call that
+ * returns a size returns 0. The buffer is then unchanged, but lexical_terminate makes
+ * it an empty string. To learn which of the two errors it was, call
+ * lexical_check_format. If it returns 0, the format is valid, so the buffer was too
+ * short. Otherwise it returns a number that names the first invalid field. No call
+ * changes errno.
  *
- * Speed. lexical_decimal is the fastest call. lexical_write is fastest if the format
- * has no groups, no required sign and uppercase digits. If the buffer is shorter than
- * the size of the type (a constant below), a call may write the text to an array first
- * and then copy it. With LEXICAL_BUFFER_SIZE bytes it never copies.
+ * Speed. lexical_decimal is about as fast as lexical_write in radix 10, and a program
+ * that calls only lexical_decimal is smaller if you link it with -Wl,--gc-sections.
+ * lexical_write is fastest if the format has no groups, no required sign and uppercase
+ * digits. If the buffer is shorter than the constant for the type, such as
+ * LEXICAL_BUFFER_SIZE_U32, a call may write the text to an array first and then copy
+ * it. With LEXICAL_BUFFER_SIZE bytes it never copies.
  *
- * Proof. The sources of the library are proved for all arguments that meet the
- * conditions above under "Format" and "Buffer". One file, which turns C pointers into
- * slices, is written by hand. That file and the compiled library are tested, not
+ * Proof. It is proved that the sources write the right text for all arguments that meet
+ * the conditions above under "Format" and "Buffer". One file, which turns C pointers
+ * into slices, is written by hand. That file and the compiled library are tested, not
  * proved.
  *
  * Threads and signals. The functions have no state and allocate nothing, so you can
@@ -142,8 +147,8 @@ extern "C" {
 
 /*
  * lexical_version: returns the version of the library, as a number of the form of
- * LEXICAL_VERSION. A program that was compiled with this header runs, whichever of its
- * functions it calls, with a library for which
+ * LEXICAL_VERSION. A program that was compiled with this header runs with any library
+ * for which
  *
  *     lexical_version() / 1000000 == LEXICAL_VERSION_MAJOR
  *         && lexical_version() >= LEXICAL_VERSION
@@ -170,8 +175,9 @@ LEXICAL_HAS((nothrow, const)) uint32_t lexical_version(void) LEXICAL_NOEXCEPT;
  *     buffer  where the text begins
  *     length  the size of the buffer in bytes
  *
- * Returns the length of the text, or 0 if the text does not fit the buffer. Then the
- * buffer is unchanged. lexical_write_T writes the same text in the standard format.
+ * Returns the length of the text, or 0 if the text does not fit the buffer. If it
+ * returns 0, the buffer is unchanged. lexical_write_T writes the same text with
+ * &lexical_standard_format.
  */
 LEXICAL_WRITES_DECIMAL
 size_t lexical_decimal_u8(uint8_t value, char *buffer, size_t length) LEXICAL_NOEXCEPT;
@@ -206,9 +212,9 @@ size_t lexical_decimal_i64(int64_t value, char *buffer, size_t length) LEXICAL_N
  * have 32 bits, so a radix, a group size or a mark above 255 is not truncated to
  * a byte but is invalid.
  *
- * In C++14 and later each field after the radix is 0 by default. So g++ warns if you
- * set a format to zeros by memset: write `format = {}`. A union with a format as a
- * member needs a constructor.
+ * In C++14 and later each field after the radix has a default value, which is 0, so the
+ * struct is not trivial. g++ therefore warns if you set a format to zeros by memset, so
+ * write `format = {}`. A union that has a format as a member needs a constructor.
  */
 struct lexical_format {
     uint32_t radix;         /* from 2 to 36 */
@@ -226,17 +232,17 @@ struct lexical_format {
  * The format of a radix, as an initializer: with no '+' and no groups, in uppercase.
  * The radix may have any integer type. A number that is not from 2 to 36 becomes 0,
  * so the format is not valid, and lexical_check_format reports it. With gcc and clang a
- * constant expression that is not from 2 to 36 does not compile, and in C11 with other
- * compilers too. The radix is evaluated once, except before C11 with compilers other
- * than gcc and clang.
+ * constant expression that is not from 2 to 36 does not compile, except in C++98. In
+ * C11 and later, other compilers refuse it too. The radix is evaluated once, except in C
+ * before C11 with compilers other than gcc and clang.
  */
 #define LEXICAL_RADIX(radix) { LEXICAL_PRIVATE_RADIX(radix), 0, 0, 0, 0, { 0, 0 } }
 
 /*
  * The standard format, as an initializer and as an object: decimal, with no '+'
- * and no groups. A program has one such object, and each shared library has one of its
- * own, which it does not export. With compilers other than gcc and clang, each file in
- * C or in C++ before C++17 has one of its own.
+ * and no groups. The object is hidden: each program and each shared library has its own
+ * copy. With compilers other than gcc and clang, each file in C, or in C++ before C++17,
+ * has its own copy.
  */
 #define LEXICAL_STANDARD_FORMAT { 10, 0, 0, 0, 0, { 0, 0 } }
 #if defined(__cplusplus) && __cplusplus >= 201703L
@@ -346,12 +352,12 @@ size_t lexical_length_i64(int64_t value,
  * lexical_write_T: writes a number in a format.
  *
  *     value   the number; for a ptrdiff_t use lexical_write_i64
- *     format  the radix and how else the number is written
+ *     format  how the number is written
  *     buffer  where the text begins
  *     length  the size of the buffer in bytes
  *
  * Returns the length of the text, or 0 if the format is invalid or the text does not
- * fit the buffer. Then the buffer is unchanged.
+ * fit the buffer. If it returns 0, the buffer is unchanged.
  */
 LEXICAL_WRITES
 size_t lexical_write_u8(uint8_t value, const struct lexical_format *format,
@@ -391,10 +397,17 @@ size_t lexical_write_i64(int64_t value, const struct lexical_format *format,
  *     buffer  where the text begins
  *     length  the size of the buffer in bytes
  *
- * Returns the length of the text, which is the greater of the count and the width. The
- * zeros are not in groups. Returns 0 if the count is 0, or if the length is less than
- * the count or the width. Then the buffer is unchanged. So you can pass the result of
- * another call as the count, even if it is 0.
+ * Returns the length of the text, which is the greater of the count and the width.
+ * Returns 0 if the count is 0, or if the length is less than the count or the width. If
+ * it returns 0, the buffer is unchanged. So you can pass the result of another call as
+ * the count, even if it is 0.
+ *
+ * lexical_pad knows no prefix: it would make 00000xFF of 0xFF. So pad only the digits,
+ * with `buffer + 2` as the buffer. The zeros are not in groups either.
+ *
+ * If the width is greater than the length, lexical_pad returns 0 although the text
+ * without zeros is in the buffer. If you want that text then, keep its count:
+ * lexical_terminate erases the text if you pass the 0.
  */
 LEXICAL_HAS((nothrow, warn_unused_result)) LEXICAL_ACCESS((read_write, 3, 4))
 size_t lexical_pad(size_t count, size_t width, char *buffer, size_t length) LEXICAL_NOEXCEPT;
@@ -406,9 +419,9 @@ size_t lexical_pad(size_t count, size_t width, char *buffer, size_t length) LEXI
  *     buffer  where the text begins
  *     length  the size of the buffer in bytes, with a byte for the NUL
  *
- * Returns the count. Returns 0 if the count is 0, or if the length is at most the count,
- * so that the NUL does not fit. Then the first byte becomes NUL, so the buffer has an
- * empty string. If the length is 0, nothing is written.
+ * Returns the count, or 0 if the count is 0 or the NUL does not fit, because the length
+ * is at most the count. If it returns 0, it has made the buffer an empty string, which
+ * erases a text in it. If the length is 0, nothing is written.
  */
 LEXICAL_HAS((nothrow)) LEXICAL_ACCESS((read_write, 2, 3))
 size_t lexical_terminate(size_t count, char *buffer, size_t length) LEXICAL_NOEXCEPT;
@@ -420,12 +433,12 @@ size_t lexical_terminate(size_t count, char *buffer, size_t length) LEXICAL_NOEX
 /* ---- the function for a type ------------------------------------------------- */
 
 /*
- * lexical_decimal, lexical_write and lexical_length, in C11 and later, and in C++:
- * call the function above that the type of the value chooses, as lexical_write_i32
- * for an int. A variable of the type char or bool is refused, and in C++ also wchar_t,
- * char8_t, char16_t and char32_t: a cast says whether you mean the number or a letter.
- * In C the expressions 'x', true and a > b are of the type int, so they are accepted.
- * In C11 gcc also needs a cast for a bit-field.
+ * lexical_decimal, lexical_write and lexical_length, in C11 and later, and in C++. They
+ * call the function for the type of the value, for example lexical_write_i32 for an
+ * int. A variable of the type char or bool is refused, and in C++ also one of the type
+ * wchar_t, char8_t, char16_t or char32_t: a cast says whether you mean the number or a
+ * letter. In C the expressions 'x' and a > b have the type int, so they are accepted.
+ * So is true before C23. In C11 and later gcc also needs a cast for a bit-field.
  *
  * In C++ the format may also be passed as an object, and in C++11 and later as
  * an initializer:

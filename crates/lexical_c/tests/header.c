@@ -73,6 +73,9 @@ static void check_examples(void)
     count = lexical_write_u32(48879, &hexadecimal, buffer + 2, sizeof buffer - 2);
     count = count == 0 ? 0 : count + 2;
     check_text(count, "0xBEEF");
+    check(lexical_pad(count, 129, buffer, 128) == 0, "a width above the buffer");
+    check_text(6, "0xBEEF");
+    check_text(lexical_pad(count, 8, buffer, sizeof buffer), "000xBEEF");
     count = lexical_decimal_i32(-42, text, sizeof text);
     lexical_terminate(count, text, sizeof text);
     check(strcmp(text, "-42") == 0, "the example of a string");
@@ -119,6 +122,10 @@ static void check_radices(void)
     struct lexical_format base_36 = LEXICAL_RADIX(byte), base_2 = LEXICAL_RADIX(count++);
     struct lexical_format base_great = LEXICAL_RADIX(great), base_negative = LEXICAL_RADIX(negative);
     check(octal.radix == 8 && binary.radix == 2, "a constant radix");
+#if defined(__cplusplus) && __cplusplus < 201103L
+    const struct lexical_format base_99 = LEXICAL_RADIX(99);
+    check(base_99.radix == 0, "a constant radix that C++98 does not refuse");
+#endif
     check(base_36.radix == 36 && base_2.radix == 2 && count == 3, "a variable radix");
     check(base_great.radix == 0 && base_negative.radix == 0, "a radix of more than 32 bits");
     for (count = 0; count < 7; count++) {
@@ -173,6 +180,8 @@ static void check_choice(void)
                              buffer, sizeof buffer), "1,234,567");
     check(lexical_length(1234567, &(const struct lexical_format){ .radix = 2, .required_sign = 1 }) == 22, "a literal");
     check_text(lexical_decimal(7, (char *[1]){ buffer }[0], 1), "7");
+    check_text(lexical_decimal('x', buffer, sizeof buffer), "120");
+    check_text(lexical_decimal(buffer[0] > 0, buffer, sizeof buffer), "1");
 #endif
 #endif
 #endif

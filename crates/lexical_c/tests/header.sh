@@ -62,15 +62,21 @@ END
 }
 
 # check_refused COMPILER: valid calls are taken without a word. The functions that a type chooses refuse a char and a
-# bool, and in C++ other characters, and LEXICAL_RADIX refuses constants that are no radix.
+# bool, and in C++ other characters, and LEXICAL_RADIX refuses constants that are no radix. `true` is a bool from C23 on,
+# but not yet for clang 14.
 check_refused() {
   expect "valid calls by $1" reports '' "$1" used used
   case ${1##*=} in
-    c89 | c99) return ;;
+    c89 | c99) types= ;;
     c++98) types='char bool wchar_t' ;;
     c++2?) types='char bool wchar_t char16_t char32_t char8_t' ;;
     c++*) types='char bool wchar_t char16_t char32_t' ;;
     *) types='char _Bool' ;;
+  esac
+  case $1 in
+    clang*2x) ;;
+    *2x) expect "true is refused by $1" reports . "$1" '(1' '(true' -w -include stdbool.h ;;
+    *=c1?) expect "true is taken by $1" reports '' "$1" '(1' '(true' -include stdbool.h ;;
   esac
   for type in $types; do expect "a $type is refused by $1" reports . "$1" '(1' "(($type)1" -w; done
   case ${1##*=} in c++98) return ;; c++*) cast= ;; *) cast='\&(const struct lexical_format)' ;; esac
@@ -96,7 +102,16 @@ check_standard() {
   check_refused "$1"
 }
 
+# Whether the examples at the top of the header are a program, in their order.
+compiles_examples() {
+  { printf '#include <lexical.h>\n#include <string.h>\nint main(void)\n{\n'
+    sed -n '/^ [*][/]$/q; s/^ [*]     /    /p' "$crate/include/lexical.h"
+    printf '    return count != 6 || memcmp(buffer, "0xBEEF", 6) != 0 || strcmp(text, "-42") != 0;\n}\n'; } > "$work/top.c"
+  runs_with "$CC" -std=c99 "$work/top.c"
+}
+
 check_header() {
+  expect 'the examples at the top of the header' compiles_examples
   if [ -n "$is_quick" ]; then with_each 'c99 c11 c++17 c++20' check_standard; return; fi
   with_each 'c89 c99 c11 c17 c2x c++98 c++11 c++14 c++17 c++20 c++2b' check_standard
   with_each 'c99 c++17' check_attributes
