@@ -89,7 +89,9 @@ hides() {
 links_with_pkg_config() (
   export PKG_CONFIG_PATH="$folder/pkgconfig"
   cflags=$(pkg-config --cflags lexical_c) static=$(pkg-config --variable=static lexical_c)
-  prints "$version" pkg-config --modversion lexical_c && prints '-I/other/include -L/other/lib/here -llexical_c ' \
+  summary=$(sed -n '/^Summary: /{s///p;q;}' "$crate/package/lexical_c.spec")
+  grep -x "Description: $summary" "$folder/pkgconfig/lexical_c.pc" &&
+    prints "$version" pkg-config --modversion lexical_c && prints '-I/other/include -L/other/lib/here -llexical_c ' \
     pkg-config --define-variable=prefix=/other --cflags --libs lexical_c &&
     builds_examples $(pkg-config --cflags --libs lexical_c) -Wl,-rpath,"$folder" && builds_examples $cflags $static &&
     hides $CC "$crate/examples/first.c" $cflags $static &&
