@@ -173,7 +173,7 @@ check_installation() {
     expect_with 'go pkg-config' 'the Go example' runs_go
   fi
   expect 'make uninstall' uninstalls
-  expect 'make check' make_c check
+  expect 'make check' prints 'the archive and the shared library have passed' make_c check
   [ "$builder$is_quick$TARGET" = rustc ] || return
   expect_with 'dh dpkg-buildpackage lintian' 'the Debian packages' makes_packages deb
   expect_with rpmbuild 'the RPMs' makes_packages rpm
