@@ -30,6 +30,8 @@
  *     count = lexical_write_u32(48879, &hexadecimal, buffer + 2, sizeof buffer - 2);
  *     count = count == 0 ? 0 : count + 2;
  *
+ * To write several numbers into one buffer, see examples/line.c of the sources.
+ *
  * Text. A negative number begins with '-'. Another number begins with '+' if the
  * format requires a sign, and otherwise with its first digit. The digits are '0' to
  * '9' and 'A' to 'Z', or 'a' to 'z' if the format requests lowercase. The most

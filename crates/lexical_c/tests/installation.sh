@@ -73,7 +73,7 @@ builds_examples() {
       prints "$(printf '%b' "$lines")" "$work/example" || return
   done 4<<'END'
 first.c|c99|1234567
-example.c|c99|-4D2\n18,446,744,073,709,551,615
+line.c|c99|id=0xBEEF size=1,234,567 change=-42\nThe line has more than 20 bytes.\nThe format is invalid.
 example17.cpp|c++17|1,234,567\n-4D2
 example20.cpp|c++20|1,234,567
 END
