@@ -104,7 +104,7 @@ builds_with_cmake() {
   project=$work/project built=$work/project/build
   fails grep -r -F "$prefix" "$folder/cmake" && mkdir "$project" && cp "$crate/examples/first.c" "$project" || return
   cat > "$project/CMakeLists.txt" <<END
-cmake_minimum_required(VERSION 3.12)
+cmake_minimum_required(VERSION 3.13)
 project(example C)
 foreach(wanted 1.0 "$version;EXACT" 1.0...2 "1.0.9;EXACT" 0.9 1.999 1.999...2 2.0)
   find_package(lexical_c \${wanted} QUIET)
