@@ -33,6 +33,13 @@ uninstalls() {
     make_c prefix="$prefix" libdir="$folder" uninstall && prints "$(cat "$work/others")" find "$prefix" ! -type d
 }
 
+# Whether man finds the page by the name of each function, and shows it in 80 columns without a warning.
+shows_manual() {
+  for name in $wanted; do man -M "$prefix/share/man" -w "$name" || return; done
+  LC_ALL=C MANWIDTH=80 man -M "$prefix/share/man" --warnings "$name" > "$work/manual" 2> "$work/said" &&
+    grep SYNOPSIS "$work/manual" && fails grep '.\{81\}' "$work/manual" && prints '' cat "$work/said"
+}
+
 # names FLAGS FILE: prints the names that nm finds, without their addresses and kinds.
 names() { nm $1 "$2" | sed -n 's/^[0-9a-f ]* [A-Zu] //p' | sed 's/@@/@/; /^LEXICAL_C_/d' | LC_ALL=C sort; }
 
@@ -148,7 +155,7 @@ makes_packages() (
       for file in ../rpm/RPMS/*/*.rpm; do rpm2archive - < "$file" | tar xzf - -C "$root" || exit; done
   fi || exit
   so=$(find "$root" -name liblexical_c.so) && prints '' find "$root" -name manifest &&
-    ls "$root"/usr/share/man/man3/lexical_decimal.3* &&
+    ls "$root"/usr/share/man/man3/lexical_decimal_u32.3* &&
     $CC -I"$root/usr/include" -o ../first crates/lexical_c/examples/first.c "$so" &&
     prints 1234567 env LD_LIBRARY_PATH="${so%/*}" ../first
 )
@@ -162,6 +169,7 @@ check_installation() {
   expect 'make install' installs
   expect 'the library is replaced, not overwritten' replaces_library
   check_names
+  expect_with man 'the manual' shows_manual
   expect 'the hardening of the shared library' is_hardened
   expect 'plain flags' builds_examples -I"$prefix/include" "$folder/liblexical_c.a"
   expect 'bench.cpp' $CXX -std=c++17 $strict -fsyntax-only -I"$crate/include" "$crate/bench.cpp"
