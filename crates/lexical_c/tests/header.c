@@ -60,25 +60,13 @@ HAS(size_t lexical_terminate(size_t, char *, size_t))
 HAS(uint32_t lexical_version(void))
 HAS(uint32_t lexical_check_format(const struct lexical_format *))
 
-/* The examples of the header, and the version as a number and as a string. */
+/* Zeros, as the header explains them, and the version as a number and as a string. */
 static void check_examples(void)
 {
-    char text[LEXICAL_BUFFER_SIZE_DECIMAL_I32 + 1];
-    check_text(lexical_decimal_u32(48879, buffer, sizeof buffer), "48879");
-    const struct lexical_format hexadecimal = LEXICAL_RADIX(16);
-    size_t count = lexical_write_u32(48879, &hexadecimal, buffer, sizeof buffer);
-    check_text(count, "BEEF");
-    check_text(lexical_pad(count, 8, buffer, sizeof buffer), "0000BEEF");
-    memcpy(buffer, "0x", 2);
-    count = lexical_write_u32(48879, &hexadecimal, buffer + 2, sizeof buffer - 2);
-    count = count == 0 ? 0 : count + 2;
-    check_text(count, "0xBEEF");
-    check(lexical_pad(count, 129, buffer, 128) == 0, "a width above the buffer");
+    memcpy(buffer, "0xBEEF", 6);
+    check(lexical_pad(6, 129, buffer, 128) == 0, "a width above the buffer");
     check_text(6, "0xBEEF");
-    check_text(lexical_pad(count, 8, buffer, sizeof buffer), "000xBEEF");
-    count = lexical_decimal_i32(-42, text, sizeof text);
-    lexical_terminate(count, text, sizeof text);
-    check(strcmp(text, "-42") == 0, "the example of a string");
+    check_text(lexical_pad(6, 8, buffer, sizeof buffer), "000xBEEF");
     sprintf(buffer, "%d.%d.%d", LEXICAL_VERSION_MAJOR, LEXICAL_VERSION_MINOR, LEXICAL_VERSION_PATCH);
     check_text(strlen(buffer), LEXICAL_VERSION_STRING);
     check(lexical_version() == LEXICAL_VERSION, "lexical_version");
