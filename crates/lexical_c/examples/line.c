@@ -1,15 +1,15 @@
-/* Writes a line of three numbers into one buffer, and says why if that is not possible. */
+/* Writes a line of three numbers into one buffer, or says why it cannot. */
 #include <lexical.h>
 #include <stdio.h>
 #include <string.h>
 
-/* The end of a line, and how many bytes of its buffer are left after it. */
+/* The end of a line, and how many bytes of its buffer are left. */
 struct line {
     char *end;
     size_t left;
 };
 
-/* Makes the line longer by a text that was written at its end. Returns whether there is such a text. */
+/* Goes past the text that a call has written at the end. Returns 0 if the call has written none. */
 static int grow(struct line *line, size_t count)
 {
     line->end += count;
@@ -17,7 +17,7 @@ static int grow(struct line *line, size_t count)
     return count != 0;
 }
 
-/* Adds words to the line. Returns whether they fit. */
+/* Adds words to the line. Returns 0 if they do not fit. */
 static int add(struct line *line, const char *words)
 {
     size_t count = strlen(words);
@@ -27,28 +27,21 @@ static int add(struct line *line, const char *words)
     return grow(line, count);
 }
 
-/* Writes the line, with the first number in the format. Returns its length, or 0 for an error. */
-static size_t write_line(const struct lexical_format *format, char *buffer, size_t length)
+/* Prints the line, with its first number in this radix, or why it does not go into a buffer of this length. */
+static void print_line(int radix, size_t length)
 {
+    const struct lexical_format format = LEXICAL_RADIX(radix);
     const struct lexical_format grouped = { .radix = 10, .group_size = 3, .mark = ',' };
+    char buffer[64];
     struct line line = { buffer, length };
     int is_written = add(&line, "id=0x")
-        && grow(&line, lexical_write_u32(48879, format, line.end, line.left))
+        && grow(&line, lexical_write_u32(48879, &format, line.end, line.left))
         && add(&line, " size=")
         && grow(&line, lexical_write_u64(1234567, &grouped, line.end, line.left))
         && add(&line, " change=")
         && grow(&line, lexical_decimal_i32(-42, line.end, line.left));
-    return is_written ? length - line.left : 0;
-}
-
-/* Prints the line, or why a buffer of this length does not get it. */
-static void print_line(int radix, size_t length)
-{
-    const struct lexical_format format = LEXICAL_RADIX(radix);
-    char buffer[64];
-    size_t count = write_line(&format, buffer, length);
-    if (count != 0)
-        printf("%.*s\n", (int)count, buffer);
+    if (is_written)
+        printf("%.*s\n", (int)(line.end - buffer), buffer);
     else if (lexical_check_format(&format) != 0)
         puts("The format is invalid.");
     else
@@ -60,5 +53,4 @@ int main(void)
     print_line(16, 64);
     print_line(16, 20);
     print_line(37, 64);
-    return 0;
 }
