@@ -62,8 +62,8 @@ END
 }
 
 # check_refused COMPILER: valid calls are taken without a word. The functions that a type chooses refuse a char and a
-# bool, and in C++ other characters, and LEXICAL_RADIX refuses constants that are no radix. `true` is a bool from C23 on,
-# but not yet for clang 14.
+# bool, and in C++ other characters, and LEXICAL_RADIX refuses constants that are no radix. `true` is a bool in C23, but
+# not for clang 14.
 check_refused() {
   expect "valid calls by $1" reports '' "$1" used used
   case ${1##*=} in
@@ -102,7 +102,7 @@ check_standard() {
 compiles_examples() {
   { printf '#include <lexical.h>\n#include <string.h>\nint main(void)\n{\n'
     sed -n '/^ [*][/]$/q; s/^ [*]     /    /p' "$crate/include/lexical.h"
-    printf '    return count != 6 || memcmp(buffer, "0xBEEF", 6) != 0 || strcmp(text, "-42") != 0;\n}\n'; } > "$work/top.c"
+    printf 'return count != 6 || memcmp(buffer, "0xBEEF", 6) || strcmp(text, "-42");\n}\n'; } > "$work/top.c"
   runs_with "$CC" -std=c99 "$work/top.c"
 }
 
