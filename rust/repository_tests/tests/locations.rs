@@ -1,6 +1,6 @@
 //! A panic of a buffer that is too short names the line of the caller.
 
-use cojimuran::{Fixed, Hex, NumberFormatBuilder, Options, Part, ToLexical, ToLexicalWithOptions};
+use cojimuran::{Fixed, Hex, Joined, NumberFormatBuilder, Options, Part, ToLexical, ToLexicalWithOptions};
 use std::panic::{AssertUnwindSafe, catch_unwind};
 use std::sync::Mutex;
 
@@ -14,7 +14,7 @@ fn callers_of_short_buffers() {
     std::panic::set_hook(Box::new(|panic| {
         *FILE.lock().unwrap() = panic.location().map_or(String::new(), |location| location.file().to_owned());
     }));
-    let calls: [Call; 8] = [
+    let calls: [Call; 10] = [
         |buffer| 1234u64.to_lexical(buffer).len(),
         |buffer| (-1234i32).to_lexical(buffer).len(),
         |buffer| {
@@ -26,6 +26,8 @@ fn callers_of_short_buffers() {
         |buffer| (1u8, (2u8, "abc")).write_to(buffer),
         |buffer| Fixed(-1995i32, 2).to_str(buffer).len(),
         |buffer| Hex(0x1234u32).to_str(buffer).len(),
+        |buffer| Joined(&[1u64, 20], ",").to_text(buffer).len(),
+        |buffer| "text".to_str(buffer).len(),
     ];
     for call in calls {
         FILE.lock().unwrap().clear();
