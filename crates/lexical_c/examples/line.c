@@ -24,7 +24,7 @@ static int add(struct line *line, const char *words)
     if (count > line->left)
         return 0;
     memcpy(line->end, words, count);
-    return grow(line, count);
+    return count == 0 || grow(line, count);
 }
 
 /* Prints the line, with its first number in this radix, or why it does not go into a buffer of this length. */

@@ -211,8 +211,8 @@ size_t lexical_decimal_i64(int64_t value, char *buffer, size_t length) LEXICAL_N
  *     const struct lexical_format format = { .radix = 10, .group_size = 3, .mark = ',' };
  *
  * Groups are counted from the right: this format writes 1,234,567. The fields
- * have 32 bits, so a radix, a group size or a mark above 255 is not truncated to
- * a byte but is invalid.
+ * have 32 bits, so a radix or a group size above 255 is not truncated to a byte but
+ * is invalid, and so is a mark above 255 if there are groups.
  *
  * In C++14 and later each field after the radix has a default value, which is 0, so the
  * struct is not trivial. g++ therefore warns if you set a format to zeros by memset, so
@@ -232,7 +232,7 @@ struct lexical_format {
 
 /*
  * The format of a radix, as an initializer: with no '+' and no groups, in uppercase.
- * The radix may have any integer type. A number that is not from 2 to 36 becomes 0,
+ * The radix may have any standard integer type. A number that is not from 2 to 36 becomes 0,
  * so the format is not valid, and lexical_check_format reports it. With gcc and clang a
  * constant expression that is not from 2 to 36 does not compile, except in C++98. In
  * C11 and later, other compilers refuse it too. The radix is evaluated once, except in C
@@ -438,8 +438,7 @@ size_t lexical_terminate(size_t count, char *buffer, size_t length) LEXICAL_NOEX
  * lexical_decimal, lexical_write and lexical_length, in C11 and later, and in C++. They
  * call the function for the type of the value, for example lexical_write_i32 for an
  * int. A variable of the type char or bool is refused, and in C++ also one of the type
- * wchar_t, char8_t, char16_t or char32_t: a cast says whether you mean the number or a
- * letter. In C the expressions 'x' and a > b have the type int, so they are accepted.
+ * wchar_t, char8_t, char16_t or char32_t: cast it to int if you mean its number. In C the expressions 'x' and a > b have the type int, so they are accepted.
  * So is true before C23. In C11 and later gcc also needs a cast for a bit-field.
  *
  * In C++ the format may also be passed as an object, and in C++11 and later as

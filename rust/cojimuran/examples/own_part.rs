@@ -1,6 +1,7 @@
 //! A part of your own, by another part.
 
 use cojimuran::parts::{Padded, Part, Show, Shown};
+use std::fmt;
 
 #[derive(Clone, Copy)]
 struct Time {
@@ -27,6 +28,10 @@ impl Part for Time {
 impl Show for Time {
     fn is_showable(self) -> bool {
         self.text().is_showable()
+    }
+
+    fn write_pieces<O: fmt::Write>(self, out: &mut O) -> fmt::Result {
+        self.text().write_pieces(out)
     }
 }
 

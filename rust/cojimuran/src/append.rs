@@ -37,7 +37,8 @@ pub trait Append: Part {
     /// as [`to_str`](Part::to_str) says.
     ///
     /// A `String` grows by the length of the text, as with `push_str`. So does a `Vec` if the [`room`](Part::room) of the
-    /// part is at most 256 bytes; otherwise the vector must have, or gets, the room.
+    /// part is at most 256 bytes; otherwise the vector must have, or gets, the room. For a `String` a part with a larger
+    /// room is first written to a temporary buffer of that size. [`write_pieces`](crate::Show::write_pieces) needs none.
     ///
     /// # Panics
     ///

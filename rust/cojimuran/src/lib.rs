@@ -1,5 +1,6 @@
-//! Writes integers as text, in every radix from 2 to 36, into a buffer that you supply. No call allocates by itself, but
-//! `append_to` and `write_pieces` grow the target that you pass. The sources are written in Rattle, a dialect of Rust with contracts, and are proved there:
+//! Writes integers as text, in every radix from 2 to 36, into a buffer that you supply. No call allocates, except that
+//! `append_to` and `write_pieces` grow the target that you pass, and that `append_to` of a text that may have more than
+//! 256 bytes to a `String` uses a temporary buffer. The sources are written in Rattle, a dialect of Rust with contracts, and are proved there:
 //! [when its conditions hold](#conditions), a call writes exactly the right bytes and does not panic. A program makes this
 //! Rust code from them, and the Rust code is tested. [`Displayed`] and what needs the feature `alloc` are written by hand
 //! and tested.

@@ -4,7 +4,7 @@
 #[path = "../../cojimuran/examples/number_of_128_bits.rs"]
 mod number_of_128_bits;
 
-use cojimuran::parts::{Digits, Fixed, Hex, Lower, Padded, Part, Right, ZeroPadded};
+use cojimuran::parts::{Digits, Fixed, Hex, Lower, Padded, Part, Right, Show, ZeroPadded};
 use cojimuran::{
     Append, BUFFER_SIZE, Buffer, Displayed, FormattedSize, NumberFormat, NumberFormatBuilder, Options, ToLexical,
     ToLexicalWithOptions,
@@ -64,7 +64,7 @@ fn from_format() {
     let (number, a, b, cents, float) = (7u32, -1i64, 2i64, 1995u64, 0.5);
     let (mut text, mut buffer) = (String::new(), [0; 64]);
     (a, ",", b, "\n").append_to(&mut text);
-    (Displayed(&format_args!("{float:.2}")), ",", b, "\n").append_to(&mut text);
+    (Displayed(&format_args!("{float:.2}")), ",", b, "\n").write_pieces(&mut text).unwrap();
     assert_eq!(text, format!("{a},{b}\n{float:.2},{b}\n"));
     assert_eq!(Padded(number, 6).to_str(&mut buffer), format!("{number:06}"));
     assert_eq!(ZeroPadded(number, 6).to_str(&mut buffer), format!("{number:06}"));
