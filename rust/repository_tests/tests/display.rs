@@ -52,7 +52,9 @@ macro_rules! check_digits {
         for number in [<$number>::MIN, <$number>::MAX, 1, 10, <$number>::MAX / 3] {
             check_options!(Hex(number), number, "X": "" "<" "^" "*>" "+" "0" "+0");
             for w in [0, 3, 20, 40] {
-                let (part, text) = (FullHex(number), format!("{number:0width$X}", width = <$number>::BITS as usize / 4));
+                // A `usize` has the width of a `u64` on every target.
+                let width = if stringify!($number) == "usize" { 16 } else { <$number>::BITS as usize / 4 };
+                let (part, text) = (FullHex(number), format!("{number:0width$X}"));
                 assert_eq!(format!("{part}|{part:w$}|{part:*^w$}"), format!("{text}|{text:>w$}|{text:*^w$}"));
             }
             check_options!(Binary(number), number, "b": "" "<" "^" "*>" "+" "0" "+0");

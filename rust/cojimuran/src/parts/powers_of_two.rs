@@ -100,8 +100,8 @@ impl<T: Radix> Show for Binary<T> {
     }
 }
 
-/// All digits of an unsigned number in radix 16, with leading zeros up to the width of its type, which is 2 for a `u8` and
-/// 16 for a `u64`: `FullHex(255u16)` writes `00FF`. So a literal needs a type.
+/// All digits of an unsigned number in radix 16, with leading zeros up to the width of its type, which is 2 for a `u8`, and
+/// 16 for a `u64` and for a `usize` on every target: `FullHex(255u16)` writes `00FF`. So a literal needs a type.
 ///
 /// ```
 /// use cojimuran::parts::{FullHex, Part};
