@@ -37,7 +37,7 @@ impl<T: Radix> Part for Hex<T> {
     ghost room = { λ _. T.BITS / 4 };
 
     fn room(self) -> usize {
-        T::BITS / 4
+        T::BITS / 4 // Each digit has four bits.
     }
 
     fn write_to(self, buffer: &mut [u8]) -> usize {

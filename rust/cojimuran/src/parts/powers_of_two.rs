@@ -27,7 +27,7 @@ impl<T: Radix> Part for Hex<T> {
     #[inline(always)]
     #[track_caller]
     fn room(self) -> usize {
-        T::BITS / 4
+        T::BITS / 4 // Each digit has four bits.
     }
 
     #[inline(always)]
