@@ -30,7 +30,7 @@ use lexical_num::format::NumberFormat;
 ///
 /// # Panics
 ///
-/// If the buffer is [too short](crate#conditions). If the format has no groups, it returns the count in any case.
+/// If the buffer is [too short](crate#conditions).
 pub fn group_digits(count: usize, format: &NumberFormat, buffer: &mut [u8]) -> usize
     requires some { 1 ≤ count }
     requires room { grouped_length format.now.digit_grouping count ≤ length buffer.old }

@@ -27,7 +27,7 @@ use crate::num::format::NumberFormat;
 ///
 /// # Panics
 ///
-/// If the buffer is [too short](crate#conditions). If the format has no groups, it returns the count in any case.
+/// If the buffer is [too short](crate#conditions).
 #[inline]
 pub fn group_digits(count: usize, format: &NumberFormat, buffer: &mut [u8]) -> usize {
     let Some((size, mark)) = format.digit_grouping() else {
