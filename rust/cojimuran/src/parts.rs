@@ -28,53 +28,37 @@
 //! [`Lower`], [`OrElse`], [`Scientific`] and [`HexBytes`]. `{}` is an error if the part is not valid, or if it contains
 //! a byte that [`Part::to_str`] refuses.
 
-mod buffer;
-mod cell;
-mod column;
-mod counted;
-mod cut;
-mod display;
-mod field;
-mod fill;
-mod fixed;
-mod integers;
-mod joined;
-mod lower;
-mod number;
-mod option;
+// The trait that each part implements, and what keeps others from defining some of its methods.
 mod own;
-mod padded;
 mod part;
-mod plus;
-mod powers_of_two;
-mod reference;
-mod scientific;
-mod show;
-mod shown;
-mod sign;
-mod text;
-mod trimmed;
-mod tuples;
-mod with_length;
-mod zero_padded;
 
-pub use buffer::Buffer;
-pub use column::{Center, Left, Right};
-pub use field::write_field;
-pub use fixed::{Fixed, GroupedFixed};
-pub use joined::Joined;
-pub use lower::Lower;
-pub use number::{Decimal, Digits, Formatted};
-pub use option::OrElse;
-pub use padded::{Padded, PaddedDigits};
+// The parts, by what their texts are.
+mod layout;
+mod numbers;
+mod texts;
+
+// Parts in a format string.
+mod formatting;
+
+pub use formatting::show::Show;
+pub use formatting::shown::Shown;
+pub use layout::column::{Center, Left, Right};
+pub use layout::field::write_field;
+pub use layout::joined::Joined;
+pub use layout::with_length::write_with_length;
+pub use layout::zero_padded::ZeroPadded;
+pub use numbers::decimal::Decimal;
+pub use numbers::decimal_buffer::Buffer;
+pub use numbers::digits::Digits;
+pub use numbers::fixed::{Fixed, GroupedFixed};
+pub use numbers::formatted::Formatted;
+pub use numbers::padded::{Padded, PaddedDigits};
+pub use numbers::plus::Plus;
+pub use numbers::powers_of_two::{Binary, FullHex, Hex, HexBytes};
+pub use numbers::scientific::Scientific;
+pub use numbers::sign::Sign;
+pub use numbers::trimmed::TrimmedFixed;
 pub use part::Part;
-pub use plus::Plus;
-pub use powers_of_two::{Binary, FullHex, Hex, HexBytes};
-pub use scientific::Scientific;
-pub use show::Show;
-pub use shown::Shown;
-pub use sign::Sign;
-pub use text::{Byte, Bytes};
-pub use trimmed::TrimmedFixed;
-pub use with_length::write_with_length;
-pub use zero_padded::ZeroPadded;
+pub use texts::bytes::{Byte, Bytes};
+pub use texts::lower::Lower;
+pub use texts::option::OrElse;

@@ -183,14 +183,16 @@ pub(crate) const SOURCES: &[Source] = &[
         attributes: &[
             // The only function of the package that is not safe code.
             ("#[inline(always)]\n#[track_caller]\n#[allow(unsafe_code)]", "to_str"),
-            ("#[inline(always)]", "padded.rt is_known_utf8 most_room has_room is_sure"),
+            ("#[inline(always)]", "numbers/padded.rt is_known_utf8 most_room has_room is_sure"),
             // A panic of a short buffer names the line of the caller.
             (
                 "#[inline(always)]\n#[track_caller]",
-                "tuples.rt joined.rt integers.rt number.rt text.rt powers_of_two.rt fixed.rt format to_text",
+                "layout/tuples.rt layout/joined.rt numbers/integers.rt numbers/decimal.rt numbers/digits.rt
+                numbers/formatted.rt numbers/powers_of_two.rt numbers/fixed.rt texts/strings.rt texts/words.rt
+                texts/chars.rt texts/bytes.rt format to_text",
             ),
         ],
-        laws: "equal positions reading rooms_at_most formatted_room_suffices str_is_utf8",
+        laws: "laws rooms_at_most formatted_room_suffices str_is_utf8",
         ..LIBRARY
     },
     Source {

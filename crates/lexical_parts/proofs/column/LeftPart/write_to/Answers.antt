@@ -1,5 +1,0 @@
-use Rattle.lexical_parts.proofs.Columns.{written_left}
-use Rattle.lexical_parts.proofs.column.LeftPart.write_to.Goals as goal
-
-pub returns-clause-text : goal.returns-clause-text
-returns-clause-text g c = written_left _ c.write_to-count.ensures.text (rw c.saturating_sub.ensures at c.write_fill.ensures)

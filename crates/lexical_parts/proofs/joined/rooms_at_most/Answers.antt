@@ -1,5 +1,0 @@
-use Rattle.std.proofs.lemmas.List.Sums.{sum_by-le}
-use Rattle.lexical_parts.proofs.joined.rooms_at_most.Goals as goal
-
-pub returns : goal.returns
-returns g c = sum_by-le g.P.Part.room c.args.most c.args.parts.now c.requires

@@ -1,7 +1,0 @@
-use Rattle.std.proofs.Common.{false, arith}
-use Rattle.lexical_write_integer.proofs.OfTexts.ReadTexts.{are_read}
-use Rattle.lexical_parts.proofs.FixedReads.{fixed_read}
-use Rattle.lexical_parts.proofs.reading.fixed_read_back.Goals as goal
-
-pub returns : goal.returns
-returns g c = are_read 10 (g.T.LexicalInteger.number c.args.number) false (omega arith) _ (λ text is. fixed_read c.args.decimals _ text is)

@@ -1,6 +1,0 @@
-use Rattle.std.proofs.Common.{refl}
-use Rattle.lexical_parts.proofs.ShownParts.{written_at_once}
-use Rattle.lexical_parts.proofs.text.RefStrShow.write_pieces.Goals as goal
-
-pub returns : goal.returns
-returns g c = λ ok. written_at_once _ _ _ _ _ refl (c.write_str.ensures.ok ok)

@@ -1,6 +1,0 @@
-use Rattle.std.proofs.Common.{refl}
-use Rattle.lexical_parts.proofs.ShownParts.{WritesSome-then}
-use Rattle.lexical_parts.proofs.tuples.Tuple2Show.write_pieces.Goals as goal
-
-pub returns : goal.returns
-returns g c = λ ok. WritesSome-then _ _ _ _ _ _ (c.in_ok-write_pieces.ensures refl) (c.write_pieces-2.ensures ok)

@@ -1,0 +1,13 @@
+//! Parts in a format string, such as `{:>10}`.
+
+// Which parts can be there.
+pub(crate) mod show;
+
+// Numbers, which have the options of integers, and other parts, which have those of strings.
+mod cell;
+mod display;
+pub(crate) mod shown;
+
+// A text that is written in pieces: its length, and its first characters.
+pub(crate) mod counted;
+mod cut;

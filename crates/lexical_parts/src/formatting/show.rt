@@ -1,0 +1,70 @@
+//! Parts that `{}` can write.
+#![tactic(auto, using(crate::proofs::ShownParts::written_at_once))]
+
+ghost use Rattle.std.specs.Prelude.{IfSome, IsOk, IsTrue, List, None, Option, ℕ};
+ghost use Rattle.lexical_parts.specs.Length.{IsOnly};
+ghost use Rattle.lexical_parts.specs.ShownParts.{WritesSome};
+
+use crate::part::Part;
+use std::fmt;
+
+// The largest room of a part that is written at once.
+pub(crate) const MOST_AT_ONCE: usize = 256;
+
+/// A part that can be in a format string, by itself or in a [`Shown`](crate::Shown): `("id=", 7u8)` writes `id=7`, and
+/// so does `{}` of `Shown(("id=", 7u8))`. The parts of this crate are such parts, and so is a tuple, a
+/// [`Joined`](crate::Joined) or a column of such parts.
+///
+/// A part of your own becomes one if you define `is_showable`. Then a tuple with it can be in a format string. If its room
+/// can be above 256 bytes, define `write_pieces` too.
+///
+/// ```
+/// use lexical_parts::Part;
+///
+/// assert_eq!(rt; ("id=", 7u8).to_str(&mut [0; 64]), "id=7");
+/// ```
+pub trait Show: Part {
+    // The text, if the prover computes it.
+    ghost text: { Self → Option (List ℕ) } = { λ _. None };
+
+    /// Returns whether the part is valid and its text is UTF-8, as `to_str` requires. If it returns `false`, `{}` of the
+    /// part is an error. For a part of your own that is always valid, return `true`.
+    fn is_showable(self) -> bool
+        ensures valid { IsTrue result → Self.is_valid self }
+        ensures utf8 { IsTrue result → Self.is_utf8 self }
+        ensures only { IsTrue result → IfSome (text self) (λ bytes. IsOnly (Self.is_text self) bytes) };
+
+    /// Writes the text to a writer, such as a `String`, in one piece or in several. The part must be valid.
+    ///
+    /// If you do not define this method, it writes the text at once, for which the room must be at most 256 bytes. A part
+    /// that can be longer calls this method of the parts that it consists of, one after another.
+    ///
+    /// # Errors
+    ///
+    /// Returns the error of the writer, and an error for a `Bytes` that is not UTF-8. For a part of your own it also
+    /// returns an error if its room is above 256 bytes and you do not define this method, or if it does not write the same
+    /// text each time.
+    ///
+    /// # Panics
+    ///
+    /// If the part is not valid, or if the text of the part is not UTF-8.
+    fn write_pieces<O: fmt::Write>(self, out: &mut O) -> fmt::Result
+        requires valid { Self.is_valid self }
+        requires utf8 { Self.is_utf8 self }
+        ensures { IsOk result → WritesSome O.write_str_gives (Self.is_text self) out.old out.new }
+    {
+        write_at_once(self, out)
+    }
+}
+
+// Writes the text to a writer with one call, or returns an error if the room is above 256 bytes.
+pub(crate) fn write_at_once<P: Part, O: fmt::Write>(part: P, out: &mut O) -> fmt::Result
+    requires valid { P.is_valid part }
+    requires utf8 { P.is_utf8 part }
+    ensures { IsOk result → WritesSome O.write_str_gives (P.is_text part) out.old out.new }
+{
+    match part.try_to_str(&mut [0; MOST_AT_ONCE]) {
+        Some(text) => out.write_str(text),
+        None => Err(fmt::Error),
+    }
+}

@@ -1,0 +1,44 @@
+//! The text of a number as a `&str`, in a buffer of its own.
+
+ghost use Rattle.std.specs.Prelude.{◌≤◌, length};
+ghost use Rattle.lexical_num.specs.Format.{standard};
+ghost use Rattle.lexical_write_integer.specs.Text.{IsText};
+
+use crate::numbers::decimal::Decimal;
+use crate::part::Part;
+use lexical_write_integer::ToLexical;
+
+/// A buffer for one number in decimal. It is long enough for every number of every integer type.
+///
+/// ```
+/// use lexical_parts::Buffer;
+///
+/// let mut buffer = Buffer::new();
+/// assert_eq!(rt; buffer.format(-1234i32), "-1234");
+/// assert_eq!(rt; buffer.format(u64::MAX), "18446744073709551615");
+/// ```
+#[derive(Debug, Clone, Copy, Drop)]
+pub struct Buffer {
+    bytes: [u8; 20],
+}
+
+impl Buffer {
+    /// Returns a buffer. It costs next to nothing, so each number may have its own.
+    pub fn new() -> Buffer {
+        Buffer { bytes: [0; 20] }
+    }
+
+    /// Returns the number in decimal, with a `-` if it is negative.
+    pub fn format<T: ToLexical>(&mut self, number: T) -> &str
+        ensures text { IsText (T.number number) standard result.now }
+        ensures short { length result.now ≤ 20 }
+    {
+        Decimal(number).to_str(&mut self.bytes)
+    }
+}
+
+impl Default for Buffer {
+    fn default() -> Buffer {
+        Buffer::new()
+    }
+}

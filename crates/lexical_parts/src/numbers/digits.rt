@@ -1,0 +1,67 @@
+//! The digits of an unsigned number in any radix.
+#![tactic(auto, using(crate::proofs::Utf8Texts::kinds, crate::proofs::Lengths::lengths, crate::proofs::OnlyTexts::onlys))]
+
+ghost use Rattle.lexical_write_integer.specs.Computed.{digits_text};
+ghost use Rattle.std.specs.Prelude.{Some};
+ghost use Rattle.lexical_num.specs.Format.{IsRadix};
+ghost use Rattle.lexical_write_integer.specs.DigitCount.{digit_count};
+ghost use Rattle.lexical_write_integer.specs.Text.{IsDigits};
+
+use crate::formatting::show::Show;
+use crate::own::Own;
+use crate::part::Part;
+use lexical_num::limits::is_radix;
+use lexical_write_integer::digit_count::{DigitCount, most_digits};
+use lexical_write_integer::radix::Radix;
+
+/// The digits of an unsigned number in a radix from 2 to 36: `Digits(16, 255u32)` writes `FF`. The digits above 9 are `A`
+/// to `Z`; `Lower(Digits(16, 255u32))` writes `ff`. With another radix the part is not valid.
+///
+/// The number has a type of its own, so a literal needs one: `Digits(36, 1000u64)`. Its room is the number of its digits.
+///
+/// ```
+/// use lexical_parts::{Digits, Lower, Part};
+///
+/// assert_eq!(rt; Digits(16, 255u32).to_str(&mut [0; 64]), "FF");
+/// assert_eq!(rt; Lower(Digits(16, 255u32)).to_str(&mut [0; 64]), "ff");
+/// ```
+#[derive(Clone, Copy, Debug, Drop)]
+pub struct Digits<T>(pub u32, pub T);
+
+impl<T: Radix + DigitCount> Part for Digits<T> {
+    ghost is_text = { λ part. IsDigits part.0 (T.magnitude part.1) };
+
+    ghost is_valid = { λ part. IsRadix part.0 };
+
+    ghost room = { λ part. digit_count part.0 (T.magnitude part.1) };
+
+    fn room(self) -> usize {
+        self.1.digit_count(self.0)
+    }
+
+    fn write_to(self, buffer: &mut [u8]) -> usize {
+        self.1.radix(self.0, buffer)
+    }
+
+    fn text_len(self) -> Option<usize> {
+        Some(self.1.digit_count(self.0))
+    }
+
+    fn most_room(self, _own: Own) -> usize {
+        self.1.fits_bits();
+        most_digits::<T>(self.0)
+    }
+
+    fn is_known_utf8(self, _own: Own) -> bool {
+        is_radix(u64::from(self.0))
+    }
+}
+
+impl<T: Radix + DigitCount> Show for Digits<T> {
+    ghost text = { λ part. Some (digits_text part.0 (T.magnitude part.1)) };
+
+    fn is_showable(self) -> bool {
+        self.1.fits_bits();
+        self.is_known_utf8(Own)
+    }
+}

@@ -1,0 +1,60 @@
+//! The sign of a number, as a part of its own.
+#![tactic(auto, using(crate::proofs::Utf8Texts::kinds, crate::proofs::Lengths::lengths, crate::proofs::OnlyTexts::onlys))]
+
+ghost use Rattle.std.specs.Prelude.{Some};
+ghost use Rattle.lexical_num.specs.Sign.{sign_of};
+ghost use Rattle.lexical_write_integer.specs.Sequence.{IsExactly};
+
+use crate::formatting::show::Show;
+use crate::own::Own;
+use crate::part::Part;
+use lexical_num::num::LexicalInteger;
+use lexical_write_integer::buffer::copy_to_front;
+
+/// The sign of a number: `-` if it is below 0, and otherwise nothing, or a `+` if one is required. Before
+/// other parts, `Sign(-5, false)` writes `-`, as `Sign(-5, true)` does, and `Sign(5, true)` writes `+`.
+///
+/// ```
+/// use lexical_parts::{Part, Sign};
+///
+/// assert_eq!(rt; Sign(-5, false).to_str(&mut [0; 64]), "-");
+/// assert_eq!(rt; Sign(5, true).to_str(&mut [0; 64]), "+");
+/// ```
+#[derive(Clone, Copy, Debug, Drop)]
+pub struct Sign<T>(pub T, pub bool);
+
+impl<T: LexicalInteger> Part for Sign<T> {
+    ghost is_text = { λ part. IsExactly (sign_of (T.number part.0) part.1) };
+
+    ghost room = { λ _. 1 };
+
+    fn room(self) -> usize {
+        1
+    }
+
+    fn write_to(self, buffer: &mut [u8]) -> usize {
+        if self.0.is_negative() {
+            copy_to_front(b"-", buffer)
+        } else if self.1 {
+            copy_to_front(b"+", buffer)
+        } else {
+            0
+        }
+    }
+
+    fn text_len(self) -> Option<usize> {
+        Some(usize::from(self.0.is_negative() || self.1))
+    }
+
+    fn is_known_utf8(self, _own: Own) -> bool {
+        true
+    }
+}
+
+impl<T: LexicalInteger> Show for Sign<T> {
+    ghost text = { λ part. Some (sign_of (T.number part.0) part.1) };
+
+    fn is_showable(self) -> bool {
+        self.is_known_utf8(Own)
+    }
+}

@@ -1,0 +1,11 @@
+//! Parts that are strings, words, characters or bytes, and parts that change the text of another part or stand for it.
+
+pub(crate) mod bytes;
+mod chars;
+pub(crate) mod strings;
+mod words;
+
+// The text of another part in lowercase, if there is one, and by a reference.
+pub(crate) mod lower;
+pub(crate) mod option;
+mod reference;

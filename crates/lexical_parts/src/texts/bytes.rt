@@ -1,0 +1,104 @@
+//! Bytes as a part: those of a slice, or a single one.
+#![tactic(auto, using(crate::proofs::Utf8Texts::kinds, crate::proofs::Lengths::lengths, crate::proofs::OnlyTexts::onlys))]
+
+ghost use Rattle.std.specs.Prelude.{Some, ◌<◌, [], ◌∷◌, length};
+ghost use Rattle.std.specs.Str.{IsUtf8};
+ghost use Rattle.lexical_write_integer.specs.Sequence.{IsExactly};
+
+use crate::formatting::show::Show;
+use crate::own::Own;
+use crate::part::Part;
+use lexical_write_integer::buffer::copy_to_front;
+use std::fmt;
+use std::str::from_utf8;
+
+/// A part whose text is the bytes of a slice: `Bytes(b"ab")` writes `ab`.
+///
+/// ```
+/// use lexical_parts::{Bytes, Part};
+///
+/// assert_eq!(rt; Bytes(b"ab").to_str(&mut [0; 64]), "ab");
+/// ```
+#[derive(Clone, Copy, Debug, Drop)]
+pub struct Bytes<'a>(pub &'a [u8]);
+
+impl Part for Bytes<'_> {
+    ghost is_text = { λ part. IsExactly part.0.now };
+
+    ghost room = { λ part. length part.0.now };
+
+    ghost is_utf8 = { λ part. IsUtf8 part.0.now };
+
+    fn room(self) -> usize {
+        self.0.len()
+    }
+
+    fn write_to(self, buffer: &mut [u8]) -> usize {
+        copy_to_front(self.0, buffer)
+    }
+
+    fn text_len(self) -> Option<usize> {
+        Some(self.0.len())
+    }
+
+    fn is_known_utf8(self, _own: Own) -> bool {
+        from_utf8(self.0).is_ok()
+    }
+}
+
+impl Show for Bytes<'_> {
+    ghost text = { λ part. Some part.0.now };
+
+    fn is_showable(self) -> bool {
+        self.is_known_utf8(Own)
+    }
+
+    fn write_pieces<O: fmt::Write>(self, out: &mut O) -> fmt::Result {
+        match from_utf8(self.0) {
+            Ok(text) => out.write_str(text),
+            Err(_) => Err(fmt::Error),
+        }
+    }
+}
+
+/// A part whose text is one byte: `Byte(b'a')` writes `a`.
+///
+/// ```
+/// use lexical_parts::{Byte, Part};
+///
+/// assert_eq!(rt; Byte(b'a').to_str(&mut [0; 64]), "a");
+/// ```
+#[derive(Clone, Copy, Debug, Drop)]
+pub struct Byte(pub u8);
+
+impl Part for Byte {
+    ghost is_text = { λ part. IsExactly (part.0 ∷ []) };
+
+    ghost room = { λ _. 1 };
+
+    ghost is_utf8 = { λ part. part.0 < 128 };
+
+    fn room(self) -> usize {
+        1
+    }
+
+    fn write_to(self, buffer: &mut [u8]) -> usize {
+        copy_to_front(&[self.0], buffer)
+    }
+
+    fn text_len(self) -> Option<usize> {
+        Some(1)
+    }
+
+    fn is_known_utf8(self, _own: Own) -> bool {
+        self.0 < 128
+    }
+}
+
+impl Show for Byte {
+    ghost text = { λ part. Some (part.0 ∷ []) };
+
+    fn is_showable(self) -> bool {
+        self.is_known_utf8(Own)
+    }
+}

@@ -1,0 +1,43 @@
+//! Characters, which are parts: the text of a `char` is its UTF-8.
+#![tactic(auto, using(crate::proofs::Utf8Texts::kinds, crate::proofs::Lengths::lengths, crate::proofs::OnlyTexts::onlys))]
+
+ghost use Rattle.std.specs.Prelude.{Some, encode_utf8};
+ghost use Rattle.lexical_write_integer.specs.Sequence.{IsExactly};
+
+use crate::formatting::show::Show;
+use crate::own::Own;
+use crate::part::Part;
+use crate::texts::strings::str_is_utf8;
+
+impl Part for char {
+    ghost is_text = { λ character. IsExactly (encode_utf8 character) };
+
+    ghost room = { λ _. 4 };
+
+    fn room(self) -> usize {
+        4
+    }
+
+    fn write_to(self, buffer: &mut [u8]) -> usize {
+        let mut bytes = [0; 4];
+        let text: &str = self.encode_utf8(&mut bytes);
+        str_is_utf8(text);
+        text.write_to(buffer)
+    }
+
+    fn text_len(self) -> Option<usize> {
+        Some(self.len_utf8())
+    }
+
+    fn is_known_utf8(self, _own: Own) -> bool {
+        true
+    }
+}
+
+impl Show for char {
+    ghost text = { λ character. Some (encode_utf8 character) };
+
+    fn is_showable(self) -> bool {
+        self.is_known_utf8(Own)
+    }
+}

@@ -1,0 +1,137 @@
+//! Parts that may be absent: the text of `Some(part)` is that of the part, and `None` has no bytes.
+
+ghost use Rattle.std.specs.Prelude.{IfNone, IfSome, IsTrue, max};
+ghost use Rattle.lexical_parts.specs.Length.{IsOnly};
+ghost use Rattle.lexical_parts.specs.Optional.{IsOptional, IsOrElse, IsValidOptional, optional_room};
+ghost use Rattle.lexical_parts.specs.Optional.{optional_text, or_else_text};
+
+use crate::formatting::show::Show;
+use crate::own::Own;
+use crate::part::Part;
+use lexical_write_integer::buffer::copy_to_front;
+use std::fmt;
+
+impl<P: Part> Part for Option<P> {
+    ghost is_text = { IsOptional P.is_text };
+
+    ghost is_valid = { IsValidOptional P.is_valid };
+
+    ghost room = { optional_room P.room };
+
+    ghost is_utf8 = { IsValidOptional P.is_utf8 };
+
+    fn room(self) -> usize {
+        match self {
+            Some(part) => part.room(),
+            None => 0,
+        }
+    }
+
+    fn write_to(self, buffer: &mut [u8]) -> usize {
+        match self {
+            Some(part) => part.write_to(buffer),
+            None => copy_to_front(b"", buffer),
+        }
+    }
+
+    fn text_len(self) -> Option<usize> {
+        match self {
+            Some(part) => part.text_len(),
+            None => Some(0),
+        }
+    }
+
+    fn is_known_utf8(self, own: Own) -> bool
+        ensures valid { IsTrue result → IsValidOptional P.is_valid self }
+        ensures utf8 { IsTrue result → IsValidOptional P.is_utf8 self }
+        ensures none { IfNone self (IsTrue result) }
+    {
+        match self {
+            Some(part) => part.is_known_utf8(own),
+            // No bytes are UTF-8.
+            None => true,
+        }
+    }
+}
+
+impl<P: Show> Show for Option<P> {
+    ghost text = { optional_text P.text };
+
+    fn is_showable(self) -> bool
+        ensures valid { IsTrue result → IsValidOptional P.is_valid self }
+        ensures utf8 { IsTrue result → IsValidOptional P.is_utf8 self }
+        ensures only { IsTrue result → IfSome (optional_text P.text self) (λ bytes. IsOnly (IsOptional P.is_text self) bytes) }
+        ensures none { IfNone self (IsTrue result) }
+    {
+        match self {
+            Some(part) => part.is_showable(),
+            None => true,
+        }
+    }
+
+    fn write_pieces<O: fmt::Write>(self, out: &mut O) -> fmt::Result {
+        match self {
+            Some(part) => part.write_pieces(out),
+            None => Ok(()),
+        }
+    }
+}
+
+/// A part that may be absent, and the part that is written in its place: `OrElse(Some(5u8), "n/a")` writes `5`, and
+/// `OrElse(None::<u8>, "n/a")` writes `n/a`. Both must be valid.
+///
+/// ```
+/// use lexical_parts::{OrElse, Part};
+///
+/// assert_eq!(rt; OrElse(Some(5u8), "n/a").to_str(&mut [0; 64]), "5");
+/// assert_eq!(rt; OrElse(None::<u8>, "n/a").to_str(&mut [0; 64]), "n/a");
+/// ```
+#[derive(Clone, Copy, Debug, Drop)]
+pub struct OrElse<P, Q>(pub Option<P>, pub Q);
+
+impl<P: Part, Q: Part> Part for OrElse<P, Q> {
+    ghost is_text = { λ part. IsOrElse P.is_text (Q.is_text part.1) part.0 };
+
+    ghost is_valid = { λ part. IsValidOptional P.is_valid part.0 × Q.is_valid part.1 };
+
+    ghost room = { λ part. max (optional_room P.room part.0) (Q.room part.1) };
+
+    ghost is_utf8 = { λ part. IsValidOptional P.is_utf8 part.0 × Q.is_utf8 part.1 };
+
+    fn room(self) -> usize {
+        self.0.room().max(self.1.room())
+    }
+
+    fn write_to(self, buffer: &mut [u8]) -> usize {
+        match self.0 {
+            Some(present) => present.write_to(buffer),
+            None => self.1.write_to(buffer),
+        }
+    }
+
+    fn text_len(self) -> Option<usize> {
+        match self.0 {
+            Some(present) => present.text_len(),
+            None => self.1.text_len(),
+        }
+    }
+
+    fn is_known_utf8(self, own: Own) -> bool {
+        self.0.is_known_utf8(own) && self.1.is_known_utf8(own)
+    }
+}
+
+impl<P: Show, Q: Show> Show for OrElse<P, Q> {
+    ghost text = { λ part. or_else_text P.text (Q.text part.1) part.0 };
+
+    fn is_showable(self) -> bool {
+        self.0.is_showable() && self.1.is_showable()
+    }
+
+    fn write_pieces<O: fmt::Write>(self, out: &mut O) -> fmt::Result {
+        match self.0 {
+            Some(present) => present.write_pieces(out),
+            None => self.1.write_pieces(out),
+        }
+    }
+}

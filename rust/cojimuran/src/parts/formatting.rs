@@ -1,0 +1,15 @@
+// Made by `strip` from crates/lexical_parts/src/formatting.rt. Edit that file, not this one.
+
+//! Parts in a format string, such as `{:>10}`.
+
+// Which parts can be there.
+pub(crate) mod show;
+
+// Numbers, which have the options of integers, and other parts, which have those of strings.
+mod cell;
+mod display;
+pub(crate) mod shown;
+
+// A text that is written in pieces: its length, and its first characters.
+pub(crate) mod counted;
+mod cut;

@@ -1,0 +1,56 @@
+// Made by `strip` from crates/lexical_parts/src/formatting/show.rt. Edit that file, not this one.
+
+//! Parts that `{}` can write.
+
+use crate::parts::part::Part;
+use core::fmt;
+
+// The largest room of a part that is written at once.
+pub(crate) const MOST_AT_ONCE: usize = 256;
+
+/// A part that can be in a format string, by itself or in a [`Shown`](crate::Shown): `("id=", 7u8)` writes `id=7`, and
+/// so does `{}` of `Shown(("id=", 7u8))`. The parts of this crate are such parts, and so is a tuple, a
+/// [`Joined`](crate::Joined) or a column of such parts.
+///
+/// A part of your own becomes one if you define `is_showable`. Then a tuple with it can be in a format string. If its room
+/// can be above 256 bytes, define `write_pieces` too.
+///
+/// ```
+/// use cojimuran::parts::Part;
+///
+/// assert_eq!(("id=", 7u8).to_str(&mut [0; 64]), "id=7");
+/// ```
+pub trait Show: Part {
+    /// Returns whether the part is valid and its text is UTF-8, as `to_str` requires. If it returns `false`, `{}` of the
+    /// part is an error. For a part of your own that is always valid, return `true`.
+    #[must_use]
+    fn is_showable(self) -> bool;
+
+    /// Writes the text to a writer, such as a `String`, in one piece or in several. The part must be valid.
+    ///
+    /// If you do not define this method, it writes the text at once, for which the room must be at most 256 bytes. A part
+    /// that can be longer calls this method of the parts that it consists of, one after another.
+    ///
+    /// # Errors
+    ///
+    /// Returns the error of the writer, and an error for a `Bytes` that is not UTF-8. For a part of your own it also
+    /// returns an error if its room is above 256 bytes and you do not define this method, or if it does not write the same
+    /// text each time.
+    ///
+    /// # Panics
+    ///
+    /// If the part is not valid, or if the text of the part is not UTF-8.
+    #[inline]
+    fn write_pieces<O: fmt::Write>(self, out: &mut O) -> fmt::Result {
+        write_at_once(self, out)
+    }
+}
+
+// Writes the text to a writer with one call, or returns an error if the room is above 256 bytes.
+#[inline]
+pub(crate) fn write_at_once<P: Part, O: fmt::Write>(part: P, out: &mut O) -> fmt::Result {
+    match part.try_to_str(&mut [0; MOST_AT_ONCE]) {
+        Some(text) => out.write_str(text),
+        None => Err(fmt::Error),
+    }
+}

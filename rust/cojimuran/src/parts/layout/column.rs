@@ -1,0 +1,176 @@
+// Made by `strip` from crates/lexical_parts/src/layout/column.rt. Edit that file, not this one.
+
+//! Parts that are padded to the width of a column.
+
+use crate::parts::formatting::counted::{count_bytes, write_counted};
+use crate::parts::formatting::show::{MOST_AT_ONCE, Show, write_at_once};
+use crate::parts::layout::fill::{insert_fill, write_copies, write_fill};
+use crate::parts::own::Own;
+use crate::parts::part::Part;
+use core::fmt;
+
+/// A part that is aligned to the left of a column: a byte, often a space, is added after its text, up to
+/// the width. `Left(Decimal(12), 4, b'.')` writes `12..`. Nothing is added to a text longer than the
+/// width, which counts bytes and not characters.
+///
+/// ```
+/// use cojimuran::parts::{Decimal, Left, Part};
+///
+/// assert_eq!(Left(Decimal(12), 4, b'.').to_str(&mut [0; 64]), "12..");
+/// ```
+#[derive(Clone, Copy, PartialEq, Eq, Hash, Debug)]
+pub struct Left<P>(pub P, pub usize, pub u8);
+
+impl<P: Part> Part for Left<P> {
+    #[inline]
+    fn room(self) -> usize {
+        self.0.room().max(self.1)
+    }
+
+    #[inline]
+    fn write_to(self, buffer: &mut [u8]) -> usize {
+        let count = self.0.write_to(buffer);
+        count + write_fill(self.2, self.1.saturating_sub(count), &mut buffer[count..])
+    }
+
+    #[inline]
+    fn text_len(self) -> Option<usize> {
+        Some(self.0.text_len()?.max(self.1))
+    }
+
+    #[inline(always)]
+    fn is_known_utf8(self, own: Own) -> bool {
+        self.2 < 128 && self.0.is_known_utf8(own)
+    }
+}
+
+impl<P: Show> Show for Left<P> {
+    #[inline]
+    fn is_showable(self) -> bool {
+        self.2 < 128 && self.0.is_showable()
+    }
+
+    #[inline]
+    fn write_pieces<O: fmt::Write>(self, out: &mut O) -> fmt::Result {
+        if self.room() <= MOST_AT_ONCE {
+            return write_at_once(self, out);
+        }
+        let count = count_bytes(self.0)?;
+        write_counted(self.0, count, out)?;
+        write_copies(self.2, self.1.saturating_sub(count), out)
+    }
+}
+
+/// A part that is aligned to the right of a column: a byte, often a space, is added before its text, up
+/// to the width. `Right(Decimal(42), 4, b'.')` writes `..42`. Nothing is added to a text
+/// longer than the width, which counts bytes and not characters.
+///
+/// ```
+/// use cojimuran::parts::{Decimal, Part, Right};
+///
+/// assert_eq!(Right(Decimal(42), 4, b'.').to_str(&mut [0; 64]), "..42");
+/// ```
+#[derive(Clone, Copy, PartialEq, Eq, Hash, Debug)]
+pub struct Right<P>(pub P, pub usize, pub u8);
+
+impl<P: Part> Part for Right<P> {
+    #[inline]
+    fn room(self) -> usize {
+        self.0.room().max(self.1)
+    }
+
+    #[inline]
+    fn write_to(self, buffer: &mut [u8]) -> usize {
+        let count = self.0.write_to(buffer);
+        let added = self.1.saturating_sub(count);
+        insert_fill(self.2, added, count, buffer);
+        added + count
+    }
+
+    #[inline]
+    fn text_len(self) -> Option<usize> {
+        Some(self.0.text_len()?.max(self.1))
+    }
+
+    #[inline(always)]
+    fn is_known_utf8(self, own: Own) -> bool {
+        self.2 < 128 && self.0.is_known_utf8(own)
+    }
+}
+
+impl<P: Show> Show for Right<P> {
+    #[inline]
+    fn is_showable(self) -> bool {
+        self.2 < 128 && self.0.is_showable()
+    }
+
+    #[inline]
+    fn write_pieces<O: fmt::Write>(self, out: &mut O) -> fmt::Result {
+        if self.room() <= MOST_AT_ONCE {
+            return write_at_once(self, out);
+        }
+        let count = count_bytes(self.0)?;
+        write_copies(self.2, self.1.saturating_sub(count), out)?;
+        write_counted(self.0, count, out)
+    }
+}
+
+/// A part in the centre of a column: a byte, often a space, is added before and after its text, up to
+/// the width. Of an odd number of bytes the larger half is after the text, as with `{:^6}` in Rust:
+/// `Center(Decimal(-12), 6, b'*')` writes `*-12**`. Nothing is added to a text longer than the width,
+/// which counts bytes and not characters.
+///
+/// ```
+/// use cojimuran::parts::{Center, Decimal, Part};
+///
+/// assert_eq!(Center(Decimal(-12), 6, b'*').to_str(&mut [0; 64]), "*-12**");
+/// ```
+#[derive(Clone, Copy, PartialEq, Eq, Hash, Debug)]
+pub struct Center<P>(pub P, pub usize, pub u8);
+
+impl<P: Part> Part for Center<P> {
+    #[inline]
+    fn room(self) -> usize {
+        self.0.room().max(self.1)
+    }
+
+    #[inline]
+    fn write_to(self, buffer: &mut [u8]) -> usize {
+        let count = self.0.write_to(buffer);
+        let added = self.1.saturating_sub(count);
+        let before = added / 2;
+        insert_fill(self.2, before, count, buffer);
+        let end = before + count;
+        end + write_fill(self.2, added - before, &mut buffer[end..])
+    }
+
+    #[inline]
+    fn text_len(self) -> Option<usize> {
+        Some(self.0.text_len()?.max(self.1))
+    }
+
+    #[inline(always)]
+    fn is_known_utf8(self, own: Own) -> bool {
+        self.2 < 128 && self.0.is_known_utf8(own)
+    }
+}
+
+impl<P: Show> Show for Center<P> {
+    #[inline]
+    fn is_showable(self) -> bool {
+        self.2 < 128 && self.0.is_showable()
+    }
+
+    #[inline]
+    fn write_pieces<O: fmt::Write>(self, out: &mut O) -> fmt::Result {
+        if self.room() <= MOST_AT_ONCE {
+            return write_at_once(self, out);
+        }
+        let count = count_bytes(self.0)?;
+        let added = self.1.saturating_sub(count);
+        let before = added / 2;
+        write_copies(self.2, before, out)?;
+        write_counted(self.0, count, out)?;
+        write_copies(self.2, added - before, out)
+    }
+}

@@ -1,0 +1,27 @@
+// Made by `strip` from crates/lexical_parts/src/layout/field.rt. Edit that file, not this one.
+
+//! Texts at fixed places of a buffer, such as the header of a file.
+
+use crate::parts::part::Part;
+
+/// Writes a part whose texts all have `count` bytes to the field of this length at the index. No other byte of
+/// the buffer changes. The part must be valid, and the buffer must have the field.
+///
+/// ```
+/// use cojimuran::parts::{PaddedDigits, write_field};
+///
+/// let mut header = *b"size:....;";
+/// write_field(PaddedDigits(8, 420u16, 4), 5, 4, &mut header);
+/// assert_eq!(header, *b"size:0644;");
+/// ```
+///
+/// # Panics
+///
+/// If the part is not valid, or if the text does not have `count` bytes, or if the buffer is
+/// [too short](crate#conditions).
+#[inline]
+pub fn write_field<P: Part>(part: P, index: usize, count: usize, buffer: &mut [u8]) {
+    let end = part.write_at(index, buffer);
+    // In Rust nothing else refuses a text of another length.
+    assert!(end == index + count, "the text does not have `count` bytes");
+}

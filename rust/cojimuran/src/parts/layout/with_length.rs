@@ -1,0 +1,40 @@
+// Made by `strip` from crates/lexical_parts/src/layout/with_length.rt. Edit that file, not this one.
+
+//! A text with its length before it.
+
+use crate::parts::part::Part;
+use crate::write_integer::padded::write_padded;
+
+/// Writes the length of a part plus `extra` in `width` digits of the radix, and then the part. Returns the length of the
+/// part alone, without the digits before it. With an `extra` of 4 in radix 16, `"done\n"` after four digits is
+/// `0009done\n`, and the result is 5. Later bytes are unchanged. The part must be valid, its room plus `extra` below
+/// `radix^width`, and the buffer as long as `width` and the room.
+///
+/// ```
+/// use cojimuran::parts::write_with_length;
+///
+/// let mut buffer = [0; 9];
+/// assert_eq!(write_with_length("done\n", 16, 4, 4, &mut buffer), 5);
+/// assert_eq!(buffer, *b"0009done\n");
+/// ```
+///
+/// # Panics
+///
+/// If the part is not valid, or if the radix is not from 2 to 36, or if the buffer is [too short](crate#conditions), or
+/// if the length has more digits than `width`, or if the length and `extra` together are above `usize::MAX`.
+#[inline]
+pub fn write_with_length<P: Part>(
+    part: P,
+    radix: u32,
+    width: usize,
+    extra: usize,
+    buffer: &mut [u8],
+) -> usize {
+    let count = part.write_to(&mut buffer[width..]);
+    assert!(
+        count <= usize::MAX - extra,
+        "the length and `extra` together are above usize::MAX"
+    );
+    write_padded(extra + count, radix, &mut buffer[..width]);
+    count
+}

@@ -1,0 +1,109 @@
+// Made by `strip` from crates/lexical_parts/src/layout/zero_padded.rt. Edit that file, not this one.
+
+//! Numbers with leading zeros, up to at least a width.
+
+use crate::parts::formatting::counted::{count_bytes, write_counted};
+use crate::parts::formatting::show::{MOST_AT_ONCE, Show, write_at_once};
+use crate::parts::layout::fill::{insert_fill, write_copies};
+use crate::parts::own::Own;
+use crate::parts::part::Part;
+use core::fmt;
+
+// Returns the length of the sign with which the text begins: 1 for `-` or `+`, and otherwise 0.
+#[inline]
+fn length_of_sign(text: &[u8]) -> usize {
+    match text {
+        [b'-' | b'+', ..] => 1,
+        _ => 0,
+    }
+}
+
+/// A part with zeros after its sign, up to the width: `ZeroPadded(Decimal(-42), 6)` writes `-00042`, as
+/// `{:06}` does in Rust. A text longer than the width, which counts bytes, has no zeros.
+/// [`Padded`](crate::Padded) has a width that the number must fit.
+///
+/// ```
+/// use cojimuran::parts::{Decimal, Part, ZeroPadded};
+///
+/// assert_eq!(ZeroPadded(Decimal(-42), 6).to_str(&mut [0; 64]), "-00042");
+/// ```
+#[derive(Clone, Copy, PartialEq, Eq, Hash, Debug)]
+pub struct ZeroPadded<P>(pub P, pub usize);
+
+impl<P: Part> Part for ZeroPadded<P> {
+    #[inline]
+    fn room(self) -> usize {
+        self.0.room().max(self.1)
+    }
+
+    #[inline]
+    fn write_to(self, buffer: &mut [u8]) -> usize {
+        let count = self.0.write_to(buffer);
+        let sign = length_of_sign(&buffer[..count]);
+        let zeros = self.1.saturating_sub(count);
+        insert_fill(b'0', zeros, count - sign, &mut buffer[sign..]);
+        zeros + count
+    }
+
+    #[inline]
+    fn text_len(self) -> Option<usize> {
+        Some(self.0.text_len()?.max(self.1))
+    }
+
+    #[inline(always)]
+    fn is_known_utf8(self, own: Own) -> bool {
+        self.0.is_known_utf8(own)
+    }
+}
+
+impl<P: Show> Show for ZeroPadded<P> {
+    #[inline]
+    fn is_showable(self) -> bool {
+        self.0.is_showable()
+    }
+
+    #[inline]
+    fn write_pieces<O: fmt::Write>(self, out: &mut O) -> fmt::Result {
+        if self.room() <= MOST_AT_ONCE {
+            return write_at_once(self, out);
+        }
+        let count = count_bytes(self.0)?;
+        let mut adding = AddingZeros {
+            out,
+            zeros: self.1.saturating_sub(count),
+        };
+        write_counted(self.0, count, &mut adding)?;
+        // A text without a byte has begun no piece.
+        let zeros = adding.zeros;
+        // By this use it is known what the writer is now.
+        let AddingZeros { out, .. } = adding;
+        write_copies(b'0', zeros, out)
+    }
+}
+
+// A writer that adds zeros after the sign of the first piece that is not empty.
+struct AddingZeros<'a, O> {
+    out: &'a mut O,
+    // How many zeros are still to be added.
+    zeros: usize,
+}
+
+impl<O: fmt::Write> fmt::Write for AddingZeros<'_, O> {
+    #[inline]
+    fn write_str(&mut self, text: &str) -> fmt::Result {
+        if text.is_empty() {
+            return Ok(());
+        }
+        let sign = length_of_sign(text.as_bytes());
+        let zeros = self.zeros;
+        self.zeros = 0;
+        match (text.get(..sign), text.get(sign..)) {
+            (Some(sign), Some(number)) => {
+                self.out.write_str(sign)?;
+                write_copies(b'0', zeros, self.out)?;
+                self.out.write_str(number)
+            }
+            _ => Err(fmt::Error),
+        }
+    }
+}

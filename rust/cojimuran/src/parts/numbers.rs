@@ -1,0 +1,25 @@
+// Made by `strip` from crates/lexical_parts/src/numbers.rt. Edit that file, not this one.
+
+//! Parts that are numbers.
+
+// In decimal, in any radix, and in a format.
+pub(crate) mod decimal;
+pub(crate) mod digits;
+pub(crate) mod formatted;
+
+// The integer types, with a sign in each case, and the sign alone.
+mod integers;
+pub(crate) mod plus;
+pub(crate) mod sign;
+
+// Leading zeros, and radix 16 and 2.
+pub(crate) mod padded;
+pub(crate) mod powers_of_two;
+
+// With decimals, and in scientific notation.
+pub(crate) mod fixed;
+pub(crate) mod scientific;
+pub(crate) mod trimmed;
+
+// A number as a `&str`, in a buffer of its own.
+pub(crate) mod decimal_buffer;

@@ -1,0 +1,62 @@
+// Made by `strip` from crates/lexical_parts/src/numbers/digits.rt. Edit that file, not this one.
+
+//! The digits of an unsigned number in any radix.
+
+use crate::num::limits::is_radix;
+use crate::parts::formatting::show::Show;
+use crate::parts::own::Own;
+use crate::parts::part::Part;
+use crate::write_integer::digit_count::{DigitCount, most_digits};
+use crate::write_integer::radix::Radix;
+
+/// The digits of an unsigned number in a radix from 2 to 36: `Digits(16, 255u32)` writes `FF`. The digits above 9 are `A`
+/// to `Z`; `Lower(Digits(16, 255u32))` writes `ff`. With another radix the part is not valid.
+///
+/// The number has a type of its own, so a literal needs one: `Digits(36, 1000u64)`. Its room is the number of its digits.
+///
+/// ```
+/// use cojimuran::parts::{Digits, Lower, Part};
+///
+/// assert_eq!(Digits(16, 255u32).to_str(&mut [0; 64]), "FF");
+/// assert_eq!(Lower(Digits(16, 255u32)).to_str(&mut [0; 64]), "ff");
+/// ```
+#[derive(Clone, Copy, PartialEq, Eq, Hash, Debug)]
+pub struct Digits<T>(pub u32, pub T);
+
+impl<T: Radix + DigitCount> Part for Digits<T> {
+    #[inline(always)]
+    #[track_caller]
+    fn room(self) -> usize {
+        self.1.digit_count(self.0)
+    }
+
+    #[inline(always)]
+    #[track_caller]
+    fn write_to(self, buffer: &mut [u8]) -> usize {
+        self.1.radix(self.0, buffer)
+    }
+
+    #[inline(always)]
+    #[track_caller]
+    fn text_len(self) -> Option<usize> {
+        Some(self.1.digit_count(self.0))
+    }
+
+    #[inline(always)]
+    fn most_room(self, _own: Own) -> usize {
+        most_digits::<T>(self.0)
+    }
+
+    #[inline(always)]
+    fn is_known_utf8(self, _own: Own) -> bool {
+        is_radix(u64::from(self.0))
+    }
+}
+
+impl<T: Radix + DigitCount> Show for Digits<T> {
+    #[inline(always)]
+    #[track_caller]
+    fn is_showable(self) -> bool {
+        self.is_known_utf8(Own)
+    }
+}

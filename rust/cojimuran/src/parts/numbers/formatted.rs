@@ -1,0 +1,69 @@
+// Made by `strip` from crates/lexical_parts/src/numbers/formatted.rt. Edit that file, not this one.
+
+//! A number in a format, which has a radix, a sign and groups of digits.
+
+use crate::parts::formatting::show::Show;
+use crate::parts::own::Own;
+use crate::parts::part::Part;
+use crate::write_integer::digit_count::DigitCount;
+use crate::write_integer::{NumberFormat, ToLexical, sign_len};
+
+// Returns the largest absolute value of a number of the type.
+#[inline(always)]
+#[track_caller]
+fn largest_magnitude<T: ToLexical>() -> u64 {
+    let all_bits = u64::MAX >> (64 - T::BITS);
+    if T::IS_SIGNED {
+        all_bits / 2 + 1
+    } else {
+        all_bits
+    }
+}
+
+/// A number in a format, with its sign and its groups: in a format with groups of three digits and
+/// the separator `,`, `Formatted(1234567, &format)` writes `1,234,567`.
+///
+/// ```
+/// use cojimuran::parts::{Formatted, Part};
+///
+/// let format = cojimuran::NumberFormatBuilder::new().digit_grouping(3, b',').build_strict();
+/// assert_eq!(Formatted(1234567, &format).to_str(&mut [0; 64]), "1,234,567");
+/// ```
+#[derive(Clone, Copy, PartialEq, Eq, Hash, Debug)]
+pub struct Formatted<'a, T>(pub T, pub &'a NumberFormat);
+
+impl<T: ToLexical> Part for Formatted<'_, T> {
+    #[inline(always)]
+    #[track_caller]
+    fn room(self) -> usize {
+        let sign = usize::from(T::IS_SIGNED || self.1.required_mantissa_sign());
+        let digits = largest_magnitude::<T>().digit_count(self.1.mantissa_radix());
+        sign + self.1.grouped_len(digits)
+    }
+
+    #[inline(always)]
+    #[track_caller]
+    fn write_to(self, buffer: &mut [u8]) -> usize {
+        self.0.write_text(buffer, self.1)
+    }
+
+    #[inline(always)]
+    #[track_caller]
+    fn text_len(self) -> Option<usize> {
+        let digits = self.0.magnitude_digits(self.1.mantissa_radix());
+        Some(sign_len(self.0, self.1) + self.1.grouped_len(digits))
+    }
+
+    #[inline(always)]
+    fn is_known_utf8(self, _own: Own) -> bool {
+        true
+    }
+}
+
+impl<T: ToLexical> Show for Formatted<'_, T> {
+    #[inline(always)]
+    #[track_caller]
+    fn is_showable(self) -> bool {
+        self.is_known_utf8(Own)
+    }
+}

@@ -1,0 +1,129 @@
+// Made by `strip` from crates/lexical_parts/src/numbers/padded.rt. Edit that file, not this one.
+
+//! Numbers with leading zeros, up to a fixed width.
+
+use crate::num::limits::is_radix;
+use crate::parts::formatting::show::{Show, write_at_once};
+use crate::parts::layout::fill::write_copies;
+use crate::parts::own::Own;
+use crate::parts::part::Part;
+use crate::write_integer::digit_count::DigitCount;
+use crate::write_integer::padded::{fits_decimal_width, write_padded};
+use crate::write_integer::radix::Radix;
+use core::fmt;
+
+// The digits of the longest number, and the most that are written to a writer at once.
+pub(crate) const MOST_DIGITS: usize = 64;
+
+// Returns whether the number has so few bits that it is below `radix^width`. To count its digits costs more, and is not
+// needed if the radix is a power of two.
+#[inline(always)]
+fn has_few_bits(number: u64, radix: u32, width: usize) -> bool {
+    if width >= 64 {
+        return true;
+    }
+    let bits = radix.ilog2() as usize * width;
+    bits >= 64 || number >> bits == 0
+}
+
+/// The digits of an unsigned number in a radix from 2 to 36, with leading zeros up to the width:
+/// `PaddedDigits(16, 1u8, 2)` writes `01`. The number must be below `radix.pow(width)`, and a literal needs a type.
+///
+/// ```
+/// use cojimuran::parts::{PaddedDigits, Part};
+///
+/// assert_eq!(PaddedDigits(16, 1u8, 2).to_str(&mut [0; 64]), "01");
+/// ```
+#[derive(Clone, Copy, PartialEq, Eq, Hash, Debug)]
+pub struct PaddedDigits<T>(pub u32, pub T, pub usize);
+
+impl<T: DigitCount + Radix> Part for PaddedDigits<T> {
+    #[inline(always)]
+    fn room(self) -> usize {
+        self.2
+    }
+
+    #[inline(always)]
+    fn write_to(self, buffer: &mut [u8]) -> usize {
+        write_padded(self.1, self.0, &mut buffer[..self.2]);
+        // `write_padded` returns the same number, but a constant width is known without its result,
+        // and with it the position of the next part.
+        self.2
+    }
+
+    #[inline(always)]
+    fn text_len(self) -> Option<usize> {
+        Some(self.2)
+    }
+
+    #[inline(always)]
+    fn is_known_utf8(self, own: Own) -> bool {
+        if self.0 == 10 {
+            return Padded(self.1, self.2).is_known_utf8(own);
+        }
+        is_radix(u64::from(self.0))
+            && (has_few_bits(self.1.as_u64(), self.0, self.2)
+                || self.1.digit_count(self.0) <= self.2)
+    }
+}
+
+impl<T: DigitCount + Radix> Show for PaddedDigits<T> {
+    #[inline(always)]
+    fn is_showable(self) -> bool {
+        self.is_known_utf8(Own)
+    }
+
+    #[inline(always)]
+    fn write_pieces<O: fmt::Write>(self, out: &mut O) -> fmt::Result {
+        let width = self.2.min(MOST_DIGITS);
+        write_copies(b'0', self.2 - width, out)?;
+        write_at_once(PaddedDigits(self.0, self.1, width), out)
+    }
+}
+
+/// An unsigned number in decimal, with leading zeros up to the width: `Padded(3u8, 2)` writes `03`.
+/// The number must be below `10.pow(width)`, and a literal needs a type. [`ZeroPadded`](crate::ZeroPadded)
+/// writes every number: `ZeroPadded(123u8, 2)` writes `123`.
+///
+/// ```
+/// use cojimuran::parts::{Padded, Part, ZeroPadded};
+///
+/// assert_eq!(Padded(3u8, 2).to_str(&mut [0; 64]), "03");
+/// assert_eq!(ZeroPadded(123u8, 2).to_str(&mut [0; 64]), "123");
+/// ```
+#[derive(Clone, Copy, PartialEq, Eq, Hash, Debug)]
+pub struct Padded<T>(pub T, pub usize);
+
+impl<T: DigitCount + Radix> Part for Padded<T> {
+    #[inline(always)]
+    fn room(self) -> usize {
+        self.1
+    }
+
+    #[inline(always)]
+    fn write_to(self, buffer: &mut [u8]) -> usize {
+        PaddedDigits(10, self.0, self.1).write_to(buffer)
+    }
+
+    #[inline(always)]
+    fn text_len(self) -> Option<usize> {
+        Some(self.1)
+    }
+
+    #[inline(always)]
+    fn is_known_utf8(self, _own: Own) -> bool {
+        fits_decimal_width(self.0.as_u64(), self.1)
+    }
+}
+
+impl<T: DigitCount + Radix> Show for Padded<T> {
+    #[inline(always)]
+    fn is_showable(self) -> bool {
+        self.is_known_utf8(Own)
+    }
+
+    #[inline(always)]
+    fn write_pieces<O: fmt::Write>(self, out: &mut O) -> fmt::Result {
+        PaddedDigits(10, self.0, self.1).write_pieces(out)
+    }
+}

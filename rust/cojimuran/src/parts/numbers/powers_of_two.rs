@@ -1,0 +1,238 @@
+// Made by `strip` from crates/lexical_parts/src/numbers/powers_of_two.rt. Edit that file, not this one.
+
+//! Unsigned numbers in radix 16 and in radix 2, in the room of their type, and bytes in radix 16.
+
+use crate::parts::formatting::show::{MOST_AT_ONCE, Show, write_at_once};
+use crate::parts::layout::joined::{separator_before, write_next};
+use crate::parts::numbers::padded::PaddedDigits;
+use crate::parts::own::Own;
+use crate::parts::part::Part;
+use crate::tables::get_table;
+use crate::write_integer::digit_count::DigitCount;
+use crate::write_integer::radix::{Radix, constant_radix};
+use core::fmt;
+
+/// The digits of an unsigned number in radix 16, without a prefix: `Hex(255u32)` writes `FF`. Its room
+/// is that of its type: 2 bytes for a `u8`, and 16 for a `u64`. So a literal needs a type: `Hex(255u8)`.
+///
+/// ```
+/// use cojimuran::parts::{Hex, Part};
+///
+/// assert_eq!(Hex(255u32).to_str(&mut [0; 64]), "FF");
+/// ```
+#[derive(Clone, Copy, PartialEq, Eq, Hash, Debug)]
+pub struct Hex<T>(pub T);
+
+impl<T: Radix> Part for Hex<T> {
+    #[inline(always)]
+    #[track_caller]
+    fn room(self) -> usize {
+        T::BITS / 4 // Each digit has four bits.
+    }
+
+    #[inline(always)]
+    #[track_caller]
+    fn write_to(self, buffer: &mut [u8]) -> usize {
+        constant_radix(self.0, 16, buffer)
+    }
+
+    #[inline(always)]
+    #[track_caller]
+    fn text_len(self) -> Option<usize> {
+        Some(self.0.as_u64().digit_count(16))
+    }
+
+    #[inline(always)]
+    fn is_known_utf8(self, _own: Own) -> bool {
+        true
+    }
+}
+
+impl<T: Radix> Show for Hex<T> {
+    #[inline(always)]
+    #[track_caller]
+    fn is_showable(self) -> bool {
+        self.is_known_utf8(Own)
+    }
+}
+
+/// The digits of an unsigned number in radix 2, without a prefix: `Binary(5u8)` writes `101`. Its room
+/// is that of its type: 8 bytes for a `u8`, and 64 for a `u64`. So a literal needs a type: `Binary(5u8)`.
+///
+/// ```
+/// use cojimuran::parts::{Binary, Part};
+///
+/// assert_eq!(Binary(5u8).to_str(&mut [0; 64]), "101");
+/// ```
+#[derive(Clone, Copy, PartialEq, Eq, Hash, Debug)]
+pub struct Binary<T>(pub T);
+
+impl<T: Radix> Part for Binary<T> {
+    #[inline(always)]
+    #[track_caller]
+    fn room(self) -> usize {
+        T::BITS
+    }
+
+    #[inline(always)]
+    #[track_caller]
+    fn write_to(self, buffer: &mut [u8]) -> usize {
+        self.0.radix(2, buffer)
+    }
+
+    #[inline(always)]
+    #[track_caller]
+    fn text_len(self) -> Option<usize> {
+        Some(self.0.as_u64().digit_count(2))
+    }
+
+    #[inline(always)]
+    fn is_known_utf8(self, _own: Own) -> bool {
+        true
+    }
+}
+
+impl<T: Radix> Show for Binary<T> {
+    #[inline(always)]
+    #[track_caller]
+    fn is_showable(self) -> bool {
+        self.is_known_utf8(Own)
+    }
+}
+
+/// All digits of an unsigned number in radix 16, with leading zeros up to the width of its type, which is 2 for a `u8`, and
+/// 16 for a `u64` and for a `usize` on every target: `FullHex(255u16)` writes `00FF`. So a literal needs a type.
+///
+/// ```
+/// use cojimuran::parts::{FullHex, Part};
+///
+/// assert_eq!(FullHex(255u16).to_str(&mut [0; 64]), "00FF");
+/// ```
+#[derive(Clone, Copy, PartialEq, Eq, Hash, Debug)]
+pub struct FullHex<T>(pub T);
+
+impl<T: DigitCount + Radix> Part for FullHex<T> {
+    #[inline(always)]
+    #[track_caller]
+    fn room(self) -> usize {
+        T::BITS / 4
+    }
+
+    #[inline(always)]
+    #[track_caller]
+    fn write_to(self, buffer: &mut [u8]) -> usize {
+        PaddedDigits(16, self.0, T::BITS / 4).write_to(buffer)
+    }
+
+    #[inline(always)]
+    #[track_caller]
+    fn text_len(self) -> Option<usize> {
+        Some(T::BITS / 4)
+    }
+
+    #[inline(always)]
+    fn is_known_utf8(self, _own: Own) -> bool {
+        true
+    }
+}
+
+impl<T: DigitCount + Radix> Show for FullHex<T> {
+    #[inline(always)]
+    #[track_caller]
+    fn is_showable(self) -> bool {
+        self.is_known_utf8(Own)
+    }
+}
+
+// The two digits of a byte in radix 16.
+#[derive(Clone, Copy)]
+struct HexByte(u8);
+
+impl Part for HexByte {
+    #[inline(always)]
+    #[track_caller]
+    fn room(self) -> usize {
+        2
+    }
+
+    #[inline(always)]
+    #[track_caller]
+    fn write_to(self, buffer: &mut [u8]) -> usize {
+        let table = get_table(16);
+        let index = 2 * usize::from(self.0);
+        // Both characters are read first, so a compiler moves them as one number.
+        let (first, second) = (table[index], table[index + 1]);
+        // rustc tests the end of these bytes once.
+        let written = &mut buffer[..2];
+        written[1] = second;
+        written[0] = first;
+        2
+    }
+}
+
+/// The bytes of a slice in radix 16, each in two digits, with a separator between adjacent bytes:
+/// `HexBytes(&[1, 255], "")` writes `01FF`, and `HexBytes(&[1, 255], ":")` writes `01:FF`.
+///
+/// ```
+/// use cojimuran::parts::{HexBytes, Part};
+///
+/// assert_eq!(HexBytes(&[1, 255], "").to_str(&mut [0; 64]), "01FF");
+/// assert_eq!(HexBytes(&[1, 255], ":").to_str(&mut [0; 64]), "01:FF");
+/// ```
+#[derive(Clone, Copy, PartialEq, Eq, Hash, Debug)]
+pub struct HexBytes<'a>(pub &'a [u8], pub &'a str);
+
+impl Part for HexBytes<'_> {
+    #[inline(always)]
+    #[track_caller]
+    fn room(self) -> usize {
+        let separators = self.0.len().saturating_sub(1);
+        let digits = self.0.len().saturating_mul(2);
+        digits.saturating_add(separators.saturating_mul(self.1.len()))
+    }
+
+    #[inline(always)]
+    #[track_caller]
+    fn write_to(self, buffer: &mut [u8]) -> usize {
+        // The loop of `Joined`, whose slice contains the parts: here each byte becomes one.
+        let mut count = 0;
+        for (index, byte) in self.0.iter().enumerate() {
+            count += write_next(index, self.1, HexByte(*byte), &mut buffer[count..]);
+        }
+        count
+    }
+
+    #[inline(always)]
+    #[track_caller]
+    fn text_len(self) -> Option<usize> {
+        let digits = self.0.len().checked_mul(2)?;
+        let separators = self.0.len().saturating_sub(1);
+        digits.checked_add(separators.checked_mul(self.1.len())?)
+    }
+
+    #[inline(always)]
+    fn is_known_utf8(self, _own: Own) -> bool {
+        true
+    }
+}
+
+impl Show for HexBytes<'_> {
+    #[inline(always)]
+    #[track_caller]
+    fn is_showable(self) -> bool {
+        self.is_known_utf8(Own)
+    }
+
+    #[inline(always)]
+    #[track_caller]
+    fn write_pieces<O: fmt::Write>(self, out: &mut O) -> fmt::Result {
+        if self.room() <= MOST_AT_ONCE {
+            return write_at_once(self, out);
+        }
+        for (index, byte) in self.0.iter().enumerate() {
+            out.write_str(separator_before(index, self.1))?;
+            out.write_str(HexByte(*byte).to_str(&mut [0; 2]))?;
+        }
+        Ok(())
+    }
+}

@@ -1,0 +1,42 @@
+// Made by `strip` from crates/lexical_parts/src/texts/chars.rt. Edit that file, not this one.
+
+//! Characters, which are parts: the text of a `char` is its UTF-8.
+
+use crate::parts::formatting::show::Show;
+use crate::parts::own::Own;
+use crate::parts::part::Part;
+
+impl Part for char {
+    #[inline(always)]
+    #[track_caller]
+    fn room(self) -> usize {
+        4
+    }
+
+    #[inline(always)]
+    #[track_caller]
+    fn write_to(self, buffer: &mut [u8]) -> usize {
+        let mut bytes = [0; 4];
+        let text: &str = self.encode_utf8(&mut bytes);
+        text.write_to(buffer)
+    }
+
+    #[inline(always)]
+    #[track_caller]
+    fn text_len(self) -> Option<usize> {
+        Some(self.len_utf8())
+    }
+
+    #[inline(always)]
+    fn is_known_utf8(self, _own: Own) -> bool {
+        true
+    }
+}
+
+impl Show for char {
+    #[inline(always)]
+    #[track_caller]
+    fn is_showable(self) -> bool {
+        self.is_known_utf8(Own)
+    }
+}

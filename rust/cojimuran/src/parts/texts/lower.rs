@@ -1,0 +1,101 @@
+// Made by `strip` from crates/lexical_parts/src/texts/lower.rt. Edit that file, not this one.
+
+//! Parts in lowercase.
+
+use crate::parts::formatting::show::{MOST_AT_ONCE, Show, write_at_once};
+use crate::parts::own::Own;
+use crate::parts::part::Part;
+use core::fmt;
+
+/// A part in lowercase: its text with `A` to `Z` as `a` to `z`, and every other byte unchanged.
+/// `Lower(PaddedDigits(16, 255u32, 4))` writes `00ff`.
+///
+/// ```
+/// use cojimuran::parts::{Lower, PaddedDigits, Part};
+///
+/// assert_eq!(Lower(PaddedDigits(16, 255u32, 4)).to_str(&mut [0; 64]), "00ff");
+/// ```
+#[derive(Clone, Copy, PartialEq, Eq, Hash, Debug)]
+pub struct Lower<P>(pub P);
+
+impl<P: Part> Part for Lower<P> {
+    #[inline]
+    fn room(self) -> usize {
+        self.0.room()
+    }
+
+    #[inline]
+    fn write_to(self, buffer: &mut [u8]) -> usize {
+        let count = self.0.write_to(buffer);
+        buffer[..count].make_ascii_lowercase();
+        count
+    }
+
+    #[inline]
+    fn text_len(self) -> Option<usize> {
+        self.0.text_len()
+    }
+
+    #[inline(always)]
+    fn most_room(self, own: Own) -> usize {
+        self.0.most_room(own)
+    }
+
+    #[inline(always)]
+    fn is_known_utf8(self, own: Own) -> bool {
+        self.0.is_known_utf8(own)
+    }
+}
+
+impl<P: Show> Show for Lower<P> {
+    #[inline]
+    fn is_showable(self) -> bool {
+        self.0.is_showable()
+    }
+
+    #[inline]
+    fn write_pieces<O: fmt::Write>(self, out: &mut O) -> fmt::Result {
+        if self.room() <= MOST_AT_ONCE {
+            return write_at_once(self, out);
+        }
+        let mut lowering = Lowering { out };
+        let result = self.0.write_pieces(&mut lowering);
+        // No effect at run time, but by this use it is known what the writer is now.
+        let Lowering { out } = lowering;
+        let _ = &*out;
+        result
+    }
+}
+
+// A writer of what is written to it in lowercase.
+struct Lowering<'a, O> {
+    out: &'a mut O,
+}
+
+impl<O: fmt::Write> fmt::Write for Lowering<'_, O> {
+    #[inline]
+    fn write_str(&mut self, text: &str) -> fmt::Result {
+        let mut start = 0;
+        while start < text.len() {
+            let piece = piece_at(text, start);
+            if piece.is_empty() {
+                return Err(fmt::Error);
+            }
+            write_at_once(Lower(piece), self.out)?;
+            start += piece.len();
+        }
+        Ok(())
+    }
+}
+
+// Returns a piece of the text, of at most 64 bytes: the longest that ends where a character ends.
+#[inline]
+fn piece_at(text: &str, start: usize) -> &str {
+    let end = text.len().min(start.saturating_add(64));
+    for fewer in 0..4 {
+        if let Some(piece) = text.get(start..end.saturating_sub(fewer)) {
+            return piece;
+        }
+    }
+    ""
+}

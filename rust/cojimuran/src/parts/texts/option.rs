@@ -1,0 +1,117 @@
+// Made by `strip` from crates/lexical_parts/src/texts/option.rt. Edit that file, not this one.
+
+//! Parts that may be absent: the text of `Some(part)` is that of the part, and `None` has no bytes.
+
+use crate::parts::formatting::show::Show;
+use crate::parts::own::Own;
+use crate::parts::part::Part;
+use crate::write_integer::buffer::copy_to_front;
+use core::fmt;
+
+impl<P: Part> Part for Option<P> {
+    #[inline]
+    fn room(self) -> usize {
+        match self {
+            Some(part) => part.room(),
+            None => 0,
+        }
+    }
+
+    #[inline]
+    fn write_to(self, buffer: &mut [u8]) -> usize {
+        match self {
+            Some(part) => part.write_to(buffer),
+            None => copy_to_front(b"", buffer),
+        }
+    }
+
+    #[inline]
+    fn text_len(self) -> Option<usize> {
+        match self {
+            Some(part) => part.text_len(),
+            None => Some(0),
+        }
+    }
+
+    #[inline(always)]
+    fn is_known_utf8(self, own: Own) -> bool {
+        match self {
+            Some(part) => part.is_known_utf8(own),
+            // No bytes are UTF-8.
+            None => true,
+        }
+    }
+}
+
+impl<P: Show> Show for Option<P> {
+    #[inline]
+    fn is_showable(self) -> bool {
+        match self {
+            Some(part) => part.is_showable(),
+            None => true,
+        }
+    }
+
+    #[inline]
+    fn write_pieces<O: fmt::Write>(self, out: &mut O) -> fmt::Result {
+        match self {
+            Some(part) => part.write_pieces(out),
+            None => Ok(()),
+        }
+    }
+}
+
+/// A part that may be absent, and the part that is written in its place: `OrElse(Some(5u8), "n/a")` writes `5`, and
+/// `OrElse(None::<u8>, "n/a")` writes `n/a`. Both must be valid.
+///
+/// ```
+/// use cojimuran::parts::{OrElse, Part};
+///
+/// assert_eq!(OrElse(Some(5u8), "n/a").to_str(&mut [0; 64]), "5");
+/// assert_eq!(OrElse(None::<u8>, "n/a").to_str(&mut [0; 64]), "n/a");
+/// ```
+#[derive(Clone, Copy, PartialEq, Eq, Hash, Debug)]
+pub struct OrElse<P, Q>(pub Option<P>, pub Q);
+
+impl<P: Part, Q: Part> Part for OrElse<P, Q> {
+    #[inline]
+    fn room(self) -> usize {
+        self.0.room().max(self.1.room())
+    }
+
+    #[inline]
+    fn write_to(self, buffer: &mut [u8]) -> usize {
+        match self.0 {
+            Some(present) => present.write_to(buffer),
+            None => self.1.write_to(buffer),
+        }
+    }
+
+    #[inline]
+    fn text_len(self) -> Option<usize> {
+        match self.0 {
+            Some(present) => present.text_len(),
+            None => self.1.text_len(),
+        }
+    }
+
+    #[inline(always)]
+    fn is_known_utf8(self, own: Own) -> bool {
+        self.0.is_known_utf8(own) && self.1.is_known_utf8(own)
+    }
+}
+
+impl<P: Show, Q: Show> Show for OrElse<P, Q> {
+    #[inline]
+    fn is_showable(self) -> bool {
+        self.0.is_showable() && self.1.is_showable()
+    }
+
+    #[inline]
+    fn write_pieces<O: fmt::Write>(self, out: &mut O) -> fmt::Result {
+        match self.0 {
+            Some(present) => present.write_pieces(out),
+            None => self.1.write_pieces(out),
+        }
+    }
+}

@@ -1,0 +1,42 @@
+// Made by `strip` from crates/lexical_parts/src/texts/reference.rt. Edit that file, not this one.
+
+//! References to parts, which have the text of the part.
+
+use crate::parts::formatting::show::Show;
+use crate::parts::own::Own;
+use crate::parts::part::Part;
+use core::fmt;
+
+impl<P: Part> Part for &P {
+    #[inline]
+    fn room(self) -> usize {
+        (*self).room()
+    }
+
+    #[inline]
+    fn write_to(self, buffer: &mut [u8]) -> usize {
+        (*self).write_to(buffer)
+    }
+
+    #[inline]
+    fn text_len(self) -> Option<usize> {
+        (*self).text_len()
+    }
+
+    #[inline(always)]
+    fn is_known_utf8(self, own: Own) -> bool {
+        (*self).is_known_utf8(own)
+    }
+}
+
+impl<P: Show> Show for &P {
+    #[inline]
+    fn is_showable(self) -> bool {
+        (*self).is_showable()
+    }
+
+    #[inline]
+    fn write_pieces<O: fmt::Write>(self, out: &mut O) -> fmt::Result {
+        (*self).write_pieces(out)
+    }
+}

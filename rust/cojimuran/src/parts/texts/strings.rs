@@ -1,0 +1,48 @@
+// Made by `strip` from crates/lexical_parts/src/texts/strings.rt. Edit that file, not this one.
+
+//! Strings, which are parts: the text of a `&str` is the string.
+
+use crate::parts::formatting::show::Show;
+use crate::parts::own::Own;
+use crate::parts::part::Part;
+use crate::write_integer::buffer::copy_to_front;
+use core::fmt;
+
+impl Part for &str {
+    #[inline(always)]
+    #[track_caller]
+    fn room(self) -> usize {
+        self.len()
+    }
+
+    #[inline(always)]
+    #[track_caller]
+    fn write_to(self, buffer: &mut [u8]) -> usize {
+        copy_to_front(self.as_bytes(), buffer)
+    }
+
+    #[inline(always)]
+    #[track_caller]
+    fn text_len(self) -> Option<usize> {
+        Some(self.len())
+    }
+
+    #[inline(always)]
+    fn is_known_utf8(self, _own: Own) -> bool {
+        true
+    }
+}
+
+impl Show for &str {
+    #[inline(always)]
+    #[track_caller]
+    fn is_showable(self) -> bool {
+        self.is_known_utf8(Own)
+    }
+
+    #[inline(always)]
+    #[track_caller]
+    fn write_pieces<O: fmt::Write>(self, out: &mut O) -> fmt::Result {
+        out.write_str(self)
+    }
+}
