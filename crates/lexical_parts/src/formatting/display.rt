@@ -26,6 +26,7 @@ use lexical_num::limits::is_radix;
 use lexical_write_integer::digit_count::DigitCount;
 use lexical_write_integer::format::STANDARD;
 use lexical_write_integer::laws::{digit_count_within_bits, digits_computed, text_computed};
+use lexical_write_integer::padded::fits_decimal_width;
 use lexical_write_integer::radix::Radix;
 use lexical_write_integer::{BUFFER_SIZE, NumberFormatBuilder, ToLexical};
 use std::fmt;
@@ -269,7 +270,12 @@ impl<T: DigitCount + Radix> PaddedDigits<T> {
         requires { IsRadix self.0 }
         ensures { IsTrue result ↔ T.magnitude self.1 < self.0 ^ self.2 }
     {
-        self.1.digit_count(self.0) <= self.2 || self.1.as_u64() == 0
+        self.1.fits_bits();
+        let number = self.1.as_u64();
+        if self.0 == 10 {
+            return fits_decimal_width(number, self.2);
+        }
+        self.1.digit_count(self.0) <= self.2 || number == 0
     }
 
     // Returns the last 64 digits of the text, or all if it has fewer. It is an error if the radix is not from 2 to 36,

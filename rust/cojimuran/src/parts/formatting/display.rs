@@ -17,6 +17,7 @@ use crate::parts::numbers::trimmed::TrimmedFixed;
 use crate::parts::part::Part;
 use crate::write_integer::digit_count::DigitCount;
 use crate::write_integer::format::STANDARD;
+use crate::write_integer::padded::fits_decimal_width;
 use crate::write_integer::radix::Radix;
 use crate::write_integer::{BUFFER_SIZE, NumberFormatBuilder, ToLexical};
 use core::fmt;
@@ -201,7 +202,11 @@ impl<T: DigitCount + Radix> PaddedDigits<T> {
     // Returns whether the number has at most as many digits as the width.
     #[inline]
     fn fits(self) -> bool {
-        self.1.digit_count(self.0) <= self.2 || self.1.as_u64() == 0
+        let number = self.1.as_u64();
+        if self.0 == 10 {
+            return fits_decimal_width(number, self.2);
+        }
+        self.1.digit_count(self.0) <= self.2 || number == 0
     }
 
     // Returns the last 64 digits of the text, or all if it has fewer. It is an error if the radix is not from 2 to 36,

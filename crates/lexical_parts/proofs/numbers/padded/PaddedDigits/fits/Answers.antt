@@ -11,7 +11,7 @@ returns-then-digit_count-self g c = (
 pub returns-else-digit_count-self : goal.returns-else-digit_count-self
 returns-else-digit_count-self g c =
     let many = rw c.digit_count.ensures.count at c.if-digit_count-self.false in
-    rw c.as_u64.ensures (
+    rw c.as_u64-number.ensures (
       λ none. zero_fits _ _ c.args.self.2 c.requires.at_least_two (eqb-true _ _ none),
       λ fits. eq-eqb _ _ (few_or_none _ _ _ many fits),
     )
