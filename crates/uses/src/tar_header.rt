@@ -1,20 +1,31 @@
-//! Writes a field of a tar header, and two cells of a row, to their places.
+//! Writes the fields of a tar header, and two cells of a row, to their places.
 
-ghost use Rattle.std.specs.Prelude.{◌≡◌, ◌^◌, ◌<◌, slice_range, take, drop};
+ghost use Rattle.std.specs.Prelude.{◌≡◌, ◌^◌, ◌<◌, ◌≤◌, slice_range, length};
 ghost use Rattle.lexical_write_integer.specs.Padded.{IsPadded};
 
 use lexical_parts::{Padded, PaddedDigits, Part, write_field};
 use lexical_write_integer::laws::padded_length;
 
-/// Writes the size of a file to its field of the header: eleven digits in radix 8. No other byte changes.
-pub fn write_size(size: u64, header: &mut [u8; 512])
-    requires { size < 8 ^ 11 }
+/// Writes the name of a file, its mode, its size and the sum of the header to their fields, each number in radix 8. What
+/// is between the fields does not change.
+pub fn write_header(name: &str, mode: u32, size: u64, sum: u32, header: &mut [u8; 512])
+    requires name { length name.now ≤ 100 }
+    requires mode { mode < 8 ^ 7 }
+    requires size { size < 8 ^ 11 }
+    requires sum { sum < 8 ^ 6 }
+    ensures name { slice_range header.new 0 (length name.now) ≡ name.now }
+    ensures mode { IsPadded 8 7 mode (slice_range header.new 100 107) }
     ensures size { IsPadded 8 11 size (slice_range header.new 124 135) }
-    ensures before { take 124 header.new ≡ take 124 header.old }
-    ensures after { drop 135 header.new ≡ drop 135 header.old }
+    ensures sum { IsPadded 8 6 sum (slice_range header.new 148 154) }
+    ensures between { slice_range header.new 107 124 ≡ slice_range header.old 107 124 }
 {
+    padded_length(8, 7);
     padded_length(8, 11);
+    padded_length(8, 6);
+    name.write_at(0, header);
+    write_field(PaddedDigits(8, mode, 7), 100, 7, header);
     write_field(PaddedDigits(8, size, 11), 124, 11, header);
+    write_field(PaddedDigits(8, sum, 6), 148, 6, header);
 }
 
 /// Writes two numbers of ten digits to a row, with what is there between them.
