@@ -34,7 +34,7 @@ pub const MAX_ANSWER: usize = BUFFER_SIZE + 11;
 ///
 /// If the buffer is [too short](crate#conditions).
 pub fn write_answer(line: Option<&[u8]>, line_number: u64, buffer: &mut [u8]) -> (usize, bool)
-    requires short { IfSome line (λ bytes. length bytes.now ≤ 64) }
+    requires at_most { IfSome line (λ bytes. length bytes.now ≤ 64) }
     requires room { BUFFER_SIZE + 11 ≤ length buffer.old }
     ensures within { result.0 ≤ length buffer.new }
     ensures answer { (bytes : List ℕ) → bytes_of line.entry ≡ short_line bytes

@@ -34,7 +34,7 @@ pub fn write_joined<T: ToLexicalWithOptions>(
     ensures text { Writes
         (AreJoined (λ x. IsText (T.number x) format.now) (separator ∷ []) values.now)
         buffer.old buffer.new result }
-    ensures short { result ≤ length values.now
+    ensures at_most { result ≤ length values.now
         * (size_in T.FORMATTED_SIZE T.FORMATTED_SIZE_DECIMAL format.now + 1) - 1 }
 {
     sizes_suffice::<T>(format);
@@ -72,7 +72,7 @@ pub fn join<'a, T: ToLexicalWithOptions>(
         ≤ length buffer.old }
     ensures* lends { sem 𝓛 (LendsFront buffer.entry (length result.now) result) }
     ensures text { AreJoined (λ x. IsText (T.number x) format.now) (separator ∷ []) values.now result.now }
-    ensures short { length result.now ≤ length values.now
+    ensures at_most { length result.now ≤ length values.now
         * (size_in T.FORMATTED_SIZE T.FORMATTED_SIZE_DECIMAL format.now + 1) - 1 }
 {
     let count = write_joined(values, separator, buffer, format, options);

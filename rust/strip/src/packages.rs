@@ -172,7 +172,7 @@ pub(crate) const SOURCES: &[Source] = &[
             algorithm_counted compact_counted decimal_counted digit_count_counted from_i64_counted from_u16_counted
             from_u32_counted from_u64_counted from_u8_counted slow_digit_count_counted
             write_integer_counted",
-        laws: "laws record_pair record_up_to_eight",
+        laws: "laws note_up_to_eight",
         ..LIBRARY
     },
     Source {

@@ -11,7 +11,7 @@ use lexical_num::limits::is_radix;
 // is anything else.
 fn parse_short(text: &[u8]) -> Option<u64>
     requires some { 1 ≤ length text.now }
-    requires short { length text.now ≤ 19 }
+    requires at_most { length text.now ≤ 19 }
     ensures found { IfSome result (λ number. IsDecimalNumeral number text.now) }
     ensures none { IfNone result ((number : ℕ) → IsDecimalNumeral number text.now → ⊥) }
 {

@@ -69,7 +69,7 @@ impl Line {
     pub fn ended_with<'a>(&'a mut self, tail: &'a [u8]) -> Option<&'a [u8]>
         ensures value { (line : List ℕ) → self.old ≡ short_line line
             → bytes_of result ≡ short_line (line ++ tail.now) }
-        ensures short { IfSome result (λ bytes. length bytes.now ≤ 64) }
+        ensures at_most { IfSome result (λ bytes. length bytes.now ≤ 64) }
     {
         if self.is_empty() && tail.len() <= MAX_LENGTH {
             return Some(tail);
@@ -81,7 +81,7 @@ impl Line {
     // Returns the bytes of the line, or `None` if the line is longer than 64 bytes.
     fn as_slice(&self) -> Option<&[u8]>
         ensures value { bytes_of result ≡ self.now }
-        ensures short { IfSome result (λ bytes. length bytes.now ≤ 64) }
+        ensures at_most { IfSome result (λ bytes. length bytes.now ≤ 64) }
     {
         if self.count <= MAX_LENGTH {
             Some(&self.bytes[..self.count])

@@ -36,7 +36,7 @@ fn power_of<T: UnsignedInteger>(radix: u32, exponent: u32) -> Option<T>
 fn quotient<T: UnsignedInteger>(number: T, power: T, turns: &mut Turns) -> T
     requires { 0 < T.magnitude power }
     ensures left { T.magnitude result ≡ T.magnitude number / T.magnitude power }
-    // The counter records the quotient.
+    // The note is the quotient.
     ensures notes { turns.new ≡ turns.old ++ T.magnitude result ∷ [] }
 {
     let (left, _) = number.div_rem(power);
@@ -49,7 +49,7 @@ fn quotient<T: UnsignedInteger>(number: T, power: T, turns: &mut Turns) -> T
 fn take_digits<T: UnsignedInteger>(value: T, radix: u32, step: u32, turns: &mut Turns) -> (T, usize)
     requires radix { IsRadix radix }
     requires step { IsStep step }
-    // The counter records each quotient.
+    // The notes are the quotients.
     ensures { TakesDigits radix (T.magnitude value) step result.1 (T.magnitude result.0)
         turns.old turns.new }
 {
@@ -74,7 +74,7 @@ pub fn slow_digit_count_counted<T: UnsignedInteger>(x: T, radix: u32, turns: &mu
     ensures count { result ≡ digit_count radix (T.magnitude x) }
     ensures some { 1 ≤ result }
     ensures at_most_64 { result ≤ 64 }
-    // The counter records each quotient.
+    // The notes are the quotients.
     ensures notes { turns.new ≡ turns.old ++ slow_notes radix (T.magnitude x) }
     ensures turns { length turns.new ≡ length turns.old + slow_turns result }
 {
@@ -101,7 +101,7 @@ pub fn digit_count_counted<T: DecimalCount>(x: T, radix: u32, turns: &mut Turns)
     ensures count { result ≡ digit_count radix (T.magnitude x) }
     ensures some { 1 ≤ result }
     ensures at_most_64 { result ≤ 64 }
-    // The counter records the quotient of each division.
+    // The notes are the quotients.
     ensures notes { turns.new ≡ turns.old ++ count_notes radix (T.magnitude x) }
     ensures turns { length turns.new ≡ length turns.old + count_turns radix result }
 {

@@ -39,7 +39,7 @@ pub trait Decimal: DecimalCount {
     final fn decimal(self, buffer: &mut [u8]) -> usize
         requires { Self.DECIMAL_WIDTH ≤ length buffer.old }
         ensures digits { WritesDigits 10 (Self.magnitude self) buffer.old buffer.new result }
-        ensures short { result ≤ Self.DECIMAL_WIDTH }
+        ensures at_most { result ≤ Self.DECIMAL_WIDTH }
     {
         self.decimal_counted(buffer, &mut Turns::new())
     }
@@ -55,7 +55,7 @@ pub trait Decimal: DecimalCount {
         requires number { Self.magnitude self < 10 ^ SIGNED_WIDTH }
         requires room { SIGNED_WIDTH ≤ length buffer.old }
         ensures digits { WritesDigits 10 (Self.magnitude self) buffer.old buffer.new result }
-        ensures short { result ≤ SIGNED_WIDTH };
+        ensures at_most { result ≤ SIGNED_WIDTH };
 
     /// Writes the digits as `decimal` does, under the same condition.
     fn decimal_counted(self, buffer: &mut [u8], turns: &mut Turns) -> usize
@@ -63,8 +63,8 @@ pub trait Decimal: DecimalCount {
         ensures digits { WritesDigits 10 (Self.magnitude self) buffer.old buffer.new result }
         ensures notes { turns.new ≡ turns.old ++ decimal_notes Self.BITS (Self.magnitude self) }
         ensures turns { length turns.new ≡ length turns.old + (result - 1) / 2 }
-        ensures short { result ≤ Self.DECIMAL_WIDTH }
-        // The counter records an iteration for each pair of digits after the first.
+        ensures at_most { result ≤ Self.DECIMAL_WIDTH }
+        // There is a note for each pair of digits after the first.
         ensures few_turns { length turns.new ≤ length turns.old + 9 };
 
     ghost signed_width: { let greatest = 2 ^ (Self.BITS - 1) - 1 in

@@ -62,7 +62,7 @@ fn write_digits<T: UnsignedInteger, const R: u32>(
     requires radix { IsRadix R }
     requires table { BeginsWithPairs R table.now }
     requires room { digit_count R (T.magnitude value) ≤ length buffer.old }
-    // What the count records precedes what the writer records.
+    // The notes of the count precede those of the writer.
     ensures digits { WritesDigits R (T.magnitude value) buffer.old buffer.new result }
     ensures notes { turns.new ≡ turns.old ++ table_notes R (T.magnitude value) }
 {
@@ -182,7 +182,7 @@ pub fn constant_radix<T: UnsignedInteger>(value: T, radix: u32, buffer: &mut [u8
     requires radix { IsRadix radix }
     requires room { digit_count radix (T.magnitude value) ≤ length buffer.old }
     ensures digits { WritesDigits radix (T.magnitude value) buffer.old buffer.new result }
-    ensures short { result ≤ T.BITS }
+    ensures at_most { result ≤ T.BITS }
 {
     digit_count_within_bits(radix, value);
     radix_counted(value, radix, buffer, &mut Turns::new())
@@ -200,7 +200,7 @@ pub trait Radix: UnsignedInteger {
         requires radix { IsRadix radix }
         requires room { digit_count radix (Self.magnitude self) ≤ length buffer.old }
         ensures digits { WritesDigits radix (Self.magnitude self) buffer.old buffer.new result }
-        ensures short { result ≤ Self.BITS }
+        ensures at_most { result ≤ Self.BITS }
     {
         digit_count_within_bits(radix, self);
         radix_called(self, radix, buffer, &mut Turns::new())

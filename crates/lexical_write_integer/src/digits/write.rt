@@ -26,10 +26,10 @@ pub fn write_integer_counted<T: Decimal + DigitCount>(
     requires radix { IsRadix radix }
     requires room { digits_need radix (T.magnitude value) T.DECIMAL_WIDTH ≤ length buffer.old }
     ensures digits { WritesDigits radix (T.magnitude value) buffer.old buffer.new result }
-    ensures short { result ≤ T.BITS }
+    ensures at_most { result ≤ T.BITS }
     ensures notes { turns.new ≡ turns.old ++ write_notes T.BITS radix (T.magnitude value) }
     ensures turns { length turns.new ≡ length turns.old + write_turns radix result }
-    // The writer records its iterations in the counter: at most 21, and in radix 10 at most 9.
+    // There are at most 21 notes, and in radix 10 at most 9.
     ensures few_turns { length turns.new ≤ length turns.old + 21 }
     ensures few_decimal_turns { radix ≡ 10 → length turns.new ≤ length turns.old + 9 }
 {
@@ -59,7 +59,7 @@ pub trait WriteInteger: Decimal + Radix {
         requires room { digits_need radix (Self.magnitude self) Self.DECIMAL_WIDTH
             ≤ length buffer.old }
         ensures digits { WritesDigits radix (Self.magnitude self) buffer.old buffer.new result }
-        ensures short { result ≤ Self.BITS }
+        ensures at_most { result ≤ Self.BITS }
     {
         write_integer_counted(self, radix, buffer, &mut Turns::new())
     }
@@ -76,7 +76,7 @@ pub trait WriteInteger: Decimal + Radix {
         requires room { digits_need radix (Self.magnitude self) Self.SIGNED_WIDTH
             ≤ length buffer.old }
         ensures digits { WritesDigits radix (Self.magnitude self) buffer.old buffer.new result }
-        ensures short { result ≤ Self.BITS }
+        ensures at_most { result ≤ Self.BITS }
     {
         self.in_range();
         self.fits_bits();
@@ -97,7 +97,7 @@ pub trait WriteInteger: Decimal + Radix {
             ≤ length buffer.old }
         ensures digits { WritesDigits format.now.mantissa_radix (Self.magnitude self)
             buffer.old buffer.new result }
-        ensures short { result ≤ Self.BITS }
+        ensures at_most { result ≤ Self.BITS }
     {
         self.write_integer(format.mantissa_radix(), buffer)
     }
@@ -114,7 +114,7 @@ pub trait WriteInteger: Decimal + Radix {
             ≤ length buffer.old }
         ensures digits { WritesDigits format.now.mantissa_radix (Self.magnitude self)
             buffer.old buffer.new result }
-        ensures short { result ≤ Self.BITS }
+        ensures at_most { result ≤ Self.BITS }
     {
         self.write_integer_signed(format.mantissa_radix(), buffer)
     }
@@ -129,7 +129,7 @@ pub trait WriteInteger: Decimal + Radix {
             ≤ length buffer.old }
         ensures digits { WritesDigits format.now.exponent_radix (Self.magnitude self)
             buffer.old buffer.new result }
-        ensures short { result ≤ Self.BITS }
+        ensures at_most { result ≤ Self.BITS }
     {
         self.write_integer(format.exponent_radix(), buffer)
     }
@@ -146,7 +146,7 @@ pub trait WriteInteger: Decimal + Radix {
             ≤ length buffer.old }
         ensures digits { WritesDigits format.now.exponent_radix (Self.magnitude self)
             buffer.old buffer.new result }
-        ensures short { result ≤ Self.BITS }
+        ensures at_most { result ≤ Self.BITS }
     {
         self.write_integer_signed(format.exponent_radix(), buffer)
     }

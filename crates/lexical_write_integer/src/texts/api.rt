@@ -40,7 +40,7 @@ pub trait ToLexical: LexicalInteger + FormattedSize {
     final fn write_lexical(self, buffer: &mut [u8]) -> usize
         requires { need (Self.number self) Self.DECIMAL_WIDTH standard ≤ length buffer.old }
         ensures text { WritesText (Self.number self) standard buffer.old buffer.new result }
-        ensures short { result ≤ need (Self.number self) Self.DECIMAL_WIDTH standard }
+        ensures at_most { result ≤ need (Self.number self) Self.DECIMAL_WIDTH standard }
     {
         self.write_text(buffer, &STANDARD)
     }
@@ -77,7 +77,7 @@ pub trait ToLexical: LexicalInteger + FormattedSize {
     final fn write_text(self, buffer: &mut [u8], format: &NumberFormat) -> usize
         requires { need (Self.number self) Self.DECIMAL_WIDTH format.now ≤ length buffer.old }
         ensures text { WritesText (Self.number self) format.now buffer.old buffer.new result }
-        ensures short { result ≤ need (Self.number self) Self.DECIMAL_WIDTH format.now }
+        ensures at_most { result ≤ need (Self.number self) Self.DECIMAL_WIDTH format.now }
         ensures plain { IsText (Self.number self) (without_groups format.now)
             (without_separators format.now.digit_grouping (take result buffer.new)) }
     {
@@ -105,7 +105,7 @@ pub trait ToLexical: LexicalInteger + FormattedSize {
         requires { need (Self.number self) Self.DECIMAL_WIDTH standard ≤ length buffer.old }
         ensures* lends { sem 𝓛 (LendsFront buffer.entry (length result.now) result) }
         ensures text { IsText (Self.number self) standard result.now }
-        ensures short { length result.now ≤ need (Self.number self) Self.DECIMAL_WIDTH standard }
+        ensures at_most { length result.now ≤ need (Self.number self) Self.DECIMAL_WIDTH standard }
     {
         let count = self.write_lexical(buffer);
         front_mut(buffer, count)
@@ -145,7 +145,7 @@ pub trait ToLexicalWithOptions: ToLexical {
     ) -> usize
         requires { need (Self.number self) Self.DECIMAL_WIDTH format.now ≤ length buffer.old }
         ensures text { WritesText (Self.number self) format.now buffer.old buffer.new result }
-        ensures short { result ≤ need (Self.number self) Self.DECIMAL_WIDTH format.now }
+        ensures at_most { result ≤ need (Self.number self) Self.DECIMAL_WIDTH format.now }
         ensures plain { IsText (Self.number self) (without_groups format.now)
             (without_separators format.now.digit_grouping (take result buffer.new)) }
     {
@@ -157,7 +157,7 @@ pub trait ToLexicalWithOptions: ToLexical {
     /// `write_lexical_with_options` accepts. It is at most [`BUFFER_SIZE`](crate::BUFFER_SIZE).
     final fn required_len(self, format: &NumberFormat) -> usize
         ensures need { result ≡ need (Self.number self) Self.DECIMAL_WIDTH format.now }
-        ensures short { result ≤ BUFFER_SIZE }
+        ensures at_most { result ≤ BUFFER_SIZE }
     {
         size_suffices(self, format);
         let radix = format.mantissa_radix();
@@ -186,7 +186,7 @@ pub trait ToLexicalWithOptions: ToLexical {
         requires { need (Self.number self) Self.DECIMAL_WIDTH format.now ≤ length buffer.old }
         ensures* lends { sem 𝓛 (LendsFront buffer.entry (length result.now) result) }
         ensures text { IsText (Self.number self) format.now result.now }
-        ensures short { length result.now ≤ need (Self.number self) Self.DECIMAL_WIDTH format.now }
+        ensures at_most { length result.now ≤ need (Self.number self) Self.DECIMAL_WIDTH format.now }
         ensures plain { IsText (Self.number self) (without_groups format.now)
             (without_separators format.now.digit_grouping result.now) }
     {

@@ -101,7 +101,7 @@ fn write_pair_at(pair: u32, buffer: &mut [u8], at: usize, turns: &mut Turns)
     requires pair { pair < 100 }
     requires room { at + 2 ≤ length buffer.old }
     ensures block { WritesBlock 10 2 pair at buffer.old buffer.new }
-    // The counter records the number.
+    // The note is the number.
     ensures notes { turns.new ≡ turns.old ++ pair ∷ [] }
 {
     RadixTable::<10>::new().write(pair, buffer, at);
@@ -113,7 +113,7 @@ fn write_four_at(number: u32, buffer: &mut [u8], at: usize, turns: &mut Turns)
     requires number { number < 10 ^ 4 }
     requires room { at + 4 ≤ length buffer.old }
     ensures block { WritesBlock 10 4 number at buffer.old buffer.new }
-    // The counter records each of its two pairs.
+    // There is a note for each of its two pairs.
     ensures notes { turns.new ≡ turns.old ++ pairs_from_back number 2 }
 {
     write_pair_at(number % 100, buffer, at + 2, turns);
@@ -124,7 +124,7 @@ fn write_four_at(number: u32, buffer: &mut [u8], at: usize, turns: &mut Turns)
 pub(crate) fn write_last_ten(number: u64, buffer: &mut [u8], at: usize, turns: &mut Turns)
     requires { at + 10 ≤ length buffer.old }
     ensures block { WritesBlock 10 10 (number % 10 ^ 10) at buffer.old buffer.new }
-    // The counter records each of their five pairs.
+    // There is a note for each of their five pairs.
     ensures notes { turns.new ≡ turns.old ++ pairs_from_back number 5 }
 {
     let low = number % 10_000_000_000;

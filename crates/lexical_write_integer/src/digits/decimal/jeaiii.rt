@@ -4,7 +4,7 @@
 //! (<https://github.com/jeaiii/itoa>); Lemire, Kaser and Kurz, "Faster Remainder by Direct Computation"
 //! (2019), describe how digits are obtained from the fraction of a product with a reciprocal.
 
-// Each `_counted` function records in `turns` what an iteration computes: one number for each pair of digits after the
+// Each `_counted` function notes in `turns` what an iteration computes: one number for each pair of digits after the
 // first, and at most 9. Examples of the writers are in `crates/library_tests/src/decimal_values.rt`, and
 // of the kernels in `crates/library_tests/src/kernel_values.rt`.
 #![tactic(auto, using(crate::proofs::OfDigits::Count::DigitCounts::widths, crate::proofs::Buffers::Prefixes::digits_in_part), unfolding(crate::specs::Digits::DecimalTurns::decimal_notes_32))]
@@ -116,7 +116,7 @@ fn write_64_apart(n: u64, buffer: &mut [u8], turns: &mut Turns) -> usize
 pub fn from_u8(n: u8, buffer: &mut [u8]) -> usize
     requires { 3 ≤ length buffer.old }
     ensures digits { WritesDigits 10 n buffer.old buffer.new result }
-    ensures short { result ≤ 3 }
+    ensures at_most { result ≤ 3 }
 {
     from_u8_counted(n, buffer, &mut Turns::new())
 }
@@ -130,7 +130,7 @@ pub fn from_u8(n: u8, buffer: &mut [u8]) -> usize
 pub fn from_u16(n: u16, buffer: &mut [u8]) -> usize
     requires { 5 ≤ length buffer.old }
     ensures digits { WritesDigits 10 n buffer.old buffer.new result }
-    ensures short { result ≤ 5 }
+    ensures at_most { result ≤ 5 }
 {
     from_u16_counted(n, buffer, &mut Turns::new())
 }
@@ -144,7 +144,7 @@ pub fn from_u16(n: u16, buffer: &mut [u8]) -> usize
 pub fn from_u32(n: u32, buffer: &mut [u8]) -> usize
     requires { 10 ≤ length buffer.old }
     ensures digits { WritesDigits 10 n buffer.old buffer.new result }
-    ensures short { result ≤ 10 }
+    ensures at_most { result ≤ 10 }
 {
     from_u32_counted(n, buffer, &mut Turns::new())
 }
@@ -158,7 +158,7 @@ pub fn from_u32(n: u32, buffer: &mut [u8]) -> usize
 pub fn from_u64(n: u64, buffer: &mut [u8]) -> usize
     requires { 20 ≤ length buffer.old }
     ensures digits { WritesDigits 10 n buffer.old buffer.new result }
-    ensures short { result ≤ 20 }
+    ensures at_most { result ≤ 20 }
 {
     from_u64_counted(n, buffer, &mut Turns::new())
 }
@@ -173,7 +173,7 @@ pub fn from_i64(n: u64, buffer: &mut [u8]) -> usize
     requires number { n < 10 ^ 19 }
     requires room { 19 ≤ length buffer.old }
     ensures digits { WritesDigits 10 n buffer.old buffer.new result }
-    ensures short { result ≤ 19 }
+    ensures at_most { result ≤ 19 }
 {
     from_i64_counted(n, buffer, &mut Turns::new())
 }
@@ -184,7 +184,7 @@ pub fn from_u8_counted(n: u8, buffer: &mut [u8], turns: &mut Turns) -> usize
     ensures digits { WritesDigits 10 n buffer.old buffer.new result }
     ensures notes { turns.new ≡ turns.old ++ decimal_notes_32 n }
     ensures turns { length turns.new ≡ length turns.old + (result - 1) / 2 }
-    ensures short { result ≤ 3 }
+    ensures at_most { result ≤ 3 }
     ensures few_turns { length turns.new ≤ length turns.old + 9 }
 {
     write_32_apart(u32::from(n), &mut buffer[..3], turns)
@@ -196,7 +196,7 @@ pub fn from_u16_counted(n: u16, buffer: &mut [u8], turns: &mut Turns) -> usize
     ensures digits { WritesDigits 10 n buffer.old buffer.new result }
     ensures notes { turns.new ≡ turns.old ++ decimal_notes_32 n }
     ensures turns { length turns.new ≡ length turns.old + (result - 1) / 2 }
-    ensures short { result ≤ 5 }
+    ensures at_most { result ≤ 5 }
     ensures few_turns { length turns.new ≤ length turns.old + 9 }
 {
     write_32_apart(u32::from(n), &mut buffer[..5], turns)
@@ -208,7 +208,7 @@ pub fn from_u32_counted(n: u32, buffer: &mut [u8], turns: &mut Turns) -> usize
     ensures digits { WritesDigits 10 n buffer.old buffer.new result }
     ensures notes { turns.new ≡ turns.old ++ decimal_notes_32 n }
     ensures turns { length turns.new ≡ length turns.old + (result - 1) / 2 }
-    ensures short { result ≤ 10 }
+    ensures at_most { result ≤ 10 }
     ensures few_turns { length turns.new ≤ length turns.old + 9 }
 {
     write_32_apart(n, &mut buffer[..10], turns)
@@ -220,7 +220,7 @@ pub fn from_u64_counted(n: u64, buffer: &mut [u8], turns: &mut Turns) -> usize
     ensures digits { WritesDigits 10 n buffer.old buffer.new result }
     ensures notes { turns.new ≡ turns.old ++ decimal_notes_64 n }
     ensures turns { length turns.new ≡ length turns.old + (result - 1) / 2 }
-    ensures short { result ≤ 20 }
+    ensures at_most { result ≤ 20 }
     ensures few_turns { length turns.new ≤ length turns.old + 9 }
 {
     write_64_apart(n, &mut buffer[..20], turns)
@@ -233,7 +233,7 @@ pub fn from_i64_counted(n: u64, buffer: &mut [u8], turns: &mut Turns) -> usize
     ensures digits { WritesDigits 10 n buffer.old buffer.new result }
     ensures notes { turns.new ≡ turns.old ++ decimal_notes_64 n }
     ensures turns { length turns.new ≡ length turns.old + (result - 1) / 2 }
-    ensures short { result ≤ 19 }
+    ensures at_most { result ≤ 19 }
     ensures few_turns { length turns.new ≤ length turns.old + 9 }
 {
     prove!(

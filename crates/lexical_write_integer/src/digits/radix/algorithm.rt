@@ -57,11 +57,11 @@ pub fn algorithm_counted<T: DigitCount>(
     requires table { BeginsWithPairs radix table.now }
     requires room { digit_count radix (T.magnitude value) ≤ length buffer.old }
     ensures digits { WritesDigits radix (T.magnitude value) buffer.old buffer.new result }
-    // The counter records the quotients of the digit count, and then those of the writer.
+    // The notes are the quotients of the digit count, and then those of the writer.
     ensures notes { turns.new ≡ turns.old ++ table_notes radix (T.magnitude value) }
     ensures turns { length turns.new ≡ length turns.old + table_turns radix result }
     ensures few_turns { length turns.new ≤ length turns.old + 21 }
-    ensures short { result ≤ T.BITS }
+    ensures at_most { result ≤ T.BITS }
 {
     prove!(
         begins_with_pairs(radix, table),
@@ -84,7 +84,7 @@ pub fn algorithm<T: DigitCount>(value: T, radix: u32, table: &[u8], buffer: &mut
     requires table { BeginsWithPairs radix table.now }
     requires room { digit_count radix (T.magnitude value) ≤ length buffer.old }
     ensures digits { WritesDigits radix (T.magnitude value) buffer.old buffer.new result }
-    ensures short { result ≤ T.BITS }
+    ensures at_most { result ≤ T.BITS }
 {
     algorithm_counted(value, radix, table, buffer, &mut Turns::new())
 }

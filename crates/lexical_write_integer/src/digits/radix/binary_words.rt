@@ -11,7 +11,7 @@ use crate::turns::Turns;
 // Writes the eight binary digits of a number below 256 at index `at`. Each byte of the product is the number, of which
 // the mask keeps another bit. The sum carries a bit that is set to bit 7 of its byte, and no further.
 fn write_eight_bits(bits: u64, buffer: &mut [u8], at: usize)
-    requires short { bits < 256 }
+    requires below { bits < 256 }
     requires room { at + 8 ≤ length buffer.old }
     ensures { WritesBlock 2 8 bits at buffer.old buffer.new }
 {
@@ -21,9 +21,9 @@ fn write_eight_bits(bits: u64, buffer: &mut [u8], at: usize)
     buffer[at..at + 8].copy_from_slice(&characters);
 }
 
-// Records the quotients of a number of up to eight digits: by 16 if it has more than four, and then by 4 if more than
+// Notes the quotients of a number of up to eight digits: by 16 if it has more than four, and then by 4 if more than
 // two are left.
-fn record_up_to_eight(number: u64, turns: &mut Turns)
+fn note_up_to_eight(number: u64, turns: &mut Turns)
     requires { number < 256 }
     ensures { turns.new ≡ turns.old ++ loop_notes 2 number }
 {
@@ -64,7 +64,7 @@ pub(super) fn write_binary(value: u64, buffer: &mut [u8], turns: &mut Turns) -> 
         left = remove_eight(left, turns);
     }
     let rest = remove_eight(left, turns);
-    record_up_to_eight(rest, turns);
+    note_up_to_eight(rest, turns);
     // rustc tests the end of these bytes once.
     let written = &mut buffer[..at];
     write_eight_bits(rest << (16 - at), written, 0);

@@ -90,10 +90,10 @@ pub fn compact_counted<T: UnsignedInteger>(
     requires radix { IsRadix radix }
     requires room { digit_count radix (T.magnitude value) ≤ length buffer.old }
     ensures digits { WritesDigits radix (T.magnitude value) buffer.old buffer.new result }
-    // The counter records the quotient of each division.
+    // The notes are the quotients.
     ensures notes { turns.new ≡ turns.old ++ compact_notes radix (T.magnitude value) }
     ensures turns { length turns.new ≡ length turns.old + compact_turns result }
-    ensures short { result ≤ T.BITS }
+    ensures at_most { result ≤ T.BITS }
 {
     value.fits_bits();
     write_each_digit_in(value.as_u64(), radix, buffer, turns)
@@ -111,7 +111,7 @@ pub trait Compact: UnsignedInteger + FormattedSize {
         requires radix { IsRadix radix }
         requires room { digit_count radix (Self.magnitude self) ≤ length buffer.old }
         ensures digits { WritesDigits radix (Self.magnitude self) buffer.old buffer.new result }
-        ensures short { result ≤ Self.BITS }
+        ensures at_most { result ≤ Self.BITS }
     {
         compact_counted(self, radix, buffer, &mut Turns::new())
     }

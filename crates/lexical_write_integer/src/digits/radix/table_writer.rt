@@ -1,6 +1,6 @@
 // Writing the digits of a number, four at a time, from a table of the digit pairs of the radix.
 
-// `loop_turns` is the counter of the writer's loop. A writer that counts the digits by division records those quotients
+// `loop_turns` is the counter of the writer's loop. A writer that counts the digits by division notes those quotients
 // in a second counter, `turns`.
 ghost use Rattle.std.specs.Prelude.{◌≡◌, ◌+◌, ◌-◌, ◌*◌, ◌/◌, ◌%◌, ◌^◌, ◌<◌, ◌≤◌, ◌++◌, length};
 ghost use Rattle.lexical_num.specs.Format.{IsRadix};
@@ -29,7 +29,7 @@ pub(super) fn remove_four<const R: u32>(value: u64, loop_turns: &mut Turns) -> u
     ensures left { result ≡ value / R ^ 4 }
     ensures smaller { result < value }
     ensures digits { digit_count R result + 4 ≡ digit_count R value }
-    // The counter records this quotient.
+    // The note is this quotient.
     ensures loop_turns { loop_turns.new ++ loop_notes R result ≡ loop_turns.old ++ loop_notes R value }
 {
     let left = value / fourth_power(R);
@@ -41,14 +41,14 @@ pub(super) fn remove_four<const R: u32>(value: u64, loop_turns: &mut Turns) -> u
 fn last_four<const R: u32>(value: u64) -> u32
     requires { IsRadix R }
     ensures digits { result ≡ value % R ^ 4 }
-    ensures short { result < R ^ 4 }
+    ensures below { result < R ^ 4 }
 {
     (value % fourth_power(R)) as u32
 }
 
 // Writes a number of up to four digits at index `at`, with leading zeros, as two pairs.
 fn write_four<const R: u32>(number: u32, table: RadixTable<'_, R>, buffer: &mut [u8], at: usize)
-    requires short { number < R ^ 4 }
+    requires below { number < R ^ 4 }
     requires room { at + 4 ≤ length buffer.old }
     ensures { WritesBlock R 4 number at buffer.old buffer.new }
 {
@@ -62,9 +62,9 @@ fn write_four<const R: u32>(number: u32, table: RadixTable<'_, R>, buffer: &mut 
 // Returns a number of up to four digits without its last two.
 pub(super) fn remove_two<const R: u32>(number: u64, turns: &mut Turns) -> u64
     requires radix { IsRadix R }
-    requires short { number < R ^ 4 }
+    requires below { number < R ^ 4 }
     ensures pair { result ≡ number / (R * R) }
-    // The counter records what is left, unless it is 0.
+    // The note is what is left, unless it is 0.
     ensures notes { turns.new ≡ turns.old ++ loop_notes R number }
 {
     let pair = number / u64::from(R * R);
@@ -74,20 +74,11 @@ pub(super) fn remove_two<const R: u32>(number: u64, turns: &mut Turns) -> u64
     pair
 }
 
-// Records what is left of a number of up to four digits without its last two, as `remove_two` does.
-fn record_pair<const R: u32>(number: u64, turns: &mut Turns)
-    requires radix { IsRadix R }
-    requires short { number < R ^ 4 }
-    ensures { turns.new ≡ turns.old ++ loop_notes R number }
-{
-    remove_two::<R>(number, turns);
-}
-
 // Returns how many digits a number of three or four digits has.
 fn count_three_or_four(number: u64, radix: u32) -> usize
     requires radix { IsRadix radix }
     requires more { radix ^ 2 ≤ number }
-    requires short { number < radix ^ 4 }
+    requires below { number < radix ^ 4 }
     ensures count { result ≡ digit_count radix number }
     ensures three { 3 ≤ result }
     ensures four { result ≤ 4 }
@@ -104,7 +95,7 @@ fn write_three_or_four<const R: u32>(
     turns: &mut Turns,
 ) -> usize
     requires more { R ^ 2 ≤ number }
-    requires short { number < R ^ 4 }
+    requires below { number < R ^ 4 }
     requires room { digit_count R number ≤ length buffer.old }
     ensures digits { WritesDigits R number buffer.old buffer.new result }
     ensures notes { turns.new ≡ turns.old ++ loop_notes R number }
@@ -150,7 +141,7 @@ fn write_counted<const R: u32>(
     buffer: &mut [u8],
     turns: &mut Turns,
 )
-    requires short { number < R ^ 4 }
+    requires below { number < R ^ 4 }
     requires digits { digits ≡ digit_count R number }
     requires room { digits ≤ length buffer.old }
     ensures digits { WritesDigits R number buffer.old buffer.new digits }
@@ -198,7 +189,7 @@ pub(super) fn write_after_count<const R: u32>(
         left = remove_four::<R>(left, loop_turns);
     }
     if R == 1 << bits {
-        record_pair::<R>(left, loop_turns);
+        remove_two::<R>(left, loop_turns);
         write_four(first, table, buffer, 0);
     } else {
         write_counted(left as u32, at, table, buffer, loop_turns);
@@ -209,7 +200,7 @@ pub(super) fn write_after_count<const R: u32>(
 // Returns how many digits a number of one or two digits has, by a division.
 fn count_one_or_two(number: u32, radix: u32, turns: &mut Turns) -> usize
     requires radix { IsRadix radix }
-    requires short { number < radix ^ 2 }
+    requires below { number < radix ^ 2 }
     ensures count { result ≡ digit_count radix number }
     ensures turns { turns.new ≡ turns.old ++ slow_notes radix number }
 {
@@ -224,7 +215,7 @@ fn count_one_or_two(number: u32, radix: u32, turns: &mut Turns) -> usize
 // at once.
 fn count_short(number: u64, radix: u32, turns: &mut Turns) -> usize
     requires radix { IsRadix radix }
-    requires short { number < radix ^ 2 }
+    requires below { number < radix ^ 2 }
     ensures count { result ≡ digit_count radix number }
     ensures notes { turns.new ≡ turns.old ++ count_notes radix number }
 {
@@ -243,7 +234,7 @@ fn write_one_or_two<const R: u32>(
     table: RadixTable<'_, R>,
     buffer: &mut [u8],
 )
-    requires short { number < R * R }
+    requires below { number < R * R }
     requires digits { digits ≡ digit_count R number }
     requires room { digits ≤ length buffer.old }
     ensures { WritesDigits R number buffer.old buffer.new digits }
@@ -263,7 +254,7 @@ fn write_one_pair<const R: u32>(
     table: RadixTable<'_, R>,
     buffer: &mut [u8],
 )
-    requires short { number < R * R }
+    requires below { number < R * R }
     requires digits { digits ≡ digit_count R number }
     requires room { digits ≤ length buffer.old }
     ensures { WritesDigits R number buffer.old buffer.new digits }
@@ -285,7 +276,7 @@ pub(super) fn write_short<const R: u32>(
     buffer: &mut [u8],
     turns: &mut Turns,
 ) -> usize
-    requires short { number < R * R }
+    requires below { number < R * R }
     requires room { digit_count R number ≤ length buffer.old }
     ensures digits { WritesDigits R number buffer.old buffer.new result }
     ensures notes { turns.new ≡ turns.old ++ table_notes R number }
@@ -303,7 +294,7 @@ pub(super) fn count_and_write_up_to_four<const R: u32>(
     turns: &mut Turns,
     loop_turns: &mut Turns,
 ) -> usize
-    requires short { number < R ^ 4 }
+    requires below { number < R ^ 4 }
     requires room { digit_count R number ≤ length buffer.old }
     ensures digits { WritesDigits R number buffer.old buffer.new result }
     ensures turns { turns.new ≡ turns.old ++ slow_notes R number }
@@ -328,7 +319,7 @@ pub(super) fn count_and_write_five_to_eight<const R: u32>(
     loop_turns: &mut Turns,
 ) -> usize
     requires more { R ^ 4 ≤ value }
-    requires short { value < R ^ 8 }
+    requires below { value < R ^ 8 }
     requires room { digit_count R value ≤ length buffer.old }
     ensures digits { WritesDigits R value buffer.old buffer.new result }
     ensures turns { turns.new ≡ turns.old ++ slow_notes R value }
@@ -351,7 +342,7 @@ fn count_and_write_up_to_eight<const R: u32>(
     turns: &mut Turns,
     loop_turns: &mut Turns,
 ) -> usize
-    requires short { value < R ^ 8 }
+    requires below { value < R ^ 8 }
     requires room { digit_count R value ≤ length buffer.old }
     ensures digits { WritesDigits R value buffer.old buffer.new result }
     ensures turns { turns.new ≡ turns.old ++ slow_notes R value }
@@ -371,7 +362,7 @@ fn count_and_write_one_or_two<const R: u32>(
     buffer: &mut [u8],
     turns: &mut Turns,
 ) -> usize
-    requires short { number < R * R }
+    requires below { number < R * R }
     requires room { digit_count R number ≤ length buffer.old }
     ensures digits { WritesDigits R number buffer.old buffer.new result }
     ensures turns { turns.new ≡ turns.old ++ slow_notes R number }

@@ -10,11 +10,11 @@ few : (i length : ℕ) → i < length → length ≤ 19 → 10 ^ i ≤ 10 ^ 18
 few i length within most = pow-le-pow_right {n = 10} (omega arith) {i = i} {j = 18} (omega arith)
 
 pub overflow_mul-number : goal.overflow_mul-number
-overflow_mul-number c = record { fits = omega (arith, c.loop-byte.invariant.small, few _ _ c.loop-byte-test.true c.requires.short) }
+overflow_mul-number c = record { fits = omega (arith, c.loop-byte.invariant.small, few _ _ c.loop-byte-test.true c.requires.at_most) }
 
 pub overflow_add-number : goal.overflow_add-number
 overflow_add-number c = record {
-  fits = omega (arith, c.loop-byte.invariant.small, few _ _ c.loop-byte-test.true c.requires.short, c.from.ensures, c.if-digit-gt9.false);
+  fits = omega (arith, c.loop-byte.invariant.small, few _ _ c.loop-byte-test.true c.requires.at_most, c.from.ensures, c.if-digit-gt9.false);
 }
 
 pub loop-byte-preserved : goal.loop-byte-preserved

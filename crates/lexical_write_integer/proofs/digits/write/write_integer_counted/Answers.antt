@@ -4,16 +4,16 @@ use Rattle.lexical_write_integer.proofs.OfDigits.Count.DigitCounts.{WritesDigits
 use Rattle.lexical_write_integer.proofs.OfDigits.Radix.Loops.Records.{table_turns-are, table_turns-few}
 use Rattle.lexical_write_integer.proofs.digits.write.write_integer_counted.Goals as goal
 
-pub returns-then-radix-eq10-clause-short : goal.returns-then-radix-eq10-clause-short
-returns-then-radix-eq10-clause-short g c =
+pub returns-then-radix-eq10-clause-at_most : goal.returns-then-radix-eq10-clause-at_most
+returns-then-radix-eq10-clause-at_most g c =
     WritesDigits-short c.decimal_counted.ensures.digits (omega arith) g.met.T.UnsignedInteger.range.width c.fits_bits.ensures
 
 -- the check finds this proof by itself, but with an answer the refusal of a mistake says what is wrong
 pub returns-then-radix-eq10-clause-notes : goal.returns-then-radix-eq10-clause-notes
 returns-then-radix-eq10-clause-notes g c = rw (eq-eqb c.args.radix 10 c.if-radix-eq10.true) c.decimal_counted.ensures.notes
 
-pub returns-else-radix-eq10-clause-short : goal.returns-else-radix-eq10-clause-short
-returns-else-radix-eq10-clause-short g c =
+pub returns-else-radix-eq10-clause-at_most : goal.returns-else-radix-eq10-clause-at_most
+returns-else-radix-eq10-clause-at_most g c =
     WritesDigits-short c.radix_counted.ensures.digits c.requires.radix.at_least_two g.met.T.UnsignedInteger.range.width c.fits_bits.ensures
 
 -- the check finds this proof by itself, but with an answer the refusal of a mistake says what is wrong

@@ -137,6 +137,7 @@ pub(super) fn write_after_count<const R: u32>(
         left = remove_four::<R>(left);
     }
     if R == 1 << bits {
+        remove_two::<R>(left);
         write_four(first, table, buffer, 0);
     } else {
         write_counted(left as u32, at, table, buffer);

@@ -9,8 +9,8 @@ returns-clause-turns g c = let written = c.write_digits_in.ensures in table_turn
 pub returns-clause-few_turns : goal.returns-clause-few_turns
 returns-clause-few_turns g c = grind (arith, table_turns-few)
 
-pub returns-clause-short : goal.returns-clause-short
-returns-clause-short g c =
+pub returns-clause-at_most : goal.returns-clause-at_most
+returns-clause-at_most g c =
     WritesDigits-short c.write_digits_in.ensures.digits c.requires.radix.at_least_two g.met.T.UnsignedInteger.range.width c.fits_bits.ensures
 
 -- the check finds this proof by itself, but with an answer the refusal of a mistake says what is wrong

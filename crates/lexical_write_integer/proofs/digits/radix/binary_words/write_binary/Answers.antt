@@ -68,8 +68,8 @@ remove_eight-rest-requires c = omega (arith, long_after (goal.at.remove_eight-re
 rest_short : (left end rest : ℕ) → rest ≡ left / 2 ^ 8 → digit_count 2 left ≡ end → end ≤ 16 → rest < 256
 rest_short left end rest is counts few = omega (arith, is, fits-within 2 left 16 (omega arith) (omega (arith, counts, few)))
 
-pub record_up_to_eight-requires : goal.record_up_to_eight-requires
-record_up_to_eight-requires c = grind (arith, rest_short, count_left)
+pub note_up_to_eight-requires : goal.note_up_to_eight-requires
+note_up_to_eight-requires c = grind (arith, rest_short, count_left)
 
 -- with zeros after them
 first_short : (c : After-loop-at) → c.loop-at.left / 2 ^ 8 * 2 ^ (16 - c.loop-at.at) < 2 ^ 8
@@ -77,8 +77,8 @@ first_short c =
     shifted-lt c.loop-at.left c.loop-at.at 8 8 (omega (arith, c.loop-at.invariant.more)) (omega (arith, c.loop-at-test.false))
     (rw (← count_left c) (digit_count-fits 2 c.loop-at.left (omega arith)))
 
-pub write_eight_bits-requires-2-clause-short : goal.write_eight_bits-requires-2-clause-short
-write_eight_bits-requires-2-clause-short c = grind (arith, first_short)
+pub write_eight_bits-requires-2-clause-below : goal.write_eight_bits-requires-2-clause-below
+write_eight_bits-requires-2-clause-below c = grind (arith, first_short)
 
 pub returns : goal.returns
 returns c =
@@ -97,9 +97,9 @@ returns c =
     let place : end ≡ 0 + end = omega arith in
     let whole : end + (count - end) ≡ count = omega (arith, c.loop-at.invariant.within) in
     let old = c.args.turns.now in
-    let noted = c.record_up_to_eight.ensures ∙ c.remove_eight-rest.ensures.notes ∙ c.loop-at.invariant.noted in
+    let noted = c.note_up_to_eight.ensures ∙ c.remove_eight-rest.ensures.notes ∙ c.loop-at.invariant.noted in
     record {
       digits = WritesDigits-block {r = 2} (omega arith) (sym is) (omega (arith, is, c.requires.room))
           (rw whole at (IsWrittenBack-last (IsWrittenBack-at place c.loop-at.invariant.written) block));
-      notes = table_notes-are 2 c.args.value old old c.record_up_to_eight.new.turns (none_noted 2 c.args.value old refl) noted;
+      notes = table_notes-are 2 c.args.value old old c.note_up_to_eight.new.turns (none_noted 2 c.args.value old refl) noted;
     }

@@ -6,7 +6,7 @@ use Rattle.lexical_write_integer.proofs.digits.radix.compact.compact_counted.Goa
 pub returns-clause-turns : goal.returns-clause-turns
 returns-clause-turns g c = grind (arith, length-more, length-compact_notes)
 
-pub returns-clause-short : goal.returns-clause-short
-returns-clause-short g c =
+pub returns-clause-at_most : goal.returns-clause-at_most
+returns-clause-at_most g c =
     let digits = rw c.as_u64.ensures at c.write_each_digit_in.ensures.digits in
     WritesDigits-short digits c.requires.radix.at_least_two g.met.T.UnsignedInteger.range.width c.fits_bits.ensures

@@ -12,7 +12,7 @@ use Rattle.lexical_write_integer.proofs.digits.radix.table_writer.count_and_writ
 left_short : (g : _) (c : After-remove_four-left g) → c.remove_four-left.result < g.row.R ^ 4
 left_short g c =
     let some : 0 < g.row.R ^ 4 = omega (arith, power-gt_one g.row.R 4 c.args.table.is_radix.at_least_two takes_four) in
-    rw c.remove_four-left.ensures.left (div_below c.args.value (g.row.R ^ 4) (g.row.R ^ 4) some (rw (pow-add g.row.R 4 4) at c.requires.short))
+    rw c.remove_four-left.ensures.left (div_below c.args.value (g.row.R ^ 4) (g.row.R ^ 4) some (rw (pow-add g.row.R 4 4) at c.requires.below))
 
 pub overflow_cast-left : goal.overflow_cast-left
 overflow_cast-left g c =

@@ -30,7 +30,7 @@ count_and_write_one_or_two-head-requires g c =
     let n = c.args.number in
     let two = c.args.table.is_radix.at_least_two in
     let is = rw c.from.ensures at c.remove_two-pair.ensures.pair in
-    let below : n / (r * r) < r * r = div_below n (r * r) (r * r) (some r two) (rw pow-four at c.requires.short) in
+    let below : n / (r * r) < r * r = div_below n (r * r) (r * r) (some r two) (rw pow-four at c.requires.below) in
     let counted = two_more r n _ two is (omega (arith, c.if-pair-eq0.false)) in
     (lit< tt, (rw is below, omega (arith, counted, c.requires.room)))
 

@@ -15,7 +15,7 @@ returns-clause-count c =
     let n = c.args.number in
     let two = c.requires.radix.at_least_two in
     rw c.from-2.ensures
-    (digit_count-tested (ltb 0 (n / r)) r n 1 two (omega arith) (λ more. absurd (omega arith)) c.requires.short
+    (digit_count-tested (ltb 0 (n / r)) r n 1 two (omega arith) (λ more. absurd (omega arith)) c.requires.below
     (λ e. rw pow-one (quotient-some r n (ltb-true 0 (n / r) e))) (λ e. rw pow-one (quotient-none r n (omega arith) (ltb-false 0 (n / r) e))))
 
 -- and then it is not recorded

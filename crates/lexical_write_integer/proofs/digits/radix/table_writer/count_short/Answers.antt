@@ -10,7 +10,7 @@ returns-then-counts_at_once-clause-count c =
     let r = c.args.radix in
     let n = c.args.number in
     rw (c.from-then-counts_at_once.ensures, c.from.ensures)
-    (digit_count-tested (leb r n) r n 1 c.requires.radix.at_least_two (omega arith) (λ more. absurd (omega arith)) c.requires.short
+    (digit_count-tested (leb r n) r n 1 c.requires.radix.at_least_two (omega arith) (λ more. absurd (omega arith)) c.requires.below
     (λ e. rw pow-one (leb-true r n e)) (λ e. rw pow-one (leb-false r n e)))
 
 pub returns-then-counts_at_once-clause-notes : goal.returns-then-counts_at_once-clause-notes

@@ -9,5 +9,5 @@ overflow_cast-result g c =
     let power = c.fourth_power.ensures in
     omega (arith, mod-lt c.args.value power.some, power.power, power-small g.row.R 4 c.requires.at_most_36 takes_four)
 
-pub returns-clause-short : goal.returns-clause-short
-returns-clause-short g c = omega (arith, mod-lt c.args.value c.fourth_power.ensures.some, c.fourth_power.ensures.power)
+pub returns-clause-below : goal.returns-clause-below
+returns-clause-below g c = omega (arith, mod-lt c.args.value c.fourth_power.ensures.some, c.fourth_power.ensures.power)

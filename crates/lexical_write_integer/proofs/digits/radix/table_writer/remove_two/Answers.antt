@@ -10,7 +10,7 @@ returns-then-pair-gt0-clause-notes g c =
     let r = g.row.R in
     let n = c.args.number in
     let long : r ^ 2 ≤ n = rw pow-two (quotient-some (r * r) n (rw c.from.ensures at c.if-pair-gt0.true)) in
-    let pair = loop_notes-pair r n c.requires.radix.at_least_two long c.requires.short in
+    let pair = loop_notes-pair r n c.requires.radix.at_least_two long c.requires.below in
     rw (pair, pow-two) (rw c.from.ensures at c.tick.ensures)
 
 pub returns-else-pair-gt0-clause-notes : goal.returns-else-pair-gt0-clause-notes

@@ -61,8 +61,8 @@ more g c =
     let long : g.row.R ^ 4 ≤ c.args.value = omega (arith, c.if-value-fourth_power.false, c.fourth_power.ensures.power) in
     omega (arith, c.count_some-count.ensures.count, digit_count-more g.row.R 4 c.args.value c.args.table.is_radix.at_least_two long)
 
-pub record_pair-requires-clause-short : goal.record_pair-requires-clause-short
-record_pair-requires-clause-short g c = short g (goal.at.record_pair-requires-clause-short g c).After-loop-at
+pub remove_two-requires-clause-below : goal.remove_two-requires-clause-below
+remove_two-requires-clause-below g c = short g (goal.at.remove_two-requires-clause-below g c).After-loop-at
 
 pub overflow_sub-count : goal.overflow_sub-count
 overflow_sub-count g c = omega (arith, more g (goal.at.overflow_sub-count g c).After-count_some-count)
@@ -78,7 +78,7 @@ overflow_shr-value g c =
 -- what was found before the loop
 first_below : (g : _) (c : Then-bits-2 g) → c.if-bits.first < g.row.R ^ 4
 first_below g c = elim c.if-bits.branch [
-  | then-bits w ↦ rw w.first-is w.last_four-first.ensures.short
+  | then-bits w ↦ rw w.first-is w.last_four-first.ensures.below
   | else-bits w ↦ absurd (omega (arith, w.if-bits.false, c.if-bits-2.true))
 ]
 

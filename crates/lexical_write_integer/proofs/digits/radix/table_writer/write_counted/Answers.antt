@@ -8,7 +8,7 @@ use Rattle.lexical_write_integer.proofs.digits.radix.table_writer.write_counted.
 pub write_three_or_four-requires : goal.write_three_or_four-requires
 write_three_or_four-requires g c =
     let long = longer-than g.row.R c.args.number 2 (omega arith) (omega (arith, c.requires.digits, c.if-digits-gt2.true)) in
-    rw c.from.ensures (lit< tt, (long, (c.requires.short, omega (arith, c.requires.digits, c.requires.room))))
+    rw c.from.ensures (lit< tt, (long, (c.requires.below, omega (arith, c.requires.digits, c.requires.room))))
 
 -- at most two digits
 few : (g : _) (c : Else-digits-gt2 g) → c.args.number < g.row.R ^ 2

@@ -6,10 +6,10 @@ use Rattle.lexical_write_integer.proofs.OfDigits.Radix.TablePairs.{length-table,
 use Rattle.lexical_write_integer.proofs.digits.radix.table_writer.write_one_or_two.Goals as goal
 
 pub bounds-table-pair : goal.bounds-table-pair
-bounds-table-pair g c = omega (arith, c.requires.short, length-table g.row.R c.args.table.pairs.now c.args.table.begins)
+bounds-table-pair g c = omega (arith, c.requires.below, length-table g.row.R c.args.table.pairs.now c.args.table.begins)
 
 pub bounds-table-pair-2 : goal.bounds-table-pair-2
-bounds-table-pair-2 g c = omega (arith, c.requires.short, length-table g.row.R c.args.table.pairs.now c.args.table.begins)
+bounds-table-pair-2 g c = omega (arith, c.requires.below, length-table g.row.R c.args.table.pairs.now c.args.table.begins)
 
 pub bounds-buffer-0 : goal.bounds-buffer-0
 bounds-buffer-0 g c = omega (arith, c.requires.digits, digit_count-pos g.row.R c.args.number, c.requires.room)
@@ -28,5 +28,5 @@ returns g c =
     let begins = c.args.table.begins in
     let two = c.args.table.is_radix.at_least_two in
     WritesDigits-block two (sym c.requires.digits) c.requires.room
-    (WritesBlock-one_or_two r n _ c.args.buffer.now two c.requires.short c.requires.digits c.requires.room
-    (pair_first r n table begins c.requires.short) (pair_second r n table begins c.requires.short))
+    (WritesBlock-one_or_two r n _ c.args.buffer.now two c.requires.below c.requires.digits c.requires.room
+    (pair_first r n table begins c.requires.below) (pair_second r n table begins c.requires.below))

@@ -22,7 +22,7 @@ last : (g : _) (c : Start g) → c.args.number % (g.row.R * g.row.R) < g.row.R *
 last g c = mod-lt c.args.number (some g c)
 
 pub overflow_cast-pair : goal.overflow_cast-pair
-overflow_cast-pair g c = omega (arith, c.requires.short, power-small g.row.R 4 c.args.table.is_radix.at_most_36 takes_four)
+overflow_cast-pair g c = omega (arith, c.requires.below, power-small g.row.R 4 c.args.table.is_radix.at_most_36 takes_four)
 
 -- the last pair, its second digit first
 WritesBlock-last : (r n at : ℕ) (list : List ℕ) → 2 ≤ r → n < r * r → at + 2 ≤ length list
@@ -49,7 +49,7 @@ pub write_one_pair-requires : goal.write_one_pair-requires
 write_one_pair-requires g c =
     let c' = (goal.at.write_one_pair-requires g c).Start in
     let r = g.row.R in
-    let below : c.args.number / (r * r) < r * r = div_below c.args.number (r * r) (r * r) (some g c') (rw pow-four at c.requires.short) in
+    let below : c.args.number / (r * r) < r * r = div_below c.args.number (r * r) (r * r) (some g c') (rw pow-four at c.requires.below) in
     let counted : c.count_three_or_four-count.result - 2 ≡ digit_count r (c.args.number / (r * r)) =
     omega (arith, first_count g c', c.count_three_or_four-count.ensures.count) in
     let within = slice g (goal.at.write_one_pair-requires g c).After-count_three_or_four-count in

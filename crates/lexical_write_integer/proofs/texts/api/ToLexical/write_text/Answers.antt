@@ -29,8 +29,8 @@ returns-clause-text g c =
       total_count = c.group_digits-total.ensures.count;
     }
 
-pub returns-clause-short : goal.returns-clause-short
-returns-clause-short g c =
+pub returns-clause-at_most : goal.returns-clause-at_most
+returns-clause-at_most g c =
     let width = g.met.Self.LexicalInteger.decimal_width in
     let range = c.in_range.ensures in
     let fits = grouped_length-le_need c.args.format.now width range.at_least range.at_most c.write_magnitude-count.ensures.digits.count in

@@ -12,5 +12,5 @@ need_is g c = grind arith
 pub returns-clause-need : goal.returns-clause-need
 returns-clause-need g c = need_is g c
 
-pub returns-clause-short : goal.returns-clause-short
-returns-clause-short g c = omega (arith, need_is g c, c.size_suffices.ensures)
+pub returns-clause-at_most : goal.returns-clause-at_most
+returns-clause-at_most g c = omega (arith, need_is g c, c.size_suffices.ensures)

@@ -1,6 +1,6 @@
 use Rattle.std.proofs.Common.{arith}
 use Rattle.lexical_write_integer.proofs.OfDigits.Radix.Loops.Records.{loop_notes-after}
-use Rattle.lexical_write_integer.proofs.digits.radix.binary_words.record_up_to_eight.Goals as goal
+use Rattle.lexical_write_integer.proofs.digits.radix.binary_words.note_up_to_eight.Goals as goal
 
 pub returns : goal.returns
 returns c =
