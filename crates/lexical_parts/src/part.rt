@@ -59,7 +59,7 @@ pub trait Part: Copy {
         requires valid { is_valid self }
         requires room { room self ≤ length buffer.old }
         ensures text { Writes (is_text self) buffer.old buffer.new result }
-        ensures short { result ≤ room self }
+        ensures at_most { result ≤ room self }
         ensures utf8 { is_utf8 self → AreUtf8 (is_text self) };
 
     /// Returns the length of the text, if the part knows it without writing the text, and otherwise `None`, as it does
@@ -103,7 +103,7 @@ pub trait Part: Copy {
         requires room { room self ≤ length buffer.old }
         ensures* lends { sem 𝓛 (LendsFront buffer.entry (length result.now) result) }
         ensures text { is_text self result.now }
-        ensures short { length result.now ≤ room self }
+        ensures at_most { length result.now ≤ room self }
         ensures utf8 { is_utf8 self → AreUtf8 (is_text self) }
     {
         let count = self.write_to(buffer);
@@ -129,7 +129,7 @@ pub trait Part: Copy {
             → slice_range buffer.new from to ≡ slice_range buffer.old from to }
         ensures kept_after { (from to : ℕ) → result ≤ from
             → slice_range buffer.new from to ≡ slice_range buffer.old from to }
-        ensures short { result ≤ index + room self }
+        ensures at_most { result ≤ index + room self }
         ensures utf8 { is_utf8 self → AreUtf8 (is_text self) }
         ensures same_length { length buffer.new ≡ length buffer.old }
     {
@@ -150,7 +150,7 @@ pub trait Part: Copy {
         ensures longer { IfNone result (room self ≤ 256 → HasLonger (is_text self) (length buffer.old)) }
         ensures large { IsSome result → 256 < room self → room self ≤ length buffer.old }
         ensures text { IfSome result (Writes (is_text self) buffer.old buffer.new) }
-        ensures short { IfSome result (λ count. count ≤ room self) }
+        ensures at_most { IfSome result (λ count. count ≤ room self) }
         ensures utf8 { IfSome result (λ _. is_utf8 self → AreUtf8 (is_text self)) }
         ensures none { IfNone result (buffer.new ≡ buffer.old) }
     {
@@ -176,7 +176,7 @@ pub trait Part: Copy {
         requires utf8 { is_utf8 self }
         requires room { room self ≤ length buffer.old }
         ensures text { is_text self result.now }
-        ensures short { length result.now ≤ room self }
+        ensures at_most { length result.now ≤ room self }
     {
         let is_sure = is_sure(self, buffer);
         let text = self.to_text(buffer);
@@ -202,7 +202,7 @@ pub trait Part: Copy {
         ensures longer { IfNone result (room self ≤ 256 → HasLonger (is_text self) (length buffer.old)) }
         ensures large { IsSome result → 256 < room self → room self ≤ length buffer.old }
         ensures text { IfSome result (λ text. is_text self text.now) }
-        ensures short { IfSome result (λ text. length text.now ≤ room self) }
+        ensures at_most { IfSome result (λ text. length text.now ≤ room self) }
     {
         if self.room() <= buffer.len() {
             return Some(self.to_str(buffer));
@@ -218,7 +218,7 @@ fn write_if_it_fits<P: Part>(part: P, buffer: &mut [u8]) -> Option<usize>
     ensures longer { IfNone result (P.room part ≤ 256 → HasLonger (P.is_text part) (length buffer.old)) }
     ensures at_most_256 { IsSome result → P.room part ≤ 256 }
     ensures text { IfSome result (Writes (P.is_text part) buffer.old buffer.new) }
-    ensures short { IfSome result (λ count. count ≤ P.room part) }
+    ensures at_most { IfSome result (λ count. count ≤ P.room part) }
     ensures utf8 { IfSome result (λ _. P.is_utf8 part → AreUtf8 (P.is_text part)) }
     ensures none { IfNone result (buffer.new ≡ buffer.old) }
 {
@@ -240,7 +240,7 @@ fn str_if_it_fits<P: Part>(part: P, buffer: &mut [u8]) -> Option<&str>
     ensures longer { IfNone result (P.room part ≤ 256 → HasLonger (P.is_text part) (length buffer.old)) }
     ensures at_most_256 { IsSome result → P.room part ≤ 256 }
     ensures text { IfSome result (λ text. P.is_text part text.now) }
-    ensures short { IfSome result (λ text. length text.now ≤ P.room part) }
+    ensures at_most { IfSome result (λ text. length text.now ≤ P.room part) }
 {
     let count = write_if_it_fits(part, buffer)?;
     Some(from_utf8(&buffer[..count]).unwrap())

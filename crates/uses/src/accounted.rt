@@ -28,7 +28,7 @@ impl Part for Accounted {
 fn parentheses(cents: i64) -> (&'static str, &'static str)
     ensures before { result.0.now ≡ before cents }
     ensures after { result.1.now ≡ after cents }
-    ensures short { length result.0.now + length result.1.now ≤ 2 }
+    ensures at_most { length result.0.now + length result.1.now ≤ 2 }
 {
     if cents < 0 { ("(", ")") } else { ("", "") }
 }

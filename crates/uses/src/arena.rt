@@ -13,7 +13,7 @@ use lexical_write_integer::laws::texts_equal_iff;
 pub fn keep_text(number: i64, arena: &mut [u8]) -> (&mut [u8], &mut [u8])
     requires { 20 ≤ length arena.old }
     ensures text { IsText number standard result.0.now }
-    ensures short { length result.0.now ≤ 20 }
+    ensures at_most { length result.0.now ≤ 20 }
     ensures rest { length result.0.now + length result.1.now ≡ length arena.old }
 {
     let count = number.write_lexical(arena);

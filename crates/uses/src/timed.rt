@@ -17,8 +17,7 @@ pub fn timed_identifier(time: u64, number: u32, buffer: &mut [u8; 13]) -> &[u8]
 
 /// A law: an identifier of an earlier time is earlier in the order of bytes.
 pub fn sorts_by_time(a: u64, b: u64, m: u32, n: u32)
-    requires { a < b }
-    ensures { (s t : List ℕ) → IsTimed a m s → IsTimed b n t → IsEarlier s t }
+    ensures { a < b → (s t : List ℕ) → IsTimed a m s → IsTimed b n t → IsEarlier s t }
 {
     padded_decides(36, 9, a, b, PaddedDigits(36, m, 4), PaddedDigits(36, n, 4));
 }

@@ -1,5 +1,5 @@
 //! Parts that `{}` can write.
-#![tactic(auto, using(crate::proofs::ShownParts::written_at_once))]
+#![tactic(auto, using(crate::proofs::OfFormatting::ShownParts::written_at_once))]
 
 ghost use Rattle.std.specs.Prelude.{IfSome, IsOk, IsTrue, List, None, Option, ℕ};
 ghost use Rattle.lexical_parts.specs.Length.{IsOnly};

@@ -69,7 +69,7 @@ fn write_through<P: Show, W: fmt::Write>(part: P, f: &mut fmt::Formatter<W>) -> 
 
 impl<P: Show> Shown<P> {
     // Writes the text with the options of the formatter, or returns an error if the part is not valid.
-    #[tactic(auto, using(crate::proofs::ShownParts::displays_only, crate::proofs::ShownParts::displays_styled_only))]
+    #[tactic(auto, using(crate::proofs::OfFormatting::ShownParts::displays_only, crate::proofs::OfFormatting::ShownParts::displays_styled_only))]
     fn show<W: fmt::Write>(self, f: &mut fmt::Formatter<W>) -> fmt::Result
         ensures some { ShowsSomeOnOk W.write_str_gives f.old result (P.is_text self.0) f.new }
         ensures writes { DisplaysOnOk W.write_str_gives f.old result (P.text self.0) f.new }

@@ -43,8 +43,7 @@ pub fn same_split<A: Part, B: Part, P: Part, Q: Part>(a: A, b: B, separator: u8,
 /// A law: if `a` is below `b`, a text that begins with `a` in `width` digits is earlier, in the order of bytes, than a
 /// text that begins with `b` in `width` digits, whatever follows. Both numbers have leading zeros, in one radix.
 pub fn padded_decides<P: Part, Q: Part>(radix: u32, width: usize, a: u64, b: u64, p: P, q: Q)
-    requires { a < b }
-    ensures { (s t : List ℕ) → (IsPadded radix width a then P.is_text p) s
+    ensures { a < b → (s t : List ℕ) → (IsPadded radix width a then P.is_text p) s
         → (IsPadded radix width b then Q.is_text q) t → IsEarlier s t }
 {}
 

@@ -1,5 +1,5 @@
 //! Parts that are padded to the width of a column.
-#![tactic(auto, using(crate::proofs::Utf8Texts::kinds, crate::proofs::Lengths::lengths, crate::proofs::OnlyTexts::onlys))]
+#![tactic(auto, using(crate::proofs::OfTexts::Parts::parts))]
 
 ghost use Rattle.std.specs.Prelude.{max, ◌<◌};
 ghost use Rattle.lexical_parts.specs.Column.{IsAtLeft, IsAtRight, IsCentered, centered_text, left_text, right_text};

@@ -34,7 +34,7 @@ pub(crate) fn write_next<P: Part>(
     requires room { length (lead index separator.now) + P.room part ≤ length buffer.old }
     ensures text { Writes (IsExactly (lead index separator.now) then P.is_text part)
         buffer.old buffer.new result }
-    ensures short { result ≤ length (lead index separator.now) + P.room part }
+    ensures at_most { result ≤ length (lead index separator.now) + P.room part }
     ensures utf8 { P.is_utf8 part → AreUtf8 (P.is_text part) }
 {
     // A branch, since a copy of a length that is not known is a call of memcpy.

@@ -1,5 +1,5 @@
 //! Tuples of two to twelve parts, whose text is the texts of their members in order.
-#![tactic(auto, using(crate::proofs::Utf8Texts::kinds, crate::proofs::Lengths::lengths, crate::proofs::OnlyTexts::onlys))]
+#![tactic(auto, using(crate::proofs::OfTexts::Parts::parts))]
 
 ghost use Rattle.std.specs.Fmt.{option_append};
 ghost use Rattle.std.specs.Prelude.{◌+◌};

@@ -41,7 +41,7 @@ pub fn write_with_length<P: Part>(
     requires sum { extra + P.room part < 2 ^ 64 }
     ensures text { Writes (IsPadded radix width (extra + result) then P.is_text part)
         buffer.old buffer.new (width + result) }
-    ensures short { result ≤ P.room part }
+    ensures at_most { result ≤ P.room part }
     ensures utf8 { P.is_utf8 part → AreUtf8 (P.is_text part) }
 {
     let count = part.write_to(&mut buffer[width..]);

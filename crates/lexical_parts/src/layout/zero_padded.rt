@@ -1,5 +1,5 @@
 //! Numbers with leading zeros, up to at least a width.
-#![tactic(auto, using(crate::proofs::Utf8Changes::changes, crate::proofs::Lengths::lengths, crate::proofs::OnlyTexts::onlys))]
+#![tactic(auto, using(crate::proofs::OfTexts::Parts::parts))]
 
 ghost use Rattle.std.specs.Fmt.{WritesInCalls};
 ghost use Rattle.std.specs.Prelude.{◌≡◌, ◌≤◌, length, max};

@@ -31,7 +31,7 @@ impl Buffer {
     /// Returns the number in decimal, with a `-` if it is negative.
     pub fn format<T: ToLexical>(&mut self, number: T) -> &str
         ensures text { IsText (T.number number) standard result.now }
-        ensures short { length result.now ≤ 20 }
+        ensures at_most { length result.now ≤ 20 }
     {
         Decimal(number).to_str(&mut self.bytes)
     }

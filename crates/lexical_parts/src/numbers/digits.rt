@@ -1,5 +1,5 @@
 //! The digits of an unsigned number in any radix.
-#![tactic(auto, using(crate::proofs::Utf8Texts::kinds, crate::proofs::Lengths::lengths, crate::proofs::OnlyTexts::onlys))]
+#![tactic(auto, using(crate::proofs::OfTexts::Parts::parts))]
 
 ghost use Rattle.lexical_write_integer.specs.Computed.{digits_text};
 ghost use Rattle.std.specs.Prelude.{Some};

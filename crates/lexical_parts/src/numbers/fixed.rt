@@ -1,5 +1,5 @@
 //! Numbers with a fixed number of decimals.
-#![tactic(auto, using(crate::proofs::Utf8Texts::kinds, crate::proofs::Lengths::lengths, crate::proofs::OnlyTexts::onlys))]
+#![tactic(auto, using(crate::proofs::OfTexts::Parts::parts))]
 
 ghost use Rattle.std.specs.Prelude.{◌+◌, ◌≤◌, None, Some, length, max, unsigned_abs, if◌then◌else◌};
 ghost use Rattle.lexical_write_integer.specs.Buffer.{Writes};
@@ -58,7 +58,7 @@ fn write_grouped_units<T: ToLexical>(
     requires room { grouped_units_room format.now.digit_grouping T.DECIMAL_WIDTH decimals ≤ length buffer.old }
     ensures text { Writes (IsGroupedUnits format.now.digit_grouping decimals (unsigned_abs (T.number number)))
         buffer.old buffer.new result }
-    ensures short { result ≤ grouped_units_room format.now.digit_grouping T.DECIMAL_WIDTH decimals }
+    ensures at_most { result ≤ grouped_units_room format.now.digit_grouping T.DECIMAL_WIDTH decimals }
 {
     let count = write_units(number, decimals, buffer);
     let whole = count - decimals;

@@ -1,5 +1,5 @@
 //! A number in a format, which has a radix, a sign and groups of digits.
-#![tactic(auto, using(crate::proofs::Utf8Texts::kinds, crate::proofs::Lengths::lengths, crate::proofs::OnlyTexts::onlys))]
+#![tactic(auto, using(crate::proofs::OfTexts::Parts::parts))]
 
 ghost use Rattle.lexical_write_integer.specs.Computed.{text_of};
 ghost use Rattle.std.specs.Prelude.{◌≡◌, ◌≤◌, Some};

@@ -1,5 +1,5 @@
 //! Numbers with leading zeros, up to a fixed width.
-#![tactic(auto, using(crate::proofs::Utf8Texts::kinds, crate::proofs::Lengths::lengths, crate::proofs::OnlyTexts::onlys))]
+#![tactic(auto, using(crate::proofs::OfTexts::Parts::parts))]
 
 ghost use Rattle.lexical_write_integer.specs.Computed.{padded_text};
 ghost use Rattle.std.specs.Prelude.{◌^◌, ◌<◌, IsTrue, Some};

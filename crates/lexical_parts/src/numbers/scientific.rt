@@ -1,5 +1,5 @@
 //! Numbers in scientific notation.
-#![tactic(auto, using(crate::proofs::Utf8Texts::kinds, crate::proofs::Lengths::lengths, crate::proofs::OnlyTexts::onlys))]
+#![tactic(auto, using(crate::proofs::OfTexts::Parts::parts))]
 
 ghost use Rattle.std.specs.Prelude.{◌≡◌, ◌≢◌, ℕ, ◌+◌, ◌-◌, ◌^◌, ◌<◌, ◌≤◌, length, drop, replicate};
 ghost use Rattle.std.specs.Prelude.{Some, slice_index, unsigned_abs};
@@ -42,7 +42,7 @@ fn write_with_point(digits: &[u8], buffer: &mut [u8]) -> usize
     requires room { length digits.now + 1 ≤ length buffer.old }
     ensures text { (units : ℕ) → IsDigits 10 units digits.now
         → Writes (IsUnits (length digits.now - 1) units) buffer.old buffer.new result }
-    ensures short { result ≤ length digits.now + 1 }
+    ensures at_most { result ≤ length digits.now + 1 }
     ensures within { result ≤ length buffer.old }
 {
     if digits.len() == 1 {
@@ -70,7 +70,7 @@ fn write_exponent(exponent: i64, buffer: &mut [u8]) -> usize
     requires small { unsigned_abs exponent < 2 ^ 32 }
     requires room { 12 ≤ length buffer.old }
     ensures text { Writes (IsStr "e" then IsDecimal exponent) buffer.old buffer.new result }
-    ensures short { result ≤ 12 }
+    ensures at_most { result ≤ 12 }
 {
     let start = if exponent < 0 { "e-" } else { "e" };
     (start, exponent.unsigned_abs() as u32).write_to(buffer)
@@ -82,7 +82,7 @@ fn write_magnitude<T: ToLexical>(number: T, exponent: i32, buffer: &mut [u8]) ->
     requires { T.DECIMAL_WIDTH + 13 ≤ length buffer.old }
     ensures text { Writes (IsScientificUnsigned (unsigned_abs (T.number number)) exponent)
         buffer.old buffer.new result }
-    ensures short { result ≤ T.DECIMAL_WIDTH + 13 }
+    ensures at_most { result ≤ T.DECIMAL_WIDTH + 13 }
 {
     number.in_range();
     let mut digits = [0; 20];

@@ -1,5 +1,5 @@
 //! Numbers of units without zeros at the end of their fraction.
-#![tactic(auto, using(crate::proofs::Utf8Texts::kinds, crate::proofs::Lengths::lengths, crate::proofs::OnlyTexts::onlys))]
+#![tactic(auto, using(crate::proofs::OfTexts::Parts::parts))]
 
 ghost use Rattle.std.specs.Prelude.{◌+◌, ◌≤◌, Some, length, max, min, unsigned_abs};
 ghost use Rattle.lexical_write_integer.specs.Buffer.{Writes};
@@ -23,7 +23,7 @@ fn write_trimmed_units<T: ToLexical>(number: T, decimals: usize, buffer: &mut [u
     requires decimals { decimals ≤ 19 }
     requires room { max T.DECIMAL_WIDTH (decimals + 1) + min decimals 1 ≤ length buffer.old }
     ensures text { Writes (IsTrimmedUnits decimals (unsigned_abs (T.number number))) buffer.old buffer.new result }
-    ensures short { result ≤ max T.DECIMAL_WIDTH (decimals + 1) + min decimals 1 }
+    ensures at_most { result ≤ max T.DECIMAL_WIDTH (decimals + 1) + min decimals 1 }
 {
     let mut array = [0; 20];
     let count = write_units(number, decimals, &mut array);

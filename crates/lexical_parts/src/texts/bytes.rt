@@ -1,5 +1,5 @@
 //! Bytes as a part: those of a slice, or a single one.
-#![tactic(auto, using(crate::proofs::Utf8Texts::kinds, crate::proofs::Lengths::lengths, crate::proofs::OnlyTexts::onlys))]
+#![tactic(auto, using(crate::proofs::OfTexts::Parts::parts))]
 
 ghost use Rattle.std.specs.Prelude.{Some, ◌<◌, [], ◌∷◌, length};
 ghost use Rattle.std.specs.Str.{IsUtf8};

@@ -1,5 +1,5 @@
 //! Characters, which are parts: the text of a `char` is its UTF-8.
-#![tactic(auto, using(crate::proofs::Utf8Texts::kinds, crate::proofs::Lengths::lengths, crate::proofs::OnlyTexts::onlys))]
+#![tactic(auto, using(crate::proofs::OfTexts::Parts::parts))]
 
 ghost use Rattle.std.specs.Prelude.{Some, encode_utf8};
 ghost use Rattle.lexical_write_integer.specs.Sequence.{IsExactly};

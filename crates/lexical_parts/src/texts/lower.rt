@@ -1,5 +1,5 @@
 //! Parts in lowercase.
-#![tactic(auto, using(crate::proofs::Utf8Changes::changes, crate::proofs::Lengths::lengths, crate::proofs::OnlyTexts::onlys))]
+#![tactic(auto, using(crate::proofs::OfTexts::Parts::parts))]
 
 ghost use Rattle.std.specs.Char.{to_ascii_lowercase};
 ghost use Rattle.std.specs.Fmt.{WritesInCalls};

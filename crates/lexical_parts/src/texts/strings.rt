@@ -1,5 +1,5 @@
 //! Strings, which are parts: the text of a `&str` is the string.
-#![tactic(auto, using(crate::proofs::Utf8Texts::kinds, crate::proofs::Lengths::lengths, crate::proofs::OnlyTexts::onlys))]
+#![tactic(auto, using(crate::proofs::OfTexts::Parts::parts))]
 
 ghost use Rattle.std.specs.Prelude.{Some, length};
 ghost use Rattle.lexical_write_integer.specs.Sequence.{IsExactly};

@@ -1,5 +1,5 @@
 //! The words `true` and `false`, which are the texts of a `bool`.
-#![tactic(auto, using(crate::proofs::Utf8Texts::kinds, crate::proofs::Lengths::lengths, crate::proofs::OnlyTexts::onlys))]
+#![tactic(auto, using(crate::proofs::OfTexts::Parts::parts))]
 
 ghost use Rattle.std.specs.Prelude.{Some, ◌≡◌};
 ghost use Rattle.lexical_write_integer.specs.Sequence.{IsExactly};

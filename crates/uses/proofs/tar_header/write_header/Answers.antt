@@ -16,4 +16,4 @@ returns-clause-between c =
     c.write_field-3.ensures.kept_before 107 124 (omega arith)
     ∙ c.write_field-2.ensures.kept_before 107 124 (omega arith)
     ∙ c.write_field.ensures.kept_after 107 124 (omega arith)
-    ∙ c.write_at.ensures.kept_after 107 124 (omega (arith, c.write_at.ensures.short, c.requires.name))
+    ∙ c.write_at.ensures.kept_after 107 124 (omega (arith, c.write_at.ensures.at_most, c.requires.name))

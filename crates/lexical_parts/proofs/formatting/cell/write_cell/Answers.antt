@@ -3,7 +3,7 @@ use Rattle.std.proofs.Output.{has_written_styled_of_eq}
 use Rattle.std.proofs.Padding.{padded_integral_right}
 use Rattle.std.specs.Fmt.{formatter_spec, padded_integral}
 use Rattle.std.specs.Option.{unwrap_or}
-use Rattle.lexical_parts.proofs.ShownNumbers.{width_of}
+use Rattle.lexical_parts.proofs.OfFormatting.ShownNumbers.{width_of}
 use Rattle.lexical_parts.proofs.formatting.cell.write_cell.Goals as goal
 
 pub returns : goal.returns

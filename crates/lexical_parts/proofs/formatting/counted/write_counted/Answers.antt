@@ -1,5 +1,5 @@
 use Rattle.std.proofs.Common.{◌≡◌, length, refl, rules, arith}
-use Rattle.lexical_parts.proofs.ShownParts.{counted_closed}
+use Rattle.lexical_parts.proofs.OfFormatting.ShownParts.{counted_closed}
 use Rattle.lexical_parts.proofs.formatting.counted.write_counted.Goals as goal
 
 pub returns-then-left-eq0 : goal.returns-then-left-eq0

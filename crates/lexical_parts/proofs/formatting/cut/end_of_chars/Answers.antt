@@ -1,7 +1,7 @@
-use Rattle.std.proofs.Common.{◌≡◌, ◌++◌, ◌-◌, ◌∙◌, sym, ap, true, false, arith, append-nil, drop, take, drop_of_length-le}
+use Rattle.std.proofs.Common.{◌++◌, ◌∙◌, sym, ap, true, false, arith, append-nil, drop, take, drop_of_length-le}
 use Rattle.std.proofs.Math.Seq.{take-length, take_all}
 use Rattle.std.proofs.Padding.{char_count-drop, char_count-drop_all, take_chars-nil, take_chars_stops, take_chars_keeps}
-use Rattle.std.specs.Fmt.{char_count, take_chars}
+use Rattle.std.specs.Fmt.{take_chars}
 use Rattle.lexical_parts.proofs.formatting.cut.end_of_chars.Goals as goal
 use Rattle.lexical_parts.proofs.formatting.cut.end_of_chars.Goals.{then-is_char_start+else-left-eq0, else-is_char_start}
 

@@ -1,5 +1,5 @@
 use Rattle.std.proofs.Common.{refl, rules}
-use Rattle.lexical_parts.proofs.CutTexts.{cut_closed}
+use Rattle.lexical_parts.proofs.OfTexts.CutTexts.{cut_closed}
 use Rattle.lexical_parts.proofs.formatting.cut.write_first.Goals as goal
 
 pub returns : goal.returns

@@ -2,7 +2,7 @@ use Rattle.std.proofs.Common.{◌≡◌, ◌∙◌, ap, sym, false, not}
 use Rattle.std.specs.Fmt.{formatter_spec}
 use Rattle.std.specs.Option.{is_some}
 use Rattle.std.proofs.Output.{has_written_styled_of_eq}
-use Rattle.lexical_parts.proofs.ShownNumbers.{no_width, unpadded}
+use Rattle.lexical_parts.proofs.OfFormatting.ShownNumbers.{no_width, unpadded}
 use Rattle.lexical_parts.proofs.formatting.display.pad_number.Goals as goal
 
 pub returns-then-not-alternate-clause-styled : goal.returns-then-not-alternate-clause-styled

@@ -3,7 +3,7 @@ use Rattle.std.proofs.Common.{◌∙◌, ap, false, [], drop, length, arith}
 use Rattle.std.specs.Fmt.{formatter_spec, padded_integral, sign_text_with}
 use Rattle.std.proofs.lemmas.Str.{IsCharBoundary-after_ascii}
 use Rattle.std.proofs.Output.{has_written_styled_of_eq}
-use Rattle.lexical_parts.proofs.ShownNumbers.{negative_sign, sign_as_digit}
+use Rattle.lexical_parts.proofs.OfFormatting.ShownNumbers.{negative_sign, sign_as_digit}
 use Rattle.lexical_parts.proofs.formatting.display.pad_with_options.Goals as goal
 
 pub range_from-requires : goal.range_from-requires

@@ -3,7 +3,7 @@ use Rattle.std.specs.Fmt.{formatter_spec, padded_integral}
 use Rattle.std.specs.Option.{unwrap_or}
 use Rattle.std.proofs.lemmas.Str.{IsCharBoundary-after_ascii}
 use Rattle.std.proofs.Output.{has_written_styled_append, has_written_styled_of_eq}
-use Rattle.lexical_parts.proofs.ShownNumbers.{filled, width_of, zeros_after_plus}
+use Rattle.lexical_parts.proofs.OfFormatting.ShownNumbers.{filled, width_of, zeros_after_plus}
 use Rattle.lexical_parts.proofs.formatting.display.pad_with_plus.Goals as goal
 
 pub range_from-digits-requires : goal.range_from-digits-requires

@@ -1,6 +1,6 @@
 use Rattle.std.proofs.Common.{◌≡◌, refl, arith}
 use Rattle.std.proofs.Output.{has_written_styled_nil, has_written_styled_append, has_written_styled_of_eq}
-use Rattle.lexical_parts.proofs.ShownNumbers.{replicate_more}
+use Rattle.lexical_parts.proofs.OfFormatting.ShownNumbers.{replicate_more}
 use Rattle.lexical_parts.proofs.formatting.display.write_zeros.Goals as goal
 
 pub loop-init : goal.loop-init

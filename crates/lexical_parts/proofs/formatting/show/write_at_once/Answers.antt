@@ -1,4 +1,4 @@
-use Rattle.lexical_parts.proofs.ShownParts.{written_at_once}
+use Rattle.lexical_parts.proofs.OfFormatting.ShownParts.{written_at_once}
 use Rattle.lexical_parts.proofs.formatting.show.write_at_once.Goals as goal
 
 pub returns-in-Some : goal.returns-in-Some

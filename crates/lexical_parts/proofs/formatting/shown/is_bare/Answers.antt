@@ -1,7 +1,7 @@
 use Rattle.std.proofs.Common.{◌≡◌, ◌∙◌, ap, false, not}
 use Rattle.std.specs.Fmt.{formatter_spec, spec_precision}
 use Rattle.std.specs.Option.{is_some}
-use Rattle.lexical_parts.proofs.ShownNumbers.{no_precision}
+use Rattle.lexical_parts.proofs.OfFormatting.ShownNumbers.{no_precision}
 use Rattle.lexical_parts.proofs.formatting.shown.is_bare.Goals as goal
 
 -- the check finds this proof by itself, but with an answer the refusal of a mistake says what is wrong

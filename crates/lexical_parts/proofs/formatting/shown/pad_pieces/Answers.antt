@@ -1,10 +1,10 @@
-use Rattle.std.proofs.Common.{◌≡◌, ◌<◌, ◌≤◌, ◌-◌, ◌∙◌, ℕ, refl, sym, ap, inl, inr, arith}
+use Rattle.std.proofs.Common.{◌≡◌, ◌-◌, ◌∙◌, refl, sym, ap, inl, inr, arith}
 use Rattle.std.proofs.Output.{has_written_styled_append, has_written_styled_of_eq}
 use Rattle.std.proofs.Padding.{padded_is, padding_before_none}
 use Rattle.std.proofs.lemmas.Bool.{cases_lt}
 use Rattle.std.specs.Fmt.{char_count, fill_text, formatter_spec, padding_before, take_chars}
-use Rattle.lexical_parts.proofs.CutTexts.{char_count-take_chars}
-use Rattle.lexical_parts.proofs.ShownNumbers.{precision_of, width_of}
+use Rattle.lexical_parts.proofs.OfTexts.CutTexts.{char_count-take_chars}
+use Rattle.lexical_parts.proofs.OfFormatting.ShownNumbers.{precision_of, width_of}
 use Rattle.lexical_parts.proofs.formatting.shown.pad_pieces.Goals as goal
 
 pub returns : goal.returns

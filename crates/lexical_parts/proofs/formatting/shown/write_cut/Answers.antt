@@ -1,5 +1,5 @@
 use Rattle.std.proofs.Common.{rules}
-use Rattle.lexical_parts.proofs.ShownParts.{through_closed}
+use Rattle.lexical_parts.proofs.OfFormatting.ShownParts.{through_closed}
 use Rattle.lexical_parts.proofs.formatting.shown.write_cut.Goals as goal
 
 pub returns : goal.returns

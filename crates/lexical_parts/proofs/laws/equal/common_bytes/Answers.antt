@@ -1,5 +1,5 @@
 use Rattle.std.proofs.Common.{arith}
-use Rattle.lexical_parts.proofs.EqualBytes.{equal_bytes, equal_lower_bytes}
+use Rattle.lexical_parts.proofs.OfNumbers.EqualBytes.{equal_bytes, equal_lower_bytes}
 use Rattle.lexical_parts.proofs.laws.equal.common_bytes.Goals as goal
 
 pub returns-clause-text : goal.returns-clause-text

@@ -1,4 +1,4 @@
-use Rattle.lexical_parts.proofs.EqualScientifics.{equal_scientifics}
+use Rattle.lexical_parts.proofs.OfNumbers.EqualScientifics.{equal_scientifics}
 use Rattle.lexical_parts.proofs.laws.equal.common_scientific.Goals as goal
 
 pub returns : goal.returns

@@ -1,6 +1,6 @@
 use Rattle.std.proofs.Common.{sym, ◌∙◌}
 use Rattle.lexical_write_integer.proofs.OfDigits.PaddedDigits.{length-IsPadded}
-use Rattle.lexical_parts.proofs.Splits.{same_parts}
+use Rattle.lexical_parts.proofs.OfLayout.Splits.{same_parts}
 use Rattle.lexical_parts.proofs.laws.equal.equal_padded_pairs.Goals as goal
 
 pub returns-clause-first : goal.returns-clause-first

@@ -1,4 +1,4 @@
-use Rattle.lexical_parts.proofs.Splits.{same_split}
+use Rattle.lexical_parts.proofs.OfLayout.Splits.{same_split}
 use Rattle.lexical_parts.proofs.laws.equal.equal_pairs.Goals as goal
 
 pub returns-clause-first : goal.returns-clause-first

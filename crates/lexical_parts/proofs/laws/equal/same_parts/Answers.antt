@@ -1,5 +1,5 @@
 use Rattle.std.proofs.Common.{sym, ◌∙◌}
-use Rattle.lexical_parts.proofs.Splits.{same_parts}
+use Rattle.lexical_parts.proofs.OfLayout.Splits.{same_parts}
 use Rattle.lexical_parts.proofs.laws.equal.same_parts.Goals as goal
 
 pub returns : goal.returns

@@ -1,4 +1,4 @@
-use Rattle.lexical_parts.proofs.Splits.{same_split}
+use Rattle.lexical_parts.proofs.OfLayout.Splits.{same_split}
 use Rattle.lexical_parts.proofs.laws.equal.same_split.Goals as goal
 
 pub returns : goal.returns

@@ -1,6 +1,6 @@
 use Rattle.lexical_write_integer.specs.Padded.{IsPadded}
 use Rattle.lexical_write_integer.proofs.OfDigits.PaddedDigits.{length-IsPadded}
-use Rattle.lexical_parts.proofs.EqualWidths.{starts_at}
+use Rattle.lexical_parts.proofs.OfLayout.EqualWidths.{starts_at}
 use Rattle.lexical_parts.proofs.laws.positions.byte_starts_at.Goals as goal
 
 pub returns : goal.returns

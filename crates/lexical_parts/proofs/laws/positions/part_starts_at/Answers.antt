@@ -1,4 +1,4 @@
-use Rattle.lexical_parts.proofs.EqualWidths.{starts_at}
+use Rattle.lexical_parts.proofs.OfLayout.EqualWidths.{starts_at}
 use Rattle.lexical_parts.proofs.laws.positions.part_starts_at.Goals as goal
 
 pub returns : goal.returns

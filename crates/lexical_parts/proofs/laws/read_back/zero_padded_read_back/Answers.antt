@@ -1,5 +1,5 @@
 use Rattle.lexical_write_integer.proofs.OfTexts.ReadTexts.{are_read}
-use Rattle.lexical_parts.proofs.ZeroReads.{zero_padded_read}
+use Rattle.lexical_parts.proofs.OfNumbers.ZeroReads.{zero_padded_read}
 use Rattle.lexical_parts.proofs.laws.read_back.zero_padded_read_back.Goals as goal
 
 pub returns : goal.returns

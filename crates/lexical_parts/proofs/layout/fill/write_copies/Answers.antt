@@ -1,6 +1,6 @@
 use Rattle.std.proofs.Common.{◌≡◌, refl, arith}
 use Rattle.std.proofs.Output.{writes_in_calls_append, writes_in_calls_nil, writes_in_calls_single}
-use Rattle.lexical_parts.proofs.ShownNumbers.{replicate_more}
+use Rattle.lexical_parts.proofs.OfFormatting.ShownNumbers.{replicate_more}
 use Rattle.lexical_parts.proofs.layout.fill.write_copies.Goals as goal
 
 pub loop-init : goal.loop-init

@@ -1,5 +1,5 @@
 use Rattle.std.proofs.Common.{length, ◌-◌, ◌≤◌, arith}
-use Rattle.lexical_parts.proofs.TextsAtIndex.{at_is, framed}
+use Rattle.lexical_parts.proofs.OfLayout.TextsAtIndex.{at_is, framed}
 use Rattle.lexical_parts.proofs.layout.with_length.write_with_length.Goals as goal
 
 pub returns-clause-text : goal.returns-clause-text

@@ -1,6 +1,6 @@
 use Rattle.std.proofs.Common.{◌≡◌, ◌+◌, ◌-◌, arith}
-use Rattle.lexical_parts.proofs.GroupedUnits.{AreUnits-digits, written_after_zeros}
-use Rattle.lexical_parts.proofs.Widths.{few_digits}
+use Rattle.lexical_parts.proofs.OfNumbers.GroupedUnits.{AreUnits-digits, written_after_zeros}
+use Rattle.lexical_parts.proofs.OfNumbers.Widths.{few_digits}
 use Rattle.lexical_parts.proofs.numbers.fixed.write_units.Goals as goal
 
 pub returns-then-count-decimals : goal.returns-then-count-decimals

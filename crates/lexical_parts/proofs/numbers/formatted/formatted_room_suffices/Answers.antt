@@ -1,5 +1,5 @@
 use Rattle.std.proofs.Common.{arith}
-use Rattle.lexical_parts.proofs.FormattedRooms.{need-le_room, room-le}
+use Rattle.lexical_parts.proofs.OfNumbers.FormattedRooms.{need-le_room, room-le}
 use Rattle.lexical_parts.proofs.numbers.formatted.formatted_room_suffices.Goals as goal
 
 pub returns-clause-need : goal.returns-clause-need

@@ -1,4 +1,4 @@
-use Rattle.lexical_parts.proofs.FormattedRooms.{signed-largest}
+use Rattle.lexical_parts.proofs.OfNumbers.FormattedRooms.{signed-largest}
 use Rattle.std.proofs.Common.{sym}
 use Rattle.lexical_parts.proofs.numbers.formatted.largest_magnitude.Goals as goal
 

@@ -2,7 +2,7 @@ use Rattle.std.proofs.Common.{◌+◌, ◌*◌, ◌/◌, ◌<◌, ◌≤◌, ◌
 use Rattle.std.proofs.Math.Nat.{lt-div-mul-add, pow-le-pow_right}
 use Rattle.std.proofs.lemmas.Bool.{eqb-true}
 use Rattle.std.proofs.lemmas.Nat.{pow_pos}
-use Rattle.lexical_parts.proofs.Widths.{fits_bits}
+use Rattle.lexical_parts.proofs.OfNumbers.Widths.{fits_bits}
 use Rattle.lexical_parts.proofs.numbers.padded.has_few_bits.Goals as goal
 
 -- every number has at most 64 bits

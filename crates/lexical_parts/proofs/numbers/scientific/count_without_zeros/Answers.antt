@@ -1,5 +1,5 @@
 use Rattle.std.proofs.Common.{arith}
-use Rattle.lexical_parts.proofs.TrailingZeros.{zeros_more}
+use Rattle.lexical_parts.proofs.OfNumbers.TrailingZeros.{zeros_more}
 use Rattle.lexical_parts.proofs.numbers.scientific.count_without_zeros.Goals as goal
 
 pub loop-count-preserved : goal.loop-count-preserved

@@ -1,6 +1,6 @@
 use Rattle.std.proofs.Common.{◌∙◌, rules, sym, arith}
 use Rattle.std.proofs.lemmas.Int.{ints}
-use Rattle.lexical_parts.proofs.Scientifics.{exponent_of_digits}
+use Rattle.lexical_parts.proofs.OfNumbers.Scientifics.{exponent_of_digits}
 use Rattle.lexical_parts.proofs.numbers.scientific.first_exponent.Goals as goal
 
 pub returns-clause-exponent : goal.returns-clause-exponent

@@ -3,9 +3,9 @@ use Rattle.std.proofs.lemmas.Int.{to_z-of_z}
 use Rattle.std.proofs.lemmas.List.{length-drop, length-take}
 use Rattle.lexical_write_integer.proofs.Buffers.Prefixes.{Writes-is}
 use Rattle.lexical_write_integer.proofs.OfTexts.Sequences.{written_then}
-use Rattle.lexical_parts.proofs.Scientifics.{written_scientific}
+use Rattle.lexical_parts.proofs.OfNumbers.Scientifics.{written_scientific}
 use Rattle.lexical_num.proofs.Magnitudes.{decimal_width-le_20}
-use Rattle.lexical_parts.proofs.Widths.{few_digits}
+use Rattle.lexical_parts.proofs.OfNumbers.Widths.{few_digits}
 use Rattle.lexical_parts.proofs.numbers.scientific.write_magnitude.Goals as goal
 use Rattle.lexical_parts.proofs.numbers.scientific.write_magnitude.Goals.{After-count_without_zeros-kept}
 
@@ -27,12 +27,12 @@ pub write_exponent-requires-clause-room : goal.write_exponent-requires-clause-ro
 write_exponent-requires-clause-room g c =
     let few = kept_few g (goal.at.write_exponent-requires-clause-room g c).After-count_without_zeros-kept in
     let point = c.write_with_point-end in
-    omega (arith, few, point.ensures.short, point.auto.buffer, length-take {A = ℕ}, length-drop {A = ℕ}, c.requires)
+    omega (arith, few, point.ensures.at_most, point.auto.buffer, length-take {A = ℕ}, length-drop {A = ℕ}, c.requires)
 
-pub returns-clause-short : goal.returns-clause-short
-returns-clause-short g c =
-    let few = kept_few g (goal.at.returns-clause-short g c).After-count_without_zeros-kept in
-    omega (arith, few, c.write_with_point-end.ensures.short, c.write_exponent.ensures.short, length-take {A = ℕ})
+pub returns-clause-at_most : goal.returns-clause-at_most
+returns-clause-at_most g c =
+    let few = kept_few g (goal.at.returns-clause-at_most g c).After-count_without_zeros-kept in
+    omega (arith, few, c.write_with_point-end.ensures.at_most, c.write_exponent.ensures.at_most, length-take {A = ℕ})
 
 pub returns-clause-text : goal.returns-clause-text
 returns-clause-text g c =

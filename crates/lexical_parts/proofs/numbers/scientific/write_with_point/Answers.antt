@@ -1,6 +1,6 @@
 use Rattle.std.proofs.Common.{arith}
-use Rattle.lexical_parts.proofs.Conversions.{written_as}
-use Rattle.lexical_parts.proofs.Scientifics.{pointed}
+use Rattle.lexical_parts.proofs.OfTexts.Conversions.{written_as}
+use Rattle.lexical_parts.proofs.OfNumbers.Scientifics.{pointed}
 use Rattle.lexical_parts.proofs.numbers.scientific.write_with_point.Goals as goal
 
 pub returns-clause-text : goal.returns-clause-text

@@ -1,8 +1,8 @@
 use Rattle.std.proofs.Common.{◌-◌, length, take, unsigned_abs, arith}
 use Rattle.lexical_num.proofs.Magnitudes.{decimal_width-le_20}
 use Rattle.lexical_write_integer.proofs.Buffers.Prefixes.{Writes-is}
-use Rattle.lexical_parts.proofs.Conversions.{written_as}
-use Rattle.lexical_parts.proofs.TrimmedUnits.{AreTrimmed, trimmed, trimmed_fraction, trimmed_whole}
+use Rattle.lexical_parts.proofs.OfTexts.Conversions.{written_as}
+use Rattle.lexical_parts.proofs.OfNumbers.TrimmedUnits.{AreTrimmed, trimmed, trimmed_fraction, trimmed_whole}
 use Rattle.lexical_parts.proofs.numbers.trimmed.write_trimmed_units.Goals as goal
 use Rattle.lexical_parts.proofs.numbers.trimmed.write_trimmed_units.Goals.{After-count_without_zeros-kept}
 

@@ -1,7 +1,7 @@
 use Rattle.std.proofs.Common.{length, ◌-◌, ◌≤◌, arith}
 use Rattle.lexical_write_integer.proofs.Buffers.Prefixes.{Writes-is}
-use Rattle.lexical_parts.proofs.Kept.{kept_after, kept_before}
-use Rattle.lexical_parts.proofs.TextsAtIndex.{at_is, before_at, there_at, after_at}
+use Rattle.lexical_parts.proofs.OfLayout.Kept.{kept_after, kept_before}
+use Rattle.lexical_parts.proofs.OfLayout.TextsAtIndex.{at_is, before_at, there_at, after_at}
 use Rattle.lexical_parts.proofs.part.Part.write_at.Goals as goal
 
 pub returns-clause-text : goal.returns-clause-text

@@ -1,7 +1,7 @@
 use Rattle.std.proofs.Common.{◌≡◌, ◌-◌, ◌∙◌, ap, refl, arith, take}
 use Rattle.std.proofs.Output.{writes_in_calls_single}
 use Rattle.std.specs.Fmt.{take_chars}
-use Rattle.lexical_parts.proofs.CutTexts.{utf8_starts}
+use Rattle.lexical_parts.proofs.OfTexts.CutTexts.{utf8_starts}
 use Rattle.lexical_parts.proofs.formatting.cut.CutWrite.write_str.Goals as goal
 
 pub returns-in-Some : goal.returns-in-Some

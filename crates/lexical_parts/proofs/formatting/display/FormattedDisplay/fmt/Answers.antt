@@ -2,7 +2,7 @@ use Rattle.std.proofs.Common.{◌≡◌, ◌∙◌, sym, rules, unsigned_abs}
 use Rattle.std.specs.Int.{is_negative}
 use Rattle.lexical_write_integer.specs.Computed.{digits_text, text_of}
 use Rattle.lexical_write_integer.specs.Groups.{grouped}
-use Rattle.lexical_parts.proofs.ShownNumbers.{without_sign}
+use Rattle.lexical_parts.proofs.OfFormatting.ShownNumbers.{without_sign}
 use Rattle.lexical_parts.proofs.formatting.display.FormattedDisplay.fmt.Goals as goal
 
 -- the check finds this proof by itself, but with an answer the refusal of a mistake says what is wrong

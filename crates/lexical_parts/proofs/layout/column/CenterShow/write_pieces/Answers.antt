@@ -1,5 +1,5 @@
 use Rattle.std.proofs.Common.{refl}
-use Rattle.lexical_parts.proofs.ShownParts.{WritesSome-centered}
+use Rattle.lexical_parts.proofs.OfFormatting.ShownParts.{WritesSome-centered}
 use Rattle.lexical_parts.proofs.layout.column.CenterShow.write_pieces.Goals as goal
 
 pub returns : goal.returns

@@ -1,4 +1,4 @@
-use Rattle.lexical_parts.proofs.Columns.{written_right}
+use Rattle.lexical_parts.proofs.OfLayout.Columns.{written_right}
 use Rattle.lexical_parts.proofs.layout.column.RightPart.write_to.Goals as goal
 
 pub returns-clause-text : goal.returns-clause-text

@@ -1,5 +1,5 @@
 use Rattle.std.proofs.Common.{refl}
-use Rattle.lexical_parts.proofs.ShownParts.{WritesSome-right}
+use Rattle.lexical_parts.proofs.OfFormatting.ShownParts.{WritesSome-right}
 use Rattle.lexical_parts.proofs.layout.column.RightShow.write_pieces.Goals as goal
 
 pub returns : goal.returns

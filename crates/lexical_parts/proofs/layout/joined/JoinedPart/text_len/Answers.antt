@@ -1,7 +1,7 @@
 use Rattle.std.proofs.lemmas.Grind.{common_steps}
-use Rattle.std.proofs.Common.{rules, arith, take, length}
+use Rattle.std.proofs.Common.{arith, take}
 use Rattle.std.proofs.lemmas.List.{take_more, take_all}
-use Rattle.lexical_parts.proofs.Lengths.{each_more, joined_length}
+use Rattle.lexical_parts.proofs.OfTexts.Lengths.{each_more, joined_length}
 use Rattle.lexical_parts.proofs.layout.joined.JoinedPart.text_len.Goals as goal
 
 pub loop-part-preserved : goal.loop-part-preserved

@@ -2,9 +2,9 @@ use Rattle.std.proofs.Common.{◌+◌, length, arith}
 use Rattle.std.proofs.lemmas.List.{take_all}
 use Rattle.std.proofs.lemmas.List.Elements.{All-more}
 use Rattle.lexical_parts.specs.Utf8.{AreUtf8}
-use Rattle.lexical_parts.proofs.Lists.{written_joined}
-use Rattle.lexical_parts.proofs.Rooms.{leads_at, joined_room-more, joined_room-take-le}
-use Rattle.lexical_parts.proofs.Utf8Texts.{joined_is_utf8}
+use Rattle.lexical_parts.proofs.OfLayout.Lists.{written_joined}
+use Rattle.lexical_parts.proofs.OfLayout.Rooms.{leads_at, joined_room-more, joined_room-take-le}
+use Rattle.lexical_parts.proofs.OfTexts.Utf8Texts.{joined_is_utf8}
 use Rattle.lexical_parts.proofs.layout.joined.JoinedPart.write_to.Goals as goal
 
 pub write_next-count-requires-clause-room : goal.write_next-count-requires-clause-room
@@ -25,7 +25,7 @@ loop-index-preserved g c =
     record {
       written = written_joined g.P.Part.is_text separator _ _ _ c.loop-index-test.true c.part-item.is leads c.loop-index.invariant.written
           c.write_next-count.ensures.text;
-      within = omega (arith, more, c.loop-index.invariant.within, c.write_next-count.ensures.short);
+      within = omega (arith, more, c.loop-index.invariant.within, c.write_next-count.ensures.at_most);
       utf8 = All-more (λ part. g.P.Part.is_utf8 part → AreUtf8 (g.P.Part.is_text part)) parts _ c.part-item.result c.loop-index-test.true
           c.loop-index.invariant.utf8 (rw (← c.part-item.is) c.write_next-count.ensures.utf8);
     }

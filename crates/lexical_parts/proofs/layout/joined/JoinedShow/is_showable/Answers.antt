@@ -1,9 +1,8 @@
-use Rattle.std.proofs.Common.{length, arith}
 use Rattle.std.proofs.lemmas.List.{take_all}
 use Rattle.std.proofs.lemmas.List.Elements.{All-more}
 use Rattle.std.specs.Option.{IfSome}
 use Rattle.lexical_parts.specs.Length.{IsOnly}
-use Rattle.lexical_parts.proofs.OnlyTexts.{joined_only}
+use Rattle.lexical_parts.proofs.OfTexts.OnlyTexts.{joined_only}
 use Rattle.lexical_parts.proofs.layout.joined.JoinedShow.is_showable.Goals as goal
 
 pub loop-part-preserved : goal.loop-part-preserved

@@ -1,7 +1,7 @@
 use Rattle.std.proofs.Common.{refl}
 use Rattle.std.proofs.Output.{writes_in_calls_single}
-use Rattle.lexical_parts.proofs.Rooms.{leads_at}
-use Rattle.lexical_parts.proofs.ShownParts.{WritesSome-joined}
+use Rattle.lexical_parts.proofs.OfLayout.Rooms.{leads_at}
+use Rattle.lexical_parts.proofs.OfFormatting.ShownParts.{WritesSome-joined}
 use Rattle.lexical_parts.proofs.layout.joined.JoinedShow.write_pieces.Goals as goal
 
 pub loop-index-preserved : goal.loop-index-preserved

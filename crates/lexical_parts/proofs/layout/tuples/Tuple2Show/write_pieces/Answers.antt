@@ -1,5 +1,5 @@
 use Rattle.std.proofs.Common.{refl}
-use Rattle.lexical_parts.proofs.ShownParts.{WritesSome-then}
+use Rattle.lexical_parts.proofs.OfFormatting.ShownParts.{WritesSome-then}
 use Rattle.lexical_parts.proofs.layout.tuples.Tuple2Show.write_pieces.Goals as goal
 
 pub returns : goal.returns

@@ -4,7 +4,7 @@ use Rattle.std.proofs.lemmas.Bool.{eqb-false}
 use Rattle.std.proofs.lemmas.Grind.{common_steps}
 use Rattle.std.proofs.lemmas.List.{length-drop}
 use Rattle.lexical_parts.specs.ZeroPadded.{sign_length}
-use Rattle.lexical_parts.proofs.ZeroPaddings.{one_piece}
+use Rattle.lexical_parts.proofs.OfTexts.ZeroPaddings.{one_piece}
 use Rattle.lexical_parts.proofs.layout.zero_padded.AddingZerosWrite.write_str.Goals as goal
 
 the_rest : (text : List ℕ) (k : ℕ) → take (length text - k) (drop k text) ≡ drop k text

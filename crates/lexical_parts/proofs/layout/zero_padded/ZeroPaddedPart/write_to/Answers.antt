@@ -1,6 +1,6 @@
 use Rattle.std.proofs.lemmas.List.{length-drop, length-take}
 use Rattle.std.proofs.Common.{ℕ, arith}
-use Rattle.lexical_parts.proofs.ZeroPaddings.{written_zero_padded}
+use Rattle.lexical_parts.proofs.OfTexts.ZeroPaddings.{written_zero_padded}
 use Rattle.lexical_parts.proofs.layout.zero_padded.ZeroPaddedPart.write_to.Goals as goal
 
 pub returns-clause-text : goal.returns-clause-text
@@ -11,7 +11,7 @@ returns-clause-text g c =
       arith,
       c.length_of_sign-sign.ensures.within,
       c.write_to-count.auto.buffer,
-      c.write_to-count.ensures.short,
+      c.write_to-count.ensures.at_most,
       c.requires.room,
       length-take {A = ℕ},
       length-drop {A = ℕ},

@@ -1,5 +1,5 @@
 use Rattle.std.proofs.Common.{refl, rules}
-use Rattle.lexical_parts.proofs.ZeroPaddings.{WritesSome-zeros, adding_closed}
+use Rattle.lexical_parts.proofs.OfTexts.ZeroPaddings.{WritesSome-zeros, adding_closed}
 use Rattle.lexical_parts.proofs.layout.zero_padded.ZeroPaddedShow.write_pieces.Goals as goal
 
 pub returns : goal.returns

@@ -1,5 +1,5 @@
 use Rattle.std.proofs.Common.{arith}
-use Rattle.lexical_parts.proofs.Widths.{decimal_size-le_20}
+use Rattle.lexical_parts.proofs.OfNumbers.Widths.{decimal_size-le_20}
 use Rattle.lexical_parts.proofs.numbers.decimal_buffer.Buffer.format.Goals as goal
 
 pub to_str-requires-clause-room : goal.to_str-requires-clause-room
@@ -12,4 +12,4 @@ pub returns : goal.returns
 returns g c =
     let most = decimal_size-le_20 _ g.met.T.LexicalInteger.bit_width g.met.T.LexicalInteger.decimal_width
     g.met.T.FormattedSize.sizes in
-    (c.to_str.ensures.text, omega (arith, most, c.to_str.ensures.short))
+    (c.to_str.ensures.text, omega (arith, most, c.to_str.ensures.at_most))

@@ -1,7 +1,7 @@
 use Rattle.std.proofs.lemmas.Grind.{common_steps}
 use Rattle.std.proofs.Common.{ℕ, List, None, arith}
-use Rattle.lexical_parts.proofs.Conversions.{IsDigits-as_text, then_as}
-use Rattle.lexical_parts.proofs.Lengths.{length_of_kind}
+use Rattle.lexical_parts.proofs.OfTexts.Conversions.{IsDigits-as_text, then_as}
+use Rattle.lexical_parts.proofs.OfTexts.Lengths.{length_of_kind}
 use Rattle.lexical_parts.specs.Fixed.{IsFixed, IsGroupedFixed}
 use Rattle.lexical_parts.proofs.numbers.fixed.FixedPart.text_len.Goals as goal
 

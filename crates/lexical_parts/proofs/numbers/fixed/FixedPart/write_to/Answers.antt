@@ -1,6 +1,6 @@
 use Rattle.std.proofs.Common.{rules}
-use Rattle.lexical_parts.proofs.Conversions.{IsDigits-from_text, then_as, written_as}
-use Rattle.lexical_parts.proofs.Utf8Texts.{kinds}
+use Rattle.lexical_parts.proofs.OfTexts.Conversions.{IsDigits-from_text, then_as, written_as}
+use Rattle.lexical_parts.proofs.OfTexts.Utf8Texts.{kinds}
 use Rattle.lexical_parts.proofs.numbers.fixed.FixedPart.write_to.Goals as goal
 
 pub returns-clause-text : goal.returns-clause-text

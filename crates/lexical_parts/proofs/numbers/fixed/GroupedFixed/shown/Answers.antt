@@ -1,7 +1,7 @@
 use Rattle.std.proofs.Common.{refl, arith}
 use Rattle.lexical_num.proofs.Magnitudes.{magnitude-small}
-use Rattle.lexical_parts.proofs.FixedTexts.{fixed_is}
-use Rattle.lexical_parts.proofs.GroupedUnits.{grouped_fixed_room-le_39}
+use Rattle.lexical_parts.proofs.OfNumbers.FixedTexts.{fixed_is}
+use Rattle.lexical_parts.proofs.OfNumbers.GroupedUnits.{grouped_fixed_room-le_39}
 use Rattle.lexical_parts.proofs.numbers.fixed.GroupedFixed.shown.Goals as goal
 
 pub to_str-text-requires-clause-room : goal.to_str-text-requires-clause-room

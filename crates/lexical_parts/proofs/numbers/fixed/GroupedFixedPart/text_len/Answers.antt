@@ -6,7 +6,7 @@ use Rattle.lexical_num.specs.Sign.{sign_of}
 use Rattle.lexical_write_integer.specs.DigitCount.{digit_count}
 use Rattle.lexical_write_integer.proofs.OfDigits.Count.DigitCounts.{digit_count-le_20}
 use Rattle.lexical_write_integer.proofs.OfTexts.SizeBounds.{grouped_length-le, sign-le_one}
-use Rattle.lexical_parts.proofs.Lengths.{grouped_fixed_length}
+use Rattle.lexical_parts.proofs.OfTexts.Lengths.{grouped_fixed_length}
 use Rattle.lexical_parts.proofs.numbers.fixed.GroupedFixedPart.text_len.Goals as goal
 
 -- at most 20 digits are before the point

@@ -1,6 +1,6 @@
 use Rattle.std.proofs.Common.{rules}
 use Rattle.lexical_write_integer.proofs.OfTexts.Sequences.{written_then}
-use Rattle.lexical_parts.proofs.Utf8Texts.{kinds}
+use Rattle.lexical_parts.proofs.OfTexts.Utf8Texts.{kinds}
 use Rattle.lexical_parts.proofs.numbers.fixed.GroupedFixedPart.write_to.Goals as goal
 
 pub returns-clause-text : goal.returns-clause-text

@@ -2,7 +2,7 @@ use Rattle.std.proofs.Common.{◌≡◌, length, sym, ◌∙◌, arith}
 use Rattle.lexical_num.specs.Range.{least_of}
 use Rattle.lexical_num.specs.Sign.{sign_of}
 use Rattle.lexical_parts.specs.Formatted.{count_in, largest_magnitude}
-use Rattle.lexical_parts.proofs.FormattedRooms.{largest-small, room-le, sign-signed, sign-unsigned, count_in-is}
+use Rattle.lexical_parts.proofs.OfNumbers.FormattedRooms.{largest-small, room-le, sign-signed, sign-unsigned, count_in-is}
 use Rattle.lexical_parts.proofs.numbers.formatted.FormattedPart.room.Goals as goal
 use Rattle.lexical_parts.proofs.numbers.formatted.FormattedPart.room.Goals.{then-IS_SIGNED, else-IS_SIGNED}
 

@@ -3,7 +3,7 @@ use Rattle.std.proofs.Common.{◌≤◌, arith}
 use Rattle.lexical_num.proofs.Magnitudes.{magnitude-small}
 use Rattle.lexical_write_integer.specs.DigitCount.{digit_count-le_bits}
 use Rattle.lexical_write_integer.proofs.OfTexts.SizeBounds.{grouped_length-le, sign-le_one}
-use Rattle.lexical_parts.proofs.Lengths.{formatted_length}
+use Rattle.lexical_parts.proofs.OfTexts.Lengths.{formatted_length}
 use Rattle.lexical_parts.proofs.numbers.formatted.FormattedPart.text_len.Goals as goal
 
 pub grouped_len-requires : goal.grouped_len-requires

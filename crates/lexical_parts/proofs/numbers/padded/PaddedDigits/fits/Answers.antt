@@ -1,5 +1,5 @@
 use Rattle.std.proofs.lemmas.Bool.{eq-eqb, eqb-true, le-leb, leb-true}
-use Rattle.lexical_parts.proofs.Widths.{few_or_none, fits_width, zero_fits}
+use Rattle.lexical_parts.proofs.OfNumbers.Widths.{few_or_none, fits_width, zero_fits}
 use Rattle.lexical_parts.proofs.numbers.padded.PaddedDigits.fits.Goals as goal
 
 pub returns-then-digit_count-self : goal.returns-then-digit_count-self

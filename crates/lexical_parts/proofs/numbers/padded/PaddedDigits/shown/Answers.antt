@@ -1,7 +1,7 @@
 use Rattle.std.proofs.Common.{◌≤◌, ◌-◌, ◌≡◌, arith, refl}
 use Rattle.lexical_num.specs.Format.{IsRadix}
 use Rattle.lexical_parts.proofs.Equations.{bits-small, wide_computed}
-use Rattle.lexical_parts.proofs.Widths.{fits_in_64}
+use Rattle.lexical_parts.proofs.OfNumbers.Widths.{fits_in_64}
 use Rattle.lexical_parts.proofs.numbers.padded.PaddedDigits.shown.Goals as goal
 
 pub to_str-requires-clause-valid : goal.to_str-requires-clause-valid

@@ -1,5 +1,5 @@
 use Rattle.std.proofs.lemmas.Bool.{leb-true}
-use Rattle.lexical_parts.proofs.Widths.{fits_width}
+use Rattle.lexical_parts.proofs.OfNumbers.Widths.{fits_width}
 use Rattle.lexical_parts.proofs.numbers.padded.PaddedDigitsPart.is_known_utf8.Goals as goal
 
 pub returns-else-has_few_bits-clause-valid : goal.returns-else-has_few_bits-clause-valid

@@ -1,7 +1,7 @@
 use Rattle.std.proofs.Common.{◌≤◌, arith, refl}
 use Rattle.std.proofs.Output.{writes_in_calls_append}
 use Rattle.lexical_parts.proofs.Equations.{bits-small, wide_padded}
-use Rattle.lexical_parts.proofs.Widths.{fits_in_64}
+use Rattle.lexical_parts.proofs.OfNumbers.Widths.{fits_in_64}
 use Rattle.lexical_parts.proofs.numbers.padded.PaddedDigitsShow.write_pieces.Goals as goal
 
 pub write_at_once-requires-clause-valid : goal.write_at_once-requires-clause-valid

@@ -1,8 +1,8 @@
-use Rattle.std.proofs.Common.{◌≡◌, ◌+◌, length, true, arith}
+use Rattle.std.proofs.Common.{◌≡◌, length, true, arith}
 use Rattle.lexical_num.proofs.Magnitudes.{magnitude-small}
 use Rattle.lexical_num.specs.Sign.{sign_of}
 use Rattle.lexical_write_integer.proofs.OfDigits.Count.DigitCounts.{digit_count-le_20}
-use Rattle.lexical_parts.proofs.Lengths.{decimal_length}
+use Rattle.lexical_parts.proofs.OfTexts.Lengths.{decimal_length}
 use Rattle.lexical_parts.proofs.numbers.plus.PlusPart.text_len.Goals as goal
 
 pub overflow_add-result : goal.overflow_add-result

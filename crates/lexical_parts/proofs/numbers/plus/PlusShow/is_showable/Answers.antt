@@ -1,4 +1,4 @@
-use Rattle.std.proofs.Common.{None, rules, true, arith, w32, unsigned_abs, ◌≤◌, ◌^◌}
+use Rattle.std.proofs.Common.{true, arith}
 use Rattle.lexical_num.proofs.Magnitudes.{magnitude-small}
 use Rattle.lexical_num.specs.Format.{standard}
 use Rattle.lexical_parts.proofs.Equations.{only_text}

@@ -1,5 +1,5 @@
 use Rattle.std.proofs.Common.{arith}
-use Rattle.lexical_parts.proofs.Widths.{fits_full_hex}
+use Rattle.lexical_parts.proofs.OfNumbers.Widths.{fits_full_hex}
 use Rattle.lexical_parts.proofs.numbers.powers_of_two.FullHexPart.write_to.Goals as goal
 
 -- the check finds this proof by itself, but with an answer the refusal of a mistake says what is wrong

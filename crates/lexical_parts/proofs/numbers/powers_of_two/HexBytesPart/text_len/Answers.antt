@@ -1,7 +1,7 @@
 use Rattle.std.proofs.lemmas.Grind.{common_steps}
-use Rattle.std.proofs.Common.{ℕ, ◌*◌, rules, arith, length}
+use Rattle.std.proofs.Common.{ℕ, ◌*◌, arith, length}
 use Rattle.lexical_write_integer.specs.Padded.{IsPadded}
-use Rattle.lexical_parts.proofs.Lengths.{each_same, padded_length, joined_length}
+use Rattle.lexical_parts.proofs.OfTexts.Lengths.{each_same, padded_length, joined_length}
 use Rattle.lexical_parts.proofs.numbers.powers_of_two.HexBytesPart.text_len.Goals as goal
 
 pub returns : goal.returns

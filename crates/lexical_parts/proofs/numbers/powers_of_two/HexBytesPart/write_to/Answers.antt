@@ -1,9 +1,9 @@
 use Rattle.std.proofs.Common.{◌+◌, get_or, length, arith}
 use Rattle.std.proofs.lemmas.List.{get_or_default}
 use Rattle.lexical_write_integer.specs.Padded.{IsPadded}
-use Rattle.lexical_parts.proofs.Lists.{written_joined}
-use Rattle.lexical_parts.proofs.Rooms.{leads_at, joined_room-more, joined_room-take-le, two_each}
-use Rattle.lexical_parts.proofs.Utf8Texts.{joined_is_utf8, padded_is_utf8}
+use Rattle.lexical_parts.proofs.OfLayout.Lists.{written_joined}
+use Rattle.lexical_parts.proofs.OfLayout.Rooms.{leads_at, joined_room-more, joined_room-take-le, two_each}
+use Rattle.lexical_parts.proofs.OfTexts.Utf8Texts.{joined_is_utf8, padded_is_utf8}
 use Rattle.lexical_parts.proofs.numbers.powers_of_two.HexBytesPart.write_to.Goals as goal
 
 pub write_next-count-requires-clause-room : goal.write_next-count-requires-clause-room
@@ -27,11 +27,11 @@ loop-index-preserved c =
     record {
       written = written_joined (IsPadded 16 2) separator _ bytes _ c.loop-index-test.true item leads c.loop-index.invariant.written
           c.write_next-count.ensures.text;
-      within = omega (arith, more, c.loop-index.invariant.within, c.write_next-count.ensures.short);
+      within = omega (arith, more, c.loop-index.invariant.within, c.write_next-count.ensures.at_most);
     }
 
-pub returns-clause-short : goal.returns-clause-short
-returns-clause-short c = grind (arith, joined_room-take-le, two_each)
+pub returns-clause-at_most : goal.returns-clause-at_most
+returns-clause-at_most c = grind (arith, joined_room-take-le, two_each)
 
 pub returns-clause-utf8 : goal.returns-clause-utf8
 returns-clause-utf8 c = λ _. joined_is_utf8 (IsPadded 16 2) _ _ (λ k d inside. padded_is_utf8 16 2 _ (omega arith)) c.str_is_utf8.ensures

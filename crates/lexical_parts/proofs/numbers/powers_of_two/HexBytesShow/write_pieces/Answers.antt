@@ -2,8 +2,8 @@ use Rattle.std.proofs.Common.{get_or, refl}
 use Rattle.std.proofs.lemmas.List.{get_or_default}
 use Rattle.std.proofs.Output.{writes_in_calls_single}
 use Rattle.lexical_write_integer.specs.Padded.{IsPadded}
-use Rattle.lexical_parts.proofs.Rooms.{leads_at}
-use Rattle.lexical_parts.proofs.ShownParts.{WritesSome-joined, written_at_once}
+use Rattle.lexical_parts.proofs.OfLayout.Rooms.{leads_at}
+use Rattle.lexical_parts.proofs.OfFormatting.ShownParts.{WritesSome-joined, written_at_once}
 use Rattle.lexical_parts.proofs.numbers.powers_of_two.HexBytesShow.write_pieces.Goals as goal
 
 pub loop-index-preserved : goal.loop-index-preserved

@@ -2,9 +2,9 @@ use Rattle.std.proofs.Common.{◌≤◌, ◌^◌, rules, unsigned_abs, w32, arit
 use Rattle.std.proofs.lemmas.Int.{ints}
 use Rattle.std.specs.Int.RustNames.{FitsSigned}
 use Rattle.lexical_num.proofs.Magnitudes.{magnitude-small}
-use Rattle.lexical_parts.proofs.Lengths.{only_length}
-use Rattle.lexical_parts.proofs.ScientificTexts.{only_scientific}
-use Rattle.lexical_parts.proofs.Widths.{decimal_size-le_20}
+use Rattle.lexical_parts.proofs.OfTexts.Lengths.{only_length}
+use Rattle.lexical_parts.proofs.OfNumbers.ScientificTexts.{only_scientific}
+use Rattle.lexical_parts.proofs.OfNumbers.Widths.{decimal_size-le_20}
 use Rattle.lexical_parts.proofs.numbers.scientific.ScientificPart.text_len.Goals as goal
 
 pub write_to-requires-clause-room : goal.write_to-requires-clause-room

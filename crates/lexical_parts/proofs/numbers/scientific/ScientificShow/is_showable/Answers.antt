@@ -1,7 +1,6 @@
-use Rattle.std.proofs.Common.{None, rules, true, arith, w32, unsigned_abs, ◌≤◌, ◌^◌}
+use Rattle.std.proofs.Common.{rules, arith, w32, unsigned_abs, ◌≤◌, ◌^◌}
 use Rattle.lexical_num.proofs.Magnitudes.{magnitude-small}
-use Rattle.lexical_num.specs.Format.{standard}
-use Rattle.lexical_parts.proofs.ScientificTexts.{only_scientific}
+use Rattle.lexical_parts.proofs.OfNumbers.ScientificTexts.{only_scientific}
 use Rattle.std.proofs.lemmas.Int.{ints}
 use Rattle.std.specs.Int.RustNames.{FitsSigned}
 use Rattle.lexical_parts.proofs.numbers.scientific.ScientificShow.is_showable.Goals as goal

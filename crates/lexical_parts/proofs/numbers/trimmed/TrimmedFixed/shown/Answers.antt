@@ -1,7 +1,7 @@
 use Rattle.std.proofs.Common.{None, refl, arith}
 use Rattle.lexical_num.proofs.Magnitudes.{magnitude-small}
-use Rattle.lexical_parts.proofs.FixedTexts.{trimmed_is}
-use Rattle.lexical_parts.proofs.GroupedUnits.{grouped_fixed_room-le_39}
+use Rattle.lexical_parts.proofs.OfNumbers.FixedTexts.{trimmed_is}
+use Rattle.lexical_parts.proofs.OfNumbers.GroupedUnits.{grouped_fixed_room-le_39}
 use Rattle.lexical_parts.proofs.numbers.trimmed.TrimmedFixed.shown.Goals as goal
 
 pub to_str-trimmed-requires-clause-room : goal.to_str-trimmed-requires-clause-room

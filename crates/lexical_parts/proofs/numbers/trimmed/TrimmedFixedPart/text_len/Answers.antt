@@ -1,8 +1,8 @@
-use Rattle.std.proofs.Common.{None, refl, arith}
+use Rattle.std.proofs.Common.{None, arith}
 use Rattle.lexical_num.proofs.Magnitudes.{magnitude-small}
-use Rattle.lexical_parts.proofs.FixedTexts.{only_trimmed_fixed}
-use Rattle.lexical_parts.proofs.GroupedUnits.{grouped_fixed_room-le_39}
-use Rattle.lexical_parts.proofs.Lengths.{only_length}
+use Rattle.lexical_parts.proofs.OfNumbers.FixedTexts.{only_trimmed_fixed}
+use Rattle.lexical_parts.proofs.OfNumbers.GroupedUnits.{grouped_fixed_room-le_39}
+use Rattle.lexical_parts.proofs.OfTexts.Lengths.{only_length}
 use Rattle.lexical_parts.proofs.numbers.trimmed.TrimmedFixedPart.text_len.Goals as goal
 
 pub write_to-requires-clause-room : goal.write_to-requires-clause-room

@@ -1,7 +1,5 @@
-use Rattle.std.proofs.Common.{None, rules, true, arith, w32, unsigned_abs, ◌≤◌, ◌^◌}
 use Rattle.lexical_num.proofs.Magnitudes.{magnitude-small}
-use Rattle.lexical_num.specs.Format.{standard}
-use Rattle.lexical_parts.proofs.FixedTexts.{only_trimmed_fixed}
+use Rattle.lexical_parts.proofs.OfNumbers.FixedTexts.{only_trimmed_fixed}
 use Rattle.lexical_parts.proofs.numbers.trimmed.TrimmedFixedShow.is_showable.Goals as goal
 
 pub returns-clause-only : goal.returns-clause-only

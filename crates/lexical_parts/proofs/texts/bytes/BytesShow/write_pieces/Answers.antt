@@ -1,4 +1,4 @@
-use Rattle.lexical_parts.proofs.ShownParts.{written_at_once}
+use Rattle.lexical_parts.proofs.OfFormatting.ShownParts.{written_at_once}
 use Rattle.lexical_parts.proofs.texts.bytes.BytesShow.write_pieces.Goals as goal
 
 pub returns-in-Ok : goal.returns-in-Ok

@@ -1,6 +1,6 @@
 use Rattle.std.proofs.Common.{map, refl, rules}
 use Rattle.std.specs.Char.{to_ascii_lowercase}
-use Rattle.lexical_parts.proofs.ShownParts.{lowering_closed}
+use Rattle.lexical_parts.proofs.OfFormatting.ShownParts.{lowering_closed}
 use Rattle.lexical_parts.proofs.texts.lower.LowerShow.write_pieces.Goals as goal
 
 pub returns : goal.returns

@@ -1,5 +1,5 @@
 use Rattle.std.proofs.Common.{refl}
-use Rattle.lexical_parts.proofs.ShownParts.{written_at_once}
+use Rattle.lexical_parts.proofs.OfFormatting.ShownParts.{written_at_once}
 use Rattle.lexical_parts.proofs.texts.strings.RefStrShow.write_pieces.Goals as goal
 
 pub returns : goal.returns

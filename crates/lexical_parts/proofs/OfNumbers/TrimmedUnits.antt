@@ -11,9 +11,9 @@ use Rattle.lexical_write_integer.specs.Text.{IsDigits}
 use Rattle.lexical_parts.specs.Fixed.{AreUnits, IsUnits}
 use Rattle.lexical_parts.specs.Sequence.{◌then◌, IsStr}
 use Rattle.lexical_parts.specs.Trimmed.{IsTrimmedUnits}
-use Rattle.lexical_parts.proofs.Conversions.{then_as}
-use Rattle.lexical_parts.proofs.Points.{IsFraction-point, IsPadded-split, padded_around_point}
-use Rattle.lexical_parts.proofs.TrailingZeros.{zeros_left_out}
+use Rattle.lexical_parts.proofs.OfTexts.Conversions.{then_as}
+use Rattle.lexical_parts.proofs.OfNumbers.Points.{IsFraction-point, IsPadded-split, padded_around_point}
+use Rattle.lexical_parts.proofs.OfNumbers.TrailingZeros.{zeros_left_out}
 
 -- the digits that are left, before the point and after it, and what their text is
 pub record AreTrimmed (decimals units whole few : ℕ) (digits : List ℕ) : Type 0 where

@@ -1,6 +1,6 @@
 -- Texts that are written to a writer one after another.
 use Rattle.std.proofs.Common.{replicate, ◌/◌, ◌-◌, ◌≡◌, ℕ, ◌+◌, ◌<◌, List, [], ◌∷◌, ◌++◌, length, take, get_or, refl, sym, ap, ◌∙◌, arith}
-use Rattle.std.proofs.Common.{append_assoc, append-nil, length-append, subst}
+use Rattle.std.proofs.Common.{length-append, subst}
 use Rattle.std.proofs.Output.{writes_in_calls_append, writes_in_calls_nil, writes_in_calls_single, has_written_styled_append, has_written_styled_nil}
 use Rattle.std.specs.List.{FoldsTo, concat}
 use Rattle.std.proofs.lemmas.List.{take_more, length-take-le}

@@ -6,7 +6,7 @@ use Rattle.std.proofs.lemmas.List.{get_or-drop, get_or-take}
 use Rattle.lexical_write_integer.specs.Padded.{IsPadded}
 use Rattle.lexical_write_integer.proofs.OfDigits.PaddedDigits.{IsPadded-zeros, padded_unique}
 use Rattle.lexical_write_integer.proofs.OfTexts.Orders.{equal_from_IsPadded}
-use Rattle.lexical_parts.proofs.Points.{IsPadded-split}
+use Rattle.lexical_parts.proofs.OfNumbers.Points.{IsPadded-split}
 
 -- a further zero
 pub zeros_more : (digits : List ℕ) (count : ℕ) → 1 ≤ count → count ≤ length digits → get_or digits (count - 1) 0 ≡ 48

@@ -18,9 +18,9 @@ use Rattle.lexical_write_integer.proofs.OfTexts.SizeBounds.{grouped_length-le, g
 use Rattle.lexical_write_integer.specs.Text.{IsDigits, IsText}
 use Rattle.lexical_parts.specs.Fixed.{AreUnits, IsGroupedUnits, grouped_units_room}
 use Rattle.lexical_write_integer.proofs.Buffers.Prefixes.{take-Writes}
-use Rattle.lexical_parts.proofs.Inserts.{Front-inserted, Front-over}
-use Rattle.lexical_parts.proofs.Conversions.{written_as}
-use Rattle.lexical_parts.proofs.Points.{IsFraction-point, digits_around_point}
+use Rattle.lexical_parts.proofs.OfLayout.Inserts.{Front-inserted, Front-over}
+use Rattle.lexical_parts.proofs.OfTexts.Conversions.{written_as}
+use Rattle.lexical_parts.proofs.OfNumbers.Points.{IsFraction-point, digits_around_point}
 use Rattle.lexical_write_integer.specs.Padded.{IsPadded}
 
 -- the digits of a number of units, after the zeros that a digit before the point requires

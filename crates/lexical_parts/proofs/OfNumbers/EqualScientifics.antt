@@ -23,8 +23,8 @@ use Rattle.lexical_write_integer.specs.InCommon.{HaveInCommon}
 use Rattle.lexical_parts.specs.Scaled.{AreEqualScaled}
 use Rattle.lexical_parts.specs.Scientific.{IsScientific, exponent_of_first}
 use Rattle.lexical_parts.specs.Sequence.{IsDecimal}
-use Rattle.lexical_parts.proofs.FixedReads.{digits_lack, fixed_read}
-use Rattle.lexical_parts.proofs.Splits.{same_split}
+use Rattle.lexical_parts.proofs.OfNumbers.FixedReads.{digits_lack, fixed_read}
+use Rattle.lexical_parts.proofs.OfLayout.Splits.{same_split}
 
 -- ---- no `e` before the exponent
 

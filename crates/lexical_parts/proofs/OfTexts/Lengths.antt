@@ -1,11 +1,10 @@
 -- The lengths of texts of parts.
-use Rattle.std.proofs.lemmas.Grind.{common_steps}
-use Rattle.std.proofs.Common.{◌≡◌, ℕ, zero, suc, ◌+◌, ◌-◌, ◌*◌, ◌/◌, ◌%◌, ◌^◌, ◌<◌, ◌≤◌, List, [], ◌∷◌, ◌++◌, length, map, take, drop, replicate, refl, sym, ap, ◌∙◌, arith}
-use Rattle.std.proofs.Common.{rules, unsigned_abs, ℤ, pos, negsuc, Bool, true, false, length-append, append_assoc, codes, inl, inr}
+use Rattle.std.proofs.Common.{◌≡◌, ℕ, zero, suc, ◌+◌, ◌-◌, ◌*◌, ◌/◌, ◌%◌, ◌^◌, ◌<◌, ◌≤◌, List, [], ◌∷◌, ◌++◌, length, take, drop, replicate, refl, sym, ap, ◌∙◌, arith}
+use Rattle.std.proofs.Common.{rules, unsigned_abs, ℤ, pos, Bool, false, length-append, codes, inl, inr}
 use Rattle.std.proofs.Math.Nat.{div-eq_of_lt}
 use Rattle.std.proofs.lemmas.Bool.{cases_lt}
 use Rattle.std.specs.Prelude.{max, min}
-use Rattle.std.proofs.lemmas.List.{length-map, length-replicate, length-take-le, length-drop, take-append-drop, append-nil}
+use Rattle.std.proofs.lemmas.List.{length-map, length-replicate, take-append-drop, append-nil}
 use Rattle.lexical_write_integer.specs.Lowercase.{IsLowercase}
 use Rattle.lexical_write_integer.specs.Padded.{IsPadded}
 use Rattle.lexical_write_integer.specs.Sequence.{IsExactly, Then, AreJoined}

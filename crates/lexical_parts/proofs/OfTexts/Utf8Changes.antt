@@ -11,7 +11,7 @@ use Rattle.std.proofs.lemmas.Str.Ascii.{encode_ascii, lowercase_ascii, lowercase
 use Rattle.lexical_write_integer.specs.Lowercase.{IsLowercase}
 use Rattle.lexical_parts.specs.Utf8.{AreUtf8}
 use Rattle.lexical_parts.specs.ZeroPadded.{IsZeroPadded, sign_length}
-use Rattle.lexical_parts.proofs.Utf8Texts.{fill_is_utf8}
+use Rattle.lexical_parts.proofs.OfTexts.Utf8Texts.{fill_is_utf8}
 
 -- letters of ASCII are below 128, and no byte of another character is
 kept : (byte : ℕ) → 128 ≤ byte → to_ascii_lowercase byte ≡ byte

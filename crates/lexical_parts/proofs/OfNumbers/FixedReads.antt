@@ -14,7 +14,7 @@ use Rattle.lexical_write_integer.proofs.OfTexts.ReadTexts.{IsSigned, digits_read
 use Rattle.lexical_write_integer.proofs.OfTexts.Separators.{sign_is_none}
 use Rattle.lexical_parts.specs.Fixed.{IsFixed}
 use Rattle.lexical_parts.specs.Without.{IsWithout}
-use Rattle.lexical_parts.proofs.Points.{padded_around_point}
+use Rattle.lexical_parts.proofs.OfNumbers.Points.{padded_around_point}
 
 abbrev others : List ℕ → List ℕ
 others = filter (λ b. not (b == 46))

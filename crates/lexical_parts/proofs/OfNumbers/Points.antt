@@ -14,7 +14,7 @@ use Rattle.lexical_write_integer.specs.Sequence.{IsExactly}
 use Rattle.lexical_write_integer.specs.Text.{IsDigits}
 use Rattle.lexical_parts.specs.Fixed.{IsFraction}
 use Rattle.lexical_parts.specs.Sequence.{◌then◌, IsStr}
-use Rattle.lexical_parts.proofs.Conversions.{then_as}
+use Rattle.lexical_parts.proofs.OfTexts.Conversions.{then_as}
 use Rattle.lexical_write_integer.proofs.OfDigits.Count.DigitCounts.{digit_count-fits, digit_count-left, digit_count-one}
 use Rattle.lexical_write_integer.proofs.OfDigits.DigitValues.{value_of-append, value_of-lt}
 use Rattle.lexical_write_integer.proofs.OfDigits.Numerals.{IsBlockOf-append, IsNumeralOf-block, length-IsDigits}

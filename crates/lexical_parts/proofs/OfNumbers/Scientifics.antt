@@ -16,9 +16,9 @@ use Rattle.lexical_write_integer.proofs.OfTexts.ComputedTexts.{digits_computed}
 use Rattle.lexical_parts.specs.Fixed.{IsUnits}
 use Rattle.lexical_parts.specs.Scientific.{IsScientificUnsigned, exponent_of_first}
 use Rattle.lexical_parts.specs.Sequence.{◌then◌, IsStr, IsDecimal}
-use Rattle.lexical_parts.proofs.Conversions.{then_as, written_as}
-use Rattle.lexical_parts.proofs.Points.{IsFraction-point, digits_around_point}
-use Rattle.lexical_parts.proofs.TrailingZeros.{zeros_left_out}
+use Rattle.lexical_parts.proofs.OfTexts.Conversions.{then_as, written_as}
+use Rattle.lexical_parts.proofs.OfNumbers.Points.{IsFraction-point, digits_around_point}
+use Rattle.lexical_parts.proofs.OfNumbers.TrailingZeros.{zeros_left_out}
 
 -- ---- zeros at the end
 

@@ -9,8 +9,8 @@ use Rattle.lexical_write_integer.specs.Buffer.{Front, Writes}
 use Rattle.lexical_parts.specs.Length.{IsOfLength}
 use Rattle.lexical_parts.specs.ShownParts.{WritesSome}
 use Rattle.lexical_parts.specs.ZeroPadded.{IsZeroPadded, piece_with_zeros, sign_length, with_zeros, zeros_after}
-use Rattle.lexical_parts.proofs.Inserts.{Front-inserted}
-use Rattle.lexical_parts.proofs.ShownParts.{closed_calls}
+use Rattle.lexical_parts.proofs.OfLayout.Inserts.{Front-inserted}
+use Rattle.lexical_parts.proofs.OfFormatting.ShownParts.{closed_calls}
 
 pub written_zero_padded : {Is : List ℕ → Type 0} {width count sign added : ℕ} {before between part : List ℕ} (room : ℕ)
     → Writes Is before between count → sign ≡ sign_length (take count between) → sign ≤ length (take count between)

@@ -6,7 +6,7 @@ use Rattle.std.proofs.lemmas.Bool.{cond-true}
 use Rattle.lexical_parts.specs.Fixed.{IsFixed, IsFraction, IsGroupedFixed, IsUnits, fraction_text, fixed_text, units_text}
 use Rattle.lexical_parts.specs.Length.{IsOnly}
 use Rattle.lexical_parts.specs.Trimmed.{IsTrimmedFixed, IsTrimmedUnits, trimmed_text, trimmed_units_text}
-use Rattle.lexical_parts.proofs.Conversions.{IsDigits-as_text, then_as}
+use Rattle.lexical_parts.proofs.OfTexts.Conversions.{IsDigits-as_text, then_as}
 use Rattle.lexical_parts.proofs.Equations.{only_digits, only_exactly, only_padded, only_text, only_then}
 
 pub only_fraction : (decimals units : ℕ) → units < 10 ^ decimals → IsOnly (IsFraction decimals units) (fraction_text decimals units)

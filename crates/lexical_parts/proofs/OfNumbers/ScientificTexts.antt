@@ -1,9 +1,9 @@
 -- The text of a number in scientific notation is what the prover computes.
-use Rattle.std.proofs.Common.{◌≡◌, ℕ, zero, suc, ◌-◌, ◌*◌, ◌/◌, ◌%◌, ◌^◌, ◌<◌, ◌≤◌, ◌==◌, List, refl, sym, ap, ◌∙◌, inl, inr, true, ℤ, pos, unsigned_abs, arith}
+use Rattle.std.proofs.Common.{◌≡◌, ℕ, zero, suc, ◌*◌, ◌/◌, ◌%◌, ◌^◌, ◌<◌, ◌≤◌, ◌==◌, refl, sym, ap, ◌∙◌, inl, inr, true, ℤ, pos, unsigned_abs, arith}
 use Rattle.std.proofs.Math.Nat.{one-le-pow, pow-suc, pow-le-pow_right, mul-le-mul_right, le-mul_of_pos_right, mul_assoc}
 use Rattle.std.proofs.lemmas.Bool.{cases_lt, cond-true, cond_both, eqb-true}
 use Rattle.std.proofs.lemmas.Int.{ints}
-use Rattle.std.specs.Prelude.{None, codes, ◌++◌, ◌+ℤ◌, if◌then◌else◌}
+use Rattle.std.specs.Prelude.{None, codes, ◌++◌, ◌+ℤ◌}
 use Rattle.lexical_num.specs.Format.{standard}
 use Rattle.lexical_write_integer.specs.Computed.{text_of}
 use Rattle.lexical_write_integer.specs.LoopTurns.{digits_after_first}
@@ -12,7 +12,7 @@ use Rattle.lexical_parts.specs.Fixed.{units_text}
 use Rattle.lexical_parts.specs.Length.{IsOnly}
 use Rattle.lexical_parts.specs.Scientific.{IsScientific, IsScientificUnsigned, exponent_of_first, scientific_text, without_zeros}
 use Rattle.lexical_parts.proofs.Equations.{only_exactly, only_text, only_then}
-use Rattle.lexical_parts.proofs.FixedTexts.{only_units}
+use Rattle.lexical_parts.proofs.OfNumbers.FixedTexts.{only_units}
 
 none_left : (most : ℕ) → without_zeros most 0 ≡ 0
 none_left zero = refl

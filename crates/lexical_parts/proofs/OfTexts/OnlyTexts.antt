@@ -1,20 +1,18 @@
 -- Parts of which the prover computes the text.
-use Rattle.std.proofs.Common.{◌≡◌, ℕ, ◌-◌, ◌/◌, ◌<◌, ◌≤◌, List, [], ◌∷◌, ◌++◌, length, take, drop, map, replicate, refl, ap, ◌∙◌, arith, Option, Some, None, get_or, suc, zero}
+use Rattle.std.proofs.Common.{ℕ, ◌-◌, ◌/◌, List, [], ◌∷◌, ◌++◌, length, take, drop, map, replicate, refl, ap, ◌∙◌, arith, Option, Some, None, suc}
 use Rattle.std.specs.Char.{to_ascii_lowercase}
 use Rattle.std.specs.Fmt.{option_append}
 use Rattle.std.specs.List.{All}
 use Rattle.std.specs.Option.{IfSome}
 use Rattle.lexical_write_integer.specs.Lowercase.{IsLowercase}
-use Rattle.lexical_write_integer.specs.Sequence.{AreJoined, IsExactly, Then}
+use Rattle.lexical_write_integer.specs.Sequence.{AreJoined, Then}
 use Rattle.lexical_parts.specs.Column.{IsAtLeft, IsAtRight, IsCentered, centered_text, left_text, right_text}
 use Rattle.lexical_parts.specs.Joined.{joined_text}
 use Rattle.lexical_parts.specs.Length.{IsOnly}
 use Rattle.lexical_parts.specs.Lower.{lower_text}
 use Rattle.lexical_parts.specs.ZeroPadded.{IsZeroPadded, sign_length, zero_padded_text}
 use Rattle.lexical_parts.proofs.Equations.{only_digits, only_exactly, only_padded, only_text}
-use Rattle.lexical_parts.proofs.FixedTexts.{only_grouped_fixed, only_trimmed_fixed}
-use Rattle.lexical_parts.proofs.HexTexts.{only_hex_bytes}
-use Rattle.lexical_parts.proofs.ScientificTexts.{only_scientific}
+use Rattle.lexical_parts.proofs.OfNumbers.HexTexts.{only_hex_bytes}
 
 pub both_only : (First Second : List ℕ → Type 0) (a b : Option (List ℕ)) → IfSome a (λ bytes. IsOnly First bytes) → IfSome b (λ bytes. IsOnly Second bytes)
     → IfSome (option_append a b) (λ bytes. IsOnly (Then First Second) bytes)

@@ -1,5 +1,5 @@
 -- The first characters of texts in a row.
-use Rattle.std.proofs.Common.{◌≡◌, ℕ, zero, suc, ◌+◌, ◌-◌, ◌<◌, ◌≤◌, ◌==◌, List, [], ◌∷◌, ◌++◌, length, take, drop, refl, sym, ap, ◌∙◌, arith, ltb, ◌/◌, Bool, true, false, append_assoc, append-nil, subst, if◌then◌else◌}
+use Rattle.std.proofs.Common.{◌≡◌, ℕ, zero, suc, ◌+◌, ◌-◌, ◌<◌, ◌==◌, List, [], ◌∷◌, ◌++◌, refl, ap, ◌∙◌, arith, ltb, ◌/◌, Bool, true, false, if◌then◌else◌}
 use Rattle.std.specs.Prelude.{min}
 use Rattle.std.proofs.Output.{writes_in_calls_append, writes_in_calls_nil}
 use Rattle.std.proofs.Padding.{char_count-cons, char_count-nil, take_chars-cons, take_chars-nil}
@@ -8,7 +8,7 @@ use Rattle.std.specs.Borrow.{MutBor}
 use Rattle.std.specs.Char.{encode_utf8}
 use Rattle.std.specs.Fmt.{WritesInCalls, char_count, is_char_start, take_chars}
 use Rattle.std.specs.Str.{IsUtf8, encode_utf8_all}
-use Rattle.lexical_parts.proofs.ShownParts.{closed_calls}
+use Rattle.lexical_parts.proofs.OfFormatting.ShownParts.{closed_calls}
 
 pub char_count-append : (a b : List ℕ) → char_count (a ++ b) ≡ char_count a + char_count b
 char_count-append [] b = rw char_count-nil (omega arith)

@@ -10,7 +10,7 @@ use Rattle.lexical_write_integer.proofs.OfDigits.PaddedDigits.{length-IsPadded}
 use Rattle.lexical_write_integer.proofs.OfTexts.Rows.{rows}
 use Rattle.lexical_write_integer.proofs.OfTexts.ReadTexts.{are_read, padded_read}
 use Rattle.lexical_write_integer.specs.InCommon.{HaveInCommon}
-use Rattle.lexical_parts.proofs.Splits.{halves}
+use Rattle.lexical_parts.proofs.OfLayout.Splits.{halves}
 
 module _ {A : Type 0} (IsOf : A → List ℕ → Type 0) (separator : List ℕ) (w : ℕ) (some : 1 ≤ w)
     (wide : (x : A) (text : List ℕ) → IsOf x text → length text ≡ w)

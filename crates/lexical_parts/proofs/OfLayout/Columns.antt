@@ -5,7 +5,7 @@ use Rattle.lexical_write_integer.specs.Buffer.{Front, Writes}
 use Rattle.lexical_write_integer.specs.Sequence.{IsExactly}
 use Rattle.lexical_write_integer.proofs.Buffers.Prefixes.{Writes-after, take-Writes}
 use Rattle.lexical_parts.specs.Column.{IsAtLeft, IsAtRight, IsCentered}
-use Rattle.lexical_parts.proofs.Inserts.{Front-over}
+use Rattle.lexical_parts.proofs.OfLayout.Inserts.{Front-over}
 
 -- bytes written after a text
 pub written_left : {Is : List ℕ → Type 0} {width fill : ℕ} {before between part : List ℕ} {count more : ℕ} (room : ℕ) →

@@ -1,5 +1,5 @@
 -- Bytes in radix 16 have one text.
-use Rattle.std.proofs.Common.{refl, ◌≡◌, ℕ, ◌<◌, ◌^◌, List, [], ◌∷◌, ◌++◌, ap, sym, ◌∙◌, arith}
+use Rattle.std.proofs.Common.{refl, ◌≡◌, ℕ, ◌<◌, ◌^◌, List, [], ◌∷◌, ◌∙◌, arith}
 use Rattle.lexical_write_integer.proofs.OfDigits.DigitValues.{value_of-lt}
 use Rattle.lexical_write_integer.specs.Computed.{padded_text}
 use Rattle.lexical_write_integer.specs.Padded.{IsPadded}
