@@ -35,10 +35,27 @@
 //! assert_eq!(rt; &buffer[..length], b"-128\nbad line 2\n".as_slice());
 //! ```
 //!
+//! `answer_reader` answers the lines of a reader, reads and writes in blocks of bytes, and returns an exit
+//! status. A `BlockWriter` collects the answers in a block, and a `Writing` writes them to a writer of the
+//! standard library:
+//!
+//! ```
+//! use lexical_lines::{BlockWriter, Writing, answer_reader};
+//!
+//! let mut writer = BlockWriter::<_, 7>::new(Writing::new(Vec::new(alloc)));
+//! let status = answer_reader(b"i8 10 -128\nu8 37 5\n".as_slice(), &mut writer);
+//! assert_eq!(rt; status, 1);
+//! assert_eq!(rt; writer.into_inner().into_inner(), b"-128\nbad line 2\n");
+//! ```
+//!
 //! `write_joined` writes several numbers, and `join` returns their text.
+//!
+//! No call allocates memory. Its blocks are on the stack.
 
-// The lines above are in `crates/line_tests/src/answers.rt`, and `length_of_joined_texts` in
-// `crates/contract_tests/src/refused_calls/texts.rt` calls `join`.
+// The lines above are in `crates/line_tests/src/answers.rt`. `answered` in
+// `crates/uses_tests/src/tests/streams.rt` is like the example of blocks, and `length_of_joined_texts`
+// in `crates/contract_tests/src/refused_calls/texts.rt` calls `join`. A device records its own
+// failures, since the traits of the standard library do not say that a call failed.
 #![tactic(auto)]
 
 // Several numbers with a separator between them.
@@ -53,6 +70,9 @@ mod devices;
 // A line, its parts, and what it requests.
 mod request;
 
+// Answers to the lines of a source, in blocks.
+mod stream_answers;
+
 // Laws about lines and answers, for callers.
 pub mod laws;
 
@@ -66,3 +86,4 @@ pub use devices::source::{BlockSource, ByteSource};
 pub use devices::stream::{Reading, Writing};
 pub use devices::trace::Trace;
 pub use joined_text::{join, write_joined};
+pub use stream_answers::{answer_lines, answer_reader, answer_stream};

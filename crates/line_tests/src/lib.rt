@@ -1,4 +1,4 @@
-//! Tests of `lexical_lines` and `lexical_streams`: known values, hostile lines, and devices that fail.
+//! Tests of `lexical_lines`: known values, hostile lines, and devices that fail.
 #![tactic(auto)]
 
 #[cfg(test)]

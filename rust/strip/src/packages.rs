@@ -123,7 +123,7 @@ const LIBRARY: Source = Source {
     counted: "",
 };
 
-/// The lines and the streams of the program.
+/// The lines of the program.
 const PROGRAM: Source = Source { package: "lexwrite", ..LIBRARY };
 
 /// What calls the libraries as the repository's tests do.
@@ -198,11 +198,6 @@ pub(crate) const SOURCES: &[Source] = &[
         module: "lines",
         left_out: "devices/trace",
         laws: "laws note_put record_flush",
-        ..PROGRAM
-    },
-    Source {
-        name: "lexical_streams",
-        module: "streams",
         ..PROGRAM
     },
     Source {

@@ -2,8 +2,7 @@
 
 use crate::checks::check_equal;
 use crate::devices::{Giver, NEVER, Taker};
-use lexical_lines::{BlockWriter, Reading, Writing};
-use lexical_streams::answer_stream;
+use lexical_lines::{BlockWriter, Reading, Writing, answer_stream};
 use std::cell::Cell;
 use std::process::Abort;
 

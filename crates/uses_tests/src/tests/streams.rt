@@ -4,8 +4,7 @@ ghost use Rattle.std.specs.Prelude.{◌-◌, ◌^◌, ◌≤◌, take};
 ghost use Rattle.lexical_lines.specs.Answer.{AnswersAll};
 
 use super::check;
-use lexical_lines::{BlockWriter, Writing};
-use lexical_streams::answer_reader;
+use lexical_lines::{BlockWriter, Writing, answer_reader};
 use std::alloc::Global;
 
 // Returns the exit status, and the answers to the lines of a slice.

@@ -1,6 +1,6 @@
 use Rattle.std.proofs.Common.{ap, subst, sym, ◌∙◌, Some, ◌++◌, take, ◌^◌, ◌-◌}
 use Rattle.lexical_lines.specs.Answer.{AnswersAll}
-use Rattle.lexical_streams.proofs.Known.{contents-known}
+use Rattle.lexical_lines.proofs.Writers.{contents-known}
 use Rattle.uses_tests.proofs.tests.streams.answered.Goals as goal
 
 pub returns : goal.returns

@@ -7,9 +7,9 @@ use Rattle.lexical_lines.specs.Answerer.{HasAnswered}
 use Rattle.lexical_lines.specs.BlockWriter.{taken, TakesMore-reflexive, TakesMore-transitive}
 use Rattle.lexical_lines.proofs.Added.{added-none}
 use Rattle.lexical_lines.proofs.Runs.{answers_ended}
-use Rattle.lexical_streams.proofs.Begun.{begins-ended, begins-broken, begins-last, begins-all}
-use Rattle.lexical_streams.proofs.Steps.{IsUnderWay-flushed, Yields-more, handed-all, not_ended, put-more}
-use Rattle.lexical_streams.proofs.stream_answers.answer_blocks.Goals as goal
+use Rattle.lexical_lines.proofs.Begun.{begins-ended, begins-broken, begins-last, begins-all}
+use Rattle.lexical_lines.proofs.Steps.{IsUnderWay-flushed, Yields-more, handed-all, not_ended, put-more}
+use Rattle.lexical_lines.proofs.stream_answers.answer_blocks.Goals as goal
 
 pub loop-source-init : goal.loop-source-init
 loop-source-init g c = record {

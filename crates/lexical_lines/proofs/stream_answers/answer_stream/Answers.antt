@@ -2,7 +2,7 @@
 use Rattle.std.proofs.Common.{◌≡◌, ◌≤◌, Bool, true, false, Result, arith}
 use Rattle.std.specs.Prelude.{IfOk, OnOk, OnErr}
 use Rattle.lexical_lines.specs.ExitStatus.{status_of}
-use Rattle.lexical_streams.proofs.stream_answers.answer_stream.Goals as goal
+use Rattle.lexical_lines.proofs.stream_answers.answer_stream.Goals as goal
 
 if_at_most_1 : {E P : Type 0} (ran : Result Bool E) → OnOk ran P → status_of ran true ≤ 1 → P
 if_at_most_1 ran ok low = grind arith

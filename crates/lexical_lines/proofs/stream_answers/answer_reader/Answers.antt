@@ -1,6 +1,6 @@
 use Rattle.std.proofs.Common.{◌^◌, ◌-◌, true, false, arith}
-use Rattle.lexical_streams.proofs.Known.{answers-known, reports-known, begins-known}
-use Rattle.lexical_streams.proofs.stream_answers.answer_reader.Goals as goal
+use Rattle.lexical_lines.proofs.Known.{answers-known, reports-known, begins-known}
+use Rattle.lexical_lines.proofs.stream_answers.answer_reader.Goals as goal
 
 pub returns-clause-answered : goal.returns-clause-answered
 returns-clause-answered g c = λ low.

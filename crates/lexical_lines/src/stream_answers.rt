@@ -1,4 +1,4 @@
-//! Answers the lines of a source, and writes the answers to a sink.
+//! Answers the lines of a source, and writes the answers to a sink, both in blocks of bytes.
 
 ghost use Rattle.std.specs.Prelude.{◌≡◌, ◌⊎◌, ℕ, ◌-◌, ◌^◌, ◌≤◌, Bool, true, false, List, [], ◌++◌, take};
 ghost use Rattle.std.specs.Io.{StartsWith};
@@ -7,9 +7,14 @@ ghost use Rattle.std.specs.Io.KnownBytes.{Appends};
 ghost use Rattle.lexical_lines.specs.Answer.{AnswersAll};
 ghost use Rattle.lexical_lines.specs.BlockWriter.{TakesMore};
 ghost use Rattle.lexical_lines.specs.RunOutcome.{ReportsAllValid};
-ghost use Rattle.lexical_streams.specs.StreamAnswers.{Yields, AllAnswered, ReadFailed, WriteFailed, OneFailed};
+ghost use Rattle.lexical_lines.specs.StreamAnswers.{Yields, AllAnswered, ReadFailed, WriteFailed, OneFailed};
 
-use lexical_lines::{Answerer, BlockSink, BlockSource, BlockWriter, Reading, Writing, status};
+use crate::answer::answerer::Answerer;
+use crate::answer::exit_status::status;
+use crate::devices::block_writer::BlockWriter;
+use crate::devices::sink::BlockSink;
+use crate::devices::source::BlockSource;
+use crate::devices::stream::{Reading, Writing};
 use std::io;
 use std::io::Read;
 

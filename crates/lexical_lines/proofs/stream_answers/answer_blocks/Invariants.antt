@@ -1,5 +1,5 @@
-use Rattle.lexical_streams.specs.StreamAnswers.{Yields, IsUnderWay}
-use Rattle.lexical_streams.proofs.stream_answers.answer_blocks.Given as goal
+use Rattle.lexical_lines.specs.StreamAnswers.{Yields, IsUnderWay}
+use Rattle.lexical_lines.proofs.stream_answers.answer_blocks.Given as goal
 
 abbrev pub invariant-loop-source : goal.invariant-loop-source
 invariant-loop-source g l =

@@ -6,7 +6,7 @@ use Rattle.std.specs.Io.{StartsWith}
 use Rattle.lexical_lines.specs.Answer.{AnswersAll, AnswersEnded}
 use Rattle.lexical_lines.specs.RunOutcome.{BreaksOff}
 use Rattle.lexical_lines.proofs.UniqueAnswers.{AnswersAll-unique, AnswersEnded-begins, BreaksOff-begins}
-use Rattle.lexical_streams.specs.StreamAnswers.{BeginsAnswers}
+use Rattle.lexical_lines.specs.StreamAnswers.{BeginsAnswers}
 
 pub begins-ended : (is_whole : Bool) (read put : List ℕ) → AnswersEnded read put → BeginsAnswers is_whole read put
 begins-ended is_whole read put answered = λ more text whole all.

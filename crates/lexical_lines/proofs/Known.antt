@@ -7,8 +7,7 @@ use Rattle.std.specs.Io.KnownBytes.{Appends, Consumes}
 use Rattle.lexical_lines.specs.Answer.{AnswersAll}
 use Rattle.lexical_lines.specs.BlockWriter.{BlockWriting}
 use Rattle.lexical_lines.specs.RunOutcome.{ReportsAllValid}
-pub use Rattle.lexical_lines.proofs.Writers.{contents-known}
-use Rattle.lexical_streams.specs.StreamAnswers.{AllAnswered}
+use Rattle.lexical_lines.specs.StreamAnswers.{AllAnswered}
 
 answers-limited : (limit : ℕ) (known : Option (List ℕ)) (read text : List ℕ) → IfSome (option_map (take limit) known) (λ bytes. read ≡ bytes)
     → AnswersAll read text → IfSome known (λ bytes. AnswersAll (take limit bytes) text)
