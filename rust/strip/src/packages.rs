@@ -222,6 +222,5 @@ pub(crate) const SOURCES: &[Source] = &[
     },
     Source { name: "contract_tests", module: "contract_tests", left_out: "refused_calls/clones turn_lists", ..TESTS },
     Source { name: "uses_tests", ..TESTS },
-    Source { name: "library_tests", ..TESTS },
-    Source { name: "line_tests", ..TESTS },
+    Source { name: "tests", ..TESTS },
 ];
