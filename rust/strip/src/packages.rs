@@ -216,11 +216,11 @@ pub(crate) const SOURCES: &[Source] = &[
     Source {
         name: "uses",
         module: "uses",
+        left_out: "exact_conditions/clones recorded_turns",
         laws: "same_address same_path same_digest same_float same_counter same_link same_user different_codes same_row
             sorts_by_time same_timed",
         ..TESTS
     },
-    Source { name: "contract_tests", module: "contract_tests", left_out: "refused_calls/clones turn_lists", ..TESTS },
     Source { name: "uses_tests", ..TESTS },
     Source { name: "tests", ..TESTS },
 ];
