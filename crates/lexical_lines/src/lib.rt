@@ -53,7 +53,7 @@
 //! No call allocates memory. Its blocks are on the stack.
 
 // The lines above are in `crates/tests/src/lines/answers.rt`. `answered` in
-// `crates/uses_tests/src/tests/streams.rt` is like the example of blocks, and `length_of_joined_texts`
+// `crates/uses/src/tests/streams.rt` is like the example of blocks, and `length_of_joined_texts`
 // in `crates/uses/src/exact_conditions/texts.rt` calls `join`. A device records its own
 // failures, since the traits of the standard library do not say that a call failed.
 #![tactic(auto)]

@@ -44,3 +44,7 @@ pub mod tar_header;
 pub mod time_of_day;
 pub mod timed;
 pub mod uuid;
+
+// Tests with known numbers. Some of them allocate memory, which no test of the crate `tests` may do.
+#[cfg(test)]
+mod tests;

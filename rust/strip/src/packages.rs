@@ -221,6 +221,5 @@ pub(crate) const SOURCES: &[Source] = &[
             sorts_by_time same_timed",
         ..TESTS
     },
-    Source { name: "uses_tests", ..TESTS },
     Source { name: "tests", ..TESTS },
 ];

@@ -87,8 +87,6 @@ pub(crate) fn rules() -> Vec<Rule> {
             everywhere("use std::fmt::InlineText;", "use repository_tests::runtime::InlineText;"),
             everywhere("use std::test::Fail;", "use repository_tests::runtime::Fail;"),
             everywhere("::Err: Drop", "::Err: Sized"),
-            // The callers are a module here.
-            everywhere("use uses::", "use repository_tests::uses::"),
             // What allocates takes an allocator and returns a `Result`.
             everywhere("::new(rt.alloc())", "::new()"),
             everywhere("log.resize(", "repository_tests::runtime::resize(log, "),

@@ -1,12 +1,12 @@
 // Tests of parts that are joined, and of callers that join parts.
 
 use super::{check, check_buffer, check_part, check_room, check_str};
+use crate::csv_row::{Row, try_write_rows};
+use crate::digest::write_digest;
+use crate::digit_pair::digit_pair;
+use crate::dump_line::{characters, write_dump_line, write_hexdump_line};
+use crate::ipv6::write_address;
 use lexical_parts::{Fixed, HexBytes, Joined, Left, Padded, Part, Right};
-use uses::csv_row::{Row, try_write_rows};
-use uses::digest::write_digest;
-use uses::digit_pair::digit_pair;
-use uses::dump_line::{characters, write_dump_line, write_hexdump_line};
-use uses::ipv6::write_address;
 
 #[test]
 fn parts_of_each_kind_are_joined(rt: HostRuntime) {

@@ -1,7 +1,7 @@
 use Rattle.std.proofs.Common.{ap, subst, sym, ◌∙◌, Some, ◌++◌, take, ◌^◌, ◌-◌}
 use Rattle.lexical_lines.specs.Answer.{AnswersAll}
 use Rattle.lexical_lines.proofs.Writers.{contents-known}
-use Rattle.uses_tests.proofs.tests.streams.answered.Goals as goal
+use Rattle.uses.proofs.tests.streams.answered.Goals as goal
 
 pub returns : goal.returns
 returns c = λ low.

@@ -1,20 +1,20 @@
 //! Tests of texts at an index of a buffer, of texts after their length, and of numbers of several words.
 
 use super::{check, check_buffer, check_bytes, check_part};
+use crate::accounted::Accounted;
+use crate::addresses::address;
+use crate::alternatives::{write_both, write_content_range, write_joined};
+use crate::dump::dump;
+use crate::fixed_text::number_and_mask;
+use crate::limb::Limb;
+use crate::limbs::{limbs, write_digest_of_words, write_limbs, write_wide, write_wide_hexadecimal};
+use crate::line_block::LineBlock;
+use crate::packet::write_want;
+use crate::read_back;
+use crate::slots::write_slot;
+use crate::time_of_day::hour_and_minute;
+use crate::timed::timed_identifier;
 use lexical_parts::{Decimal, Joined, Part, write_with_length};
-use uses::accounted::Accounted;
-use uses::addresses::address;
-use uses::alternatives::{write_both, write_content_range, write_joined};
-use uses::dump::dump;
-use uses::fixed_text::number_and_mask;
-use uses::limb::Limb;
-use uses::limbs::{limbs, write_digest_of_words, write_limbs, write_wide, write_wide_hexadecimal};
-use uses::line_block::LineBlock;
-use uses::packet::write_want;
-use uses::read_back;
-use uses::slots::write_slot;
-use uses::time_of_day::hour_and_minute;
-use uses::timed::timed_identifier;
 
 #[test]
 fn texts_at_an_index(rt: HostRuntime) {

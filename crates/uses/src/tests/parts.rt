@@ -1,6 +1,9 @@
 // Tests of single parts, and of callers that show one part each.
 
 use super::{check, check_buffer, check_part, check_room, check_str};
+use crate::amount::write_amount;
+use crate::table_row::write_table_row;
+use crate::uuid::uuid;
 use lexical_parts::{
     Binary, Center, Decimal, Fixed, Formatted, FullHex, GroupedFixed, Hex, Left, Lower, OrElse,
     PaddedDigits, Part, Plus, Right, Sign, TrimmedFixed, ZeroPadded,
@@ -8,9 +11,6 @@ use lexical_parts::{
 use lexical_write_integer::format::STANDARD;
 use lexical_write_integer::{NumberFormat, NumberFormatBuilder};
 use std::process::Abort;
-use uses::amount::write_amount;
-use uses::table_row::write_table_row;
-use uses::uuid::uuid;
 
 #[test]
 fn parts_in_lowercase(rt: HostRuntime) {

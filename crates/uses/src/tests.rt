@@ -11,26 +11,26 @@ mod shown;
 mod streams;
 mod widths;
 
+use crate::amount::width_of_amount;
+use crate::any_format::{LINE_SIZE, key, line_of_any, text_if_room};
+use crate::arena::{have_same_kept_texts, keep_text};
+use crate::fixed_text::{million, year_month};
+use crate::float_parts::{float_format, write_parts};
+use crate::hexadecimal::hexadecimal;
+use crate::identifier::{
+    have_same_identifier, identifier, is_sorted_before, link, same_counter, same_link,
+    sorted_identifier,
+};
+use crate::printed::printed;
+use crate::sorted_keys::{comes_before, is_earlier_key};
+use crate::tar_header::write_size;
+use crate::time_of_day::write_time;
 use lexical_parts::{Decimal, Part};
 use lexical_write_integer::{
     BUFFER_SIZE, Error, NumberFormatBuilder, Options, ToLexical, ToLexicalWithOptions,
 };
 use std::fmt::Debug;
 use std::process::Abort;
-use uses::amount::width_of_amount;
-use uses::any_format::{LINE_SIZE, key, line_of_any, text_if_room};
-use uses::arena::{have_same_kept_texts, keep_text};
-use uses::fixed_text::{million, year_month};
-use uses::float_parts::{float_format, write_parts};
-use uses::hexadecimal::hexadecimal;
-use uses::identifier::{
-    have_same_identifier, identifier, is_sorted_before, link, same_counter, same_link,
-    sorted_identifier,
-};
-use uses::printed::printed;
-use uses::sorted_keys::{comes_before, is_earlier_key};
-use uses::tar_header::write_size;
-use uses::time_of_day::write_time;
 
 // Checks that a value is the expected one. A call is proved in less time than an `assert_eq!` of its own.
 fn check<T: Copy + PartialEq + Debug>(rt: &impl Abort, value: T, expected: T) {

@@ -3,8 +3,8 @@
 ghost use Rattle.std.specs.Prelude.{◌<◌, ◌≤◌};
 
 use super::{check, check_part, check_room, check_str};
+use crate::float_parts::write_float;
 use lexical_parts::{Part, Scientific};
-use uses::float_parts::write_float;
 
 // A generator of pseudorandom numbers, by multiplication and addition modulo 2^64.
 #[derive(Drop)]

@@ -1,6 +1,9 @@
 // Parts in format strings, and texts in a `Vec` and a `String`.
 
 use super::check;
+use crate::csv_row::{Row, push_entries};
+use crate::log_lines::{push_line, push_str_line, write_line};
+use crate::printed::{amount_string, flags_in_column};
 use lexical_parts::{
     Binary, Decimal, Fixed, Formatted, GroupedFixed, Hex, Padded, Plus, Shown, TrimmedFixed,
 };
@@ -10,9 +13,6 @@ use std::fmt::Display;
 use std::io::{self, Write};
 use std::process::Abort;
 use std::test::Fail;
-use uses::csv_row::{Row, push_entries};
-use uses::log_lines::{push_line, push_str_line, write_line};
-use uses::printed::{amount_string, flags_in_column};
 
 // Checks what a format string with its parts, which `format_args!` joins, prints.
 fn check_shown<D: Display + Drop>(rt: &impl Abort, alloc: Global, shown: D, text: &str) {

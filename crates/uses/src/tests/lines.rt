@@ -1,16 +1,16 @@
 // Tests of the callers of `lexical_parts`.
 
 use super::{check, check_buffer, check_bytes, check_part, check_room, check_str};
+use crate::csv_row::{Summary, try_write_list, write_entries, write_row, write_summary};
+use crate::date_time::DateTime;
+use crate::key_value::try_write_setting;
+use crate::reading::write_reading;
 use lexical_parts::{
     Byte, Bytes, Decimal, Digits, Formatted, Hex, Joined, Left, Lower, Padded, PaddedDigits, Part,
     Right, ZeroPadded,
 };
 use lexical_write_integer::NumberFormatBuilder;
 use lexical_write_integer::laws::digit_count_at_most;
-use uses::csv_row::{Summary, try_write_list, write_entries, write_row, write_summary};
-use uses::date_time::DateTime;
-use uses::key_value::try_write_setting;
-use uses::reading::write_reading;
 
 const MORNING: DateTime = DateTime {
     year: 2026,
