@@ -23,5 +23,5 @@ pub mod lines {
     include!(concat!(env!("OUT_DIR"), "/lexical_lines/lib.rs"));
 }
 
-// Before `answer_reader` and its relatives were in `lines`, this was their path.
+// The path of `answer_reader` and its relatives in earlier versions.
 pub use lines as streams;
