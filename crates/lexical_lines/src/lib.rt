@@ -35,9 +35,8 @@
 //! assert_eq!(rt; &buffer[..length], b"-128\nbad line 2\n".as_slice());
 //! ```
 //!
-//! `answer_reader` answers the lines of a reader, reads and writes in blocks of bytes, and returns an exit
-//! status. A `BlockWriter` collects the answers in a block, and a `Writing` writes them to a writer of the
-//! standard library:
+//! `answer_reader` answers the lines of a reader in blocks of bytes, so that reads and writes are large, and
+//! returns an exit status. The answers go to a `BlockWriter`, which here writes to a vector:
 //!
 //! ```
 //! use lexical_lines::{BlockWriter, Writing, answer_reader};
@@ -50,7 +49,7 @@
 //!
 //! `write_joined` writes several numbers, and `join` returns their text.
 //!
-//! No call allocates memory. Its blocks are on the stack.
+//! No call allocates memory: the blocks are on the stack.
 
 // The lines above are in `crates/tests/src/lines/answers.rt`. `answered` in
 // `crates/uses/src/tests/streams.rt` is like the example of blocks, and `length_of_joined_texts`
