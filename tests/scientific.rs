@@ -1,5 +1,5 @@
 //! Prints what Rust's `{:e}` writes for pseudorandom numbers, as one sum for each kind of number: the expected
-//! values of the test `numbers_as_rust_writes_them` in `crates/uses_tests/src/tests/scientific.rt`, which makes the
+//! values of the test `numbers_as_rust_writes_them` in `crates/uses/src/tests/scientific.rt`, which makes the
 //! same numbers. With any argument it prints each text instead.
 //!
 //!     rustc -O -o /tmp/scientific tests/scientific.rs && /tmp/scientific

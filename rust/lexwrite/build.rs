@@ -1,4 +1,4 @@
-//! Makes the lines and the streams: the crates `lexical_lines` and `lexical_streams`, in plain Rust.
+//! Makes the lines: the crate `lexical_lines`, in plain Rust.
 
 use std::path::Path;
 

@@ -16,6 +16,10 @@ pub mod Runs
 pub mod Slices
 pub mod Readers
 pub mod Writers
+-- answers in blocks: what each step does, what is left if a device fails, and what callers know
+mod Begun
+mod Steps
+pub mod Known
 -- texts in a buffer, and texts with a separator between them
 pub mod Buffers
 pub mod Joins

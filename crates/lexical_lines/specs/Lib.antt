@@ -14,6 +14,7 @@ pub mod Slice
 pub mod Source
 pub mod Split
 pub mod Stream
+pub mod StreamAnswers
 pub mod Trace
 -- the definitions of lower crates that these contracts use
 pub use Rattle.lexical_num.specs.Format

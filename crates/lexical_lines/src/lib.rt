@@ -35,10 +35,26 @@
 //! assert_eq!(rt; &buffer[..length], b"-128\nbad line 2\n".as_slice());
 //! ```
 //!
+//! `answer_reader` answers the lines of a reader in blocks of bytes, so that reads and writes are large, and
+//! returns an exit status. The answers go to a `BlockWriter`, which here writes to a vector:
+//!
+//! ```
+//! use lexical_lines::{BlockWriter, Writing, answer_reader};
+//!
+//! let mut writer = BlockWriter::<_, 7>::new(Writing::new(Vec::new(alloc)));
+//! let status = answer_reader(b"i8 10 -128\nu8 37 5\n".as_slice(), &mut writer);
+//! assert_eq!(rt; status, 1);
+//! assert_eq!(rt; writer.into_inner().into_inner(), b"-128\nbad line 2\n");
+//! ```
+//!
 //! `write_joined` writes several numbers, and `join` returns their text.
+//!
+//! No call allocates memory: the blocks are on the stack.
 
-// The lines above are in `crates/line_tests/src/answers.rt`, and `length_of_joined_texts` in
-// `crates/contract_tests/src/refused_calls/texts.rt` calls `join`.
+// The lines above are in `crates/tests/src/lines/answers.rt`. `answered` in
+// `crates/uses/src/tests/streams.rt` is like the example of blocks, and `length_of_joined_texts`
+// in `crates/uses/src/exact_conditions/texts.rt` calls `join`. A device records its own
+// failures, since the traits of the standard library do not say that a call failed.
 #![tactic(auto)]
 
 // Several numbers with a separator between them.
@@ -53,6 +69,9 @@ mod devices;
 // A line, its parts, and what it requests.
 mod request;
 
+// Answers to the lines of a source, in blocks.
+mod stream_answers;
+
 // Laws about lines and answers, for callers.
 pub mod laws;
 
@@ -66,3 +85,4 @@ pub use devices::source::{BlockSource, ByteSource};
 pub use devices::stream::{Reading, Writing};
 pub use devices::trace::Trace;
 pub use joined_text::{join, write_joined};
+pub use stream_answers::{answer_lines, answer_reader, answer_stream};

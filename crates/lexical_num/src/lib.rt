@@ -23,8 +23,7 @@
 //!     .build_strict();
 //! ```
 
-// The examples above are from `crates/uses/src/float_parts.rt`, and from `a_first_use` in
-// `crates/uses_tests/src/tests.rt`.
+// The examples above are from `crates/uses/src/float_parts.rt`, and from `a_first_use` in `crates/uses/src/tests.rt`.
 #![tactic(auto)]
 
 // The integer types, and the characters of digits.

@@ -26,7 +26,7 @@
 //! [`Lower`], [`OrElse`], [`Scientific`] and [`HexBytes`]. `{}` is an error if the part is not valid, or if it contains
 //! a byte that [`Part::to_str`] refuses.
 
-// The example is from the test `texts_for_writing` in `crates/uses_tests/src/tests/lines.rt`.
+// The example is from the test `texts_for_writing` in `crates/uses/src/tests/lines.rt`.
 #![tactic(auto)]
 
 // The trait that each part implements, and what keeps others from defining some of its methods.

@@ -2,7 +2,7 @@
 //! 0 if all lines are valid, 1 if a line is invalid, and 2 if the input or the output failed.
 #![tactic(auto)]
 
-use lexical_streams::answer_lines;
+use lexical_lines::answer_lines;
 use std::process::ExitCode;
 
 fn main(rt: HostRuntime) -> ExitCode {

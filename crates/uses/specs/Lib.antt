@@ -9,5 +9,6 @@ pub mod Link
 pub mod LogLine
 pub mod Packet
 pub mod Reading
+pub mod RecordedTurns
 pub mod Timed
 pub mod Uuid

@@ -1,5 +1,5 @@
 //! Answers lines that request numbers as text, in blocks of bytes, over any reader and writer. The program `lexwrite`
-//! does so over the standard streams. `build.rs` makes the modules of the sources that are proved.
+//! does so over the standard streams. `build.rs` makes the module of the sources that are proved.
 //!
 //! # Conditions
 //!
@@ -23,7 +23,5 @@ pub mod lines {
     include!(concat!(env!("OUT_DIR"), "/lexical_lines/lib.rs"));
 }
 
-#[doc = include_str!(concat!(env!("OUT_DIR"), "/lexical_streams/lib.md"))]
-pub mod streams {
-    include!(concat!(env!("OUT_DIR"), "/lexical_streams/lib.rs"));
-}
+// The path of `answer_reader` and its relatives in earlier versions.
+pub use lines as streams;

@@ -11,8 +11,7 @@ fn main() -> ExitCode {
 /// was. It also repeats an interrupted write, and writes once more at the end of a process whose write failed.
 #[cfg(unix)]
 fn answer_lines() -> std::io::Result<u8> {
-    use lexwrite::lines::{BlockWriter, Writing};
-    use lexwrite::streams::answer_reader;
+    use lexwrite::lines::{BlockWriter, Writing, answer_reader};
     use std::fs::File;
     use std::os::fd::AsFd;
 
@@ -25,5 +24,5 @@ fn answer_lines() -> std::io::Result<u8> {
 /// Answers the lines, if the standard streams are no files.
 #[cfg(not(unix))]
 fn answer_lines() -> std::io::Result<u8> {
-    Ok(lexwrite::streams::answer_lines())
+    Ok(lexwrite::lines::answer_lines())
 }

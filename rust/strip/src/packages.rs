@@ -123,7 +123,7 @@ const LIBRARY: Source = Source {
     counted: "",
 };
 
-/// The lines and the streams of the program.
+/// The lines of the program.
 const PROGRAM: Source = Source { package: "lexwrite", ..LIBRARY };
 
 /// What calls the libraries as the repository's tests do.
@@ -203,11 +203,6 @@ pub(crate) const SOURCES: &[Source] = &[
         ..PROGRAM
     },
     Source {
-        name: "lexical_streams",
-        module: "streams",
-        ..PROGRAM
-    },
-    Source {
         name: "lexical_c",
         package: "lexical_c",
         attributes: &[
@@ -223,12 +218,10 @@ pub(crate) const SOURCES: &[Source] = &[
     Source {
         name: "uses",
         module: "uses",
+        left_out: "exact_conditions/clones recorded_turns",
         laws: "same_address same_path same_digest same_float same_counter same_link same_user different_codes same_row
             sorts_by_time same_timed",
         ..TESTS
     },
-    Source { name: "contract_tests", module: "contract_tests", left_out: "refused_calls/clones turn_lists", ..TESTS },
-    Source { name: "uses_tests", ..TESTS },
-    Source { name: "library_tests", ..TESTS },
-    Source { name: "line_tests", ..TESTS },
+    Source { name: "tests", ..TESTS },
 ];

@@ -11,7 +11,6 @@ pub(crate) const EXPORTS: &[(&str, &str)] = &[
     ("lexical_tables::", "cojimuran::table::"),
     ("lexical_parts::", "cojimuran::parts::"),
     ("lexical_lines::", "lexwrite::lines::"),
-    ("lexical_streams::", "lexwrite::streams::"),
 ];
 
 /// Returns all rules, in the order in which they are applied. If one were missing, rustc or the last check of `strip`
@@ -58,8 +57,6 @@ pub(crate) fn rules() -> Vec<Rule> {
         Of("lexical_lines").rules([
             // In Rattle each field of a value with a ghost is bound, and the ghost is dropped.
             once("let Writing { writer, trace } = self; drop(trace); writer", "self.writer"),
-        ]),
-        Of("lexical_streams").rules([
             // In Rattle the runtime permits input and output, and returns their streams.
             once("(rt: HostRuntime)", "()"),
             once("rt.reader()", "io::stdin().lock()"),
@@ -90,8 +87,6 @@ pub(crate) fn rules() -> Vec<Rule> {
             everywhere("use std::fmt::InlineText;", "use repository_tests::runtime::InlineText;"),
             everywhere("use std::test::Fail;", "use repository_tests::runtime::Fail;"),
             everywhere("::Err: Drop", "::Err: Sized"),
-            // The callers are a module here.
-            everywhere("use uses::", "use repository_tests::uses::"),
             // What allocates takes an allocator and returns a `Result`.
             everywhere("::new(rt.alloc())", "::new()"),
             everywhere("log.resize(", "repository_tests::runtime::resize(log, "),

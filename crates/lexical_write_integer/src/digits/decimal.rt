@@ -1,6 +1,6 @@
 //! Writing decimal digits, two at a time.
 
-// Examples are in `crates/library_tests/src/decimal_values.rt`.
+// Examples are in `crates/tests/src/integers/decimal_values.rt`.
 #![tactic(auto, using(crate::proofs::OfDigits::Count::DigitCounts::widths))]
 
 ghost use Rattle.std.specs.Prelude.{◌≡◌, ℕ, pos, negsuc, ◌-◌, ◌/◌, ◌^◌, ◌<◌, ◌≤◌, ◌+◌, ◌++◌, length};

@@ -1,6 +1,6 @@
 //! Counting decimal digits without a loop.
 
-// Examples are in `crates/library_tests/src/counts.rt`.
+// Examples are in `crates/tests/src/integers/counts.rt`.
 ghost use Rattle.std.specs.Prelude.{◌≡◌, ◌^◌, map};
 ghost use Rattle.lexical_write_integer.specs.Digits.DigitCount.{digit_count};
 ghost use Rattle.lexical_write_integer.specs.Digits.PowersOfTen.{IsPowersOfTen};

@@ -5,8 +5,8 @@
 //! (2019), describe how digits are obtained from the fraction of a product with a reciprocal.
 
 // Each `_counted` function notes in `turns` what an iteration computes: one number for each pair of digits after the
-// first, and at most 9. Examples of the writers are in `crates/library_tests/src/decimal_values.rt`, and
-// of the kernels in `crates/library_tests/src/kernel_values.rt`.
+// first, and at most 9. Examples of the writers are in `crates/tests/src/integers/decimal_values.rt`, and
+// of the kernels in `crates/tests/src/integers/kernel_values.rt`.
 #![tactic(auto, using(crate::proofs::OfDigits::Count::DigitCounts::widths, crate::proofs::Buffers::Prefixes::digits_in_part), unfolding(crate::specs::Digits::DecimalTurns::decimal_notes_32))]
 
 ghost use Rattle.std.specs.Prelude.{◌≡◌, ◌+◌, ◌-◌, ◌/◌, ◌^◌, ◌<◌, ◌≤◌, ◌++◌, length};

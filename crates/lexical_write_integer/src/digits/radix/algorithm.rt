@@ -2,7 +2,7 @@
 //! radix 2 eight, which it computes. In radix 10 and in powers of 2 it counts the digits first, and otherwise, by
 //! division, while it writes them.
 
-// `crates/library_tests/src/tables.rt` has examples.
+// `crates/tests/src/integers/tables.rt` has examples.
 ghost use Rattle.std.specs.Prelude.{◌≡◌, ◌+◌, ◌≤◌, ◌++◌, IsTrue, length};
 ghost use Rattle.lexical_num.specs.Format.{IsRadix};
 ghost use Rattle.lexical_write_integer.specs.Buffer.{WritesDigits};

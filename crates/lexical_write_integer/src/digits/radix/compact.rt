@@ -1,6 +1,6 @@
 //! The compact writer, which writes one digit per iteration.
 
-// `crates/library_tests/src/tables.rt` has examples.
+// `crates/tests/src/integers/tables.rt` has examples.
 ghost use Rattle.std.specs.Prelude.{◌≡◌, ◌+◌, ◌/◌, ◌%◌, ◌<◌, ◌≤◌, ◌++◌, [], ◌∷◌, length, drop};
 ghost use Rattle.lexical_num.specs.Digit.{digit_char};
 ghost use Rattle.lexical_num.specs.Format.{IsRadix};

@@ -1,0 +1,30 @@
+// Tests of `lexical_num`, `lexical_tables` and `lexical_write_integer` against known values: formats, tables, digit counts
+// and writers.
+
+mod checks;
+mod counts;
+mod decimal_values;
+mod exact_buffers;
+mod formats;
+mod kernel_values;
+mod known_texts;
+mod lines;
+mod numbers;
+mod pair_tables;
+mod tables;
+mod texts;
+mod writes;
+
+// The first test of the project.
+#[test]
+fn the_first_test(rt: HostRuntime) {
+    use checks::check_equal;
+    use lexical_write_integer::ToLexical;
+    let mut three = [7, 7, 7];
+    let text = 0u8.to_lexical(&mut three);
+    check_equal(&rt, "the text of 0", &*text, b"0");
+    check_equal(&rt, "its buffer", three, [48, 7, 7]);
+    let mut twenty = [7; 20];
+    let text = 1234u64.to_lexical(&mut twenty);
+    check_equal(&rt, "the text of 1234", &*text, b"1234");
+}

@@ -1,7 +1,0 @@
-//! The tests of `crates/library_tests`, which `strip` makes.
-
-#![allow(unused, clippy::all, reason = "they are written for Rattle")]
-// A test that returns before its end would pass.
-#![deny(unreachable_code)]
-
-include!(concat!(env!("OUT_DIR"), "/library_tests/lib.rs"));
