@@ -153,14 +153,14 @@ fn each_part_has_a_row() {
     let (here, table) = (include_str!("rooms.rs"), include_str!("../src/parts.rs"));
     let mistakes = include_str!("../../../crates/lexical_parts/mistakes/bodies.edit");
     let exports = include_str!("../../cojimuran/src/parts.rs").lines().filter_map(|line| line.strip_prefix("pub use "));
-    let exports: Vec<(&str, &str)> = exports.filter_map(|path| path.split_once("::")).collect();
+    let exports: Vec<(&str, &str)> = exports.filter_map(|path| path.rsplit_once("::")).collect();
     let names = exports.iter().flat_map(|(_, names)| names.split(|c: char| !c.is_alphanumeric()));
     let parts: Vec<&str> = names.filter(|name| name.starts_with(char::is_uppercase)).collect();
     let has_row =
         |name: &str| ["Part", "Buffer", "Show", "Shown"].contains(&name) || table.contains(&format!("{name}("));
     let missing = parts.iter().copied().filter(|name| !has_row(name));
-    let files = exports.iter().map(|(module, _)| *module);
-    let missing = missing.chain(files.filter(|module| !mistakes.contains(&format!("file: src/{module}.rt"))));
+    let has_mistake = |module: &str| mistakes.contains(&format!("file: src/{}.rt", module.replace("::", "/")));
+    let missing = missing.chain(exports.iter().map(|(module, _)| *module).filter(|module| !has_mistake(module)));
     assert_eq!(missing.collect::<Vec<_>>(), Vec::<&str>::new());
     assert!(parts.len() > 20 && (2..=12).all(|count| here.contains(&format!(") => {count}, \""))));
 }
