@@ -1,5 +1,5 @@
 -- What callers know if the bytes of the source and the contents of the sink are known.
-use Rattle.std.proofs.Common.{◌≡◌, ℕ, Bool, List, ◌++◌, take, Option, IfSome, arith}
+use Rattle.std.proofs.Common.{◌≡◌, ℕ, ◌-◌, ◌^◌, Bool, List, ◌++◌, take, Option, IfSome, arith}
 use Rattle.std.proofs.Transfers.{starts_with_of_append}
 use Rattle.std.specs.Option.{option_map}
 use Rattle.std.specs.Io.{StartsWith}
@@ -7,17 +7,20 @@ use Rattle.std.specs.Io.KnownBytes.{Appends, Consumes}
 use Rattle.lexical_lines.specs.Answer.{AnswersAll}
 use Rattle.lexical_lines.specs.BlockWriter.{BlockWriting}
 use Rattle.lexical_lines.specs.RunOutcome.{ReportsAllValid}
-use Rattle.lexical_lines.specs.StreamAnswers.{AllAnswered}
+use Rattle.lexical_lines.specs.StreamAnswers.{AllAnswered, WritesAllAnswers, bytes_put}
 
 answers-limited : (limit : ℕ) (known : Option (List ℕ)) (read text : List ℕ) → IfSome (option_map (take limit) known) (λ bytes. read ≡ bytes)
     → AnswersAll read text → IfSome known (λ bytes. AnswersAll (take limit bytes) text)
 answers-limited limit known read text all answers = grind arith
 
 -- the sink has taken what was in the block and the answers to all lines, up to the limit
-pub answers-known : (limit : ℕ) (known : Option (List ℕ)) {failures : ℕ} {is_ended : Bool} {read : List ℕ} (c d : BlockWriting)
-    → AllAnswered failures (option_map (take limit) known) is_ended read c d
-    → (text : List ℕ) × Appends c.contents d.contents (c.held ++ text) × IfSome known (λ bytes. AnswersAll (take limit bytes) text)
-answers-known limit known {read = read} c d h = grind (arith, answers-limited)
+pub answers-known : (known : Option (List ℕ)) {failures : ℕ} {is_ended : Bool} {read : List ℕ} (c d : BlockWriting)
+    → AllAnswered failures (option_map (take (2 ^ 63 - 1)) known) is_ended read c d → WritesAllAnswers known c d
+answers-known known {read = read} c d h = record {
+  text = bytes_put c d;
+  contents = h.handed.contents;
+  answers = answers-limited (2 ^ 63 - 1) known read (bytes_put c d) h.all h.answers;
+}
 
 -- a report about the bytes that were read is one about the known bytes, up to the limit
 pub reports-known : (limit : ℕ) (known : Option (List ℕ)) (read : List ℕ) (all_valid : Bool)

@@ -1,5 +1,5 @@
 -- What was read and written while the lines of a source were answered.
-use Rattle.std.specs.Prelude.{◌≡◌, ◌⊎◌, ℕ, ◌+◌, Bool, true, List, [], ◌++◌, length, Option, IfSome, IsSome}
+use Rattle.std.specs.Prelude.{◌≡◌, ◌⊎◌, ℕ, ◌+◌, ◌-◌, ◌^◌, Bool, true, List, [], ◌++◌, length, take, Option, IfSome, IsSome}
 use Rattle.std.specs.Io.{StartsWith}
 use Rattle.std.specs.Io.KnownBytes.{Appends, Consumes, IsAtEnd}
 use Rattle.lexical_lines.specs.declared.answer.answerer.Answerer.{Answerer}
@@ -57,6 +57,25 @@ pub record WriteFailed (failures : ℕ) (is_ended : Bool) (read : List ℕ) (c d
 -- only one call of a device failed
 abbrev pub OneFailed : ℕ → Bool → List ℕ → BlockWriting → BlockWriting → Type 0
 OneFailed failures is_ended read c d = ReadFailed failures read c d ⊎ WriteFailed failures is_ended read c d
+
+-- what a call reads of these bytes of a reader
+abbrev pub bytes_read : List ℕ → List ℕ
+bytes_read bytes = take (2 ^ 63 - 1) bytes
+
+-- the sink has taken what was in the block and then a text, and nothing else. If the bytes of the reader are known, the
+-- text is the answers to all their lines
+pub record WritesAllAnswers (remaining : Option (List ℕ)) (c d : BlockWriting) : Type 0 where
+  pub text : List ℕ
+  pub contents : Appends c.contents d.contents (c.held ++ text)
+  pub answers : IfSome remaining (λ bytes. AnswersAll (bytes_read bytes) text)
+
+-- one call of a device failed after these bytes, which are the first of the reader, if its bytes are known
+pub record FailsAfter (remaining : Option (List ℕ)) (c d : BlockWriting) : Type 0 where
+  pub read : List ℕ
+  pub first : IfSome remaining (λ bytes. StartsWith (bytes_read bytes) read)
+  pub failures : ℕ
+  pub is_ended : Bool
+  pub failed : OneFailed failures is_ended read c d
 
 -- no device has failed, and the answerer has received the bytes that were read
 pub record IsUnderWay (failures : ℕ) (read : List ℕ) (c d : BlockWriting) (answerer : Answerer) : Type 0 where

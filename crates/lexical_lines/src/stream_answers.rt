@@ -1,13 +1,11 @@
 //! Answers the lines of a source, and writes the answers to a sink, both in blocks of bytes.
 
-ghost use Rattle.std.specs.Prelude.{◌≡◌, ◌⊎◌, ℕ, ◌-◌, ◌^◌, ◌≤◌, Bool, true, false, List, [], ◌++◌, take};
-ghost use Rattle.std.specs.Io.{StartsWith};
+ghost use Rattle.std.specs.Prelude.{◌≡◌, ◌⊎◌, ◌≤◌, true, false, []};
 ghost use Rattle.std.specs.Prelude.{IfSome, IfOk, OnOk, OnErr};
-ghost use Rattle.std.specs.Io.KnownBytes.{Appends};
-ghost use Rattle.lexical_lines.specs.Answer.{AnswersAll};
 ghost use Rattle.lexical_lines.specs.BlockWriter.{TakesMore};
 ghost use Rattle.lexical_lines.specs.RunOutcome.{ReportsAllValid};
-ghost use Rattle.lexical_lines.specs.StreamAnswers.{Yields, AllAnswered, ReadFailed, WriteFailed, OneFailed};
+ghost use Rattle.lexical_lines.specs.StreamAnswers.{AllAnswered, FailsAfter, OneFailed, ReadFailed, WriteFailed};
+ghost use Rattle.lexical_lines.specs.StreamAnswers.{WritesAllAnswers, Yields, bytes_read};
 
 use crate::answer::answerer::Answerer;
 use crate::answer::exit_status::status;
@@ -42,17 +40,12 @@ pub fn answer_reader<R: Read + Drop, K: BlockSink, const SIZE: usize>(
     requires { writer.old.failures ≡ 0 }
     ensures range { result ≤ 2 }
     // If the status is 0 or 1, the sink has taken what was in the block, the answers to all lines, and nothing else.
-    ensures answered { result ≤ 1 → (text : List ℕ)
-        × Appends writer.old.contents writer.new.contents (writer.old.held ++ text)
-        × IfSome (R.remaining reader) (λ bytes. AnswersAll (take (2 ^ 63 - 1) bytes) text) }
-    ensures valid { result ≡ 0
-        → IfSome (R.remaining reader) (λ bytes. ReportsAllValid (take (2 ^ 63 - 1) bytes) true) }
-    ensures bad { result ≡ 1
-        → IfSome (R.remaining reader) (λ bytes. ReportsAllValid (take (2 ^ 63 - 1) bytes) false) }
-    // If the status is 2, a read, or a write or flush, failed after these bytes of the reader.
-    ensures failed { result ≡ 2 → (read : List ℕ)
-        × IfSome (R.remaining reader) (λ bytes. StartsWith (take (2 ^ 63 - 1) bytes) read)
-        × ((failures : ℕ) × (is_ended : Bool) × OneFailed failures is_ended read writer.old writer.new) }
+    ensures answered { result ≤ 1 → WritesAllAnswers (R.remaining reader) writer.old writer.new }
+    ensures valid { result ≡ 0 → IfSome (R.remaining reader) (λ bytes. ReportsAllValid (bytes_read bytes) true) }
+    ensures bad { result ≡ 1 → IfSome (R.remaining reader) (λ bytes. ReportsAllValid (bytes_read bytes) false) }
+    // If the status is 2, a read, or a write or flush, failed. std's `Read` does not say whether a read has failed, so
+    // it is not said which.
+    ensures failed { result ≡ 2 → FailsAfter (R.remaining reader) writer.old writer.new }
 {
     answer_stream(&mut Reading::whole(reader), writer)
 }
