@@ -8,7 +8,7 @@ pub mod Limbs
 pub mod Link
 pub mod LogLine
 pub mod Packet
-pub mod Reading
+pub mod Measurement
 pub mod RecordedTurns
 pub mod Timed
 pub mod Uuid

@@ -4,7 +4,7 @@ use super::{check, check_buffer, check_bytes, check_part, check_room, check_str}
 use crate::csv_row::{Summary, try_write_list, write_entries, write_row, write_summary};
 use crate::date_time::DateTime;
 use crate::key_value::try_write_setting;
-use crate::reading::write_reading;
+use crate::measurement::write_measurement;
 use lexical_parts::{
     Byte, Bytes, Decimal, Digits, Formatted, Hex, Joined, Left, Lower, Padded, PaddedDigits, Part,
     Right, ZeroPadded,
@@ -24,10 +24,10 @@ const MORNING: DateTime = DateTime {
 #[test]
 fn readings(rt: HostRuntime) {
     let mut buffer = [7; 60];
-    let count = write_reading(MORNING, -125, 255, &mut buffer);
+    let count = write_measurement(MORNING, -125, 255, &mut buffer);
     check_buffer(&rt, &buffer, count, b"2026-11-23T07:05:09 -12.5 kg 0xFF;");
     let mut buffer = [7; 47];
-    let count = write_reading(MORNING, -5, 0, &mut buffer);
+    let count = write_measurement(MORNING, -5, 0, &mut buffer);
     check_buffer(&rt, &buffer, count, b"2026-11-23T07:05:09 -0.5 kg 0x0;");
 }
 
