@@ -7,7 +7,7 @@ use lexical_parts::{Padded, PaddedDigits, Part, write_field};
 use lexical_write_integer::laws::padded_length;
 
 /// Writes the name of a file, its mode, its size and the sum of the header to their fields, each number in radix 8. What
-/// is between the fields does not change.
+/// is between the fields and after them does not change.
 pub fn write_header(name: &str, mode: u32, size: u64, sum: u32, header: &mut [u8; 512])
     requires name { length name.now ≤ 100 }
     requires mode { mode < 8 ^ 7 }
@@ -18,6 +18,7 @@ pub fn write_header(name: &str, mode: u32, size: u64, sum: u32, header: &mut [u8
     ensures size { IsPadded 8 11 size (slice_range header.new 124 135) }
     ensures sum { IsPadded 8 6 sum (slice_range header.new 148 154) }
     ensures between { slice_range header.new 107 124 ≡ slice_range header.old 107 124 }
+    ensures after { slice_range header.new 154 512 ≡ slice_range header.old 154 512 }
 {
     padded_length(8, 7);
     padded_length(8, 11);
