@@ -1,12 +1,14 @@
 //! Counts the instructions of a number with valgrind, beside other crates: `cargo run --release`. With `-- --times` it
 //! measures nanoseconds instead. With `-- --by-digits` it counts decimal and radix 36 by the number of digits, as
-//! `docs/figures/draw` takes it.
+//! `docs/figures/draw` takes it. With the feature `format_into` it also has that method of std, which is not stable yet.
+
+#![cfg_attr(feature = "format_into", feature(int_format_into))]
 
 use cojimuran::parts::{Decimal, Digits, Hex, Joined, Part};
 use cojimuran::{Buffer, NumberFormat, NumberFormatBuilder, Options, ToLexical, ToLexicalWithOptions};
 use lexical_write_integer as lexical;
-use std::hint::black_box;
 use std::fmt::Write as _;
+use std::hint::black_box;
 use std::io::Write as _;
 use std::process::Command;
 use std::time::Instant;
@@ -49,6 +51,21 @@ macro_rules! each {
 macro_rules! taken {
     ($number:ty, |$value:ident| $text:expr) => {
         each!($number, |$value, b| black_box($text).len() + usize::from(b[0]))
+    };
+}
+
+/// Returns a loop of `format_into` of the standard library, if there is such a method.
+#[cfg(feature = "format_into")]
+macro_rules! format_into {
+    ($number:ty) => {
+        taken!($number, |n| n.format_into(&mut core::fmt::NumBuffer::new()))
+    };
+}
+
+#[cfg(not(feature = "format_into"))]
+macro_rules! format_into {
+    ($number:ty) => {
+        None
     };
 }
 
@@ -162,8 +179,8 @@ fn rows() -> Vec<Row> {
     let shown = each!(u64, |n, b| write!(&mut b[..], "{}", Decimal(n)).map_or(0, |()| 1));
     let line = each!(u64, |n, b| ("id=", n, " flags=0x", Hex(n as u16)).write_to(&mut b));
     vec![
-        ("`u64` as a `&str`", [taken!(u64, |n| Buffer::new().format(n)), None, str_u64, None]),
-        ("`i32` as a `&str`", [taken!(i32, |n| Buffer::new().format(n)), None, str_i32, None]),
+        ("`u64` as a `&str`", [taken!(u64, |n| Buffer::new().format(n)), None, str_u64, format_into!(u64)]),
+        ("`i32` as a `&str`", [taken!(i32, |n| Buffer::new().format(n)), None, str_i32, format_into!(i32)]),
         ("`u64`", decimal!(u64)),
         ("`u32`", decimal!(u32)),
         ("`u8`", decimal!(u8)),
