@@ -1,7 +1,7 @@
 //! Bytes as a part: those of a slice, or a single one.
 #![tactic(auto, using(crate::proofs::OfTexts::Parts::parts))]
 
-ghost use Rattle.std.specs.Prelude.{Some, ◌<◌, [], ◌∷◌, length};
+ghost use Rattle.std.specs.Prelude.{IsTrue, Some, ◌<◌, [], ◌∷◌, length};
 ghost use Rattle.std.specs.Str.{IsUtf8};
 ghost use Rattle.lexical_write_integer.specs.Sequence.{IsExactly};
 
@@ -41,7 +41,10 @@ impl Part for Bytes<'_> {
         Some(self.0.len())
     }
 
-    fn is_known_utf8(self, _own: Own) -> bool {
+    fn is_known_utf8(self, _own: Own) -> bool
+        ensures utf8 { IsTrue result → IsUtf8 self.entry.0.now }
+        ensures known { IsUtf8 self.entry.0.now → IsTrue result }
+    {
         from_utf8(self.0).is_ok()
     }
 }
