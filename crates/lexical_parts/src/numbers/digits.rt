@@ -2,7 +2,7 @@
 #![tactic(auto, using(crate::proofs::OfTexts::Parts::parts))]
 
 ghost use Rattle.lexical_write_integer.specs.Computed.{digits_text};
-ghost use Rattle.std.specs.Prelude.{Some};
+ghost use Rattle.std.specs.Prelude.{IsTrue, Some};
 ghost use Rattle.lexical_num.specs.Format.{IsRadix};
 ghost use Rattle.lexical_write_integer.specs.DigitCount.{digit_count};
 ghost use Rattle.lexical_write_integer.specs.Text.{IsDigits};
@@ -52,7 +52,10 @@ impl<T: Radix + DigitCount> Part for Digits<T> {
         most_digits::<T>(self.0)
     }
 
-    fn is_known_utf8(self, _own: Own) -> bool {
+    fn is_known_utf8(self, _own: Own) -> bool
+        ensures valid { IsTrue result → IsRadix self.0 }
+        ensures known { IsRadix self.0 → IsTrue result }
+    {
         is_radix(u64::from(self.0))
     }
 }

@@ -1,7 +1,7 @@
 //! Numbers with a fixed number of decimals.
 #![tactic(auto, using(crate::proofs::OfTexts::Parts::parts))]
 
-ghost use Rattle.std.specs.Prelude.{◌+◌, ◌≤◌, None, Some, length, max, unsigned_abs, if◌then◌else◌};
+ghost use Rattle.std.specs.Prelude.{◌+◌, ◌≤◌, IsTrue, None, Some, length, max, unsigned_abs, if◌then◌else◌};
 ghost use Rattle.lexical_write_integer.specs.Buffer.{Writes};
 ghost use Rattle.lexical_parts.specs.Fixed.{AreUnits, IsFixed, IsGroupedFixed, IsGroupedUnits};
 ghost use Rattle.lexical_parts.specs.Fixed.{fixed_room, fixed_text, grouped_units_room};
@@ -161,7 +161,10 @@ impl<T: ToLexical> Part for GroupedFixed<'_, T> {
         Some(sign + self.2.grouped_len(whole) + self.1 + self.1.min(1))
     }
 
-    fn is_known_utf8(self, _own: Own) -> bool {
+    fn is_known_utf8(self, _own: Own) -> bool
+        ensures valid { IsTrue result → self.entry.1 ≤ 19 }
+        ensures known { self.entry.1 ≤ 19 → IsTrue result }
+    {
         19 >= self.1
     }
 }

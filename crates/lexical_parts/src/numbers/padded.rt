@@ -2,7 +2,7 @@
 #![tactic(auto, using(crate::proofs::OfTexts::Parts::parts))]
 
 ghost use Rattle.lexical_write_integer.specs.Computed.{padded_text};
-ghost use Rattle.std.specs.Prelude.{◌^◌, ◌<◌, IsTrue, Some};
+ghost use Rattle.std.specs.Prelude.{◌≡◌, ◌^◌, ◌<◌, IsTrue, Some};
 ghost use Rattle.lexical_num.specs.Format.{IsRadix};
 ghost use Rattle.lexical_write_integer.specs.Padded.{IsPadded};
 
@@ -23,7 +23,8 @@ pub(crate) const MOST_DIGITS: usize = 64;
 // needed if the radix is a power of two.
 fn has_few_bits(number: u64, radix: u32, width: usize) -> bool
     requires { IsRadix radix }
-    ensures { IsTrue result → number < radix ^ width }
+    ensures below { IsTrue result → number < radix ^ width }
+    ensures zero { number ≡ 0 → IsTrue result }
 {
     if width >= 64 {
         return true;
@@ -65,7 +66,10 @@ impl<T: DigitCount + Radix> Part for PaddedDigits<T> {
         Some(self.2)
     }
 
-    fn is_known_utf8(self, own: Own) -> bool {
+    fn is_known_utf8(self, own: Own) -> bool
+        ensures valid { IsTrue result → IsRadix self.0 × (T.magnitude self.1 < self.0 ^ self.2) }
+        ensures known { IsRadix self.0 → T.magnitude self.1 < self.0 ^ self.2 → IsTrue result }
+    {
         if self.0 == 10 {
             return Padded(self.1, self.2).is_known_utf8(own);
         }
@@ -124,7 +128,10 @@ impl<T: DigitCount + Radix> Part for Padded<T> {
         Some(self.1)
     }
 
-    fn is_known_utf8(self, _own: Own) -> bool {
+    fn is_known_utf8(self, _own: Own) -> bool
+        ensures valid { IsTrue result → T.magnitude self.0 < 10 ^ self.1 }
+        ensures known { T.magnitude self.0 < 10 ^ self.1 → IsTrue result }
+    {
         self.0.fits_bits();
         fits_decimal_width(self.0.as_u64(), self.1)
     }

@@ -1,9 +1,10 @@
 //! Bytes as a part: those of a slice, or a single one.
 #![tactic(auto, using(crate::proofs::OfTexts::Parts::parts))]
 
-ghost use Rattle.std.specs.Prelude.{Some, ◌<◌, [], ◌∷◌, length};
+ghost use Rattle.std.specs.Prelude.{IsTrue, Some, ◌<◌, [], ◌∷◌, length};
 ghost use Rattle.std.specs.Str.{IsUtf8};
 ghost use Rattle.lexical_write_integer.specs.Sequence.{IsExactly};
+ghost use Rattle.lexical_parts.specs.Length.{IsOnly};
 
 use crate::formatting::show::Show;
 use crate::own::Own;
@@ -41,7 +42,10 @@ impl Part for Bytes<'_> {
         Some(self.0.len())
     }
 
-    fn is_known_utf8(self, _own: Own) -> bool {
+    fn is_known_utf8(self, _own: Own) -> bool
+        ensures utf8 { IsTrue result → IsUtf8 self.entry.0.now }
+        ensures known { IsUtf8 self.entry.0.now → IsTrue result }
+    {
         from_utf8(self.0).is_ok()
     }
 }
@@ -49,7 +53,11 @@ impl Part for Bytes<'_> {
 impl Show for Bytes<'_> {
     ghost text = { λ part. Some part.0.now };
 
-    fn is_showable(self) -> bool {
+    fn is_showable(self) -> bool
+        ensures utf8 { IsTrue result → IsUtf8 self.entry.0.now }
+        ensures only { IsTrue result → IsOnly (IsExactly self.entry.0.now) self.entry.0.now }
+        ensures showable { IsUtf8 self.entry.0.now → IsTrue result }
+    {
         self.is_known_utf8(Own)
     }
 
@@ -90,7 +98,10 @@ impl Part for Byte {
         Some(1)
     }
 
-    fn is_known_utf8(self, _own: Own) -> bool {
+    fn is_known_utf8(self, _own: Own) -> bool
+        ensures utf8 { IsTrue result → self.0 < 128 }
+        ensures known { self.0 < 128 → IsTrue result }
+    {
         self.0 < 128
     }
 }

@@ -3,7 +3,8 @@
 
 ghost use Rattle.std.specs.Char.{to_ascii_lowercase};
 ghost use Rattle.std.specs.Fmt.{WritesInCalls};
-ghost use Rattle.std.specs.Prelude.{◌≡◌, ◌+◌, ◌≤◌, length, map, slice_range};
+ghost use Rattle.std.specs.Prelude.{◌≡◌, ◌+◌, ◌<◌, ◌≤◌, ℕ, length, map, min, slice_range};
+ghost use Rattle.std.specs.Str.{IsCharBoundary};
 ghost use Rattle.lexical_parts.specs.Lower.{lower_text};
 ghost use Rattle.lexical_write_integer.specs.Lowercase.{IsLowercase};
 
@@ -104,6 +105,10 @@ fn piece_at(text: &str, start: usize) -> &str
     requires { start ≤ length text.now }
     ensures piece { result.now ≡ slice_range text.now start (start + length result.now) }
     ensures within { start + length result.now ≤ length text.now }
+    ensures at_most { length result.now ≤ 64 }
+    // A character has at most four bytes, so one of the last four places is the end of one.
+    ensures longest { (end : ℕ) → IsCharBoundary text.now start → IsCharBoundary text.now end → end ≤ start + 64
+        → min (length text.now) (start + 64) < end + 4 → end ≤ start + length result.now }
 {
     let end = text.len().min(start.saturating_add(64));
     for fewer in 0..4 {

@@ -1,7 +1,7 @@
 //! Parts that may be absent: the text of `Some(part)` is that of the part, and `None` has no bytes.
 
-ghost use Rattle.std.specs.Prelude.{IfNone, IfSome, IsTrue, max};
-ghost use Rattle.lexical_parts.specs.Length.{IsOnly};
+ghost use Rattle.std.specs.Prelude.{IfNone, IfSome, IsSome, IsTrue, max};
+ghost use Rattle.lexical_parts.specs.Length.{HasLength, IsOnly};
 ghost use Rattle.lexical_parts.specs.Optional.{IsOptional, IsOrElse, IsValidOptional, optional_room};
 ghost use Rattle.lexical_parts.specs.Optional.{optional_text, or_else_text};
 
@@ -34,7 +34,11 @@ impl<P: Part> Part for Option<P> {
         }
     }
 
-    fn text_len(self) -> Option<usize> {
+    fn text_len(self) -> Option<usize>
+        requires { IsValidOptional P.is_valid self }
+        ensures length { IfSome result (λ count. HasLength (IsOptional P.is_text self) count) }
+        ensures none { IfNone self (IsSome result) }
+    {
         match self {
             Some(part) => part.text_len(),
             None => Some(0),

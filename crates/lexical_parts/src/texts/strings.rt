@@ -1,8 +1,9 @@
 //! Strings, which are parts: the text of a `&str` is the string.
 #![tactic(auto, using(crate::proofs::OfTexts::Parts::parts))]
 
-ghost use Rattle.std.specs.Prelude.{Some, length};
+ghost use Rattle.std.specs.Prelude.{IsTrue, Some, length};
 ghost use Rattle.lexical_write_integer.specs.Sequence.{IsExactly};
+ghost use Rattle.lexical_parts.specs.Length.{IsOnly};
 ghost use Rattle.lexical_parts.specs.Utf8.{AreUtf8};
 
 use crate::formatting::show::Show;
@@ -33,7 +34,9 @@ impl Part for &str {
         Some(self.len())
     }
 
-    fn is_known_utf8(self, _own: Own) -> bool {
+    fn is_known_utf8(self, _own: Own) -> bool
+        ensures known { IsTrue result }
+    {
         true
     }
 }
@@ -41,7 +44,10 @@ impl Part for &str {
 impl Show for &str {
     ghost text = { λ part. Some part.now };
 
-    fn is_showable(self) -> bool {
+    fn is_showable(self) -> bool
+        ensures only { IsTrue result → IsOnly (IsExactly self.now) self.now }
+        ensures showable { IsTrue result }
+    {
         self.is_known_utf8(Own)
     }
 
