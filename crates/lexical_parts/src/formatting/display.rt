@@ -21,12 +21,12 @@ use crate::numbers::padded::{MOST_DIGITS, Padded, PaddedDigits};
 use crate::numbers::plus::Plus;
 use crate::numbers::powers_of_two::{Binary, FullHex, Hex};
 use crate::numbers::trimmed::TrimmedFixed;
+use crate::own::Own;
 use crate::part::Part;
 use lexical_num::limits::is_radix;
 use lexical_write_integer::digit_count::DigitCount;
 use lexical_write_integer::format::STANDARD;
 use lexical_write_integer::laws::{digit_count_within_bits, digits_computed, text_computed};
-use lexical_write_integer::padded::fits_decimal_width;
 use lexical_write_integer::radix::Radix;
 use lexical_write_integer::{BUFFER_SIZE, NumberFormatBuilder, ToLexical};
 use std::fmt;
@@ -265,19 +265,6 @@ fn pad_wide<W: fmt::Write>(f: &mut fmt::Formatter<W>, zeros: usize, digits: &str
 }
 
 impl<T: DigitCount + Radix> PaddedDigits<T> {
-    // Returns whether the number has at most as many digits as the width.
-    fn fits(self) -> bool
-        requires { IsRadix self.0 }
-        ensures { IsTrue result ↔ T.magnitude self.1 < self.0 ^ self.2 }
-    {
-        self.1.fits_bits();
-        let number = self.1.as_u64();
-        if self.0 == 10 {
-            return fits_decimal_width(number, self.2);
-        }
-        self.1.digit_count(self.0) <= self.2 || number == 0
-    }
-
     // Returns the last 64 digits of the text, or all if it has fewer. It is an error if the radix is not from 2 to 36,
     // or if the number does not fit in the width.
     fn shown(self, buffer: &mut [u8; MOST_DIGITS]) -> Result<&str, fmt::Error>
@@ -285,7 +272,7 @@ impl<T: DigitCount + Radix> PaddedDigits<T> {
         ensures text { IfOk result (λ text.
             replicate (self.2 - 64) 48 ++ text.now ≡ padded_text self.0 self.2 (T.magnitude self.1)) }
     {
-        if !is_radix(u64::from(self.0)) || !self.fits() {
+        if !self.is_known_utf8(Own) {
             return Err(fmt::Error);
         }
         self.1.fits_bits();

@@ -14,10 +14,10 @@ use crate::parts::numbers::padded::{MOST_DIGITS, Padded, PaddedDigits};
 use crate::parts::numbers::plus::Plus;
 use crate::parts::numbers::powers_of_two::{Binary, FullHex, Hex};
 use crate::parts::numbers::trimmed::TrimmedFixed;
+use crate::parts::own::Own;
 use crate::parts::part::Part;
 use crate::write_integer::digit_count::DigitCount;
 use crate::write_integer::format::STANDARD;
-use crate::write_integer::padded::fits_decimal_width;
 use crate::write_integer::radix::Radix;
 use crate::write_integer::{BUFFER_SIZE, NumberFormatBuilder, ToLexical};
 use core::fmt;
@@ -199,21 +199,11 @@ fn pad_wide(f: &mut fmt::Formatter<'_>, zeros: usize, digits: &str) -> fmt::Resu
 }
 
 impl<T: DigitCount + Radix> PaddedDigits<T> {
-    // Returns whether the number has at most as many digits as the width.
-    #[inline]
-    fn fits(self) -> bool {
-        let number = self.1.as_u64();
-        if self.0 == 10 {
-            return fits_decimal_width(number, self.2);
-        }
-        self.1.digit_count(self.0) <= self.2 || number == 0
-    }
-
     // Returns the last 64 digits of the text, or all if it has fewer. It is an error if the radix is not from 2 to 36,
     // or if the number does not fit in the width.
     #[inline]
     fn shown(self, buffer: &mut [u8; MOST_DIGITS]) -> Result<&str, fmt::Error> {
-        if !is_radix(u64::from(self.0)) || !self.fits() {
+        if !self.is_known_utf8(Own) {
             return Err(fmt::Error);
         }
         Ok(PaddedDigits(self.0, self.1, self.2.min(MOST_DIGITS)).to_str(buffer))

@@ -1,24 +1,21 @@
 use Rattle.std.proofs.Common.{◌≤◌, ◌-◌, ◌≡◌, arith, refl}
-use Rattle.lexical_num.specs.Format.{IsRadix}
 use Rattle.lexical_parts.proofs.Equations.{bits-small, wide_computed}
 use Rattle.lexical_parts.proofs.OfNumbers.Widths.{fits_in_64}
 use Rattle.lexical_parts.proofs.numbers.padded.PaddedDigits.shown.Goals as goal
 
 pub to_str-requires-clause-valid : goal.to_str-requires-clause-valid
 to_str-requires-clause-valid g c =
-    let radix : IsRadix c.args.self.0 = rw c.from.ensures at c.is_radix.ensures.0 c.if-not-is_radix.false in
+    let valid = c.is_known_utf8.ensures.valid c.if-not-is_known_utf8.false in
     let small = bits-small g.met.T.UnsignedInteger.range.width c.fits_bits.ensures in
-    (radix, rw c.min.ensures (fits_in_64 _ _ _ radix.at_least_two small (c.fits.ensures.0 c.if-not-fits.false)))
+    (valid.0, rw c.min.ensures (fits_in_64 _ _ _ valid.0.at_least_two small valid.1))
 
 pub returns-clause-text : goal.returns-clause-text
 returns-clause-text g c =
-    let radix : IsRadix c.args.self.0 = rw c.from.ensures at c.is_radix.ensures.0 c.if-not-is_radix.false in
+    let valid = c.is_known_utf8.ensures.valid c.if-not-is_known_utf8.false in
     let within : c.min.result ≤ c.args.self.2 = omega (arith, c.min.ensures) in
     let zeros : c.args.self.2 - c.min.result ≡ c.args.self.2 - 64 = omega (arith, c.min.ensures) in
-    rw (← zeros) (wide_computed _ _ _ _ _ radix.at_least_two within (c.fits.ensures.0 c.if-not-fits.false) c.to_str.ensures.text)
+    rw (← zeros) (wide_computed _ _ _ _ _ valid.0.at_least_two within valid.1 c.to_str.ensures.text)
 
 -- the check finds this proof by itself, but with an answer the refusal of a mistake says what is wrong
 pub returns-clause-ok : goal.returns-clause-ok
-returns-clause-ok g c =
-    let radix : IsRadix c.args.self.0 = rw c.from.ensures at c.is_radix.ensures.0 c.if-not-is_radix.false in
-    (λ ok. (radix, c.fits.ensures.0 c.if-not-fits.false), λ valid. refl)
+returns-clause-ok g c = (λ ok. c.is_known_utf8.ensures.valid c.if-not-is_known_utf8.false, λ valid. refl)
