@@ -161,8 +161,8 @@ pub trait Part: Copy {
     }
 
     /// Writes the text into the buffer, and returns it as a `&str`, which borrows the buffer. What the buffer holds
-    /// afterwards is not promised. The part must be valid, each [`Byte`](crate::Byte) in it and each byte of a column
-    /// must be below 128, each [`Bytes`](crate::Bytes) in it must be UTF-8, and the buffer must have `room` bytes or more.
+    /// afterwards is not promised. The part must be valid, each [`Byte`](super::Byte) in it and each byte of a column
+    /// must be below 128, each [`Bytes`](super::Bytes) in it must be UTF-8, and the buffer must have `room` bytes or more.
     ///
     /// The text of your own parts, and each `Bytes`, is checked by `std::str::from_utf8`, which reads it once. So is, in
     /// Rust, the text of a `Displayed` and of a reference to a `String`. Other texts need no check.

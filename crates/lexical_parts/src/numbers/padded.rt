@@ -97,7 +97,7 @@ impl<T: DigitCount + Radix> Show for PaddedDigits<T> {
 }
 
 /// An unsigned number in decimal, with leading zeros up to the width: `Padded(3u8, 2)` writes `03`.
-/// The number must be below `10.pow(width)`, and a literal needs a type. [`ZeroPadded`](crate::ZeroPadded)
+/// The number must be below `10.pow(width)`, and a literal needs a type. [`ZeroPadded`](super::super::ZeroPadded)
 /// writes every number: `ZeroPadded(123u8, 2)` writes `123`.
 ///
 /// ```

@@ -8,9 +8,9 @@ use core::fmt;
 // The largest room of a part that is written at once.
 pub(crate) const MOST_AT_ONCE: usize = 256;
 
-/// A part that can be in a format string, by itself or in a [`Shown`](crate::Shown): `("id=", 7u8)` writes `id=7`, and
-/// so does `{}` of `Shown(("id=", 7u8))`. The parts of this crate are such parts, and so is a tuple, a
-/// [`Joined`](crate::Joined) or a column of such parts.
+/// A part that can be in a format string, by itself or in a [`Shown`](super::super::Shown): `("id=", 7u8)` writes
+/// `id=7`, and so does `{}` of `Shown(("id=", 7u8))`. The parts of this crate are such parts, and so is a tuple, a
+/// [`Joined`](super::super::Joined) or a column of such parts.
 ///
 /// A part of your own becomes one if you define `is_showable`. Then a tuple with it can be in a format string. If its room
 /// can be above 256 bytes, define `write_pieces` too.

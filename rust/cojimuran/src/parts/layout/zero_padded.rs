@@ -20,7 +20,7 @@ fn length_of_sign(text: &[u8]) -> usize {
 
 /// A part with zeros after its sign, up to the width: `ZeroPadded(Decimal(-42), 6)` writes `-00042`, as
 /// `{:06}` does in Rust. A text longer than the width, which counts bytes, has no zeros.
-/// [`Padded`](crate::Padded) has a width that the number must fit.
+/// [`Padded`](super::super::Padded) has a width that the number must fit.
 ///
 /// ```
 /// use cojimuran::parts::{Decimal, Part, ZeroPadded};

@@ -26,7 +26,7 @@ fn write_trimmed_units<T: ToLexical>(number: T, decimals: usize, buffer: &mut [u
     (Bytes(&units[..whole]), ".", Bytes(&units[whole..kept])).write_to(buffer)
 }
 
-/// A number as [`Fixed`](crate::Fixed) writes it, without zeros at the end of its fraction, and without a point if no
+/// A number as [`Fixed`](super::super::Fixed) writes it, without zeros at the end of its fraction, and without a point if no
 /// decimal is left: `TrimmedFixed(-1500, 3)` writes `-1.5`, and `TrimmedFixed(2000u32, 3)` writes `2`.
 ///
 /// ```
