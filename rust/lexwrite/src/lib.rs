@@ -22,6 +22,3 @@
 pub mod lines {
     include!(concat!(env!("OUT_DIR"), "/lexical_lines/lib.rs"));
 }
-
-// The path of `answer_reader` and its relatives in earlier versions.
-pub use lines as streams;

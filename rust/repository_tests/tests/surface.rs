@@ -19,9 +19,8 @@ use cojimuran::{
 };
 use lexwrite::lines::{
     Answerer, BlockSink, BlockSource, BlockWriter, ByteSink, ByteSource, Reading, SliceSink, SliceSource, Writing,
-    answer_slice, join, put_all, run, status, write_joined,
+    answer_lines, answer_reader, answer_slice, answer_stream, join, put_all, run, status, write_joined,
 };
-use lexwrite::streams::{answer_lines, answer_reader, answer_stream};
 use std::fmt::Debug;
 use std::hash::Hash;
 use std::panic::{RefUnwindSafe, UnwindSafe};
