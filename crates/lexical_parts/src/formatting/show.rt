@@ -19,9 +19,9 @@ pub(crate) const MOST_AT_ONCE: usize = 256;
 /// can be above 256 bytes, define `write_pieces` too.
 ///
 /// ```
-/// use lexical_parts::Part;
+/// use lexical_parts::Shown;
 ///
-/// assert_eq!(rt; ("id=", 7u8).to_str(&mut [0; 64]), "id=7");
+/// assert_eq!(rt; Shown(("id=", 7u8)).to_string(alloc)?, "id=7");
 /// ```
 pub trait Show: Part {
     // The text, if the prover computes it.

@@ -16,9 +16,9 @@ pub(crate) const MOST_AT_ONCE: usize = 256;
 /// can be above 256 bytes, define `write_pieces` too.
 ///
 /// ```
-/// use cojimuran::parts::Part;
+/// use cojimuran::parts::Shown;
 ///
-/// assert_eq!(("id=", 7u8).to_str(&mut [0; 64]), "id=7");
+/// assert_eq!(Shown(("id=", 7u8)).to_string(), "id=7");
 /// ```
 pub trait Show: Part {
     /// Returns whether the part is valid and its text is UTF-8, as `to_str` requires. If it returns `false`, `{}` of the
