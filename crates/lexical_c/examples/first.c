@@ -4,7 +4,7 @@
 int main(void)
 {
     char buffer[LEXICAL_BUFFER_SIZE];
-    size_t count = lexical_decimal_u32(1234567, buffer, sizeof buffer);
+    size_t count = lexical_decimal(1234567, buffer, sizeof buffer);
     printf("%.*s\n", (int)count, buffer);
     return count == 0;
 }

@@ -27,25 +27,25 @@ static int add(struct line *line, const char *words)
     return count == 0 || grow(line, count);
 }
 
-/* Prints the line, with its first number in this radix, or why it does not go into a buffer of this length. */
-static void print_line(int radix, size_t length)
+/* Prints the line, with its first number in this radix, or why it does not go into a buffer of this size. */
+static void print_line(int radix, size_t size)
 {
     const struct lexical_format format = LEXICAL_RADIX(radix);
     const struct lexical_format grouped = { .radix = 10, .group_size = 3, .mark = ',' };
     char buffer[64];
-    struct line line = { buffer, length };
+    struct line line = { buffer, size };
     int is_written = add(&line, "id=0x")
-        && grow(&line, lexical_write_u32(48879, &format, line.end, line.left))
+        && grow(&line, lexical_write(48879u, &format, line.end, line.left))
         && add(&line, " size=")
-        && grow(&line, lexical_write_u64(1234567, &grouped, line.end, line.left))
+        && grow(&line, lexical_write(1234567u, &grouped, line.end, line.left))
         && add(&line, " change=")
-        && grow(&line, lexical_decimal_i32(-42, line.end, line.left));
+        && grow(&line, lexical_decimal(-42, line.end, line.left));
     if (is_written)
         printf("%.*s\n", (int)(line.end - buffer), buffer);
     else if (lexical_check_format(&format) != 0)
         puts("The format is invalid.");
     else
-        printf("The line has more than %zu bytes.\n", length);
+        printf("The line has more than %zu bytes.\n", size);
 }
 
 int main(void)

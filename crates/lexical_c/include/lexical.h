@@ -2,34 +2,35 @@
 /*
  * lexical.h: converts integers to text, in every radix from 2 to 36.
  *
- * Examples. These lines write 48879 in decimal, and count becomes 5:
+ * Examples, in C11 or later. These lines write 48879 in decimal, and count becomes 5:
  *
  *     char buffer[LEXICAL_BUFFER_SIZE];
- *     size_t count = lexical_decimal_u32(48879, buffer, sizeof buffer);
+ *     size_t count = lexical_decimal(48879, buffer, sizeof buffer);
  *
  * These write it in hexadecimal, which is BEEF, and count becomes 4:
  *
  *     const struct lexical_format hexadecimal = LEXICAL_RADIX(16);
- *     count = lexical_write_u32(48879, &hexadecimal, buffer, sizeof buffer);
+ *     count = lexical_write(48879, &hexadecimal, buffer, sizeof buffer);
  *
  * These make the NUL-terminated string "-42":
  *
  *     char text[LEXICAL_BUFFER_SIZE_DECIMAL_I32 + 1];
- *     count = lexical_decimal_i32(-42, text, sizeof text);
+ *     count = lexical_decimal(-42, text, sizeof text);
  *     lexical_terminate(count, text, sizeof text);
  *
  * These write 0000BEEF, with zeros up to 8 bytes:
  *
- *     count = lexical_write_u32(48879, &hexadecimal, buffer, sizeof buffer);
+ *     count = lexical_write(48879, &hexadecimal, buffer, sizeof buffer);
  *     count = lexical_pad(count, 8, buffer, sizeof buffer);
  *
  * These write 0xBEEF, and count becomes 6, or 0 if the number does not fit. Use them
  * only for unsigned types, because a '-' would come after the prefix:
  *
  *     memcpy(buffer, "0x", 2);
- *     count = lexical_write_u32(48879, &hexadecimal, buffer + 2, sizeof buffer - 2);
+ *     count = lexical_write(48879u, &hexadecimal, buffer + 2, sizeof buffer - 2);
  *     count = count == 0 ? 0 : count + 2;
  *
+ * Before C11, name the type of the number: lexical_decimal_i32(48879, buffer, sizeof buffer).
  * To write several numbers into one buffer, see examples/line.c of the sources.
  *
  * Text. A negative number begins with '-'. Another number begins with '+' if the
@@ -43,12 +44,12 @@
  * must not be NULL. The fields may have any values, because every function that returns
  * a size returns 0 for an invalid format.
  *
- * Buffer. `buffer` points to `length` bytes that the call may write. The length must be
- * at most PTRDIFF_MAX, which no object exceeds. The pointer may be NULL if the length
- * is 0. The bytes may be uninitialized, except the text that you pass to lexical_pad.
- * They must not overlap the format, and no other thread may use them during the call.
- * The call writes nothing outside the buffer, and keeps no pointer to it. Bytes after
- * the text keep their values.
+ * Buffer. `buffer` points to `size` bytes that the call may write. The size must be at
+ * most PTRDIFF_MAX, which no object exceeds. The pointer may be NULL if the size is 0.
+ * The bytes may be uninitialized, except the text that you pass to lexical_pad. They
+ * must not overlap the format, and no other thread may use them during the call. The
+ * call writes nothing outside the buffer, and keeps no pointer to it. Bytes after the
+ * text keep their values.
  *
  * Size of the buffer. LEXICAL_BUFFER_SIZE bytes are enough for every number of every
  * type in every format.
@@ -71,10 +72,11 @@
  * LEXICAL_BUFFER_SIZE_U32, a call may write the text to an array first and then copy
  * it. With LEXICAL_BUFFER_SIZE bytes it never copies.
  *
- * Proof. It is proved that the sources write the right text for all arguments that meet
- * the conditions above under "Format" and "Buffer". One file, which turns C pointers
- * into slices, is written by hand. That file and the compiled library are tested, not
- * proved.
+ * Proof. The sources are written in Rattle, a dialect of Rust with contracts. A prover,
+ * which is not public, has checked that they write the right text for all arguments
+ * that meet the conditions above under "Format" and "Buffer". The Rust code that is made
+ * from them, one file by hand, which turns C pointers into slices, and the compiled
+ * library are tested, not proved.
  *
  * Threads and signals. The functions have no state and allocate nothing, so you can
  * call them in any thread and in any signal handler.
@@ -111,11 +113,11 @@
 #else
 #define LEXICAL_NOEXCEPT
 #endif
-/* For (value, format, buffer, length): the call writes to the buffer. */
+/* For (value, format, buffer, size): the call writes to the buffer. */
 #define LEXICAL_WRITES                                                         \
     LEXICAL_HAS((nothrow, nonnull(2), warn_unused_result))                     \
     LEXICAL_ACCESS((read_only, 2)) LEXICAL_ACCESS((write_only, 3, 4))
-/* For (value, buffer, length): the call writes to the buffer. */
+/* For (value, buffer, size): the call writes to the buffer. */
 #define LEXICAL_WRITES_DECIMAL                                                 \
     LEXICAL_HAS((nothrow, warn_unused_result)) LEXICAL_ACCESS((write_only, 2, 3))
 /* For (value, format) and (format): the call reads the format and writes nothing. */
@@ -175,30 +177,30 @@ LEXICAL_HAS((nothrow, const)) uint32_t lexical_version(void) LEXICAL_NOEXCEPT;
  *
  *     value   the number
  *     buffer  where the text begins
- *     length  the size of the buffer in bytes
+ *     size    the size of the buffer in bytes
  *
  * Returns the length of the text, or 0 if the text does not fit the buffer. If it
  * returns 0, the buffer is unchanged. lexical_write_T writes the same text with
  * &lexical_standard_format.
  */
 LEXICAL_WRITES_DECIMAL
-size_t lexical_decimal_u8(uint8_t value, char *buffer, size_t length) LEXICAL_NOEXCEPT;
+size_t lexical_decimal_u8(uint8_t value, char *buffer, size_t size) LEXICAL_NOEXCEPT;
 LEXICAL_WRITES_DECIMAL
-size_t lexical_decimal_u16(uint16_t value, char *buffer, size_t length) LEXICAL_NOEXCEPT;
+size_t lexical_decimal_u16(uint16_t value, char *buffer, size_t size) LEXICAL_NOEXCEPT;
 LEXICAL_WRITES_DECIMAL
-size_t lexical_decimal_u32(uint32_t value, char *buffer, size_t length) LEXICAL_NOEXCEPT;
+size_t lexical_decimal_u32(uint32_t value, char *buffer, size_t size) LEXICAL_NOEXCEPT;
 LEXICAL_WRITES_DECIMAL
-size_t lexical_decimal_u64(uint64_t value, char *buffer, size_t length) LEXICAL_NOEXCEPT;
+size_t lexical_decimal_u64(uint64_t value, char *buffer, size_t size) LEXICAL_NOEXCEPT;
 LEXICAL_WRITES_DECIMAL
-size_t lexical_decimal_size(size_t value, char *buffer, size_t length) LEXICAL_NOEXCEPT;
+size_t lexical_decimal_size(size_t value, char *buffer, size_t size) LEXICAL_NOEXCEPT;
 LEXICAL_WRITES_DECIMAL
-size_t lexical_decimal_i8(int8_t value, char *buffer, size_t length) LEXICAL_NOEXCEPT;
+size_t lexical_decimal_i8(int8_t value, char *buffer, size_t size) LEXICAL_NOEXCEPT;
 LEXICAL_WRITES_DECIMAL
-size_t lexical_decimal_i16(int16_t value, char *buffer, size_t length) LEXICAL_NOEXCEPT;
+size_t lexical_decimal_i16(int16_t value, char *buffer, size_t size) LEXICAL_NOEXCEPT;
 LEXICAL_WRITES_DECIMAL
-size_t lexical_decimal_i32(int32_t value, char *buffer, size_t length) LEXICAL_NOEXCEPT;
+size_t lexical_decimal_i32(int32_t value, char *buffer, size_t size) LEXICAL_NOEXCEPT;
 LEXICAL_WRITES_DECIMAL
-size_t lexical_decimal_i64(int64_t value, char *buffer, size_t length) LEXICAL_NOEXCEPT;
+size_t lexical_decimal_i64(int64_t value, char *buffer, size_t size) LEXICAL_NOEXCEPT;
 
 /* ---- formats ------------------------------------------------------------- */
 
@@ -232,11 +234,11 @@ struct lexical_format {
 
 /*
  * The format of a radix, as an initializer: with no '+' and no groups, in uppercase.
- * The radix may have any standard integer type. A number that is not from 2 to 36 becomes 0,
- * so the format is not valid, and lexical_check_format reports it. With gcc and clang a
- * constant expression that is not from 2 to 36 does not compile, except in C++98. In
- * C11 and later, other compilers refuse it too. The radix is evaluated once, except in C
- * before C11 with compilers other than gcc and clang.
+ * The radix may have any standard integer type. A constant that is not from 2 to 36 does
+ * not compile, except in C++98, and with compilers other than gcc and clang in C before
+ * C11 and in C++. Any other number that is not from 2 to 36 becomes the radix 0, which is
+ * invalid. The radix is evaluated once, except in C before C11 with compilers other than
+ * gcc and clang.
  */
 #define LEXICAL_RADIX(radix) { LEXICAL_PRIVATE_RADIX(radix), 0, 0, 0, 0, { 0, 0 } }
 
@@ -356,38 +358,38 @@ size_t lexical_length_i64(int64_t value,
  *     value   the number; for a ptrdiff_t use lexical_write_i64
  *     format  how the number is written
  *     buffer  where the text begins
- *     length  the size of the buffer in bytes
+ *     size    the size of the buffer in bytes
  *
  * Returns the length of the text, or 0 if the format is invalid or the text does not
  * fit the buffer. If it returns 0, the buffer is unchanged.
  */
 LEXICAL_WRITES
 size_t lexical_write_u8(uint8_t value, const struct lexical_format *format,
-                        char *buffer, size_t length) LEXICAL_NOEXCEPT;
+                        char *buffer, size_t size) LEXICAL_NOEXCEPT;
 LEXICAL_WRITES
 size_t lexical_write_u16(uint16_t value, const struct lexical_format *format,
-                         char *buffer, size_t length) LEXICAL_NOEXCEPT;
+                         char *buffer, size_t size) LEXICAL_NOEXCEPT;
 LEXICAL_WRITES
 size_t lexical_write_u32(uint32_t value, const struct lexical_format *format,
-                         char *buffer, size_t length) LEXICAL_NOEXCEPT;
+                         char *buffer, size_t size) LEXICAL_NOEXCEPT;
 LEXICAL_WRITES
 size_t lexical_write_u64(uint64_t value, const struct lexical_format *format,
-                         char *buffer, size_t length) LEXICAL_NOEXCEPT;
+                         char *buffer, size_t size) LEXICAL_NOEXCEPT;
 LEXICAL_WRITES
 size_t lexical_write_size(size_t value, const struct lexical_format *format,
-                          char *buffer, size_t length) LEXICAL_NOEXCEPT;
+                          char *buffer, size_t size) LEXICAL_NOEXCEPT;
 LEXICAL_WRITES
 size_t lexical_write_i8(int8_t value, const struct lexical_format *format,
-                        char *buffer, size_t length) LEXICAL_NOEXCEPT;
+                        char *buffer, size_t size) LEXICAL_NOEXCEPT;
 LEXICAL_WRITES
 size_t lexical_write_i16(int16_t value, const struct lexical_format *format,
-                         char *buffer, size_t length) LEXICAL_NOEXCEPT;
+                         char *buffer, size_t size) LEXICAL_NOEXCEPT;
 LEXICAL_WRITES
 size_t lexical_write_i32(int32_t value, const struct lexical_format *format,
-                         char *buffer, size_t length) LEXICAL_NOEXCEPT;
+                         char *buffer, size_t size) LEXICAL_NOEXCEPT;
 LEXICAL_WRITES
 size_t lexical_write_i64(int64_t value, const struct lexical_format *format,
-                         char *buffer, size_t length) LEXICAL_NOEXCEPT;
+                         char *buffer, size_t size) LEXICAL_NOEXCEPT;
 
 /* ---- zeros and strings ----------------------------------------------------- */
 
@@ -397,36 +399,36 @@ size_t lexical_write_i64(int64_t value, const struct lexical_format *format,
  *     count   the length of the text, which another call has returned
  *     width   the length that the text is to have; a longer text stays as it is
  *     buffer  where the text begins
- *     length  the size of the buffer in bytes
+ *     size    the size of the buffer in bytes
  *
- * Returns the length of the text, which is the greater of the count and the width.
- * Returns 0 if the count is 0, or if the length is less than the count or the width. If
- * it returns 0, the buffer is unchanged. So you can pass the result of another call as
- * the count, even if it is 0.
+ * Returns the new length of the text, which is the greater of `count` and `width`.
+ * Returns 0 if `count` is 0, or if `size` is less than `count` or `width`. If it returns
+ * 0, the buffer is unchanged. So you can pass the result of another call as `count`, even
+ * if it is 0.
  *
  * lexical_pad knows no prefix: it would make 00000xFF of 0xFF. So pad only the digits,
  * with `buffer + 2` as the buffer. The zeros are not in groups either.
  *
- * If the width is greater than the length, lexical_pad returns 0 although the text
- * without zeros is in the buffer. If you want that text then, keep its count:
- * lexical_terminate erases the text if you pass the 0.
+ * If `width` is greater than `size`, lexical_pad returns 0 although the text without
+ * zeros is in the buffer. If you want that text then, keep its count: lexical_terminate
+ * erases the text if you pass the 0.
  */
 LEXICAL_HAS((nothrow, warn_unused_result)) LEXICAL_ACCESS((read_write, 3, 4))
-size_t lexical_pad(size_t count, size_t width, char *buffer, size_t length) LEXICAL_NOEXCEPT;
+size_t lexical_pad(size_t count, size_t width, char *buffer, size_t size) LEXICAL_NOEXCEPT;
 
 /*
  * lexical_terminate: writes a NUL after a text, which makes it a string.
  *
  *     count   the length of the text, which another call has returned
  *     buffer  where the text begins
- *     length  the size of the buffer in bytes, with a byte for the NUL
+ *     size    the size of the buffer in bytes, with a byte for the NUL
  *
- * Returns the count, or 0 if the count is 0 or the NUL does not fit, because the length
- * is at most the count. If it returns 0, it has made the buffer an empty string, which
- * erases a text in it. If the length is 0, nothing is written.
+ * Returns `count`. Returns 0 if `count` is 0, or if the NUL does not fit because `size`
+ * is at most `count`. If it returns 0, it has made the buffer an empty string, which
+ * erases a text in it. If `size` is 0, nothing is written.
  */
 LEXICAL_HAS((nothrow)) LEXICAL_ACCESS((read_write, 2, 3))
-size_t lexical_terminate(size_t count, char *buffer, size_t length) LEXICAL_NOEXCEPT;
+size_t lexical_terminate(size_t count, char *buffer, size_t size) LEXICAL_NOEXCEPT;
 
 #ifdef __cplusplus
 }
@@ -438,8 +440,9 @@ size_t lexical_terminate(size_t count, char *buffer, size_t length) LEXICAL_NOEX
  * lexical_decimal, lexical_write and lexical_length, in C11 and later, and in C++. They
  * call the function for the type of the value, for example lexical_write_i32 for an
  * int. A variable of the type char or bool is refused, and in C++ also one of the type
- * wchar_t, char8_t, char16_t or char32_t: cast it to int if you mean its number. In C the expressions 'x' and a > b have the type int, so they are accepted.
- * So is true before C23. In C11 and later gcc also needs a cast for a bit-field.
+ * wchar_t, char8_t, char16_t or char32_t: cast it to int if you mean its number. In C
+ * the expressions 'x' and a > b have the type int, so they are accepted. So is true
+ * before C23. In C11 and later gcc also needs a cast for a bit-field.
  *
  * In C++ the format may also be passed as an object, and in C++11 and later as
  * an initializer:
@@ -469,15 +472,15 @@ struct lexical_refused;
 #endif
 #define LEXICAL_OVERLOAD(name, type)                                           \
     LEXICAL_WRITES_DECIMAL                                                     \
-    inline size_t lexical_decimal(type value, char *buffer, size_t length) LEXICAL_NOEXCEPT \
+    inline size_t lexical_decimal(type value, char *buffer, size_t size) LEXICAL_NOEXCEPT \
     {                                                                          \
-        return lexical_decimal_##name(value, buffer, length);                  \
+        return lexical_decimal_##name(value, buffer, size);                  \
     }                                                                          \
     LEXICAL_WRITES                                                             \
     inline size_t lexical_write(type value, const struct lexical_format *format, \
-                                char *buffer, size_t length) LEXICAL_NOEXCEPT  \
+                                char *buffer, size_t size) LEXICAL_NOEXCEPT  \
     {                                                                          \
-        return lexical_write_##name(value, format, buffer, length);            \
+        return lexical_write_##name(value, format, buffer, size);            \
     }                                                                          \
     LEXICAL_READS(2)                                                           \
     inline size_t lexical_length(type value,                                   \
@@ -510,9 +513,9 @@ LEXICAL_REFUSED(char32_t)
 template <typename T>
 LEXICAL_HAS((nothrow, warn_unused_result)) LEXICAL_ACCESS((write_only, 3, 4))
 inline size_t lexical_write(T value, const lexical_format &format, char *buffer,
-                            size_t length) LEXICAL_NOEXCEPT
+                            size_t size) LEXICAL_NOEXCEPT
 {
-    return lexical_write(value, &format, buffer, length);
+    return lexical_write(value, &format, buffer, size);
 }
 template <typename T>
 LEXICAL_HAS((nothrow, pure, warn_unused_result))

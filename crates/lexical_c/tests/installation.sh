@@ -79,8 +79,8 @@ builds_examples() {
     $compiler -std=$standard $strict -o "$work/example" "$crate/examples/$name" "$@" &&
       prints "$(printf '%b' "$lines")" "$work/example" || return
   done 4<<'END'
-first.c|c99|1234567
-line.c|c99|id=0xBEEF size=1,234,567 change=-42\nThe line has more than 20 bytes.\nThe format is invalid.
+first.c|c11|1234567
+line.c|c11|id=0xBEEF size=1,234,567 change=-42\nThe line has more than 20 bytes.\nThe format is invalid.
 example17.cpp|c++17|1,234,567\n-4D2
 example20.cpp|c++20|1,234,567
 END
