@@ -4,8 +4,8 @@
 
 #![cfg_attr(feature = "format_into", feature(int_format_into))]
 
-use cojimuran::parts::{Decimal, Digits, Hex, Joined, Part};
-use cojimuran::{Buffer, NumberFormat, NumberFormatBuilder, Options, ToLexical, ToLexicalWithOptions};
+use cojimuran::parts::{Decimal, Digits, Hex, Joined, Part, Show, Shown};
+use cojimuran::{Append, Buffer, NumberFormat, NumberFormatBuilder, Options, ToLexical, ToLexicalWithOptions};
 use lexical_write_integer as lexical;
 use std::fmt::Write as _;
 use std::hint::black_box;
@@ -122,6 +122,17 @@ macro_rules! lines {
     }};
 }
 
+/// Returns a line of a log.
+fn line(number: u64) -> impl Show {
+    ("id=", number, " flags=0x", Hex(number as u16))
+}
+
+/// Returns a line of CSV.
+fn csv(numbers: &[u64; 4]) -> impl Show {
+    let [first, second, third, fourth] = *numbers;
+    (first, ",", second, ",", third, ",", fourth, "\n")
+}
+
 /// Appends numbers, each followed by a comma, with `itoa`.
 fn join_by_itoa(numbers: &[u64], text: &mut String) {
     for number in numbers {
@@ -177,7 +188,9 @@ fn rows() -> Vec<Row> {
         bytes.extend_from_slice(lexical::ToLexical::to_lexical(n, &mut [0; 20]));
     });
     let shown = each!(u64, |n, b| write!(&mut b[..], "{}", Decimal(n)).map_or(0, |()| 1));
-    let line = each!(u64, |n, b| ("id=", n, " flags=0x", Hex(n as u16)).write_to(&mut b));
+    let str_line = each!(u64, |n, b| line(n).to_str(&mut b).len());
+    let shown_line = each!(u64, |n, b| write!(&mut b[..], "{}", Shown(line(n))).map_or(0, |()| 1));
+    let str_csv = lines!(4, |numbers, text| text.push_str(csv(numbers).to_str(&mut [0; 84])));
     vec![
         ("`u64` as a `&str`", [taken!(u64, |n| Buffer::new().format(n)), None, str_u64, format_into!(u64)]),
         ("`i32` as a `&str`", [taken!(i32, |n| Buffer::new().format(n)), None, str_i32, format_into!(i32)]),
@@ -202,7 +215,8 @@ fn rows() -> Vec<Row> {
         ("`Hex` of a `u64`", [each!(u64, |n, b| Hex(n).write_to(&mut b)), None, None, std!(u64, |n| "{n:X}")]),
         ("`Digits` in radix 36 as a `&str`", [each!(u64, |n, b| Digits(36, n).to_str(&mut b).len()), None, None, None]),
         ("`{}` of a `u64`", [shown, None, None, std!(u64, |n| "{n}")]),
-        ("`id=N flags=0xN`", [line, None, None, std!(u64, |n| "id={n} flags=0x{:X}", n as u16)]),
+        ("`id=N flags=0xM` as a `&str`", [str_line, None, None, std!(u64, |n| "id={n} flags=0x{:X}", n as u16)]),
+        ("`{}` of that line, by `Shown`", [shown_line, None, None, None]),
         (
             "each of 8 `u64` with commas, to a `String`",
             [
@@ -213,13 +227,18 @@ fn rows() -> Vec<Row> {
             ],
         ),
         (
-            "each of 4 `u64` in a line of CSV, to a `String`",
+            "each of 4 `u64` in a line of CSV, by `to_str` and `push_str`",
             [
-                lines!(4, |n, text| text.push_str((n[0], ",", n[1], ",", n[2], ",", n[3], "\n").to_str(&mut [0; 84]))),
+                str_csv,
                 None,
                 lines!(4, |numbers, text| join_by_itoa(numbers, &mut text)),
                 lines!(4, |n, text| writeln!(text, "{},{},{},{}", n[0], n[1], n[2], n[3]).unwrap()),
             ],
+        ),
+        ("the same by `append_to`", [lines!(4, |numbers, text| csv(numbers).append_to(&mut text)), None, None, None]),
+        (
+            "the same by `write_pieces`",
+            [lines!(4, |numbers, text| csv(numbers).write_pieces(&mut text).unwrap()), None, None, None],
         ),
     ]
 }
