@@ -23,6 +23,10 @@ impl Part for Time {
     fn write_to(self, buffer: &mut [u8]) -> usize {
         self.text().write_to(buffer)
     }
+
+    fn text_len(self) -> Option<usize> {
+        self.text().text_len()
+    }
 }
 
 impl Show for Time {

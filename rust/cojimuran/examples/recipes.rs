@@ -5,6 +5,7 @@ use cojimuran::parts::{
     ZeroPadded,
 };
 use cojimuran::{Append, Buffer, Displayed, NumberFormat, NumberFormatBuilder};
+use std::io::Write;
 
 const THOUSANDS: NumberFormat = NumberFormatBuilder::new()
     .digit_grouping(3, b',')
@@ -30,21 +31,23 @@ fn main() {
     // Bytes in hexadecimal.
     let bytes = HexBytes(&[0xDE, 0xAD, 1], ":");
     assert_eq!(bytes.to_str(&mut buffer), "DE:AD:01");
-    // A row of CSV at the end of a `String`, with a float.
-    let mut csv = String::from("id,price,sizes,ratio\n");
-    let sizes = Joined(&[38u8, 40], " ");
-    let price = Fixed(1999u32, 2);
-    let row = (7u32, ",", price, ",", sizes, ",", Displayed(&0.5), "\n");
-    row.append_to(&mut csv);
-    assert_eq!(csv, "id,price,sizes,ratio\n7,19.99,38 40,0.5\n");
-    // The same without the feature `alloc`, to any `fmt::Write`.
-    row.write_pieces(&mut csv).unwrap();
+    // A row of CSV at the end of a `String`.
+    let mut csv = String::from("id,price,sizes\n");
+    let row = (7u32, ",", Fixed(1999u32, 2), ",", Joined(&[38u8, 40], " "));
+    (row, "\n").append_to(&mut csv);
+    assert_eq!(csv, "id,price,sizes\n7,19.99,38 40\n");
+    // The same without the feature `alloc`, to any `fmt::Write`, with a float.
+    (row, ",", Displayed(&0.5)).write_pieces(&mut csv).unwrap();
     assert_eq!(csv.lines().last(), Some("7,19.99,38 40,0.5"));
     // A line of a log, with a field that may be absent.
     let user = Some(1000u64).map(|user| (" user=", user));
     let line = (time, " [info]", user, " flags=0x", Hex(255u16));
     let text = "07:05 [info] user=1000 flags=0xFF";
     assert_eq!(line.to_str(&mut buffer), text);
+    // The same line to a file, a socket or any other `io::Write`.
+    let mut file = Vec::new();
+    file.write_all((line, "\n").to_text(&mut buffer)).unwrap();
+    assert_eq!(file, b"07:05 [info] user=1000 flags=0xFF\n");
     // Parts in a format string.
     assert_eq!(format!("{:>6}", Hex(255u16)), "    FF");
     assert_eq!(format!("{}", Shown(line)), text);
