@@ -212,9 +212,8 @@ size_t lexical_decimal_i64(int64_t value, char *buffer, size_t size) LEXICAL_NOE
  *
  *     const struct lexical_format format = { .radix = 10, .group_size = 3, .mark = ',' };
  *
- * Groups are counted from the right: this format writes 1,234,567. The fields
- * have 32 bits, so a radix or a group size above 255 is not truncated to a byte but
- * is invalid, and so is a mark above 255 if there are groups.
+ * Groups are counted from the right: this format writes 1,234,567. The fields have 32
+ * bits, so that a wrong radix such as 266 is refused and not truncated to 10.
  *
  * In C++14 and later each field after the radix has a default value, which is 0, so the
  * struct is not trivial. g++ therefore warns if you set a format to zeros by memset, so
@@ -234,11 +233,10 @@ struct lexical_format {
 
 /*
  * The format of a radix, as an initializer: with no '+' and no groups, in uppercase.
- * The radix may have any standard integer type. A constant that is not from 2 to 36 does
- * not compile, except in C++98, and with compilers other than gcc and clang in C before
- * C11 and in C++. Any other number that is not from 2 to 36 becomes the radix 0, which is
- * invalid. The radix is evaluated once, except in C before C11 with compilers other than
- * gcc and clang.
+ * The radix may have any standard integer type. gcc and clang refuse a constant that is
+ * not from 2 to 36, except in C++98. Other compilers refuse it only in C11 and later. Any
+ * other number that is not from 2 to 36 becomes the radix 0, which is invalid. The radix
+ * is evaluated once, except in C before C11 with compilers other than gcc and clang.
  */
 #define LEXICAL_RADIX(radix) { LEXICAL_PRIVATE_RADIX(radix), 0, 0, 0, 0, { 0, 0 } }
 
@@ -407,7 +405,8 @@ size_t lexical_write_i64(int64_t value, const struct lexical_format *format,
  * if it is 0.
  *
  * lexical_pad knows no prefix: it would make 00000xFF of 0xFF. So pad only the digits,
- * with `buffer + 2` as the buffer. The zeros are not in groups either.
+ * with `buffer + 2` as the buffer. The zeros are not grouped: 1,234,567 padded to 12 bytes
+ * is 0001,234,567.
  *
  * If `width` is greater than `size`, lexical_pad returns 0 although the text without
  * zeros is in the buffer. If you want that text then, keep its count: lexical_terminate
@@ -427,7 +426,7 @@ size_t lexical_pad(size_t count, size_t width, char *buffer, size_t size) LEXICA
  * is at most `count`. If it returns 0, it has made the buffer an empty string, which
  * erases a text in it. If `size` is 0, nothing is written.
  */
-LEXICAL_HAS((nothrow)) LEXICAL_ACCESS((read_write, 2, 3))
+LEXICAL_HAS((nothrow)) LEXICAL_ACCESS((write_only, 2, 3))
 size_t lexical_terminate(size_t count, char *buffer, size_t size) LEXICAL_NOEXCEPT;
 
 #ifdef __cplusplus
@@ -462,7 +461,12 @@ extern "C++" {
     size_t lexical_decimal(type, char *, size_t) = delete;                     \
     size_t lexical_write(type, const struct lexical_format *, char *, size_t) = delete; \
     size_t lexical_length(type, const struct lexical_format *) = delete;
+/* Without these, {} as the format would be a pointer that is NULL. */
+#define LEXICAL_REFUSED_NULL(type)                                             \
+    size_t lexical_write(type, decltype(nullptr), char *, size_t) = delete;    \
+    size_t lexical_length(type, decltype(nullptr)) = delete;
 #else
+#define LEXICAL_REFUSED_NULL(type)
 /* A call whose result has an incomplete type does not compile. */
 struct lexical_refused;
 #define LEXICAL_REFUSED(type)                                                  \
@@ -471,6 +475,7 @@ struct lexical_refused;
     lexical_refused lexical_length(type, const lexical_format *);
 #endif
 #define LEXICAL_OVERLOAD(name, type)                                           \
+    LEXICAL_REFUSED_NULL(type)                                                 \
     LEXICAL_WRITES_DECIMAL                                                     \
     inline size_t lexical_decimal(type value, char *buffer, size_t size) LEXICAL_NOEXCEPT \
     {                                                                          \
@@ -525,6 +530,7 @@ inline size_t lexical_length(T value, const lexical_format &format) LEXICAL_NOEX
 }
 #undef LEXICAL_OVERLOAD
 #undef LEXICAL_REFUSED
+#undef LEXICAL_REFUSED_NULL
 }
 #elif defined(__STDC_VERSION__) && __STDC_VERSION__ >= 201112L
 #define LEXICAL_PRIVATE_FOR_TYPE(function, value)                              \

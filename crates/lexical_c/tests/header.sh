@@ -75,6 +75,10 @@ check_refused() {
   esac
   case $1 in clang*) ;; *2x) expect "true is refused by $1" reports . "$1" '(1' '(true' -w -include stdbool.h ;; esac
   for type in $types; do expect "a $type is refused by $1" reports . "$1" '(1' "(($type)1" -w; done
+  case ${1##*=} in c++98) ;; c++*)
+    expect "{} as a format is refused by $1" reports . "$1" ' FORMAT' ' {}' -w
+    expect "nullptr as a format is refused by $1" reports . "$1" ' FORMAT' ' nullptr' -w ;;
+  esac
   case ${1##*=} in c++98) return ;; c++*) cast= ;; *) cast='\&(const struct lexical_format)' ;; esac
   for radix in -1 0 1 37 74 266 4294967306LL; do
     expect "radix $radix is refused by $1" reports . "$1" ' FORMAT' " ${cast}LEXICAL_RADIX($radix)" -w
@@ -84,7 +88,7 @@ check_refused() {
 # check_attributes COMPILER: by the attributes of the header, a compiler reports calls that break its conditions.
 # Of an unused result of a function that only reads, g++ says that the statement has no effect. Only gcc sees lengths.
 check_attributes() {
-  expect "no format by $1" reports '[[]-Wnonnull' "$1" '\([ (]\)FORMAT' '\1NULL'
+  expect "no format by $1" reports '[[]-Wnonnull\|is ambiguous' "$1" '\([ (]\)FORMAT' '\1NULL'
   expect "an unused result by $1" reports '[[]-Wunused-result\|statement has no effect' "$1" used ''
   case $1 in clang*) ;; *) expect "a length past the array by $1" reports '[[]-Wstringop-overflow' "$1" LENGTH 5 ;; esac
 }
