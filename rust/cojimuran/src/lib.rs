@@ -1,9 +1,9 @@
 //! Writes integers as text, in every radix from 2 to 36, into a buffer that you supply. No call allocates, except that
-//! `append_to` and `write_pieces` grow the target that you pass, and that `append_to` of a text that may have more than
-//! 256 bytes to a `String` uses a temporary buffer. The sources are written in Rattle, a dialect of Rust with contracts, and are proved there:
-//! [when its conditions hold](#conditions), a call writes exactly the right bytes and does not panic. A program makes this
-//! Rust code from them, and the Rust code is tested. [`Displayed`] and what needs the feature `alloc` are written by hand
-//! and tested.
+//! `append_to` and `write_pieces` grow the target that you pass, that `append_to` of a text that may have more than 256
+//! bytes to a `String` uses a temporary buffer, and that a [`Displayed`] allocates if its value does. The sources are
+//! written in Rattle, a dialect of Rust with contracts, and are proved there: [when its conditions hold](#conditions), a
+//! call writes exactly the right bytes and does not panic. A program makes this Rust code from them, and the Rust code is
+//! tested. [`Displayed`] and what needs the feature `alloc` are written by hand and tested.
 //!
 //! # A first program
 //!
@@ -21,7 +21,8 @@
 //!   [`to_str`](Part::to_str) writes the text to a buffer and returns a `&str`. [`to_text`](Part::to_text) returns bytes.
 //! - [`Digits`] is an unsigned number in a radix, [`Hex`] one in radix 16, [`Fixed`] an amount such as `-19.95`,
 //!   [`Joined`] a slice with a separator between its elements, and [`Decimal`] a number in generic code. [`parts`] has
-//!   all others: groups of digits, fixed widths, columns, bytes in hexadecimal, absent values (`Option`).
+//!   all others but [`Displayed`]: groups of digits, fixed widths, columns, bytes in hexadecimal, absent values
+//!   (`Option`).
 //! - [`Show`] is a part that a format string can have: `{}` of [`Shown(part)`](Shown) writes its text. Its method
 //!   [`write_pieces`](Show::write_pieces) writes the text to a `String` or any other `fmt::Write`.
 //! - [`Displayed`] is any value with `Display`, such as a float, as a part: `("t=", Displayed(&1.5))`.
@@ -61,6 +62,14 @@
 //! assert_eq!(format!("{}", Shown(("id=", 7u8))), "id=7");
 //! ```
 //!
+//! # A part of your own
+//!
+//! It delegates to another part:
+//!
+//! ```
+#![doc = include_str!("../examples/own_part.rs")]
+//! ```
+//!
 //! # How large the buffer must be
 //!
 //! Most calls reserve the room that the longest number of the type would need: 20 bytes for a `u64`, even for 7.
@@ -81,11 +90,13 @@
 //! ```
 #![doc = include_str!("../CONDITIONS.md")]
 //!
+#![doc = include_str!("../COSTS.md")]
+//!
 //! # Versions
 //!
 //! The versions follow semantic versioning, by cargo's rules for 0.x versions: a version 0.x.y is compatible with 0.x.0,
-//! and a version 0.x.0 may break your program, where the changelog says so. The integer traits are sealed, so a compatible version may
-//! add methods to them.
+//! and a version 0.x.0 may break your program, where the changelog says so. The integer traits are sealed, so a compatible
+//! version may add methods to them.
 #![no_std]
 #![deny(unsafe_code)]
 #![warn(missing_docs, clippy::missing_errors_doc)]

@@ -4,12 +4,13 @@
 #[path = "../../cojimuran/examples/number_of_128_bits.rs"]
 mod number_of_128_bits;
 
-use cojimuran::parts::{Digits, Fixed, Hex, Lower, Padded, Part, Right, Show, ZeroPadded};
+use cojimuran::parts::{Digits, Fixed, Hex, Lower, Padded, Part, Right, Show, Shown, ZeroPadded};
 use cojimuran::{
     Append, BUFFER_SIZE, Buffer, Displayed, FormattedSize, NumberFormat, NumberFormatBuilder, Options, ToLexical,
     ToLexicalWithOptions,
 };
 use number_of_128_bits::{format_i128, format_u128};
+use std::io::Write;
 
 const OPTIONS: Options = Options::new();
 const FORMAT: NumberFormat = NumberFormatBuilder::from_radix(36);
@@ -73,6 +74,29 @@ fn from_format() {
     assert_eq!(Hex(number).to_str(&mut buffer), format!("{number:X}"));
     assert_eq!(Lower(Hex(number)).to_str(&mut buffer), format!("{number:x}"));
     assert_eq!(Fixed(cents, 2).to_str(&mut buffer), format!("{}.{:02}", cents / 100, cents % 100));
+}
+
+/// Writes the same line in two ways.
+fn write_lines(file: &mut impl Write, a: i64, b: i64) -> std::io::Result<()> {
+    let mut buffer = [0; 64];
+    file.write_all((a, ",", b, "\n").to_text(&mut buffer))?;
+    write!(file, "{}", Shown((a, ",", b, "\n")))?;
+    Ok(())
+}
+
+#[test]
+fn to_a_file() {
+    let mut file = Vec::new();
+    write_lines(&mut file, -1, 2).unwrap();
+    assert_eq!(file, b"-1,2\n-1,2\n");
+}
+
+#[test]
+fn a_text_that_is_kept() {
+    let number = 7u32;
+    let mut text = Buffer::new();
+    let kept = text.format(number);
+    assert_eq!(kept, "7");
 }
 
 #[test]
