@@ -6,7 +6,7 @@ ghost use Rattle.lexical_write_integer.specs.DigitCount.{digit_count};
 ghost use Rattle.lexical_write_integer.specs.Text.{digits_need};
 
 use crate::integers::checks::{ROOM, check_equal, check_written};
-use lexical_num::{LexicalInteger, UnsignedInteger};
+use lexical_num::{BUFFER_SIZE, LexicalInteger, UnsignedInteger};
 use lexical_write_integer::compact::Compact;
 use lexical_write_integer::decimal::{Decimal, DecimalCount};
 use lexical_write_integer::digit_count::DigitCount;
@@ -79,8 +79,8 @@ fn check_wide<U: WriteInteger>(rt: &impl Abort, value: U, radix: u32, count: usi
     }
 }
 
-// Checks the digit counts and all writers of digits, with a buffer of exactly the required length, and with
-// three more bytes.
+// Checks the digit counts and all writers of digits, with a buffer of exactly the required length, with three
+// more bytes, and with the size that is enough for every number.
 fn check_digits<U: Compact + DigitCount + WriteInteger>(
     rt: &impl Abort,
     value: U,
@@ -96,6 +96,7 @@ fn check_digits<U: Compact + DigitCount + WriteInteger>(
     check_equal(rt, (value.as_u64(), radix), counts, [digits.len(); 2]);
     check_table_and_compact_writers(rt, value, radix, count, digits);
     check_table_and_compact_writers(rt, value, radix, count + 3, digits);
+    check_table_and_compact_writers(rt, value, radix, BUFFER_SIZE, digits);
     check_wide(rt, value, radix, count, digits);
 }
 
