@@ -2,7 +2,8 @@
 use Rattle.std.proofs.Common.{◌≡◌, ℕ, ◌+◌, ◌-◌, ◌<◌, ◌≤◌, List, ◌++◌, length, length-append, take, drop, replicate, sym, ap, ◌∙◌, arith}
 use Rattle.std.specs.List.{copy_within}
 use Rattle.std.proofs.lemmas.List.{same_lists, places, length-drop, length-replicate, length-take-le}
-use Rattle.lexical_c.specs.Ending.{PadsOrRefuses, sign_length, with_zeros}
+use Rattle.lexical_write_integer.specs.ZerosAfterSign.{sign_length, with_zeros}
+use Rattle.lexical_c.specs.Ending.{PadsOrRefuses}
 
 -- the bytes after the sign are moved, and zeros are written where they began
 moved_behind_zeros : (before moved zeros : List ℕ) (sign count width more : ℕ) → sign ≤ count → count ≤ width → width ≤ length before →

@@ -1,14 +1,7 @@
 -- Zeros before the digits of a text, and a byte 0 after it.
-use Rattle.std.specs.Prelude.{◌≡◌, ℕ, ◌-◌, ◌<◌, ◌≤◌, ◌↔◌, ◌==◌, ◌||◌, if◌then◌else◌, max, List, ◌++◌, length, take, drop, replicate, get_or}
+use Rattle.std.specs.Prelude.{◌≡◌, ℕ, ◌-◌, ◌<◌, ◌≤◌, ◌↔◌, max, List, length, take}
 use Rattle.lexical_write_integer.specs.Buffer.{Front}
-
--- the length of the sign with which a text begins: 1 if its first byte is `-` or `+`, and otherwise 0
-abbrev pub sign_length : List ℕ → ℕ
-sign_length text = if get_or text 0 0 == 45 || get_or text 0 0 == 43 then 1 else 0
-
--- the text with this many zeros between its sign and its other bytes
-abbrev pub with_zeros : ℕ → List ℕ → List ℕ
-with_zeros count text = take (sign_length text) text ++ (replicate count 48 ++ drop (sign_length text) text)
+use Rattle.lexical_write_integer.specs.ZerosAfterSign.{with_zeros}
 
 -- there is a text of this length, and room for it and for the width
 pub record IsPaddable (count width room : ℕ) : Type 0 where

@@ -1,7 +1,8 @@
 //! What a caller may still want of a text that is written: zeros up to a width, and a terminating 0.
 
 ghost use Rattle.std.specs.Prelude.{◌≡◌, ◌<◌, if◌then◌else◌, length, nat_lt, set};
-ghost use Rattle.lexical_c.specs.Ending.{PadsOrRefuses, sign_length};
+ghost use Rattle.lexical_write_integer.specs.ZerosAfterSign.{sign_length};
+ghost use Rattle.lexical_c.specs.Ending.{PadsOrRefuses};
 
 // Returns the length of the sign with which a text begins: 1 for `-` or `+`, and otherwise 0.
 fn length_of_sign(text: &[u8]) -> usize

@@ -16,10 +16,3 @@ pub mod Split
 pub mod Stream
 pub mod StreamAnswers
 pub mod Trace
--- the definitions of lower crates that these contracts use
-pub use Rattle.lexical_num.specs.Format
-pub use Rattle.lexical_num.specs.Size
-pub use Rattle.lexical_write_integer.specs.Buffer
-pub use Rattle.lexical_write_integer.specs.Lending
-pub use Rattle.lexical_write_integer.specs.Sequence
-pub use Rattle.lexical_write_integer.specs.Text

@@ -24,9 +24,9 @@ pub trait WriteOptions {
     fn is_valid(&self) -> bool
         ensures { result ≡ is_valid self.now };
 
-    /// Returns the size of the type in the format: in a radix other than 10 `FORMATTED_SIZE`, and in radix 10
-    /// what `FORMATTED_SIZE_DECIMAL` digits take in the groups of the format, and one byte for a required sign.
-    /// It is enough for every number of the type.
+    /// Returns the length of a buffer that is enough for every number of the type in the format: in a radix other than
+    /// 10 `FORMATTED_SIZE`, and in radix 10 what `FORMATTED_SIZE_DECIMAL` digits take in the groups of the format, and
+    /// one byte for a required sign.
     fn buffer_size<T: FormattedSize>(&self, format: &NumberFormat) -> usize
         // The law `size_suffices` of `lexical_write_integer` is that it is enough.
         ensures { result ≡ size_in T.FORMATTED_SIZE T.FORMATTED_SIZE_DECIMAL format.now };
@@ -71,7 +71,8 @@ impl Options {
         true
     }
 
-    /// Returns the size of the type in the format, as `buffer_size` does.
+    /// Returns the length of a buffer that is enough for every number of the type in the format, as `buffer_size` does,
+    /// also in a constant.
     pub fn buffer_size_const<T: FormattedSize>(&self, format: &NumberFormat) -> usize
         ensures { result ≡ size_in T.FORMATTED_SIZE T.FORMATTED_SIZE_DECIMAL format.now }
     {

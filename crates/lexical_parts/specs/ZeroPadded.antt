@@ -1,15 +1,6 @@
 -- Texts with zeros after the sign, up to a width.
-use Rattle.std.specs.Prelude.{◌≡◌, ℕ, ◌-◌, List, [], ◌∷◌, ◌++◌, length, take, drop, replicate}
-use Rattle.std.specs.Prelude.{◌||◌, ◌==◌, if◌then◌else◌, Option, Some, None}
-
--- the length of the sign with which a text begins: 1 if its first byte is `-` or `+`, and otherwise 0
-abbrev pub sign_length : List ℕ → ℕ
-sign_length [] = 0
-sign_length (byte ∷ _) = if byte == 45 || byte == 43 then 1 else 0
-
--- the text with zeros between its sign and its other bytes
-abbrev pub with_zeros : ℕ → List ℕ → List ℕ
-with_zeros count text = take (sign_length text) text ++ (replicate count 48 ++ drop (sign_length text) text)
+use Rattle.std.specs.Prelude.{◌≡◌, ℕ, ◌-◌, List, [], ◌∷◌, length, Option, Some, None}
+use Rattle.lexical_write_integer.specs.ZerosAfterSign.{with_zeros}
 
 -- a text that satisfies `Is`, with zeros between its sign and its other bytes, up to the width
 pub record IsZeroPadded (width : ℕ) (Is : List ℕ → Type 0) (text : List ℕ) : Type 0 where

@@ -1,7 +1,8 @@
 -- The index of a number's pair in a table, for callers of `get_table`.
 use Rattle.std.proofs.Common.{◌≡◌, ℕ, zero, suc, ◌+◌, ◌*◌, ◌/◌, ◌%◌, ◌<◌, length, slice_index, arith, refl}
 use Rattle.std.specs.List.{flat_map, range_with_len}
-use Rattle.lexical_tables.specs.Pairs.{digit_char, pair, pairs}
+use Rattle.lexical_num.specs.Digit.{digit_char}
+use Rattle.lexical_tables.specs.Pairs.{pair, pairs}
 
 length-pairs_from : (radix first count : ℕ) → length (flat_map (pair radix) (range_with_len first count)) ≡ 2 * count
 length-pairs_from radix first zero = refl

@@ -13,7 +13,8 @@
 #![tactic(auto)]
 
 ghost use Rattle.std.specs.Prelude.{◌≡◌, ℕ, ◌+◌, ◌*◌, ◌/◌, ◌%◌, ◌<◌, ◌≤◌, length, slice_index};
-ghost use Rattle.lexical_tables.specs.Pairs.{digit_char, pairs};
+ghost use Rattle.lexical_num.specs.Digit.{digit_char};
+ghost use Rattle.lexical_tables.specs.Pairs.{pairs};
 
 mod digit_pairs;
 

@@ -2,9 +2,9 @@
 use Rattle.std.specs.Prelude.{◌≡◌, ℕ, ◌+◌, ◌≤◌, List, ◌++◌, length, map, take, drop, ℤ}
 use Rattle.lexical_num.specs.Digit.{digit_char}
 use Rattle.lexical_num.specs.Format.{Format}
-use Rattle.lexical_write_integer.specs.Digits.DigitCount.{digit_count}
-use Rattle.lexical_write_integer.specs.Digits.Numeral.{IsBlockOf}
-use Rattle.lexical_write_integer.specs.Texts.Text.{IsDigits, IsText}
+use Rattle.lexical_write_integer.specs.DigitCount.{digit_count}
+use Rattle.lexical_write_integer.specs.Numeral.{IsBlockOf}
+use Rattle.lexical_write_integer.specs.Text.{IsDigits, IsText}
 
 -- the buffer starts with the text, and every byte after the text is unchanged
 pub record Front (before after text : List ℕ) : Type 0 where

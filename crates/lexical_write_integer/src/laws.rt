@@ -3,11 +3,11 @@
 
 ghost use Rattle.std.specs.Prelude.{◌≡◌, ℕ, ◌^◌, ◌<◌, ◌≤◌, ◌↔◌, pos, ◌<ℤ◌, ◌≤ℤ◌, List, length};
 ghost use Rattle.lexical_num.specs.Format.{IsRadix};
-ghost use Rattle.lexical_write_integer.specs.Digits.DigitCount.{digit_count};
-ghost use Rattle.lexical_write_integer.specs.Digits.Numeral.{IsNumeral, IsNumeralOf, IsBlockOf, value_of};
-ghost use Rattle.lexical_write_integer.specs.Texts.InCommon.{HaveInCommon};
-ghost use Rattle.lexical_write_integer.specs.Texts.Order.{ComesBefore};
-ghost use Rattle.lexical_write_integer.specs.Texts.Text.{IsDigits, IsText};
+ghost use Rattle.lexical_write_integer.specs.DigitCount.{digit_count};
+ghost use Rattle.lexical_write_integer.specs.Numeral.{IsNumeral, IsNumeralOf, IsBlockOf, value_of};
+ghost use Rattle.lexical_write_integer.specs.InCommon.{HaveInCommon};
+ghost use Rattle.lexical_write_integer.specs.Order.{ComesBefore};
+ghost use Rattle.lexical_write_integer.specs.Text.{IsDigits, IsText};
 
 mod appended;
 mod bytes;

@@ -13,7 +13,8 @@ use Rattle.lexical_write_integer.specs.Text.{IsText}
 use Rattle.lexical_write_integer.proofs.OfDigits.Numerals.{length-IsDigits}
 use Rattle.lexical_write_integer.proofs.OfDigits.PaddedDigits.{IsPadded-digits}
 use Rattle.lexical_write_integer.proofs.OfTexts.ReadTexts.{IsSigned, bare, padded_read}
-use Rattle.lexical_parts.specs.ZeroPadded.{IsZeroPadded, sign_length}
+use Rattle.lexical_write_integer.specs.ZerosAfterSign.{sign_length}
+use Rattle.lexical_parts.specs.ZeroPadded.{IsZeroPadded}
 
 digits_have_no_sign : (ds : List ℕ) → All (λ d. d < 36) ds → sign_length (map digit_char ds) ≡ 0
 digits_have_no_sign [] below = refl

@@ -22,7 +22,8 @@ use Rattle.lexical_parts.specs.Joined.{AreEach}
 use Rattle.lexical_parts.specs.Length.{HasLength, IsOnly}
 use Rattle.std.specs.Option.{ForSome}
 use Rattle.std.specs.Prelude.{Option}
-use Rattle.lexical_parts.specs.ZeroPadded.{IsZeroPadded, sign_length}
+use Rattle.lexical_write_integer.specs.ZerosAfterSign.{sign_length}
+use Rattle.lexical_parts.specs.ZeroPadded.{IsZeroPadded}
 
 pub exactly_length : (bytes : List ℕ) (count : ℕ) → count ≡ length bytes → HasLength (IsExactly bytes) count
 exactly_length bytes count is = record { each = λ text same. ap length same ∙ sym is }

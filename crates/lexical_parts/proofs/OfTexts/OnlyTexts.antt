@@ -10,7 +10,8 @@ use Rattle.lexical_parts.specs.Column.{IsAtLeft, IsAtRight, IsCentered, centered
 use Rattle.lexical_parts.specs.Joined.{joined_text}
 use Rattle.lexical_parts.specs.Length.{IsOnly}
 use Rattle.lexical_parts.specs.Lower.{lower_text}
-use Rattle.lexical_parts.specs.ZeroPadded.{IsZeroPadded, sign_length, zero_padded_text}
+use Rattle.lexical_write_integer.specs.ZerosAfterSign.{sign_length}
+use Rattle.lexical_parts.specs.ZeroPadded.{IsZeroPadded, zero_padded_text}
 use Rattle.lexical_parts.proofs.Equations.{only_digits, only_exactly, only_padded, only_text}
 use Rattle.lexical_parts.proofs.OfNumbers.HexTexts.{only_hex_bytes}
 

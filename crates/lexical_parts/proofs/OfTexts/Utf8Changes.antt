@@ -10,7 +10,8 @@ use Rattle.std.proofs.lemmas.Str.{IsUtf8-append, IsUtf8-drop, IsUtf8-take, IsCha
 use Rattle.std.proofs.lemmas.Str.Ascii.{encode_ascii, lowercase_ascii, lowercase_is}
 use Rattle.lexical_write_integer.specs.Lowercase.{IsLowercase}
 use Rattle.lexical_parts.specs.Utf8.{AreUtf8}
-use Rattle.lexical_parts.specs.ZeroPadded.{IsZeroPadded, sign_length}
+use Rattle.lexical_write_integer.specs.ZerosAfterSign.{sign_length}
+use Rattle.lexical_parts.specs.ZeroPadded.{IsZeroPadded}
 use Rattle.lexical_parts.proofs.OfTexts.Utf8Texts.{fill_is_utf8}
 
 -- letters of ASCII are below 128, and no byte of another character is

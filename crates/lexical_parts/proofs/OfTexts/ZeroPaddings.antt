@@ -2,13 +2,14 @@
 use Rattle.std.proofs.Common.{◌≡◌, ℕ, ◌+◌, ◌-◌, ◌<◌, ◌≤◌, ◌∙◌, Bool, true, false, List, [], ◌∷◌, ◌++◌, length, length-append, take, drop, replicate, refl, sym, ap, arith}
 use Rattle.std.proofs.Common.{◌==◌, ◌||◌, append_assoc, append-nil, if◌then◌else◌}
 use Rattle.std.proofs.Output.{writes_in_calls_append, writes_in_calls_nil}
-use Rattle.std.proofs.lemmas.List.{length-drop, length-replicate, length-take-le, take-append-drop}
+use Rattle.std.proofs.lemmas.List.{length-drop, length-replicate, length-take-le, take_at, take-append-drop}
 use Rattle.std.specs.Borrow.{MutBor}
 use Rattle.std.specs.Fmt.{WritesInCalls}
 use Rattle.lexical_write_integer.specs.Buffer.{Front, Writes}
 use Rattle.lexical_parts.specs.Length.{IsOfLength}
 use Rattle.lexical_parts.specs.ShownParts.{WritesSome}
-use Rattle.lexical_parts.specs.ZeroPadded.{IsZeroPadded, piece_with_zeros, sign_length, with_zeros, zeros_after}
+use Rattle.lexical_write_integer.specs.ZerosAfterSign.{sign_length, with_zeros}
+use Rattle.lexical_parts.specs.ZeroPadded.{IsZeroPadded, piece_with_zeros, zeros_after}
 use Rattle.lexical_parts.proofs.OfLayout.Inserts.{Front-inserted}
 use Rattle.lexical_parts.proofs.OfFormatting.ShownParts.{closed_calls}
 
@@ -18,9 +19,33 @@ pub written_zero_padded : {Is : List ℕ → Type 0} {width count sign added : �
     → Front (take room (drop sign between)) part (replicate added 48 ++ take (count - sign) (take room (drop sign between)))
     → Writes (IsZeroPadded width Is) before (take sign between ++ (part ++ drop room (drop sign between))) (added + count)
 written_zero_padded {Is} {width} {count} {sign} {added} {before} {between} {part} room a is_sign within is_added room_for inserted =
+    let text_is : take count between ≡ a.text = ap (take count) a.front.written ∙ take_at a.text (drop (length a.text) before) count (sym a.count) in
+    let sign_is : sign ≡ sign_length a.text = is_sign ∙ ap sign_length text_is in
+    let short : sign ≤ length a.text = rw text_is at within in
+    let added_is : added ≡ width - length a.text = omega (arith, is_added, a.count) in
     let whole : List ℕ = take sign a.text ++ (replicate added 48 ++ drop sign a.text) in
-    let long : length whole ≡ added + count = grind (arith, length-append, length-replicate, length-take-le, length-drop) in
-    grind (arith, Front-inserted)
+    let long : length whole ≡ added + count =
+    omega (
+      arith,
+      a.count,
+      length-append (take sign a.text) (replicate added 48 ++ drop sign a.text),
+      length-append (replicate added 48) (drop sign a.text),
+      length-replicate {A = ℕ} added 48,
+      length-take-le sign a.text short,
+      length-drop sign a.text,
+    )
+    in
+    record {
+      text = whole;
+      is = record {
+        number = a.text;
+        is = a.is;
+        whole = ap (λ s. take s a.text ++ (replicate added 48 ++ drop s a.text)) sign_is
+            ∙ ap (λ n. with_zeros n a.text) added_is;
+      };
+      front = Front-inserted (replicate added 48) sign room a.front (omega (arith, a.count, short)) inserted room_for;
+      count = sym long;
+    }
 
 -- ---- a text that is written in pieces
 

@@ -13,7 +13,7 @@ use std::fmt;
 
 /// A part that is aligned to the left of a column: a byte, often a space, is added after its text, up to
 /// the width. `Left(Decimal(12), 4, b'.')` writes `12..`. Nothing is added to a text longer than the
-/// width, which counts bytes and not characters.
+/// width, which counts bytes and not characters. Its room is the width or that of the part, whichever is larger.
 ///
 /// ```
 /// use lexical_parts::{Decimal, Left, Part};
@@ -69,8 +69,8 @@ impl<P: Show> Show for Left<P> {
 }
 
 /// A part that is aligned to the right of a column: a byte, often a space, is added before its text, up
-/// to the width. `Right(Decimal(42), 4, b'.')` writes `..42`. Nothing is added to a text
-/// longer than the width, which counts bytes and not characters.
+/// to the width. `Right(Decimal(42), 4, b'.')` writes `..42`. Nothing is added to a text longer than the
+/// width, which counts bytes and not characters. Its room is the width or that of the part, whichever is larger.
 ///
 /// ```
 /// use lexical_parts::{Decimal, Part, Right};
@@ -127,9 +127,9 @@ impl<P: Show> Show for Right<P> {
 }
 
 /// A part in the centre of a column: a byte, often a space, is added before and after its text, up to
-/// the width. Of an odd number of bytes the larger half is after the text, as with `{:^6}` in Rust:
+/// the width. Of an odd number of bytes the larger half is after the text, as with `{:^6}`:
 /// `Center(Decimal(-12), 6, b'*')` writes `*-12**`. Nothing is added to a text longer than the width,
-/// which counts bytes and not characters.
+/// which counts bytes and not characters. Its room is the width or that of the part, whichever is larger.
 ///
 /// ```
 /// use lexical_parts::{Center, Decimal, Part};

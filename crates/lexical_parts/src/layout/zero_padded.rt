@@ -3,7 +3,8 @@
 
 ghost use Rattle.std.specs.Fmt.{WritesInCalls};
 ghost use Rattle.std.specs.Prelude.{◌≡◌, ◌≤◌, length, max};
-ghost use Rattle.lexical_parts.specs.ZeroPadded.{IsZeroPadded, piece_with_zeros, sign_length, zero_padded_text, zeros_after};
+ghost use Rattle.lexical_write_integer.specs.ZerosAfterSign.{sign_length};
+ghost use Rattle.lexical_parts.specs.ZeroPadded.{IsZeroPadded, piece_with_zeros, zero_padded_text, zeros_after};
 
 use crate::formatting::counted::{count_bytes, write_counted};
 use crate::formatting::show::{MOST_AT_ONCE, Show, write_at_once};
@@ -24,8 +25,8 @@ fn length_of_sign(text: &[u8]) -> usize
 }
 
 /// A part with zeros after its sign, up to the width: `ZeroPadded(Decimal(-42), 6)` writes `-00042`, as
-/// `{:06}` does in Rust. A text longer than the width, which counts bytes, has no zeros.
-/// [`Padded`](super::super::Padded) has a width that the number must fit.
+/// `{:06}` does. A text longer than the width, which counts bytes, has no zeros. Its room is the width or that of the
+/// part, whichever is larger. [`Padded`](super::super::Padded) has a width that the number must fit.
 ///
 /// ```
 /// use lexical_parts::{Decimal, Part, ZeroPadded};

@@ -6,9 +6,9 @@ use Rattle.std.proofs.lemmas.List.{map-append, append-nil, drop_all, drop-set, t
 use Rattle.std.proofs.lemmas.Nat.{pow-add, mul-add-lt, mod-mul-add}
 use Rattle.lexical_num.specs.Digit.{digit_char}
 use Rattle.lexical_write_integer.specs.Buffer.{WritesBlock}
-use Rattle.lexical_write_integer.specs.Digits.DigitCount.{digit_count}
-use Rattle.lexical_write_integer.specs.Digits.Numeral.{IsBlockOf}
-use Rattle.lexical_write_integer.specs.Texts.Text.{IsDigits}
+use Rattle.lexical_write_integer.specs.DigitCount.{digit_count}
+use Rattle.lexical_write_integer.specs.Numeral.{IsBlockOf}
+use Rattle.lexical_write_integer.specs.Text.{IsDigits}
 use Rattle.lexical_write_integer.proofs.OfDigits.Count.DigitCounts.{digit_count-pos, digit_count-left, digit_count-more}
 use Rattle.lexical_write_integer.proofs.OfDigits.Powers.{div-pow_more}
 use Rattle.lexical_write_integer.proofs.OfDigits.Numerals.{IsBlockOf-one, IsBlockOf-append, IsNumeralOf-block}

@@ -5,7 +5,7 @@ use Rattle.std.proofs.lemmas.List.{map-append, length-map, drop-drop, take_at, d
 use Rattle.std.proofs.Math.Nat.{div-add-mod'}
 use Rattle.lexical_num.specs.Digit.{digit_char}
 use Rattle.lexical_write_integer.specs.Buffer.{WritesBlock, WritesDigits}
-use Rattle.lexical_write_integer.specs.Digits.DigitCount.{digit_count}
+use Rattle.lexical_write_integer.specs.DigitCount.{digit_count}
 use Rattle.lexical_write_integer.proofs.OfDigits.Count.DigitCounts.{digit_count-split}
 use Rattle.lexical_write_integer.proofs.OfDigits.Numerals.{IsBlockOf-append, IsNumeralOf-block}
 

@@ -3,7 +3,7 @@ use Rattle.std.proofs.lemmas.Grind.{common_steps}
 use Rattle.std.proofs.Common.{◌≡◌, ℕ, List, ◌++◌, map, take, drop, arith}
 use Rattle.std.specs.Char.{to_ascii_lowercase}
 use Rattle.lexical_write_integer.specs.Buffer.{Writes}
-use Rattle.lexical_write_integer.specs.Texts.Lowercase.{IsLowercase}
+use Rattle.lexical_write_integer.specs.Lowercase.{IsLowercase}
 
 pub written_lower : {Is : List ℕ → Type 0} {before between lower : List ℕ} {count : ℕ} →
     Writes Is before between count → lower ≡ map to_ascii_lowercase (take count between) →

@@ -4,7 +4,7 @@ use Rattle.std.specs.List.{All}
 use Rattle.std.proofs.Math.Nat.{pow-zero, pow-suc, mul-le-mul_left}
 use Rattle.std.proofs.lemmas.List.Elements.{All-head, All-tail}
 use Rattle.std.proofs.lemmas.Nat.{same_from_place, pow-add, mul-add-lt}
-use Rattle.lexical_write_integer.specs.Digits.Numeral.{value_of}
+use Rattle.lexical_write_integer.specs.Numeral.{value_of}
 
 pub value_of-append : (r : ℕ) (xs ys : List ℕ) → value_of r (xs ++ ys) ≡ value_of r xs * r ^ length ys + value_of r ys
 value_of-append r [] ys = omega arith

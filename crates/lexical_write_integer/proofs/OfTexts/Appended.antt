@@ -2,9 +2,9 @@
 use Rattle.std.proofs.Common.{◌≡◌, ℕ, ◌+◌, ◌*◌, ◌^◌, ◌<◌, List, ◌++◌, map, sym, ap, ◌∙◌}
 use Rattle.std.proofs.lemmas.List.{map-append}
 use Rattle.lexical_num.specs.Digit.{digit_char}
-use Rattle.lexical_write_integer.specs.Digits.Padded.{IsPadded}
-use Rattle.lexical_write_integer.specs.Texts.Sequence.{Then}
-use Rattle.lexical_write_integer.specs.Texts.Text.{IsDigits}
+use Rattle.lexical_write_integer.specs.Padded.{IsPadded}
+use Rattle.lexical_write_integer.specs.Sequence.{Then}
+use Rattle.lexical_write_integer.specs.Text.{IsDigits}
 use Rattle.lexical_write_integer.proofs.OfDigits.Numerals.{IsNumeralOf-append}
 
 pub characters_of : (text first second : List ℕ) (xs ys : List ℕ) → text ≡ first ++ second → first ≡ map digit_char xs → second ≡ map digit_char ys

@@ -10,8 +10,8 @@ use Rattle.std.proofs.lemmas.Str.Ascii.{IsAscii-from_all}
 use Rattle.lexical_num.specs.Digit.{digit_char}
 use Rattle.lexical_num.specs.Format.{Format, IsGrouping}
 use Rattle.lexical_num.specs.Sign.{sign_of}
-use Rattle.lexical_write_integer.specs.Texts.Groups.{mark_before, in_groups, grouped}
-use Rattle.lexical_write_integer.specs.Texts.Text.{IsText}
+use Rattle.lexical_write_integer.specs.Groups.{mark_before, in_groups, grouped}
+use Rattle.lexical_write_integer.specs.Text.{IsText}
 
 abbrev AllAscii : List ℕ → Type 0
 AllAscii = All (λ b. b < 128)

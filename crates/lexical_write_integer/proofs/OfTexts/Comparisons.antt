@@ -3,9 +3,9 @@ use Rattle.std.proofs.Common.{◌≡◌, ℕ, ◌≤◌, List, ◌++◌, sym, ap
 use Rattle.std.specs.Prelude.{◌↔◌}
 use Rattle.lexical_num.specs.Format.{Format}
 use Rattle.lexical_num.specs.Sign.{sign_of}
-use Rattle.lexical_write_integer.specs.Digits.Padded.{IsPadded}
-use Rattle.lexical_write_integer.specs.Texts.Groups.{grouped}
-use Rattle.lexical_write_integer.specs.Texts.Text.{IsDigits, IsText}
+use Rattle.lexical_write_integer.specs.Padded.{IsPadded}
+use Rattle.lexical_write_integer.specs.Groups.{grouped}
+use Rattle.lexical_write_integer.specs.Text.{IsDigits, IsText}
 use Rattle.lexical_write_integer.proofs.OfDigits.Numerals.{digits_unique}
 use Rattle.lexical_write_integer.proofs.OfDigits.PaddedDigits.{padded_unique}
 use Rattle.lexical_write_integer.proofs.OfTexts.Orders.{equal_from_IsDigits, equal_from_IsPadded, equal_from_IsText}

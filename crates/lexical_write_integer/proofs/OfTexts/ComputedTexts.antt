@@ -8,8 +8,8 @@ use Rattle.std.proofs.lemmas.Bool.{cases_eq, cases_lt, cond-true, cond-false, eq
 use Rattle.std.proofs.lemmas.List.{append-nil, map-append}
 use Rattle.lexical_num.specs.Digit.{digit_char}
 use Rattle.lexical_num.specs.Format.{Format}
-use Rattle.lexical_write_integer.specs.Texts.Computed.{digits_text, text_of}
-use Rattle.lexical_write_integer.specs.Texts.Text.{IsDigits, IsText}
+use Rattle.lexical_write_integer.specs.Computed.{digits_text, text_of}
+use Rattle.lexical_write_integer.specs.Text.{IsDigits, IsText}
 use Rattle.lexical_write_integer.proofs.OfTexts.Comparisons.{texts_unique}
 use Rattle.lexical_write_integer.proofs.OfDigits.Powers.{lt-pow_self, pow-lt_more, pow-one}
 use Rattle.lexical_write_integer.proofs.OfDigits.Numerals.{IsBlockOf-one, IsNumeralOf-split, digits_unique}

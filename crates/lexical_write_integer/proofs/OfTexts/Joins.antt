@@ -1,6 +1,6 @@
 -- Joined texts, to whose end another text is added.
 use Rattle.std.proofs.Common.{◌≡◌, ℕ, ◌<◌, List, [], ◌∷◌, ◌++◌, length, refl, sym, ap, subst, ◌∙◌, arith, append_assoc}
-use Rattle.lexical_write_integer.specs.Texts.Sequence.{IsExactly, Then, AreJoined}
+use Rattle.lexical_write_integer.specs.Sequence.{IsExactly, Then, AreJoined}
 
 -- what precedes the text that is added to `count` texts: nothing if it is the first, and otherwise the separator
 pub record Leads (separator : List ℕ) (count : ℕ) (lead : List ℕ) : Type 0 where

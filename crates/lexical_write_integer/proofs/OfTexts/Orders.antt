@@ -17,11 +17,11 @@ use Rattle.std.proofs.lemmas.List.Elements.{All-tail}
 use Rattle.lexical_num.specs.Digit.{digit_char}
 use Rattle.lexical_num.specs.Format.{Format}
 use Rattle.lexical_num.specs.Sign.{sign_of}
-use Rattle.lexical_write_integer.specs.Texts.Groups.{mark_before, in_groups, grouped}
-use Rattle.lexical_write_integer.specs.Digits.Numeral.{value_of}
-use Rattle.lexical_write_integer.specs.Digits.Padded.{IsPadded}
-use Rattle.lexical_write_integer.specs.Texts.Order.{ComesBefore, IsEarlier}
-use Rattle.lexical_write_integer.specs.Texts.Text.{IsDigits, IsText}
+use Rattle.lexical_write_integer.specs.Groups.{mark_before, in_groups, grouped}
+use Rattle.lexical_write_integer.specs.Numeral.{value_of}
+use Rattle.lexical_write_integer.specs.Padded.{IsPadded}
+use Rattle.lexical_write_integer.specs.Order.{ComesBefore, IsEarlier}
+use Rattle.lexical_write_integer.specs.Text.{IsDigits, IsText}
 use Rattle.lexical_write_integer.proofs.OfDigits.Count.DigitCounts.{digit_count-monotone}
 use Rattle.lexical_write_integer.proofs.OfTexts.Grouping.Digits.{grouped-injective, length-grouped_lt, length-grouped_same}
 use Rattle.lexical_write_integer.proofs.OfDigits.Numerals.{length-IsDigits}

@@ -5,7 +5,7 @@ use Rattle.std.proofs.lemmas.Bool.Decides.{nat_tests}
 use Rattle.std.proofs.lemmas.Fmt.{decimal_by_steps}
 use Rattle.lexical_num.specs.Digit.{digit_char}
 use Rattle.lexical_num.specs.Format.{standard}
-use Rattle.lexical_write_integer.specs.Texts.Text.{IsDigits, IsText}
+use Rattle.lexical_write_integer.specs.Text.{IsDigits, IsText}
 use Rattle.lexical_write_integer.proofs.OfTexts.ComputedTexts.{IsDigits-one, IsDigits-more}
 use Rattle.lexical_write_integer.proofs.OfDigits.Numerals.{digits_unique}
 

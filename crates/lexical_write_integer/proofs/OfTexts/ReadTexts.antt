@@ -13,11 +13,11 @@ use Rattle.std.proofs.lemmas.List.Elements.{All-head, All-tail}
 use Rattle.lexical_num.specs.Digit.{digit_char}
 use Rattle.lexical_num.specs.Format.{Format}
 use Rattle.lexical_num.specs.Sign.{sign_of}
-use Rattle.lexical_write_integer.specs.Digits.Numeral.{value_of}
-use Rattle.lexical_write_integer.specs.Digits.Padded.{IsPadded}
-use Rattle.lexical_write_integer.specs.Texts.Groups.{grouped}
-use Rattle.lexical_write_integer.specs.Texts.Read.{AreReadAs, IsReadAsSigned, IsReadAsUnsigned}
-use Rattle.lexical_write_integer.specs.Texts.Text.{IsDigits, IsText}
+use Rattle.lexical_write_integer.specs.Numeral.{value_of}
+use Rattle.lexical_write_integer.specs.Padded.{IsPadded}
+use Rattle.lexical_write_integer.specs.Groups.{grouped}
+use Rattle.lexical_write_integer.specs.Read.{AreReadAs, IsReadAsSigned, IsReadAsUnsigned}
+use Rattle.lexical_write_integer.specs.Text.{IsDigits, IsText}
 
 -- digits, which std reads as the number
 pub record IsRead (r n : ℕ) (digits : List ℕ) : Type 0 where

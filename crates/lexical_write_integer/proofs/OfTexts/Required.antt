@@ -5,9 +5,9 @@ use Rattle.std.proofs.lemmas.Bool.{cond_both, eqb-true}
 use Rattle.lexical_num.specs.DecimalWidth.{IsDecimalWidth}
 use Rattle.lexical_num.specs.Format.{Format, IsGrouping, grouped_length}
 use Rattle.lexical_num.specs.Sign.{sign_of}
-use Rattle.lexical_write_integer.specs.Digits.DigitCount.{digit_count-le, digit_count}
-use Rattle.lexical_write_integer.specs.Texts.Groups.{grouped}
-use Rattle.lexical_write_integer.specs.Texts.Text.{IsText, digits_need, need}
+use Rattle.lexical_write_integer.specs.DigitCount.{digit_count-le, digit_count}
+use Rattle.lexical_write_integer.specs.Groups.{grouped}
+use Rattle.lexical_write_integer.specs.Text.{IsText, digits_need, need}
 use Rattle.lexical_write_integer.proofs.OfDigits.Count.DigitCounts.{digit_count-pos}
 use Rattle.lexical_write_integer.proofs.OfTexts.Grouping.Digits.{length-in_groups}
 use Rattle.lexical_write_integer.proofs.OfDigits.Numerals.{length-IsDigits}

@@ -8,8 +8,8 @@ use Rattle.std.proofs.lemmas.List.Elements.{All-append, All-head, All-tail}
 use Rattle.lexical_num.specs.Digit.{digit_char}
 use Rattle.lexical_num.specs.Format.{Format}
 use Rattle.lexical_num.specs.Sign.{sign_of}
-use Rattle.lexical_write_integer.specs.Texts.Sequence.{AreJoined, IsExactly, Then}
-use Rattle.lexical_write_integer.specs.Texts.Text.{IsText}
+use Rattle.lexical_write_integer.specs.Sequence.{AreJoined, IsExactly, Then}
+use Rattle.lexical_write_integer.specs.Text.{IsText}
 use Rattle.lexical_write_integer.proofs.OfTexts.ReadTexts.{bare}
 use Rattle.lexical_write_integer.proofs.OfTexts.Separators.{digits_have_no, sign_is_none}
 

@@ -6,7 +6,7 @@ use Rattle.std.specs.Char.{IsNotAsciiAlphanumeric}
 use Rattle.std.proofs.lemmas.List.Elements.{All-nil, All-cons, All-map}
 use Rattle.lexical_num.specs.Digit.{digit_char}
 use Rattle.lexical_num.specs.Sign.{sign_of}
-use Rattle.lexical_write_integer.specs.Texts.Text.{IsDigits}
+use Rattle.lexical_write_integer.specs.Text.{IsDigits}
 
 digit_is_none : (p d : ℕ) → IsNotAsciiAlphanumeric p → d < 36 → digit_char d ≢ p
 digit_is_none p d other small same = grind arith

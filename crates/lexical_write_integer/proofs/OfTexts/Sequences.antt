@@ -3,7 +3,7 @@ use Rattle.std.proofs.Common.{◌≡◌, ℕ, ◌+◌, List, ◌++◌, length, t
 use Rattle.std.proofs.lemmas.Int.{to_z-of_z}
 use Rattle.std.proofs.lemmas.List.{drop-append-le, length-take, take-append-drop}
 use Rattle.lexical_write_integer.specs.Buffer.{Writes}
-use Rattle.lexical_write_integer.specs.Texts.Sequence.{Then}
+use Rattle.lexical_write_integer.specs.Sequence.{Then}
 use Rattle.lexical_write_integer.proofs.Buffers.Prefixes.{Front-after, length-after}
 
 -- a text is written, and then another in the bytes that follow it

@@ -6,7 +6,7 @@ use Rattle.std.proofs.lemmas.Slice.{drop-append-drop}
 use Rattle.lexical_num.specs.Format.{Format}
 use Rattle.lexical_num.specs.Sign.{sign_of}
 use Rattle.lexical_write_integer.specs.Buffer.{Front, Writes, WritesDigits, WritesText}
-use Rattle.lexical_write_integer.specs.Texts.Groups.{grouped}
+use Rattle.lexical_write_integer.specs.Groups.{grouped}
 use Rattle.lexical_write_integer.proofs.OfTexts.Grouping.Digits.{length-grouped_ge}
 use borrow.Rule.Slice.PartMut.{put_mid}
 use Rattle.lexical_write_integer.proofs.Buffers.Prefixes.{Writes-after, Writes-over}

@@ -7,8 +7,8 @@ use Rattle.lexical_num.specs.Range.{greatest_of, least_of}
 use Rattle.lexical_num.specs.Sign.{sign_of}
 use Rattle.lexical_num.specs.Size.{AreSizes, size_in}
 use Rattle.lexical_num.proofs.Magnitudes.{magnitude-below}
-use Rattle.lexical_write_integer.specs.Digits.DigitCount.{digit_count-le_bits}
-use Rattle.lexical_write_integer.specs.Texts.Text.{need}
+use Rattle.lexical_write_integer.specs.DigitCount.{digit_count-le_bits}
+use Rattle.lexical_write_integer.specs.Text.{need}
 
 -- a larger number has no smaller quotient
 pub div-monotone : (m n k : ℕ) → m ≤ n → m / k ≤ n / k

@@ -3,9 +3,9 @@
 ghost use Rattle.std.specs.Prelude.{◌≡◌, ◌+◌, ◌/◌, ◌^◌, ◌<◌, ◌≤◌, ◌↔◌, ◌++◌, [], ◌∷◌, IsTrue, IfNone, IfSome, length, ℕ};
 ghost use Rattle.lexical_num.specs.Format.{IsRadix};
 ghost use Rattle.lexical_num.specs.BitWidth.{IsBitWidth};
-ghost use Rattle.lexical_write_integer.specs.Digits.DigitCount.{digit_count};
-ghost use Rattle.lexical_write_integer.specs.Digits.LoopTurns.{IsStep, TakesDigits, count_notes, count_turns};
-ghost use Rattle.lexical_write_integer.specs.Digits.LoopTurns.{is_counted_at_once, slow_notes, slow_turns};
+ghost use Rattle.lexical_write_integer.specs.DigitCount.{digit_count};
+ghost use Rattle.lexical_write_integer.specs.LoopTurns.{IsStep, TakesDigits, count_notes, count_turns};
+ghost use Rattle.lexical_write_integer.specs.LoopTurns.{is_counted_at_once, slow_notes, slow_turns};
 
 pub mod decimal_count;
 pub mod logarithm;

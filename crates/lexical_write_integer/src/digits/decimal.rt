@@ -7,7 +7,7 @@ ghost use Rattle.std.specs.Prelude.{◌≡◌, ℕ, pos, negsuc, ◌-◌, ◌/�
 ghost use Rattle.std.proofs.Common.{lit≤};
 ghost use Rattle.lexical_num.specs.DecimalWidth.{IsDecimalWidth, is_decimal_width};
 ghost use Rattle.lexical_write_integer.specs.Buffer.{WritesDigits};
-ghost use Rattle.lexical_write_integer.specs.Digits.DecimalTurns.{decimal_notes};
+ghost use Rattle.lexical_write_integer.specs.DecimalTurns.{decimal_notes};
 
 pub(crate) mod decimal_pairs;
 pub mod jeaiii;

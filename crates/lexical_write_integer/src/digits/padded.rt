@@ -3,7 +3,7 @@
 ghost use Rattle.std.specs.Prelude.{◌≡◌, ◌^◌, ◌<◌, ◌↔◌, IsTrue, length, replicate};
 ghost use Rattle.lexical_num.specs.Format.{IsRadix};
 ghost use Rattle.lexical_write_integer.specs.Buffer.{Writes};
-ghost use Rattle.lexical_write_integer.specs.Digits.Padded.{IsPadded};
+ghost use Rattle.lexical_write_integer.specs.Padded.{IsPadded};
 
 use super::count::DigitCount;
 use super::decimal::decimal_pairs::write_decimal_block;
@@ -27,6 +27,14 @@ pub fn fits_decimal_width(number: u64, width: usize) -> bool
 
 /// Writes the number with leading zeros over the whole buffer, and returns the length of the buffer.
 /// The radix is from 2 to 36, and the number is below the radix to the power of that length.
+///
+/// ```
+/// use lexical_write_integer::padded::write_padded;
+///
+/// let mut buffer = [0; 4];
+/// write_padded(255u8, 16, &mut buffer);
+/// assert_eq!(rt; &buffer, b"00FF");
+/// ```
 ///
 /// # Panics
 ///

@@ -3,7 +3,7 @@
 ghost use Rattle.std.specs.Prelude.{◌+◌, ◌*◌, ◌<◌, ◌≤◌, length};
 ghost use Rattle.lexical_num.specs.Format.{IsRadix};
 ghost use Rattle.lexical_write_integer.specs.Buffer.{WritesBlock};
-ghost use Rattle.lexical_write_integer.specs.Digits.Table.{BeginsWithPairs};
+ghost use Rattle.lexical_write_integer.specs.Table.{BeginsWithPairs};
 
 use lexical_tables::get_table;
 

@@ -3,9 +3,9 @@
 ghost use Rattle.std.specs.Prelude.{true, ◌≡◌, ◌*◌, ◌<◌, ◌≤◌, ◌++◌, length};
 ghost use Rattle.lexical_num.specs.Format.{IsRadix};
 ghost use Rattle.lexical_write_integer.specs.Buffer.{WritesDigits};
-ghost use Rattle.lexical_write_integer.specs.Digits.DigitCount.{digit_count};
-ghost use Rattle.lexical_write_integer.specs.Digits.LoopTurns.{is_counted_at_once, table_notes};
-ghost use Rattle.lexical_write_integer.specs.Digits.Table.{BeginsWithPairs};
+ghost use Rattle.lexical_write_integer.specs.DigitCount.{digit_count};
+ghost use Rattle.lexical_write_integer.specs.LoopTurns.{is_counted_at_once, table_notes};
+ghost use Rattle.lexical_write_integer.specs.Table.{BeginsWithPairs};
 
 pub mod algorithm;
 mod binary_words;

@@ -4,9 +4,9 @@
 ghost use Rattle.std.specs.Prelude.{◌≡◌, ◌+◌, ◌^◌, ◌<◌, ◌≤◌, ◌++◌, length};
 ghost use Rattle.lexical_num.specs.Format.{IsRadix};
 ghost use Rattle.lexical_write_integer.specs.Buffer.{WritesDigits};
-ghost use Rattle.lexical_write_integer.specs.Digits.DecimalTurns.{write_notes, write_turns};
-ghost use Rattle.lexical_write_integer.specs.Digits.DigitCount.{digit_count};
-ghost use Rattle.lexical_write_integer.specs.Texts.Text.{digits_need};
+ghost use Rattle.lexical_write_integer.specs.DecimalTurns.{write_notes, write_turns};
+ghost use Rattle.lexical_write_integer.specs.DigitCount.{digit_count};
+ghost use Rattle.lexical_write_integer.specs.Text.{digits_need};
 
 use super::count::DigitCount;
 use super::decimal::Decimal;

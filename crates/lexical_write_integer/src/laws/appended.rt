@@ -2,9 +2,9 @@
 
 ghost use Rattle.std.specs.Prelude.{◌+◌, ◌*◌, ◌^◌, ◌<◌, List, ℕ, pos};
 ghost use Rattle.lexical_num.specs.Format.{standard};
-ghost use Rattle.lexical_write_integer.specs.Digits.Padded.{IsPadded};
-ghost use Rattle.lexical_write_integer.specs.Texts.Sequence.{Then};
-ghost use Rattle.lexical_write_integer.specs.Texts.Text.{IsDigits, IsText};
+ghost use Rattle.lexical_write_integer.specs.Padded.{IsPadded};
+ghost use Rattle.lexical_write_integer.specs.Sequence.{Then};
+ghost use Rattle.lexical_write_integer.specs.Text.{IsDigits, IsText};
 
 /// A law: the digits of `high`, which is not 0, and then `low` in `width` digits, are the digits of one number.
 pub fn digits_then_padded(radix: u32, high: u64, width: usize, low: u64)

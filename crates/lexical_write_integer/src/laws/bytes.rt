@@ -5,9 +5,9 @@ ghost use Rattle.std.specs.Char.{IsNotAsciiAlphanumeric};
 ghost use Rattle.std.specs.Fmt.{signed_decimal};
 ghost use Rattle.std.specs.Str.{IsAscii, IsUtf8};
 ghost use Rattle.lexical_num.specs.Format.{IsRadix, standard};
-ghost use Rattle.lexical_write_integer.specs.Texts.Computed.{digits_text, padded_text, text_of};
-ghost use Rattle.lexical_write_integer.specs.Digits.Padded.{IsPadded};
-ghost use Rattle.lexical_write_integer.specs.Texts.Text.{IsDigits, IsText};
+ghost use Rattle.lexical_write_integer.specs.Computed.{digits_text, padded_text, text_of};
+ghost use Rattle.lexical_write_integer.specs.Padded.{IsPadded};
+ghost use Rattle.lexical_write_integer.specs.Text.{IsDigits, IsText};
 
 use lexical_num::format::NumberFormat;
 use lexical_num::num::LexicalInteger;

@@ -2,10 +2,10 @@
 
 ghost use Rattle.std.specs.Prelude.{◌≡◌, ◌≢◌, ◌<◌, ◌↔◌, List, ℕ};
 ghost use Rattle.lexical_num.specs.Format.{IsRadix};
-ghost use Rattle.lexical_write_integer.specs.Digits.Padded.{IsPadded};
-ghost use Rattle.lexical_write_integer.specs.Texts.InCommon.{HaveInCommon};
-ghost use Rattle.lexical_write_integer.specs.Texts.Order.{IsEarlier};
-ghost use Rattle.lexical_write_integer.specs.Texts.Text.{IsDigits, IsText};
+ghost use Rattle.lexical_write_integer.specs.Padded.{IsPadded};
+ghost use Rattle.lexical_write_integer.specs.InCommon.{HaveInCommon};
+ghost use Rattle.lexical_write_integer.specs.Order.{IsEarlier};
+ghost use Rattle.lexical_write_integer.specs.Text.{IsDigits, IsText};
 
 use lexical_num::format::NumberFormat;
 use lexical_num::num::LexicalInteger;

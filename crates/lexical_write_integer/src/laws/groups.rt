@@ -3,9 +3,9 @@
 ghost use Rattle.std.specs.Prelude.{◌≡◌, ℕ, ◌+◌, ◌-◌, ◌*◌, ◌/◌, ◌<◌, ◌≤◌, List, Some, length, unsigned_abs};
 ghost use Rattle.lexical_num.specs.Format.{grouped_length, without_groups};
 ghost use Rattle.lexical_num.specs.Sign.{sign_of};
-ghost use Rattle.lexical_write_integer.specs.Digits.DigitCount.{digit_count};
-ghost use Rattle.lexical_write_integer.specs.Texts.Groups.{without_separators, from_right};
-ghost use Rattle.lexical_write_integer.specs.Texts.Text.{IsText};
+ghost use Rattle.lexical_write_integer.specs.DigitCount.{digit_count};
+ghost use Rattle.lexical_write_integer.specs.Groups.{without_separators, from_right};
+ghost use Rattle.lexical_write_integer.specs.Text.{IsText};
 
 use lexical_num::format::NumberFormat;
 use lexical_num::num::LexicalInteger;

@@ -6,9 +6,9 @@ ghost use Rattle.lexical_num.specs.Range.{greatest_of, least_of};
 ghost use Rattle.lexical_num.specs.Sign.{sign_of};
 ghost use Rattle.lexical_num.specs.Size.{size_in};
 ghost use Rattle.lexical_num.specs.declared.constants.TheConstants.{BUFFER_SIZE};
-ghost use Rattle.lexical_write_integer.specs.Digits.DigitCount.{digit_count};
-ghost use Rattle.lexical_write_integer.specs.Digits.Padded.{IsPadded};
-ghost use Rattle.lexical_write_integer.specs.Texts.Text.{IsText, need};
+ghost use Rattle.lexical_write_integer.specs.DigitCount.{digit_count};
+ghost use Rattle.lexical_write_integer.specs.Padded.{IsPadded};
+ghost use Rattle.lexical_write_integer.specs.Text.{IsText, need};
 
 use lexical_num::constants::FormattedSize;
 use lexical_num::format::NumberFormat;

@@ -2,8 +2,8 @@
 
 ghost use Rattle.std.specs.Prelude.{◌≡◌, ◌≢◌, ◌∷◌, [], List, None, ℕ};
 ghost use Rattle.std.specs.Char.{IsNotAsciiAlphanumeric};
-ghost use Rattle.lexical_write_integer.specs.Texts.Sequence.{AreJoined};
-ghost use Rattle.lexical_write_integer.specs.Texts.Text.{IsText};
+ghost use Rattle.lexical_write_integer.specs.Sequence.{AreJoined};
+ghost use Rattle.lexical_write_integer.specs.Text.{IsText};
 
 use lexical_num::format::NumberFormat;
 use lexical_num::num::LexicalInteger;

@@ -6,10 +6,10 @@ ghost use Rattle.lexical_num.specs.Format.{IsRadix, standard, without_groups};
 ghost use Rattle.lexical_num.specs.Sign.{sign_of};
 ghost use Rattle.lexical_num.specs.declared.constants.TheConstants.{BUFFER_SIZE};
 ghost use Rattle.lexical_write_integer.specs.Buffer.{WritesDigits, WritesText};
-ghost use Rattle.lexical_write_integer.specs.Digits.DigitCount.{digit_count};
-ghost use Rattle.lexical_write_integer.specs.Texts.Groups.{without_separators};
+ghost use Rattle.lexical_write_integer.specs.DigitCount.{digit_count};
+ghost use Rattle.lexical_write_integer.specs.Groups.{without_separators};
 ghost use Rattle.lexical_write_integer.specs.Lending.{LendsFront};
-ghost use Rattle.lexical_write_integer.specs.Texts.Text.{IsText, digits_need, need};
+ghost use Rattle.lexical_write_integer.specs.Text.{IsText, digits_need, need};
 
 use super::groups::group_digits;
 use crate::buffer::front_mut;

@@ -3,7 +3,7 @@
 ghost use Rattle.std.specs.Prelude.{◌≡◌, ◌≤◌, length, take};
 ghost use Rattle.lexical_num.specs.Format.{grouped_length};
 ghost use Rattle.lexical_write_integer.specs.Buffer.{Front};
-ghost use Rattle.lexical_write_integer.specs.Texts.Groups.{grouped};
+ghost use Rattle.lexical_write_integer.specs.Groups.{grouped};
 
 use lexical_num::format::NumberFormat;
 

@@ -21,9 +21,9 @@ pub trait WriteOptions {
     #[must_use]
     fn is_valid(&self) -> bool;
 
-    /// Returns the size of the type in the format: in a radix other than 10 `FORMATTED_SIZE`, and in radix 10
-    /// what `FORMATTED_SIZE_DECIMAL` digits take in the groups of the format, and one byte for a required sign.
-    /// It is enough for every number of the type.
+    /// Returns the length of a buffer that is enough for every number of the type in the format: in a radix other than
+    /// 10 `FORMATTED_SIZE`, and in radix 10 what `FORMATTED_SIZE_DECIMAL` digits take in the groups of the format, and
+    /// one byte for a required sign.
     #[must_use]
     fn buffer_size<T: FormattedSize>(&self, format: &NumberFormat) -> usize;
 }
@@ -65,7 +65,8 @@ impl Options {
         true
     }
 
-    /// Returns the size of the type in the format, as `buffer_size` does.
+    /// Returns the length of a buffer that is enough for every number of the type in the format, as `buffer_size` does,
+    /// also in a constant.
     #[must_use]
     #[inline]
     pub const fn buffer_size_const<T: FormattedSize>(&self, format: &NumberFormat) -> usize {

@@ -5,9 +5,9 @@ use Rattle.std.proofs.Math.Nat.{pow-le-pow_right}
 use Rattle.std.proofs.lemmas.Bool.{and_parts, or_cases, cases_lt, leb-true, ltb-true, eqb-true}
 use Rattle.std.proofs.lemmas.List.{get_or-map, length-map}
 use Rattle.std.proofs.lemmas.List.FromFn.{get_or-map-range_with_len}
-use Rattle.lexical_write_integer.specs.Digits.Logarithm.{IsLog2}
-use Rattle.lexical_write_integer.specs.Digits.DigitCount.{digit_count}
-use Rattle.lexical_write_integer.specs.Digits.PowersOfTen.{IsPowersOfTen}
+use Rattle.lexical_write_integer.specs.Logarithm.{IsLog2}
+use Rattle.lexical_write_integer.specs.DigitCount.{digit_count}
+use Rattle.lexical_write_integer.specs.PowersOfTen.{IsPowersOfTen}
 use Rattle.lexical_write_integer.specs.declared.digits.count.decimal_count.TheConstants.{DIGITS_BY_LOG2}
 use Rattle.lexical_write_integer.proofs.OfDigits.Count.DigitCounts.{digit_count-is}
 use Rattle.lexical_write_integer.proofs.OfDigits.Powers.{pow-lt_more}

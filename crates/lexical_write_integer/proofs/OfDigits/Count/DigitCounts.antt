@@ -7,8 +7,8 @@ use Rattle.std.proofs.lemmas.Nat.{pow-add}
 use Rattle.lexical_num.specs.BitWidth.{IsBitWidth}
 use Rattle.lexical_num.specs.DecimalWidth.{IsDecimalWidth}
 use Rattle.lexical_write_integer.specs.Buffer.{WritesDigits}
-use Rattle.lexical_write_integer.specs.Digits.DigitCount.{digit_count, least_exponent}
-pub use Rattle.lexical_write_integer.specs.Digits.DigitCount.{digit_count-le, digit_count-le_bits}
+use Rattle.lexical_write_integer.specs.DigitCount.{digit_count, least_exponent}
+pub use Rattle.lexical_write_integer.specs.DigitCount.{digit_count-le, digit_count-le_bits}
 use Rattle.lexical_write_integer.proofs.OfDigits.Powers.{lt-pow_self, pow-one}
 
 -- ---- the least exponent

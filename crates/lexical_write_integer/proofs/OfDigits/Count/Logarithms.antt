@@ -3,8 +3,8 @@ use Rattle.std.proofs.lemmas.Grind.{common_steps}
 use Rattle.std.proofs.Common.{◌≡◌, ℕ, zero, suc, ◌+◌, ◌-◌, ◌*◌, ◌/◌, ◌^◌, ◌<◌, ◌≤◌, Bool, true, ◌&&◌, ltb, leb, refl, inl, inr, arith}
 use Rattle.std.proofs.Math.Nat.{pow-suc, pow-le-pow_left, pow-le-pow_right, one-le-pow}
 use Rattle.std.proofs.lemmas.Bool.{and_parts, cases_lt, cases_eq, ltb-true, leb-true}
-use Rattle.lexical_write_integer.specs.Digits.Logarithm.{IsGreatestPower, IsLog2, IsLog10Estimate}
-use Rattle.lexical_write_integer.specs.Digits.DigitCount.{digit_count, digit_count-le}
+use Rattle.lexical_write_integer.specs.Logarithm.{IsGreatestPower, IsLog2, IsLog10Estimate}
+use Rattle.lexical_write_integer.specs.DigitCount.{digit_count, digit_count-le}
 use Rattle.lexical_write_integer.proofs.OfDigits.Count.DigitCounts.{digit_count-is}
 use Rattle.lexical_write_integer.proofs.OfDigits.Powers.{pow-pow}
 

@@ -1,7 +1,7 @@
 -- The powers of a radix by which the loops divide: which of them fit in which type.
 use Rattle.std.proofs.Common.{ℕ, ◌^◌, ◌<◌, ◌≤◌, arith}
 use Rattle.std.proofs.Math.Nat.{pow-zero, pow-le-pow_left}
-use Rattle.lexical_write_integer.specs.Digits.LoopTurns.{IsStep, takes_one, takes_two, takes_four}
+use Rattle.lexical_write_integer.specs.LoopTurns.{IsStep, takes_one, takes_two, takes_four}
 use Rattle.lexical_write_integer.proofs.OfDigits.Powers.{pow-lt_more}
 
 -- the steps of the loops

@@ -3,7 +3,7 @@ use Rattle.std.proofs.Common.{◌≡◌, ℕ, ◌+◌, ◌/◌, ◌%◌, ◌<◌
 use Rattle.std.proofs.lemmas.Bool.{leb-true, leb-false}
 use Rattle.lexical_num.specs.Digit.{digit_char}
 use Rattle.lexical_write_integer.specs.Buffer.{WritesDigits}
-use Rattle.lexical_write_integer.specs.Digits.DigitCount.{digit_count}
+use Rattle.lexical_write_integer.specs.DigitCount.{digit_count}
 use Rattle.lexical_write_integer.proofs.Buffers.BlocksAfter.{WritesDigits-block}
 use Rattle.lexical_write_integer.proofs.OfDigits.Count.DigitCounts.{digit_count-is, digit_count-one}
 use Rattle.lexical_write_integer.proofs.OfDigits.Numerals.{IsBlockOf-one, IsBlockOf-pair}

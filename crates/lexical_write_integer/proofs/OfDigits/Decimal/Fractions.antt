@@ -3,7 +3,7 @@ use Rattle.std.proofs.Common.{◌≡◌, ℕ, ◌+◌, ◌-◌, ◌*◌, ◌/◌
 use Rattle.std.proofs.Math.Nat.{one-le-pow, mul-le-mul_left, mul-le-mul_right, pow-le-pow_right}
 use Rattle.std.proofs.Math.Nat.{le_of_mul-le-mul_right, lt_of_mul-lt-mul_right, div-eq_of_lt-le}
 use Rattle.std.proofs.lemmas.Nat.{pow-add, mul-mod_first}
-use Rattle.lexical_write_integer.specs.Digits.Carries.{Carries, carried}
+use Rattle.lexical_write_integer.specs.Carries.{Carries, carried}
 
 -- ---- the number that a fraction carries
 

@@ -1,8 +1,8 @@
 -- How the pairs of a fraction make up the digits that it carries.
 use Rattle.std.proofs.Common.{◌≡◌, ℕ, ◌+◌, ◌*◌, ◌/◌, ◌%◌, ◌^◌, ◌≤◌, List, length, arith}
 use Rattle.lexical_write_integer.specs.Buffer.{WritesBlock, WritesDigits}
-use Rattle.lexical_write_integer.specs.Digits.Carries.{carried}
-use Rattle.lexical_write_integer.specs.Digits.DigitCount.{digit_count}
+use Rattle.lexical_write_integer.specs.Carries.{carried}
+use Rattle.lexical_write_integer.specs.DigitCount.{digit_count}
 use Rattle.lexical_write_integer.proofs.Buffers.BlocksAfter.{WritesDigits-after}
 use Rattle.lexical_write_integer.proofs.OfDigits.Count.DigitCounts.{digit_count-monotone, digit_count-split}
 use Rattle.lexical_write_integer.proofs.OfDigits.Decimal.Fractions.{carried-more, carried-monotone}

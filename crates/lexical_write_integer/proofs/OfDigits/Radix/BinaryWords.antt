@@ -7,7 +7,7 @@ use Rattle.std.proofs.Math.Nat.{pow-zero, mod-one, mod-lt, mod-eq_of_lt}
 use Rattle.std.specs.Int.{to_le_bytes}
 use Rattle.lexical_num.specs.Digit.{digit_char}
 use Rattle.lexical_write_integer.specs.Buffer.{WritesBlock}
-use Rattle.lexical_write_integer.specs.Digits.Numeral.{IsBlockOf}
+use Rattle.lexical_write_integer.specs.Numeral.{IsBlockOf}
 use Rattle.lexical_write_integer.proofs.Buffers.Blocks.{mod-pow_split, WritesBlock-copied}
 use Rattle.lexical_write_integer.proofs.OfDigits.Numerals.{IsBlockOf-one, IsBlockOf-append}
 use borrow.Rule.Slice.PartMut.{put_mid}

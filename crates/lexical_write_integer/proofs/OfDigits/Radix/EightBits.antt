@@ -6,7 +6,7 @@ use Rattle.std.proofs.lemmas.List.{map-append, length-map, take-append-drop, dro
 use Rattle.std.proofs.lemmas.Nat.{pow-add, mul-add-lt, div_below, div-mul-add}
 use Rattle.lexical_num.specs.Digit.{digit_char}
 use Rattle.lexical_write_integer.specs.Buffer.{WritesBlock}
-use Rattle.lexical_write_integer.specs.Digits.Numeral.{IsBlockOf}
+use Rattle.lexical_write_integer.specs.Numeral.{IsBlockOf}
 use Rattle.lexical_write_integer.proofs.Buffers.BlocksAfter.{WritesBlock-after}
 use Rattle.lexical_write_integer.proofs.OfDigits.DigitValues.{value_of-append, value_of-lt}
 use Rattle.lexical_write_integer.proofs.OfDigits.Radix.Loops.ShortNumbers.{WritesBlock-over}

@@ -6,16 +6,11 @@ use Rattle.std.proofs.Math.Nat.{div-add-mod'}
 use Rattle.std.proofs.Math.Seq.{drop-cons}
 use Rattle.std.proofs.lemmas.List.{get_or-take}
 use Rattle.lexical_num.specs.Digit.{digit_char}
-use Rattle.lexical_tables.specs.Pairs as Tables
 use Rattle.lexical_tables.proofs.Pairs.{length-pairs, slice_index-pairs_first, slice_index-pairs_second}
 use Rattle.lexical_write_integer.specs.Buffer.{WritesBlock}
-use Rattle.lexical_write_integer.specs.Digits.Table.{BeginsWithPairs}
+use Rattle.lexical_write_integer.specs.Table.{BeginsWithPairs}
 use Rattle.lexical_write_integer.proofs.Buffers.Blocks.{WritesBlock-front}
 use Rattle.lexical_write_integer.proofs.OfDigits.Powers.{pow-two}
-
--- the tables have the characters of digits that the writers write
-pub same_characters : (digit : ℕ) → Tables.digit_char digit ≡ digit_char digit
-same_characters digit = refl
 
 -- a radix that equals another has its table
 pub begins_in_arm : {radix r : ℕ} {table : List ℕ} → BeginsWithPairs radix table → radix ≡ r → BeginsWithPairs r table
@@ -29,7 +24,7 @@ pub pair_first : (r k : ℕ) (table : List ℕ) → BeginsWithPairs r table → 
 pair_first r k table t small = grind (arith, get_or-take, slice_index-pairs_first)
 
 pub pair_second : (r k : ℕ) (table : List ℕ) → BeginsWithPairs r table → k < r * r → get_or table (2 * k + 1) 0 ≡ digit_char (k % r)
-pair_second r k table t small = grind (arith, get_or-take, slice_index-pairs_second, same_characters)
+pair_second r k table t small = grind (arith, get_or-take, slice_index-pairs_second)
 
 -- both, as they are copied from the table
 pub characters-pair : (r k : ℕ) (table : List ℕ) → BeginsWithPairs r table → k < r * r

@@ -5,7 +5,7 @@ use Rattle.std.proofs.Math.Nat.{mod-eq_of_lt, mod-lt, div-eq_of_lt}
 use Rattle.std.proofs.lemmas.Nat.{div-mul-add}
 use Rattle.std.proofs.lemmas.Bool.{cases_eq, cases_lt, cases_order, eq-eqb, ne_eqb, cond-true, cond-false}
 use Rattle.std.proofs.lemmas.List.{append_cancel_left, length-take-le}
-use Rattle.lexical_write_integer.specs.Texts.Groups.{mark_before, in_groups, grouped}
+use Rattle.lexical_write_integer.specs.Groups.{mark_before, in_groups, grouped}
 
 pub mark_before-whole : (grouping : ℕ × ℕ) (right : ℕ) → right % grouping.0 ≡ 0 → mark_before grouping right ≡ grouping.1 ∷ []
 mark_before-whole grouping right whole = cond-true _ _ _ (eq-eqb (right % grouping.0) 0 whole)

@@ -4,7 +4,7 @@ use Rattle.std.proofs.Math.Nat.{mul-mod_left, mul-div_cancel, mul-le-mul_left}
 use Rattle.std.proofs.lemmas.Bool.{cases_lt}
 use Rattle.std.proofs.lemmas.List.{get_or-append_right}
 use Rattle.std.proofs.lemmas.Nat.{le-div}
-use Rattle.lexical_write_integer.specs.Texts.Groups.{mark_before, in_groups, from_right}
+use Rattle.lexical_write_integer.specs.Groups.{mark_before, in_groups, from_right}
 use Rattle.lexical_write_integer.proofs.OfDigits.Powers.{div-monotone}
 use Rattle.lexical_write_integer.proofs.OfTexts.Grouping.Digits.{length-in_groups, length-mark_before, mark_before-whole}
 

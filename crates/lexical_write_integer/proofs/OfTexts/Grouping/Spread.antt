@@ -5,7 +5,7 @@ use Rattle.std.proofs.Math.Nat.{add-div_right, div-eq_of_lt, mul-mod_left}
 use Rattle.std.proofs.lemmas.List.{append-nil, drop-set, length-set, take_more, take-set-le}
 use Rattle.std.proofs.lemmas.Nat.{mod-mul-add}
 use Rattle.lexical_write_integer.specs.Buffer.{Front}
-use Rattle.lexical_write_integer.specs.Texts.Groups.{in_groups}
+use Rattle.lexical_write_integer.specs.Groups.{in_groups}
 use Rattle.lexical_write_integer.proofs.OfTexts.Grouping.Digits.{in_groups-more, mark_before-whole, mark_before-part, HasRoomInGroups, length-in_groups_taken}
 
 -- The first `left` digits have not moved. `behind` is written from index `end`: what follows a further digit in groups, with a

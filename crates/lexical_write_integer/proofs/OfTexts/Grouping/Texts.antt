@@ -3,9 +3,9 @@ use Rattle.std.proofs.lemmas.Nat.{le-div}
 use Rattle.std.proofs.Common.{◌≡◌, Some, ℕ, ◌+◌, ◌-◌, ◌*◌, ◌/◌, ◌<◌, ◌≤◌, List, ◌++◌, length, sym, ap, ◌∙◌, arith, ℤ, unsigned_abs}
 use Rattle.lexical_num.specs.Format.{Format, without_groups}
 use Rattle.lexical_num.specs.Sign.{sign_of}
-use Rattle.lexical_write_integer.specs.Digits.DigitCount.{digit_count}
-use Rattle.lexical_write_integer.specs.Texts.Groups.{in_groups, grouped, from_right}
-use Rattle.lexical_write_integer.specs.Texts.Text.{IsText}
+use Rattle.lexical_write_integer.specs.DigitCount.{digit_count}
+use Rattle.lexical_write_integer.specs.Groups.{in_groups, grouped, from_right}
+use Rattle.lexical_write_integer.specs.Text.{IsText}
 use Rattle.lexical_write_integer.proofs.OfTexts.Grouping.Digits.{in_groups-one, length-in_groups}
 use Rattle.lexical_write_integer.proofs.OfDigits.Numerals.{digits_unique, length-IsDigits}
 use Rattle.lexical_write_integer.proofs.OfTexts.Grouping.Positions.{digit-from_right, from_right-append, mark-from_right}

@@ -2,8 +2,8 @@
 
 // Examples are in `crates/tests/src/integers/counts.rt`.
 ghost use Rattle.std.specs.Prelude.{◌≡◌, ◌^◌, map};
-ghost use Rattle.lexical_write_integer.specs.Digits.DigitCount.{digit_count};
-ghost use Rattle.lexical_write_integer.specs.Digits.PowersOfTen.{IsPowersOfTen};
+ghost use Rattle.lexical_write_integer.specs.DigitCount.{digit_count};
+ghost use Rattle.lexical_write_integer.specs.PowersOfTen.{IsPowersOfTen};
 
 use super::logarithm::{fast_log2, fast_log10};
 use lexical_num::num::UnsignedInteger;

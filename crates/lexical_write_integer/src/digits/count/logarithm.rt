@@ -1,7 +1,7 @@
 //! Logarithms, rounded down, from which digits are counted.
 
 ghost use Rattle.std.specs.Prelude.{◌<◌};
-ghost use Rattle.lexical_write_integer.specs.Digits.Logarithm.{IsLog2, IsLog10Estimate};
+ghost use Rattle.lexical_write_integer.specs.Logarithm.{IsLog2, IsLog10Estimate};
 
 use lexical_num::num::UnsignedInteger;
 

@@ -3,9 +3,9 @@
 ghost use Rattle.std.specs.Prelude.{◌≡◌, ◌+◌, ◌-◌, ◌*◌, ◌/◌, ◌%◌, ◌^◌, ◌<◌, ◌≤◌, [], ◌∷◌, ◌++◌, length, drop};
 ghost use Rattle.lexical_num.specs.Digit.{digit_char};
 ghost use Rattle.lexical_write_integer.specs.Buffer.{WritesBlock, WritesDigits};
-ghost use Rattle.lexical_write_integer.specs.Digits.Carries.{carried};
-ghost use Rattle.lexical_write_integer.specs.Digits.DecimalTurns.{products, pairs_from_back};
-ghost use Rattle.lexical_write_integer.specs.Digits.DigitCount.{digit_count};
+ghost use Rattle.lexical_write_integer.specs.Carries.{carried};
+ghost use Rattle.lexical_write_integer.specs.DecimalTurns.{products, pairs_from_back};
+ghost use Rattle.lexical_write_integer.specs.DigitCount.{digit_count};
 
 use super::kernels::next2;
 use crate::digits::pairs::RadixTable;

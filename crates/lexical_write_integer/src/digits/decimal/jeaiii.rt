@@ -7,12 +7,12 @@
 // Each `_counted` function notes in `turns` what an iteration computes: one number for each pair of digits after the
 // first, and at most 9. Examples of the writers are in `crates/tests/src/integers/decimal_values.rt`, and
 // of the kernels in `crates/tests/src/integers/kernel_values.rt`.
-#![tactic(auto, using(crate::proofs::OfDigits::Count::DigitCounts::widths, crate::proofs::Buffers::Prefixes::digits_in_part), unfolding(crate::specs::Digits::DecimalTurns::decimal_notes_32))]
+#![tactic(auto, using(crate::proofs::OfDigits::Count::DigitCounts::widths, crate::proofs::Buffers::Prefixes::digits_in_part), unfolding(crate::specs::DecimalTurns::decimal_notes_32))]
 
 ghost use Rattle.std.specs.Prelude.{◌≡◌, ◌+◌, ◌-◌, ◌/◌, ◌^◌, ◌<◌, ◌≤◌, ◌++◌, length};
 ghost use Rattle.lexical_write_integer.specs.Buffer.{WritesDigits};
-ghost use Rattle.lexical_write_integer.specs.Digits.DecimalTurns.{decimal_notes, decimal_notes_32, decimal_notes_64};
-ghost use Rattle.lexical_write_integer.specs.Digits.DigitCount.{digit_count};
+ghost use Rattle.lexical_write_integer.specs.DecimalTurns.{decimal_notes, decimal_notes_32, decimal_notes_64};
+ghost use Rattle.lexical_write_integer.specs.DigitCount.{digit_count};
 
 use super::decimal_pairs::{write_last_ten, write_one_or_two, write_pairs};
 pub use super::kernels::{
@@ -62,7 +62,7 @@ fn write_more_than_ten(n: u64, buffer: &mut [u8], turns: &mut Turns) -> usize
 }
 
 // Writes the digits of a number of up to 64 bits.
-#[tactic(auto, using(crate::proofs::OfDigits::Count::DigitCounts::widths), unfolding(crate::specs::Digits::DecimalTurns::decimal_notes_64))]
+#[tactic(auto, using(crate::proofs::OfDigits::Count::DigitCounts::widths), unfolding(crate::specs::DecimalTurns::decimal_notes_64))]
 fn write_64(n: u64, buffer: &mut [u8], turns: &mut Turns) -> usize
     requires { digit_count 10 n ≤ length buffer.old }
     ensures digits { WritesDigits 10 n buffer.old buffer.new result }

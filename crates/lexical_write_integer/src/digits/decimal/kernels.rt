@@ -3,7 +3,7 @@
 // rest is multiplied by 100, the next pair becomes the whole part.
 
 ghost use Rattle.std.specs.Prelude.{◌≡◌, ℕ, ◌-◌, ◌*◌, ◌/◌, ◌%◌, ◌^◌, ◌<◌, ◌≤◌};
-ghost use Rattle.lexical_write_integer.specs.Digits.Carries.{Carries};
+ghost use Rattle.lexical_write_integer.specs.Carries.{Carries};
 
 /// Returns the fraction of a number below 10^4: its first pair of digits, and one pair after it.
 ///

@@ -6,9 +6,9 @@
 ghost use Rattle.std.specs.Prelude.{◌≡◌, ◌+◌, ◌≤◌, ◌++◌, IsTrue, length};
 ghost use Rattle.lexical_num.specs.Format.{IsRadix};
 ghost use Rattle.lexical_write_integer.specs.Buffer.{WritesDigits};
-ghost use Rattle.lexical_write_integer.specs.Digits.DigitCount.{digit_count};
-ghost use Rattle.lexical_write_integer.specs.Digits.Table.{BeginsWithPairs};
-ghost use Rattle.lexical_write_integer.specs.Digits.LoopTurns.{table_notes, table_turns};
+ghost use Rattle.lexical_write_integer.specs.DigitCount.{digit_count};
+ghost use Rattle.lexical_write_integer.specs.Table.{BeginsWithPairs};
+ghost use Rattle.lexical_write_integer.specs.LoopTurns.{table_notes, table_turns};
 
 use super::by_radix::by_radix;
 use super::write_digits;

@@ -5,9 +5,9 @@ ghost use Rattle.std.specs.Prelude.{◌≡◌, ◌+◌, ◌/◌, ◌%◌, ◌<�
 ghost use Rattle.lexical_num.specs.Digit.{digit_char};
 ghost use Rattle.lexical_num.specs.Format.{IsRadix};
 ghost use Rattle.lexical_write_integer.specs.Buffer.{WritesDigits};
-ghost use Rattle.lexical_write_integer.specs.Digits.DigitCount.{digit_count};
-ghost use Rattle.lexical_write_integer.specs.Texts.Text.{IsDigits};
-ghost use Rattle.lexical_write_integer.specs.Digits.LoopTurns.{compact_notes, compact_turns};
+ghost use Rattle.lexical_write_integer.specs.DigitCount.{digit_count};
+ghost use Rattle.lexical_write_integer.specs.Text.{IsDigits};
+ghost use Rattle.lexical_write_integer.specs.LoopTurns.{compact_notes, compact_turns};
 
 use super::by_radix::by_radix;
 use crate::buffer::copy_to_front;
@@ -99,7 +99,16 @@ pub fn compact_counted<T: UnsignedInteger>(
     write_each_digit_in(value.as_u64(), radix, buffer, turns)
 }
 
-/// An unsigned integer type whose digits are written by the compact writer.
+/// An unsigned integer type, with a writer of digits that takes little code: it divides once for each digit, and uses no
+/// table.
+///
+/// ```
+/// use lexical_write_integer::compact::Compact;
+///
+/// let mut buffer = [0; 16];
+/// let count = 255u32.compact(16, &mut buffer);
+/// assert_eq!(rt; &buffer[..count], b"FF");
+/// ```
 pub trait Compact: UnsignedInteger + FormattedSize {
     /// Writes the digits of the number to the start of the buffer, and returns how many there are. The radix
     /// is from 2 to 36, and the buffer has room for the digits.

@@ -35,7 +35,7 @@ pub(crate) fn write_next<P: Part>(
 
 /// The parts of a slice, with the separator between adjacent parts: `Joined(&[-1, 20], ", ")` writes
 /// `-1, 20`. An array of other values becomes parts by `map`: `Joined(&[10u8, 2].map(Hex), ":")` writes
-/// `A:2`.
+/// `A:2`. Its room is the sum of the rooms of the parts and of the lengths of the separators.
 ///
 /// ```
 /// use cojimuran::parts::{Hex, Joined, Part};

@@ -24,6 +24,14 @@ pub fn fits_decimal_width(number: u64, width: usize) -> bool {
 /// Writes the number with leading zeros over the whole buffer, and returns the length of the buffer.
 /// The radix is from 2 to 36, and the number is below the radix to the power of that length.
 ///
+/// ```
+/// use cojimuran::padded::write_padded;
+///
+/// let mut buffer = [0; 4];
+/// write_padded(255u8, 16, &mut buffer);
+/// assert_eq!(&buffer, b"00FF");
+/// ```
+///
 /// # Panics
 ///
 /// If the radix is not from 2 to 36, or if the number has more digits than the buffer has bytes.

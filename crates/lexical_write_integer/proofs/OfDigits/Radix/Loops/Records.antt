@@ -7,10 +7,10 @@ use Rattle.std.proofs.lemmas.Nat.{div_below, pow-add}
 use Rattle.std.proofs.lemmas.List.{append-nil}
 use Rattle.std.proofs.lemmas.Bool.{cond_both, ltb-true, ltb-false, eqb-true, eqb-false, cases_eq}
 use Rattle.lexical_num.specs.BitWidth.{IsBitWidth}
-use Rattle.lexical_write_integer.specs.Digits.DigitCount.{digit_count}
-use Rattle.lexical_write_integer.specs.Digits.LoopTurns.{TakesDigits, digits_after_first, quotients, loop_notes, slow_notes, count_notes, table_notes}
-use Rattle.lexical_write_integer.specs.Digits.LoopTurns.{compact_notes, is_counted_at_once, loop_turns, slow_turns, count_turns, table_turns, compact_turns}
-use Rattle.lexical_write_integer.specs.Digits.LoopTurns.{takes_two}
+use Rattle.lexical_write_integer.specs.DigitCount.{digit_count}
+use Rattle.lexical_write_integer.specs.LoopTurns.{TakesDigits, digits_after_first, quotients, loop_notes, slow_notes, count_notes, table_notes}
+use Rattle.lexical_write_integer.specs.LoopTurns.{compact_notes, is_counted_at_once, loop_turns, slow_turns, count_turns, table_turns, compact_turns}
+use Rattle.lexical_write_integer.specs.LoopTurns.{takes_two}
 use Rattle.lexical_write_integer.proofs.OfDigits.Count.DigitCounts.{digit_count-pos, digit_count-le, digit_count-one, digit_count-two, digit_count-split}
 use Rattle.lexical_write_integer.proofs.OfDigits.Powers.{div-pow_more, pow-one}
 use Rattle.lexical_write_integer.proofs.OfDigits.Count.RadixPowers.{power-gt_one}

@@ -1,7 +1,7 @@
 use Rattle.std.proofs.Common.{◌≡◌, ℕ, ◌+◌, ◌-◌, ◌≤◌, List, ◌++◌, length, take, drop, replicate, refl, sym, ap, ◌∙◌, arith}
 use Rattle.std.proofs.lemmas.List.{length-replicate, length-take-le}
 use Rattle.lexical_write_integer.specs.Buffer.{Front}
-use Rattle.lexical_write_integer.specs.Digits.DigitCount.{digit_count, digit_count-le}
+use Rattle.lexical_write_integer.specs.DigitCount.{digit_count, digit_count-le}
 use Rattle.lexical_write_integer.proofs.Buffers.Prefixes.{Writes-after}
 use Rattle.lexical_write_integer.proofs.OfDigits.PaddedDigits.{IsPadded-digits}
 use Rattle.lexical_write_integer.proofs.digits.padded.write_padded.Goals as goal

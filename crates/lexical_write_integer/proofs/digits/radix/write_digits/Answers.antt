@@ -1,6 +1,6 @@
 use Rattle.std.proofs.Common.{◌≡◌, ◌++◌, ap, sym, arith}
 use Rattle.lexical_write_integer.specs.Buffer.{WritesDigits}
-use Rattle.lexical_write_integer.specs.Digits.LoopTurns.{count_notes, loop_notes, takes_four}
+use Rattle.lexical_write_integer.specs.LoopTurns.{count_notes, loop_notes, takes_four}
 use Rattle.lexical_write_integer.proofs.OfDigits.Count.RadixPowers.{power-small}
 use Rattle.lexical_write_integer.proofs.OfDigits.Radix.Loops.Records.{slow_noted, table_notes-are}
 use Rattle.lexical_write_integer.proofs.digits.radix.write_digits.Goals as goal

@@ -1,7 +1,7 @@
 use Rattle.std.proofs.Common.{arith}
-use Rattle.lexical_write_integer.specs.Digits.Padded.{IsPadded}
-use Rattle.lexical_write_integer.specs.Texts.Sequence.{Then}
-use Rattle.lexical_write_integer.specs.Texts.Text.{IsDigits}
+use Rattle.lexical_write_integer.specs.Padded.{IsPadded}
+use Rattle.lexical_write_integer.specs.Sequence.{Then}
+use Rattle.lexical_write_integer.specs.Text.{IsDigits}
 use Rattle.lexical_write_integer.proofs.OfTexts.Appended.{digits_then_padded}
 use Rattle.lexical_write_integer.proofs.laws.appended.decimal_then_padded.Goals as goal
 

@@ -1,7 +1,7 @@
 use Rattle.std.proofs.Common.{ℤ, ℕ, List, [], ◌∷◌}
 use Rattle.std.specs.Prelude.{◌≢◌}
 use Rattle.std.specs.List.{All}
-use Rattle.lexical_write_integer.specs.Texts.Text.{IsText}
+use Rattle.lexical_write_integer.specs.Text.{IsText}
 use Rattle.lexical_write_integer.proofs.OfTexts.Orders.{equal_from_IsText}
 use Rattle.lexical_write_integer.proofs.OfTexts.Rows.{has_one, rows, split, text_none, text_some}
 use Rattle.lexical_write_integer.proofs.laws.rows.equal_rows.Goals as goal

@@ -61,7 +61,16 @@ pub(crate) fn compact<T: UnsignedInteger>(value: T, radix: u32, buffer: &mut [u8
     write_each_digit_in(value.as_u64(), radix, buffer)
 }
 
-/// An unsigned integer type whose digits are written by the compact writer.
+/// An unsigned integer type, with a writer of digits that takes little code: it divides once for each digit, and uses no
+/// table.
+///
+/// ```
+/// use cojimuran::compact::Compact;
+///
+/// let mut buffer = [0; 16];
+/// let count = 255u32.compact(16, &mut buffer);
+/// assert_eq!(&buffer[..count], b"FF");
+/// ```
 pub trait Compact: UnsignedInteger + FormattedSize {
     /// Writes the digits of the number to the start of the buffer, and returns how many there are. The radix
     /// is from 2 to 36, and the buffer has room for the digits.

@@ -3,7 +3,7 @@ use Rattle.std.proofs.Output.{writes_in_calls_single}
 use Rattle.std.proofs.lemmas.Bool.{eqb-false}
 use Rattle.std.proofs.lemmas.Grind.{common_steps}
 use Rattle.std.proofs.lemmas.List.{length-drop}
-use Rattle.lexical_parts.specs.ZeroPadded.{sign_length}
+use Rattle.lexical_write_integer.specs.ZerosAfterSign.{sign_length}
 use Rattle.lexical_parts.proofs.OfTexts.ZeroPaddings.{one_piece}
 use Rattle.lexical_parts.proofs.layout.zero_padded.AddingZerosWrite.write_str.Goals as goal
 

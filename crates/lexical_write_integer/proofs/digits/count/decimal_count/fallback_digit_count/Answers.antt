@@ -1,5 +1,5 @@
 use Rattle.std.proofs.Common.{◌≡◌, ◌+◌, ◌^◌, sym, arith}
-use Rattle.lexical_write_integer.specs.Digits.DigitCount.{digit_count}
+use Rattle.lexical_write_integer.specs.DigitCount.{digit_count}
 use Rattle.lexical_write_integer.proofs.OfDigits.Count.DigitCounts.{digit_count-le_64}
 use Rattle.lexical_write_integer.proofs.OfDigits.Count.Logarithms.{digit_count-estimate, digit_count-estimate_more}
 use Rattle.lexical_write_integer.proofs.OfDigits.Count.DecimalTables.{entry_is, past_table}

@@ -1,6 +1,6 @@
 use Rattle.std.proofs.Common.{◌≡◌, ◌+◌, ◌/◌, ◌<◌, ℕ, get_or, arith}
-use Rattle.lexical_write_integer.specs.Digits.Logarithm.{IsLog2}
-use Rattle.lexical_write_integer.specs.Digits.DigitCount.{digit_count}
+use Rattle.lexical_write_integer.specs.Logarithm.{IsLog2}
+use Rattle.lexical_write_integer.specs.DigitCount.{digit_count}
 use Rattle.lexical_num.specs.BitWidth.{is_32}
 use Rattle.lexical_write_integer.specs.declared.digits.count.decimal_count.TheConstants.{DIGITS_BY_LOG2}
 use Rattle.lexical_write_integer.proofs.OfDigits.Count.DecimalTables.{fast_digit_count-is}

@@ -1,6 +1,6 @@
 use Rattle.std.proofs.Common.{◌≡◌, ℕ, ◌+◌, ◌*◌, ◌/◌, ◌%◌, ◌^◌, ◌≤◌, [], ◌∷◌, ◌++◌, length, ap, ◌∙◌, lit<, arith, zero-add, length-append, append_assoc}
 use Rattle.std.proofs.lemmas.List.FromFn.{map-range_with_len_more, length-map-range_with_len}
-use Rattle.lexical_write_integer.specs.Digits.DecimalTurns.{products}
+use Rattle.lexical_write_integer.specs.DecimalTurns.{products}
 use Rattle.lexical_write_integer.proofs.Buffers.Prefixes.{Writes-over-all}
 use Rattle.lexical_write_integer.proofs.OfDigits.Decimal.Fractions.{rest-more}
 use Rattle.lexical_write_integer.proofs.OfDigits.Decimal.PairBlocks.{WritesDigits-pair, digit_count-carried, room_for_carried}

@@ -1,7 +1,7 @@
 use Rattle.std.proofs.Common.{◌≡◌, ◌+◌, ◌*◌, ◌%◌, ◌^◌, ◌++◌}
 use Rattle.lexical_write_integer.specs.Buffer.{WritesDigits}
-use Rattle.lexical_write_integer.specs.Digits.Carries.{carried}
-use Rattle.lexical_write_integer.specs.Digits.DecimalTurns.{products}
+use Rattle.lexical_write_integer.specs.Carries.{carried}
+use Rattle.lexical_write_integer.specs.DecimalTurns.{products}
 use Rattle.lexical_write_integer.proofs.digits.decimal.decimal_pairs.write_pairs.Given as goal
 
 -- The digits so far are those before the point if the fraction is moved by that many pairs, and `rest` is the part after the

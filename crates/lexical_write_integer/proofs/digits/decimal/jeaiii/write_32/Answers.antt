@@ -1,5 +1,5 @@
 use Rattle.std.proofs.Common.{arith}
-use Rattle.lexical_write_integer.specs.Digits.DecimalTurns.{decimal_notes_32}
+use Rattle.lexical_write_integer.specs.DecimalTurns.{decimal_notes_32}
 use Rattle.lexical_write_integer.proofs.digits.decimal.jeaiii.write_32.Goals as goal
 use Rattle.lexical_write_integer.proofs.digits.decimal.jeaiii.write_32.Goals.{then-n-lt1000000000, else-n-lt1000000000}
 

@@ -1,6 +1,6 @@
 use Rattle.std.proofs.Common.{◌/◌, ◌^◌, ◌≤◌, ◌++◌, length, ap, ◌∙◌, arith, append_assoc, length-append}
 use Rattle.std.proofs.lemmas.Bool.{le-ltb}
-use Rattle.lexical_write_integer.specs.Digits.DecimalTurns.{decimal_notes_64, pairs_from_back}
+use Rattle.lexical_write_integer.specs.DecimalTurns.{decimal_notes_64, pairs_from_back}
 use Rattle.lexical_write_integer.proofs.Buffers.BlocksAfter.{WritesDigits-after}
 use Rattle.lexical_write_integer.proofs.OfDigits.Count.DigitCounts.{digit_count-pos, digit_count-split}
 use Rattle.lexical_write_integer.proofs.digits.decimal.jeaiii.write_more_than_ten.Goals as goal

@@ -2,7 +2,7 @@ use Rattle.std.proofs.Common.{◌≡◌, ℕ, ◌+◌, ◌*◌, ◌<◌, ◌≤�
 use Rattle.std.proofs.Math.Nat.{div_self, mod_self, mul-le-mul_right}
 use Rattle.std.proofs.lemmas.Bool.Decides.{nat_tests}
 use Rattle.lexical_num.specs.Format.{IsRadix}
-use Rattle.lexical_write_integer.specs.Digits.Table.{BeginsWithPairs}
+use Rattle.lexical_write_integer.specs.Table.{BeginsWithPairs}
 use Rattle.lexical_write_integer.proofs.OfDigits.Radix.TablePairs.{length-table, pair_first, pair_second}
 use Rattle.lexical_write_integer.proofs.digits.radix.algorithm.begins_with_pairs.Goals as goal
 use Rattle.lexical_write_integer.proofs.digits.radix.algorithm.begins_with_pairs.Goals.{then-table-pair, else-table-pair}

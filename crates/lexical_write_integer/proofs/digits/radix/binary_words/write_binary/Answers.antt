@@ -1,7 +1,7 @@
 use Rattle.std.proofs.Common.{◌≡◌, ℕ, ◌+◌, ◌-◌, ◌*◌, ◌/◌, ◌%◌, ◌<◌, ◌≤◌, ◌^◌, length, take, refl, sym, subst, ◌∙◌, arith}
 use Rattle.std.proofs.Math.Nat.{mod-eq_of_lt}
 use Rattle.lexical_write_integer.specs.Buffer.{WritesBlock}
-use Rattle.lexical_write_integer.specs.Digits.DigitCount.{digit_count}
+use Rattle.lexical_write_integer.specs.DigitCount.{digit_count}
 use Rattle.lexical_write_integer.proofs.Buffers.Blocks.{IsWrittenBack-start, IsWrittenBack-at, IsWrittenBack-left}
 use Rattle.lexical_write_integer.proofs.Buffers.Blocks.{IsWrittenBack-more, IsWrittenBack-last, WritesBlock-first}
 use Rattle.lexical_write_integer.proofs.Buffers.BlocksAfter.{WritesDigits-block}

@@ -1,5 +1,5 @@
 use Rattle.std.proofs.Common.{◌≡◌, ◌-◌, ◌++◌, ◌<◌, ◌≤◌, length}
-use Rattle.lexical_write_integer.specs.Digits.LoopTurns.{loop_notes}
+use Rattle.lexical_write_integer.specs.LoopTurns.{loop_notes}
 use Rattle.lexical_write_integer.proofs.Buffers.Blocks.{IsWrittenBack}
 use Rattle.lexical_write_integer.proofs.digits.radix.binary_words.write_binary.Given as goal
 

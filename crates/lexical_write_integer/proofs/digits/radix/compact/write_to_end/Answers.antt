@@ -2,8 +2,8 @@ use Rattle.std.proofs.Common.{◌≡◌, ◌+◌, ◌-◌, ◌%◌, ◌^◌, ◌
 use Rattle.std.proofs.Math.Nat.{sub_self, mod-lt}
 use Rattle.lexical_num.specs.Digit.{digit_char}
 use Rattle.lexical_write_integer.specs.Buffer.{WritesBlock}
-use Rattle.lexical_write_integer.specs.Digits.DigitCount.{digit_count}
-use Rattle.lexical_write_integer.specs.Digits.LoopTurns.{takes_one}
+use Rattle.lexical_write_integer.specs.DigitCount.{digit_count}
+use Rattle.lexical_write_integer.specs.LoopTurns.{takes_one}
 use Rattle.lexical_write_integer.proofs.Buffers.Blocks.{IsWrittenBack-start, IsWrittenBack-at, IsWrittenBack-counts}
 use Rattle.lexical_write_integer.proofs.Buffers.Blocks.{IsWrittenBack-more, IsWrittenBack-last, IsDigits-block, WritesBlock-one}
 use Rattle.lexical_write_integer.proofs.OfDigits.Count.DigitCounts.{digit_count-one}

@@ -1,4 +1,4 @@
-use Rattle.lexical_write_integer.specs.Digits.LoopTurns.{loop_notes}
+use Rattle.lexical_write_integer.specs.LoopTurns.{loop_notes}
 use Rattle.std.proofs.Common.{◌≡◌, ◌+◌, ◌/◌, ◌^◌, ◌++◌, ◌∙◌, arith}
 use Rattle.lexical_write_integer.specs.Buffer.{WritesDigits}
 use Rattle.lexical_write_integer.proofs.Buffers.BlocksAfter.{WritesDigits-after}

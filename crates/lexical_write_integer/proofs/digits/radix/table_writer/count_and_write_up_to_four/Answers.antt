@@ -2,8 +2,8 @@ use Rattle.std.proofs.Common.{◌≡◌, ◌/◌, ◌≤◌, ◌^◌, ◌*◌, �
 use Rattle.std.proofs.Math.Nat.{mod-lt}
 use Rattle.std.proofs.lemmas.Nat.{div_below}
 use Rattle.lexical_write_integer.specs.Buffer.{WritesDigits}
-use Rattle.lexical_write_integer.specs.Digits.DigitCount.{digit_count}
-use Rattle.lexical_write_integer.specs.Digits.LoopTurns.{takes_two}
+use Rattle.lexical_write_integer.specs.DigitCount.{digit_count}
+use Rattle.lexical_write_integer.specs.LoopTurns.{takes_two}
 use Rattle.lexical_write_integer.proofs.Buffers.BlocksAfter.{WritesDigits-after}
 use Rattle.lexical_write_integer.proofs.OfDigits.Count.DigitCounts.{digit_count-split}
 use Rattle.lexical_write_integer.proofs.OfDigits.Count.RadixPowers.{power-gt_one}

@@ -1,8 +1,8 @@
 use Rattle.std.proofs.Common.{◌≡◌, ◌+◌, ◌/◌, ◌<◌, sym, ◌∙◌, arith}
 use native.Mathlib.Numerals.{unary_clauses}
 use Rattle.std.proofs.Math.Nat.{add-div_right}
-use Rattle.lexical_write_integer.specs.Digits.DigitCount.{digit_count}
-use Rattle.lexical_write_integer.specs.Digits.Logarithm.{IsLog2}
+use Rattle.lexical_write_integer.specs.DigitCount.{digit_count}
+use Rattle.lexical_write_integer.specs.Logarithm.{IsLog2}
 use Rattle.lexical_write_integer.proofs.OfDigits.Count.Logarithms.{IsGreatestPower-between, digit_count-log2}
 use Rattle.lexical_write_integer.proofs.OfDigits.Powers.{pow-one}
 use Rattle.lexical_write_integer.proofs.OfDigits.Radix.FirstDigits.{power_of_two}

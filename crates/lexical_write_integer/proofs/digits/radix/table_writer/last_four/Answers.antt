@@ -1,6 +1,6 @@
 use Rattle.std.proofs.Common.{arith}
 use Rattle.std.proofs.Math.Nat.{mod-lt}
-use Rattle.lexical_write_integer.specs.Digits.LoopTurns.{takes_four}
+use Rattle.lexical_write_integer.specs.LoopTurns.{takes_four}
 use Rattle.lexical_write_integer.proofs.OfDigits.Count.RadixPowers.{power-small}
 use Rattle.lexical_write_integer.proofs.digits.radix.table_writer.last_four.Goals as goal
 

@@ -1,5 +1,5 @@
 use Rattle.std.proofs.Common.{◌/◌, ap, arith}
-use Rattle.lexical_write_integer.specs.Digits.LoopTurns.{takes_four}
+use Rattle.lexical_write_integer.specs.LoopTurns.{takes_four}
 use Rattle.lexical_write_integer.proofs.OfDigits.Count.DigitCounts.{digit_count-split}
 use Rattle.lexical_write_integer.proofs.OfDigits.Radix.Loops.Divisions.{left-smaller}
 use Rattle.lexical_write_integer.proofs.OfDigits.Radix.Loops.Records.{loop_notes-after}

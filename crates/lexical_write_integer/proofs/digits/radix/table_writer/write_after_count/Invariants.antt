@@ -1,5 +1,5 @@
 use Rattle.std.proofs.Common.{◌≡◌, ◌-◌, ◌++◌, ◌≤◌, length}
-use Rattle.lexical_write_integer.specs.Digits.LoopTurns.{loop_notes}
+use Rattle.lexical_write_integer.specs.LoopTurns.{loop_notes}
 use Rattle.lexical_write_integer.proofs.Buffers.Blocks.{IsWrittenBack}
 use Rattle.lexical_write_integer.proofs.digits.radix.table_writer.write_after_count.Given as goal
 

@@ -8,7 +8,7 @@ use Rattle.lexical_num.proofs.Steps.{from, fld, hop, stop, look_in_at, sub, whol
 use Rattle.lexical_num.proofs.Steps.{calls_at, framed, lasts, triple_of, Stays, stay_dropped, Goes-dropped, Goes-spent_slice, ends_at, proved}
 use Rattle.lexical_num.specs.Format.{standard}
 use Rattle.lexical_write_integer.specs.Buffer.{Writes as Written}
-use Rattle.lexical_write_integer.specs.Texts.Text.{IsText, need}
+use Rattle.lexical_write_integer.specs.Text.{IsText, need}
 use Rattle.lexical_write_integer.proofs.Reborrows.{lends, comes_back}
 use Rattle.lexical_write_integer.proofs.HandedFronts.{calls_front}
 use Rattle.lexical_write_integer.proofs.Buffers.Prefixes.{Writes-short}

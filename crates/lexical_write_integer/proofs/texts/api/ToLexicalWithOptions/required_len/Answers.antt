@@ -1,5 +1,5 @@
 use Rattle.std.proofs.Common.{◌≡◌, ◌+◌, arith}
-use Rattle.lexical_write_integer.specs.Texts.Text.{need}
+use Rattle.lexical_write_integer.specs.Text.{need}
 use Rattle.lexical_write_integer.proofs.texts.api.ToLexicalWithOptions.required_len.Goals as goal
 use Rattle.lexical_write_integer.proofs.texts.api.ToLexicalWithOptions.required_len.Goals.{After-grouped_len, then-radix-eq10, else-radix-eq10}
 

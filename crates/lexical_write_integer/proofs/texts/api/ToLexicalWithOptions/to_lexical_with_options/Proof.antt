@@ -10,8 +10,8 @@ use Rattle.lexical_num.proofs.Steps.{shr_ref_to, ShrRef, shr_vals, shr_Tells}
 use Rattle.lexical_num.specs.Format.{without_groups}
 use Rattle.lexical_num.specs.contracts.format.NumberFormat.{the_row as NumberFormat}
 use Rattle.lexical_write_integer.specs.Buffer.{Writes as Written}
-use Rattle.lexical_write_integer.specs.Texts.Groups.{without_separators}
-use Rattle.lexical_write_integer.specs.Texts.Text.{IsText, need}
+use Rattle.lexical_write_integer.specs.Groups.{without_separators}
+use Rattle.lexical_write_integer.specs.Text.{IsText, need}
 use Rattle.lexical_write_integer.proofs.Reborrows.{lends, comes_back}
 use Rattle.lexical_write_integer.proofs.HandedFronts.{calls_front}
 use Rattle.lexical_write_integer.proofs.Buffers.Prefixes.{Writes-short, Writes-and}

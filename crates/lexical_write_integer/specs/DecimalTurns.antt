@@ -2,7 +2,7 @@
 -- the writer of every radix records.
 use Rattle.std.specs.Prelude.{ℕ, ◌-◌, ◌*◌, ◌/◌, ◌%◌, ◌^◌, List, [], ◌++◌, map, nat_lt, if◌then◌else◌, ◌==◌}
 use Rattle.std.specs.List.{range_with_len}
-use Rattle.lexical_write_integer.specs.Digits.LoopTurns.{table_notes, table_turns}
+use Rattle.lexical_write_integer.specs.LoopTurns.{table_notes, table_turns}
 
 -- 100 times the part after the point, which has 32 bits there: of a fraction, of 100 times it, and so on
 abbrev pub products : ℕ → ℕ → List ℕ

@@ -2,8 +2,8 @@
 use Rattle.std.specs.Prelude.{◌≡◌, ℕ, List, ℤ, Option, pos}
 use Rattle.std.specs.Str.Parse.{IsNumeral, digits_value, signed_digits_value}
 use Rattle.std.specs.Str.Parse.{without_leading_plus, without_leading_sign}
-use Rattle.lexical_write_integer.specs.Texts.Groups.{without_separators}
-use Rattle.lexical_write_integer.specs.Texts.Lowercase.{IsLowercase}
+use Rattle.lexical_write_integer.specs.Groups.{without_separators}
+use Rattle.lexical_write_integer.specs.Lowercase.{IsLowercase}
 
 -- at a signed type: digits after any sign, which write the number
 pub record IsReadAsSigned (radix : ℕ) (number : ℤ) (text : List ℕ) : Type 0 where

@@ -3,9 +3,9 @@ use Rattle.std.specs.Prelude.{◌≡◌, ℕ, ◌+◌, List, ◌++◌, length, m
 use Rattle.lexical_num.specs.Digit.{digit_char}
 use Rattle.lexical_num.specs.Format.{Format, grouped_length}
 use Rattle.lexical_num.specs.Sign.{sign_of}
-use Rattle.lexical_write_integer.specs.Texts.Groups.{grouped}
-use Rattle.lexical_write_integer.specs.Digits.DigitCount.{digit_count}
-use Rattle.lexical_write_integer.specs.Digits.Numeral.{IsNumeralOf}
+use Rattle.lexical_write_integer.specs.Groups.{grouped}
+use Rattle.lexical_write_integer.specs.DigitCount.{digit_count}
+use Rattle.lexical_write_integer.specs.Numeral.{IsNumeralOf}
 
 -- the characters of the numeral of a number
 pub record IsDigits (r number : ℕ) (text : List ℕ) : Type 0 where

@@ -3,7 +3,7 @@
 use Rattle.std.specs.Prelude.{◌≡◌, ℕ, ◌+◌, ◌-◌, ◌*◌, ◌/◌, ◌%◌, ◌^◌, List, [], ◌∷◌, ◌++◌, map}
 use Rattle.std.specs.Prelude.{Bool, ◌||◌, ◌==◌, nat_lt, if◌then◌else◌}
 use Rattle.std.specs.List.{range_with_len}
-use Rattle.lexical_write_integer.specs.Digits.DigitCount.{digit_count}
+use Rattle.lexical_write_integer.specs.DigitCount.{digit_count}
 
 -- how many digits an iteration removes
 pub data IsStep : ℕ → Type 0 where

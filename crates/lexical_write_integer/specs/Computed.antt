@@ -4,7 +4,7 @@ use Rattle.std.specs.Fmt.{digits_onto}
 use Rattle.lexical_num.specs.Digit.{digit_char}
 use Rattle.lexical_num.specs.Format.{Format}
 use Rattle.lexical_num.specs.Sign.{sign_of}
-use Rattle.lexical_write_integer.specs.Texts.Groups.{grouped}
+use Rattle.lexical_write_integer.specs.Groups.{grouped}
 
 -- the characters of the digits of a number below 2 ^ 64
 abbrev pub digits_text : ℕ → ℕ → List ℕ
