@@ -17,9 +17,9 @@ use std::str::{from_utf8, from_utf8_unchecked};
 /// A value that has a text, such as a number or a `&str`. A tuple of 2 to 12 parts is also a part, and its
 /// text consists of the texts of its elements, in order: `(250, " g")` writes `250 g`.
 ///
-/// For a `String` write `string.as_str()`, or in Rust `&string` with the feature `alloc`. A literal needs a type where
-/// the part takes unsigned numbers only: `Hex(255u8)` and `Digits(36, 1000u32)`, and not `Hex(255)`. A tuple of one
-/// element, `(part,)`, is not a part.
+/// For a `String` write `string.as_str()`. In the Cargo package, with the feature `alloc`, `&string` is a part too. A
+/// literal needs a type where the part takes unsigned numbers only: `Hex(255u8)` and `Digits(36, 1000u32)`, and not
+/// `Hex(255)`. A tuple of one element, `(part,)`, is not a part.
 ///
 /// A part is *valid* if it meets the condition of its type: a radix is from 2 to 36, and a padded number
 /// fits in its width. A part that contains parts is valid if they are valid. A part without a condition is
@@ -164,8 +164,8 @@ pub trait Part: Copy {
     /// afterwards is not promised. The part must be valid, each [`Byte`](super::Byte) in it and each byte of a column
     /// must be below 128, each [`Bytes`](super::Bytes) in it must be UTF-8, and the buffer must have `room` bytes or more.
     ///
-    /// The text of your own parts, and each `Bytes`, is checked by `std::str::from_utf8`, which reads it once. So is, in
-    /// Rust, the text of a `Displayed` and of a reference to a `String`. Other texts need no check.
+    /// The text of your own parts, and each `Bytes`, is checked by `std::str::from_utf8`, which reads it once, and so is
+    /// that of a `Displayed` and of a reference to a `String` in the Cargo package. Other texts need no check.
     ///
     /// # Panics
     ///

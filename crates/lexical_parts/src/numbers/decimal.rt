@@ -2,9 +2,10 @@
 #![tactic(auto, using(crate::proofs::OfTexts::Parts::parts))]
 
 ghost use Rattle.lexical_write_integer.specs.Computed.{text_of};
-ghost use Rattle.std.specs.Prelude.{Some};
+ghost use Rattle.std.specs.Prelude.{Some, IfSome, IsSome};
 ghost use Rattle.lexical_num.specs.Format.{standard};
 ghost use Rattle.lexical_write_integer.specs.Text.{IsText};
+ghost use Rattle.lexical_parts.specs.Length.{HasLength};
 
 use crate::formatting::show::Show;
 use crate::numbers::formatted::Formatted;
@@ -15,7 +16,8 @@ use lexical_write_integer::format::STANDARD;
 use lexical_write_integer::laws::size_suffices;
 
 /// A number in decimal, with a `-` if it is negative: `Decimal(-5)` writes `-5`, as the part `-5` does. It
-/// is for generic code, in which the number has a type parameter.
+/// is for generic code, in which the number has a type parameter. Its room is that of the type, such as 20 bytes for 64
+/// bits.
 ///
 /// ```
 /// use lexical_parts::{Decimal, Part};
@@ -39,7 +41,10 @@ impl<T: ToLexical> Part for Decimal<T> {
         self.0.write_lexical(buffer)
     }
 
-    fn text_len(self) -> Option<usize> {
+    fn text_len(self) -> Option<usize>
+        ensures known { IsSome result }
+        ensures length { IfSome result (λ count. HasLength (IsText (T.number self.0) standard) count) }
+    {
         Formatted(self.0, &STANDARD).text_len()
     }
 

@@ -2,10 +2,11 @@
 #![tactic(auto, using(crate::proofs::OfTexts::Parts::parts))]
 
 ghost use Rattle.lexical_write_integer.specs.Computed.{digits_text};
-ghost use Rattle.std.specs.Prelude.{IsTrue, Some};
+ghost use Rattle.std.specs.Prelude.{IsTrue, Some, IfSome, IsSome};
 ghost use Rattle.lexical_num.specs.Format.{IsRadix};
 ghost use Rattle.lexical_write_integer.specs.DigitCount.{digit_count};
 ghost use Rattle.lexical_write_integer.specs.Text.{IsDigits};
+ghost use Rattle.lexical_parts.specs.Length.{HasLength};
 
 use crate::formatting::show::Show;
 use crate::own::Own;
@@ -18,6 +19,9 @@ use lexical_write_integer::radix::Radix;
 /// to `Z`; `Lower(Digits(16, 255u32))` writes `ff`. With another radix the part is not valid.
 ///
 /// The number has a type of its own, so a literal needs one: `Digits(36, 1000u64)`. Its room is the number of its digits.
+///
+/// `{}` of a `Digits` has the code of every radix, about 75 KB in a program compiled by rustc, also if the radix is a
+/// constant. `to_str`, `to_text` and `write_pieces` have only the code of a constant radix.
 ///
 /// ```
 /// use lexical_parts::{Digits, Lower, Part};
@@ -43,7 +47,11 @@ impl<T: Radix + DigitCount> Part for Digits<T> {
         self.1.radix(self.0, buffer)
     }
 
-    fn text_len(self) -> Option<usize> {
+    fn text_len(self) -> Option<usize>
+        requires { IsRadix self.0 }
+        ensures known { IsSome result }
+        ensures length { IfSome result (λ count. HasLength (IsDigits self.0 (T.magnitude self.1)) count) }
+    {
         Some(self.1.digit_count(self.0))
     }
 

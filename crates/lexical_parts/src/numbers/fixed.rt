@@ -2,9 +2,11 @@
 #![tactic(auto, using(crate::proofs::OfTexts::Parts::parts))]
 
 ghost use Rattle.std.specs.Prelude.{◌+◌, ◌≤◌, IsTrue, None, Some, length, max, unsigned_abs, if◌then◌else◌};
+ghost use Rattle.std.specs.Prelude.{IfSome, IsSome};
 ghost use Rattle.lexical_write_integer.specs.Buffer.{Writes};
 ghost use Rattle.lexical_parts.specs.Fixed.{AreUnits, IsFixed, IsGroupedFixed, IsGroupedUnits};
 ghost use Rattle.lexical_parts.specs.Fixed.{fixed_room, fixed_text, grouped_units_room};
+ghost use Rattle.lexical_parts.specs.Length.{HasLength};
 
 use crate::formatting::show::Show;
 use crate::layout::fill::insert_fill;
@@ -73,7 +75,7 @@ fn write_grouped_units<T: ToLexical>(
 
 /// A number of units of 10^-`decimals`, such as an amount in cents: `Fixed(-5i64, 2)` writes `-0.05`,
 /// and `Fixed(1234u32, 3)` writes `1.234`. At least one digit precedes the point, and `decimals`
-/// digits follow it; a number without decimals has no point. There are at most 19 decimals.
+/// digits follow it; a number without decimals has no point. There are at most 19 decimals. Its room is at most 22 bytes.
 ///
 /// ```
 /// use lexical_parts::{Fixed, Part};
@@ -99,7 +101,11 @@ impl<T: ToLexical> Part for Fixed<T> {
         GroupedFixed(self.0, self.1, &STANDARD).write_to(buffer)
     }
 
-    fn text_len(self) -> Option<usize> {
+    fn text_len(self) -> Option<usize>
+        requires { self.1 ≤ 19 }
+        ensures known { IsSome result }
+        ensures length { IfSome result (λ count. HasLength (IsFixed self.1 (T.number self.0)) count) }
+    {
         GroupedFixed(self.0, self.1, &STANDARD).text_len()
     }
 
@@ -118,7 +124,7 @@ impl<T: ToLexical> Show for Fixed<T> {
 }
 
 /// A number as [`Fixed`] writes it, with its whole part in the groups of the format, and nothing else of it:
-/// in groups of three with `,`, `GroupedFixed(-123456, 2, &format)` writes `-1,234.56`.
+/// in groups of three with `,`, `GroupedFixed(-123456, 2, &format)` writes `-1,234.56`. Its room is at most 39 bytes.
 ///
 /// ```
 /// use lexical_parts::{GroupedFixed, Part};
@@ -151,7 +157,11 @@ impl<T: ToLexical> Part for GroupedFixed<'_, T> {
         start + write_grouped_units(self.0, self.1, self.2, &mut buffer[start..])
     }
 
-    fn text_len(self) -> Option<usize> {
+    fn text_len(self) -> Option<usize>
+        requires { self.1 ≤ 19 }
+        ensures known { IsSome result }
+        ensures length { IfSome result (λ count. HasLength (IsGroupedFixed self.entry.2.now.digit_grouping self.entry.1 (T.number self.entry.0)) count) }
+    {
         check_decimals(self.1);
         self.0.in_range();
         self.2.in_range();

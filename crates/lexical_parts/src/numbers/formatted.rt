@@ -2,10 +2,11 @@
 #![tactic(auto, using(crate::proofs::OfTexts::Parts::parts))]
 
 ghost use Rattle.lexical_write_integer.specs.Computed.{text_of};
-ghost use Rattle.std.specs.Prelude.{◌≡◌, ◌≤◌, Some};
+ghost use Rattle.std.specs.Prelude.{◌≡◌, ◌≤◌, Some, IfSome, IsSome};
 ghost use Rattle.lexical_num.specs.declared.constants.TheConstants.{BUFFER_SIZE};
 ghost use Rattle.lexical_write_integer.specs.Text.{IsText, need};
 ghost use Rattle.lexical_parts.specs.Formatted.{formatted_room, largest_magnitude};
+ghost use Rattle.lexical_parts.specs.Length.{HasLength};
 
 use crate::formatting::show::Show;
 use crate::own::Own;
@@ -36,7 +37,8 @@ pub fn formatted_room_suffices<T: ToLexical>(number: T, format: &NumberFormat)
 }
 
 /// A number in a format, with its sign and its groups: in a format with groups of three digits and
-/// the separator `,`, `Formatted(1234567, &format)` writes `1,234,567`.
+/// the separator `,`, `Formatted(1234567, &format)` writes `1,234,567`. Its room is the length of the longest text of the
+/// type in the format: 26 bytes for 64 bits in groups of three, and at most 128 bytes for every type and format.
 ///
 /// ```
 /// use lexical_parts::{Formatted, Part};
@@ -65,7 +67,10 @@ impl<T: ToLexical> Part for Formatted<'_, T> {
         self.0.write_text(buffer, self.1)
     }
 
-    fn text_len(self) -> Option<usize> {
+    fn text_len(self) -> Option<usize>
+        ensures known { IsSome result }
+        ensures length { IfSome result (λ count. HasLength (IsText (T.number self.entry.0) self.entry.1.now) count) }
+    {
         self.0.in_range();
         self.1.in_range();
         let digits = self.0.magnitude_digits(self.1.mantissa_radix());

@@ -2,8 +2,9 @@
 
 ghost use Rattle.lexical_num.specs.Format.{standard};
 ghost use Rattle.lexical_write_integer.specs.Computed.{text_of};
-ghost use Rattle.std.specs.Prelude.{pos, Some};
+ghost use Rattle.std.specs.Prelude.{pos, Some, IfSome, IsSome};
 ghost use Rattle.lexical_parts.specs.Sequence.{IsDecimal};
+ghost use Rattle.lexical_parts.specs.Length.{HasLength};
 
 use crate::formatting::show::Show;
 use crate::numbers::decimal::Decimal;
@@ -23,7 +24,10 @@ impl Part for u8 {
         Decimal(self).write_to(buffer)
     }
 
-    fn text_len(self) -> Option<usize> {
+    fn text_len(self) -> Option<usize>
+        ensures known { IsSome result }
+        ensures length { IfSome result (λ count. HasLength (IsDecimal (pos self)) count) }
+    {
         Decimal(self).text_len()
     }
 
@@ -53,7 +57,10 @@ impl Part for u16 {
         Decimal(self).write_to(buffer)
     }
 
-    fn text_len(self) -> Option<usize> {
+    fn text_len(self) -> Option<usize>
+        ensures known { IsSome result }
+        ensures length { IfSome result (λ count. HasLength (IsDecimal (pos self)) count) }
+    {
         Decimal(self).text_len()
     }
 
@@ -83,7 +90,10 @@ impl Part for u32 {
         Decimal(self).write_to(buffer)
     }
 
-    fn text_len(self) -> Option<usize> {
+    fn text_len(self) -> Option<usize>
+        ensures known { IsSome result }
+        ensures length { IfSome result (λ count. HasLength (IsDecimal (pos self)) count) }
+    {
         Decimal(self).text_len()
     }
 
@@ -113,7 +123,10 @@ impl Part for u64 {
         Decimal(self).write_to(buffer)
     }
 
-    fn text_len(self) -> Option<usize> {
+    fn text_len(self) -> Option<usize>
+        ensures known { IsSome result }
+        ensures length { IfSome result (λ count. HasLength (IsDecimal (pos self)) count) }
+    {
         Decimal(self).text_len()
     }
 
@@ -143,7 +156,10 @@ impl Part for usize {
         Decimal(self).write_to(buffer)
     }
 
-    fn text_len(self) -> Option<usize> {
+    fn text_len(self) -> Option<usize>
+        ensures known { IsSome result }
+        ensures length { IfSome result (λ count. HasLength (IsDecimal (pos self)) count) }
+    {
         Decimal(self).text_len()
     }
 
@@ -173,7 +189,10 @@ impl Part for i8 {
         Decimal(self).write_to(buffer)
     }
 
-    fn text_len(self) -> Option<usize> {
+    fn text_len(self) -> Option<usize>
+        ensures known { IsSome result }
+        ensures length { IfSome result (λ count. HasLength (IsDecimal self) count) }
+    {
         Decimal(self).text_len()
     }
 
@@ -203,7 +222,10 @@ impl Part for i16 {
         Decimal(self).write_to(buffer)
     }
 
-    fn text_len(self) -> Option<usize> {
+    fn text_len(self) -> Option<usize>
+        ensures known { IsSome result }
+        ensures length { IfSome result (λ count. HasLength (IsDecimal self) count) }
+    {
         Decimal(self).text_len()
     }
 
@@ -233,7 +255,10 @@ impl Part for i32 {
         Decimal(self).write_to(buffer)
     }
 
-    fn text_len(self) -> Option<usize> {
+    fn text_len(self) -> Option<usize>
+        ensures known { IsSome result }
+        ensures length { IfSome result (λ count. HasLength (IsDecimal self) count) }
+    {
         Decimal(self).text_len()
     }
 
@@ -263,7 +288,10 @@ impl Part for i64 {
         Decimal(self).write_to(buffer)
     }
 
-    fn text_len(self) -> Option<usize> {
+    fn text_len(self) -> Option<usize>
+        ensures known { IsSome result }
+        ensures length { IfSome result (λ count. HasLength (IsDecimal self) count) }
+    {
         Decimal(self).text_len()
     }
 
@@ -293,7 +321,10 @@ impl Part for isize {
         Decimal(self).write_to(buffer)
     }
 
-    fn text_len(self) -> Option<usize> {
+    fn text_len(self) -> Option<usize>
+        ensures known { IsSome result }
+        ensures length { IfSome result (λ count. HasLength (IsDecimal self) count) }
+    {
         Decimal(self).text_len()
     }
 

@@ -2,9 +2,10 @@
 #![tactic(auto, using(crate::proofs::OfTexts::Parts::parts))]
 
 ghost use Rattle.lexical_write_integer.specs.Computed.{padded_text};
-ghost use Rattle.std.specs.Prelude.{◌≡◌, ◌^◌, ◌<◌, IsTrue, Some};
+ghost use Rattle.std.specs.Prelude.{◌≡◌, ◌^◌, ◌<◌, IsTrue, Some, IfSome, IsSome};
 ghost use Rattle.lexical_num.specs.Format.{IsRadix};
 ghost use Rattle.lexical_write_integer.specs.Padded.{IsPadded};
+ghost use Rattle.lexical_parts.specs.Length.{HasLength};
 
 use crate::formatting::show::{Show, write_at_once};
 use crate::layout::fill::write_copies;
@@ -34,7 +35,8 @@ fn has_few_bits(number: u64, radix: u32, width: usize) -> bool
 }
 
 /// The digits of an unsigned number in a radix from 2 to 36, with leading zeros up to the width:
-/// `PaddedDigits(16, 1u8, 2)` writes `01`. The number must be below `radix.pow(width)`, and a literal needs a type.
+/// `PaddedDigits(16, 1u8, 2)` writes `01`. The number must be below `radix.pow(width)`, and a literal needs a type. Its
+/// room is the width.
 ///
 /// ```
 /// use lexical_parts::{PaddedDigits, Part};
@@ -62,7 +64,10 @@ impl<T: DigitCount + Radix> Part for PaddedDigits<T> {
         self.2
     }
 
-    fn text_len(self) -> Option<usize> {
+    fn text_len(self) -> Option<usize>
+        ensures known { IsSome result }
+        ensures length { IfSome result (λ count. HasLength (IsPadded self.0 self.2 (T.magnitude self.1)) count) }
+    {
         Some(self.2)
     }
 
@@ -97,8 +102,8 @@ impl<T: DigitCount + Radix> Show for PaddedDigits<T> {
 }
 
 /// An unsigned number in decimal, with leading zeros up to the width: `Padded(3u8, 2)` writes `03`.
-/// The number must be below `10.pow(width)`, and a literal needs a type. [`ZeroPadded`](super::super::ZeroPadded)
-/// writes every number: `ZeroPadded(123u8, 2)` writes `123`.
+/// The number must be below `10.pow(width)`, and a literal needs a type. Its room is the width.
+/// [`ZeroPadded`](super::super::ZeroPadded) writes every number: `ZeroPadded(123u8, 2)` writes `123`.
 ///
 /// ```
 /// use lexical_parts::{Padded, Part, ZeroPadded};
@@ -124,7 +129,10 @@ impl<T: DigitCount + Radix> Part for Padded<T> {
         PaddedDigits(10, self.0, self.1).write_to(buffer)
     }
 
-    fn text_len(self) -> Option<usize> {
+    fn text_len(self) -> Option<usize>
+        ensures known { IsSome result }
+        ensures length { IfSome result (λ count. HasLength (IsPadded 10 self.1 (T.magnitude self.0)) count) }
+    {
         Some(self.1)
     }
 

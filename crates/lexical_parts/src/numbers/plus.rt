@@ -3,8 +3,9 @@
 
 ghost use Rattle.lexical_num.specs.Format.{standard};
 ghost use Rattle.lexical_write_integer.specs.Computed.{text_of};
-ghost use Rattle.std.specs.Prelude.{◌+◌, Some, true};
+ghost use Rattle.std.specs.Prelude.{◌+◌, Some, true, IfSome, IsSome};
 ghost use Rattle.lexical_parts.specs.Plus.{IsPlus};
+ghost use Rattle.lexical_parts.specs.Length.{HasLength};
 
 use crate::formatting::show::Show;
 use crate::numbers::sign::Sign;
@@ -15,7 +16,7 @@ use lexical_write_integer::format::STANDARD;
 use lexical_write_integer::laws::size_suffices;
 
 /// A number in decimal with a sign in each case, `+` if it is not negative: `Plus(5u8)` writes `+5`, and
-/// `Plus(-5)` writes `-5`. `ZeroPadded(Plus(42), 8)` writes `+0000042`, as `{:+08}` does in Rust.
+/// `Plus(-5)` writes `-5`. `ZeroPadded(Plus(42), 8)` writes `+0000042`, as `{:+08}` does. Its room is at most 21 bytes.
 ///
 /// ```
 /// use lexical_parts::{Part, Plus, ZeroPadded};
@@ -43,7 +44,10 @@ impl<T: ToLexical> Part for Plus<T> {
         start + self.0.write_magnitude(&STANDARD, &mut buffer[start..])
     }
 
-    fn text_len(self) -> Option<usize> {
+    fn text_len(self) -> Option<usize>
+        ensures known { IsSome result }
+        ensures length { IfSome result (λ count. HasLength (IsPlus (T.number self.0)) count) }
+    {
         self.0.in_range();
         Some(1 + self.0.magnitude_digits(10))
     }

@@ -3,10 +3,11 @@
 
 ghost use Rattle.lexical_write_integer.specs.Computed.{digits_text, padded_text};
 ghost use Rattle.lexical_parts.specs.HexBytes.{hex_bytes_text};
-ghost use Rattle.std.specs.Prelude.{◌+◌, ◌-◌, ◌*◌, ◌/◌, length, Some};
+ghost use Rattle.std.specs.Prelude.{◌+◌, ◌-◌, ◌*◌, ◌/◌, length, Some, IfSome, IsSome};
 ghost use Rattle.lexical_write_integer.specs.Padded.{IsPadded};
 ghost use Rattle.lexical_write_integer.specs.Sequence.{AreJoined};
 ghost use Rattle.lexical_write_integer.specs.Text.{IsDigits};
+ghost use Rattle.lexical_parts.specs.Length.{HasLength};
 
 use crate::formatting::show::{MOST_AT_ONCE, Show, write_at_once};
 use crate::layout::joined::{separator_before, write_next};
@@ -45,7 +46,10 @@ impl<T: Radix> Part for Hex<T> {
         constant_radix(self.0, 16, buffer)
     }
 
-    fn text_len(self) -> Option<usize> {
+    fn text_len(self) -> Option<usize>
+        ensures known { IsSome result }
+        ensures length { IfSome result (λ count. HasLength (IsDigits 16 (T.magnitude self.0)) count) }
+    {
         self.0.fits_bits();
         Some(self.0.as_u64().digit_count(16))
     }
@@ -89,7 +93,10 @@ impl<T: Radix> Part for Binary<T> {
         self.0.radix(2, buffer)
     }
 
-    fn text_len(self) -> Option<usize> {
+    fn text_len(self) -> Option<usize>
+        ensures known { IsSome result }
+        ensures length { IfSome result (λ count. HasLength (IsDigits 2 (T.magnitude self.0)) count) }
+    {
         self.0.fits_bits();
         Some(self.0.as_u64().digit_count(2))
     }
@@ -109,7 +116,8 @@ impl<T: Radix> Show for Binary<T> {
 }
 
 /// All digits of an unsigned number in radix 16, with leading zeros up to the width of its type, which is 2 for a `u8`, and
-/// 16 for a `u64` and for a `usize` on every target: `FullHex(255u16)` writes `00FF`. So a literal needs a type.
+/// 16 for a `u64` and for a `usize` on every target: `FullHex(255u16)` writes `00FF`. So a literal needs a type. Its room
+/// is this width.
 ///
 /// ```
 /// use lexical_parts::{FullHex, Part};
@@ -133,7 +141,10 @@ impl<T: DigitCount + Radix> Part for FullHex<T> {
         PaddedDigits(16, self.0, T::BITS / 4).write_to(buffer)
     }
 
-    fn text_len(self) -> Option<usize> {
+    fn text_len(self) -> Option<usize>
+        ensures known { IsSome result }
+        ensures length { IfSome result (λ count. HasLength (IsPadded 16 (T.BITS / 4) (T.magnitude self.0)) count) }
+    {
         Some(T::BITS / 4)
     }
 
@@ -178,7 +189,8 @@ impl Part for HexByte {
 }
 
 /// The bytes of a slice in radix 16, each in two digits, with a separator between adjacent bytes:
-/// `HexBytes(&[1, 255], "")` writes `01FF`, and `HexBytes(&[1, 255], ":")` writes `01:FF`.
+/// `HexBytes(&[1, 255], "")` writes `01FF`, and `HexBytes(&[1, 255], ":")` writes `01:FF`. Its room is the length of its
+/// text.
 ///
 /// ```
 /// use lexical_parts::{HexBytes, Part};

@@ -1,13 +1,14 @@
 //! Numbers in scientific notation.
 #![tactic(auto, using(crate::proofs::OfTexts::Parts::parts))]
 
-ghost use Rattle.std.specs.Prelude.{◌≡◌, ◌≢◌, ℕ, ◌+◌, ◌-◌, ◌^◌, ◌<◌, ◌≤◌, length, drop, replicate};
+ghost use Rattle.std.specs.Prelude.{◌≡◌, ◌≢◌, ℕ, ◌+◌, ◌-◌, ◌^◌, ◌<◌, ◌≤◌, length, drop, replicate, IfSome, IsSome};
 ghost use Rattle.std.specs.Prelude.{Some, slice_index, unsigned_abs};
 ghost use Rattle.lexical_write_integer.specs.Buffer.{Writes};
 ghost use Rattle.lexical_write_integer.specs.Text.{IsDigits};
 ghost use Rattle.lexical_parts.specs.Fixed.{IsUnits};
 ghost use Rattle.lexical_parts.specs.Scientific.{IsScientific, IsScientificUnsigned, exponent_of_first, scientific_text};
 ghost use Rattle.lexical_parts.specs.Sequence.{◌then◌, IsDecimal, IsStr};
+ghost use Rattle.lexical_parts.specs.Length.{HasLength};
 
 use crate::formatting::show::Show;
 use crate::numbers::sign::Sign;
@@ -93,7 +94,7 @@ fn write_magnitude<T: ToLexical>(number: T, exponent: i32, buffer: &mut [u8]) ->
     end + write_exponent(first_exponent(digits, exponent), &mut buffer[end..])
 }
 
-/// A number times a power of ten, as `{:e}` writes it in Rust: `Scientific(1234, -59)` writes `1.234e-56`,
+/// A number times a power of ten, as `{:e}` writes one: `Scientific(1234, -59)` writes `1.234e-56`,
 /// and `Scientific(-1000, 0)` writes `-1e3`. The digits have no zeros at the end, and a point after the
 /// first if there are more. Its room is 13 bytes more than that of [`Decimal`](super::super::Decimal).
 ///
@@ -122,7 +123,10 @@ impl<T: ToLexical> Part for Scientific<T> {
         start + write_magnitude(self.0, self.1, &mut buffer[start..])
     }
 
-    fn text_len(self) -> Option<usize> {
+    fn text_len(self) -> Option<usize>
+        ensures known { IsSome result }
+        ensures length { IfSome result (λ count. HasLength (IsScientific (T.number self.0) self.1) count) }
+    {
         self.0.in_range();
         // How many zeros the number ends with, only its digits say.
         Some(self.write_to(&mut [0; LONGEST]))

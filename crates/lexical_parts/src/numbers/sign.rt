@@ -1,9 +1,10 @@
 //! The sign of a number, as a part of its own.
 #![tactic(auto, using(crate::proofs::OfTexts::Parts::parts))]
 
-ghost use Rattle.std.specs.Prelude.{Some};
+ghost use Rattle.std.specs.Prelude.{Some, IfSome, IsSome};
 ghost use Rattle.lexical_num.specs.Sign.{sign_of};
 ghost use Rattle.lexical_write_integer.specs.Sequence.{IsExactly};
+ghost use Rattle.lexical_parts.specs.Length.{HasLength};
 
 use crate::formatting::show::Show;
 use crate::own::Own;
@@ -12,7 +13,7 @@ use lexical_num::num::LexicalInteger;
 use lexical_write_integer::buffer::copy_to_front;
 
 /// The sign of a number: `-` if it is below 0, and otherwise nothing, or a `+` if one is required. Before
-/// other parts, `Sign(-5, false)` writes `-`, as `Sign(-5, true)` does, and `Sign(5, true)` writes `+`.
+/// other parts, `Sign(-5, false)` writes `-`, as `Sign(-5, true)` does, and `Sign(5, true)` writes `+`. Its room is 1.
 ///
 /// ```
 /// use lexical_parts::{Part, Sign};
@@ -42,7 +43,10 @@ impl<T: LexicalInteger> Part for Sign<T> {
         }
     }
 
-    fn text_len(self) -> Option<usize> {
+    fn text_len(self) -> Option<usize>
+        ensures known { IsSome result }
+        ensures length { IfSome result (λ count. HasLength (IsExactly (sign_of (T.number self.0) self.1)) count) }
+    {
         Some(usize::from(self.0.is_negative() || self.1))
     }
 

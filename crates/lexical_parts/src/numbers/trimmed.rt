@@ -1,10 +1,11 @@
 //! Numbers of units without zeros at the end of their fraction.
 #![tactic(auto, using(crate::proofs::OfTexts::Parts::parts))]
 
-ghost use Rattle.std.specs.Prelude.{◌+◌, ◌≤◌, Some, length, max, min, unsigned_abs};
+ghost use Rattle.std.specs.Prelude.{◌+◌, ◌≤◌, Some, length, max, min, unsigned_abs, IfSome, IsSome};
 ghost use Rattle.lexical_write_integer.specs.Buffer.{Writes};
 ghost use Rattle.lexical_parts.specs.Fixed.{fixed_room};
 ghost use Rattle.lexical_parts.specs.Trimmed.{IsTrimmedFixed, IsTrimmedUnits, trimmed_text};
+ghost use Rattle.lexical_parts.specs.Length.{HasLength};
 
 use crate::formatting::show::Show;
 use crate::numbers::fixed::{Fixed, LONGEST_FIXED, write_units};
@@ -37,7 +38,8 @@ fn write_trimmed_units<T: ToLexical>(number: T, decimals: usize, buffer: &mut [u
 }
 
 /// A number as [`Fixed`](super::super::Fixed) writes it, without zeros at the end of its fraction, and without a point if no
-/// decimal is left: `TrimmedFixed(-1500, 3)` writes `-1.5`, and `TrimmedFixed(2000u32, 3)` writes `2`.
+/// decimal is left: `TrimmedFixed(-1500, 3)` writes `-1.5`, and `TrimmedFixed(2000u32, 3)` writes `2`. Its room is at most
+/// 22 bytes.
 ///
 /// ```
 /// use lexical_parts::{Part, TrimmedFixed};
@@ -65,7 +67,11 @@ impl<T: ToLexical> Part for TrimmedFixed<T> {
         start + write_trimmed_units(self.0, self.1, &mut buffer[start..])
     }
 
-    fn text_len(self) -> Option<usize> {
+    fn text_len(self) -> Option<usize>
+        requires { self.1 ≤ 19 }
+        ensures known { IsSome result }
+        ensures length { IfSome result (λ count. HasLength (IsTrimmedFixed self.1 (T.number self.0)) count) }
+    {
         self.0.in_range();
         // How many zeros the fraction ends with, only its digits say.
         Some(self.write_to(&mut [0; LONGEST_FIXED]))

@@ -1,10 +1,10 @@
 //! Bytes as a part: those of a slice, or a single one.
 #![tactic(auto, using(crate::proofs::OfTexts::Parts::parts))]
 
-ghost use Rattle.std.specs.Prelude.{IsTrue, Some, ◌<◌, [], ◌∷◌, length};
+ghost use Rattle.std.specs.Prelude.{IsTrue, Some, ◌<◌, [], ◌∷◌, length, IfSome, IsSome};
 ghost use Rattle.std.specs.Str.{IsUtf8};
 ghost use Rattle.lexical_write_integer.specs.Sequence.{IsExactly};
-ghost use Rattle.lexical_parts.specs.Length.{IsOnly};
+ghost use Rattle.lexical_parts.specs.Length.{HasLength, IsOnly};
 
 use crate::formatting::show::Show;
 use crate::own::Own;
@@ -13,7 +13,7 @@ use lexical_write_integer::buffer::copy_to_front;
 use std::fmt;
 use std::str::from_utf8;
 
-/// A part whose text is the bytes of a slice: `Bytes(b"ab")` writes `ab`.
+/// A part whose text is the bytes of a slice: `Bytes(b"ab")` writes `ab`. Its room is the length of the slice.
 ///
 /// ```
 /// use lexical_parts::{Bytes, Part};
@@ -38,7 +38,10 @@ impl Part for Bytes<'_> {
         copy_to_front(self.0, buffer)
     }
 
-    fn text_len(self) -> Option<usize> {
+    fn text_len(self) -> Option<usize>
+        ensures known { IsSome result }
+        ensures length { IfSome result (λ count. HasLength (IsExactly self.entry.0.now) count) }
+    {
         Some(self.0.len())
     }
 
@@ -69,7 +72,7 @@ impl Show for Bytes<'_> {
     }
 }
 
-/// A part whose text is one byte: `Byte(b'a')` writes `a`.
+/// A part whose text is one byte: `Byte(b'a')` writes `a`. Its room is 1.
 ///
 /// ```
 /// use lexical_parts::{Byte, Part};
@@ -94,7 +97,10 @@ impl Part for Byte {
         copy_to_front(&[self.0], buffer)
     }
 
-    fn text_len(self) -> Option<usize> {
+    fn text_len(self) -> Option<usize>
+        ensures known { IsSome result }
+        ensures length { IfSome result (λ count. HasLength (IsExactly (self.0 ∷ [])) count) }
+    {
         Some(1)
     }
 

@@ -1,8 +1,9 @@
 //! Characters, which are parts: the text of a `char` is its UTF-8.
 #![tactic(auto, using(crate::proofs::OfTexts::Parts::parts))]
 
-ghost use Rattle.std.specs.Prelude.{Some, encode_utf8};
+ghost use Rattle.std.specs.Prelude.{Some, encode_utf8, IfSome, IsSome};
 ghost use Rattle.lexical_write_integer.specs.Sequence.{IsExactly};
+ghost use Rattle.lexical_parts.specs.Length.{HasLength};
 
 use crate::formatting::show::Show;
 use crate::own::Own;
@@ -25,7 +26,10 @@ impl Part for char {
         text.write_to(buffer)
     }
 
-    fn text_len(self) -> Option<usize> {
+    fn text_len(self) -> Option<usize>
+        ensures known { IsSome result }
+        ensures length { IfSome result (λ count. HasLength (IsExactly (encode_utf8 self)) count) }
+    {
         Some(self.len_utf8())
     }
 

@@ -1,9 +1,9 @@
 //! Strings, which are parts: the text of a `&str` is the string.
 #![tactic(auto, using(crate::proofs::OfTexts::Parts::parts))]
 
-ghost use Rattle.std.specs.Prelude.{IsTrue, Some, length};
+ghost use Rattle.std.specs.Prelude.{IsTrue, Some, length, IfSome, IsSome};
 ghost use Rattle.lexical_write_integer.specs.Sequence.{IsExactly};
-ghost use Rattle.lexical_parts.specs.Length.{IsOnly};
+ghost use Rattle.lexical_parts.specs.Length.{HasLength, IsOnly};
 ghost use Rattle.lexical_parts.specs.Utf8.{AreUtf8};
 
 use crate::formatting::show::Show;
@@ -30,7 +30,10 @@ impl Part for &str {
         copy_to_front(self.as_bytes(), buffer)
     }
 
-    fn text_len(self) -> Option<usize> {
+    fn text_len(self) -> Option<usize>
+        ensures known { IsSome result }
+        ensures length { IfSome result (λ count. HasLength (IsExactly self.now) count) }
+    {
         Some(self.len())
     }
 

@@ -1,9 +1,10 @@
 //! The words `true` and `false`, which are the texts of a `bool`.
 #![tactic(auto, using(crate::proofs::OfTexts::Parts::parts))]
 
-ghost use Rattle.std.specs.Prelude.{Some, ◌≡◌};
+ghost use Rattle.std.specs.Prelude.{Some, ◌≡◌, IfSome, IsSome};
 ghost use Rattle.lexical_write_integer.specs.Sequence.{IsExactly};
 ghost use Rattle.lexical_parts.specs.Word.{word};
+ghost use Rattle.lexical_parts.specs.Length.{HasLength};
 
 use crate::formatting::show::Show;
 use crate::own::Own;
@@ -32,7 +33,10 @@ impl Part for bool {
         text.write_to(buffer)
     }
 
-    fn text_len(self) -> Option<usize> {
+    fn text_len(self) -> Option<usize>
+        ensures known { IsSome result }
+        ensures length { IfSome result (λ count. HasLength (IsExactly (word self)) count) }
+    {
         Some(word(self).len())
     }
 

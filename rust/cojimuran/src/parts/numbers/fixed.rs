@@ -61,7 +61,7 @@ fn write_grouped_units<T: ToLexical>(
 
 /// A number of units of 10^-`decimals`, such as an amount in cents: `Fixed(-5i64, 2)` writes `-0.05`,
 /// and `Fixed(1234u32, 3)` writes `1.234`. At least one digit precedes the point, and `decimals`
-/// digits follow it; a number without decimals has no point. There are at most 19 decimals.
+/// digits follow it; a number without decimals has no point. There are at most 19 decimals. Its room is at most 22 bytes.
 ///
 /// ```
 /// use cojimuran::parts::{Fixed, Part};
@@ -106,7 +106,7 @@ impl<T: ToLexical> Show for Fixed<T> {
 }
 
 /// A number as [`Fixed`] writes it, with its whole part in the groups of the format, and nothing else of it:
-/// in groups of three with `,`, `GroupedFixed(-123456, 2, &format)` writes `-1,234.56`.
+/// in groups of three with `,`, `GroupedFixed(-123456, 2, &format)` writes `-1,234.56`. Its room is at most 39 bytes.
 ///
 /// ```
 /// use cojimuran::parts::{GroupedFixed, Part};

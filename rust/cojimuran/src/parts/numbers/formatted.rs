@@ -21,7 +21,8 @@ fn largest_magnitude<T: ToLexical>() -> u64 {
 }
 
 /// A number in a format, with its sign and its groups: in a format with groups of three digits and
-/// the separator `,`, `Formatted(1234567, &format)` writes `1,234,567`.
+/// the separator `,`, `Formatted(1234567, &format)` writes `1,234,567`. Its room is the length of the longest text of the
+/// type in the format: 26 bytes for 64 bits in groups of three, and at most 128 bytes for every type and format.
 ///
 /// ```
 /// use cojimuran::parts::{Formatted, Part};

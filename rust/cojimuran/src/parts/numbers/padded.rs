@@ -27,7 +27,8 @@ fn has_few_bits(number: u64, radix: u32, width: usize) -> bool {
 }
 
 /// The digits of an unsigned number in a radix from 2 to 36, with leading zeros up to the width:
-/// `PaddedDigits(16, 1u8, 2)` writes `01`. The number must be below `radix.pow(width)`, and a literal needs a type.
+/// `PaddedDigits(16, 1u8, 2)` writes `01`. The number must be below `radix.pow(width)`, and a literal needs a type. Its
+/// room is the width.
 ///
 /// ```
 /// use cojimuran::parts::{PaddedDigits, Part};
@@ -82,8 +83,8 @@ impl<T: DigitCount + Radix> Show for PaddedDigits<T> {
 }
 
 /// An unsigned number in decimal, with leading zeros up to the width: `Padded(3u8, 2)` writes `03`.
-/// The number must be below `10.pow(width)`, and a literal needs a type. [`ZeroPadded`](super::super::ZeroPadded)
-/// writes every number: `ZeroPadded(123u8, 2)` writes `123`.
+/// The number must be below `10.pow(width)`, and a literal needs a type. Its room is the width.
+/// [`ZeroPadded`](super::super::ZeroPadded) writes every number: `ZeroPadded(123u8, 2)` writes `123`.
 ///
 /// ```
 /// use cojimuran::parts::{Padded, Part, ZeroPadded};

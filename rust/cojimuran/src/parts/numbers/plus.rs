@@ -10,7 +10,7 @@ use crate::write_integer::ToLexical;
 use crate::write_integer::format::STANDARD;
 
 /// A number in decimal with a sign in each case, `+` if it is not negative: `Plus(5u8)` writes `+5`, and
-/// `Plus(-5)` writes `-5`. `ZeroPadded(Plus(42), 8)` writes `+0000042`, as `{:+08}` does in Rust.
+/// `Plus(-5)` writes `-5`. `ZeroPadded(Plus(42), 8)` writes `+0000042`, as `{:+08}` does. Its room is at most 21 bytes.
 ///
 /// ```
 /// use cojimuran::parts::{Part, Plus, ZeroPadded};

@@ -101,7 +101,8 @@ impl<T: Radix> Show for Binary<T> {
 }
 
 /// All digits of an unsigned number in radix 16, with leading zeros up to the width of its type, which is 2 for a `u8`, and
-/// 16 for a `u64` and for a `usize` on every target: `FullHex(255u16)` writes `00FF`. So a literal needs a type.
+/// 16 for a `u64` and for a `usize` on every target: `FullHex(255u16)` writes `00FF`. So a literal needs a type. Its room
+/// is this width.
 ///
 /// ```
 /// use cojimuran::parts::{FullHex, Part};
@@ -171,7 +172,8 @@ impl Part for HexByte {
 }
 
 /// The bytes of a slice in radix 16, each in two digits, with a separator between adjacent bytes:
-/// `HexBytes(&[1, 255], "")` writes `01FF`, and `HexBytes(&[1, 255], ":")` writes `01:FF`.
+/// `HexBytes(&[1, 255], "")` writes `01FF`, and `HexBytes(&[1, 255], ":")` writes `01:FF`. Its room is the length of its
+/// text.
 ///
 /// ```
 /// use cojimuran::parts::{HexBytes, Part};

@@ -60,7 +60,7 @@ fn write_magnitude<T: ToLexical>(number: T, exponent: i32, buffer: &mut [u8]) ->
     end + write_exponent(first_exponent(digits, exponent), &mut buffer[end..])
 }
 
-/// A number times a power of ten, as `{:e}` writes it in Rust: `Scientific(1234, -59)` writes `1.234e-56`,
+/// A number times a power of ten, as `{:e}` writes one: `Scientific(1234, -59)` writes `1.234e-56`,
 /// and `Scientific(-1000, 0)` writes `-1e3`. The digits have no zeros at the end, and a point after the
 /// first if there are more. Its room is 13 bytes more than that of [`Decimal`](super::super::Decimal).
 ///

@@ -27,7 +27,8 @@ fn write_trimmed_units<T: ToLexical>(number: T, decimals: usize, buffer: &mut [u
 }
 
 /// A number as [`Fixed`](super::super::Fixed) writes it, without zeros at the end of its fraction, and without a point if no
-/// decimal is left: `TrimmedFixed(-1500, 3)` writes `-1.5`, and `TrimmedFixed(2000u32, 3)` writes `2`.
+/// decimal is left: `TrimmedFixed(-1500, 3)` writes `-1.5`, and `TrimmedFixed(2000u32, 3)` writes `2`. Its room is at most
+/// 22 bytes.
 ///
 /// ```
 /// use cojimuran::parts::{Part, TrimmedFixed};

@@ -9,7 +9,7 @@ use crate::write_integer::buffer::copy_to_front;
 use core::fmt;
 use core::str::from_utf8;
 
-/// A part whose text is the bytes of a slice: `Bytes(b"ab")` writes `ab`.
+/// A part whose text is the bytes of a slice: `Bytes(b"ab")` writes `ab`. Its room is the length of the slice.
 ///
 /// ```
 /// use cojimuran::parts::{Bytes, Part};
@@ -61,7 +61,7 @@ impl Show for Bytes<'_> {
     }
 }
 
-/// A part whose text is one byte: `Byte(b'a')` writes `a`.
+/// A part whose text is one byte: `Byte(b'a')` writes `a`. Its room is 1.
 ///
 /// ```
 /// use cojimuran::parts::{Byte, Part};

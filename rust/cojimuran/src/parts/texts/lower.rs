@@ -8,7 +8,7 @@ use crate::parts::part::Part;
 use core::fmt;
 
 /// A part in lowercase: its text with `A` to `Z` as `a` to `z`, and every other byte unchanged.
-/// `Lower(PaddedDigits(16, 255u32, 4))` writes `00ff`.
+/// `Lower(PaddedDigits(16, 255u32, 4))` writes `00ff`. Its room is that of the part.
 ///
 /// ```
 /// use cojimuran::parts::{Lower, PaddedDigits, Part};

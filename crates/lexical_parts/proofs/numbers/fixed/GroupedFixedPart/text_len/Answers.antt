@@ -46,8 +46,8 @@ overflow_add-result-3 g c =
     let sign = sign-le_one number false in
     omega (arith, sign, few.1, c.sign_len-sign.ensures, c.grouped_len.ensures)
 
-pub returns : goal.returns
-returns g c =
+pub returns-clause-length : goal.returns-clause-length
+returns-clause-length g c =
     let number = g.T.LexicalInteger.number c.args.self.0 in
     let grouping = c.args.self.2.now.digit_grouping in
     let whole : c.max-whole.result ≡ max (digit_count 10 (unsigned_abs number) - c.args.self.1) 1 = omega (arith, c.magnitude_digits-digits.ensures, c.saturating_sub.ensures, c.max-whole.ensures) in

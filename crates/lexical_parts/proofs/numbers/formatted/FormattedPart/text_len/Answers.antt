@@ -22,5 +22,5 @@ overflow_add-result g c =
     let grouped = grouped_length-le c.args.self.1.now.digit_grouping c.magnitude_digits-digits.result 64 digits (omega arith) in
     omega (arith, sign, grouped, c.sign_len.ensures, c.grouped_len.ensures)
 
-pub returns : goal.returns
-returns g c = formatted_length (g.T.LexicalInteger.number c.args.self.0) c.args.self.1.now _ c.in_range-2.ensures.mantissa.at_least_two c.in_range-2.ensures.groups (grind (arith, common_steps))
+pub returns-clause-length : goal.returns-clause-length
+returns-clause-length g c = formatted_length (g.T.LexicalInteger.number c.args.self.0) c.args.self.1.now _ c.in_range-2.ensures.mantissa.at_least_two c.in_range-2.ensures.groups (grind (arith, common_steps))

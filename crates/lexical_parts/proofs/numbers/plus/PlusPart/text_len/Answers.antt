@@ -11,8 +11,8 @@ overflow_add-result g c =
     let small = magnitude-small _ g.met.T.LexicalInteger.bit_width number c.in_range.ensures.at_least c.in_range.ensures.at_most in
     omega (arith, c.magnitude_digits.ensures, digit_count-le_20 _ small)
 
-pub returns : goal.returns
-returns g c =
+pub returns-clause-length : goal.returns-clause-length
+returns-clause-length g c =
     let number = g.T.LexicalInteger.number c.args.self.0 in
     let sign : length (sign_of number true) ≡ 1 = grind arith in
     decimal_length number true _ (omega (arith, sign, c.magnitude_digits.ensures))

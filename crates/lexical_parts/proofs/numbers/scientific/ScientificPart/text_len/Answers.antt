@@ -12,8 +12,8 @@ write_to-requires-clause-room g c =
     let most = decimal_size-le_20 _ g.met.T.LexicalInteger.bit_width g.met.T.LexicalInteger.decimal_width g.met.T.FormattedSize.sizes in
     omega (arith, most)
 
-pub returns : goal.returns
-returns g c =
+pub returns-clause-length : goal.returns-clause-length
+returns-clause-length g c =
     let number = g.T.LexicalInteger.number c.args.self.0 in
     let small = magnitude-small _ g.met.T.LexicalInteger.bit_width number c.in_range.ensures.at_least c.in_range.ensures.at_most in
     let fits : FitsSigned w32 c.args.self.1 = search rules in
