@@ -15,18 +15,18 @@ mod write;
 
 use format::CFormat;
 
-/// Exports the functions that take a slice, as functions that take a pointer and a length.
+/// Exports the functions that take a slice, as functions that take a pointer and a size.
 macro_rules! export {
     ($($module:ident::$name:ident($($argument:ident: $type:ty),*)),* $(,)?) => { $(
         #[unsafe(no_mangle)]
-        unsafe extern "C" fn $name($($argument: $type,)* buffer: *mut u8, length: usize) -> usize {
-            if length == 0 {
+        unsafe extern "C" fn $name($($argument: $type,)* buffer: *mut u8, size: usize) -> usize {
+            if size == 0 {
                 return 0; // The pointer may be NULL, which is no slice, and no text fits.
             }
-            // SAFETY: `lexical.h` requires of the caller that `buffer` points to `length` bytes, at most PTRDIFF_MAX,
+            // SAFETY: `lexical.h` requires of the caller that `buffer` points to `size` bytes, at most PTRDIFF_MAX,
             // that may be written, that they do not overlap the format, and that nothing else uses them during the
             // call. The caller may not have initialized them, but no compiler sees its code together with this.
-            let buffer = unsafe { core::slice::from_raw_parts_mut(buffer, length) };
+            let buffer = unsafe { core::slice::from_raw_parts_mut(buffer, size) };
             $module::$name($($argument,)* buffer)
         }
     )* };
