@@ -33,6 +33,7 @@ pub mod limbs;
 pub mod line_block;
 pub mod log_lines;
 pub mod measurement;
+pub mod other_laws;
 pub mod packet;
 pub mod printed;
 pub mod read_back;

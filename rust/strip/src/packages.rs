@@ -218,7 +218,7 @@ pub(crate) const SOURCES: &[Source] = &[
     Source {
         name: "uses",
         module: "uses",
-        left_out: "exact_conditions/clones recorded_turns",
+        left_out: "exact_conditions/clones other_laws recorded_turns",
         laws: "same_address same_path same_digest same_float same_counter same_link same_user different_codes same_row
             sorts_by_time same_timed",
         ..TESTS
