@@ -29,11 +29,11 @@ using Writer = size_t (*)(uint64_t);
 // Each writer is called by a pointer, as a function of a library is.
 size_t decimal(uint64_t value) { return lexical_decimal_u64(value, buffer, sizeof buffer); }
 
-template <unsigned radix, unsigned lowercase>
+template <unsigned radix, unsigned lowercase, unsigned group_size = 0, size_t size = sizeof buffer>
 size_t lexical(uint64_t value)
 {
-    static const lexical_format format = { radix, 0, 0, 0, lowercase, { 0, 0 } };
-    return lexical_write_u64(value, &format, buffer, sizeof buffer);
+    static const lexical_format format = { radix, 0, group_size, ',', lowercase, { 0, 0 } };
+    return lexical_write_u64(value, &format, buffer, size);
 }
 
 template <int radix>
@@ -90,6 +90,8 @@ int main()
         { "radix 8", { lexical<8, 0>, to_chars<8>, PRINTF("%" PRIo64), FMT("{:o}") }, {} },
         { "radix 16", { lexical<16, 0>, nullptr, PRINTF("%" PRIX64), FMT("{:X}") }, {} },
         { "radix 16, lowercase", { lexical<16, 1>, to_chars<16>, PRINTF("%" PRIx64), FMT("{:x}") }, {} },
+        { "radix 16, buffer of 24 bytes", { lexical<16, 0, 0, 24>, nullptr, nullptr, nullptr }, {} },
+        { "radix 10, groups of 3", { lexical<10, 0, 3>, nullptr, nullptr, nullptr }, {} },
         { "radix 36", { lexical<36, 0>, nullptr, nullptr, nullptr }, {} },
         { "radix 36, lowercase", { lexical<36, 1>, to_chars<36>, nullptr, nullptr }, {} },
     };

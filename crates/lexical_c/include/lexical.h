@@ -33,7 +33,7 @@
  * Before C11, name the type of the number: lexical_decimal_i32(48879, buffer, sizeof buffer).
  * To write several numbers into one buffer, see examples/line.c of the sources.
  *
- * Text. A negative number begins with '-'. Another number begins with '+' if the
+ * Text. A negative number begins with '-'. Any other number begins with '+' if the
  * format requires a sign, and otherwise with its first digit. The digits are '0' to
  * '9' and 'A' to 'Z', or 'a' to 'z' if the format requests lowercase. The most
  * significant digit is the first one. There are no leading zeros, but lexical_pad can
@@ -67,22 +67,21 @@
  *
  * Speed. lexical_decimal is about as fast as lexical_write in radix 10, and a program
  * that calls only lexical_decimal is smaller if you link it with -Wl,--gc-sections.
- * lexical_write is fastest if the format has no groups, no required sign and uppercase
- * digits. If the buffer is shorter than the constant for the type, such as
- * LEXICAL_BUFFER_SIZE_U32, a call may write the text to an array first and then copy
- * it. With LEXICAL_BUFFER_SIZE bytes it never copies.
+ * Groups take four times as long as no groups. In uppercase radix 8 or 16 a buffer that
+ * is shorter than the constant for the type, such as LEXICAL_BUFFER_SIZE_U32, doubles the
+ * time, because the text is then copied. In radix 10 the size does not matter.
  *
  * Proof. The sources are written in Rattle, a dialect of Rust with contracts. A prover,
  * which is not public, has checked that they write the right text for all arguments
- * that meet the conditions above under "Format" and "Buffer". The Rust code that is made
- * from them, one file by hand, which turns C pointers into slices, and the compiled
- * library are tested, not proved.
+ * that meet the conditions above under "Format" and "Buffer". The Rust code made from
+ * them, the handwritten file that turns C pointers into slices, and the compiled library
+ * are tested, not proved.
  *
  * Threads and signals. The functions have no state and allocate nothing, so you can
  * call them in any thread and in any signal handler.
  *
  * Names. All names begin with lexical_ or LEXICAL_. Those that begin with
- * lexical_private_ or LEXICAL_PRIVATE_ may change in each version, so do not use them.
+ * lexical_private_ or LEXICAL_PRIVATE_ may change in any version, so do not use them.
  */
 #ifndef LEXICAL_H
 #define LEXICAL_H
@@ -291,7 +290,10 @@ uint32_t lexical_check_format(const struct lexical_format *format) LEXICAL_NOEXC
 /*
  * lexical_buffer_size_T: returns a buffer size that is enough for every number of the
  * type in the format, with its sign and its separators. With a buffer of this size,
- * lexical_write_T never returns 0 for this format.
+ * lexical_write_T never returns 0 for this format. In radix 10 it is the length of the
+ * longest text. In other radices it is the constant for the type, such as
+ * LEXICAL_BUFFER_SIZE_U32, with which no text is copied. The exact length for an unsigned
+ * type is, for example, lexical_length_u32(UINT32_MAX, format).
  *
  * The size is from 1 to LEXICAL_BUFFER_SIZE, or 0 if the format is invalid.
  */
@@ -448,8 +450,8 @@ size_t lexical_terminate(size_t count, char *buffer, size_t size) LEXICAL_NOEXCE
  *
  *     count = lexical_write(48879, LEXICAL_RADIX(16), buffer, sizeof buffer);
  *
- * In C99 and later a pointer to it is &(const struct lexical_format)LEXICAL_RADIX(16),
- * and in C11 and later you can write all fields where you call:
+ * In C99 and later you can pass &(const struct lexical_format)LEXICAL_RADIX(16), or all
+ * fields:
  *
  *     count = lexical_write(1234567, &(const struct lexical_format){ .radix = 10,
  *         .group_size = 3, .mark = ',' }, buffer, sizeof buffer);
