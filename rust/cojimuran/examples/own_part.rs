@@ -1,4 +1,4 @@
-//! A part of your own, by another part.
+//! A part of your own that delegates to another part.
 
 use cojimuran::parts::{Padded, Part, Show, Shown};
 use std::fmt;

@@ -78,7 +78,7 @@ impl<T: Display + ?Sized> Part for Displayed<'_, T> {
         let length = buffer.len();
         let mut rest = Rest(buffer);
         write!(rest, "{}", self.0)
-            .expect("the buffer has room for the value, and its `Display` returns no error");
+            .expect("the buffer is too short for the value, or its `Display` returned an error");
         length - rest.0.len()
     }
 

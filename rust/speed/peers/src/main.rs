@@ -69,6 +69,18 @@ macro_rules! format_into {
     };
 }
 
+/// Returns the loops of numbers that are easy to predict: of one length, or of one sign.
+macro_rules! predictable {
+    ($number:ty, |$value:ident| $made:expr) => {
+        [
+            taken!($number, |$value| Buffer::new().format($made)),
+            None,
+            taken!($number, |$value| itoa::Buffer::new().format($made)),
+            None,
+        ]
+    };
+}
+
 /// Returns a loop of the standard library.
 macro_rules! std {
     ($number:ty, |$value:ident| $($text:tt)*) => {
@@ -240,6 +252,9 @@ fn rows() -> Vec<Row> {
             "the same by `write_pieces`",
             [lines!(4, |numbers, text| csv(numbers).write_pieces(&mut text).unwrap()), None, None, None],
         ),
+        ("`u64` of 3 digits as a `&str`", predictable!(u64, |n| 100 + (n & 511))),
+        ("`u64` of 20 digits as a `&str`", predictable!(u64, |n| n | 3 << 62)),
+        ("`i64` that is not negative, as a `&str`", predictable!(i64, |n| n & i64::MAX)),
     ]
 }
 
