@@ -1,9 +1,10 @@
-//! Writes integers as text, in every radix from 2 to 36, into a buffer that you supply. No call allocates, except that
-//! `append_to` and `write_pieces` grow the target that you pass, that `append_to` of a text that may have more than 256
-//! bytes to a `String` uses a temporary buffer, and that a [`Displayed`] allocates if its value does. The sources are
-//! written in Rattle, a dialect of Rust with contracts, and are proved there: [when its conditions hold](#conditions), a
-//! call writes exactly the right bytes and does not panic. A program makes this Rust code from them, and the Rust code is
-//! tested. [`Displayed`] and what needs the feature `alloc` are written by hand and tested.
+//! Writes integers as text, in every radix from 2 to 36, into a buffer that you supply. It allocates only where you append
+//! to a `String`, a `Vec` or a `fmt::Write`, or write a value whose own `Display` allocates.
+//!
+//! The sources are written in Rattle, a dialect of Rust with contracts, and a prover has checked them:
+//! [when its conditions hold](#conditions), a call writes exactly the right bytes and does not panic. The prover is not
+//! public. A program makes this Rust code from the sources, and the Rust code is tested. [`Displayed`] and what needs the
+//! feature `alloc` are written by hand and tested. What calls cost is on the page [`costs`].
 //!
 //! # A first program
 //!
@@ -90,8 +91,6 @@
 //! ```
 #![doc = include_str!("../CONDITIONS.md")]
 //!
-#![doc = include_str!("../COSTS.md")]
-//!
 //! # Versions
 //!
 //! The versions follow semantic versioning, by cargo's rules for 0.x versions: a version 0.x.y is compatible with 0.x.0,
@@ -130,6 +129,10 @@ mod write_integer;
 
 #[cfg(doctest)]
 mod misuse;
+
+#[cfg(doc)]
+#[doc = include_str!("../COSTS.md")]
+pub mod costs {}
 
 #[cfg(feature = "alloc")]
 pub use append::{Append, AppendTarget};
