@@ -52,7 +52,7 @@
  * text keep their values.
  *
  * Size of the buffer. LEXICAL_BUFFER_SIZE bytes are enough for every number of every
- * type in every format.
+ * type in every format. A terminating NUL needs one byte more.
  *
  * Return value. A call that writes returns the length of the text in the buffer. This
  * length does not count a NUL. A text has at least one digit, so 0 always means an
@@ -67,9 +67,9 @@
  *
  * Speed. lexical_decimal is about as fast as lexical_write in radix 10, and a program
  * that calls only lexical_decimal is smaller if you link it with -Wl,--gc-sections.
- * Groups take four times as long as no groups. In uppercase radix 8 or 16 a buffer that
- * is shorter than the constant for the type, such as LEXICAL_BUFFER_SIZE_U32, doubles the
- * time, because the text is then copied. In radix 10 the size does not matter.
+ * Groups take about four times as long as no groups. In uppercase radix 8 or 16 a buffer
+ * that is shorter than the constant for the type, such as LEXICAL_BUFFER_SIZE_U32, takes up
+ * to twice the time, because the text is then copied. In radix 10 the size does not matter.
  *
  * Proof. The sources are written in Rattle, a dialect of Rust with contracts. A prover,
  * which is not public, has checked that they write the right text for all arguments
@@ -160,7 +160,11 @@ LEXICAL_HAS((nothrow, const)) uint32_t lexical_version(void) LEXICAL_NOEXCEPT;
 
 /* ---- decimal numbers ----------------------------------------------------- */
 
-/* A buffer size that is enough for every number of one type in decimal. */
+/*
+ * A buffer size that is enough for every text of lexical_decimal_T. It has no room for the
+ * '+' of an unsigned number, for separators, or for a NUL. For a format with these use
+ * lexical_buffer_size_T.
+ */
 #define LEXICAL_BUFFER_SIZE_DECIMAL_U8 3
 #define LEXICAL_BUFFER_SIZE_DECIMAL_U16 5
 #define LEXICAL_BUFFER_SIZE_DECIMAL_U32 10
@@ -232,10 +236,11 @@ struct lexical_format {
 
 /*
  * The format of a radix, as an initializer: with no '+' and no groups, in uppercase.
- * The radix may have any standard integer type. gcc and clang refuse a constant that is
- * not from 2 to 36, except in C++98. Other compilers refuse it only in C11 and later. Any
- * other number that is not from 2 to 36 becomes the radix 0, which is invalid. The radix
- * is evaluated once, except in C before C11 with compilers other than gcc and clang.
+ * The radix may have any standard integer type. A number that is not from 2 to 36 becomes
+ * the radix 0, which is invalid. If it is a constant, it does not compile with gcc and
+ * clang (except in C++98), nor with other compilers in C11 and later: the error speaks of
+ * an array of a negative size. The radix is evaluated once, except in C before C11 with
+ * compilers other than gcc and clang.
  */
 #define LEXICAL_RADIX(radix) { LEXICAL_PRIVATE_RADIX(radix), 0, 0, 0, 0, { 0, 0 } }
 
@@ -292,8 +297,9 @@ uint32_t lexical_check_format(const struct lexical_format *format) LEXICAL_NOEXC
  * type in the format, with its sign and its separators. With a buffer of this size,
  * lexical_write_T never returns 0 for this format. In radix 10 it is the length of the
  * longest text. In other radices it is the constant for the type, such as
- * LEXICAL_BUFFER_SIZE_U32, with which no text is copied. The exact length for an unsigned
- * type is, for example, lexical_length_u32(UINT32_MAX, format).
+ * LEXICAL_BUFFER_SIZE_U32, because lexical_write_T is faster with a buffer of that size.
+ * The length of the longest text is lexical_length_u32(UINT32_MAX, format), and for a
+ * signed type lexical_length_i32(INT32_MIN, format).
  *
  * The size is from 1 to LEXICAL_BUFFER_SIZE, or 0 if the format is invalid.
  */
@@ -407,7 +413,7 @@ size_t lexical_write_i64(int64_t value, const struct lexical_format *format,
  * if it is 0.
  *
  * lexical_pad knows no prefix: it would make 00000xFF of 0xFF. So pad only the digits,
- * with `buffer + 2` as the buffer. The zeros are not grouped: 1,234,567 padded to 12 bytes
+  * with `buffer + 2` as the buffer and a size that is 2 less, before you add 2 to the count. The zeros are not grouped: 1,234,567 padded to 12 bytes
  * is 0001,234,567.
  *
  * If `width` is greater than `size`, lexical_pad returns 0 although the text without
@@ -439,11 +445,12 @@ size_t lexical_terminate(size_t count, char *buffer, size_t size) LEXICAL_NOEXCE
 
 /*
  * lexical_decimal, lexical_write and lexical_length, in C11 and later, and in C++. They
- * call the function for the type of the value, for example lexical_write_i32 for an
- * int. A variable of the type char or bool is refused, and in C++ also one of the type
- * wchar_t, char8_t, char16_t or char32_t: cast it to int if you mean its number. In C
- * the expressions 'x' and a > b have the type int, so they are accepted. So is true
- * before C23. In C11 and later gcc also needs a cast for a bit-field.
+ * call the function for the type of the value, for example lexical_write_i32 for an int.
+ * In C they are macros, which evaluate each argument once. A variable of the type char or
+ * bool is refused, and in C++ also one of the type wchar_t, char8_t, char16_t or char32_t:
+ * cast it to int if you mean its number. In C the expressions 'x' and a > b have the type
+ * int, so they are accepted. So is true before C23. In C11 and later gcc also needs a cast
+ * for a bit-field.
  *
  * In C++ the format may also be passed as an object, and in C++11 and later as
  * an initializer:

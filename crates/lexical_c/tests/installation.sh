@@ -80,6 +80,7 @@ builds_examples() {
       prints "$(printf '%b' "$lines")" "$work/example" || return
   done 4<<'END'
 first.c|c11|1234567
+formats.c|c11|BEEF\n1,234,567\n0x0000BEEF
 line.c|c11|id=0xBEEF size=1,234,567 change=-42\nThe line has more than 20 bytes.\nThe format is invalid.
 example17.cpp|c++17|1,234,567\n-4D2
 example20.cpp|c++20|1,234,567
