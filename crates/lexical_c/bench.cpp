@@ -49,8 +49,13 @@ size_t format_int(uint64_t value)
     asm volatile("" : : "r"(text.data()) : "memory");  // The text is read.
     return text.size();
 }
+
+size_t group_digits(uint64_t value)
+{
+    return size_t(fmt::format_to(buffer, FMT_COMPILE("{}"), fmt::group_digits(value)) - buffer);
+}
 #else
-const Writer format_int = nullptr;
+const Writer format_int = nullptr, group_digits = nullptr;
 #endif
 
 std::vector<uint64_t> numbers;
@@ -90,8 +95,8 @@ int main()
         { "radix 8", { lexical<8, 0>, to_chars<8>, PRINTF("%" PRIo64), FMT("{:o}") }, {} },
         { "radix 16", { lexical<16, 0>, nullptr, PRINTF("%" PRIX64), FMT("{:X}") }, {} },
         { "radix 16, lowercase", { lexical<16, 1>, to_chars<16>, PRINTF("%" PRIx64), FMT("{:x}") }, {} },
-        { "radix 16, buffer of 24 bytes", { lexical<16, 0, 0, 24>, nullptr, nullptr, nullptr }, {} },
-        { "radix 10, groups of 3", { lexical<10, 0, 3>, nullptr, nullptr, nullptr }, {} },
+        { "radix 16, buffer of 24 bytes", { lexical<16, 0, 0, 24>, nullptr, PRINTF("%" PRIX64), FMT("{:X}") }, {} },
+        { "radix 10, groups of 3", { lexical<10, 0, 3>, nullptr, nullptr, group_digits }, {} },
         { "radix 36", { lexical<36, 0>, nullptr, nullptr, nullptr }, {} },
         { "radix 36, lowercase", { lexical<36, 1>, to_chars<36>, nullptr, nullptr }, {} },
     };

@@ -67,9 +67,10 @@
  *
  * Speed. lexical_decimal is about as fast as lexical_write in radix 10, and a program
  * that calls only lexical_decimal is smaller if you link it with -Wl,--gc-sections.
- * Groups take about four times as long as no groups. In uppercase radix 8 or 16 a buffer
- * that is shorter than the constant for the type, such as LEXICAL_BUFFER_SIZE_U32, takes up
- * to twice the time, because the text is then copied. In radix 10 the size does not matter.
+ * Groups take more than three times as long as no groups. In uppercase radix 8 or 16 a
+ * buffer that is shorter than the constant for the type, such as LEXICAL_BUFFER_SIZE_U32,
+ * takes about twice the time, because the text is then copied. In radix 10 the size does
+ * not matter.
  *
  * Proof. The sources are written in Rattle, a dialect of Rust with contracts. A prover,
  * which is not public, has checked that they write the right text for all arguments
