@@ -1,6 +1,0 @@
-use Rattle.std.proofs.Math.Facts.{to_z-of_z}
-use Rattle.lexical_c.proofs.decimal.lexical_decimal_i16.Goals as goal
-
--- the check finds this proof by itself, but with an answer the refusal of a mistake says what is wrong
-pub returns : goal.returns
-returns c = rw (to_z-of_z c.ranges.value) at c.write_decimal.ensures

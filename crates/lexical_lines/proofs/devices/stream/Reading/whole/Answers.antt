@@ -1,5 +1,0 @@
-use Rattle.lexical_lines.proofs.devices.stream.Reading.whole.Goals as goal
-
--- the check finds this proof by itself, but with an answer the refusal of a mistake says what is wrong
-pub returns : goal.returns
-returns g c = c.new.ensures

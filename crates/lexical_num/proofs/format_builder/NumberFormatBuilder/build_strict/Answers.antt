@@ -1,5 +1,0 @@
-use Rattle.lexical_num.proofs.format_builder.NumberFormatBuilder.build_strict.Goals as goal
-
--- the check finds this proof by itself, but with an answer the refusal of a mistake says what is wrong
-pub returns : goal.returns
-returns c = c.self.view_is

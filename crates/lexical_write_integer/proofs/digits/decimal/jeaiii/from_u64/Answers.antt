@@ -1,5 +1,0 @@
-use Rattle.lexical_write_integer.proofs.digits.decimal.jeaiii.from_u64.Goals as goal
-
--- the check finds this proof by itself, but with an answer the refusal of a mistake says what is wrong
-pub returns-clause-digits : goal.returns-clause-digits
-returns-clause-digits c = c.from_u64_counted.ensures.digits

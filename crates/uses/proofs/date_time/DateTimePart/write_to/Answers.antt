@@ -1,5 +1,0 @@
-use Rattle.uses.proofs.date_time.DateTimePart.write_to.Goals as goal
-
--- the check finds this proof by itself, but with an answer the refusal of a mistake says what is wrong
-pub returns-clause-text : goal.returns-clause-text
-returns-clause-text c = c.write_to.ensures.text
