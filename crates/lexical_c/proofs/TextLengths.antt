@@ -16,10 +16,12 @@ use Rattle.lexical_write_integer.proofs.OfTexts.Required.{length-IsText, grouped
 -- the text of a number consists of its sign, its digits, and the separators between them
 pub length-text_of : (x : ℤ) (format : Format) → IsValid format → unsigned_abs x < 2 ^ 64 →
     length (text_of x format) ≡
-    length (sign_of x format.required_mantissa_sign) + grouped_length format.digit_grouping (digit_count format.mantissa_radix (unsigned_abs x))
+    length (sign_of x format.required_mantissa_sign) + grouped_length format.digit_grouping
+    (digit_count format.mantissa_radix (unsigned_abs x))
 length-text_of x format valid small =
     let two = valid.mantissa.at_least_two in
-    length-IsText x format (text_of x format) two valid.groups ((text_computed x format (text_of x format) two small).1 refl)
+    length-IsText x format (text_of x format) two valid.groups
+    ((text_computed x format (text_of x format) two small).1 refl)
 
 -- the text of a number fits a buffer of the length that its writer requires
 pub text_of-le_need : {bits width : ℕ} (is_signed : Bool) (x : ℤ) (format : Format) → IsValid format → IsBitWidth bits →

@@ -18,7 +18,8 @@ Writes-newline before after count w room = record {
 }
 
 -- `bad line ` before a decimal number
-pub IsBadLine-from : (n : ℕ) (line : List ℕ) → WithNewline (IsText (pos n) standard) line → WithNewline (IsBadLine n) (codes "bad line " ++ line)
+pub IsBadLine-from : (n : ℕ) (line : List ℕ) → WithNewline (IsText (pos n) standard) line
+    → WithNewline (IsBadLine n) (codes "bad line " ++ line)
 IsBadLine-from n line (text, is, whole) = (
   codes "bad line " ++ text,
   (is.digits, is.magnitude, ap (λ digits. codes "bad line " ++ digits) is.whole),

@@ -8,29 +8,37 @@ use Rattle.lexical_lines.specs.RunOutcome.{BreaksOff}
 use Rattle.lexical_lines.proofs.UniqueAnswers.{AnswersAll-unique, AnswersEnded-begins, BreaksOff-begins}
 use Rattle.lexical_lines.specs.StreamAnswers.{BeginsAnswers}
 
+-- the answers to the lines that ended are a prefix of the answers to every longer input
 pub begins-ended : (is_whole : Bool) (read put : List ℕ) → AnswersEnded read put → BeginsAnswers is_whole read put
 begins-ended is_whole read put answered = λ more text whole all.
     let (rest, e) = AnswersEnded-begins read more put text answered all in
     starts_with_of_append text put rest e
 
-pub begins-broken : (is_whole : Bool) (read next front put : List ℕ) → StartsWith next front → BreaksOff false (read ++ front) put
+-- so are answers that broke off after a part of the bytes that were read next
+pub begins-broken : (is_whole : Bool) (read next front put : List ℕ) → StartsWith next front
+    → BreaksOff false (read ++ front) put
     → BeginsAnswers is_whole (read ++ next) put
 begins-broken is_whole read next front put begun broke = λ more text whole all.
     let rest = drop (length front) next in
     let parts : (read ++ next) ++ more ≡ (read ++ front) ++ (rest ++ more) =
     ap (λ bytes. (read ++ bytes) ++ more) (starts_with_rest next front begun) ∙ regroup read front rest more in
-    let (last, some, e) = BreaksOff-begins false (read ++ front) (rest ++ more) put text (λ wrong. absurd (cc wrong)) broke (rw parts at all) in
+    let (last, some, e) = BreaksOff-begins false (read ++ front) (rest ++ more) put text (λ wrong. absurd (cc wrong))
+    broke (rw parts at all) in
     starts_with_of_append text put last e
   where
     regroup : (a b c d : List ℕ) → (a ++ (b ++ c)) ++ d ≡ (a ++ b) ++ (c ++ d)
     regroup a b c d = simp append_assoc
 
-pub begins-last : (is_whole : Bool) (read put : List ℕ) → is_whole ≡ true → BreaksOff true read put → BeginsAnswers is_whole read put
+-- if these bytes are the whole input, answers that broke off within the last one are a prefix of its answers
+pub begins-last : (is_whole : Bool) (read put : List ℕ) → is_whole ≡ true → BreaksOff true read put
+    → BeginsAnswers is_whole read put
 begins-last is_whole read put is broke = λ more text whole all.
     let (last, some, e) = BreaksOff-begins true read more put text (λ _. whole is) broke all in
     starts_with_of_append text put last e
 
-pub begins-all : (is_whole : Bool) (read put : List ℕ) → is_whole ≡ true → AnswersAll read put → BeginsAnswers is_whole read put
+-- and so are the answers to all its lines
+pub begins-all : (is_whole : Bool) (read put : List ℕ) → is_whole ≡ true → AnswersAll read put
+    → BeginsAnswers is_whole read put
 begins-all is_whole read put is answered = λ more text whole all.
     let same : read ++ more ≡ read = ap (λ bytes. read ++ bytes) (whole is) ∙ append-nil read in
     starts_with_of_eq text put (AnswersAll-unique read text put (rw same at all) answered)

@@ -11,6 +11,8 @@ Holds-lt kind minus n h = grind arith
 
 -- ---- two names that a space ends are the same
 
-pub name_unique : (kind other : IntegerType) (rest more : List ℕ) → name_of kind ++ 32 ∷ rest ≡ name_of other ++ 32 ∷ more
+-- a text begins with the name of at most one type and a space
+pub name_unique : (kind other : IntegerType) (rest more : List ℕ)
+    → name_of kind ++ 32 ∷ rest ≡ name_of other ++ 32 ∷ more
     → (kind ≡ other) × (rest ≡ more)
 name_unique kind other rest more e = grind arith

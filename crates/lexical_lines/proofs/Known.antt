@@ -9,7 +9,10 @@ use Rattle.lexical_lines.specs.BlockWriter.{BlockWriting}
 use Rattle.lexical_lines.specs.RunOutcome.{ReportsAllValid}
 use Rattle.lexical_lines.specs.StreamAnswers.{AllAnswered, WritesAllAnswers, bytes_put}
 
-answers-limited : (limit : ℕ) (known : Option (List ℕ)) (read text : List ℕ) → IfSome (option_map (take limit) known) (λ bytes. read ≡ bytes)
+-- if the bytes of a source are known and what was read is all of them up to a limit, a text that answers all lines of
+-- what was read answers all lines of the known bytes up to the limit
+answers-limited : (limit : ℕ) (known : Option (List ℕ)) (read text : List ℕ)
+    → IfSome (option_map (take limit) known) (λ bytes. read ≡ bytes)
     → AnswersAll read text → IfSome known (λ bytes. AnswersAll (take limit bytes) text)
 answers-limited limit known read text all answers = grind arith
 
@@ -29,6 +32,7 @@ pub reports-known : (limit : ℕ) (known : Option (List ℕ)) (read : List ℕ) 
 reports-known limit known read all_valid all reports = grind arith
 
 -- what was read is a prefix of the known bytes, up to the limit
-pub begins-known : (limit : ℕ) (known new : Option (List ℕ)) (read : List ℕ) → Consumes (option_map (take limit) known) new read
+pub begins-known : (limit : ℕ) (known new : Option (List ℕ)) (read : List ℕ)
+    → Consumes (option_map (take limit) known) new read
     → IfSome known (λ bytes. StartsWith (take limit bytes) read)
 begins-known limit known new read h = grind (arith, starts_with_of_append)

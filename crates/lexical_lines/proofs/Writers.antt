@@ -9,16 +9,19 @@ use Rattle.lexical_lines.proofs.Added.{added-is}
 use Rattle.lexical_lines.specs.Stream.{StreamWriting, KeepsWriter}
 
 -- a sink that was empty contains what it has taken
-pub contents-known : (old new : Option (List ℕ)) (more items : List ℕ) → old ≡ Some [] → new ≡ Some items → Appends old new more → items ≡ more
+pub contents-known : (old new : Option (List ℕ)) (more items : List ℕ) → old ≡ Some [] → new ≡ Some items
+    → Appends old new more → items ≡ more
 contents-known old new more items none some appends = grind arith
 
 -- a write appends the bytes that it took
-pub appends-taken : {E : Type 0} (old new : Option (List ℕ)) (outcome : Result ℕ E) (bytes : List ℕ) → WriteAppends old new outcome bytes
+pub appends-taken : {E : Type 0} (old new : Option (List ℕ)) (outcome : Result ℕ E) (bytes : List ℕ)
+    → WriteAppends old new outcome bytes
     → Appends old new (take (taken_by outcome) bytes)
 appends-taken old new outcome bytes wrote = grind (arith, Appends-nil)
 
 -- if a writer was empty, it now contains the answers that its sink has taken
 pub answers_held : {W : Type 0} (contents : W → Option (List ℕ)) {bytes items : List ℕ} {a b : StreamWriting W}
-    → AnswersAll bytes (added a.taken b.taken) → KeepsWriter contents a b → contents a.writer ≡ Some [] → contents b.writer ≡ Some items
+    → AnswersAll bytes (added a.taken b.taken) → KeepsWriter contents a b → contents a.writer ≡ Some []
+    → contents b.writer ≡ Some items
     → AnswersAll bytes items
 answers_held contents {bytes = bytes} {items = items} {a = a} {b = b} answers kept empty full = grind (arith, added-is)

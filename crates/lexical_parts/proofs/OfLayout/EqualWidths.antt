@@ -22,7 +22,8 @@ module _ {A : Type 0} (IsOf : A → List ℕ → Type 0) (separator : List ℕ) 
   place [] text wide is k = tt
   place (x ∷ []) text wide is zero =
       let long = All-head Wide x [] wide text is in
-      let same : take w (drop (0 * step) text) ≡ text = ap (λ n. take w (drop n text)) at_zero ∙ take_all w text (omega (arith, long)) in
+      let same : take w (drop (0 * step) text) ≡ text =
+      ap (λ n. take w (drop n text)) at_zero ∙ take_all w text (omega (arith, long)) in
       rw same is
   place (x ∷ []) text wide is (suc k) = tt
   place (x ∷ y ∷ xs) text wide is zero =
@@ -37,12 +38,14 @@ module _ {A : Type 0} (IsOf : A → List ℕ → Type 0) (separator : List ℕ) 
       is.whole ∙ ap (λ t. is.first ++ t) (is.is_second.whole ∙ ap (λ t. t ++ rest) is.is_second.is_first)
       ∙ sym (append_assoc is.first separator rest) in
       let behind : drop step text ≡ rest =
-      ap (drop step) whole ∙ drop_at (is.first ++ separator) rest step (omega (arith, length-append is.first separator, long)) in
+      ap (drop step) whole ∙ drop_at (is.first ++ separator) rest step
+      (omega (arith, length-append is.first separator, long)) in
       let more : suc k * step ≡ step + k * step = grind arith in
       let same : drop (suc k * step) text ≡ drop (k * step) rest =
       ap (λ n. drop n text) more ∙ sym (drop-drop (k * step) step text) ∙ ap (drop (k * step)) behind in
       rw same (place (y ∷ xs) rest (All-tail Wide x (y ∷ xs) wide) is.is_second.is_second k)
 
+  -- before the text of element k are k texts of the width and k separators
   pub starts_at : (xs : List A) (text : List ℕ) → All Wide xs → AreJoined IsOf separator xs text
       → (k : ℕ) → IfSome (slice_get xs k) (λ x. IsOf x (slice_range text (k * step) (k * step + w)))
   starts_at xs text wide is k =

@@ -17,10 +17,13 @@ pub leads_at : (separator : List ℕ) (index : ℕ) → Leads separator index (l
 leads_at separator index = grind arith
 
 -- one further element needs its own room and that of the separator before it
-pub joined_room-more : {A : Type 0} (room : A → ℕ) (separator lead : List ℕ) (xs : List A) {i : ℕ} {x : A} → i < length xs → x ≡ get_or xs i x
+pub joined_room-more : {A : Type 0} (room : A → ℕ) (separator lead : List ℕ) (xs : List A) {i : ℕ} {x : A}
+    → i < length xs → x ≡ get_or xs i x
     → Leads separator i lead
-    → joined_room room (length separator) (take (i + 1) xs) ≡ joined_room room (length separator) (take i xs) + (length lead + room x)
-joined_room-more room separator lead xs {i} {x} inside is leads = grind (arith, length-take-le, sum_by_more, separators_more)
+    → joined_room room (length separator) (take (i + 1) xs) ≡ joined_room room (length separator) (take i xs)
+    + (length lead + room x)
+joined_room-more room separator lead xs {i} {x} inside is leads =
+    grind (arith, length-take-le, sum_by_more, separators_more)
 
 -- the first elements need at most the room of all
 pub joined_room-take-le : {A : Type 0} (room : A → ℕ) (separator : ℕ) (xs : List A) (i : ℕ) → i ≤ length xs

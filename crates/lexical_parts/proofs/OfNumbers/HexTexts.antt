@@ -8,12 +8,14 @@ use Rattle.lexical_parts.specs.HexBytes.{hex_bytes_text}
 use Rattle.lexical_parts.specs.Length.{IsOnly}
 use Rattle.lexical_parts.proofs.Equations.{only_padded}
 
+-- every text of a number in two digits in radix 16 is the computed one
 one_byte : (byte : ℕ) (text : List ℕ) → IsPadded 16 2 byte text → text ≡ padded_text 16 2 byte
 one_byte byte text is =
     let low = value_of-lt 16 is.digits is.block.below_radix in
     let small : byte < 16 ^ 2 = rw (is.block.value, is.block.counted) at low in
     (only_padded 16 2 byte (omega arith) small).only text is
 
+-- bytes in two digits each, with a separator between them, have the computed text
 pub hex_bytes_computed : (separator bytes text : List ℕ) → AreJoined (IsPadded 16 2) separator bytes text
     → text ≡ hex_bytes_text separator bytes
 hex_bytes_computed separator [] text is = is
@@ -23,5 +25,7 @@ hex_bytes_computed separator (byte ∷ next ∷ rest) text is =
     let others = hex_bytes_computed separator (next ∷ rest) is.is_second.second is.is_second.is_second in
     is.whole ∙ rw (first, is.is_second.whole, is.is_second.is_first, others) refl
 
-pub only_hex_bytes : (separator bytes : List ℕ) → IsOnly (AreJoined (IsPadded 16 2) separator bytes) (hex_bytes_text separator bytes)
+-- and no other
+pub only_hex_bytes : (separator bytes : List ℕ)
+    → IsOnly (AreJoined (IsPadded 16 2) separator bytes) (hex_bytes_text separator bytes)
 only_hex_bytes separator bytes = record { only = hex_bytes_computed separator bytes }

@@ -7,16 +7,19 @@ use Rattle.lexical_write_integer.specs.Sequence.{IsExactly, Then}
 use Rattle.lexical_write_integer.specs.Text.{IsDigits, IsText}
 use Rattle.lexical_parts.specs.Plus.{IsPlus}
 
+-- what was written as a text of the one kind was written as one of the other
 pub written_as : {A B : List ℕ → Type 0} {before after : List ℕ} {count : ℕ} → ((text : List ℕ) → A text → B text)
     → Writes A before after count → Writes B before after count
 written_as change w = record { text = w.text; is = change w.text w.is; front = w.front; count = w.count }
 
+-- two texts in a row are of two other kinds if each of them is of the other kind
 pub then_as : {A B C D : List ℕ → Type 0} → ((text : List ℕ) → A text → C text) → ((text : List ℕ) → B text → D text)
     → (text : List ℕ) → Then A B text → Then C D text
 then_as first second text is = grind arith
 
 -- a sign and digits
-pub IsPlus-from_then : {number : ℤ} (text : List ℕ) → Then (IsExactly (sign_of number true)) (IsDigits 10 (unsigned_abs number)) text → IsPlus number text
+pub IsPlus-from_then : {number : ℤ} (text : List ℕ)
+    → Then (IsExactly (sign_of number true)) (IsDigits 10 (unsigned_abs number)) text → IsPlus number text
 IsPlus-from_then text is = record { digits = is.second; magnitude = is.is_second; whole = rw is.is_first at is.whole }
 
 -- the text of a number without a sign and groups

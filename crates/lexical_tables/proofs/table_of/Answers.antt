@@ -1,4 +1,5 @@
--- Each table is computed and compared with the rule, `pairs`. `refl` is told the rule, so that the refusal of a wrong table says which byte differs.
+-- Each table is computed and compared with the rule, `pairs`. `refl` is told the rule, so that the refusal of a wrong
+-- table says which byte differs.
 use Rattle.std.proofs.Common.{refl}
 use Rattle.lexical_tables.specs.Pairs.{pairs}
 use Rattle.lexical_tables.proofs.table_of.Goals as goal

@@ -9,7 +9,8 @@ use Rattle.lexical_write_integer.proofs.Buffers.Prefixes.{Front-after, length-af
 -- a text is written, and then another in the bytes that follow it
 pub written_then : (IsFirst IsSecond : List ℕ → Type 0) (before between part : List ℕ) (count room more : ℕ)
     → Writes IsFirst before between count → Writes IsSecond (take room (drop count between)) part more
-    → Writes (Then IsFirst IsSecond) before (take count between ++ (part ++ drop room (drop count between))) (count + more)
+    → Writes (Then IsFirst IsSecond) before (take count between ++ (part ++ drop room (drop count between)))
+    (count + more)
 written_then IsFirst IsSecond before between part count room more a b = record {
   text = a.text ++ b.text;
   is = record { first = a.text; second = b.text; is_first = a.is; is_second = b.is; whole = refl };
@@ -26,5 +27,6 @@ pub written_first : (Is : List ℕ → Type 0) (before part : List ℕ) (count r
     → Writes Is (take room before) part count → Writes Is before (part ++ drop room before) count
 written_first Is before part count room w =
     let left : drop (length w.text) (take room before) ++ drop room before ≡ drop (length w.text) before =
-    sym (drop-append-le (length w.text) (take room before) (drop room before) w.front.fits) ∙ ap (drop (length w.text)) (take-append-drop room before) in
+    sym (drop-append-le (length w.text) (take room before) (drop room before) w.front.fits)
+    ∙ ap (drop (length w.text)) (take-append-drop room before) in
     grind (arith, length-take, append_assoc)

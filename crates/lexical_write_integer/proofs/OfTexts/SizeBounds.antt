@@ -30,13 +30,15 @@ sign-le : (bits : ℕ) (is_signed : Bool) (x : ℤ) (required : Bool) → least_
     → length (sign_of x required) ≤ (if is_signed then 1 else 0) + (if required then 1 else 0)
 sign-le bits is_signed x required low = grind arith
 
+-- and at most one byte in each case
 pub sign-le_one : (x : ℤ) (required : Bool) → length (sign_of x required) ≤ 1
 sign-le_one x required = grind arith
 
 -- for a signed type the decimal size has one byte for the sign
 pub need-le_size : {bits width size size_decimal : ℕ} (is_signed : Bool) → IsBitWidth bits
     → AreSizes 128 bits is_signed width size size_decimal → (x : ℤ) (format : Format) → IsRadix format.mantissa_radix
-    → least_of bits is_signed ≤ℤ x → x ≤ℤ greatest_of bits is_signed → need x width format ≤ size_in size size_decimal format
+    → least_of bits is_signed ≤ℤ x → x ≤ℤ greatest_of bits is_signed
+    → need x width format ≤ size_in size size_decimal format
 need-le_size {bits} {width} {size} {size_decimal} is_signed of_type sizes x format radix low high =
     let fits = magnitude-below is_signed of_type x low high in
     let some : 1 ≤ bits = omega (arith, sizes.of_bits, sizes.some) in
@@ -46,6 +48,7 @@ need-le_size {bits} {width} {size} {size_decimal} is_signed of_type sizes x form
     grind arith
 
 -- and the size is at most the room, even with groups of one digit and a required sign
-pub size_in-le : {room bits width size size_decimal : ℕ} {is_signed : Bool} → AreSizes room bits is_signed width size size_decimal
+pub size_in-le : {room bits width size size_decimal : ℕ} {is_signed : Bool}
+    → AreSizes room bits is_signed width size size_decimal
     → (format : Format) → size_in size size_decimal format ≤ room
 size_in-le {room} {bits} {width} {size} {size_decimal = n} sizes format = grind arith

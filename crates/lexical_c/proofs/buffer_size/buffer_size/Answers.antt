@@ -14,9 +14,11 @@ returns-in-Some g c =
       size = λ _. size;
       enough = λ _ x at_least at_most.
           let integer = g.met.T.LexicalInteger in
-          let fits = text_of-le_need _ x (format_of c.args.format.now) valid integer.bit_width integer.decimal_width at_least at_most in
+          let fits = text_of-le_need _ x (format_of c.args.format.now)
+          valid integer.bit_width integer.decimal_width at_least at_most in
           let needs =
-          need-le_size _ integer.bit_width g.met.T.FormattedSize.sizes x (format_of c.args.format.now) valid.mantissa at_least at_most in
+          need-le_size _ integer.bit_width g.met.T.FormattedSize.sizes x (format_of c.args.format.now)
+          valid.mantissa at_least at_most in
           omega (arith, size, fits, needs);
       within = search rules;
     }

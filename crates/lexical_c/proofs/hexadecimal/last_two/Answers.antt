@@ -13,7 +13,8 @@ digit_at i = if i % 2 == 0 then i / 32 else i / 2 % 16
 
 entry : (i : ℕ) → i < 512 → get_or PAIRS i 0 ≡ to_ascii_lowercase (digit_char (digit_at i))
 unfolding digit_at
-entry i within = get_or-map-range_with_len (λ j. to_ascii_lowercase (digit_char (digit_at j))) 0 512 i i 0 within (omega arith)
+entry i within = get_or-map-range_with_len (λ j. to_ascii_lowercase (digit_char (digit_at j))) 0 512 i i 0 within
+    (omega arith)
 
 pub returns-clause-first : goal.returns-clause-first
 unfolding digit_at

@@ -7,10 +7,12 @@ use Rattle.lexical_c.proofs.TextLengths.{length-text_of}
 use Rattle.lexical_c.proofs.hexadecimal.write_hexadecimal.Goals as goal
 use Rattle.lexical_c.proofs.hexadecimal.write_hexadecimal.Goals.{After-digit_count}
 
-long : (g : _) (c : After-digit_count g) → c.sign_len-sign.result + c.digit_count.result ≡ length (text_of (g.T.LexicalInteger.number c.args.value) hexadecimal)
+long : (g : _) (c : After-digit_count g) → c.sign_len-sign.result + c.digit_count.result
+    ≡ length (text_of (g.T.LexicalInteger.number c.args.value) hexadecimal)
 long g c =
     let number = g.T.LexicalInteger.number c.args.value in
-    let small = magnitude-small _ g.met.T.LexicalInteger.bit_width _ c.in_range.ensures.at_least c.in_range.ensures.at_most in
+    let small = magnitude-small _ g.met.T.LexicalInteger.bit_width _ c.in_range.ensures.at_least
+    c.in_range.ensures.at_most in
     let digits = c.digit_count.ensures.count ∙ ap (digit_count 16) c.magnitude-magnitude.ensures in
     omega (arith, length-text_of number hexadecimal hexadecimal_valid small, c.sign_len-sign.ensures, digits)
 

@@ -9,4 +9,5 @@ loop-byte-preserved c =
     let index = c.loop-byte.byte-index in
     let byte = get_or c.loop-byte.text index 0 in
     let read = get_or_default c.loop-byte.text index 0 byte (omega arith) in
-    map_over_more (λ byte. bit_or byte 32) c.args.text.now c.loop-byte.text index byte (omega arith) c.loop-byte.invariant read
+    map_over_more (λ byte. bit_or byte 32) c.args.text.now c.loop-byte.text index byte (omega arith)
+    c.loop-byte.invariant read

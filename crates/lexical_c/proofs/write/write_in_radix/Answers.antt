@@ -7,7 +7,8 @@ use Rattle.lexical_c.proofs.write.write_in_radix.Goals as goal
 pub returns-in-Some : goal.returns-in-Some
 returns-in-Some g c =
     let only = c.requires.only in
-    let small = magnitude-small _ g.met.T.LexicalInteger.bit_width _ c.in_range.ensures.at_least c.in_range.ensures.at_most in
+    let small = magnitude-small _ g.met.T.LexicalInteger.bit_width _ c.in_range.ensures.at_least
+    c.in_range.ensures.at_most in
     in_either_case _ c.args.format.now _ _ _ only.groups c.requires.case
     (written _ c.args.format.now _ _ _ (accepted _ only c.in-Some.ensures.radix) small
     (rw (c.in-Some.ensures.format ∙ sym (only_radix _ only)) at c.write_plain.ensures))

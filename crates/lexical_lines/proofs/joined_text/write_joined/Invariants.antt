@@ -7,7 +7,9 @@ use Rattle.lexical_lines.proofs.joined_text.write_joined.Given as goal
 
 abbrev pub invariant-loop-index : goal.invariant-loop-index
 invariant-loop-index g l = record {
-  written : Writes (AreJoined (λ x. IsText (g.T.LexicalInteger.number x) l.format) (l.separator ∷ []) (take l.index l.values))
+  written : Writes (AreJoined (λ x. IsText (g.T.LexicalInteger.number x) l.format) (l.separator ∷ [])
+      (take l.index l.values))
       l.initial.buffer l.buffer l.count;
-  within : l.count ≤ l.index * (size_in g.T.FormattedSize.FORMATTED_SIZE g.T.FormattedSize.FORMATTED_SIZE_DECIMAL l.format + 1) - 1;
+  within : l.count ≤ l.index * (size_in g.T.FormattedSize.FORMATTED_SIZE g.T.FormattedSize.FORMATTED_SIZE_DECIMAL
+      l.format + 1) - 1;
 }

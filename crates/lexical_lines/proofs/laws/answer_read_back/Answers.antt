@@ -13,7 +13,8 @@ returns c = λ radix number (kind, plus, request).
     let few = request.radix_valid.at_most_36 in
     are_read _ _ plus few _ (λ text is.
     let same = IsRequest-unique request is.request in
-    let written : WithNewline (IsText number (requested_format radix plus)) (text ++ 10 ∷ []) = rw (same.0, same.1, same.2) is.text in
+    let written : WithNewline (IsText number (requested_format radix plus)) (text ++ 10 ∷ []) =
+    rw (same.0, same.1, same.2) is.text in
     record {
       digits = written.1.digits;
       whole = append_cancel_right text written.0 (10 ∷ []) written.2 ∙ bare _ _ _ refl written.1;

@@ -10,17 +10,20 @@ returns-clause-answered g c = λ low.
 pub returns-clause-valid : goal.returns-clause-valid
 returns-clause-valid g c = λ zero.
     reports-known (2 ^ 63 - 1) (g.R.Read.remaining c.args.reader) _ true
-    (rw c.whole.ensures at (c.answer_stream.ensures.answered (omega (arith, zero))).all) (c.answer_stream.ensures.valid zero)
+    (rw c.whole.ensures at (c.answer_stream.ensures.answered (omega (arith, zero))).all)
+    (c.answer_stream.ensures.valid zero)
 
 pub returns-clause-bad : goal.returns-clause-bad
 returns-clause-bad g c = λ one.
     reports-known (2 ^ 63 - 1) (g.R.Read.remaining c.args.reader) _ false
-    (rw c.whole.ensures at (c.answer_stream.ensures.answered (omega (arith, one))).all) (c.answer_stream.ensures.bad one)
+    (rw c.whole.ensures at (c.answer_stream.ensures.answered (omega (arith, one))).all)
+    (c.answer_stream.ensures.bad one)
 
 pub returns-clause-failed : goal.returns-clause-failed
 returns-clause-failed g c = λ two. record {
   read = _;
-  first = begins-known (2 ^ 63 - 1) (g.R.Read.remaining c.args.reader) _ _ (rw c.whole.ensures at c.answer_stream.ensures.read.known);
+  first = begins-known (2 ^ 63 - 1) (g.R.Read.remaining c.args.reader) _ _
+      (rw c.whole.ensures at c.answer_stream.ensures.read.known);
   failures = _;
   is_ended = _;
   failed = c.answer_stream.ensures.failed two;

@@ -23,7 +23,8 @@ pub returns-clause-range : goal.returns-clause-range
 returns-clause-range g c = rw c.status.ensures (at_most_2 c.answer_blocks.result)
 
 pub returns-clause-answered : goal.returns-clause-answered
-returns-clause-answered g c = λ low. if_at_most_1 c.answer_blocks.result c.answer_blocks.ensures.ok (rw c.status.ensures at low)
+returns-clause-answered g c = λ low. if_at_most_1 c.answer_blocks.result c.answer_blocks.ensures.ok
+    (rw c.status.ensures at low)
 
 pub returns-clause-valid : goal.returns-clause-valid
 returns-clause-valid g c = λ is. if_0 _ c.answer_blocks.result c.answer_blocks.ensures.valid (rw c.status.ensures at is)

@@ -9,6 +9,7 @@ pub ruleset steps = (takes_one, takes_two, takes_four)
 
 -- ---- the powers themselves
 
+-- an iteration removes at least one digit
 pub step-pos : (step : ℕ) → IsStep step → 0 < step
 step-pos step is = grind arith
 
@@ -16,5 +17,6 @@ step-pos step is = grind arith
 pub power-small : (r step : ℕ) → r ≤ 36 → IsStep step → r ^ step < 4294967296
 power-small r step few stepped = grind (arith, pow-le-pow_left)
 
+-- and each of them is more than 1
 pub power-gt_one : (r step : ℕ) → 2 ≤ r → IsStep step → 1 < r ^ step
 power-gt_one r step two stepped = omega (arith, pow-lt_more r 0 step two (step-pos step stepped), pow-zero r)

@@ -19,7 +19,8 @@ whole_part n y p w some low high =
 
 -- the whole part is the first pair
 pub Carries-first : {n y k : ℕ} → Carries n y k → y / 2 ^ 32 ≡ n / 100 ^ k
-Carries-first {n} {y} {k} carries = whole_part n y (100 ^ k) (2 ^ 32) (one-le-pow k 100 (omega arith)) carries.at_least carries.below
+Carries-first {n} {y} {k} carries = whole_part n y (100 ^ k) (2 ^ 32) (one-le-pow k 100 (omega arith))
+    carries.at_least carries.below
 
 -- the part after the point, times 100, carries the digits after the first pair
 pub Carries-next : {n y k : ℕ} → 1 ≤ k → Carries n y k → Carries (n % 100 ^ k) (y % 2 ^ 32 * 100) (k - 1)
@@ -40,6 +41,8 @@ Carries-next {n} {y} {k} some carries =
 moved_more : (y i : ℕ) → y * 100 ^ i * 100 ≡ y * 100 ^ (i + 1)
 moved_more y i = rw (pow-add 100 i 1) (grind arith)
 
+-- with 32 bits after the point, the whole part of 100 times a fraction is 100 times its whole part, plus the whole part
+-- of 100 times what is after the point
 whole_part_of_product : (y : ℕ) → y * 100 / 2 ^ 32 ≡ y / 2 ^ 32 * 100 + y % 2 ^ 32 * 100 / 2 ^ 32
 whole_part_of_product y = omega arith
 

@@ -7,4 +7,5 @@ use Rattle.uses.proofs.csv_row.push_entries.Given as goal
 
 -- the entries so far are added
 abbrev pub invariant-loop-number : goal.invariant-loop-number
-invariant-loop-number l = (IsExactly l.initial.log.items then AreEach IsEntry (take l.number-index l.numbers)) l.log.items
+invariant-loop-number l =
+    (IsExactly l.initial.log.items then AreEach IsEntry (take l.number-index l.numbers)) l.log.items

@@ -4,7 +4,8 @@ use Rattle.uses.proofs.recorded_turns.turns_of.Goals as goal
 
 pub returns-clause-turns : goal.returns-clause-turns
 returns-clause-turns g c =
-    let digits = digit_count-is _ _ _ c.requires.radix.at_least_two c.requires.some c.requires.enough c.requires.needed in
+    let digits = digit_count-is _ _ _ c.requires.radix.at_least_two c.requires.some c.requires.enough
+    c.requires.needed in
     let written = c.write_integer_counted.ensures in
     let table = c.algorithm_counted.ensures in
     let slow = c.slow_digit_count_counted.ensures in

@@ -8,8 +8,10 @@ invariant-loop-byte g l =
     let source = g.S.ByteSource in
     let sink = g.K.ByteSink in
     record {
-      yielded : source.yielded l.source ≡ source.yielded l.fn.source ++ added (source.yielded l.fn.source) (source.yielded l.source);
-      read : HasAnswered (added (source.yielded l.fn.source) (source.yielded l.source)) (added (sink.taken l.fn.sink) (sink.taken l.sink)) l.answerer;
+      yielded : source.yielded l.source ≡ source.yielded l.fn.source
+          ++ added (source.yielded l.fn.source) (source.yielded l.source);
+      read : HasAnswered (added (source.yielded l.fn.source) (source.yielded l.source))
+          (added (sink.taken l.fn.sink) (sink.taken l.sink)) l.answerer;
       taken : sink.taken l.sink ≡ sink.taken l.fn.sink ++ added (sink.taken l.fn.sink) (sink.taken l.sink);
       source_failures : source.failures l.source ≡ source.failures l.fn.source;
       sink_failures : sink.failures l.sink ≡ sink.failures l.fn.sink;

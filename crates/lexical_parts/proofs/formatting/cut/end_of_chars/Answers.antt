@@ -43,6 +43,7 @@ returns c =
     let past = c.loop-index-test.false in
     record {
       end = take-length s ∙ sym (append-nil s)
-          ∙ rw (take_all c.loop-index.index s past, drop_of_length-le s past, take_chars-nil) at c.loop-index.invariant.cut;
+          ∙ rw (take_all c.loop-index.index s past, drop_of_length-le s past, take_chars-nil)
+          at c.loop-index.invariant.cut;
       left = omega (arith, c.loop-index.invariant.counted, char_count-drop_all s c.loop-index.index past);
     }

@@ -21,5 +21,6 @@ returns-then-is_short_cell g c = λ p ok.
     let short = c.is_short_cell.ensures c.if-is_short_cell.true in
     let digits = drop (length (sign_text_with c.args.has_plus c.args.is_negative)) c.args.text.now in
     let whole = ap (λ text. padded_integral (formatter_spec f) false [] text) c.requires in
-    has_written_styled_of_eq _ _ _ _ _ (whole ∙ sign_as_digit f c.args.has_plus c.args.is_negative digits short.no_plus short.no_zeros)
+    has_written_styled_of_eq _ _ _ _ _ (whole
+    ∙ sign_as_digit f c.args.has_plus c.args.is_negative digits short.no_plus short.no_zeros)
     (c.write_cell.ensures p ok)

@@ -11,7 +11,8 @@ pub returns : goal.returns
 returns g c = λ flush aligned ok.
     let f = c.args.f.now in
     let spec = formatter_spec f in
-    let most : c.unwrap_or-most.result ≡ spec.precision = rw c.precision.ensures.value at c.unwrap_or-most.ensures ∙ precision_of f in
+    let most : c.unwrap_or-most.result ≡ spec.precision =
+    rw c.precision.ensures.value at c.unwrap_or-most.ensures ∙ precision_of f in
     let wide : c.unwrap_or.result ≡ spec.width = rw c.width.ensures.value at c.unwrap_or.ensures ∙ width_of f in
     let padding = c.saturating_sub-padding.result in
     let before : c.padding_before-before.result ≡ padding_before spec padding 1 =
@@ -19,7 +20,8 @@ returns g c = λ flush aligned ok.
       | inl some ↦ c.padding_before-before.ensures.side (aligned some)
       | inr none ↦
           let zero_padding : padding ≡ 0 = omega (arith, wide, none, c.saturating_sub-padding.ensures) in
-          let zero_before : c.padding_before-before.result ≡ 0 = omega (arith, zero_padding, c.padding_before-before.ensures.within) in
+          let zero_before : c.padding_before-before.result ≡ 0 =
+          omega (arith, zero_padding, c.padding_before-before.ensures.within) in
           zero_before ∙ sym (padding_before_none spec 1) ∙ ap (λ n. padding_before spec n 1) (sym zero_padding)
     ] in
     let filled = c.in_ok-write_fill.ensures flush refl in
@@ -30,7 +32,8 @@ returns g c = λ flush aligned ok.
     let wrote = rw most at cell.2 in
     let after = c.write_fill-2.ensures wrote.flush ok in
     let same = wrote.spec ∙ filled.spec in
-    let rest = has_written_styled_of_eq _ _ _ _ _ (ap (λ s. fill_text s (padding - c.padding_before-before.result)) same) after in
+    let rest = has_written_styled_of_eq _ _ _ _ _
+    (ap (λ s. fill_text s (padding - c.padding_before-before.result)) same) after in
     let whole = padded_is spec cell.0 shown padding c.padding_before-before.result refl left before in (
       cell.0,
       cell.1,

@@ -6,5 +6,7 @@ pub returns-clause-text : goal.returns-clause-text
 returns-clause-text g c =
     let old = c.args.buffer.now in
     let inside : c.args.width ≤ length old = omega (arith, c.requires.room) in
-    let text = at_is c.args.width (length old - c.args.width) old c.write_to-count.new.buffer c.write_to-count.result inside c.write_to-count.ensures.text in
-    framed c.args.width old _ _ inside text c.write_padded.new.buffer _ c.write_padded.ensures.digits c.write_padded.ensures.width
+    let text = at_is c.args.width (length old - c.args.width)
+    old c.write_to-count.new.buffer c.write_to-count.result inside c.write_to-count.ensures.text in
+    framed c.args.width old _ _ inside text c.write_padded.new.buffer _ c.write_padded.ensures.digits
+    c.write_padded.ensures.width

@@ -21,6 +21,7 @@ returns g c =
     let few = few_digits g.met.T.LexicalInteger.decimal_width c.in_range.ensures.at_least c.in_range.ensures.at_most in
     let digits = c.write_magnitude-count.ensures.digits in
     let zeros = c.args.decimals + 1 - c.write_magnitude-count.result in
-    let total : zeros + c.write_magnitude-count.result ≡ c.args.decimals + 1 = omega (arith, c.if-count-decimals.false) in
+    let total : zeros + c.write_magnitude-count.result ≡ c.args.decimals + 1 =
+    omega (arith, c.if-count-decimals.false) in
     rw total at (written_after_zeros c.args.decimals zeros g.T.LexicalInteger.DECIMAL_WIDTH digits.writes
     (omega (arith, few, digits.count)) (omega arith) c.insert_fill.ensures)

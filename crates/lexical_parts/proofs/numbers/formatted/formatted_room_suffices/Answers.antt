@@ -6,4 +6,5 @@ pub returns-clause-need : goal.returns-clause-need
 returns-clause-need g c = grind (arith, need-le_room)
 
 pub returns-clause-buffer : goal.returns-clause-buffer
-returns-clause-buffer g c = room-le _ c.args.format.now g.met.T.LexicalInteger.bit_width c.in_range-2.ensures.mantissa.at_least_two
+returns-clause-buffer g c = room-le _ c.args.format.now g.met.T.LexicalInteger.bit_width
+    c.in_range-2.ensures.mantissa.at_least_two

@@ -7,5 +7,6 @@ loop-count-preserved c =
     let loop = c.loop-count in record {
       some = omega arith;
       within = omega arith;
-      zeros = zeros_more c.args.digits.now loop.count (omega arith) loop.invariant.within c.if-digits-count-eq48.true loop.invariant.zeros;
+      zeros = zeros_more c.args.digits.now loop.count (omega arith)
+          loop.invariant.within c.if-digits-count-eq48.true loop.invariant.zeros;
     }

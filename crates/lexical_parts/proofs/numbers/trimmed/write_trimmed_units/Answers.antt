@@ -13,7 +13,8 @@ write_units-count-requires-clause-room g c = grind (arith, decimal_width-le_20)
 left : (g : _) (c : After-count_without_zeros-kept g) →
     let digits = take c.write_units-count.result c.write_units-count.new.buffer in
     let whole = length digits - c.args.decimals in
-    AreTrimmed c.args.decimals (unsigned_abs (g.T.LexicalInteger.number c.args.number)) whole (c.count_without_zeros-kept.result - whole) digits
+    AreTrimmed c.args.decimals (unsigned_abs (g.T.LexicalInteger.number c.args.number)) whole
+    (c.count_without_zeros-kept.result - whole) digits
 left g c =
     let are = Writes-is _ _ _ c.write_units-count.ensures in
     let kept = c.count_without_zeros-kept.ensures in

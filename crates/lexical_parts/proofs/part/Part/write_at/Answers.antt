@@ -8,22 +8,27 @@ pub returns-clause-text : goal.returns-clause-text
 returns-clause-text g c =
     let old = c.args.buffer.now in
     let inside : c.args.index ≤ length old = omega (arith, c.requires.room) in
-    at_is c.args.index (length old - c.args.index) old c.write_to.new.buffer c.write_to.result inside c.write_to.ensures.text
+    at_is c.args.index (length old - c.args.index) old c.write_to.new.buffer c.write_to.result inside
+    c.write_to.ensures.text
 
 pub returns-clause-front : goal.returns-clause-front
 returns-clause-front g c = Writes-is c.args.buffer.now _ _ (returns-clause-text g c)
 
 pub returns-clause-before : goal.returns-clause-before
-returns-clause-before g c = before_at c.args.index c.args.buffer.now _ _ (omega (arith, c.requires.room)) (returns-clause-text g c)
+returns-clause-before g c = before_at c.args.index c.args.buffer.now _ _ (omega (arith, c.requires.room))
+    (returns-clause-text g c)
 
 pub returns-clause-field : goal.returns-clause-field
-returns-clause-field g c = there_at c.args.index c.args.buffer.now _ _ (omega (arith, c.requires.room)) (returns-clause-text g c)
+returns-clause-field g c = there_at c.args.index c.args.buffer.now _ _ (omega (arith, c.requires.room))
+    (returns-clause-text g c)
 
 pub returns-clause-after : goal.returns-clause-after
-returns-clause-after g c = after_at c.args.index c.args.buffer.now _ _ (omega (arith, c.requires.room)) (returns-clause-text g c)
+returns-clause-after g c = after_at c.args.index c.args.buffer.now _ _ (omega (arith, c.requires.room))
+    (returns-clause-text g c)
 
 pub returns-clause-kept_before : goal.returns-clause-kept_before
-returns-clause-kept_before g c = λ from to within. kept_before c.args.index _ _ (returns-clause-before g c) from to within
+returns-clause-kept_before g c = λ from to within. kept_before c.args.index _ _ (returns-clause-before g c)
+    from to within
 
 pub returns-clause-kept_after : goal.returns-clause-kept_after
 returns-clause-kept_after g c = λ from to within. kept_after _ _ _ (returns-clause-after g c) from to within

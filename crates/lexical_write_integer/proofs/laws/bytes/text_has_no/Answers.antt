@@ -6,5 +6,6 @@ use Rattle.lexical_write_integer.proofs.laws.bytes.text_has_no.Goals as goal
 
 pub returns : goal.returns
 returns g c text is =
-    rw (bare _ _ text c.requires.groups is) (All-append (λ byte. byte ≢ c.args.separator) _ is.digits (sign_is_none _ _ _ c.requires.plus c.requires.minus)
+    rw (bare _ _ text c.requires.groups is)
+    (All-append (λ byte. byte ≢ c.args.separator) _ is.digits (sign_is_none _ _ _ c.requires.plus c.requires.minus)
     (digits_have_no _ _ _ is.digits c.in_range.ensures.mantissa.at_most_36 c.requires.other is.magnitude))

@@ -9,7 +9,8 @@ use Rattle.lexical_lines.proofs.answer.answerer.Answerer.finish.Goals as goal
 
 pub returns-in_err-push-clause-err : goal.returns-in_err-push-clause-err
 unfolding HasAnswered
-returns-in_err-push-clause-err g c = rw (err_from_is_err_and c.from_residual.result c.from_residual.ensures.1).1 (λ read written h.
+returns-in_err-push-clause-err g c = rw (err_from_is_err_and c.from_residual.result c.from_residual.ensures.1).1
+    (λ read written h.
     BreaksOff-rest h (λ e. let wrong = c.if-is_empty.ensures.1 e in cc) (c.in_err-push.ensures.err read written h))
 
 pub returns-clause-ok : goal.returns-clause-ok
@@ -28,7 +29,8 @@ returns-clause-valid g c = λ read written h.
 pub returns-then-is_empty-clause-ok : goal.returns-then-is_empty-clause-ok
 unfolding HasAnswered
 returns-then-is_empty-clause-ok g c = λ read written h.
-    rw (added-none (g.K.ByteSink.taken c.args.sink.now), append-nil written) (answers_at_newline h (c.is_empty.ensures.0 c.if-is_empty.true))
+    rw (added-none (g.K.ByteSink.taken c.args.sink.now), append-nil written)
+    (answers_at_newline h (c.is_empty.ensures.0 c.if-is_empty.true))
 
 -- the check finds this proof by itself, but close to its limits
 pub returns-then-is_empty-clause-valid : goal.returns-then-is_empty-clause-valid

@@ -7,7 +7,8 @@ use Rattle.lexical_parts.proofs.layout.joined.JoinedPart.text_len.Goals as goal
 pub loop-part-preserved : goal.loop-part-preserved
 loop-part-preserved g c =
     let longer = take_more c.args.self.0.now _ c.part-item.result c.loop-part-test.true in
-    let one = each_more g.P.Part.is_text (take c.loop-part.part-index c.args.self.0.now) c.part-item.result c.loop-part.count c.in_ok-text_len.field-0 c.loop-part.invariant in
+    let one = each_more g.P.Part.is_text (take c.loop-part.part-index c.args.self.0.now)
+    c.part-item.result c.loop-part.count c.in_ok-text_len.field-0 c.loop-part.invariant in
     rw longer (grind (arith, common_steps, one))
 
 pub returns : goal.returns

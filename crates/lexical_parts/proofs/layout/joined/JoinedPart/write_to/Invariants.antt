@@ -9,7 +9,8 @@ use Rattle.lexical_parts.proofs.layout.joined.JoinedPart.write_to.Given as goal
 -- the parts so far are written, in their room
 abbrev pub invariant-loop-index : goal.invariant-loop-index
 invariant-loop-index g l = record {
-  written : Writes (AreJoined g.P.Part.is_text l.self.1.now (take l.index l.self.0.now)) l.initial.buffer l.buffer l.count;
+  written : Writes (AreJoined g.P.Part.is_text l.self.1.now (take l.index l.self.0.now))
+      l.initial.buffer l.buffer l.count;
   within : l.count ≤ joined_room g.P.Part.room (length l.self.1.now) (take l.index l.self.0.now);
   utf8 : All (λ part. g.P.Part.is_utf8 part → AreUtf8 (g.P.Part.is_text part)) (take l.index l.self.0.now);
 }

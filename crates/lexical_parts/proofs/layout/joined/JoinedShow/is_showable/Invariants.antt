@@ -9,5 +9,6 @@ abbrev pub invariant-loop-part : goal.invariant-loop-part
 invariant-loop-part g l = record {
   valid : All g.P.Part.is_valid (take l.part-index l.self.0.now);
   utf8 : All g.P.Part.is_utf8 (take l.part-index l.self.0.now);
-  only : All (λ part. IfSome (g.P.Show.text part) (λ bytes. IsOnly (g.P.Part.is_text part) bytes)) (take l.part-index l.self.0.now);
+  only : All (λ part. IfSome (g.P.Show.text part) (λ bytes. IsOnly (g.P.Part.is_text part) bytes))
+      (take l.part-index l.self.0.now);
 }

@@ -6,4 +6,5 @@ use Rattle.lexical_parts.proofs.layout.joined.JoinedShow.write_pieces.Given as g
 -- the parts so far are written
 abbrev pub invariant-loop-index : goal.invariant-loop-index
 invariant-loop-index g l =
-    WritesSome g.O.Write.write_str_gives (AreJoined g.P.Part.is_text l.self.1.now (take l.index l.self.0.now)) l.initial.out l.out
+    WritesSome g.O.Write.write_str_gives (AreJoined g.P.Part.is_text l.self.1.now (take l.index l.self.0.now))
+    l.initial.out l.out

@@ -5,7 +5,8 @@ use Rattle.lexical_parts.proofs.layout.zero_padded.ZeroPaddedPart.write_to.Goals
 
 pub returns-clause-text : goal.returns-clause-text
 returns-clause-text g c =
-    written_zero_padded _ c.write_to-count.ensures.text c.length_of_sign-sign.ensures.sign c.length_of_sign-sign.ensures.within
+    written_zero_padded _ c.write_to-count.ensures.text c.length_of_sign-sign.ensures.sign
+    c.length_of_sign-sign.ensures.within
     c.saturating_sub-zeros.ensures
     (omega (
       arith,

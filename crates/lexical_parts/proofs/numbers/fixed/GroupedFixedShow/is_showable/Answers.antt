@@ -5,5 +5,6 @@ use Rattle.lexical_parts.proofs.numbers.fixed.GroupedFixedShow.is_showable.Goals
 pub returns-clause-only : goal.returns-clause-only
 returns-clause-only g c =
     let number = g.T.LexicalInteger.number c.args.self.0 in
-    let small = magnitude-small _ g.met.T.LexicalInteger.bit_width number c.in_range.ensures.at_least c.in_range.ensures.at_most in
+    let small = magnitude-small _ g.met.T.LexicalInteger.bit_width number c.in_range.ensures.at_least
+    c.in_range.ensures.at_most in
     λ _. only_grouped_fixed c.args.self.2.now.digit_grouping c.args.self.1 number small

@@ -5,5 +5,6 @@ use Rattle.lexical_parts.proofs.numbers.formatted.FormattedShow.is_showable.Goal
 pub returns-clause-only : goal.returns-clause-only
 returns-clause-only g c =
     let number = g.T.LexicalInteger.number c.args.self.0 in
-    let small = magnitude-small _ g.met.T.LexicalInteger.bit_width number c.in_range.ensures.at_least c.in_range.ensures.at_most in
+    let small = magnitude-small _ g.met.T.LexicalInteger.bit_width number c.in_range.ensures.at_least
+    c.in_range.ensures.at_most in
     λ _. only_text number c.args.self.1.now c.in_range-2.ensures.mantissa.at_least_two small

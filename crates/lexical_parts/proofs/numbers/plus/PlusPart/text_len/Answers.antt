@@ -8,7 +8,8 @@ use Rattle.lexical_parts.proofs.numbers.plus.PlusPart.text_len.Goals as goal
 pub overflow_add-result : goal.overflow_add-result
 overflow_add-result g c =
     let number = g.T.LexicalInteger.number c.args.self.0 in
-    let small = magnitude-small _ g.met.T.LexicalInteger.bit_width number c.in_range.ensures.at_least c.in_range.ensures.at_most in
+    let small = magnitude-small _ g.met.T.LexicalInteger.bit_width number c.in_range.ensures.at_least
+    c.in_range.ensures.at_most in
     omega (arith, c.magnitude_digits.ensures, digit_count-le_20 _ small)
 
 pub returns-clause-length : goal.returns-clause-length

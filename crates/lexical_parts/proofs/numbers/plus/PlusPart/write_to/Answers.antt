@@ -6,7 +6,8 @@ use Rattle.lexical_parts.proofs.numbers.plus.PlusPart.write_to.Goals as goal
 
 pub returns-clause-text : goal.returns-clause-text
 returns-clause-text g c =
-    written_as IsPlus-from_then (written_then _ _ _ _ _ _ _ _ c.write_to-start.ensures.text c.write_magnitude.ensures.digits.writes)
+    written_as IsPlus-from_then (written_then _ _ _ _ _ _ _ _ c.write_to-start.ensures.text
+    c.write_magnitude.ensures.digits.writes)
 
 pub returns-clause-at_most : goal.returns-clause-at_most
 returns-clause-at_most g c =

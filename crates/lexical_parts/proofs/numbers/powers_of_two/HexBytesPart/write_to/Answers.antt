@@ -25,7 +25,8 @@ loop-index-preserved c =
     let leads = leads_at separator index in
     let more = joined_room-more (λ _. 2) separator _ bytes c.loop-index-test.true item leads in
     record {
-      written = written_joined (IsPadded 16 2) separator _ bytes _ c.loop-index-test.true item leads c.loop-index.invariant.written
+      written = written_joined (IsPadded 16 2) separator _ bytes _ c.loop-index-test.true item leads
+          c.loop-index.invariant.written
           c.write_next-count.ensures.text;
       within = omega (arith, more, c.loop-index.invariant.within, c.write_next-count.ensures.at_most);
     }
@@ -34,4 +35,5 @@ pub returns-clause-at_most : goal.returns-clause-at_most
 returns-clause-at_most c = grind (arith, joined_room-take-le, two_each)
 
 pub returns-clause-utf8 : goal.returns-clause-utf8
-returns-clause-utf8 c = λ _. joined_is_utf8 (IsPadded 16 2) _ _ (λ k d inside. padded_is_utf8 16 2 _ (omega arith)) c.str_is_utf8.ensures
+returns-clause-utf8 c = λ _. joined_is_utf8 (IsPadded 16 2) _ _ (λ k d inside. padded_is_utf8 16 2 _ (omega arith))
+    c.str_is_utf8.ensures

@@ -8,6 +8,7 @@ use Rattle.lexical_parts.proofs.numbers.powers_of_two.HexBytesPart.write_to.Give
 -- the bytes so far are written, each in two digits
 abbrev pub invariant-loop-index : goal.invariant-loop-index
 invariant-loop-index l = record {
-  written : Writes (AreJoined (IsPadded 16 2) l.self.1.now (take l.index l.self.0.now)) l.initial.buffer l.buffer l.count;
+  written : Writes (AreJoined (IsPadded 16 2) l.self.1.now (take l.index l.self.0.now))
+      l.initial.buffer l.buffer l.count;
   within : l.count ≤ joined_room (λ _. 2) (length l.self.1.now) (take l.index l.self.0.now);
 }

@@ -7,4 +7,5 @@ use Rattle.lexical_parts.proofs.numbers.powers_of_two.HexBytesShow.write_pieces.
 -- the bytes so far are written
 abbrev pub invariant-loop-index : goal.invariant-loop-index
 invariant-loop-index g l =
-    WritesSome g.O.Write.write_str_gives (AreJoined (IsPadded 16 2) l.self.1.now (take l.index l.self.0.now)) l.initial.out l.out
+    WritesSome g.O.Write.write_str_gives (AreJoined (IsPadded 16 2) l.self.1.now (take l.index l.self.0.now))
+    l.initial.out l.out

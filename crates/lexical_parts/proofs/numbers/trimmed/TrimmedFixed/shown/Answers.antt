@@ -6,7 +6,8 @@ use Rattle.lexical_parts.proofs.numbers.trimmed.TrimmedFixed.shown.Goals as goal
 
 pub to_str-trimmed-requires-clause-room : goal.to_str-trimmed-requires-clause-room
 to_str-trimmed-requires-clause-room g c =
-    let most = grouped_fixed_room-le_39 _ None c.args.self.1 g.met.T.LexicalInteger.bit_width g.met.T.LexicalInteger.decimal_width
+    let most = grouped_fixed_room-le_39 _ None c.args.self.1 g.met.T.LexicalInteger.bit_width
+    g.met.T.LexicalInteger.decimal_width
     (omega (arith, c.if-self-gt19.false)) in
     omega (arith, most, c.told-buffer)
 
@@ -16,5 +17,6 @@ returns-clause-ok g c = (λ ok. omega (arith, c.if-self-gt19.false), λ few. ref
 pub returns-clause-text : goal.returns-clause-text
 returns-clause-text g c =
     let number = g.T.LexicalInteger.number c.args.self.0 in
-    let small = magnitude-small _ g.met.T.LexicalInteger.bit_width number c.in_range.ensures.at_least c.in_range.ensures.at_most in
+    let small = magnitude-small _ g.met.T.LexicalInteger.bit_width number c.in_range.ensures.at_least
+    c.in_range.ensures.at_most in
     trimmed_is c.args.self.1 number _ small c.to_str-trimmed.ensures.text

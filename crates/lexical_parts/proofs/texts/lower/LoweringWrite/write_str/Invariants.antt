@@ -7,7 +7,8 @@ use Rattle.lexical_parts.proofs.texts.lower.LoweringWrite.write_str.Given as goa
 abbrev pub invariant-loop-start : goal.invariant-loop-start
 invariant-loop-start g l = record {
   same : l.self.out.ghost_name ≡ l.initial.self.out.ghost_name;
-  wrote : WritesInCalls g.O.Write.write_str_gives l.initial.self.out.now (map to_ascii_lowercase (take l.start l.text)) l.self.out.now;
+  wrote : WritesInCalls g.O.Write.write_str_gives l.initial.self.out.now (map to_ascii_lowercase (take l.start l.text))
+      l.self.out.now;
   within : l.start ≤ length l.text;
 }
 

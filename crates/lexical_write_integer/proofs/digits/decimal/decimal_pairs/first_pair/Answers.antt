@@ -30,7 +30,8 @@ pub returns-clause-two : goal.returns-clause-two
 returns-clause-two c large =
     let pair = c.args.pair in
     let first : digit_at (2 * pair) ≡ pair / 10 = first_is pair ∙ rw (le-ltb (2 * pair) 20 (omega arith)) refl in
-    let second : digit_at (2 * pair + 1) ≡ pair % 10 = second_is pair ∙ rw (le-ltb (2 * pair + 1) 20 (omega arith)) refl in (
+    let second : digit_at (2 * pair + 1) ≡ pair % 10 =
+    second_is pair ∙ rw (le-ltb (2 * pair + 1) 20 (omega arith)) refl in (
       entry (2 * pair) (omega (arith, c.requires)) ∙ ap digit_char first,
       entry (2 * pair + 1) (omega (arith, c.requires)) ∙ ap digit_char second,
     )

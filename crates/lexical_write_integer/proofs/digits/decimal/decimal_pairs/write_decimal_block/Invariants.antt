@@ -4,7 +4,8 @@ use Rattle.lexical_write_integer.proofs.digits.decimal.decimal_pairs.write_decim
 
 abbrev pub invariant-loop-at : goal.invariant-loop-at
 invariant-loop-at l = record {
-  block : WritesBlock 10 (length l.fn.buffer - l.at) (l.fn.number % 10 ^ (length l.fn.buffer - l.at)) l.at l.fn.buffer l.buffer;
+  block : WritesBlock 10 (length l.fn.buffer - l.at) (l.fn.number % 10 ^ (length l.fn.buffer - l.at))
+      l.at l.fn.buffer l.buffer;
   rest : l.left ≡ l.fn.number / 10 ^ (length l.fn.buffer - l.at);
   within : l.at ≤ length l.fn.buffer;
   room : length l.buffer ≡ length l.fn.buffer;

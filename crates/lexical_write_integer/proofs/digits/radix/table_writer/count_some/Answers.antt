@@ -15,7 +15,8 @@ some_bits c =
     let two = c.requires.radix.at_least_two in
     (c.fast_log2-bits.ensures.log2.of_positive (omega (arith, two))).greatest 1 (rw pow-one two)
 
-counted : (c : After-ilog2-log2) → c.ilog2-log2.result / c.fast_log2-bits.result + 1 ≡ digit_count c.args.radix c.args.value
+counted : (c : After-ilog2-log2) → c.ilog2-log2.result / c.fast_log2-bits.result + 1
+    ≡ digit_count c.args.radix c.args.value
 counted c =
     let n = c.args.value in
     let k = c.ilog2-log2.result in
@@ -23,9 +24,11 @@ counted c =
     let log : IsLog2 n k = record {
       of_zero = λ none. absurd (omega (arith, c.requires.some, none));
       of_positive = λ _.
-          IsGreatestPower-between 2 n k (omega arith) c.ilog2-log2.ensures.power_le (simp unary_clauses (omega (arith, c.ilog2-log2.ensures.next_power_gt)));
+          IsGreatestPower-between 2 n k (omega arith) c.ilog2-log2.ensures.power_le
+          (simp unary_clauses (omega (arith, c.ilog2-log2.ensures.next_power_gt)));
     } in
-    rw (power_of_two c.args.radix bits c.if-radix-bits.true c.fast_log2-bits.ensures.within) (sym (digit_count-log2 n k bits (some_bits c) log))
+    rw (power_of_two c.args.radix bits c.if-radix-bits.true c.fast_log2-bits.ensures.within)
+    (sym (digit_count-log2 n k bits (some_bits c) log))
 
 pub returns-then-radix-eq16-clause-count : goal.returns-then-radix-eq16-clause-count
 returns-then-radix-eq16-clause-count c =

@@ -10,5 +10,6 @@ returns-clause-count c =
     let n = c.args.number in
     let cube = r * r * r in
     rw (c.from-2.ensures, c.from.ensures)
-    (digit_count-tested (leb cube n) r n 3 c.requires.radix.at_least_two (omega arith) (λ _. c.requires.more) c.requires.below
+    (digit_count-tested (leb cube n) r n 3 c.requires.radix.at_least_two (omega arith) (λ _. c.requires.more)
+    c.requires.below
     (λ e. rw pow-three (leb-true cube n e)) (λ e. rw pow-three (leb-false cube n e)))

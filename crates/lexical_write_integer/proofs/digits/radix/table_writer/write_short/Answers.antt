@@ -9,4 +9,5 @@ returns-clause-notes g c =
     let r = g.row.R in
     let n = c.args.number in
     let short : n < r ^ 2 = rw pow-two c.requires.below in
-    table_notes-are r n c.args.turns.now _ _ c.count_short-count.ensures.notes (loop_notes-none r n _ c.args.table.is_radix.at_least_two short)
+    table_notes-are r n c.args.turns.now _ _ c.count_short-count.ensures.notes
+    (loop_notes-none r n _ c.args.table.is_radix.at_least_two short)
