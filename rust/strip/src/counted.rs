@@ -7,8 +7,8 @@ use crate::tokens::{Token, words};
 /// The ending of the name of a function with a counter.
 const ENDING: &str = "_counted";
 
-/// Gives each `NAME_counted` of a list, from which the counter is already left out, the name `NAME`, and makes one of two
-/// functions that then have one name. A public function with a counter must be in the list.
+/// Gives each `NAME_counted` of a list, from which the counter is already left out, the name `NAME`, and makes one of
+/// two functions that then have one name. A public function with a counter must be in the list.
 pub(crate) fn without_counted(tokens: &mut Vec<Token>, counted: &str) -> Result<(), String> {
     for token in tokens.iter_mut().filter(|token| has(counted, &token.text)) {
         token.text = token.text.trim_end_matches(ENDING).to_owned();

@@ -1,6 +1,7 @@
-//! Leaves out ghosts, which are values of the types GHOSTS that only contracts read. Parameters and fields are ghosts by
-//! their type, and variables by their value. An argument is one if it names one, and must be one by the parameters of
-//! the function that is called, too. First `statements` leaves out what only makes a ghost, or calls its method or a law.
+//! Leaves out ghosts, which are values of the types GHOSTS that only contracts read. Parameters and fields are ghosts
+//! by their type, and variables by their value. An argument is one if it names one, and must be one by the parameters
+//! of the function that is called, too. First `statements` leaves out what only makes a ghost, or calls its method or a
+//! law.
 
 use crate::items::{after_type_arguments, elements, functions, remove_element};
 use crate::left_out::Names;
@@ -107,7 +108,8 @@ fn without_elements(tokens: &mut Vec<Token>, is_left_out: impl Fn(&[Token]) -> b
     }
 }
 
-/// Returns an error unless a call, whose arguments begin with the bracket at an index, has a ghost for each parameter that is one, and for no other.
+/// Returns an error unless a call, whose arguments begin with the bracket at an index, has a ghost for each parameter
+/// that is one, and for no other.
 fn check_arguments(tokens: &[Token], open: usize, signatures: &Signatures, ghosts: &Ghosts) -> Result<(), String> {
     let Some(name) = called(tokens, open) else {
         return Ok(());

@@ -99,8 +99,8 @@ impl Rule {
     }
 }
 
-/// Returns the tokens of a file, with what the paths and rules for its crate and its package make of them. The rules for
-/// all crates are also for the examples in its documentation. What else a comment says is copied.
+/// Returns the tokens of a file, with what the paths and rules for its crate and its package make of them. The rules
+/// for all crates are also for the examples in its documentation. What else a comment says is copied.
 pub(crate) fn lex_and_apply(
     text: &str,
     [krate, package, file]: [&str; 3],

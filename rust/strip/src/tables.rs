@@ -9,7 +9,7 @@ pub(crate) const EXPORTS: &[(&str, &str)] = &[
     ("lexical_num::", "cojimuran::"),
     ("lexical_write_integer::", "cojimuran::"),
     ("lexical_tables::", "cojimuran::table::"),
-    ("lexical_parts::", "cojimuran::parts::"),
+    ("lexical_parts::", "cojimuran::"),
     ("lexical_lines::", "lexwrite::lines::"),
 ];
 

@@ -142,11 +142,15 @@ fn ghosts_are_left_out() {
 #[test]
 fn two_functions_become_one() {
     becomes(
-        "fn decimal(n: u8) { decimal_counted(n, &mut Turns::new()) } pub fn decimal_counted(n: u8, turns: &mut Turns) { n }",
+        "fn decimal(n: u8) { decimal_counted(n, &mut Turns::new()) }
+        pub fn decimal_counted(n: u8, turns: &mut Turns) { n }",
         "#[inline] fn decimal(n: u8) { n }",
     );
     becomes(
-        "trait A { fn decimal(self) { self.decimal_counted(&mut Turns::new()) } fn decimal_counted(self, turns: &mut Turns); }
+        "trait A {
+            fn decimal(self) { self.decimal_counted(&mut Turns::new()) }
+            fn decimal_counted(self, turns: &mut Turns);
+        }
         impl A for u8 { fn decimal_counted(self, turns: &mut Turns) { self.b() } }",
         "trait A { fn decimal(self); } impl A for u8 { #[inline] fn decimal(self) { self.b() } }",
     );
