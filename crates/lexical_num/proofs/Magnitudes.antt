@@ -1,5 +1,6 @@
 -- The magnitudes of the numbers of a type, and how many decimal digits they have.
-use Rattle.std.proofs.Common.{◌≡◌, ℕ, ◌-◌, ◌*◌, ◌^◌, ◌<◌, ◌≤◌, arith, inl, inr, ℤ, ◌≤ℤ◌, unsigned_abs, Bool, true, false}
+use Rattle.std.proofs.Common.{◌≡◌, ℕ, ◌-◌, ◌*◌, ◌^◌, ◌<◌, ◌≤◌, arith, inl, inr, ℤ, ◌≤ℤ◌, unsigned_abs, Bool, true}
+use Rattle.std.proofs.Common.{false}
 use Rattle.std.proofs.Math.Nat.{pow-le-pow_right}
 use Rattle.std.proofs.lemmas.Bool.{cases_lt}
 use Rattle.lexical_num.specs.BitWidth.{IsBitWidth}
@@ -31,6 +32,7 @@ decimal_width-le_20 {bits} {width} is_signed of_type is =
           absurd (omega (arith, power, is.needed, greatest-below is_signed of_type))
     ]
   where
-    greatest-below : {bits : ℕ} (is_signed : Bool) → IsBitWidth bits → unsigned_abs (greatest_of bits is_signed) < 10 ^ 20
+    greatest-below : {bits : ℕ} (is_signed : Bool) → IsBitWidth bits
+        → unsigned_abs (greatest_of bits is_signed) < 10 ^ 20
     greatest-below false width = omega (arith, halves width)
     greatest-below true width = omega (arith, halves width)

@@ -18,8 +18,10 @@ pub use contract.Monad.{Fun, fact, fact_i}
 pub use contract.Running.{tables}
 pub use sound.WpLaws.{FmC}
 pub use types.Logic.{Logic, sem}
-pub use types.Kit.{Item, Post, Goal, Soaks, Seq, Step, step, runs, lands, ‵, raw, given, ◌⊛◌, some, later, ◌$◌, ◌∵◌, !, qed, done, move, keep, drop, split}
-pub use types.Kit.{split3, join, fsplit, fsplit3, fjoin, fjoin3, fpick, fpack, feq_i, feq_l, flt_i, flt_l, use0, use1, use2, use3, learn, group, await, pick}
+pub use types.Kit.{Item, Post, Goal, Soaks, Seq, Step, step, runs, lands, ‵, raw, given, ◌⊛◌, some, later, ◌$◌, ◌∵◌, ! }
+pub use types.Kit.{qed, done, move, keep, drop, split}
+pub use types.Kit.{split3, join, fsplit, fsplit3, fjoin, fjoin3, fpick, fpack, feq_i, feq_l, flt_i, flt_l, use0, use1}
+pub use types.Kit.{use2, use3, learn, group, await, pick}
 pub use types.Kit.{suffices, frame, rewrite}
 pub use types.Tokens.{lft_new, lft_end}
 pub use types.Part.{whole, sub, agg}
@@ -35,7 +37,8 @@ pub use denote.Plain.{uint_vals, uint_Tells}
 pub use denote.RattleType.{RattleType, owns}
 pub use denote.Ref.{MutBor, MutRef, ShrRef, mut_vals, mut_Tells, shr_vals, shr_Tells}
 pub use denote.Signature.{plain, mut_slice_of, shr_ref_to, shr_slice_of}
-pub use denote.Slice.{MutSlice, ShrSlice, Room, slice_val, mut_slice_vals, mut_slice_Tells, shr_slice_vals, shr_slice_Tells}
+pub use denote.Slice.{MutSlice, ShrSlice, Room, slice_val, mut_slice_vals, mut_slice_Tells, shr_slice_vals}
+pub use denote.Slice.{shr_slice_Tells}
 pub use denote.Steps.{nothing, opens, closes, heard, only}
 pub use denote.Triple.Call.{calls_at}
 pub use denote.Triple.Clauses.{lasts}

@@ -17,8 +17,8 @@ use crate::num::LexicalInteger;
 /// ```
 pub const BUFFER_SIZE: usize = 128;
 
-/// An integer type, with two lengths of a buffer that is enough for each of its numbers: one in decimal and one in every
-/// other radix. `buffer_size` of the options returns the one for a format.
+/// An integer type with two buffer sizes, each enough for every number of the type: one for decimal, and one for other
+/// radices. `buffer_size` of the options returns the one for a format.
 ///
 /// ```
 /// use lexical_write_integer::{FormattedSize, ToLexical};

@@ -9,7 +9,7 @@ use crate::format::{NumberFormat, Parts, STANDARD};
 use crate::limits::{is_group_size, is_mark, is_radix};
 use std::marker::Model;
 
-/// A builder of formats. Its parts may be any bytes until a format is built from them.
+/// A builder of formats. Its fields are checked only when a format is built.
 ///
 /// ```
 /// use lexical_write_integer::{NumberFormatBuilder, Options, ToLexicalWithOptions};

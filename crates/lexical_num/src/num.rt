@@ -360,7 +360,7 @@ pub trait UnsignedInteger: LexicalInteger {
     // The value as a natural number without a range.
     ghost magnitude: { Self → ℕ };
 
-    /// Returns the number as a value of this type, which it fits.
+    /// Converts a number that fits the type.
     ///
     /// # Panics
     ///
@@ -369,7 +369,7 @@ pub trait UnsignedInteger: LexicalInteger {
         requires { value < 2 ^ Self.BITS }
         ensures { magnitude result ≡ value };
 
-    /// Returns the number as a `u32`, which it fits.
+    /// Converts a number below 2^32.
     ///
     /// # Panics
     ///

@@ -6,7 +6,7 @@ use crate::num::error::{Error, Result};
 use crate::num::format::{NumberFormat, Parts, STANDARD};
 use crate::num::limits::{is_group_size, is_mark, is_radix};
 
-/// A builder of formats. Its parts may be any bytes until a format is built from them.
+/// A builder of formats. Its fields are checked only when a format is built.
 ///
 /// ```
 /// use cojimuran::{NumberFormatBuilder, Options, ToLexicalWithOptions};

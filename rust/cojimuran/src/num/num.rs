@@ -179,7 +179,7 @@ impl LexicalInteger for isize {
 /// assert_eq!(last_digit(1234u16), 4);
 /// ```
 pub trait UnsignedInteger: LexicalInteger {
-    /// Returns the number as a value of this type, which it fits.
+    /// Converts a number that fits the type.
     ///
     /// # Panics
     ///
@@ -187,7 +187,7 @@ pub trait UnsignedInteger: LexicalInteger {
     #[must_use]
     fn from_u32(value: u32) -> Self;
 
-    /// Returns the number as a `u32`, which it fits.
+    /// Converts a number below 2^32.
     ///
     /// # Panics
     ///
