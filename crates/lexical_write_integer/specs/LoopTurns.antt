@@ -1,5 +1,5 @@
--- The iterations (turns) of the loops that divide by a power of the radix: the quotient that each of them records (its
--- note), and how many iterations there are.
+-- What writers that divide by powers of the radix append to a counter: the quotients of a number (their notes), and how
+-- many these are (turns). They are those of a loop that removes some digits in each iteration.
 use Rattle.std.specs.Prelude.{◌≡◌, ℕ, ◌+◌, ◌-◌, ◌*◌, ◌/◌, ◌%◌, ◌^◌, List, [], ◌∷◌, ◌++◌, map}
 use Rattle.std.specs.Prelude.{Bool, ◌||◌, ◌==◌, nat_lt, if◌then◌else◌}
 use Rattle.std.specs.List.{range_with_len}
@@ -20,14 +20,14 @@ digits_after_first r number = digit_count r number - 1
 unfoldable pub quotients : ℕ → ℕ → ℕ → ℕ → List ℕ
 quotients r number step count = map (λ turn. number / r ^ (step * turn)) (range_with_len 1 count)
 
--- a loop that removes `step` digits per iteration, while the number has more than that, and records each quotient: how
--- many digits are removed, the remaining quotient, and what is recorded
+-- a loop that removes `step` digits per iteration, while the number has more than that, and notes each quotient: how
+-- many digits are removed, the remaining quotient, and the notes before and after
 pub record TakesDigits (r number step taken left : ℕ) (before after : List ℕ) : Type 0 where
   pub count : taken ≡ step * (digits_after_first r number / step)
   pub rest : left ≡ number / r ^ taken
   pub notes : after ≡ before ++ quotients r number step (digits_after_first r number / step)
 
--- ---- what the iterations record
+-- ---- the notes
 
 -- four digits per iteration while more than four are left, then two if more than two are left: for 255 in radix 3,
 -- which has six digits, 3
@@ -42,23 +42,24 @@ unfoldable pub slow_notes : ℕ → ℕ → List ℕ
 slow_notes r number =
     loop_notes r number ++ (if digit_count r number % 2 == 0 then number / r ^ digits_after_first r number ∷ [] else [])
 
--- a radix in which digits are counted without a loop
-abbrev pub is_counted_at_once : ℕ → Bool
-is_counted_at_once r = r == 2 || (r == 4 || (r == 8 || (r == 10 || (r == 16 || r == 32))))
+-- a radix in which digits are counted without a division
+abbrev pub has_fast_count : ℕ → Bool
+has_fast_count r = r == 2 || (r == 4 || (r == 8 || (r == 10 || (r == 16 || r == 32))))
 
--- recorded by the digit count: nothing if the digits are counted without a loop
+-- noted by the digit count: nothing if the digits are counted without a division
 unfoldable pub count_notes : ℕ → ℕ → List ℕ
-count_notes r number = if is_counted_at_once r then [] else slow_notes r number
+count_notes r number = if has_fast_count r then [] else slow_notes r number
 
--- recorded by the table writer, which counts the digits and then writes them: for 255 in radix 3, 3, 1 and 3
+-- noted by the table writer: the quotients of the count, and then those of the writing, also where one division gives
+-- a quotient of both: for 255 in radix 3, 3, 1 and 3
 unfoldable pub table_notes : ℕ → ℕ → List ℕ
 table_notes r number = count_notes r number ++ loop_notes r number
 
--- recorded by the compact writer, with one digit per iteration: for 255 in radix 16, 15
+-- noted by the compact writer, which removes one digit per iteration: for 255 in radix 16, 15
 unfoldable pub compact_notes : ℕ → ℕ → List ℕ
 compact_notes r number = quotients r number 1 (digits_after_first r number)
 
--- ---- how many iterations there are, for a number with this number of digits
+-- ---- how many notes there are, for a number with this number of digits
 
 -- four digits per iteration, and then two: 16 for 64 digits
 abbrev pub loop_turns : ℕ → ℕ
@@ -69,7 +70,7 @@ abbrev pub slow_turns : ℕ → ℕ
 slow_turns digits = loop_turns digits + (if digits % 2 == 0 then 1 else 0)
 
 abbrev pub count_turns : ℕ → ℕ → ℕ
-count_turns r digits = if is_counted_at_once r then 0 else slow_turns digits
+count_turns r digits = if has_fast_count r then 0 else slow_turns digits
 
 -- those of the digit count and of the writer's loops: 21 for 40 digits in radix 3
 abbrev pub table_turns : ℕ → ℕ → ℕ

@@ -10,7 +10,7 @@ ghost use Rattle.lexical_write_integer.specs.Lending.{LendsFront};
 ///
 /// # Panics
 ///
-/// If the buffer is [too short](crate#conditions).
+/// If the buffer is [too short](crate::conditions).
 pub fn copy_to_front(text: &[u8], buffer: &mut [u8]) -> usize
     requires { length text.now ≤ length buffer.old }
     ensures front { Front buffer.old buffer.new text.now }
@@ -26,7 +26,7 @@ pub fn copy_to_front(text: &[u8], buffer: &mut [u8]) -> usize
 ///
 /// # Panics
 ///
-/// If the buffer is [too short](crate#conditions).
+/// If the buffer is [too short](crate::conditions).
 pub fn front_mut(buffer: &mut [u8], count: usize) -> &mut [u8]
     requires { count ≤ length buffer.old }
     ensures* lends { sem 𝓛 (LendsFront buffer.entry count result) }

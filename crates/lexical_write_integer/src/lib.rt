@@ -55,5 +55,5 @@ pub use lexical_num::format::NumberFormat;
 pub use lexical_num::format_builder::NumberFormatBuilder;
 pub use lexical_num::options::{Options, OptionsBuilder, WriteOptions};
 pub use lexical_tables as table;
-pub use texts::api::{ToLexical, ToLexicalWithOptions, sign_len, write_sign};
 pub use texts::groups::group_digits;
+pub use texts::to_lexical::{ToLexical, ToLexicalWithOptions, sign_len, write_sign};

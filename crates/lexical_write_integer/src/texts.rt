@@ -1,5 +1,5 @@
 //! The texts of numbers: a sign, and then the digits in the groups of the format.
 
-pub mod api;
 pub mod groups;
 mod integers;
+pub mod to_lexical;

@@ -47,5 +47,5 @@ pub use crate::num::options::{Options, OptionsBuilder, WriteOptions};
 pub use digits::decimal::jeaiii;
 pub use digits::radix::{algorithm, compact};
 pub use digits::{count as digit_count, decimal, padded, radix, write};
-pub use texts::api::{ToLexical, ToLexicalWithOptions, sign_len, write_sign};
 pub use texts::groups::group_digits;
+pub use texts::to_lexical::{ToLexical, ToLexicalWithOptions, sign_len, write_sign};

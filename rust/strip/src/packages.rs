@@ -147,24 +147,19 @@ pub(crate) const SOURCES: &[Source] = &[
         name: "lexical_write_integer",
         module: "write_integer",
         attributes: &[
-            // In small code a call is left of these, and else rustc has them in the caller.
-            ("#[inline]", "write_32_apart write_64_apart"),
-            // What chooses a writer, the decimal writer, the writer of a number whose digits are counted at once, and
-            // what `write_apart` calls. If the format is constant in a caller, so is the choice. The others would make
-            // the code of a caller long if its radix is known only at run time. rustc has `radix_called` in a caller
-            // only if the radix is constant there.
+            // In small code a call is left of the first two, and else rustc has them in the caller. The others are
+            // called from the writer of long numbers, which calls itself.
+            ("#[inline]", "shared_write_32 shared_write_64 eighth_power count_and_write_more"),
+            // What chooses a writer, the decimal writer, the writer for radices with a fast count, and what
+            // `write_out_of_line` calls. If the format is constant in a caller, so is the choice. The others would
+            // make the code of a caller long if its radix is known only at run time. rustc has `radix_called` in a
+            // caller only if the radix is constant there.
             (
                 "#[inline(always)]\n#[track_caller]",
-                "buffer.rt texts/api.rt texts/integers.rt digits/write.rt digits/decimal.rt digits/decimal/jeaiii.rt",
-            ),
-            (
-                "#[inline(always)]\n#[track_caller]",
-                "digits/pairs.rt digits/decimal/kernels.rt digits/decimal/decimal_pairs.rt write_digits write_at_once
-                write_by_table radix_counted constant_radix digit_count most_digits fast_log2 write_after_count last_four write_four
-                write_counted write_one_or_two write_one_pair write_short remove_two remove_four fourth_power
-                count_short count_one_or_two count_three_or_four write_three_or_four count_some
-                count_and_write_one_or_two count_and_write_up_to_four count_and_write_five_to_eight
-                count_and_write_up_to_eight",
+                "buffer.rt texts/to_lexical.rt texts/integers.rt digits/write.rt digits/decimal.rt
+                digits/decimal/jeaiii.rt digits/pairs.rt digits/decimal/kernels.rt digits/decimal/decimal_pairs.rt
+                digits/radix/table_writer.rt write_digits write_by_fast_count write_by_table radix_inlined
+                constant_radix digit_count most_digits fast_log2",
             ),
         ],
         left_out: "turns",
@@ -219,8 +214,9 @@ pub(crate) const SOURCES: &[Source] = &[
         name: "uses",
         module: "uses",
         left_out: "exact_conditions/clones other_laws recorded_turns",
-        laws: "same_address same_path same_digest same_float same_counter same_link same_user different_codes same_row
-            sorts_by_time same_timed",
+        laws: "
+            same_address same_amount same_path same_digest same_float same_counter same_link same_user different_codes
+            same_row sorts_by_time same_timed",
         ..TESTS
     },
     Source { name: "tests", ..TESTS },

@@ -2,6 +2,6 @@
 pub mod BinaryWords
 pub mod EightBits
 pub mod FirstDigits
-pub mod FourDigits
+pub mod TwoDigits
 pub mod Loops
 pub mod TablePairs

@@ -7,17 +7,27 @@ pub record Leads (separator : List ℕ) (count : ℕ) (lead : List ℕ) : Type 0
   pub at_first : count ≡ 0 → lead ≡ []
   pub later : 0 < count → lead ≡ separator
 
-pub AreJoined-push : {A : Type 0} (IsOf : A → List ℕ → Type 0) (separator lead : List ℕ) (xs : List A) (y : A) (s t : List ℕ) →
+-- joined texts, what precedes a further element, and its text are the joined texts with this element
+pub AreJoined-push : {A : Type 0} (IsOf : A → List ℕ → Type 0) (separator lead : List ℕ) (xs : List A) (y : A)
+    (s t : List ℕ) →
     Leads separator (length xs) lead → AreJoined IsOf separator xs s → Then (IsExactly lead) (IsOf y) t →
     AreJoined IsOf separator (xs ++ y ∷ []) (s ++ t)
 AreJoined-push IsOf separator lead [] y s t leads was is =
-    subst (IsOf y) (sym (ap (λ k. k ++ t) was ∙ is.whole ∙ ap (λ k. k ++ is.second) (is.is_first ∙ leads.at_first refl))) is.is_second
+    subst (IsOf y) (sym (ap (λ k. k ++ t) was ∙ is.whole
+    ∙ ap (λ k. k ++ is.second) (is.is_first ∙ leads.at_first refl))) is.is_second
 AreJoined-push IsOf separator lead (x ∷ []) y s t leads was is =
-    record { first = s; second = t; is_first = was; is_second = subst (λ l. Then (IsExactly l) (IsOf y) t) (leads.later (omega arith)) is; whole = refl }
+    record {
+      first = s;
+      second = t;
+      is_first = was;
+      is_second = subst (λ l. Then (IsExactly l) (IsOf y) t) (leads.later (omega arith)) is;
+      whole = refl;
+    }
 AreJoined-push IsOf separator lead (x ∷ z ∷ xs) y s t leads was is =
     let rest = was.is_second in
     let same : lead ≡ separator = leads.later (omega arith) in
-    let leads' : Leads separator (length (z ∷ xs)) lead = record { at_first = λ none. absurd (omega (arith, none)); later = λ _. same } in
+    let leads' : Leads separator (length (z ∷ xs)) lead =
+    record { at_first = λ none. absurd (omega (arith, none)); later = λ _. same } in
     let more = AreJoined-push IsOf separator lead (z ∷ xs) y rest.second t leads' rest.is_second is in
     record {
       first = was.first;

@@ -5,7 +5,7 @@ ghost use Rattle.lexical_num.specs.Format.{IsRadix};
 ghost use Rattle.lexical_num.specs.BitWidth.{IsBitWidth};
 ghost use Rattle.lexical_write_integer.specs.DigitCount.{digit_count};
 ghost use Rattle.lexical_write_integer.specs.LoopTurns.{IsStep, TakesDigits, count_notes, count_turns};
-ghost use Rattle.lexical_write_integer.specs.LoopTurns.{is_counted_at_once, slow_notes, slow_turns};
+ghost use Rattle.lexical_write_integer.specs.LoopTurns.{has_fast_count, slow_notes, slow_turns};
 
 pub mod decimal_count;
 pub mod logarithm;
@@ -87,8 +87,8 @@ pub fn slow_digit_count_counted<T: UnsignedInteger>(x: T, radix: u32, turns: &mu
 }
 
 // Returns whether the digits in the radix are counted without division: from the highest set bit or with a table.
-pub(crate) fn counts_at_once(radix: u32) -> bool
-    ensures { result ≡ is_counted_at_once radix }
+pub(crate) fn has_fast_count(radix: u32) -> bool
+    ensures { result ≡ has_fast_count radix }
 {
     radix == 2 || radix == 4 || radix == 8 || radix == 10 || radix == 16 || radix == 32
 }

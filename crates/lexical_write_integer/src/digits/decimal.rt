@@ -35,7 +35,7 @@ pub trait Decimal: DecimalCount {
     ///
     /// # Panics
     ///
-    /// If the buffer is [too short](crate#conditions).
+    /// If the buffer is [too short](crate::conditions).
     final fn decimal(self, buffer: &mut [u8]) -> usize
         requires { Self.DECIMAL_WIDTH ≤ length buffer.old }
         ensures digits { WritesDigits 10 (Self.magnitude self) buffer.old buffer.new result }
@@ -50,7 +50,7 @@ pub trait Decimal: DecimalCount {
     ///
     /// # Panics
     ///
-    /// If the number is 10^19 or above, or if the buffer is [too short](crate#conditions).
+    /// If the number is 10^19 or above, or if the buffer is [too short](crate::conditions).
     fn decimal_signed(self, buffer: &mut [u8]) -> usize
         requires number { Self.magnitude self < 10 ^ SIGNED_WIDTH }
         requires room { SIGNED_WIDTH ≤ length buffer.old }

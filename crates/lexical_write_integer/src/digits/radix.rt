@@ -1,10 +1,11 @@
-//! Writing the digits of a number in any radix, from the tables of digit pairs.
+//! Writing the digits of a number in any radix, from the tables of digit pairs. In radix 10 and in powers of 2 the digits
+//! are counted first, and otherwise, by division, while they are written.
 
 ghost use Rattle.std.specs.Prelude.{true, ◌≡◌, ◌*◌, ◌<◌, ◌≤◌, ◌++◌, length};
 ghost use Rattle.lexical_num.specs.Format.{IsRadix};
 ghost use Rattle.lexical_write_integer.specs.Buffer.{WritesDigits};
 ghost use Rattle.lexical_write_integer.specs.DigitCount.{digit_count};
-ghost use Rattle.lexical_write_integer.specs.LoopTurns.{is_counted_at_once, table_notes};
+ghost use Rattle.lexical_write_integer.specs.LoopTurns.{has_fast_count, table_notes};
 ghost use Rattle.lexical_write_integer.specs.Table.{BeginsWithPairs};
 
 pub mod algorithm;
@@ -13,7 +14,7 @@ mod by_radix;
 pub mod compact;
 mod table_writer;
 
-use crate::digits::count::counts_at_once;
+use crate::digits::count::has_fast_count;
 use crate::digits::pairs::RadixTable;
 use crate::laws::digit_count_within_bits;
 use crate::turns::Turns;
@@ -28,14 +29,14 @@ use table_writer::{
 
 // Writes a number in the radix `R`, whose digits are counted without division, with a table that begins with the digit
 // pairs of that radix.
-fn write_at_once<const R: u32>(
+fn write_by_fast_count<const R: u32>(
     number: u64,
     table: &[u8],
     buffer: &mut [u8],
     turns: &mut Turns,
 ) -> usize
     requires radix { IsRadix R }
-    requires at_once { is_counted_at_once R ≡ true }
+    requires at_once { has_fast_count R ≡ true }
     requires table { BeginsWithPairs R table.now }
     requires room { digit_count R number ≤ length buffer.old }
     ensures digits { WritesDigits R number buffer.old buffer.new result }
@@ -62,14 +63,14 @@ fn write_digits<T: UnsignedInteger, const R: u32>(
     requires radix { IsRadix R }
     requires table { BeginsWithPairs R table.now }
     requires room { digit_count R (T.magnitude value) ≤ length buffer.old }
-    // The notes of the count precede those of the writer.
     ensures digits { WritesDigits R (T.magnitude value) buffer.old buffer.new result }
+    // The notes of the count precede those of the writer.
     ensures notes { turns.new ≡ turns.old ++ table_notes R (T.magnitude value) }
 {
     value.fits_bits();
     let number = value.as_u64();
-    if counts_at_once(R) {
-        return write_at_once::<R>(number, table, buffer, turns);
+    if has_fast_count(R) {
+        return write_by_fast_count::<R>(number, table, buffer, turns);
     }
     let table = RadixTable::<R> { pairs: table };
     let mut loop_turns = Turns::new();
@@ -102,7 +103,7 @@ fn write_by_table<T: UnsignedInteger, const R: u32>(
 // Writes a number as `write_by_table` does, but is called: its code is too long for each caller.
 // It is cold: otherwise each call for a shorter number would save registers that only this needs.
 #[cold]
-fn write_apart<T: UnsignedInteger, const R: u32>(
+fn write_out_of_line<T: UnsignedInteger, const R: u32>(
     value: T,
     buffer: &mut [u8],
     turns: &mut Turns,
@@ -117,7 +118,7 @@ fn write_apart<T: UnsignedInteger, const R: u32>(
 
 // Writes a number as `write_by_table` does: one or two digits, which are frequent, in each caller, and each number of a
 // type of 8 or 16 bits, whose code is short.
-fn write_short_or_apart<T: UnsignedInteger, const R: u32>(
+fn write_short_inline<T: UnsignedInteger, const R: u32>(
     value: T,
     buffer: &mut [u8],
     turns: &mut Turns,
@@ -135,14 +136,14 @@ fn write_short_or_apart<T: UnsignedInteger, const R: u32>(
     if T::BITS < 32 {
         return write_by_table::<T, R>(value, buffer, turns);
     }
-    write_apart::<T, R>(value, buffer, turns)
+    write_out_of_line::<T, R>(value, buffer, turns)
 }
 
 // Writes the digits with the table of the radix, by the code of the radix, which names its table. In a power of 2 it is
 // short enough to be in each caller. It is cold, so its choice of a radix is not made one jump with the test for radix
 // 10 before it.
 #[cold]
-pub(crate) fn radix_counted<T: UnsignedInteger>(
+pub(crate) fn radix_inlined<T: UnsignedInteger>(
     value: T,
     radix: u32,
     buffer: &mut [u8],
@@ -153,10 +154,10 @@ pub(crate) fn radix_counted<T: UnsignedInteger>(
     ensures digits { WritesDigits radix (T.magnitude value) buffer.old buffer.new result }
     ensures notes { turns.new ≡ turns.old ++ table_notes radix (T.magnitude value) }
 {
-    by_radix!(radix, write_by_table or write_short_or_apart::<T>(value, buffer, turns))
+    by_radix!(radix, write_by_table or write_short_inline::<T>(value, buffer, turns))
 }
 
-// Writes the digits as `radix_counted` does, by a call in each radix unless they are one or two. So a caller has little
+// Writes the digits as `radix_inlined` does, by a call in each radix unless they are one or two. So a caller has little
 // code: if the radix is constant there, rustc has only the code of that radix in the caller, and otherwise calls this.
 fn radix_called<T: UnsignedInteger>(
     value: T,
@@ -169,15 +170,15 @@ fn radix_called<T: UnsignedInteger>(
     ensures digits { WritesDigits radix (T.magnitude value) buffer.old buffer.new result }
     ensures notes { turns.new ≡ turns.old ++ table_notes radix (T.magnitude value) }
 {
-    by_radix!(radix, write_apart or write_short_or_apart::<T>(value, buffer, turns))
+    by_radix!(radix, write_out_of_line or write_short_inline::<T>(value, buffer, turns))
 }
 
 /// Writes the digits of the number as `Radix::radix` does, by code that rustc has in each caller: the radix is to be
-/// constant there. It is from 2 to 36, and the buffer has room for the digits.
+/// constant there. It must be from 2 to 36, and the buffer must have room for the digits.
 ///
 /// # Panics
 ///
-/// If the radix is not from 2 to 36, or if the buffer is [too short](crate#conditions).
+/// If the radix is not from 2 to 36, or if the buffer is [too short](crate::conditions).
 pub fn constant_radix<T: UnsignedInteger>(value: T, radix: u32, buffer: &mut [u8]) -> usize
     requires radix { IsRadix radix }
     requires room { digit_count radix (T.magnitude value) ≤ length buffer.old }
@@ -185,17 +186,17 @@ pub fn constant_radix<T: UnsignedInteger>(value: T, radix: u32, buffer: &mut [u8
     ensures at_most { result ≤ T.BITS }
 {
     digit_count_within_bits(radix, value);
-    radix_counted(value, radix, buffer, &mut Turns::new())
+    radix_inlined(value, radix, buffer, &mut Turns::new())
 }
 
 /// An unsigned integer type whose digits are written in every radix by the table writer.
 pub trait Radix: UnsignedInteger {
     /// Writes the digits of the number to the start of the buffer, and returns how many there are. The
-    /// radix is from 2 to 36, and the buffer has room for the digits.
+    /// radix must be from 2 to 36, and the buffer must have room for the digits.
     ///
     /// # Panics
     ///
-    /// If the radix is not from 2 to 36, or if the buffer is [too short](crate#conditions).
+    /// If the radix is not from 2 to 36, or if the buffer is [too short](crate::conditions).
     fn radix(self, radix: u32, buffer: &mut [u8]) -> usize
         requires radix { IsRadix radix }
         requires room { digit_count radix (Self.magnitude self) ≤ length buffer.old }

@@ -10,7 +10,7 @@ ghost use Rattle.lexical_write_integer.specs.Text.{digits_need};
 
 use super::count::DigitCount;
 use super::decimal::Decimal;
-use super::radix::{Radix, radix_counted};
+use super::radix::{Radix, radix_inlined};
 use crate::turns::Turns;
 use lexical_num::format::NumberFormat;
 use lexical_num::num::{LexicalInteger, UnsignedInteger};
@@ -38,7 +38,7 @@ pub fn write_integer_counted<T: Decimal + DigitCount>(
     if radix == 10 {
         value.decimal_counted(buffer, turns)
     } else {
-        radix_counted(value, radix, buffer, turns)
+        radix_inlined(value, radix, buffer, turns)
     }
 }
 
@@ -53,7 +53,7 @@ pub trait WriteInteger: Decimal + Radix {
     ///
     /// # Panics
     ///
-    /// If the radix is not from 2 to 36, or if the buffer is [too short](crate#conditions).
+    /// If the radix is not from 2 to 36, or if the buffer is [too short](crate::conditions).
     fn write_integer(self, radix: u32, buffer: &mut [u8]) -> usize
         requires radix { IsRadix radix }
         requires room { digits_need radix (Self.magnitude self) Self.DECIMAL_WIDTH
@@ -69,7 +69,7 @@ pub trait WriteInteger: Decimal + Radix {
     /// # Panics
     ///
     /// If the radix is not from 2 to 36, or if the radix is 10 and the number is 10^19 or above, or if the buffer is
-    /// [too short](crate#conditions).
+    /// [too short](crate::conditions).
     fn write_integer_signed(self, radix: u32, buffer: &mut [u8]) -> usize
         requires radix { IsRadix radix }
         requires number { radix ≡ 10 → Self.magnitude self < 10 ^ Self.SIGNED_WIDTH }
@@ -83,7 +83,7 @@ pub trait WriteInteger: Decimal + Radix {
         if radix == 10 {
             self.decimal_signed(buffer)
         } else {
-            radix_counted(self, radix, buffer, &mut Turns::new())
+            radix_inlined(self, radix, buffer, &mut Turns::new())
         }
     }
 
@@ -91,7 +91,7 @@ pub trait WriteInteger: Decimal + Radix {
     ///
     /// # Panics
     ///
-    /// If the buffer is [too short](crate#conditions).
+    /// If the buffer is [too short](crate::conditions).
     fn write_mantissa(self, format: &NumberFormat, buffer: &mut [u8]) -> usize
         requires { digits_need format.now.mantissa_radix (Self.magnitude self) Self.DECIMAL_WIDTH
             ≤ length buffer.old }
@@ -106,7 +106,7 @@ pub trait WriteInteger: Decimal + Radix {
     ///
     /// # Panics
     ///
-    /// If the radix is 10 and the number is 10^19 or above, or if the buffer is [too short](crate#conditions).
+    /// If the radix is 10 and the number is 10^19 or above, or if the buffer is [too short](crate::conditions).
     fn write_mantissa_signed(self, format: &NumberFormat, buffer: &mut [u8]) -> usize
         requires number { format.now.mantissa_radix ≡ 10
             → Self.magnitude self < 10 ^ Self.SIGNED_WIDTH }
@@ -123,7 +123,7 @@ pub trait WriteInteger: Decimal + Radix {
     ///
     /// # Panics
     ///
-    /// If the buffer is [too short](crate#conditions).
+    /// If the buffer is [too short](crate::conditions).
     fn write_exponent(self, format: &NumberFormat, buffer: &mut [u8]) -> usize
         requires { digits_need format.now.exponent_radix (Self.magnitude self) Self.DECIMAL_WIDTH
             ≤ length buffer.old }
@@ -138,7 +138,7 @@ pub trait WriteInteger: Decimal + Radix {
     ///
     /// # Panics
     ///
-    /// If the radix is 10 and the number is 10^19 or above, or if the buffer is [too short](crate#conditions).
+    /// If the radix is 10 and the number is 10^19 or above, or if the buffer is [too short](crate::conditions).
     fn write_exponent_signed(self, format: &NumberFormat, buffer: &mut [u8]) -> usize
         requires number { format.now.exponent_radix ≡ 10
             → Self.magnitude self < 10 ^ Self.SIGNED_WIDTH }

@@ -7,9 +7,9 @@ ghost use Rattle.lexical_write_integer.specs.Groups.{grouped};
 
 use lexical_num::format::NumberFormat;
 
-/// Puts the first `count` bytes of the buffer into the groups of the format, and returns how many bytes
-/// then take with the separators. The count is not 0, and the buffer has room for the result. Every
-/// byte after the result is unchanged.
+/// Puts the first `count` bytes of the buffer into the groups of the format, and returns their length with
+/// the separators. The count must not be 0, and the buffer must have room for this length. Every byte after
+/// the text is unchanged. Without groups in the format it returns the count, and writes nothing.
 ///
 /// The bytes are moved from the last to the first, so no digit is overwritten before it has moved:
 ///
@@ -30,7 +30,7 @@ use lexical_num::format::NumberFormat;
 ///
 /// # Panics
 ///
-/// If the buffer is [too short](crate#conditions).
+/// If the buffer is [too short](crate::conditions).
 pub fn group_digits(count: usize, format: &NumberFormat, buffer: &mut [u8]) -> usize
     requires some { 1 ≤ count }
     requires room { grouped_length format.now.digit_grouping count ≤ length buffer.old }

@@ -1,6 +1,6 @@
 //! The implementations of the writing traits for the ten integer types.
 
-use super::api::{ToLexical, ToLexicalWithOptions};
+use super::to_lexical::{ToLexical, ToLexicalWithOptions};
 use crate::digits::count::DigitCount;
 use crate::digits::decimal::Decimal;
 use crate::digits::write::WriteInteger;

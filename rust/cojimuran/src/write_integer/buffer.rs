@@ -7,7 +7,7 @@
 ///
 /// # Panics
 ///
-/// If the buffer is [too short](crate#conditions).
+/// If the buffer is [too short](crate::conditions).
 #[inline(always)]
 #[track_caller]
 pub fn copy_to_front(text: &[u8], buffer: &mut [u8]) -> usize {
@@ -21,7 +21,7 @@ pub fn copy_to_front(text: &[u8], buffer: &mut [u8]) -> usize {
 ///
 /// # Panics
 ///
-/// If the buffer is [too short](crate#conditions).
+/// If the buffer is [too short](crate::conditions).
 #[inline(always)]
 #[track_caller]
 pub fn front_mut(buffer: &mut [u8], count: usize) -> &mut [u8] {

@@ -1,5 +1,6 @@
 -- The first one or two digits of a number, from their characters.
-use Rattle.std.proofs.Common.{◌≡◌, ℕ, ◌+◌, ◌/◌, ◌%◌, ◌<◌, ◌≤◌, [], ◌∷◌, List, Bool, true, false, length, drop, leb, refl, sym, arith}
+use Rattle.std.proofs.Common.{◌≡◌, ℕ, ◌+◌, ◌/◌, ◌%◌, ◌<◌, ◌≤◌, [], ◌∷◌, List, Bool, true, false, length, drop, leb}
+use Rattle.std.proofs.Common.{refl, sym, arith}
 use Rattle.std.proofs.lemmas.Bool.{leb-true, leb-false}
 use Rattle.lexical_num.specs.Digit.{digit_char}
 use Rattle.lexical_write_integer.specs.Buffer.{WritesDigits}
@@ -9,7 +10,9 @@ use Rattle.lexical_write_integer.proofs.OfDigits.Count.DigitCounts.{digit_count-
 use Rattle.lexical_write_integer.proofs.OfDigits.Numerals.{IsBlockOf-one, IsBlockOf-pair}
 use mir.Val.{bool_byte}
 
-pub counted : (pair : ℕ) (is_pair : Bool) → pair < 100 → leb 10 pair ≡ is_pair → 1 + bool_byte is_pair ≡ digit_count 10 pair
+-- a number below 100 has two digits if it is at least 10, and otherwise one
+pub counted : (pair : ℕ) (is_pair : Bool) → pair < 100 → leb 10 pair ≡ is_pair
+    → 1 + bool_byte is_pair ≡ digit_count 10 pair
 counted pair true small e = sym (digit_count-is 10 pair 2 (omega arith) (omega arith) small (λ _. leb-true 10 pair e))
 counted pair false small e = sym (digit_count-one 10 pair (omega arith) (leb-false 10 pair e))
 
@@ -19,7 +22,8 @@ pub record IsFirstPair (pair first second : ℕ) : Type 0 where
   pub two : 10 ≤ pair → (first ≡ digit_char (pair / 10)) × (second ≡ digit_char (pair % 10))
 
 -- two digits
-pub WritesDigits-two : (pair first second : ℕ) {before list : List ℕ} → IsFirstPair pair first second → pair < 100 → leb 10 pair ≡ true
+pub WritesDigits-two : (pair first second : ℕ) {before list : List ℕ} → IsFirstPair pair first second → pair < 100
+    → leb 10 pair ≡ true
     → 2 ≤ length before → drop 2 before ≡ list → WritesDigits 10 pair before (first ∷ second ∷ list) 2
 WritesDigits-two pair first second p small e room following =
     let two = p.two (leb-true 10 pair e) in
@@ -32,7 +36,8 @@ WritesDigits-two pair first second p small e room following =
     })
 
 -- one digit
-pub WritesDigits-one : (pair first second : ℕ) {before list : List ℕ} → IsFirstPair pair first second → pair < 100 → leb 10 pair ≡ false
+pub WritesDigits-one : (pair first second : ℕ) {before list : List ℕ} → IsFirstPair pair first second → pair < 100
+    → leb 10 pair ≡ false
     → 1 ≤ length before → drop 1 before ≡ list → WritesDigits 10 pair before (first ∷ list) 1
 WritesDigits-one pair first second p small e room following =
     let below = leb-false 10 pair e in

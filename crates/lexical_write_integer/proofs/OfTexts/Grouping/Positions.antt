@@ -1,15 +1,18 @@
 -- The position of each byte of digits in groups, counted from the right.
-use Rattle.std.proofs.Common.{◌≡◌, ℕ, suc, ◌+◌, ◌-◌, ◌*◌, ◌/◌, ◌%◌, ◌<◌, ◌≤◌, List, [], ◌∷◌, ◌++◌, length, get_or, sym, ap, ◌∙◌, inl, inr, length-append, arith}
+use Rattle.std.proofs.Common.{◌≡◌, ℕ, suc, ◌+◌, ◌-◌, ◌*◌, ◌/◌, ◌%◌, ◌<◌, ◌≤◌, List, [], ◌∷◌, ◌++◌, length, get_or, sym}
+use Rattle.std.proofs.Common.{ap, ◌∙◌, inl, inr, length-append, arith}
 use Rattle.std.proofs.Math.Nat.{mul-mod_left, mul-div_cancel, mul-le-mul_left}
 use Rattle.std.proofs.lemmas.Bool.{cases_lt}
 use Rattle.std.proofs.lemmas.List.{get_or-append_right}
 use Rattle.std.proofs.lemmas.Nat.{le-div}
 use Rattle.lexical_write_integer.specs.Groups.{mark_before, in_groups, from_right}
 use Rattle.lexical_write_integer.proofs.OfDigits.Powers.{div-monotone}
-use Rattle.lexical_write_integer.proofs.OfTexts.Grouping.Digits.{length-in_groups, length-mark_before, mark_before-whole}
+use Rattle.lexical_write_integer.proofs.OfTexts.Grouping.Digits.{length-in_groups, length-mark_before}
+use Rattle.lexical_write_integer.proofs.OfTexts.Grouping.Digits.{mark_before-whole}
 
 -- the end of a longer text has the same bytes at the same positions from the right
-pub from_right-append : (front text : List ℕ) (right : ℕ) → right < length text → from_right (front ++ text) right ≡ from_right text right
+pub from_right-append : (front text : List ℕ) (right : ℕ) → right < length text
+    → from_right (front ++ text) right ≡ from_right text right
 from_right-append front text right inside = grind (arith, length-append, get_or-append_right)
 
 -- to the right of a digit are the digits that follow it, and one separator for each whole group of them
@@ -28,13 +31,15 @@ digit-from_right grouping (digit ∷ next ∷ digits) right some inside =
     let long = length-append mark rest in
     elim (cases_lt right (length tail)) [
       | inl within ↦
-          from_right-append (digit ∷ mark) rest (right + right / grouping.0) (omega (arith, div-monotone right (length tail - 1) grouping.0 (omega arith)))
+          from_right-append (digit ∷ mark) rest (right + right / grouping.0)
+          (omega (arith, div-monotone right (length tail - 1) grouping.0 (omega arith)))
           ∙ digit-from_right grouping (next ∷ digits) right some within
           ∙ sym (from_right-append (digit ∷ []) tail right within)
       | inr first ↦
           let same : right ≡ length tail = omega arith in
           let groups = ap (λ n. n / grouping.0) same in
-          ap (λ n. get_or (digit ∷ mark ++ rest) n 0) (let e : suc (length (mark ++ rest)) - 1 - (right + right / grouping.0) ≡ 0 = omega arith in e)
+          ap (λ n. get_or (digit ∷ mark ++ rest) n 0)
+          (let e : suc (length (mark ++ rest)) - 1 - (right + right / grouping.0) ≡ 0 = omega arith in e)
           ∙ ap (λ n. get_or (digit ∷ tail) n 0) (let e : 0 ≡ suc (length tail) - 1 - right = omega arith in e)
     ]
 
@@ -61,5 +66,6 @@ mark-from_right grouping (digit ∷ next ∷ digits) groups some any inside =
           let marks = length-mark_before grouping (length tail) some (omega arith) in
           let one = ap length mark in
           ap (λ bytes. from_right (digit ∷ bytes ++ rest) (groups * grouping.0 + groups - 1)) mark
-          ∙ ap (λ n. get_or (digit ∷ grouping.1 ∷ rest) n 0) (let e : suc (suc (length rest)) - 1 - (groups * grouping.0 + groups - 1) ≡ 1 = omega arith in e)
+          ∙ ap (λ n. get_or (digit ∷ grouping.1 ∷ rest) n 0)
+          (let e : suc (suc (length rest)) - 1 - (groups * grouping.0 + groups - 1) ≡ 1 = omega arith in e)
     ]

@@ -85,10 +85,9 @@ fn write_64(n: u64, buffer: &mut [u8], turns: &mut Turns) -> usize
     }
 }
 
-// Writes the digits of a number of up to 32 bits, by a call where a program asks for small code: `write_32` is in each of
-// its callers, and this function need not be. The buffer has just the room for the longest number of a type, so one test
-// of a length takes the place of one at each write.
-fn write_32_apart(n: u32, buffer: &mut [u8], turns: &mut Turns) -> usize
+// Writes the digits of a number of up to 32 bits. `write_32` is in each of its callers. In small code these share this
+// function, and otherwise it is in them too.
+fn shared_write_32(n: u32, buffer: &mut [u8], turns: &mut Turns) -> usize
     requires { digit_count 10 n ≤ length buffer.old }
     ensures digits { WritesDigits 10 n buffer.old buffer.new result }
     ensures notes { turns.new ≡ turns.old ++ decimal_notes_32 n }
@@ -97,8 +96,8 @@ fn write_32_apart(n: u32, buffer: &mut [u8], turns: &mut Turns) -> usize
     write_32(n, buffer, turns)
 }
 
-// Writes the digits of a number of up to 64 bits, as `write_32_apart` does those of a number of up to 32 bits.
-fn write_64_apart(n: u64, buffer: &mut [u8], turns: &mut Turns) -> usize
+// Writes the digits of a number of up to 64 bits, as `shared_write_32` does those of one of up to 32 bits.
+fn shared_write_64(n: u64, buffer: &mut [u8], turns: &mut Turns) -> usize
     requires { digit_count 10 n ≤ length buffer.old }
     ensures digits { WritesDigits 10 n buffer.old buffer.new result }
     ensures notes { turns.new ≡ turns.old ++ decimal_notes_64 n }
@@ -112,7 +111,7 @@ fn write_64_apart(n: u64, buffer: &mut [u8], turns: &mut Turns) -> usize
 ///
 /// # Panics
 ///
-/// If the buffer is [too short](crate#conditions).
+/// If the buffer is [too short](crate::conditions).
 pub fn from_u8(n: u8, buffer: &mut [u8]) -> usize
     requires { 3 ≤ length buffer.old }
     ensures digits { WritesDigits 10 n buffer.old buffer.new result }
@@ -126,7 +125,7 @@ pub fn from_u8(n: u8, buffer: &mut [u8]) -> usize
 ///
 /// # Panics
 ///
-/// If the buffer is [too short](crate#conditions).
+/// If the buffer is [too short](crate::conditions).
 pub fn from_u16(n: u16, buffer: &mut [u8]) -> usize
     requires { 5 ≤ length buffer.old }
     ensures digits { WritesDigits 10 n buffer.old buffer.new result }
@@ -140,7 +139,7 @@ pub fn from_u16(n: u16, buffer: &mut [u8]) -> usize
 ///
 /// # Panics
 ///
-/// If the buffer is [too short](crate#conditions).
+/// If the buffer is [too short](crate::conditions).
 pub fn from_u32(n: u32, buffer: &mut [u8]) -> usize
     requires { 10 ≤ length buffer.old }
     ensures digits { WritesDigits 10 n buffer.old buffer.new result }
@@ -154,7 +153,7 @@ pub fn from_u32(n: u32, buffer: &mut [u8]) -> usize
 ///
 /// # Panics
 ///
-/// If the buffer is [too short](crate#conditions).
+/// If the buffer is [too short](crate::conditions).
 pub fn from_u64(n: u64, buffer: &mut [u8]) -> usize
     requires { 20 ≤ length buffer.old }
     ensures digits { WritesDigits 10 n buffer.old buffer.new result }
@@ -168,7 +167,7 @@ pub fn from_u64(n: u64, buffer: &mut [u8]) -> usize
 ///
 /// # Panics
 ///
-/// If the number is 10^19 or above, or if the buffer is [too short](crate#conditions).
+/// If the number is 10^19 or above, or if the buffer is [too short](crate::conditions).
 pub fn from_i64(n: u64, buffer: &mut [u8]) -> usize
     requires number { n < 10 ^ 19 }
     requires room { 19 ≤ length buffer.old }
@@ -187,7 +186,8 @@ pub fn from_u8_counted(n: u8, buffer: &mut [u8], turns: &mut Turns) -> usize
     ensures at_most { result ≤ 3 }
     ensures few_turns { length turns.new ≤ length turns.old + 9 }
 {
-    write_32_apart(u32::from(n), &mut buffer[..3], turns)
+    // Just the room for the longest number, so one test of a length takes the place of one at each write.
+    shared_write_32(u32::from(n), &mut buffer[..3], turns)
 }
 
 /// Writes the digits as `from_u16` does, under the same condition.
@@ -199,7 +199,7 @@ pub fn from_u16_counted(n: u16, buffer: &mut [u8], turns: &mut Turns) -> usize
     ensures at_most { result ≤ 5 }
     ensures few_turns { length turns.new ≤ length turns.old + 9 }
 {
-    write_32_apart(u32::from(n), &mut buffer[..5], turns)
+    shared_write_32(u32::from(n), &mut buffer[..5], turns)
 }
 
 /// Writes the digits as `from_u32` does, under the same condition.
@@ -211,7 +211,7 @@ pub fn from_u32_counted(n: u32, buffer: &mut [u8], turns: &mut Turns) -> usize
     ensures at_most { result ≤ 10 }
     ensures few_turns { length turns.new ≤ length turns.old + 9 }
 {
-    write_32_apart(n, &mut buffer[..10], turns)
+    shared_write_32(n, &mut buffer[..10], turns)
 }
 
 /// Writes the digits as `from_u64` does, under the same condition.
@@ -223,7 +223,7 @@ pub fn from_u64_counted(n: u64, buffer: &mut [u8], turns: &mut Turns) -> usize
     ensures at_most { result ≤ 20 }
     ensures few_turns { length turns.new ≤ length turns.old + 9 }
 {
-    write_64_apart(n, &mut buffer[..20], turns)
+    shared_write_64(n, &mut buffer[..20], turns)
 }
 
 /// Writes the digits as `from_i64` does, under the same conditions.
@@ -240,5 +240,5 @@ pub fn from_i64_counted(n: u64, buffer: &mut [u8], turns: &mut Turns) -> usize
         n < 10_000_000_000_000_000_000,
         "the number is 10^19 or above"
     );
-    write_64_apart(n, &mut buffer[..19], turns)
+    shared_write_64(n, &mut buffer[..19], turns)
 }

@@ -1,6 +1,5 @@
-//! The table writer, which writes four digits per iteration from a table of the digit pairs of the radix, or in
-//! radix 2 eight, which it computes. In radix 10 and in powers of 2 it counts the digits first, and otherwise, by
-//! division, while it writes them.
+//! Writing the digits of a number with a table of digit pairs that the caller passes. `Radix` writes them with the table
+//! of this library.
 
 // `crates/tests/src/integers/tables.rt` has examples.
 ghost use Rattle.std.specs.Prelude.{◌≡◌, ◌+◌, ◌≤◌, ◌++◌, IsTrue, length};
@@ -78,7 +77,7 @@ pub fn algorithm_counted<T: DigitCount>(
 /// # Panics
 ///
 /// If the radix is not from 2 to 36, or if the table does not begin with the digit pairs of the radix, or if the buffer
-/// is [too short](crate#conditions).
+/// is [too short](crate::conditions).
 pub fn algorithm<T: DigitCount>(value: T, radix: u32, table: &[u8], buffer: &mut [u8]) -> usize
     requires radix { IsRadix radix }
     requires table { BeginsWithPairs radix table.now }

@@ -111,11 +111,11 @@ pub fn compact_counted<T: UnsignedInteger>(
 /// ```
 pub trait Compact: UnsignedInteger + FormattedSize {
     /// Writes the digits of the number to the start of the buffer, and returns how many there are. The radix
-    /// is from 2 to 36, and the buffer has room for the digits.
+    /// must be from 2 to 36, and the buffer must have room for the digits.
     ///
     /// # Panics
     ///
-    /// If the radix is not from 2 to 36, or if the buffer is [too short](crate#conditions).
+    /// If the radix is not from 2 to 36, or if the buffer is [too short](crate::conditions).
     fn compact(self, radix: u32, buffer: &mut [u8]) -> usize
         requires radix { IsRadix radix }
         requires room { digit_count radix (Self.magnitude self) ≤ length buffer.old }

@@ -1,14 +1,13 @@
 // Writing the digits of a number, four at a time, from a table of the digit pairs of the radix.
 
-// `loop_turns` is the counter of the writer's loop. A writer that counts the digits by division notes those quotients
-// in a second counter, `turns`.
+// `turns` is the counter for the notes of a count, and `loop_turns` that for the notes of the writing.
 ghost use Rattle.std.specs.Prelude.{◌≡◌, ◌+◌, ◌-◌, ◌*◌, ◌/◌, ◌%◌, ◌^◌, ◌<◌, ◌≤◌, ◌++◌, length};
 ghost use Rattle.lexical_num.specs.Format.{IsRadix};
 ghost use Rattle.lexical_write_integer.specs.Buffer.{WritesBlock, WritesDigits};
 ghost use Rattle.lexical_write_integer.specs.DigitCount.{digit_count};
 ghost use Rattle.lexical_write_integer.specs.LoopTurns.{count_notes, loop_notes, slow_notes, table_notes};
 
-use crate::digits::count::{DigitCount, counts_at_once, fast_log2};
+use crate::digits::count::{DigitCount, fast_log2, has_fast_count};
 use crate::digits::pairs::RadixTable;
 use crate::turns::Turns;
 
@@ -30,7 +29,7 @@ pub(super) fn remove_four<const R: u32>(value: u64, loop_turns: &mut Turns) -> u
     ensures smaller { result < value }
     ensures digits { digit_count R result + 4 ≡ digit_count R value }
     // The note is this quotient.
-    ensures loop_turns { loop_turns.new ++ loop_notes R result ≡ loop_turns.old ++ loop_notes R value }
+    ensures notes_in_loop { loop_turns.new ++ loop_notes R result ≡ loop_turns.old ++ loop_notes R value }
 {
     let left = value / fourth_power(R);
     loop_turns.tick(left);
@@ -60,16 +59,16 @@ fn write_four<const R: u32>(number: u32, table: RadixTable<'_, R>, buffer: &mut 
 }
 
 // Returns a number of up to four digits without its last two.
-pub(super) fn remove_two<const R: u32>(number: u64, turns: &mut Turns) -> u64
+pub(super) fn remove_two<const R: u32>(number: u64, loop_turns: &mut Turns) -> u64
     requires radix { IsRadix R }
     requires below { number < R ^ 4 }
     ensures pair { result ≡ number / (R * R) }
     // The note is what is left, unless it is 0.
-    ensures notes { turns.new ≡ turns.old ++ loop_notes R number }
+    ensures notes { loop_turns.new ≡ loop_turns.old ++ loop_notes R number }
 {
     let pair = number / u64::from(R * R);
     if pair > 0 {
-        turns.tick(pair);
+        loop_turns.tick(pair);
     }
     pair
 }
@@ -92,18 +91,23 @@ fn write_three_or_four<const R: u32>(
     number: u64,
     table: RadixTable<'_, R>,
     buffer: &mut [u8],
-    turns: &mut Turns,
+    loop_turns: &mut Turns,
 ) -> usize
     requires more { R ^ 2 ≤ number }
     requires below { number < R ^ 4 }
     requires room { digit_count R number ≤ length buffer.old }
     ensures digits { WritesDigits R number buffer.old buffer.new result }
-    ensures notes { turns.new ≡ turns.old ++ loop_notes R number }
+    ensures notes { loop_turns.new ≡ loop_turns.old ++ loop_notes R number }
 {
     let count = count_three_or_four(number, R);
     // rustc tests the end of these bytes once.
     let written = &mut buffer[..count];
-    write_one_pair(remove_two::<R>(number, turns), count - 2, table, written);
+    write_one_pair(
+        remove_two::<R>(number, loop_turns),
+        count - 2,
+        table,
+        written,
+    );
     let pair = 2 * (number as u32 % (R * R)) as usize;
     // Both bytes are read first, so a compiler moves them as one number.
     let (third, fourth) = (table.pairs[pair], table.pairs[pair + 1]);
@@ -134,21 +138,21 @@ pub(super) fn count_some(value: u64, radix: u32) -> usize
 }
 
 // Writes the one to four digits of a number, which are counted, to the start of the buffer.
-fn write_counted<const R: u32>(
+fn write_up_to_four<const R: u32>(
     number: u32,
     digits: usize,
     table: RadixTable<'_, R>,
     buffer: &mut [u8],
-    turns: &mut Turns,
+    loop_turns: &mut Turns,
 )
     requires below { number < R ^ 4 }
     requires digits { digits ≡ digit_count R number }
     requires room { digits ≤ length buffer.old }
     ensures digits { WritesDigits R number buffer.old buffer.new digits }
-    ensures notes { turns.new ≡ turns.old ++ loop_notes R number }
+    ensures notes { loop_turns.new ≡ loop_turns.old ++ loop_notes R number }
 {
     if digits > 2 {
-        write_three_or_four(u64::from(number), table, buffer, turns);
+        write_three_or_four(u64::from(number), table, buffer, loop_turns);
     } else {
         write_one_or_two(number, digits, table, buffer);
     }
@@ -167,7 +171,7 @@ pub(super) fn write_after_count<const R: u32>(
     requires more { R ^ 2 ≤ value }
     requires room { digit_count R value ≤ length buffer.old }
     ensures digits { WritesDigits R value buffer.old buffer.new result }
-    ensures loop_turns { loop_turns.new ≡ loop_turns.old ++ loop_notes R value }
+    ensures notes_in_loop { loop_turns.new ≡ loop_turns.old ++ loop_notes R value }
 {
     if value < fourth_power(R) {
         return write_three_or_four(value, table, buffer, loop_turns);
@@ -189,10 +193,11 @@ pub(super) fn write_after_count<const R: u32>(
         left = remove_four::<R>(left, loop_turns);
     }
     if R == 1 << bits {
+        // The counter notes this quotient. Its digits are those of `first`.
         remove_two::<R>(left, loop_turns);
         write_four(first, table, buffer, 0);
     } else {
-        write_counted(left as u32, at, table, buffer, loop_turns);
+        write_up_to_four(left as u32, at, table, buffer, loop_turns);
     }
     count
 }
@@ -202,7 +207,7 @@ fn count_one_or_two(number: u32, radix: u32, turns: &mut Turns) -> usize
     requires radix { IsRadix radix }
     requires below { number < radix ^ 2 }
     ensures count { result ≡ digit_count radix number }
-    ensures turns { turns.new ≡ turns.old ++ slow_notes radix number }
+    ensures notes { turns.new ≡ turns.old ++ slow_notes radix number }
 {
     let left = number / radix;
     if left > 0 {
@@ -211,15 +216,15 @@ fn count_one_or_two(number: u32, radix: u32, turns: &mut Turns) -> usize
     1 + usize::from(left > 0)
 }
 
-// Returns how many digits a number of one or two digits has: by a division unless the digits in the radix are counted
-// at once.
+// Returns how many digits a number of one or two digits has: by a division unless the radix has
+// a fast count.
 fn count_short(number: u64, radix: u32, turns: &mut Turns) -> usize
     requires radix { IsRadix radix }
     requires below { number < radix ^ 2 }
     ensures count { result ≡ digit_count radix number }
     ensures notes { turns.new ≡ turns.old ++ count_notes radix number }
 {
-    if counts_at_once(radix) {
+    if has_fast_count(radix) {
         1 + usize::from(number >= u64::from(radix))
     } else {
         count_one_or_two(number as u32, radix, turns)
@@ -297,8 +302,8 @@ pub(super) fn count_and_write_up_to_four<const R: u32>(
     requires below { number < R ^ 4 }
     requires room { digit_count R number ≤ length buffer.old }
     ensures digits { WritesDigits R number buffer.old buffer.new result }
-    ensures turns { turns.new ≡ turns.old ++ slow_notes R number }
-    ensures loop_turns { loop_turns.new ≡ loop_turns.old ++ loop_notes R number }
+    ensures notes { turns.new ≡ turns.old ++ slow_notes R number }
+    ensures notes_in_loop { loop_turns.new ≡ loop_turns.old ++ loop_notes R number }
 {
     let pair = remove_two::<R>(u64::from(number), loop_turns) as u32;
     if pair == 0 {
@@ -322,8 +327,8 @@ pub(super) fn count_and_write_five_to_eight<const R: u32>(
     requires below { value < R ^ 8 }
     requires room { digit_count R value ≤ length buffer.old }
     ensures digits { WritesDigits R value buffer.old buffer.new result }
-    ensures turns { turns.new ≡ turns.old ++ slow_notes R value }
-    ensures loop_turns { loop_turns.new ≡ loop_turns.old ++ loop_notes R value }
+    ensures notes { turns.new ≡ turns.old ++ slow_notes R value }
+    ensures notes_in_loop { loop_turns.new ≡ loop_turns.old ++ loop_notes R value }
 {
     let left = remove_four::<R>(value, loop_turns);
     turns.tick(left);
@@ -345,8 +350,8 @@ fn count_and_write_up_to_eight<const R: u32>(
     requires below { value < R ^ 8 }
     requires room { digit_count R value ≤ length buffer.old }
     ensures digits { WritesDigits R value buffer.old buffer.new result }
-    ensures turns { turns.new ≡ turns.old ++ slow_notes R value }
-    ensures loop_turns { loop_turns.new ≡ loop_turns.old ++ loop_notes R value }
+    ensures notes { turns.new ≡ turns.old ++ slow_notes R value }
+    ensures notes_in_loop { loop_turns.new ≡ loop_turns.old ++ loop_notes R value }
 {
     if value < fourth_power(R) {
         count_and_write_up_to_four(value as u32, table, buffer, turns, loop_turns)
@@ -365,7 +370,7 @@ fn count_and_write_one_or_two<const R: u32>(
     requires below { number < R * R }
     requires room { digit_count R number ≤ length buffer.old }
     ensures digits { WritesDigits R number buffer.old buffer.new result }
-    ensures turns { turns.new ≡ turns.old ++ slow_notes R number }
+    ensures notes { turns.new ≡ turns.old ++ slow_notes R number }
 {
     let count = count_one_or_two(number, R, turns);
     write_one_or_two(number, count, table, buffer);
@@ -392,8 +397,8 @@ pub(super) fn count_and_write_more<const R: u32>(
     requires long { R ^ 8 ≤ value }
     requires room { digit_count R value ≤ length buffer.old }
     ensures digits { WritesDigits R value buffer.old buffer.new result }
-    ensures turns { turns.new ≡ turns.old ++ slow_notes R value }
-    ensures loop_turns { loop_turns.new ≡ loop_turns.old ++ loop_notes R value }
+    ensures notes { turns.new ≡ turns.old ++ slow_notes R value }
+    ensures notes_in_loop { loop_turns.new ≡ loop_turns.old ++ loop_notes R value }
 {
     let first = remove_four::<R>(value, loop_turns);
     let second = remove_four::<R>(first, loop_turns);

@@ -58,7 +58,7 @@ pub(crate) fn slow_digit_count<T: UnsignedInteger>(x: T, radix: u32) -> usize {
 
 // Returns whether the digits in the radix are counted without division: from the highest set bit or with a table.
 #[inline]
-pub(crate) fn counts_at_once(radix: u32) -> bool {
+pub(crate) fn has_fast_count(radix: u32) -> bool {
     radix == 2 || radix == 4 || radix == 8 || radix == 10 || radix == 16 || radix == 32
 }
 

@@ -22,7 +22,7 @@ pub trait Decimal: DecimalCount {
     ///
     /// # Panics
     ///
-    /// If the buffer is [too short](crate#conditions).
+    /// If the buffer is [too short](crate::conditions).
     fn decimal(self, buffer: &mut [u8]) -> usize;
 
     /// Writes the digits of the number to the start of the buffer, and returns how many there are. The
@@ -31,7 +31,7 @@ pub trait Decimal: DecimalCount {
     ///
     /// # Panics
     ///
-    /// If the number is 10^19 or above, or if the buffer is [too short](crate#conditions).
+    /// If the number is 10^19 or above, or if the buffer is [too short](crate::conditions).
     fn decimal_signed(self, buffer: &mut [u8]) -> usize;
 }
 

@@ -1,6 +1,7 @@
 // Made by `strip` from crates/lexical_write_integer/src/digits/radix.rt. Edit that file, not this one.
 
-//! Writing the digits of a number in any radix, from the tables of digit pairs.
+//! Writing the digits of a number in any radix, from the tables of digit pairs. In radix 10 and in powers of 2 the digits
+//! are counted first, and otherwise, by division, while they are written.
 
 pub mod algorithm;
 mod binary_words;
@@ -10,7 +11,7 @@ mod table_writer;
 
 use crate::num::num::UnsignedInteger;
 use crate::tables::get_table;
-use crate::write_integer::digits::count::counts_at_once;
+use crate::write_integer::digits::count::has_fast_count;
 use crate::write_integer::digits::pairs::RadixTable;
 use binary_words::write_binary;
 use by_radix::by_radix;
@@ -23,7 +24,7 @@ use table_writer::{
 // pairs of that radix.
 #[inline(always)]
 #[track_caller]
-fn write_at_once<const R: u32>(number: u64, table: &[u8], buffer: &mut [u8]) -> usize {
+fn write_by_fast_count<const R: u32>(number: u64, table: &[u8], buffer: &mut [u8]) -> usize {
     let table = RadixTable::<R> { pairs: table };
     if R == 2 && number >= 256 {
         write_binary(number, buffer)
@@ -44,8 +45,8 @@ fn write_digits<T: UnsignedInteger, const R: u32>(
     buffer: &mut [u8],
 ) -> usize {
     let number = value.as_u64();
-    if counts_at_once(R) {
-        return write_at_once::<R>(number, table, buffer);
+    if has_fast_count(R) {
+        return write_by_fast_count::<R>(number, table, buffer);
     }
     let table = RadixTable::<R> { pairs: table };
     if number < fourth_power(R) {
@@ -69,14 +70,14 @@ fn write_by_table<T: UnsignedInteger, const R: u32>(value: T, buffer: &mut [u8])
 // It is cold: otherwise each call for a shorter number would save registers that only this needs.
 #[cold]
 #[inline]
-fn write_apart<T: UnsignedInteger, const R: u32>(value: T, buffer: &mut [u8]) -> usize {
+fn write_out_of_line<T: UnsignedInteger, const R: u32>(value: T, buffer: &mut [u8]) -> usize {
     write_by_table::<T, R>(value, buffer)
 }
 
 // Writes a number as `write_by_table` does: one or two digits, which are frequent, in each caller, and each number of a
 // type of 8 or 16 bits, whose code is short.
 #[inline]
-fn write_short_or_apart<T: UnsignedInteger, const R: u32>(value: T, buffer: &mut [u8]) -> usize {
+fn write_short_inline<T: UnsignedInteger, const R: u32>(value: T, buffer: &mut [u8]) -> usize {
     let number = value.as_u64();
     if number < u64::from(R * R) {
         return write_short(number, RadixTable::<R>::new(), buffer);
@@ -84,7 +85,7 @@ fn write_short_or_apart<T: UnsignedInteger, const R: u32>(value: T, buffer: &mut
     if T::BITS < 32 {
         return write_by_table::<T, R>(value, buffer);
     }
-    write_apart::<T, R>(value, buffer)
+    write_out_of_line::<T, R>(value, buffer)
 }
 
 // Writes the digits with the table of the radix, by the code of the radix, which names its table. In a power of 2 it is
@@ -93,37 +94,37 @@ fn write_short_or_apart<T: UnsignedInteger, const R: u32>(value: T, buffer: &mut
 #[cold]
 #[inline(always)]
 #[track_caller]
-pub(crate) fn radix_counted<T: UnsignedInteger>(value: T, radix: u32, buffer: &mut [u8]) -> usize {
-    by_radix!(radix, write_by_table or write_short_or_apart::<T>(value, buffer))
+pub(crate) fn radix_inlined<T: UnsignedInteger>(value: T, radix: u32, buffer: &mut [u8]) -> usize {
+    by_radix!(radix, write_by_table or write_short_inline::<T>(value, buffer))
 }
 
-// Writes the digits as `radix_counted` does, by a call in each radix unless they are one or two. So a caller has little
+// Writes the digits as `radix_inlined` does, by a call in each radix unless they are one or two. So a caller has little
 // code: if the radix is constant there, rustc has only the code of that radix in the caller, and otherwise calls this.
 #[inline]
 fn radix_called<T: UnsignedInteger>(value: T, radix: u32, buffer: &mut [u8]) -> usize {
-    by_radix!(radix, write_apart or write_short_or_apart::<T>(value, buffer))
+    by_radix!(radix, write_out_of_line or write_short_inline::<T>(value, buffer))
 }
 
 /// Writes the digits of the number as `Radix::radix` does, by code that rustc has in each caller: the radix is to be
-/// constant there. It is from 2 to 36, and the buffer has room for the digits.
+/// constant there. It must be from 2 to 36, and the buffer must have room for the digits.
 ///
 /// # Panics
 ///
-/// If the radix is not from 2 to 36, or if the buffer is [too short](crate#conditions).
+/// If the radix is not from 2 to 36, or if the buffer is [too short](crate::conditions).
 #[inline(always)]
 #[track_caller]
 pub fn constant_radix<T: UnsignedInteger>(value: T, radix: u32, buffer: &mut [u8]) -> usize {
-    radix_counted(value, radix, buffer)
+    radix_inlined(value, radix, buffer)
 }
 
 /// An unsigned integer type whose digits are written in every radix by the table writer.
 pub trait Radix: UnsignedInteger {
     /// Writes the digits of the number to the start of the buffer, and returns how many there are. The
-    /// radix is from 2 to 36, and the buffer has room for the digits.
+    /// radix must be from 2 to 36, and the buffer must have room for the digits.
     ///
     /// # Panics
     ///
-    /// If the radix is not from 2 to 36, or if the buffer is [too short](crate#conditions).
+    /// If the radix is not from 2 to 36, or if the buffer is [too short](crate::conditions).
     #[inline]
     fn radix(self, radix: u32, buffer: &mut [u8]) -> usize {
         radix_called(self, radix, buffer)

@@ -5,7 +5,7 @@
 
 use super::count::DigitCount;
 use super::decimal::Decimal;
-use super::radix::{Radix, radix_counted};
+use super::radix::{Radix, radix_inlined};
 use crate::num::format::NumberFormat;
 use crate::num::num::{LexicalInteger, UnsignedInteger};
 
@@ -21,7 +21,7 @@ pub(crate) fn write_integer<T: Decimal + DigitCount>(
     if radix == 10 {
         value.decimal(buffer)
     } else {
-        radix_counted(value, radix, buffer)
+        radix_inlined(value, radix, buffer)
     }
 }
 
@@ -36,7 +36,7 @@ pub trait WriteInteger: Decimal + Radix {
     ///
     /// # Panics
     ///
-    /// If the radix is not from 2 to 36, or if the buffer is [too short](crate#conditions).
+    /// If the radix is not from 2 to 36, or if the buffer is [too short](crate::conditions).
     #[inline(always)]
     #[track_caller]
     fn write_integer(self, radix: u32, buffer: &mut [u8]) -> usize {
@@ -48,14 +48,14 @@ pub trait WriteInteger: Decimal + Radix {
     /// # Panics
     ///
     /// If the radix is not from 2 to 36, or if the radix is 10 and the number is 10^19 or above, or if the buffer is
-    /// [too short](crate#conditions).
+    /// [too short](crate::conditions).
     #[inline(always)]
     #[track_caller]
     fn write_integer_signed(self, radix: u32, buffer: &mut [u8]) -> usize {
         if radix == 10 {
             self.decimal_signed(buffer)
         } else {
-            radix_counted(self, radix, buffer)
+            radix_inlined(self, radix, buffer)
         }
     }
 
@@ -63,7 +63,7 @@ pub trait WriteInteger: Decimal + Radix {
     ///
     /// # Panics
     ///
-    /// If the buffer is [too short](crate#conditions).
+    /// If the buffer is [too short](crate::conditions).
     #[inline(always)]
     #[track_caller]
     fn write_mantissa(self, format: &NumberFormat, buffer: &mut [u8]) -> usize {
@@ -74,7 +74,7 @@ pub trait WriteInteger: Decimal + Radix {
     ///
     /// # Panics
     ///
-    /// If the radix is 10 and the number is 10^19 or above, or if the buffer is [too short](crate#conditions).
+    /// If the radix is 10 and the number is 10^19 or above, or if the buffer is [too short](crate::conditions).
     #[inline(always)]
     #[track_caller]
     fn write_mantissa_signed(self, format: &NumberFormat, buffer: &mut [u8]) -> usize {
@@ -85,7 +85,7 @@ pub trait WriteInteger: Decimal + Radix {
     ///
     /// # Panics
     ///
-    /// If the buffer is [too short](crate#conditions).
+    /// If the buffer is [too short](crate::conditions).
     #[inline(always)]
     #[track_caller]
     fn write_exponent(self, format: &NumberFormat, buffer: &mut [u8]) -> usize {
@@ -96,7 +96,7 @@ pub trait WriteInteger: Decimal + Radix {
     ///
     /// # Panics
     ///
-    /// If the radix is 10 and the number is 10^19 or above, or if the buffer is [too short](crate#conditions).
+    /// If the radix is 10 and the number is 10^19 or above, or if the buffer is [too short](crate::conditions).
     #[inline(always)]
     #[track_caller]
     fn write_exponent_signed(self, format: &NumberFormat, buffer: &mut [u8]) -> usize {

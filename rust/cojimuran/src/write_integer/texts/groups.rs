@@ -4,9 +4,9 @@
 
 use crate::num::format::NumberFormat;
 
-/// Puts the first `count` bytes of the buffer into the groups of the format, and returns how many bytes
-/// then take with the separators. The count is not 0, and the buffer has room for the result. Every
-/// byte after the result is unchanged.
+/// Puts the first `count` bytes of the buffer into the groups of the format, and returns their length with
+/// the separators. The count must not be 0, and the buffer must have room for this length. Every byte after
+/// the text is unchanged. Without groups in the format it returns the count, and writes nothing.
 ///
 /// The bytes are moved from the last to the first, so no digit is overwritten before it has moved:
 ///
@@ -27,7 +27,7 @@ use crate::num::format::NumberFormat;
 ///
 /// # Panics
 ///
-/// If the buffer is [too short](crate#conditions).
+/// If the buffer is [too short](crate::conditions).
 #[inline]
 pub fn group_digits(count: usize, format: &NumberFormat, buffer: &mut [u8]) -> usize {
     let Some((size, mark)) = format.digit_grouping() else {

@@ -2,7 +2,7 @@
 
 //! The implementations of the writing traits for the ten integer types.
 
-use super::api::{ToLexical, ToLexicalWithOptions};
+use super::to_lexical::{ToLexical, ToLexicalWithOptions};
 use crate::num::constants::FormattedSize;
 use crate::num::format::NumberFormat;
 use crate::num::options::Options;

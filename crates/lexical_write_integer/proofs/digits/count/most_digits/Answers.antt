@@ -1,4 +1,3 @@
-use Rattle.std.proofs.Common.{arith}
 use Rattle.lexical_write_integer.proofs.OfDigits.Count.DigitCounts.{width-some}
 use Rattle.lexical_write_integer.proofs.OfDigits.Count.Logarithms.{IsLog2-some, digit_count-le_log2}
 use Rattle.lexical_write_integer.proofs.digits.count.most_digits.Goals as goal

@@ -18,10 +18,15 @@ from_u32-requires g c =
     let small = power-small _ _ c.requires.radix.at_most_36 c.requires.exponent in
     elim c.if-BITS-ge32.branch [
       | then-BITS-ge32 w ↦
-          let enough = pow-le-pow_right {n = 2} (omega arith) {i = 32} {j = g.T.LexicalInteger.BITS} (omega (arith, w.if-BITS-ge32.true, c.BITS.ensures)) in
+          let enough = pow-le-pow_right {n = 2} (omega arith) {i = 32} {j = g.T.LexicalInteger.BITS}
+          (omega (arith, w.if-BITS-ge32.true, c.BITS.ensures)) in
           omega (arith, small, c.pow-power.ensures, enough)
       | else-BITS-ge32 w ↦
           let none = rw w.BITS-else-BITS-ge32.ensures at (eqb-true _ _ (sym w.value-is ∙ c.if-power-BITS-eq0.true)) in
           let some = one-le-pow g.T.LexicalInteger.BITS 2 (omega arith) in
-          omega (arith, (div-lt_iff_lt-mul {k = 2 ^ g.T.LexicalInteger.BITS} {x = c.pow-power.result} {y = 1} (omega (arith, some))).0 (omega (arith, none)))
+          omega (
+            arith,
+            (div-lt_iff_lt-mul {k = 2 ^ g.T.LexicalInteger.BITS} {x = c.pow-power.result} {y = 1}
+                (omega (arith, some))).0 (omega (arith, none)),
+          )
     ]

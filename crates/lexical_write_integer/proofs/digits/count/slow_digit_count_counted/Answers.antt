@@ -2,20 +2,25 @@ use Rattle.std.proofs.Common.{◌≡◌, ◌+◌, ◌≤◌, ◌++◌, arith}
 use Rattle.lexical_write_integer.specs.DigitCount.{digit_count}
 use Rattle.lexical_write_integer.specs.LoopTurns.{slow_notes}
 use Rattle.lexical_write_integer.proofs.OfDigits.Count.DigitCounts.{digit_count-le_64}
-use Rattle.lexical_write_integer.proofs.OfDigits.Radix.Loops.Records.{slow_count-is, slow_notes-are, length-more, length-slow_notes}
+use Rattle.lexical_write_integer.proofs.OfDigits.Radix.Loops.Records.{slow_count-is, slow_notes-are, length-more}
+use Rattle.lexical_write_integer.proofs.OfDigits.Radix.Loops.Records.{length-slow_notes}
 use Rattle.lexical_write_integer.proofs.digits.count.slow_digit_count_counted.Goals as goal
 use Rattle.lexical_write_integer.proofs.digits.count.slow_digit_count_counted.Goals.{After-take_digits-by_one}
 
 count_is : (g : _) (c : After-take_digits-by_one g)
     → 1 + c.take_digits-left.result.1 + c.take_digits-left-2.result.1 + c.take_digits-by_one.result.1
     ≡ digit_count c.args.radix (g.T.UnsignedInteger.magnitude c.args.x)
-count_is g c = slow_count-is c.requires.at_least_two c.take_digits-left.ensures c.take_digits-left-2.ensures c.take_digits-by_one.ensures
+count_is g c = slow_count-is c.requires.at_least_two c.take_digits-left.ensures c.take_digits-left-2.ensures
+    c.take_digits-by_one.ensures
 
 notes_are : (g : _) (c : After-take_digits-by_one g)
-    → c.take_digits-by_one.new.turns ≡ c.args.turns.now ++ slow_notes c.args.radix (g.T.UnsignedInteger.magnitude c.args.x)
-notes_are g c = slow_notes-are c.requires.at_least_two c.take_digits-left.ensures c.take_digits-left-2.ensures c.take_digits-by_one.ensures
+    → c.take_digits-by_one.new.turns ≡ c.args.turns.now
+    ++ slow_notes c.args.radix (g.T.UnsignedInteger.magnitude c.args.x)
+notes_are g c = slow_notes-are c.requires.at_least_two c.take_digits-left.ensures c.take_digits-left-2.ensures
+    c.take_digits-by_one.ensures
 
-at_most_64 : (g : _) (c : After-take_digits-by_one g) → digit_count c.args.radix (g.T.UnsignedInteger.magnitude c.args.x) ≤ 64
+at_most_64 : (g : _) (c : After-take_digits-by_one g)
+    → digit_count c.args.radix (g.T.UnsignedInteger.magnitude c.args.x) ≤ 64
 at_most_64 g c = digit_count-le_64 _ _ _ c.requires.at_least_two g.met.T.UnsignedInteger.range.width c.fits_bits.ensures
 
 pub overflow_add-result-2 : goal.overflow_add-result-2
@@ -35,4 +40,5 @@ returns-clause-notes g c = notes_are g c
 
 pub returns-clause-turns : goal.returns-clause-turns
 returns-clause-turns g c =
-    rw (count_is g c) (length-more _ _ _ _ (notes_are g c) (length-slow_notes c.args.radix (g.T.UnsignedInteger.magnitude c.args.x)))
+    rw (count_is g c) (length-more _ _ _ _ (notes_are g c)
+    (length-slow_notes c.args.radix (g.T.UnsignedInteger.magnitude c.args.x)))

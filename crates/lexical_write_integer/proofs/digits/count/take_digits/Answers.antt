@@ -1,6 +1,7 @@
 use Rattle.std.proofs.Common.{◌^◌, ◌≤◌, arith}
 use Rattle.lexical_write_integer.proofs.OfDigits.Count.DigitCounts.{digit_count-le_64}
-use Rattle.lexical_write_integer.proofs.OfDigits.Radix.Loops.Divisions.{IsDivided-start, IsDivided-more, IsDivided-room, TakesDigits-end, left-smaller}
+use Rattle.lexical_write_integer.proofs.OfDigits.Radix.Loops.Divisions.{IsDivided-start, IsDivided-more, IsDivided-room}
+use Rattle.lexical_write_integer.proofs.OfDigits.Radix.Loops.Divisions.{TakesDigits-end, left-smaller}
 use Rattle.lexical_write_integer.proofs.OfDigits.Radix.Loops.Divisions.{TakesDigits-none}
 use Rattle.lexical_write_integer.proofs.OfDigits.Count.RadixPowers.{power-gt_one}
 use Rattle.lexical_write_integer.proofs.digits.count.take_digits.Goals as goal
@@ -11,17 +12,23 @@ long g c = rw c.in-Some.ensures.power at (c.is_at_least.ensures.0 c.loop-power-t
 
 pub returns-in_default : goal.returns-in_default
 returns-in_default g c =
-    TakesDigits-none c.requires.radix.at_least_two c.requires.step (omega (arith, c.fits_bits.ensures, c.in_default.ensures.too_great))
+    TakesDigits-none c.requires.radix.at_least_two c.requires.step
+    (omega (arith, c.fits_bits.ensures, c.in_default.ensures.too_great))
 
 pub loop-power-init : goal.loop-power-init
 loop-power-init g c = IsDivided-start
 
 pub quotient-left-requires : goal.quotient-left-requires
-quotient-left-requires g c = omega (arith, c.in-Some.ensures.power, power-gt_one _ _ c.requires.radix.at_least_two c.requires.step)
+quotient-left-requires g c = omega (
+  arith,
+  c.in-Some.ensures.power,
+  power-gt_one _ _ c.requires.radix.at_least_two c.requires.step,
+)
 
 pub overflow_add-taken : goal.overflow_add-taken
 overflow_add-taken g c =
-    let narrow = digit_count-le_64 _ _ _ c.requires.radix.at_least_two g.met.T.UnsignedInteger.range.width c.fits_bits.ensures in
+    let narrow = digit_count-le_64 _ _ _ c.requires.radix.at_least_two g.met.T.UnsignedInteger.range.width
+    c.fits_bits.ensures in
     let room = IsDivided-room c.requires.radix.at_least_two c.loop-power.invariant
     (rw c.in-Some.ensures.power at (c.is_at_least.ensures.0 c.loop-power-test.true)) in
     record { fits = omega (arith, narrow, room) }
@@ -34,6 +41,7 @@ loop-power-preserved g c = grind (arith, IsDivided-more)
 
 pub returns : goal.returns
 returns g c =
-    let narrow = digit_count-le_64 _ _ _ c.requires.radix.at_least_two g.met.T.UnsignedInteger.range.width c.fits_bits.ensures in
+    let narrow = digit_count-le_64 _ _ _ c.requires.radix.at_least_two g.met.T.UnsignedInteger.range.width
+    c.fits_bits.ensures in
     TakesDigits-end c.requires.radix.at_least_two c.requires.step c.loop-power.invariant
     (grind (arith, c.is_at_least.ensures, c.in-Some.ensures.power, c.loop-power.invariant.fewer, narrow))

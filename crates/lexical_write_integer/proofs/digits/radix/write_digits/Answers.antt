@@ -10,7 +10,12 @@ use Rattle.lexical_write_integer.proofs.digits.radix.write_digits.Goals.{else-nu
 
 pub overflow_cast-number : goal.overflow_cast-number
 overflow_cast-number g c =
-    omega (arith, c.if-number-fourth_power.true, c.fourth_power.ensures.power, power-small g.row.R 4 c.requires.radix.at_most_36 takes_four)
+    omega (
+      arith,
+      c.if-number-fourth_power.true,
+      c.fourth_power.ensures.power,
+      power-small g.row.R 4 c.requires.radix.at_most_36 takes_four,
+    )
 
 pub returns : goal.returns
 returns g c =
@@ -20,18 +25,28 @@ returns g c =
     let after = c.if-number-fourth_power in
     let turns = after.turns in
     let none = c.new-loop_turns.ensures in
-    let by_turns = sym c.if-counts_at_once.ensures in
-    let all : WritesDigits r n c.args.buffer.now after.buffer after.count × (turns ≡ old ++ count_notes r n) × (after.loop_turns ≡ loop_notes r n) =
+    let by_turns = sym c.if-has_fast_count.ensures in
+    let all : WritesDigits r n c.args.buffer.now after.buffer after.count × (turns ≡ old ++ count_notes r n)
+    × (after.loop_turns ≡ loop_notes r n) =
     elim after.branch [
       | then-number-fourth_power w ↦
-          let all = w.count_and_write_up_to_four-count.ensures in
-          (rw (w.buffer-is, w.count-is) all.digits, rw w.turns-is (slow_noted r n old _ by_turns all.turns), rw w.loop_turns-is (rw none at all.loop_turns))
+          let all = w.count_and_write_up_to_four-count.ensures in (
+            rw (w.buffer-is, w.count-is) all.digits,
+            rw w.turns-is (slow_noted r n old _ by_turns all.notes),
+            rw w.loop_turns-is (rw none at all.notes_in_loop),
+          )
       | else-number-fourth_power+then-number-eighth_power w ↦
-          let all = w.count_and_write_five_to_eight.ensures in
-          (rw (w.buffer-is, w.count-is) all.digits, rw w.turns-is (slow_noted r n old _ by_turns all.turns), rw w.loop_turns-is (rw none at all.loop_turns))
+          let all = w.count_and_write_five_to_eight.ensures in (
+            rw (w.buffer-is, w.count-is) all.digits,
+            rw w.turns-is (slow_noted r n old _ by_turns all.notes),
+            rw w.loop_turns-is (rw none at all.notes_in_loop),
+          )
       | else-number-fourth_power+else-number-eighth_power w ↦
-          let all = w.count_and_write_more.ensures in
-          (rw (w.buffer-is, w.count-is) all.digits, rw w.turns-is (slow_noted r n old _ by_turns all.turns), rw w.loop_turns-is (rw none at all.loop_turns))
+          let all = w.count_and_write_more.ensures in (
+            rw (w.buffer-is, w.count-is) all.digits,
+            rw w.turns-is (slow_noted r n old _ by_turns all.notes),
+            rw w.loop_turns-is (rw none at all.notes_in_loop),
+          )
     ] in
     rw (← c.as_u64-number.ensures, c.append.ensures)
     (record { digits = all.0; notes = table_notes-are r n old turns _ all.1 (ap (λ ys. turns ++ ys) all.2) })

@@ -5,4 +5,8 @@ use Rattle.lexical_write_integer.proofs.laws.reading.padded_read_back.Goals as g
 pub returns : goal.returns
 returns c =
     let few = c.requires.radix.at_most_36 in
-    are_read _ _ false few _ (λ text is. record { digits = text; whole = refl; read = padded_read _ _ _ text few c.requires.some is })
+    are_read _ _ false few _ (λ text is. record {
+      digits = text;
+      whole = refl;
+      read = padded_read _ _ _ text few c.requires.some is;
+    })

@@ -1,6 +1,7 @@
 use Rattle.std.proofs.Common.{sym, refl, arith}
 use Rattle.lexical_write_integer.proofs.OfTexts.Grouping.Digits.{length-in_groups_taken}
-use Rattle.lexical_write_integer.proofs.OfTexts.Grouping.Spread.{IsSpread-start, IsSpread-digit, IsSpread-mark, IsSpread-end}
+use Rattle.lexical_write_integer.proofs.OfTexts.Grouping.Spread.{IsSpread-start, IsSpread-digit, IsSpread-mark}
+use Rattle.lexical_write_integer.proofs.OfTexts.Grouping.Spread.{IsSpread-end}
 use Rattle.lexical_write_integer.proofs.texts.groups.group_digits.Goals as goal
 
 pub loop-end-init : goal.loop-end-init
@@ -20,7 +21,9 @@ pub loop-end-preserved : goal.loop-end-preserved
 loop-end-preserved c = IsSpread-digit (omega arith) (omega (arith, c.loop-end.invariant.few)) c.loop-end.invariant
 
 pub returns-clause-groups : goal.returns-clause-groups
-returns-clause-groups c = rw (← c.in-Some.ensures.value, ← c.from-size.ensures) (IsSpread-end (omega arith) c.loop-end.invariant)
+returns-clause-groups c = rw (← c.in-Some.ensures.value, ← c.from-size.ensures)
+    (IsSpread-end (omega arith) c.loop-end.invariant)
 
 pub returns-clause-count : goal.returns-clause-count
-returns-clause-count c = rw (← c.in-Some.ensures.value, ← c.from-size.ensures) (sym (length-in_groups_taken c.loop-end.invariant.fits))
+returns-clause-count c = rw (← c.in-Some.ensures.value, ← c.from-size.ensures)
+    (sym (length-in_groups_taken c.loop-end.invariant.fits))

@@ -64,17 +64,16 @@ fn write_64(n: u64, buffer: &mut [u8]) -> usize {
     }
 }
 
-// Writes the digits of a number of up to 32 bits, by a call where a program asks for small code: `write_32` is in each of
-// its callers, and this function need not be. The buffer has just the room for the longest number of a type, so one test
-// of a length takes the place of one at each write.
+// Writes the digits of a number of up to 32 bits. `write_32` is in each of its callers. In small code these share this
+// function, and otherwise it is in them too.
 #[inline]
-fn write_32_apart(n: u32, buffer: &mut [u8]) -> usize {
+fn shared_write_32(n: u32, buffer: &mut [u8]) -> usize {
     write_32(n, buffer)
 }
 
-// Writes the digits of a number of up to 64 bits, as `write_32_apart` does those of a number of up to 32 bits.
+// Writes the digits of a number of up to 64 bits, as `shared_write_32` does those of one of up to 32 bits.
 #[inline]
-fn write_64_apart(n: u64, buffer: &mut [u8]) -> usize {
+fn shared_write_64(n: u64, buffer: &mut [u8]) -> usize {
     write_64(n, buffer)
 }
 
@@ -83,11 +82,12 @@ fn write_64_apart(n: u64, buffer: &mut [u8]) -> usize {
 ///
 /// # Panics
 ///
-/// If the buffer is [too short](crate#conditions).
+/// If the buffer is [too short](crate::conditions).
 #[inline(always)]
 #[track_caller]
 pub fn from_u8(n: u8, buffer: &mut [u8]) -> usize {
-    write_32_apart(u32::from(n), &mut buffer[..3])
+    // Just the room for the longest number, so one test of a length takes the place of one at each write.
+    shared_write_32(u32::from(n), &mut buffer[..3])
 }
 
 /// Writes the digits of a number to the start of the buffer, and returns how many there are. The buffer has
@@ -95,11 +95,11 @@ pub fn from_u8(n: u8, buffer: &mut [u8]) -> usize {
 ///
 /// # Panics
 ///
-/// If the buffer is [too short](crate#conditions).
+/// If the buffer is [too short](crate::conditions).
 #[inline(always)]
 #[track_caller]
 pub fn from_u16(n: u16, buffer: &mut [u8]) -> usize {
-    write_32_apart(u32::from(n), &mut buffer[..5])
+    shared_write_32(u32::from(n), &mut buffer[..5])
 }
 
 /// Writes the digits of a number to the start of the buffer, and returns how many there are. The buffer has
@@ -107,11 +107,11 @@ pub fn from_u16(n: u16, buffer: &mut [u8]) -> usize {
 ///
 /// # Panics
 ///
-/// If the buffer is [too short](crate#conditions).
+/// If the buffer is [too short](crate::conditions).
 #[inline(always)]
 #[track_caller]
 pub fn from_u32(n: u32, buffer: &mut [u8]) -> usize {
-    write_32_apart(n, &mut buffer[..10])
+    shared_write_32(n, &mut buffer[..10])
 }
 
 /// Writes the digits of a number to the start of the buffer, and returns how many there are. The buffer has
@@ -119,11 +119,11 @@ pub fn from_u32(n: u32, buffer: &mut [u8]) -> usize {
 ///
 /// # Panics
 ///
-/// If the buffer is [too short](crate#conditions).
+/// If the buffer is [too short](crate::conditions).
 #[inline(always)]
 #[track_caller]
 pub fn from_u64(n: u64, buffer: &mut [u8]) -> usize {
-    write_64_apart(n, &mut buffer[..20])
+    shared_write_64(n, &mut buffer[..20])
 }
 
 /// Writes the digits of a number to the start of the buffer, and returns how many there are. The number is
@@ -131,7 +131,7 @@ pub fn from_u64(n: u64, buffer: &mut [u8]) -> usize {
 ///
 /// # Panics
 ///
-/// If the number is 10^19 or above, or if the buffer is [too short](crate#conditions).
+/// If the number is 10^19 or above, or if the buffer is [too short](crate::conditions).
 #[inline(always)]
 #[track_caller]
 pub fn from_i64(n: u64, buffer: &mut [u8]) -> usize {
@@ -139,5 +139,5 @@ pub fn from_i64(n: u64, buffer: &mut [u8]) -> usize {
         n < 10_000_000_000_000_000_000,
         "the number is 10^19 or above"
     );
-    write_64_apart(n, &mut buffer[..19])
+    shared_write_64(n, &mut buffer[..19])
 }

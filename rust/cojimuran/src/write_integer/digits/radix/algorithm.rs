@@ -1,8 +1,7 @@
 // Made by `strip` from crates/lexical_write_integer/src/digits/radix/algorithm.rt. Edit that file, not this one.
 
-//! The table writer, which writes four digits per iteration from a table of the digit pairs of the radix, or in
-//! radix 2 eight, which it computes. In radix 10 and in powers of 2 it counts the digits first, and otherwise, by
-//! division, while it writes them.
+//! Writing the digits of a number with a table of digit pairs that the caller passes. `Radix` writes them with the table
+//! of this library.
 
 use super::by_radix::by_radix;
 use super::write_digits;
@@ -35,7 +34,7 @@ fn begins_with_pairs(radix: u32, table: &[u8]) -> bool {
 /// # Panics
 ///
 /// If the radix is not from 2 to 36, or if the table does not begin with the digit pairs of the radix, or if the buffer
-/// is [too short](crate#conditions).
+/// is [too short](crate::conditions).
 #[inline]
 pub fn algorithm<T: DigitCount>(value: T, radix: u32, table: &[u8], buffer: &mut [u8]) -> usize {
     assert!(

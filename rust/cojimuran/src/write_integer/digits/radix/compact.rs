@@ -73,11 +73,11 @@ pub(crate) fn compact<T: UnsignedInteger>(value: T, radix: u32, buffer: &mut [u8
 /// ```
 pub trait Compact: UnsignedInteger + FormattedSize {
     /// Writes the digits of the number to the start of the buffer, and returns how many there are. The radix
-    /// is from 2 to 36, and the buffer has room for the digits.
+    /// must be from 2 to 36, and the buffer must have room for the digits.
     ///
     /// # Panics
     ///
-    /// If the radix is not from 2 to 36, or if the buffer is [too short](crate#conditions).
+    /// If the radix is not from 2 to 36, or if the buffer is [too short](crate::conditions).
     #[inline]
     fn compact(self, radix: u32, buffer: &mut [u8]) -> usize {
         compact(self, radix, buffer)

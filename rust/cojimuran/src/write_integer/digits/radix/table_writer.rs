@@ -2,7 +2,7 @@
 
 // Writing the digits of a number, four at a time, from a table of the digit pairs of the radix.
 
-use crate::write_integer::digits::count::{DigitCount, counts_at_once, fast_log2};
+use crate::write_integer::digits::count::{DigitCount, fast_log2, has_fast_count};
 use crate::write_integer::digits::pairs::RadixTable;
 
 // Returns the fourth power of the radix: the divisor that removes four digits.
@@ -94,7 +94,7 @@ pub(super) fn count_some(value: u64, radix: u32) -> usize {
 // Writes the one to four digits of a number, which are counted, to the start of the buffer.
 #[inline(always)]
 #[track_caller]
-fn write_counted<const R: u32>(
+fn write_up_to_four<const R: u32>(
     number: u32,
     digits: usize,
     table: RadixTable<'_, R>,
@@ -137,10 +137,11 @@ pub(super) fn write_after_count<const R: u32>(
         left = remove_four::<R>(left);
     }
     if R == 1 << bits {
+        // The counter notes this quotient. Its digits are those of `first`.
         remove_two::<R>(left);
         write_four(first, table, buffer, 0);
     } else {
-        write_counted(left as u32, at, table, buffer);
+        write_up_to_four(left as u32, at, table, buffer);
     }
     count
 }
@@ -153,12 +154,12 @@ fn count_one_or_two(number: u32, radix: u32) -> usize {
     1 + usize::from(left > 0)
 }
 
-// Returns how many digits a number of one or two digits has: by a division unless the digits in the radix are counted
-// at once.
+// Returns how many digits a number of one or two digits has: by a division unless the radix has
+// a fast count.
 #[inline(always)]
 #[track_caller]
 fn count_short(number: u64, radix: u32) -> usize {
-    if counts_at_once(radix) {
+    if has_fast_count(radix) {
         1 + usize::from(number >= u64::from(radix))
     } else {
         count_one_or_two(number as u32, radix)

@@ -4,30 +4,37 @@ use Rattle.lexical_write_integer.proofs.OfDigits.Count.DigitCounts.{digit_count-
 use Rattle.lexical_write_integer.proofs.OfDigits.Count.Logarithms.{digit_count-estimate, digit_count-estimate_more}
 use Rattle.lexical_write_integer.proofs.OfDigits.Count.DecimalTables.{entry_is, past_table}
 use Rattle.lexical_write_integer.proofs.digits.count.decimal_count.fallback_digit_count.Goals as goal
-use Rattle.lexical_write_integer.proofs.digits.count.decimal_count.fallback_digit_count.Goals.{Then-is_at_least, Joined-else-log10-table}
+use Rattle.lexical_write_integer.proofs.digits.count.decimal_count.fallback_digit_count.Goals.{Then-is_at_least}
+use Rattle.lexical_write_integer.proofs.digits.count.decimal_count.fallback_digit_count.Goals.{Joined-else-log10-table}
 use Rattle.lexical_write_integer.proofs.digits.count.decimal_count.fallback_digit_count.Goals.{else-log10-table-via-then-log10-table+else-is_at_least}
 use Rattle.lexical_write_integer.proofs.digits.count.decimal_count.fallback_digit_count.Goals.{else-log10-table-via-else-log10-table}
 
 -- the entry is the power of ten after the estimate, and the number is at least that
-two_more : (g : _) (c : Then-is_at_least g) → c.fast_log10-log10.result + 2 ≡ digit_count 10 (g.T.UnsignedInteger.magnitude c.args.x)
+two_more : (g : _) (c : Then-is_at_least g) → c.fast_log10-log10.result + 2
+    ≡ digit_count 10 (g.T.UnsignedInteger.magnitude c.args.x)
 two_more g c =
     let limit = 2 ^ g.T.LexicalInteger.BITS in
     let index = c.index-table-log10 in
     let entry =
-    entry_is limit g.T.UnsignedInteger.magnitude c.args.table.now c.fast_log10-log10.result index.result (omega arith) index.is c.requires in
-    sym (digit_count-estimate_more _ _ c.fast_log10-log10.ensures (rw entry at (c.is_at_least.ensures.0 c.if-is_at_least.true)))
+    entry_is limit g.T.UnsignedInteger.magnitude c.args.table.now c.fast_log10-log10.result index.result (omega arith)
+    index.is c.requires in
+    sym (digit_count-estimate_more _ _ c.fast_log10-log10.ensures
+    (rw entry at (c.is_at_least.ensures.0 c.if-is_at_least.true)))
 
-one_more : (g : _) (c : Joined-else-log10-table g) → c.fast_log10-log10.result + 1 ≡ digit_count 10 (g.T.UnsignedInteger.magnitude c.args.x)
+one_more : (g : _) (c : Joined-else-log10-table g)
+    → c.fast_log10-log10.result + 1 ≡ digit_count 10 (g.T.UnsignedInteger.magnitude c.args.x)
 one_more g c =
     let limit = 2 ^ g.T.LexicalInteger.BITS in
     sym (digit_count-estimate _ _ c.fast_log10-log10.ensures (elim c.else-log10-table.branch [
       | else-log10-table-via-then-log10-table+else-is_at_least w ↦
           let index = w.index-table-log10 in
           let entry =
-          entry_is limit g.T.UnsignedInteger.magnitude c.args.table.now c.fast_log10-log10.result index.result (omega arith) index.is c.requires in
+          entry_is limit g.T.UnsignedInteger.magnitude c.args.table.now c.fast_log10-log10.result index.result
+          (omega arith) index.is c.requires in
           grind (arith, w.is_at_least.ensures, entry)
       | else-log10-table-via-else-log10-table w ↦
-          let past = past_table limit g.T.UnsignedInteger.magnitude c.args.table.now c.fast_log10-log10.result (omega arith) c.requires in
+          let past = past_table limit g.T.UnsignedInteger.magnitude c.args.table.now c.fast_log10-log10.result
+          (omega arith) c.requires in
           omega (arith, past, c.fits_bits.ensures)
     ]))
 

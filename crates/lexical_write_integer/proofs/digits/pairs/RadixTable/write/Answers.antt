@@ -10,14 +10,19 @@ pub overflow_mul-index : goal.overflow_mul-index
 overflow_mul-index g c = omega arith
 
 pub slice_bounds-pair-end : goal.slice_bounds-pair-end
-slice_bounds-pair-end g c = omega (arith, c.requires.number, length-table g.row.R c.args.self.pairs.now c.args.self.begins)
+slice_bounds-pair-end g c = omega (
+  arith,
+  c.requires.number,
+  length-table g.row.R c.args.self.pairs.now c.args.self.begins,
+)
 
 pub returns : goal.returns
 returns g c =
     let n = c.args.number in
     let count : c.args.at + 2 - c.args.at ≡ 2 = omega arith in
     let part = take (c.args.at + 2 - c.args.at) (drop c.args.at c.args.buffer.now) in
-    let long = length-take-le (c.args.at + 2 - c.args.at) (drop c.args.at c.args.buffer.now) (omega (arith, length-drop c.args.at c.args.buffer.now)) in
+    let long = length-take-le (c.args.at + 2 - c.args.at) (drop c.args.at c.args.buffer.now)
+    (omega (arith, length-drop c.args.at c.args.buffer.now)) in
     let pair = characters-pair g.row.R n c.args.self.pairs.now c.args.self.begins c.requires.number in
     WritesBlock-copied c.args.at (IsBlockOf-pair g.row.R n (omega (arith, c.args.self.is_radix)) c.requires.number)
     (rw pair (set-pair part _ _ (long ∙ count))) c.requires.room

@@ -14,10 +14,16 @@ returns-clause-digits g c =
     let index = c.write_to_end-index.result in
     let last = drop index c.write_to_end-index.new.buffer in
     let written = c.write_to_end-index.ensures in
-    let long : length last ≡ 64 - index = omega (arith, length-drop index c.write_to_end-index.new.buffer, c.write_to_end-index.auto.buffer) in
+    let long : length last ≡ 64 - index =
+    omega (arith, length-drop index c.write_to_end-index.new.buffer, c.write_to_end-index.auto.buffer) in
     let whole : take (64 - index) last ≡ last = take_all _ _ (omega (arith, long)) in
     let copied = c.copy_to_front.ensures in
     record {
-      writes = record { text = take (64 - index) last; is = rw whole written.digits; front = copied.front; count = copied.count };
+      writes = record {
+        text = take (64 - index) last;
+        is = rw whole written.digits;
+        front = copied.front;
+        count = copied.count;
+      };
       count = omega (arith, copied.count, ap length whole, long, written.place, c.write_to_end-index.auto.buffer);
     }

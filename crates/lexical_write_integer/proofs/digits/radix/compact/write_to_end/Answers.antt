@@ -5,9 +5,11 @@ use Rattle.lexical_write_integer.specs.Buffer.{WritesBlock}
 use Rattle.lexical_write_integer.specs.DigitCount.{digit_count}
 use Rattle.lexical_write_integer.specs.LoopTurns.{takes_one}
 use Rattle.lexical_write_integer.proofs.Buffers.Blocks.{IsWrittenBack-start, IsWrittenBack-at, IsWrittenBack-counts}
-use Rattle.lexical_write_integer.proofs.Buffers.Blocks.{IsWrittenBack-more, IsWrittenBack-last, IsDigits-block, WritesBlock-one}
+use Rattle.lexical_write_integer.proofs.Buffers.Blocks.{IsWrittenBack-more, IsWrittenBack-last, IsDigits-block}
+use Rattle.lexical_write_integer.proofs.Buffers.Blocks.{WritesBlock-one}
 use Rattle.lexical_write_integer.proofs.OfDigits.Count.DigitCounts.{digit_count-one}
-use Rattle.lexical_write_integer.proofs.OfDigits.Radix.Loops.Divisions.{IsDivided-start, IsDivided-room, IsDivided-more, TakesDigits-end}
+use Rattle.lexical_write_integer.proofs.OfDigits.Radix.Loops.Divisions.{IsDivided-start, IsDivided-room, IsDivided-more}
+use Rattle.lexical_write_integer.proofs.OfDigits.Radix.Loops.Divisions.{TakesDigits-end}
 use Rattle.lexical_write_integer.proofs.OfDigits.Radix.Loops.Records.{compact_notes-are}
 use Rattle.lexical_write_integer.proofs.OfDigits.Powers.{pow-one}
 use Rattle.lexical_write_integer.proofs.digits.radix.compact.write_to_end.Goals as goal
@@ -17,7 +19,8 @@ long : (g : _) (c : In-loop-left g) → g.row.RADIX ^ 1 ≤ c.loop-left.left
 long g c = rw pow-one (omega arith)
 
 -- the next digit has room, and so have those before it
-room : (g : _) (c : In-loop-left g) → length c.args.buffer.now - c.loop-left.index + 1 < digit_count g.row.RADIX c.args.value
+room : (g : _) (c : In-loop-left g) → length c.args.buffer.now - c.loop-left.index
+    + 1 < digit_count g.row.RADIX c.args.value
 room g c = IsDivided-room c.requires.radix.at_least_two c.loop-left.invariant.divided (long g c)
 
 block : (g : _) (c : In-loop-left g)
@@ -33,10 +36,12 @@ loop-left-preserved g c =
     let c' = (goal.at.loop-left-preserved g c).In-loop-left in
     let two = c.requires.radix.at_least_two in
     let taken = length c.args.buffer.now - c.loop-left.index in
-    let place : c.loop-left.index ≡ c.loop-left.index - 1 + 1 = omega (arith, room g c', IsWrittenBack-counts two c.loop-left.invariant.written) in
+    let place : c.loop-left.index ≡ c.loop-left.index - 1 + 1 =
+    omega (arith, room g c', IsWrittenBack-counts two c.loop-left.invariant.written) in
     let turn : taken + 1 ≡ length c.args.buffer.now - (c.loop-left.index - 1) = omega (arith, place) in
     let order : 1 + taken ≡ length c.args.buffer.now - (c.loop-left.index - 1) = omega (arith, place) in
-    let next : c.loop-left.left / c.from-radix.result ≡ c.loop-left.left / g.row.RADIX ^ 1 = rw (pow-one, c.from-radix.ensures) refl in
+    let next : c.loop-left.left / c.from-radix.result ≡ c.loop-left.left / g.row.RADIX ^ 1 =
+    rw (pow-one, c.from-radix.ensures) refl in
     record {
       within = omega arith;
       written = rw order at (IsWrittenBack-more two (long g c') next
@@ -49,7 +54,11 @@ single g c = digit_count-one g.row.RADIX c.loop-left.left c.requires.radix.at_le
 
 pub returns-clause-place : goal.returns-clause-place
 returns-clause-place g c =
-    omega (arith, single g (goal.at.returns-clause-place g c).After-loop-left, IsWrittenBack-counts c.requires.radix.at_least_two c.loop-left.invariant.written)
+    omega (
+      arith,
+      single g (goal.at.returns-clause-place g c).After-loop-left,
+      IsWrittenBack-counts c.requires.radix.at_least_two c.loop-left.invariant.written,
+    )
 
 pub returns-clause-digits : goal.returns-clause-digits
 returns-clause-digits g c =
@@ -57,12 +66,15 @@ returns-clause-digits g c =
     let two = c.requires.radix.at_least_two in
     let counts = IsWrittenBack-counts two c.loop-left.invariant.written in
     let place : c.loop-left.index ≡ c.loop-left.index - 1 + 1 = omega (arith, counts, single g c') in
-    IsDigits-block g.row.RADIX c.args.value (1 + (length c.args.buffer.now - c.loop-left.index)) (c.loop-left.index - 1) _ _ two
+    IsDigits-block g.row.RADIX c.args.value (1 + (length c.args.buffer.now - c.loop-left.index))
+    (c.loop-left.index - 1) _ _ two
     (omega (arith, counts, single g c')) (omega (arith, place))
     (IsWrittenBack-last (IsWrittenBack-at place c.loop-left.invariant.written)
     (rw c.char_of-2.ensures
-    (WritesBlock-one g.row.RADIX c.loop-left.left (c.loop-left.index - 1) c.loop-left.buffer (omega arith) (omega (arith, place)))))
+    (WritesBlock-one g.row.RADIX c.loop-left.left (c.loop-left.index - 1) c.loop-left.buffer (omega arith)
+    (omega (arith, place)))))
 
 pub returns-clause-notes : goal.returns-clause-notes
 returns-clause-notes g c =
-    compact_notes-are (TakesDigits-end c.requires.radix.at_least_two takes_one c.loop-left.invariant.divided (rw pow-one (omega arith)))
+    compact_notes-are (TakesDigits-end c.requires.radix.at_least_two takes_one c.loop-left.invariant.divided
+    (rw pow-one (omega arith)))

@@ -5,7 +5,8 @@ use Rattle.lexical_write_integer.proofs.Buffers.BlocksAfter.{WritesDigits-after}
 use Rattle.lexical_write_integer.proofs.OfDigits.Radix.Loops.Records.{slow_notes-after}
 use Rattle.lexical_write_integer.proofs.OfDigits.Radix.Loops.ShortNumbers.{HasEight-of}
 use Rattle.lexical_write_integer.proofs.digits.radix.table_writer.+count_and_write_more.Goals as goal
-use Rattle.lexical_write_integer.proofs.digits.radix.table_writer.+count_and_write_more.Goals.{then-second-eighth_power, else-second-eighth_power}
+use Rattle.lexical_write_integer.proofs.digits.radix.table_writer.+count_and_write_more.Goals.{then-second-eighth_power}
+use Rattle.lexical_write_integer.proofs.digits.radix.table_writer.+count_and_write_more.Goals.{else-second-eighth_power}
 
 pub remove_four-first-requires-clause-long : goal.remove_four-first-requires-clause-long
 remove_four-first-requires-clause-long g t c = (HasEight-of c.args.table.is_radix.at_least_two c.requires.long).value
@@ -31,17 +32,19 @@ returns-clause-digits g t c =
     let four =
     WritesDigits-after (n / r ^ 4) two both.first (omega (arith, rw first.left at first.digits, c.requires.room))
     (rw (second.left, first.left) at before) (rw (c.last_four.ensures.digits, first.left) at c.write_four.ensures) in
-    rw total at (WritesDigits-after n two both.value c.requires.room four (rw c.last_four-2.ensures.digits at c.write_four-2.ensures))
+    rw total at (WritesDigits-after n two both.value c.requires.room four
+    (rw c.last_four-2.ensures.digits at c.write_four-2.ensures))
 
-pub returns-clause-turns : goal.returns-clause-turns
-returns-clause-turns g t c = grind (arith, HasEight-of, slow_notes-after)
+pub returns-clause-notes : goal.returns-clause-notes
+returns-clause-notes g t c = grind (arith, HasEight-of, slow_notes-after)
 
 -- the check finds this proof by itself, but with an answer the refusal of a mistake says what is wrong
-pub returns-clause-loop_turns : goal.returns-clause-loop_turns
-returns-clause-loop_turns g t c =
-    let before : c.if-second-eighth_power.loop_turns ≡ c.remove_four-second.new.loop_turns ++ loop_notes g.row.R c.remove_four-second.result =
+pub returns-clause-notes_in_loop : goal.returns-clause-notes_in_loop
+returns-clause-notes_in_loop g t c =
+    let before : c.if-second-eighth_power.loop_turns ≡ c.remove_four-second.new.loop_turns
+    ++ loop_notes g.row.R c.remove_four-second.result =
     elim c.if-second-eighth_power.branch [
-      | then-second-eighth_power w ↦ rw w.loop_turns-is w.count_and_write_up_to_eight-head.ensures.loop_turns
-      | else-second-eighth_power w ↦ rw w.loop_turns-is w.count_and_write_more-head.ensures.loop_turns
+      | then-second-eighth_power w ↦ rw w.loop_turns-is w.count_and_write_up_to_eight-head.ensures.notes_in_loop
+      | else-second-eighth_power w ↦ rw w.loop_turns-is w.count_and_write_more-head.ensures.notes_in_loop
     ] in
-    before ∙ c.remove_four-second.ensures.loop_turns ∙ c.remove_four-first.ensures.loop_turns
+    before ∙ c.remove_four-second.ensures.notes_in_loop ∙ c.remove_four-first.ensures.notes_in_loop

@@ -5,4 +5,9 @@ use Rattle.lexical_write_integer.proofs.digits.radix.table_writer.count_and_writ
 
 pub overflow_cast-value : goal.overflow_cast-value
 overflow_cast-value g c =
-    omega (arith, c.if-value-fourth_power.true, c.fourth_power.ensures.power, power-small g.row.R 4 c.args.table.is_radix.at_most_36 takes_four)
+    omega (
+      arith,
+      c.if-value-fourth_power.true,
+      c.fourth_power.ensures.power,
+      power-small g.row.R 4 c.args.table.is_radix.at_most_36 takes_four,
+    )

@@ -62,8 +62,9 @@ returns-clause-digits g c =
     let two = c.args.table.is_radix.at_least_two in
     let is = rw c.from.ensures at c.remove_two-pair.ensures.pair in
     let more = long r n _ is (omega (arith, c.if-pair-eq0.false)) in
-    let first : WritesDigits r (n / r ^ 2) c.args.buffer.now head.new.buffer head.result = rw pow-two (rw is at head.ensures.digits) in
+    let first : WritesDigits r (n / r ^ 2) c.args.buffer.now head.new.buffer head.result =
+    rw pow-two (rw is at head.ensures.digits) in
     WritesDigits-after n {between = head.new.buffer} two more c.requires.room first (rw pow-two c.write.ensures)
 
-pub returns-clause-turns : goal.returns-clause-turns
-returns-clause-turns g c = grind (arith, long, slow_notes-pair, pow-two, append_assoc)
+pub returns-clause-notes : goal.returns-clause-notes
+returns-clause-notes g c = grind (arith, long, slow_notes-pair, pow-two, append_assoc)

@@ -16,11 +16,12 @@ returns-clause-count c =
     let two = c.requires.radix.at_least_two in
     rw c.from-2.ensures
     (digit_count-tested (ltb 0 (n / r)) r n 1 two (omega arith) (λ more. absurd (omega arith)) c.requires.below
-    (λ e. rw pow-one (quotient-some r n (ltb-true 0 (n / r) e))) (λ e. rw pow-one (quotient-none r n (omega arith) (ltb-false 0 (n / r) e))))
+    (λ e. rw pow-one (quotient-some r n (ltb-true 0 (n / r) e)))
+    (λ e. rw pow-one (quotient-none r n (omega arith) (ltb-false 0 (n / r) e))))
 
 -- and then it is not recorded
-pub returns-clause-turns : goal.returns-clause-turns
-returns-clause-turns c =
+pub returns-clause-notes : goal.returns-clause-notes
+returns-clause-notes c =
     elim c.if-left-gt0.branch [
       | then-left-gt0 w ↦ rw w.turns-is (grind (arith, quotient-some, slow_notes-two))
       | else-left-gt0 w ↦ rw w.turns-is (grind (arith, quotient-none, slow_notes-one, append-nil))

@@ -1,15 +1,18 @@
 use Rattle.std.proofs.Common.{◌≡◌, ◌+◌, ◌-◌, ◌<◌, ◌≤◌, ◌^◌, refl, sym, ◌∙◌, lit<, arith}
 use Rattle.lexical_write_integer.specs.DigitCount.{digit_count}
 use Rattle.lexical_write_integer.specs.LoopTurns.{takes_four}
-use Rattle.lexical_write_integer.proofs.Buffers.Blocks.{IsWrittenBack-start, IsWrittenBack-at, IsWrittenBack-left, IsWrittenBack-more, IsWrittenBack-last}
+use Rattle.lexical_write_integer.proofs.Buffers.Blocks.{IsWrittenBack-start, IsWrittenBack-at, IsWrittenBack-left}
+use Rattle.lexical_write_integer.proofs.Buffers.Blocks.{IsWrittenBack-more, IsWrittenBack-last}
 use Rattle.lexical_write_integer.proofs.Buffers.BlocksAfter.{WritesBlock-digits, WritesDigits-block}
 use Rattle.lexical_write_integer.proofs.OfDigits.Count.DigitCounts.{digit_count-pos, digit_count-more}
 use Rattle.lexical_write_integer.proofs.OfDigits.Radix.FirstDigits.{WritesBlock-first, first_four, shift-lt}
 use Rattle.lexical_write_integer.proofs.OfDigits.Radix.Loops.ShortNumbers.{fits-within, longer-than}
 use Rattle.lexical_write_integer.proofs.OfDigits.Count.RadixPowers.{power-small}
 use Rattle.lexical_write_integer.proofs.digits.radix.table_writer.write_after_count.Goals as goal
-use Rattle.lexical_write_integer.proofs.digits.radix.table_writer.write_after_count.Goals.{After-count_some-count, In-loop-at, After-loop-at}
-use Rattle.lexical_write_integer.proofs.digits.radix.table_writer.write_after_count.Goals.{Then-bits-2, then-bits, else-bits}
+use Rattle.lexical_write_integer.proofs.digits.radix.table_writer.write_after_count.Goals.{After-count_some-count}
+use Rattle.lexical_write_integer.proofs.digits.radix.table_writer.write_after_count.Goals.{In-loop-at, After-loop-at}
+use Rattle.lexical_write_integer.proofs.digits.radix.table_writer.write_after_count.Goals.{Then-bits-2, then-bits}
+use Rattle.lexical_write_integer.proofs.digits.radix.table_writer.write_after_count.Goals.{else-bits}
 
 -- in an iteration more than four digits are left
 long : (g : _) (c : In-loop-at g) → g.row.R ^ 4 ≤ c.loop-at.left
@@ -30,8 +33,9 @@ loop-at-preserved g c =
     let order : 4 + (count - at) ≡ count - (at - 4) = omega (arith, c.loop-at-test.true, c.loop-at.invariant.within) in
     let place : at ≡ at - 4 + 4 = omega (arith, c.loop-at-test.true) in
     record {
-      noted = c.remove_four-left.ensures.loop_turns ∙ c.loop-at.invariant.noted;
-      written = rw order at (IsWrittenBack-more c.args.table.is_radix.at_least_two (long g c') c.remove_four-left.ensures.left
+      noted = c.remove_four-left.ensures.notes_in_loop ∙ c.loop-at.invariant.noted;
+      written = rw order at (IsWrittenBack-more c.args.table.is_radix.at_least_two (long g c')
+          c.remove_four-left.ensures.left
           (IsWrittenBack-at place c.loop-at.invariant.written) (rw c.last_four.ensures.digits at c.write_four.ensures));
       within = omega (arith, c.loop-at.invariant.within);
       room = c.write_four.auto.buffer ∙ c.loop-at.invariant.room;
@@ -40,7 +44,8 @@ loop-at-preserved g c =
 -- the remaining digits, at most four
 count_left : (g : _) (c : After-loop-at g) → digit_count g.row.R c.loop-at.left ≡ c.loop-at.at
 count_left g c =
-    IsWrittenBack-left c.args.table.is_radix.at_least_two c.count_some-count.ensures.count c.loop-at.invariant.within c.loop-at.invariant.written
+    IsWrittenBack-left c.args.table.is_radix.at_least_two c.count_some-count.ensures.count c.loop-at.invariant.within
+    c.loop-at.invariant.written
 
 short : (g : _) (c : After-loop-at g) → c.loop-at.left < g.row.R ^ 4
 short g c = fits-within g.row.R c.loop-at.left 4 c.args.table.is_radix.at_least_two (omega (arith, count_left g c))
@@ -58,8 +63,13 @@ loop-at-init g c =
 -- there are more than four digits
 more : (g : _) (c : After-count_some-count g) → 4 < c.count_some-count.result
 more g c =
-    let long : g.row.R ^ 4 ≤ c.args.value = omega (arith, c.if-value-fourth_power.false, c.fourth_power.ensures.power) in
-    omega (arith, c.count_some-count.ensures.count, digit_count-more g.row.R 4 c.args.value c.args.table.is_radix.at_least_two long)
+    let long : g.row.R ^ 4 ≤ c.args.value =
+    omega (arith, c.if-value-fourth_power.false, c.fourth_power.ensures.power) in
+    omega (
+      arith,
+      c.count_some-count.ensures.count,
+      digit_count-more g.row.R 4 c.args.value c.args.table.is_radix.at_least_two long,
+    )
 
 pub remove_two-requires-clause-below : goal.remove_two-requires-clause-below
 remove_two-requires-clause-below g c = short g (goal.at.remove_two-requires-clause-below g c).After-loop-at
@@ -110,7 +120,8 @@ returns-then-bits-2-clause-digits g c =
           ∙ w.last_four-first.ensures.digits
           ∙ first_four r c.fast_log2-bits.result n count two w.if-bits.true c.fast_log2-bits.ensures.within is long in
           WritesDigits-block two (sym is) (omega (arith, is, c.requires.room))
-          (WritesBlock-first r n at 4 (count - at) (count - 4) count two c.loop-at-test.false whole all c.loop-at.invariant.written.block
+          (WritesBlock-first r n at 4 (count - at) (count - 4)
+          count two c.loop-at-test.false whole all c.loop-at.invariant.written.block
           (rw first at c.write_four-then-bits-2.ensures))
       | else-bits w ↦ absurd (omega (arith, w.if-bits.false, c.if-bits-2.true))
     ]
@@ -119,11 +130,15 @@ returns-then-bits-2-clause-digits g c =
 
 pub overflow_cast-left : goal.overflow_cast-left
 overflow_cast-left g c =
-    omega (arith, short g (goal.at.overflow_cast-left g c).After-loop-at, power-small g.row.R 4 c.args.table.is_radix.at_most_36 takes_four)
+    omega (
+      arith,
+      short g (goal.at.overflow_cast-left g c).After-loop-at,
+      power-small g.row.R 4 c.args.table.is_radix.at_most_36 takes_four,
+    )
 
-pub write_counted-requires : goal.write_counted-requires
-write_counted-requires g c =
-    let c' = (goal.at.write_counted-requires g c).After-loop-at in
+pub write_up_to_four-requires : goal.write_up_to_four-requires
+write_up_to_four-requires g c =
+    let c' = (goal.at.write_up_to_four-requires g c).After-loop-at in
     let is = c.count_some-count.ensures.count in
     (lit< tt, (short g c', (sym (count_left g c'), omega (arith, is, c.requires.room, c.loop-at.invariant))))
 
@@ -133,5 +148,7 @@ returns-else-bits-2-clause-digits g c =
     let is = c.count_some-count.ensures.count in
     let whole : c.loop-at.at + (count - c.loop-at.at) ≡ count = omega (arith, c.loop-at.invariant.within) in
     let place : c.loop-at.at ≡ 0 + c.loop-at.at = omega arith in
-    let block = IsWrittenBack-last (IsWrittenBack-at place c.loop-at.invariant.written) (WritesBlock-digits c.write_counted.ensures.digits) in
-    WritesDigits-block c.args.table.is_radix.at_least_two (sym is) (omega (arith, is, c.requires.room)) (rw whole at block)
+    let block = IsWrittenBack-last (IsWrittenBack-at place c.loop-at.invariant.written)
+    (WritesBlock-digits c.write_up_to_four.ensures.digits) in
+    WritesDigits-block c.args.table.is_radix.at_least_two (sym is) (omega (arith, is, c.requires.room))
+    (rw whole at block)

@@ -1,7 +1,7 @@
 use Rattle.std.proofs.Common.{sym, arith, length-set}
 use Rattle.lexical_write_integer.proofs.Buffers.BlocksAfter.{WritesDigits-block}
 use Rattle.lexical_write_integer.proofs.OfDigits.Count.DigitCounts.{digit_count-pos}
-use Rattle.lexical_write_integer.proofs.OfDigits.Radix.FourDigits.{WritesBlock-one_or_two}
+use Rattle.lexical_write_integer.proofs.OfDigits.Radix.TwoDigits.{WritesBlock-one_or_two}
 use Rattle.lexical_write_integer.proofs.OfDigits.Radix.TablePairs.{length-table, pair_first, pair_second}
 use Rattle.lexical_write_integer.proofs.digits.radix.table_writer.write_one_or_two.Goals as goal
 
@@ -9,7 +9,11 @@ pub bounds-table-pair : goal.bounds-table-pair
 bounds-table-pair g c = omega (arith, c.requires.below, length-table g.row.R c.args.table.pairs.now c.args.table.begins)
 
 pub bounds-table-pair-2 : goal.bounds-table-pair-2
-bounds-table-pair-2 g c = omega (arith, c.requires.below, length-table g.row.R c.args.table.pairs.now c.args.table.begins)
+bounds-table-pair-2 g c = omega (
+  arith,
+  c.requires.below,
+  length-table g.row.R c.args.table.pairs.now c.args.table.begins,
+)
 
 pub bounds-buffer-0 : goal.bounds-buffer-0
 bounds-buffer-0 g c = omega (arith, c.requires.digits, digit_count-pos g.row.R c.args.number, c.requires.room)
@@ -18,7 +22,8 @@ pub overflow_sub-buffer : goal.overflow_sub-buffer
 overflow_sub-buffer g c = omega (arith, c.requires.digits, digit_count-pos g.row.R c.args.number)
 
 pub bounds-buffer-digits : goal.bounds-buffer-digits
-bounds-buffer-digits g c = rw length-set (omega (arith, c.requires.digits, digit_count-pos g.row.R c.args.number, c.requires.room))
+bounds-buffer-digits g c =
+    rw length-set (omega (arith, c.requires.digits, digit_count-pos g.row.R c.args.number, c.requires.room))
 
 pub returns : goal.returns
 returns g c =

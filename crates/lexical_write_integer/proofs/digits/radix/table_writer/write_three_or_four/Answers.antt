@@ -1,4 +1,5 @@
-use Rattle.std.proofs.Common.{◌≡◌, ℕ, List, ◌+◌, ◌-◌, ◌*◌, ◌/◌, ◌%◌, ◌^◌, ◌<◌, ◌≤◌, length, take, set, sym, subst, lit<, arith, length-set, length-take-le}
+use Rattle.std.proofs.Common.{◌≡◌, ℕ, List, ◌+◌, ◌-◌, ◌*◌, ◌/◌, ◌%◌, ◌^◌, ◌<◌, ◌≤◌, length, take, set, sym, subst, lit<}
+use Rattle.std.proofs.Common.{arith, length-set, length-take-le}
 use Rattle.std.proofs.Math.Nat.{mod-lt, div-add-mod'}
 use Rattle.std.proofs.lemmas.Nat.{div_below}
 use Rattle.lexical_num.specs.Digit.{digit_char}
@@ -12,7 +13,8 @@ use Rattle.lexical_write_integer.proofs.OfDigits.Count.RadixPowers.{power-gt_one
 use Rattle.lexical_write_integer.proofs.OfDigits.Powers.{pow-one, pow-two, pow-four}
 use Rattle.lexical_write_integer.proofs.OfDigits.Radix.TablePairs.{length-table, pair_first, pair_second}
 use Rattle.lexical_write_integer.proofs.digits.radix.table_writer.write_three_or_four.Goals as goal
-use Rattle.lexical_write_integer.proofs.digits.radix.table_writer.write_three_or_four.Goals.{Start, After-count_three_or_four-count}
+use Rattle.lexical_write_integer.proofs.digits.radix.table_writer.write_three_or_four.Goals.{Start}
+use Rattle.lexical_write_integer.proofs.digits.radix.table_writer.write_three_or_four.Goals.{After-count_three_or_four-count}
 
 some : (g : _) (c : Start g) → 0 < g.row.R * g.row.R
 some g c = omega (arith, pow-two g.row.R, power-gt_one g.row.R 2 c.args.table.is_radix.at_least_two takes_two)
@@ -22,20 +24,31 @@ last : (g : _) (c : Start g) → c.args.number % (g.row.R * g.row.R) < g.row.R *
 last g c = mod-lt c.args.number (some g c)
 
 pub overflow_cast-pair : goal.overflow_cast-pair
-overflow_cast-pair g c = omega (arith, c.requires.below, power-small g.row.R 4 c.args.table.is_radix.at_most_36 takes_four)
+overflow_cast-pair g c = omega (
+  arith,
+  c.requires.below,
+  power-small g.row.R 4 c.args.table.is_radix.at_most_36 takes_four,
+)
 
 -- the last pair, its second digit first
 WritesBlock-last : (r n at : ℕ) (list : List ℕ) → 2 ≤ r → n < r * r → at + 2 ≤ length list
     → WritesBlock r 2 n at list (set (set list (at + 1) (digit_char (n % r))) at (digit_char (n / r)))
 WritesBlock-last r n at list two small room =
     let second = WritesBlock-one r (n % r) (at + 1) list (mod-lt n (omega arith)) (omega arith) in
-    let first = WritesBlock-one r (n / r) at (set list (at + 1) (digit_char (n % r))) (div_below n r r (omega arith) small) (rw length-set (omega arith)) in
+    let first = WritesBlock-one r (n / r) at (set list (at + 1) (digit_char (n % r)))
+    (div_below n r r (omega arith) small) (rw length-set (omega arith)) in
     let whole : n / r * r ^ 1 + n % r ≡ n = rw pow-one (div-add-mod' n r) in
     rw whole at (WritesBlock-front {i = 1} {j = 1} second first)
 
 -- how many digits the first pair has
-first_count : (g : _) (c : Start g) → digit_count g.row.R c.args.number ≡ digit_count g.row.R (c.args.number / (g.row.R * g.row.R)) + 2
-first_count g c = omega (arith, rw pow-two at (digit_count-split g.row.R 2 c.args.number c.args.table.is_radix.at_least_two c.requires.more))
+first_count : (g : _) (c : Start g) → digit_count g.row.R c.args.number
+    ≡ digit_count g.row.R (c.args.number / (g.row.R * g.row.R)) + 2
+first_count g c =
+    omega (
+      arith,
+      rw pow-two at (digit_count-split g.row.R 2 c.args.number c.args.table.is_radix.at_least_two
+          c.requires.more),
+    )
 
 -- the digits have room, so their slice has their length
 room : (g : _) (c : After-count_three_or_four-count g) → c.count_three_or_four-count.result ≤ length c.args.buffer.now
@@ -49,7 +62,8 @@ pub write_one_pair-requires : goal.write_one_pair-requires
 write_one_pair-requires g c =
     let c' = (goal.at.write_one_pair-requires g c).Start in
     let r = g.row.R in
-    let below : c.args.number / (r * r) < r * r = div_below c.args.number (r * r) (r * r) (some g c') (rw pow-four at c.requires.below) in
+    let below : c.args.number / (r * r) < r * r =
+    div_below c.args.number (r * r) (r * r) (some g c') (rw pow-four at c.requires.below) in
     let counted : c.count_three_or_four-count.result - 2 ≡ digit_count r (c.args.number / (r * r)) =
     omega (arith, first_count g c', c.count_three_or_four-count.ensures.count) in
     let within = slice g (goal.at.write_one_pair-requires g c).After-count_three_or_four-count in
@@ -62,10 +76,18 @@ overflow_mul-pair-2 g c =
     omega (arith, last g (goal.at.overflow_mul-pair-2 g c).Start, pow-two g.row.R, small)
 
 pub bounds-table-pair : goal.bounds-table-pair
-bounds-table-pair g c = omega (arith, last g (goal.at.bounds-table-pair g c).Start, length-table g.row.R c.args.table.pairs.now c.args.table.begins)
+bounds-table-pair g c = omega (
+  arith,
+  last g (goal.at.bounds-table-pair g c).Start,
+  length-table g.row.R c.args.table.pairs.now c.args.table.begins,
+)
 
 pub bounds-table-pair-2 : goal.bounds-table-pair-2
-bounds-table-pair-2 g c = omega (arith, last g (goal.at.bounds-table-pair-2 g c).Start, length-table g.row.R c.args.table.pairs.now c.args.table.begins)
+bounds-table-pair-2 g c = omega (
+  arith,
+  last g (goal.at.bounds-table-pair-2 g c).Start,
+  length-table g.row.R c.args.table.pairs.now c.args.table.begins,
+)
 
 pub bounds-written-count : goal.bounds-written-count
 bounds-written-count g c =
@@ -96,9 +118,14 @@ returns-clause-digits g c =
     let between = c.write_one_pair.new.buffer in
     let lo = n % (r * r) in
     let after = set (set between (count - 2 + 1) (digit_char (lo % r))) (count - 2) (digit_char (lo / r)) in
-    let block = WritesBlock-last r lo (count - 2) between two (last g c') (omega (arith, c.write_one_pair.auto.buffer, within, three)) in
+    let block = WritesBlock-last r lo (count - 2) between two (last g c')
+    (omega (arith, c.write_one_pair.auto.buffer, within, three)) in
     let digits = WritesDigits-after {r = r} {count = 2} {at = count - 2} n {before = take count c.args.buffer.now}
     {between = between} {after = after} two c.requires.more (omega (arith, within, is)) (rw pow-two first)
     (subst (λ s. WritesBlock r 2 (n % s) (count - 2) between after) (sym (pow-two r)) block) in
-    rw (pair_first r (n % (r * r)) pairs c.args.table.begins (last g c'), pair_second r (n % (r * r)) pairs c.args.table.begins (last g c'), next)
+    rw (
+      pair_first r (n % (r * r)) pairs c.args.table.begins (last g c'),
+      pair_second r (n % (r * r)) pairs c.args.table.begins (last g c'),
+      next,
+    )
     (WritesDigits-block two (sym is) fits (WritesBlock-first fits (WritesBlock-digits (rw all at digits))))

@@ -4,11 +4,13 @@ use Rattle.lexical_write_integer.proofs.digits.write.WriteInteger.write_integer_
 
 pub returns-then-radix-eq10-clause-at_most : goal.returns-then-radix-eq10-clause-at_most
 returns-then-radix-eq10-clause-at_most g c =
-    WritesDigits-short c.decimal_signed.ensures.digits (omega arith) g.met.Self.UnsignedInteger.range.width c.fits_bits.ensures
+    WritesDigits-short c.decimal_signed.ensures.digits (omega arith)
+    g.met.Self.UnsignedInteger.range.width c.fits_bits.ensures
 
 pub returns-else-radix-eq10-clause-at_most : goal.returns-else-radix-eq10-clause-at_most
 returns-else-radix-eq10-clause-at_most g c =
-    WritesDigits-short c.radix_counted.ensures.digits c.requires.radix.at_least_two g.met.Self.UnsignedInteger.range.width c.fits_bits.ensures
+    WritesDigits-short c.radix_inlined.ensures.digits c.requires.radix.at_least_two
+    g.met.Self.UnsignedInteger.range.width c.fits_bits.ensures
 
 -- the check finds this proof by itself, but with an answer the refusal of a mistake says what is wrong
 pub returns-then-radix-eq10-clause-digits : goal.returns-then-radix-eq10-clause-digits

@@ -1,4 +1,0 @@
-use Rattle.lexical_write_integer.proofs.digits.radix.write_apart.Goals as goal
-
-pub returns-clause-digits : goal.returns-clause-digits
-returns-clause-digits g c = c.write_by_table.ensures.digits
