@@ -6,4 +6,5 @@ use Rattle.lexical_write_integer.specs.Computed.{padded_text}
 abbrev pub hex_bytes_text : List ℕ → List ℕ → List ℕ
 hex_bytes_text separator [] = []
 hex_bytes_text separator (byte ∷ []) = padded_text 16 2 byte
-hex_bytes_text separator (byte ∷ next ∷ rest) = padded_text 16 2 byte ++ (separator ++ hex_bytes_text separator (next ∷ rest))
+hex_bytes_text separator (byte ∷ next ∷ rest) =
+    padded_text 16 2 byte ++ (separator ++ hex_bytes_text separator (next ∷ rest))

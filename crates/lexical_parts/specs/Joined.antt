@@ -22,4 +22,5 @@ joined_room room separator xs = sum_by room xs + (length xs - 1) * separator
 abbrev pub joined_text : {A : Type 0} → (A → Option (List ℕ)) → List ℕ → List A → Option (List ℕ)
 joined_text text separator [] = Some []
 joined_text text separator (x ∷ []) = text x
-joined_text text separator (x ∷ y ∷ xs) = option_append (text x) (option_append (Some separator) (joined_text text separator (y ∷ xs)))
+joined_text text separator (x ∷ y ∷ xs) =
+    option_append (text x) (option_append (Some separator) (joined_text text separator (y ∷ xs)))

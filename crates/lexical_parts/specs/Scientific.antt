@@ -1,5 +1,6 @@
 -- Numbers in scientific notation, as `1.234e-56`.
-use Rattle.std.specs.Prelude.{◌≡◌, ℕ, zero, suc, ◌*◌, ◌/◌, ◌%◌, ◌^◌, ℤ, pos, ◌+ℤ◌, unsigned_abs, false, List, ◌++◌, codes}
+use Rattle.std.specs.Prelude.{◌≡◌, ℕ, zero, suc, ◌*◌, ◌/◌, ◌%◌, ◌^◌, ℤ, pos, ◌+ℤ◌, unsigned_abs, false, List, ◌++◌}
+use Rattle.std.specs.Prelude.{codes}
 use Rattle.std.specs.Prelude.{None, if◌then◌else◌, ◌==◌}
 use Rattle.lexical_num.specs.Format.{standard}
 use Rattle.lexical_num.specs.Sign.{sign_of}
@@ -28,8 +29,8 @@ abbrev pub IsScientific : ℤ → ℤ → List ℕ → Type 0
 IsScientific number exponent =
     IsExactly (sign_of number false) then IsScientificUnsigned (unsigned_abs number) exponent
 
--- the same texts as the prover computes them: a number without the zeros at its end, of which it has at most `most`, and
--- the text of a number below 2 ^ 64
+-- the same texts as the prover computes them: a number without the zeros at its end, of which it has at most `most`,
+-- and the text of a number below 2 ^ 64
 abbrev pub without_zeros : ℕ → ℕ → ℕ
 without_zeros zero number = number
 without_zeros (suc most) number = if number % 10 == 0 then without_zeros most (number / 10) else number

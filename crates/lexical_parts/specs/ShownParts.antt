@@ -12,7 +12,8 @@ pub record WritesSome {W : Type 0} (took : W → List ℕ → W → Type 0) (IsO
   pub wrote : WritesInCalls took w text v
 
 -- a text of the kind is written to the formatter f, as `{}` writes a `&str`: with the width and the precision of f
-pub record ShowsSome {W : Type 0} (took : W → List ℕ → W → Type 0) (IsOf : List ℕ → Type 0) (f g : Formatter W) : Type 0 where
+pub record ShowsSome {W : Type 0} (took : W → List ℕ → W → Type 0) (IsOf : List ℕ → Type 0) (f g : Formatter W)
+    : Type 0 where
   pub text : List ℕ
   pub is : IsOf text
   pub wrote : HasWrittenStyled took f (styled_text (formatter_spec f) text) g

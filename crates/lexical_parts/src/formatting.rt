@@ -9,5 +9,5 @@ mod display;
 pub(crate) mod shown;
 
 // A text that is written in pieces: its length, and its first characters.
-pub(crate) mod counted;
 mod cut;
+pub(crate) mod limited;

@@ -4,7 +4,7 @@
 //! says what the text is, and one call writes it to a buffer:
 //!
 //! ```
-//! use cojimuran::parts::{Decimal, Padded, PaddedDigits, Part};
+//! use cojimuran::{Decimal, Padded, PaddedDigits, Part};
 //!
 //! let mut buffer = [7; 40];
 //! let date = (

@@ -11,9 +11,19 @@ use Rattle.lexical_write_integer.proofs.OfTexts.Joins.{Leads, AreJoined-push}
 use Rattle.lexical_parts.specs.Joined.{AreEach}
 use Rattle.lexical_parts.specs.Sequence.{◌then◌}
 
+-- the texts of the elements of a list in order, and then the text of one more element, are the texts of the list with
+-- that element at its end
 AreEach-push : {A : Type 0} (IsOf : A → List ℕ → Type 0) (xs : List A) (x : A) (s t : List ℕ) →
     AreEach IsOf xs s → IsOf x t → AreEach IsOf (xs ++ x ∷ []) (s ++ t)
-AreEach-push IsOf [] x s t none is = record { first = t; second = []; is_first = is; is_second = refl; whole = ap (λ k. k ++ t) none ∙ sym (append-nil t) }
+AreEach-push IsOf [] x s t none is =
+    record {
+      first = t;
+      second = [];
+      is_first = is;
+      is_second = refl;
+      whole = ap (λ k. k ++ t) none
+          ∙ sym (append-nil t);
+    }
 AreEach-push IsOf (y ∷ ys) x s t each is = record {
   first = each.first;
   second = each.second ++ t;
@@ -23,7 +33,8 @@ AreEach-push IsOf (y ∷ ys) x s t each is = record {
 }
 
 -- a loop of the caller's adds the text of element `i` to bytes that end in the texts of the elements before it
-pub added_each : {A : Type 0} (IsOf : A → List ℕ → Type 0) (start : List ℕ) (xs : List A) {i : ℕ} (d : A) {before text : List ℕ} →
+pub added_each : {A : Type 0} (IsOf : A → List ℕ → Type 0) (start : List ℕ) (xs : List A) {i : ℕ} (d : A)
+    {before text : List ℕ} →
     i < length xs → (IsExactly start then AreEach IsOf (take i xs)) before → IsOf (get_or xs i d) text →
     (IsExactly start then AreEach IsOf (take (i + 1) xs)) (before ++ text)
 added_each IsOf start xs {i} d {before} {text} inside each is = grind (arith, common_steps, AreEach-push)
@@ -48,7 +59,8 @@ written_each IsOf xs {i} d {before} {between} {after} {count} {last} inside text
       is = refl;
       front = record {
         fits = omega (arith, counted);
-        written = sym (take-append-drop last after) ∙ ap (λ text. text ++ drop last after) first ∙ ap (λ text. whole ++ text) rest
+        written = sym (take-append-drop last after) ∙ ap (λ text. text ++ drop last after) first
+            ∙ ap (λ text. whole ++ text) rest
             ∙ ap (λ n. whole ++ drop n between) (sym counted);
       };
       count = sym counted;
@@ -66,11 +78,15 @@ written_each IsOf xs {i} d {before} {between} {after} {count} {last} inside text
 -- element `i` is written after the texts of the elements before it, and after the separator unless it is the first
 pub written_joined : {A : Type 0} (IsOf : A → List ℕ → Type 0) (separator lead : List ℕ) (xs : List A) {i : ℕ} {y : A}
     {before between part : List ℕ} {count more : ℕ} (room : ℕ) →
-    i < length xs → y ≡ get_or xs i y → Leads separator i lead → Writes (AreJoined IsOf separator (take i xs)) before between count →
+    i < length xs → y ≡ get_or xs i y → Leads separator i lead
+    → Writes (AreJoined IsOf separator (take i xs)) before between count →
     Writes (IsExactly lead then IsOf y) (take room (drop count between)) part more →
-    Writes (AreJoined IsOf separator (take (i + 1) xs)) before (take count between ++ (part ++ drop room (drop count between))) (count + more)
-written_joined IsOf separator lead xs {i} {y} {before} {between} {part} {count} {more} room inside is leads texts added =
-    let one_longer : take (i + 1) xs ≡ take i xs ++ y ∷ [] = take_more xs i y inside ∙ ap (λ x. take i xs ++ x ∷ []) (sym is) in
+    Writes (AreJoined IsOf separator (take (i + 1) xs)) before
+    (take count between ++ (part ++ drop room (drop count between))) (count + more)
+written_joined IsOf separator lead xs {i} {y} {before} {between} {part} {count}
+    {more} room inside is leads texts added =
+    let one_longer : take (i + 1) xs ≡ take i xs ++ y ∷ [] =
+    take_more xs i y inside ∙ ap (λ x. take i xs ++ x ∷ []) (sym is) in
     let leads' : Leads separator (length (take i xs)) lead = rw (length-take-le i xs (omega arith)) leads in
     rw one_longer (record {
       text = texts.text ++ added.text;

@@ -1,5 +1,6 @@
 -- Texts at an index of a buffer.
-use Rattle.std.proofs.Common.{◌≡◌, ℕ, ◌+◌, ◌-◌, ◌≤◌, List, ◌++◌, length, take, drop, slice_range, refl, sym, ap, ◌∙◌, arith, length-append, append_assoc}
+use Rattle.std.proofs.Common.{◌≡◌, ℕ, ◌+◌, ◌-◌, ◌≤◌, List, ◌++◌, length, take, drop, slice_range, refl, sym, ap, ◌∙◌}
+use Rattle.std.proofs.Common.{arith, length-append, append_assoc}
 use Rattle.std.proofs.lemmas.List.{take_at, take_all, drop_at, length-take-le, length-drop, take-append-drop}
 use Rattle.lexical_write_integer.specs.Buffer.{Front, Writes}
 use Rattle.lexical_write_integer.specs.Sequence.{IsExactly, Then}
@@ -8,7 +9,8 @@ use Rattle.lexical_write_integer.proofs.Buffers.Prefixes.{Writes-after, Writes-i
 use borrow.Rule.Slice.PartMut.{mid_of, put_mid}
 
 -- what is written to the k bytes at index a is a text after the first a bytes
-pub at_is : {Is : List ℕ → Type 0} (a k : ℕ) (xs ys : List ℕ) (count : ℕ) → a ≤ length xs → Writes Is (mid_of a k xs) ys count
+pub at_is : {Is : List ℕ → Type 0} (a k : ℕ) (xs ys : List ℕ) (count : ℕ) → a ≤ length xs
+    → Writes Is (mid_of a k xs) ys count
     → Writes (Then (IsExactly (take a xs)) Is) xs (put_mid a k xs ys) (a + count)
 at_is {Is} a k xs ys count inside w =
     let long : length (take a xs) ≡ a = length-take-le a xs inside in
@@ -16,7 +18,8 @@ at_is {Is} a k xs ys count inside w =
       fits = omega (arith, long);
       written = sym (take-append-drop a xs) ∙ ap (λ n. take a xs ++ drop n xs) (sym long);
     } in
-    Writes-after {IsAfter = Is} {IsWhole = Then (IsExactly (take a xs)) Is} (take a xs) xs xs ys a k count (sym long) front
+    Writes-after {IsAfter = Is} {IsWhole = Then (IsExactly (take a xs)) Is} (take a xs) xs xs ys a k count
+    (sym long) front
     (λ following is. record { first = take a xs; second = following; is_first = refl; is_second = is; whole = refl }) w
 
 module _ {Is : List ℕ → Type 0} (a : ℕ) (xs zs : List ℕ) (end : ℕ) (inside : a ≤ length xs)
@@ -36,16 +39,20 @@ module _ {Is : List ℕ → Type 0} (a : ℕ) (xs zs : List ℕ) (end : ℕ) (in
   counted : end ≡ a + length w.is.second
   counted = omega (arith, w.count, ap length whole, length-append (take a xs) w.is.second, long)
 
+  -- the bytes before the text are unchanged
   pub before_at : take a zs ≡ take a xs
   before_at = ap (take a) after ∙ take_at (take a xs) (w.is.second ++ unused) a long
 
+  -- the text is at the index
   pub there_at : Is (slice_range zs a end)
   there_at =
-      let rest : drop a zs ≡ w.is.second ++ unused = ap (drop a) after ∙ drop_at (take a xs) (w.is.second ++ unused) a long in
+      let rest : drop a zs ≡ w.is.second ++ unused =
+      ap (drop a) after ∙ drop_at (take a xs) (w.is.second ++ unused) a long in
       let there : take (end - a) (drop a zs) ≡ w.is.second =
       ap (take (end - a)) rest ∙ take_at w.is.second unused (end - a) (omega (arith, counted)) in
       rw there w.is.is_second
 
+  -- the bytes after the text are unchanged
   pub after_at : drop end zs ≡ drop end xs
   after_at = ap (drop end) w.front.written ∙ drop_at w.text unused end (sym w.count) ∙ ap (λ n. drop n xs) (sym w.count)
 
@@ -58,21 +65,37 @@ module _ {Is : List ℕ → Type 0} (a : ℕ) (xs zs : List ℕ) (end : ℕ) (in
     part_long : length part ≡ a
     part_long =
         let rest = drop (length p.text) (take a zs) in
-        omega (arith, over, p.count, wide, ap length p.front.written, length-append p.text rest, length-drop (length p.text) (take a zs))
+        omega (
+          arith,
+          over,
+          p.count,
+          wide,
+          ap length p.front.written,
+          length-append p.text rest,
+          length-drop (length p.text) (take a zs),
+        )
 
     part_is : IsPadded r a n part
     part_is =
         let all : take count part ≡ part = take_all count part (omega (arith, over, wide, part_long)) in
         let is = rw all at (Writes-is (take a zs) part count p) in rw wide at is
 
+    -- the number and then the text are at the start of the buffer
     pub framed : Writes (Then (IsPadded r a n) Is) xs (part ++ drop a zs) end
     framed =
-        let rest : drop a zs ≡ w.is.second ++ unused = ap (drop a) after ∙ drop_at (take a xs) (w.is.second ++ unused) a long in
+        let rest : drop a zs ≡ w.is.second ++ unused =
+        ap (drop a) after ∙ drop_at (take a xs) (w.is.second ++ unused) a long in
         let same : length (part ++ w.is.second) ≡ length w.text =
         omega (arith, length-append part w.is.second, part_long, w.count, counted) in
         record {
           text = part ++ w.is.second;
-          is = record { first = part; second = w.is.second; is_first = part_is; is_second = w.is.is_second; whole = refl };
+          is = record {
+            first = part;
+            second = w.is.second;
+            is_first = part_is;
+            is_second = w.is.is_second;
+            whole = refl;
+          };
           front = record {
             fits = omega (arith, same, w.front.fits);
             written = ap (λ t. part ++ t) rest ∙ sym (append_assoc part w.is.second unused)

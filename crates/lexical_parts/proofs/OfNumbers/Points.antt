@@ -1,5 +1,6 @@
 -- The digits of a number of units, before the point and after it.
-use Rattle.std.proofs.Common.{◌≡◌, ℕ, zero, suc, ◌+◌, ◌-◌, ◌*◌, ◌/◌, ◌%◌, ◌^◌, ◌<◌, ◌≤◌, List, ◌++◌, length, take, drop, replicate, refl, sym, ap, ◌∙◌, inl}
+use Rattle.std.proofs.Common.{◌≡◌, ℕ, zero, suc, ◌+◌, ◌-◌, ◌*◌, ◌/◌, ◌%◌, ◌^◌, ◌<◌, ◌≤◌, List, ◌++◌, length, take, drop}
+use Rattle.std.proofs.Common.{replicate, refl, sym, ap, ◌∙◌, inl}
 use Rattle.std.proofs.Common.{inr, arith}
 use Rattle.std.proofs.Math.Nat.{pow-le-pow_right, div-add-mod', div-lt_iff_lt-mul}
 use Rattle.std.proofs.lemmas.Bool.{cases_lt}
@@ -71,7 +72,8 @@ whole_count n decimals added count whole counted is_zeros is_whole =
       | inr few ↦
           let power = pow-le-pow_right {n = 10} (omega arith) {i = count} {j = decimals} (omega arith) in
           let below : n < 10 ^ count = rw counted (digit_count-fits 10 n (omega arith)) in
-          let small : n / 10 ^ decimals < 10 = (div-lt_iff_lt-mul {k = 10 ^ decimals} {x = n} {y = 10} (omega arith)).1 (omega (arith, below, power)) in
+          let small : n / 10 ^ decimals < 10 =
+          (div-lt_iff_lt-mul {k = 10 ^ decimals} {x = n} {y = 10} (omega arith)).1 (omega (arith, below, power)) in
           omega (arith, digit_count-one 10 (n / 10 ^ decimals) (omega arith) small)
     ]
 
@@ -95,10 +97,12 @@ digits_around_point n decimals added count whole text is counted is_zeros is_who
     )
 
 -- they are the digits of the number, with zeros before them
-pub padded_around_point : {n decimals : ℕ} {whole rest : List ℕ} → IsDigits 10 (n / 10 ^ decimals) whole → IsPadded 10 decimals (n % 10 ^ decimals) rest
+pub padded_around_point : {n decimals : ℕ} {whole rest : List ℕ} → IsDigits 10 (n / 10 ^ decimals) whole
+    → IsPadded 10 decimals (n % 10 ^ decimals) rest
     → IsPadded 10 (length whole + decimals) n (whole ++ rest)
 padded_around_point {n} {decimals} {whole} {rest} first second =
-    let long : length first.digits ≡ length whole = sym (ap length first.characters ∙ length-map first.digits digit_char) in
+    let long : length first.digits ≡ length whole =
+    sym (ap length first.characters ∙ length-map first.digits digit_char) in
     let high : IsBlockOf 10 (length whole) (n / 10 ^ decimals) first.digits =
     record { counted = long; below_radix = first.numeral.numeral.below_radix; value = first.numeral.value } in
     record {
@@ -113,4 +117,5 @@ padded_around_point {n} {decimals} {whole} {rest} first second =
 pub IsFraction-point : (decimals units : ℕ) (digits : List ℕ) → 1 ≤ decimals → IsPadded 10 decimals units digits
     → (text : List ℕ) → (IsStr "." then IsExactly digits) text → IsFraction decimals units text
 IsFraction-point zero units digits some padded text is = absurd (omega arith)
-IsFraction-point (suc decimals) units digits some padded text is = then_as (λ point same. same) (λ rest same. rw same padded) text is
+IsFraction-point (suc decimals) units digits some padded text is =
+    then_as (λ point same. same) (λ rest same. rw same padded) text is

@@ -1,5 +1,6 @@
 -- Digits without the zeros at their end.
-use Rattle.std.proofs.Common.{◌≡◌, ◌≢◌, ℕ, ◌+◌, ◌-◌, ◌*◌, ◌/◌, ◌%◌, ◌^◌, ◌≤◌, List, [], ◌∷◌, length, take, drop, drop-cons, get_or}
+use Rattle.std.proofs.Common.{◌≡◌, ◌≢◌, ℕ, ◌+◌, ◌-◌, ◌*◌, ◌/◌, ◌%◌, ◌^◌, ◌≤◌, List, [], ◌∷◌, length, take, drop}
+use Rattle.std.proofs.Common.{drop-cons, get_or}
 use Rattle.std.proofs.Common.{replicate, sym, ap, ◌∙◌, arith}
 use Rattle.std.proofs.Math.Nat.{div-add-mod'}
 use Rattle.std.proofs.lemmas.List.{get_or-drop, get_or-take}
@@ -10,11 +11,13 @@ use Rattle.lexical_parts.proofs.OfNumbers.Points.{IsPadded-split}
 
 -- a further zero
 pub zeros_more : (digits : List ℕ) (count : ℕ) → 1 ≤ count → count ≤ length digits → get_or digits (count - 1) 0 ≡ 48
-    → drop count digits ≡ replicate (length digits - count) 48 → drop (count - 1) digits ≡ replicate (length digits - (count - 1)) 48
+    → drop count digits ≡ replicate (length digits - count) 48
+    → drop (count - 1) digits ≡ replicate (length digits - (count - 1)) 48
 zeros_more digits count some within byte ends = grind (arith, drop-cons)
 
 -- a digit 0 at the end is the character `0`
-last_character : (count number : ℕ) (text : List ℕ) → IsPadded 10 (count + 1) number text → number % 10 ≡ 0 → get_or text count 0 ≡ 48
+last_character : (count number : ℕ) (text : List ℕ) → IsPadded 10 (count + 1) number text → number % 10 ≡ 0
+    → get_or text count 0 ≡ 48
 last_character count number text is none =
     let last = (IsPadded-split 10 count 1 number text is).1 in
     let zero : IsPadded 10 1 0 (drop count text) = rw none at last in
@@ -28,7 +31,9 @@ pub record AreLeft (kept zeros number : ℕ) (text : List ℕ) : Type 0 where
   pub whole : number ≡ number / 10 ^ zeros * 10 ^ zeros
   pub last : 1 ≤ kept → get_or text (kept - 1) 0 ≢ 48 → number / 10 ^ zeros % 10 ≢ 0
 
-pub zeros_left_out : (kept zeros number : ℕ) (text : List ℕ) → IsPadded 10 (kept + zeros) number text → drop kept text ≡ replicate zeros 48
+-- if digits end with zeros, the ones before are what is left
+pub zeros_left_out : (kept zeros number : ℕ) (text : List ℕ) → IsPadded 10 (kept + zeros) number text
+    → drop kept text ≡ replicate zeros 48
     → AreLeft kept zeros number text
 zeros_left_out kept zeros number text is ends =
     let both = IsPadded-split 10 kept zeros number text is in

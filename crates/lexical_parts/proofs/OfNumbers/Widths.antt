@@ -1,5 +1,6 @@
 -- How many digits a number of a type has.
-use Rattle.std.proofs.Common.{◌≡◌, ℕ, zero, suc, ◌-◌, ◌*◌, ◌/◌, ◌^◌, ◌<◌, ◌≤◌, arith, inl, inr, min, ℤ, ◌≤ℤ◌, unsigned_abs, Bool, true, false}
+use Rattle.std.proofs.Common.{◌≡◌, ℕ, zero, suc, ◌-◌, ◌*◌, ◌/◌, ◌^◌, ◌<◌, ◌≤◌, arith, inl, inr, min, ℤ, ◌≤ℤ◌}
+use Rattle.std.proofs.Common.{unsigned_abs, Bool, true, false}
 use Rattle.std.proofs.Math.Nat.{pow-le-pow_left, pow-le-pow_right, pow-zero}
 use Rattle.std.proofs.lemmas.Bool.{cases_lt}
 use Rattle.lexical_num.proofs.Magnitudes.{decimal_width-le_20}
@@ -11,16 +12,19 @@ use Rattle.lexical_write_integer.specs.DigitCount.{digit_count, digit_count-le}
 use Rattle.lexical_write_integer.proofs.OfDigits.Count.DigitCounts.{digit_count-fits}
 use Rattle.lexical_write_integer.proofs.OfDigits.Powers.{pow-pow}
 
+-- a number of a type has at most as many decimal digits as the decimal width of the type
 pub few_digits : {width : ℕ} {least greatest x : ℤ} → IsDecimalWidth least greatest width → least ≤ℤ x → x ≤ℤ greatest
     → digit_count 10 (unsigned_abs x) ≤ width
 few_digits decimal low high = digit_count-le 10 _ _ decimal.some (decimal.enough _ low high)
 
+-- a number has at most one digit in radix 16 for each four bits of its type
 pub hex_digits : (bits n : ℕ) → IsBitWidth bits → n < 2 ^ bits → digit_count 16 n ≤ bits / 4
 hex_digits _ n is_8 fits = digit_count-le 16 n 2 (omega arith) fits
 hex_digits _ n is_16 fits = digit_count-le 16 n 4 (omega arith) fits
 hex_digits _ n is_32 fits = digit_count-le 16 n 8 (omega arith) fits
 hex_digits _ n is_64 fits = digit_count-le 16 n 16 (omega arith) fits
 
+-- so it is below 16 to the power of a quarter of its bits
 pub fits_full_hex : (bits n : ℕ) → IsBitWidth bits → n < 2 ^ bits → n < 16 ^ (bits / 4)
 fits_full_hex _ n is_8 fits = fits
 fits_full_hex _ n is_16 fits = fits
@@ -30,13 +34,9 @@ fits_full_hex _ n is_64 fits = fits
 -- a number of at most this many digits is below that power of the radix
 pub fits_width : (r n width count : ℕ) → 2 ≤ r → count ≡ digit_count r n → count ≤ width → n < r ^ width
 fits_width r n width count two is few =
-    let power = pow-le-pow_right {n = r} (omega (arith, two)) {i = digit_count r n} {j = width} (omega (arith, is, few)) in
+    let power = pow-le-pow_right {n = r} (omega (arith, two)) {i = digit_count r n} {j = width}
+    (omega (arith, is, few)) in
     omega (arith, digit_count-fits r n two, power)
-
-pub zero_fits : (r n width : ℕ) → 2 ≤ r → n ≡ 0 → n < r ^ width
-zero_fits r n width two none =
-    let power = pow-le-pow_right {n = r} (omega (arith, two)) {i = 0} {j = width} (omega arith) in
-    omega (arith, none, power, pow-zero r)
 
 -- and one that is below that power has no more digits, or it is 0
 pub few_or_none : (r n width : ℕ) → width < digit_count r n → n < r ^ width → n ≡ 0

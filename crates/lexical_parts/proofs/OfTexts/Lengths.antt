@@ -1,5 +1,6 @@
 -- The lengths of texts of parts.
-use Rattle.std.proofs.Common.{◌≡◌, ℕ, zero, suc, ◌+◌, ◌-◌, ◌*◌, ◌/◌, ◌%◌, ◌^◌, ◌<◌, ◌≤◌, List, [], ◌∷◌, ◌++◌, length, take, drop, replicate, refl, sym, ap, ◌∙◌, arith}
+use Rattle.std.proofs.Common.{◌≡◌, ℕ, zero, suc, ◌+◌, ◌-◌, ◌*◌, ◌/◌, ◌%◌, ◌^◌, ◌<◌, ◌≤◌, List, [], ◌∷◌, ◌++◌, length}
+use Rattle.std.proofs.Common.{take, drop, replicate, refl, sym, ap, ◌∙◌, arith}
 use Rattle.std.proofs.Common.{rules, unsigned_abs, ℤ, pos, Bool, false, length-append, codes, inl, inr}
 use Rattle.std.proofs.Math.Nat.{div-eq_of_lt}
 use Rattle.std.proofs.lemmas.Bool.{cases_lt}
@@ -25,35 +26,47 @@ use Rattle.std.specs.Prelude.{Option}
 use Rattle.lexical_write_integer.specs.ZerosAfterSign.{sign_length}
 use Rattle.lexical_parts.specs.ZeroPadded.{IsZeroPadded}
 
+-- the length of given bytes
 pub exactly_length : (bytes : List ℕ) (count : ℕ) → count ≡ length bytes → HasLength (IsExactly bytes) count
 exactly_length bytes count is = record { each = λ text same. ap length same ∙ sym is }
 
+-- digits are as many as the digit count of the number
 pub digits_length : (r number count : ℕ) → 2 ≤ r → count ≡ digit_count r number → HasLength (IsDigits r number) count
 digits_length r number count two is = record { each = λ text digits. length-IsDigits r number text two digits ∙ sym is }
 
+-- a number with leading zeros is as long as its width
 pub padded_length : (r width number : ℕ) → HasLength (IsPadded r width number) width
 padded_length r width number = record { each = λ text is. length-IsPadded r width number text is }
 
 -- in decimal, with the sign
-pub decimal_length : (number : ℤ) (required : Bool) (count : ℕ) → count ≡ length (sign_of number required) + digit_count 10 (unsigned_abs number)
+pub decimal_length : (number : ℤ) (required : Bool) (count : ℕ)
+    → count ≡ length (sign_of number required) + digit_count 10 (unsigned_abs number)
     → HasLength (IsText number (record standard { required_mantissa_sign = required })) count
 decimal_length number required count is = record {
   each = λ text texts.
-      length-IsText number (record standard { required_mantissa_sign = required }) text (omega arith) (λ grouping none. search rules) texts ∙ sym is;
+      length-IsText number (record standard { required_mantissa_sign = required }) text (omega arith)
+      (λ grouping none. search rules) texts ∙ sym is;
 }
 
 -- texts that are all these bytes have the length of one of them
-pub only_length : {Is : List ℕ → Type 0} (bytes text : List ℕ) (count : ℕ) → IsOnly Is bytes → Is text → count ≡ length text → HasLength Is count
+pub only_length : {Is : List ℕ → Type 0} (bytes text : List ℕ) (count : ℕ) → IsOnly Is bytes → Is text
+    → count ≡ length text → HasLength Is count
 only_length bytes text count one is long = record {
   each = λ other other_is. ap length (one.only other other_is ∙ sym (one.only text is)) ∙ sym long;
 }
 
-pub formatted_length : (number : ℤ) (format : Format) (count : ℕ) → 2 ≤ format.mantissa_radix → ForSome format.digit_grouping IsGrouping
-    → count ≡ length (sign_of number format.required_mantissa_sign) + grouped_length format.digit_grouping (digit_count format.mantissa_radix (unsigned_abs number))
+-- in any format, with the separators between the groups of digits
+pub formatted_length : (number : ℤ) (format : Format) (count : ℕ) → 2 ≤ format.mantissa_radix
+    → ForSome format.digit_grouping IsGrouping
+    → count ≡ length (sign_of number format.required_mantissa_sign)
+    + grouped_length format.digit_grouping (digit_count format.mantissa_radix (unsigned_abs number))
     → HasLength (IsText number format) count
-formatted_length number format count two good is = record { each = λ text texts. length-IsText number format text two good texts ∙ sym is }
+formatted_length number format count two good is =
+    record { each = λ text texts. length-IsText number format text two good texts ∙ sym is }
 
-pub then_length : {First Second : List ℕ → Type 0} (first second count : ℕ) → HasLength First first → HasLength Second second
+-- the lengths of two texts in a row add up
+pub then_length : {First Second : List ℕ → Type 0} (first second count : ℕ) → HasLength First first
+    → HasLength Second second
     → count ≡ first + second → HasLength (Then First Second) count
 then_length first second count one two is = record {
   each = λ text both.
@@ -63,42 +76,55 @@ then_length first second count one two is = record {
 
 -- ---- numbers with decimals
 
+-- the text of a fraction has a byte for each decimal, and one for the point if there is a decimal
 fraction_length : (decimals units : ℕ) → HasLength (IsFraction decimals units) (decimals + min decimals 1)
 fraction_length zero units = exactly_length [] 0 refl
-fraction_length (suc d) units = then_length 1 (suc d) _ (exactly_length (codes ".") 1 refl) (padded_length 10 (suc d) units) (omega arith)
+fraction_length (suc d) units = then_length 1 (suc d) _ (exactly_length (codes ".") 1 refl)
+    (padded_length 10 (suc d) units) (omega arith)
 
 -- the digits before the point
 few_whole : (n decimals : ℕ) → n < 10 ^ decimals → max (digit_count 10 n - decimals) 1 ≡ 1
 few_whole n zero few = omega (arith, digit_count-one 10 n (omega arith) (omega (arith, few)))
 few_whole n (suc d) few = omega (arith, digit_count-le 10 n (suc d) (omega arith) few)
 
+-- a division by 10 ^ decimals leaves a number of `decimals` decimal digits fewer, but of at least one digit
 whole_digits : (n decimals : ℕ) → max (digit_count 10 n - decimals) 1 ≡ digit_count 10 (n / 10 ^ decimals)
 whole_digits n decimals = elim (cases_lt n (10 ^ decimals)) [
   | inl few ↦
-      let one : digit_count 10 (n / 10 ^ decimals) ≡ 1 = rw (div-eq_of_lt few) (digit_count-one 10 0 (omega arith) (omega arith)) in
+      let one : digit_count 10 (n / 10 ^ decimals) ≡ 1 =
+      rw (div-eq_of_lt few) (digit_count-one 10 0 (omega arith) (omega arith)) in
       few_whole n decimals few ∙ sym one
   | inr many ↦ omega (arith, digit_count-split 10 decimals n (omega arith) many, digit_count-pos 10 (n / 10 ^ decimals))
 ]
 
-pub grouped_fixed_length : (grouping : Option (ℕ × ℕ)) (decimals : ℕ) (number : ℤ) (count : ℕ) → ForSome grouping IsGrouping
+-- the sign, the whole part in groups, of one digit at least, and the point with the decimals, if any
+pub grouped_fixed_length : (grouping : Option (ℕ × ℕ)) (decimals : ℕ) (number : ℤ) (count : ℕ)
+    → ForSome grouping IsGrouping
     → count ≡ length (sign_of number false)
     + (grouped_length grouping (max (digit_count 10 (unsigned_abs number) - decimals) 1) + (decimals + min decimals 1))
     → HasLength (IsGroupedFixed grouping decimals number) count
 grouped_fixed_length grouping decimals number count good is =
     let whole = unsigned_abs number / 10 ^ decimals in
     let digits = whole_digits (unsigned_abs number) decimals in
-    let before = formatted_length (pos whole) (record standard { digit_grouping = grouping }) (grouped_length grouping (digit_count 10 whole)) (omega arith) good (omega arith) in
+    let before = formatted_length (pos whole) (record standard { digit_grouping = grouping })
+    (grouped_length grouping (digit_count 10 whole)) (omega arith) good (omega arith) in
     let units = then_length _ _ _ before (fraction_length decimals (unsigned_abs number % 10 ^ decimals)) refl in
     then_length _ _ count (exactly_length (sign_of number false) _ refl) units
     (is ∙ ap (λ k. length (sign_of number false) + (grouped_length grouping k + (decimals + min decimals 1))) digits)
 
 -- a kind of texts that are also of another kind
-pub length_of_kind : {A B : List ℕ → Type 0} (count : ℕ) → ((text : List ℕ) → A text → B text) → HasLength B count → HasLength A count
+pub length_of_kind : {A B : List ℕ → Type 0} (count : ℕ) → ((text : List ℕ) → A text → B text) → HasLength B count
+    → HasLength A count
 length_of_kind count change texts = record { each = λ text is. texts.each text (change text is) }
 
+-- a text in lowercase is as long as it was
 pub lower_length : {Is : List ℕ → Type 0} (count : ℕ) → HasLength Is count → HasLength (IsLowercase Is) count
-lower_length count texts = record { each = λ text is. ap length is.whole ∙ length-map is.original _ ∙ texts.each is.original is.is }
+lower_length count texts = record {
+  each = λ text is. ap length is.whole ∙ length-map is.original _
+      ∙ texts.each is.original is.is;
+}
 
+-- a text at the left of a column has the width of the column, or its own length if that is greater
 pub at_left_length : {Is : List ℕ → Type 0} (width fill count whole : ℕ) → HasLength Is count → whole ≡ max count width
     → HasLength (IsAtLeft width fill Is) whole
 at_left_length width fill count whole texts most = record {
@@ -107,6 +133,7 @@ at_left_length width fill count whole texts most = record {
       omega (arith, long, length-replicate {A = ℕ} (width - length is.cell) fill, texts.each is.cell is.is, most);
 }
 
+-- and so has one at the right
 pub at_right_length : {Is : List ℕ → Type 0} (width fill count whole : ℕ) → HasLength Is count → whole ≡ max count width
     → HasLength (IsAtRight width fill Is) whole
 at_right_length width fill count whole texts most = record {
@@ -115,6 +142,7 @@ at_right_length width fill count whole texts most = record {
       omega (arith, long, length-replicate {A = ℕ} (width - length is.cell) fill, texts.each is.cell is.is, most);
 }
 
+-- one in the middle
 pub centered_length : {Is : List ℕ → Type 0} (width fill count whole : ℕ) → HasLength Is count → whole ≡ max count width
     → HasLength (IsCentered width fill Is) whole
 centered_length width fill count whole texts most = record {
@@ -123,9 +151,18 @@ centered_length width fill count whole texts most = record {
       let after = width - length is.cell - before in
       let long = ap length is.whole ∙ length-append (replicate before fill ++ is.cell) (replicate after fill) in
       let left = length-append (replicate before fill) is.cell in
-      omega (arith, long, left, length-replicate {A = ℕ} before fill, length-replicate {A = ℕ} after fill, texts.each is.cell is.is, most);
+      omega (
+        arith,
+        long,
+        left,
+        length-replicate {A = ℕ} before fill,
+        length-replicate {A = ℕ} after fill,
+        texts.each is.cell is.is,
+        most,
+      );
 }
 
+-- and one with zeros after its sign
 pub zero_padded_length : {Is : List ℕ → Type 0} (width count whole : ℕ) → HasLength Is count → whole ≡ max count width
     → HasLength (IsZeroPadded width Is) whole
 zero_padded_length width count whole texts most = record {
@@ -135,17 +172,37 @@ zero_padded_length width count whole texts most = record {
       let zeros = replicate (width - length is.number) 48 in
       let long = ap length is.whole ∙ length-append sign (zeros ++ rest) in
       let split = sym (length-append sign rest) ∙ ap length (take-append-drop (sign_length is.number) is.number) in
-      omega (arith, long, length-append zeros rest, split, length-replicate {A = ℕ} (width - length is.number) 48, texts.each is.number is.is, most);
+      omega (
+        arith,
+        long,
+        length-append zeros rest,
+        split,
+        length-replicate {A = ℕ} (width - length is.number) 48,
+        texts.each is.number is.is,
+        most,
+      );
 }
 
+-- if n is one more than m, then n times k is k more than m times k
 more : (n m k : ℕ) → n ≡ m + 1 → n * k ≡ k + m * k
 more n m k is = rw is (grind arith)
 
 -- the texts of the elements, without the separators between them
-pub joined_each : {A : Type 0} (IsOf : A → List ℕ → Type 0) (separator : List ℕ) (xs : List A) (text : List ℕ) → AreJoined IsOf separator xs text
+pub joined_each : {A : Type 0} (IsOf : A → List ℕ → Type 0) (separator : List ℕ) (xs : List A) (text : List ℕ)
+    → AreJoined IsOf separator xs text
     → (each : List ℕ) × AreEach IsOf xs each × (length text ≡ length each + (length xs - 1) * length separator)
 joined_each IsOf separator [] text is = ([], refl, grind arith)
-joined_each IsOf separator (x ∷ []) text is = (text, record { first = text; second = []; is_first = is; is_second = refl; whole = sym (append-nil text) }, grind arith)
+joined_each IsOf separator (x ∷ []) text is = (
+  text,
+  record {
+    first = text;
+    second = [];
+    is_first = is;
+    is_second = refl;
+    whole = sym (append-nil text);
+  },
+  grind arith,
+)
 joined_each IsOf separator (x ∷ y ∷ xs) text is =
     let rest = joined_each IsOf separator (y ∷ xs) is.is_second.second is.is_second.is_second in
     let whole = ap length is.whole ∙ length-append is.first is.second in
@@ -164,7 +221,9 @@ joined_each IsOf separator (x ∷ y ∷ xs) text is =
       ),
     )
 
-pub joined_length : {A : Type 0} (IsOf : A → List ℕ → Type 0) (separator : List ℕ) (xs : List A) (count whole : ℕ) → HasLength (AreEach IsOf xs) count
+-- joined texts are as long as the texts of the elements and the separators between them
+pub joined_length : {A : Type 0} (IsOf : A → List ℕ → Type 0) (separator : List ℕ) (xs : List A) (count whole : ℕ)
+    → HasLength (AreEach IsOf xs) count
     → whole ≡ count + (length xs - 1) * length separator → HasLength (AreJoined IsOf separator xs) whole
 joined_length IsOf separator xs count whole each is = record {
   each = λ text joined.
@@ -173,7 +232,8 @@ joined_length IsOf separator xs count whole each is = record {
 }
 
 -- the text of the last element
-each_last : {A : Type 0} (IsOf : A → List ℕ → Type 0) (xs : List A) (x : A) (text : List ℕ) → AreEach IsOf (xs ++ x ∷ []) text
+each_last : {A : Type 0} (IsOf : A → List ℕ → Type 0) (xs : List A) (x : A) (text : List ℕ)
+    → AreEach IsOf (xs ++ x ∷ []) text
     → (s : List ℕ) × (t : List ℕ) × AreEach IsOf xs s × IsOf x t × (length text ≡ length s + length t)
 each_last IsOf [] x text is =
     let whole = ap length is.whole ∙ length-append is.first is.second in
@@ -189,7 +249,9 @@ each_last IsOf (y ∷ ys) x text is =
       omega (arith, whole, length-append is.first rest.0, rest.4),
     )
 
-pub each_more : {A : Type 0} (IsOf : A → List ℕ → Type 0) (xs : List A) (x : A) (count more : ℕ) → HasLength (AreEach IsOf xs) count → HasLength (IsOf x) more
+-- one further element adds the length of its text
+pub each_more : {A : Type 0} (IsOf : A → List ℕ → Type 0) (xs : List A) (x : A) (count more : ℕ)
+    → HasLength (AreEach IsOf xs) count → HasLength (IsOf x) more
     → HasLength (AreEach IsOf (xs ++ x ∷ [])) (count + more)
 each_more IsOf xs x count more each last = record {
   each = λ text is.
@@ -198,7 +260,8 @@ each_more IsOf xs x count more each last = record {
 }
 
 -- the texts of elements that each have one length
-pub each_same : {A : Type 0} (IsOf : A → List ℕ → Type 0) (width : ℕ) → ((x : A) → HasLength (IsOf x) width) → (xs : List A)
+pub each_same : {A : Type 0} (IsOf : A → List ℕ → Type 0) (width : ℕ) → ((x : A) → HasLength (IsOf x) width)
+    → (xs : List A)
     → HasLength (AreEach IsOf xs) (length xs * width)
 each_same IsOf width all [] = record { each = λ text is. let none = ap length is in grind (arith, none) }
 each_same IsOf width all (x ∷ xs) = record {

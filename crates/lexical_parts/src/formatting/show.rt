@@ -1,5 +1,5 @@
 //! Parts that `{}` can write.
-#![tactic(auto, using(crate::proofs::OfFormatting::ShownParts::written_at_once))]
+#![tactic(auto, using(crate::proofs::OfFormatting::ShownParts::written_in_one_piece))]
 
 ghost use Rattle.std.specs.Prelude.{IfSome, IsOk, IsTrue, List, None, Option, ℕ};
 ghost use Rattle.lexical_parts.specs.Length.{IsOnly};
@@ -8,15 +8,16 @@ ghost use Rattle.lexical_parts.specs.ShownParts.{WritesSome};
 use crate::part::Part;
 use std::fmt;
 
-// The largest room of a part that is written at once.
-pub(crate) const MOST_AT_ONCE: usize = 256;
+// The largest room of a part that is written in one piece.
+pub(crate) const MOST_IN_ONE_PIECE: usize = 256;
 
-/// A part that can be in a format string, by itself or in a [`Shown`](super::super::Shown): `("id=", 7u8)` writes
-/// `id=7`, and so does `{}` of `Shown(("id=", 7u8))`. The parts of this crate are such parts, and so is a tuple, a
-/// [`Joined`](super::super::Joined) or a column of such parts.
+/// A part that `{}` can print: `{}` of [`Shown(part)`](super::super::Shown) writes its text. For example, `{}` of
+/// `Shown(("id=", 7u8))` writes `id=7`. The parts of this crate are such parts, and so is a tuple, a
+/// [`Joined`](super::super::Joined) or a column of such parts. Many of them, such as `Hex`, also have `Display`, so you can
+/// write them without `Shown`.
 ///
-/// A part of your own becomes one if you define `is_showable`. Then a tuple with it can be in a format string. If its room
-/// can be above 256 bytes, define `write_pieces` too.
+/// If you implement this trait for a part of your own, `{}` of `Shown` writes it, alone or in a tuple. You must define
+/// `is_showable`, and `write_pieces` too if the room of the part can be above 256 bytes.
 ///
 /// ```
 /// use lexical_parts::Shown;
@@ -36,8 +37,8 @@ pub trait Show: Part {
 
     /// Writes the text to a writer, such as a `String`, in one piece or in several. The part must be valid.
     ///
-    /// If you do not define this method, it writes the text at once, for which the room must be at most 256 bytes. A part
-    /// that can be longer calls this method of the parts that it consists of, one after another.
+    /// If you do not define this method, it writes the text in one piece, for which the room must be at most 256 bytes.
+    /// A part that can be longer calls this method of the parts that it consists of, one after another.
     ///
     /// # Errors
     ///
@@ -53,17 +54,17 @@ pub trait Show: Part {
         requires utf8 { Self.is_utf8 self }
         ensures { IsOk result → WritesSome O.write_str_gives (Self.is_text self) out.old out.new }
     {
-        write_at_once(self, out)
+        write_in_one_piece(self, out)
     }
 }
 
 // Writes the text to a writer with one call, or returns an error if the room is above 256 bytes.
-pub(crate) fn write_at_once<P: Part, O: fmt::Write>(part: P, out: &mut O) -> fmt::Result
+pub(crate) fn write_in_one_piece<P: Part, O: fmt::Write>(part: P, out: &mut O) -> fmt::Result
     requires valid { P.is_valid part }
     requires utf8 { P.is_utf8 part }
     ensures { IsOk result → WritesSome O.write_str_gives (P.is_text part) out.old out.new }
 {
-    match part.try_to_str(&mut [0; MOST_AT_ONCE]) {
+    match part.try_to_str(&mut [0; MOST_IN_ONE_PIECE]) {
         Some(text) => out.write_str(text),
         None => Err(fmt::Error),
     }

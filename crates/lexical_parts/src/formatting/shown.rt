@@ -13,7 +13,7 @@ ghost use Rattle.lexical_parts.specs.ShownParts.{IsAligned, ShowsSomeOnOk, align
 ghost use Rattle.lexical_parts.specs.ZeroPadded.{zero_padded_text};
 
 use crate::formatting::cut::{Nowhere, write_first};
-use crate::formatting::show::{MOST_AT_ONCE, Show};
+use crate::formatting::show::{MOST_IN_ONE_PIECE, Show};
 use crate::layout::column::{Center, Left, Right};
 use crate::layout::joined::Joined;
 use crate::layout::zero_padded::ZeroPadded;
@@ -26,7 +26,10 @@ use std::fmt;
 
 /// A tuple of parts, or another part, in a format string. A width, a fill and a precision work as for a `&str`.
 ///
-/// It is an error if a part in it is not valid, or if it contains a byte that `to_str` refuses.
+/// # Errors
+///
+/// `fmt` returns an error, so `format!` and `println!` panic, if a part in it is not valid, or if it contains a byte that
+/// `to_str` refuses.
 ///
 /// ```
 /// use lexical_parts::{Hex, Shown};
@@ -83,7 +86,7 @@ impl<P: Show> Shown<P> {
         if is_bare(f) {
             return write_through(part, f);
         }
-        match part.try_to_str(&mut [0; MOST_AT_ONCE]) {
+        match part.try_to_str(&mut [0; MOST_IN_ONE_PIECE]) {
             Some(text) => f.pad(text),
             None => pad_pieces(part, f),
         }
@@ -102,7 +105,7 @@ fn is_bare<W: fmt::Write>(f: &fmt::Formatter<W>) -> bool
 }
 
 // Writes the text with the width and the precision of the formatter, as std writes a `&str`. The text is written twice,
-// the first time to count its characters. It is cold, and so not inlined: most texts are written at once.
+// the first time to count its characters. It is cold, and so not inlined: most texts are written in one piece.
 #[cold]
 fn pad_pieces<P: Show, W: fmt::Write>(part: P, f: &mut fmt::Formatter<W>) -> fmt::Result
     requires valid { P.is_valid part }

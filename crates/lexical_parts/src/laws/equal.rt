@@ -9,12 +9,13 @@ ghost use Rattle.lexical_write_integer.specs.Padded.{IsPadded};
 ghost use Rattle.lexical_write_integer.specs.Sequence.{AreJoined, IsExactly};
 ghost use Rattle.lexical_write_integer.specs.Text.{IsDigits, IsText};
 ghost use Rattle.lexical_write_integer.specs.InCommon.{HaveInCommon};
+ghost use Rattle.lexical_parts.specs.Fixed.{IsFixed};
 ghost use Rattle.lexical_parts.specs.Scaled.{AreEqualScaled};
 ghost use Rattle.lexical_parts.specs.Scientific.{IsScientific};
 ghost use Rattle.lexical_parts.specs.Sequence.{◌then◌};
 ghost use Rattle.lexical_parts.specs.ZeroPadded.{IsZeroPadded};
 
-use crate::laws::read_back::zero_padded_read_back;
+use crate::laws::read_back::{fixed_read_back, zero_padded_read_back};
 use crate::part::Part;
 use lexical_num::format::NumberFormat;
 use lexical_num::num::LexicalInteger;
@@ -26,8 +27,10 @@ use lexical_write_integer::laws::{equal_padded, equal_texts, text_has_no};
 pub fn same_parts<A: Part, B: Part, P: Part, Q: Part>(a: A, b: B, count: usize, p: P, q: Q)
     requires a { (text : List ℕ) → A.is_text a text → length text ≡ count }
     requires b { (text : List ℕ) → B.is_text b text → length text ≡ count }
-    ensures { (text : List ℕ) → (A.is_text a then P.is_text p) text → (B.is_text b then Q.is_text q) text
-        → HaveInCommon (A.is_text a) (B.is_text b) × HaveInCommon (P.is_text p) (Q.is_text q) }
+    ensures first { (text : List ℕ) → (A.is_text a then P.is_text p) text → (B.is_text b then Q.is_text q) text
+        → HaveInCommon (A.is_text a) (B.is_text b) }
+    ensures second { (text : List ℕ) → (A.is_text a then P.is_text p) text → (B.is_text b then Q.is_text q) text
+        → HaveInCommon (P.is_text p) (Q.is_text q) }
 {}
 
 /// A law: if no text of `a` and of `b` has the separator, and a text is `a`, the separator and `p`, and also `b`, the
@@ -35,9 +38,12 @@ pub fn same_parts<A: Part, B: Part, P: Part, Q: Part>(a: A, b: B, count: usize, 
 pub fn same_split<A: Part, B: Part, P: Part, Q: Part>(a: A, b: B, separator: u8, p: P, q: Q)
     requires a { (text : List ℕ) → A.is_text a text → All (λ byte. byte ≢ separator) text }
     requires b { (text : List ℕ) → B.is_text b text → All (λ byte. byte ≢ separator) text }
-    ensures { (text : List ℕ) → (A.is_text a then IsExactly (separator ∷ []) then P.is_text p) text
+    ensures first { (text : List ℕ) → (A.is_text a then IsExactly (separator ∷ []) then P.is_text p) text
         → (B.is_text b then IsExactly (separator ∷ []) then Q.is_text q) text
-        → HaveInCommon (A.is_text a) (B.is_text b) × HaveInCommon (P.is_text p) (Q.is_text q) }
+        → HaveInCommon (A.is_text a) (B.is_text b) }
+    ensures second { (text : List ℕ) → (A.is_text a then IsExactly (separator ∷ []) then P.is_text p) text
+        → (B.is_text b then IsExactly (separator ∷ []) then Q.is_text q) text
+        → HaveInCommon (P.is_text p) (Q.is_text q) }
 {}
 
 /// A law: if `a` is below `b`, a text that begins with `a` in `width` digits is earlier, in the order of bytes, than a
@@ -95,6 +101,14 @@ pub fn equal_pairs<T: LexicalInteger, U: LexicalInteger>(
     text_has_no(b, format, separator);
     equal_texts(a, b, format);
     equal_texts(m, n, format);
+}
+
+/// A law: if two `Fixed` with the same number of decimals have a text in common, their amounts are equal.
+pub fn common_fixed<T: LexicalInteger>(a: T, b: T, decimals: usize)
+    ensures { HaveInCommon (IsFixed decimals (T.number a)) (IsFixed decimals (T.number b)) → a ≡ b }
+{
+    fixed_read_back(a, decimals);
+    fixed_read_back(b, decimals);
 }
 
 /// A law: if two numbers have a text of a `ZeroPadded` of one width in common, the numbers are equal. The format has

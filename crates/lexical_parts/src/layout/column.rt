@@ -4,8 +4,8 @@
 ghost use Rattle.std.specs.Prelude.{max, ◌<◌};
 ghost use Rattle.lexical_parts.specs.Column.{IsAtLeft, IsAtRight, IsCentered, centered_text, left_text, right_text};
 
-use crate::formatting::counted::{count_bytes, write_counted};
-use crate::formatting::show::{MOST_AT_ONCE, Show, write_at_once};
+use crate::formatting::limited::{count_bytes, write_exactly};
+use crate::formatting::show::{MOST_IN_ONE_PIECE, Show, write_in_one_piece};
 use crate::layout::fill::{insert_fill, write_copies, write_fill};
 use crate::own::Own;
 use crate::part::Part;
@@ -59,11 +59,11 @@ impl<P: Show> Show for Left<P> {
     }
 
     fn write_pieces<O: fmt::Write>(self, out: &mut O) -> fmt::Result {
-        if self.room() <= MOST_AT_ONCE {
-            return write_at_once(self, out);
+        if self.room() <= MOST_IN_ONE_PIECE {
+            return write_in_one_piece(self, out);
         }
         let count = count_bytes(self.0)?;
-        write_counted(self.0, count, out)?;
+        write_exactly(self.0, count, out)?;
         write_copies(self.2, self.1.saturating_sub(count), out)
     }
 }
@@ -117,12 +117,12 @@ impl<P: Show> Show for Right<P> {
     }
 
     fn write_pieces<O: fmt::Write>(self, out: &mut O) -> fmt::Result {
-        if self.room() <= MOST_AT_ONCE {
-            return write_at_once(self, out);
+        if self.room() <= MOST_IN_ONE_PIECE {
+            return write_in_one_piece(self, out);
         }
         let count = count_bytes(self.0)?;
         write_copies(self.2, self.1.saturating_sub(count), out)?;
-        write_counted(self.0, count, out)
+        write_exactly(self.0, count, out)
     }
 }
 
@@ -178,14 +178,14 @@ impl<P: Show> Show for Center<P> {
     }
 
     fn write_pieces<O: fmt::Write>(self, out: &mut O) -> fmt::Result {
-        if self.room() <= MOST_AT_ONCE {
-            return write_at_once(self, out);
+        if self.room() <= MOST_IN_ONE_PIECE {
+            return write_in_one_piece(self, out);
         }
         let count = count_bytes(self.0)?;
         let added = self.1.saturating_sub(count);
         let before = added / 2;
         write_copies(self.2, before, out)?;
-        write_counted(self.0, count, out)?;
+        write_exactly(self.0, count, out)?;
         write_copies(self.2, added - before, out)
     }
 }

@@ -4,8 +4,8 @@ ghost use Rattle.std.specs.Prelude.{◌≡◌, ◌+◌, ◌≤◌, List, drop, l
 
 use crate::part::Part;
 
-/// Writes a part whose texts all have `count` bytes to the field of this length at the index. No other byte of
-/// the buffer changes. The part must be valid, and the buffer must have the field.
+/// Writes a part whose text has exactly `count` bytes to `buffer[index..index + count]`. No other byte of the buffer
+/// changes. The part must be valid, and the buffer must have these bytes.
 ///
 /// ```
 /// use lexical_parts::{PaddedDigits, write_field};
@@ -18,7 +18,7 @@ use crate::part::Part;
 /// # Panics
 ///
 /// If the part is not valid, or if the text does not have `count` bytes, or if the buffer is
-/// [too short](crate#conditions).
+/// [too short](crate::conditions).
 pub fn write_field<P: Part>(part: P, index: usize, count: usize, buffer: &mut [u8])
     requires valid { P.is_valid part }
     requires room { P.room part ≤ count }

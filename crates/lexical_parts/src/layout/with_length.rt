@@ -25,7 +25,7 @@ use lexical_write_integer::padded::write_padded;
 ///
 /// # Panics
 ///
-/// If the part is not valid, or if the radix is not from 2 to 36, or if the buffer is [too short](crate#conditions), or
+/// If the part is not valid, or if the radix is not from 2 to 36, or if the buffer is [too short](crate::conditions), or
 /// if the length has more digits than `width`, or if the length and `extra` together are above `usize::MAX`.
 pub fn write_with_length<P: Part>(
     part: P,

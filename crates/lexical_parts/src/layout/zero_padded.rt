@@ -6,8 +6,8 @@ ghost use Rattle.std.specs.Prelude.{◌≡◌, ◌≤◌, length, max};
 ghost use Rattle.lexical_write_integer.specs.ZerosAfterSign.{sign_length};
 ghost use Rattle.lexical_parts.specs.ZeroPadded.{IsZeroPadded, piece_with_zeros, zero_padded_text, zeros_after};
 
-use crate::formatting::counted::{count_bytes, write_counted};
-use crate::formatting::show::{MOST_AT_ONCE, Show, write_at_once};
+use crate::formatting::limited::{count_bytes, write_exactly};
+use crate::formatting::show::{MOST_IN_ONE_PIECE, Show, write_in_one_piece};
 use crate::layout::fill::{insert_fill, write_copies};
 use crate::own::Own;
 use crate::part::Part;
@@ -74,15 +74,15 @@ impl<P: Show> Show for ZeroPadded<P> {
     }
 
     fn write_pieces<O: fmt::Write>(self, out: &mut O) -> fmt::Result {
-        if self.room() <= MOST_AT_ONCE {
-            return write_at_once(self, out);
+        if self.room() <= MOST_IN_ONE_PIECE {
+            return write_in_one_piece(self, out);
         }
         let count = count_bytes(self.0)?;
         let mut adding = AddingZeros {
             out,
             zeros: self.1.saturating_sub(count),
         };
-        write_counted(self.0, count, &mut adding)?;
+        write_exactly(self.0, count, &mut adding)?;
         // A text without a byte has begun no piece.
         let zeros = adding.zeros;
         // By this use it is known what the writer is now.

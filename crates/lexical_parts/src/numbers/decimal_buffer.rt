@@ -8,7 +8,8 @@ use crate::numbers::decimal::Decimal;
 use crate::part::Part;
 use lexical_write_integer::ToLexical;
 
-/// A buffer for one number in decimal. It is long enough for every number of every integer type.
+/// A buffer for one number in decimal. It is long enough for every number of every type that this crate
+/// writes.
 ///
 /// ```
 /// use lexical_parts::Buffer;
@@ -23,7 +24,7 @@ pub struct Buffer {
 }
 
 impl Buffer {
-    /// Returns a buffer. It costs next to nothing, so each number may have its own.
+    /// Returns a buffer of 20 bytes, so each number may have its own.
     pub fn new() -> Buffer {
         Buffer { bytes: [0; 20] }
     }

@@ -20,8 +20,8 @@ use lexical_write_integer::radix::Radix;
 ///
 /// The number has a type of its own, so a literal needs one: `Digits(36, 1000u64)`. Its room is the number of its digits.
 ///
-/// `{}` of a `Digits` has the code of every radix, about 75 KB in a program compiled by rustc, also if the radix is a
-/// constant. `to_str`, `to_text` and `write_pieces` have only the code of a constant radix.
+/// `{}` of a `Digits` has the code of every radix, tens of kilobytes, also if the radix is a constant. `to_str`,
+/// `to_text` and `write_pieces` have only the code of a constant radix.
 ///
 /// ```
 /// use lexical_parts::{Digits, Lower, Part};

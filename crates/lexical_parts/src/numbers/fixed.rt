@@ -73,8 +73,8 @@ fn write_grouped_units<T: ToLexical>(
     group_digits(whole, format, buffer) + 1 + decimals
 }
 
-/// A number of units of 10^-`decimals`, such as an amount in cents: `Fixed(-5i64, 2)` writes `-0.05`,
-/// and `Fixed(1234u32, 3)` writes `1.234`. At least one digit precedes the point, and `decimals`
+/// An integer with a decimal point before its last `decimals` digits, such as an amount in cents: `Fixed(-5i64, 2)`
+/// writes `-0.05`, and `Fixed(1234u32, 3)` writes `1.234`. At least one digit precedes the point, and `decimals`
 /// digits follow it; a number without decimals has no point. There are at most 19 decimals. Its room is at most 22 bytes.
 ///
 /// ```

@@ -38,7 +38,8 @@ pub fn formatted_room_suffices<T: ToLexical>(number: T, format: &NumberFormat)
 
 /// A number in a format, with its sign and its groups: in a format with groups of three digits and
 /// the separator `,`, `Formatted(1234567, &format)` writes `1,234,567`. Its room is the length of the longest text of the
-/// type in the format: 26 bytes for 64 bits in groups of three, and at most 128 bytes for every type and format.
+/// type in the format: 26 bytes for 64 bits in decimal and groups of three, and at most 128 bytes for every type and
+/// format.
 ///
 /// ```
 /// use lexical_parts::{Formatted, Part};

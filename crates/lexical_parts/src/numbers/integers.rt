@@ -11,6 +11,8 @@ use crate::numbers::decimal::Decimal;
 use crate::own::Own;
 use crate::part::Part;
 
+// Each type has its own `impl`: a generic one would also be one for `&str` and tuples, and the toolchain takes none that a
+// macro writes.
 impl Part for u8 {
     ghost is_text = { λ number. IsDecimal (pos number) };
 

@@ -7,7 +7,7 @@ ghost use Rattle.lexical_num.specs.Format.{IsRadix};
 ghost use Rattle.lexical_write_integer.specs.Padded.{IsPadded};
 ghost use Rattle.lexical_parts.specs.Length.{HasLength};
 
-use crate::formatting::show::{Show, write_at_once};
+use crate::formatting::show::{Show, write_in_one_piece};
 use crate::layout::fill::write_copies;
 use crate::own::Own;
 use crate::part::Part;
@@ -17,7 +17,7 @@ use lexical_write_integer::padded::{fits_decimal_width, write_padded};
 use lexical_write_integer::radix::Radix;
 use std::fmt;
 
-// The digits of the longest number, and the most that are written to a writer at once.
+// The digits of the longest number, and the most that are written to a writer in one piece.
 pub(crate) const MOST_DIGITS: usize = 64;
 
 // Returns whether the number has so few bits that it is below `radix^width`. To count its digits costs more, and is not
@@ -97,7 +97,7 @@ impl<T: DigitCount + Radix> Show for PaddedDigits<T> {
         self.1.fits_bits();
         let width = self.2.min(MOST_DIGITS);
         write_copies(b'0', self.2 - width, out)?;
-        write_at_once(PaddedDigits(self.0, self.1, width), out)
+        write_in_one_piece(PaddedDigits(self.0, self.1, width), out)
     }
 }
 

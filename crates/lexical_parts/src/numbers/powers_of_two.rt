@@ -9,7 +9,7 @@ ghost use Rattle.lexical_write_integer.specs.Sequence.{AreJoined};
 ghost use Rattle.lexical_write_integer.specs.Text.{IsDigits};
 ghost use Rattle.lexical_parts.specs.Length.{HasLength};
 
-use crate::formatting::show::{MOST_AT_ONCE, Show, write_at_once};
+use crate::formatting::show::{MOST_IN_ONE_PIECE, Show, write_in_one_piece};
 use crate::layout::joined::{separator_before, write_next};
 use crate::numbers::padded::PaddedDigits;
 use crate::own::Own;
@@ -241,8 +241,8 @@ impl Show for HexBytes<'_> {
     }
 
     fn write_pieces<O: fmt::Write>(self, out: &mut O) -> fmt::Result {
-        if self.room() <= MOST_AT_ONCE {
-            return write_at_once(self, out);
+        if self.room() <= MOST_IN_ONE_PIECE {
+            return write_in_one_piece(self, out);
         }
         for (index, byte) in self.0.iter().enumerate() {
             out.write_str(separator_before(index, self.1))?;

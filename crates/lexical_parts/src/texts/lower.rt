@@ -8,7 +8,7 @@ ghost use Rattle.std.specs.Str.{IsCharBoundary};
 ghost use Rattle.lexical_parts.specs.Lower.{lower_text};
 ghost use Rattle.lexical_write_integer.specs.Lowercase.{IsLowercase};
 
-use crate::formatting::show::{MOST_AT_ONCE, Show, write_at_once};
+use crate::formatting::show::{MOST_IN_ONE_PIECE, Show, write_in_one_piece};
 use crate::own::Own;
 use crate::part::Part;
 use std::fmt;
@@ -64,8 +64,8 @@ impl<P: Show> Show for Lower<P> {
     }
 
     fn write_pieces<O: fmt::Write>(self, out: &mut O) -> fmt::Result {
-        if self.room() <= MOST_AT_ONCE {
-            return write_at_once(self, out);
+        if self.room() <= MOST_IN_ONE_PIECE {
+            return write_in_one_piece(self, out);
         }
         let mut lowering = Lowering { out };
         let result = self.0.write_pieces(&mut lowering);
@@ -93,7 +93,7 @@ impl<O: fmt::Write> fmt::Write for Lowering<'_, O> {
             if piece.is_empty() {
                 return Err(fmt::Error);
             }
-            write_at_once(Lower(piece), self.out)?;
+            write_in_one_piece(Lower(piece), self.out)?;
             start += piece.len();
         }
         Ok(())

@@ -9,16 +9,17 @@ use core::str::{from_utf8, from_utf8_unchecked};
 /// A value that has a text, such as a number or a `&str`. A tuple of 2 to 12 parts is also a part, and its
 /// text consists of the texts of its elements, in order: `(250, " g")` writes `250 g`.
 ///
-/// For a `String` write `string.as_str()`. In the Cargo package, with the feature `alloc`, `&string` is a part too. A
-/// literal needs a type where the part takes unsigned numbers only: `Hex(255u8)` and `Digits(36, 1000u32)`, and not
-/// `Hex(255)`. A tuple of one element, `(part,)`, is not a part.
+/// A longer tuple has tuples in it: `((a, b), (c, d))` writes what `(a, b, c, d)` writes. A tuple of one element,
+/// `(part,)`, is not a part. For a `String` write `string.as_str()`, or, in Rust with the feature `alloc`, `&string`. A
+/// literal needs a type where the part takes unsigned numbers only: `Hex(255u8)` and `Digits(36, 1000u32)`,
+/// and not `Hex(255)`.
 ///
 /// A part is *valid* if it meets the condition of its type: a radix is from 2 to 36, and a padded number
 /// fits in its width. A part that contains parts is valid if they are valid. A part without a condition is
 /// always valid.
 ///
 /// ```
-/// use cojimuran::parts::Part;
+/// use cojimuran::Part;
 ///
 /// assert_eq!((250, " g").to_str(&mut [0; 64]), "250 g");
 /// ```
@@ -33,7 +34,7 @@ pub trait Part: Copy {
     ///
     /// # Panics
     ///
-    /// If the part is not valid, or if the buffer is [too short](crate#conditions).
+    /// If the part is not valid, or if the buffer is [too short](crate::conditions).
     fn write_to(self, buffer: &mut [u8]) -> usize;
 
     /// Returns the length of the text, if the part knows it without writing the text, and otherwise `None`, as it does
@@ -68,7 +69,7 @@ pub trait Part: Copy {
     ///
     /// # Panics
     ///
-    /// If the part is not valid, or if the buffer is [too short](crate#conditions).
+    /// If the part is not valid, or if the buffer is [too short](crate::conditions).
     #[inline(always)]
     #[track_caller]
     fn to_text(self, buffer: &mut [u8]) -> &mut [u8] {
@@ -81,7 +82,7 @@ pub trait Part: Copy {
     ///
     /// # Panics
     ///
-    /// If the part is not valid, or if the buffer is [too short](crate#conditions).
+    /// If the part is not valid, or if the buffer is [too short](crate::conditions).
     #[inline]
     fn write_at(self, index: usize, buffer: &mut [u8]) -> usize {
         index + self.write_to(&mut buffer[index..])
@@ -103,17 +104,18 @@ pub trait Part: Copy {
         write_if_it_fits(self, buffer)
     }
 
-    /// Writes the text into the buffer, and returns it as a `&str`, which borrows the buffer. What the buffer holds
-    /// afterwards is not promised. The part must be valid, each [`Byte`](super::Byte) in it and each byte of a column
-    /// must be below 128, each [`Bytes`](super::Bytes) in it must be UTF-8, and the buffer must have `room` bytes or more.
+    /// Writes the text to the start of the buffer, and returns it as a `&str`, which borrows the buffer. Every byte after
+    /// the text is unchanged, which is tested, and not proved. The part must be valid, each [`Byte`](super::Byte) in it
+    /// and each fill byte of a column must be below 128, each [`Bytes`](super::Bytes) in it must be UTF-8, and the buffer
+    /// must have `room` bytes or more.
     ///
-    /// The text of your own parts, and each `Bytes`, is checked by `std::str::from_utf8`, which reads it once, and so is
-    /// that of a `Displayed` and of a reference to a `String` in the Cargo package. Other texts need no check.
+    /// `std::str::from_utf8` reads the text once to check it if there is a `Bytes`, a `Displayed`, a reference to a
+    /// `String` or a part of your own in it. Other texts need no check.
     ///
     /// # Panics
     ///
     /// If the part is not valid, or if the text of the part is not UTF-8, or if the buffer is
-    /// [too short](crate#conditions).
+    /// [too short](crate::conditions).
     #[inline(always)]
     #[track_caller]
     #[allow(unsafe_code)]
@@ -126,7 +128,9 @@ pub trait Part: Copy {
             // is UTF-8.
             unsafe { from_utf8_unchecked(text) }
         } else {
-            from_utf8(text).unwrap()
+            let checked = from_utf8(text);
+            assert!(checked.is_ok(), "the text is not UTF-8");
+            checked.unwrap()
         }
     }
 
@@ -164,7 +168,9 @@ fn write_if_it_fits<P: Part>(part: P, buffer: &mut [u8]) -> Option<usize> {
 #[inline]
 fn str_if_it_fits<P: Part>(part: P, buffer: &mut [u8]) -> Option<&str> {
     let count = write_if_it_fits(part, buffer)?;
-    Some(from_utf8(&buffer[..count]).unwrap())
+    let checked = from_utf8(&buffer[..count]);
+    assert!(checked.is_ok(), "the text is not UTF-8");
+    Some(checked.unwrap())
 }
 
 // Returns true only if the part is valid, its text is UTF-8, and the buffer has its room. For a part of another crate

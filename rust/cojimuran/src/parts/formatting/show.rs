@@ -5,18 +5,19 @@
 use crate::parts::part::Part;
 use core::fmt;
 
-// The largest room of a part that is written at once.
-pub(crate) const MOST_AT_ONCE: usize = 256;
+// The largest room of a part that is written in one piece.
+pub(crate) const MOST_IN_ONE_PIECE: usize = 256;
 
-/// A part that can be in a format string, by itself or in a [`Shown`](super::super::Shown): `("id=", 7u8)` writes
-/// `id=7`, and so does `{}` of `Shown(("id=", 7u8))`. The parts of this crate are such parts, and so is a tuple, a
-/// [`Joined`](super::super::Joined) or a column of such parts.
+/// A part that `{}` can print: `{}` of [`Shown(part)`](super::super::Shown) writes its text. For example, `{}` of
+/// `Shown(("id=", 7u8))` writes `id=7`. The parts of this crate are such parts, and so is a tuple, a
+/// [`Joined`](super::super::Joined) or a column of such parts. Many of them, such as `Hex`, also have `Display`, so you can
+/// write them without `Shown`.
 ///
-/// A part of your own becomes one if you define `is_showable`. Then a tuple with it can be in a format string. If its room
-/// can be above 256 bytes, define `write_pieces` too.
+/// If you implement this trait for a part of your own, `{}` of `Shown` writes it, alone or in a tuple. You must define
+/// `is_showable`, and `write_pieces` too if the room of the part can be above 256 bytes.
 ///
 /// ```
-/// use cojimuran::parts::Shown;
+/// use cojimuran::Shown;
 ///
 /// assert_eq!(Shown(("id=", 7u8)).to_string(), "id=7");
 /// ```
@@ -28,8 +29,8 @@ pub trait Show: Part {
 
     /// Writes the text to a writer, such as a `String`, in one piece or in several. The part must be valid.
     ///
-    /// If you do not define this method, it writes the text at once, for which the room must be at most 256 bytes. A part
-    /// that can be longer calls this method of the parts that it consists of, one after another.
+    /// If you do not define this method, it writes the text in one piece, for which the room must be at most 256 bytes.
+    /// A part that can be longer calls this method of the parts that it consists of, one after another.
     ///
     /// # Errors
     ///
@@ -42,14 +43,14 @@ pub trait Show: Part {
     /// If the part is not valid, or if the text of the part is not UTF-8.
     #[inline]
     fn write_pieces<O: fmt::Write>(self, out: &mut O) -> fmt::Result {
-        write_at_once(self, out)
+        write_in_one_piece(self, out)
     }
 }
 
 // Writes the text to a writer with one call, or returns an error if the room is above 256 bytes.
 #[inline]
-pub(crate) fn write_at_once<P: Part, O: fmt::Write>(part: P, out: &mut O) -> fmt::Result {
-    match part.try_to_str(&mut [0; MOST_AT_ONCE]) {
+pub(crate) fn write_in_one_piece<P: Part, O: fmt::Write>(part: P, out: &mut O) -> fmt::Result {
+    match part.try_to_str(&mut [0; MOST_IN_ONE_PIECE]) {
         Some(text) => out.write_str(text),
         None => Err(fmt::Error),
     }

@@ -3,7 +3,7 @@
 //! Parts in a format string, whose text is not that of one number.
 
 use crate::parts::formatting::cut::{Nowhere, write_first};
-use crate::parts::formatting::show::{MOST_AT_ONCE, Show};
+use crate::parts::formatting::show::{MOST_IN_ONE_PIECE, Show};
 use crate::parts::layout::column::{Center, Left, Right};
 use crate::parts::layout::joined::Joined;
 use crate::parts::layout::zero_padded::ZeroPadded;
@@ -16,10 +16,13 @@ use core::fmt;
 
 /// A tuple of parts, or another part, in a format string. A width, a fill and a precision work as for a `&str`.
 ///
-/// It is an error if a part in it is not valid, or if it contains a byte that `to_str` refuses.
+/// # Errors
+///
+/// `fmt` returns an error, so `format!` and `println!` panic, if a part in it is not valid, or if it contains a byte that
+/// `to_str` refuses.
 ///
 /// ```
-/// use cojimuran::parts::{Hex, Shown};
+/// use cojimuran::{Hex, Shown};
 ///
 /// let line = ("id=", 7u8, " flags=0x", Hex(255u16));
 /// assert_eq!(Shown(line).to_string(), "id=7 flags=0xFF");
@@ -61,7 +64,7 @@ impl<P: Show> Shown<P> {
         if is_bare(f) {
             return write_through(part, f);
         }
-        match part.try_to_str(&mut [0; MOST_AT_ONCE]) {
+        match part.try_to_str(&mut [0; MOST_IN_ONE_PIECE]) {
             Some(text) => f.pad(text),
             None => pad_pieces(part, f),
         }
@@ -77,7 +80,7 @@ fn is_bare(f: &fmt::Formatter<'_>) -> bool {
 }
 
 // Writes the text with the width and the precision of the formatter, as std writes a `&str`. The text is written twice,
-// the first time to count its characters. It is cold, and so not inlined: most texts are written at once.
+// the first time to count its characters. It is cold, and so not inlined: most texts are written in one piece.
 #[cold]
 #[inline]
 fn pad_pieces<P: Show>(part: P, f: &mut fmt::Formatter<'_>) -> fmt::Result {

@@ -2,8 +2,8 @@
 
 //! Parts that are padded to the width of a column.
 
-use crate::parts::formatting::counted::{count_bytes, write_counted};
-use crate::parts::formatting::show::{MOST_AT_ONCE, Show, write_at_once};
+use crate::parts::formatting::limited::{count_bytes, write_exactly};
+use crate::parts::formatting::show::{MOST_IN_ONE_PIECE, Show, write_in_one_piece};
 use crate::parts::layout::fill::{insert_fill, write_copies, write_fill};
 use crate::parts::own::Own;
 use crate::parts::part::Part;
@@ -14,7 +14,7 @@ use core::fmt;
 /// width, which counts bytes and not characters. Its room is the width or that of the part, whichever is larger.
 ///
 /// ```
-/// use cojimuran::parts::{Decimal, Left, Part};
+/// use cojimuran::{Decimal, Left, Part};
 ///
 /// assert_eq!(Left(Decimal(12), 4, b'.').to_str(&mut [0; 64]), "12..");
 /// ```
@@ -52,11 +52,11 @@ impl<P: Show> Show for Left<P> {
 
     #[inline]
     fn write_pieces<O: fmt::Write>(self, out: &mut O) -> fmt::Result {
-        if self.room() <= MOST_AT_ONCE {
-            return write_at_once(self, out);
+        if self.room() <= MOST_IN_ONE_PIECE {
+            return write_in_one_piece(self, out);
         }
         let count = count_bytes(self.0)?;
-        write_counted(self.0, count, out)?;
+        write_exactly(self.0, count, out)?;
         write_copies(self.2, self.1.saturating_sub(count), out)
     }
 }
@@ -66,7 +66,7 @@ impl<P: Show> Show for Left<P> {
 /// width, which counts bytes and not characters. Its room is the width or that of the part, whichever is larger.
 ///
 /// ```
-/// use cojimuran::parts::{Decimal, Part, Right};
+/// use cojimuran::{Decimal, Part, Right};
 ///
 /// assert_eq!(Right(Decimal(42), 4, b'.').to_str(&mut [0; 64]), "..42");
 /// ```
@@ -106,12 +106,12 @@ impl<P: Show> Show for Right<P> {
 
     #[inline]
     fn write_pieces<O: fmt::Write>(self, out: &mut O) -> fmt::Result {
-        if self.room() <= MOST_AT_ONCE {
-            return write_at_once(self, out);
+        if self.room() <= MOST_IN_ONE_PIECE {
+            return write_in_one_piece(self, out);
         }
         let count = count_bytes(self.0)?;
         write_copies(self.2, self.1.saturating_sub(count), out)?;
-        write_counted(self.0, count, out)
+        write_exactly(self.0, count, out)
     }
 }
 
@@ -121,7 +121,7 @@ impl<P: Show> Show for Right<P> {
 /// which counts bytes and not characters. Its room is the width or that of the part, whichever is larger.
 ///
 /// ```
-/// use cojimuran::parts::{Center, Decimal, Part};
+/// use cojimuran::{Center, Decimal, Part};
 ///
 /// assert_eq!(Center(Decimal(-12), 6, b'*').to_str(&mut [0; 64]), "*-12**");
 /// ```
@@ -163,14 +163,14 @@ impl<P: Show> Show for Center<P> {
 
     #[inline]
     fn write_pieces<O: fmt::Write>(self, out: &mut O) -> fmt::Result {
-        if self.room() <= MOST_AT_ONCE {
-            return write_at_once(self, out);
+        if self.room() <= MOST_IN_ONE_PIECE {
+            return write_in_one_piece(self, out);
         }
         let count = count_bytes(self.0)?;
         let added = self.1.saturating_sub(count);
         let before = added / 2;
         write_copies(self.2, before, out)?;
-        write_counted(self.0, count, out)?;
+        write_exactly(self.0, count, out)?;
         write_copies(self.2, added - before, out)
     }
 }

@@ -4,11 +4,11 @@
 
 use crate::parts::part::Part;
 
-/// Writes a part whose texts all have `count` bytes to the field of this length at the index. No other byte of
-/// the buffer changes. The part must be valid, and the buffer must have the field.
+/// Writes a part whose text has exactly `count` bytes to `buffer[index..index + count]`. No other byte of the buffer
+/// changes. The part must be valid, and the buffer must have these bytes.
 ///
 /// ```
-/// use cojimuran::parts::{PaddedDigits, write_field};
+/// use cojimuran::{PaddedDigits, write_field};
 ///
 /// let mut header = *b"size:....;";
 /// write_field(PaddedDigits(8, 420u16, 4), 5, 4, &mut header);
@@ -18,7 +18,7 @@ use crate::parts::part::Part;
 /// # Panics
 ///
 /// If the part is not valid, or if the text does not have `count` bytes, or if the buffer is
-/// [too short](crate#conditions).
+/// [too short](crate::conditions).
 #[inline]
 pub fn write_field<P: Part>(part: P, index: usize, count: usize, buffer: &mut [u8]) {
     let end = part.write_at(index, buffer);

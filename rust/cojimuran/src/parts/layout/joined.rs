@@ -38,7 +38,7 @@ pub(crate) fn write_next<P: Part>(
 /// `A:2`. Its room is the sum of the rooms of the parts and of the lengths of the separators.
 ///
 /// ```
-/// use cojimuran::parts::{Hex, Joined, Part};
+/// use cojimuran::{Hex, Joined, Part};
 ///
 /// assert_eq!(Joined(&[-1, 20], ", ").to_str(&mut [0; 64]), "-1, 20");
 /// assert_eq!(Joined(&[10u8, 2].map(Hex), ":").to_str(&mut [0; 64]), "A:2");

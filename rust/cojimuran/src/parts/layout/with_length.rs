@@ -11,7 +11,7 @@ use crate::write_integer::padded::write_padded;
 /// `radix^width`, and the buffer as long as `width` and the room.
 ///
 /// ```
-/// use cojimuran::parts::write_with_length;
+/// use cojimuran::write_with_length;
 ///
 /// let mut buffer = [0; 9];
 /// assert_eq!(write_with_length("done\n", 16, 4, 4, &mut buffer), 5);
@@ -20,7 +20,7 @@ use crate::write_integer::padded::write_padded;
 ///
 /// # Panics
 ///
-/// If the part is not valid, or if the radix is not from 2 to 36, or if the buffer is [too short](crate#conditions), or
+/// If the part is not valid, or if the radix is not from 2 to 36, or if the buffer is [too short](crate::conditions), or
 /// if the length has more digits than `width`, or if the length and `extra` together are above `usize::MAX`.
 #[inline]
 pub fn write_with_length<P: Part>(

@@ -2,8 +2,8 @@
 
 //! Numbers with leading zeros, up to at least a width.
 
-use crate::parts::formatting::counted::{count_bytes, write_counted};
-use crate::parts::formatting::show::{MOST_AT_ONCE, Show, write_at_once};
+use crate::parts::formatting::limited::{count_bytes, write_exactly};
+use crate::parts::formatting::show::{MOST_IN_ONE_PIECE, Show, write_in_one_piece};
 use crate::parts::layout::fill::{insert_fill, write_copies};
 use crate::parts::own::Own;
 use crate::parts::part::Part;
@@ -23,7 +23,7 @@ fn length_of_sign(text: &[u8]) -> usize {
 /// part, whichever is larger. [`Padded`](super::super::Padded) has a width that the number must fit.
 ///
 /// ```
-/// use cojimuran::parts::{Decimal, Part, ZeroPadded};
+/// use cojimuran::{Decimal, Part, ZeroPadded};
 ///
 /// assert_eq!(ZeroPadded(Decimal(-42), 6).to_str(&mut [0; 64]), "-00042");
 /// ```
@@ -64,15 +64,15 @@ impl<P: Show> Show for ZeroPadded<P> {
 
     #[inline]
     fn write_pieces<O: fmt::Write>(self, out: &mut O) -> fmt::Result {
-        if self.room() <= MOST_AT_ONCE {
-            return write_at_once(self, out);
+        if self.room() <= MOST_IN_ONE_PIECE {
+            return write_in_one_piece(self, out);
         }
         let count = count_bytes(self.0)?;
         let mut adding = AddingZeros {
             out,
             zeros: self.1.saturating_sub(count),
         };
-        write_counted(self.0, count, &mut adding)?;
+        write_exactly(self.0, count, &mut adding)?;
         // A text without a byte has begun no piece.
         let zeros = adding.zeros;
         // By this use it is known what the writer is now.

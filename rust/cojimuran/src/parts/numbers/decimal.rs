@@ -14,7 +14,7 @@ use crate::write_integer::format::STANDARD;
 /// bits.
 ///
 /// ```
-/// use cojimuran::parts::{Decimal, Part};
+/// use cojimuran::{Decimal, Part};
 ///
 /// assert_eq!(Decimal(-5).to_str(&mut [0; 64]), "-5");
 /// ```

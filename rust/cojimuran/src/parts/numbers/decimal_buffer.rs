@@ -6,10 +6,11 @@ use crate::parts::numbers::decimal::Decimal;
 use crate::parts::part::Part;
 use crate::write_integer::ToLexical;
 
-/// A buffer for one number in decimal. It is long enough for every number of every integer type.
+/// A buffer for one number in decimal. It is long enough for every number of every type that this crate
+/// writes.
 ///
 /// ```
-/// use cojimuran::parts::Buffer;
+/// use cojimuran::Buffer;
 ///
 /// let mut buffer = Buffer::new();
 /// assert_eq!(buffer.format(-1234i32), "-1234");
@@ -21,7 +22,7 @@ pub struct Buffer {
 }
 
 impl Buffer {
-    /// Returns a buffer. It costs next to nothing, so each number may have its own.
+    /// Returns a buffer of 20 bytes, so each number may have its own.
     #[must_use]
     #[inline]
     pub fn new() -> Buffer {

@@ -14,11 +14,11 @@ use crate::write_integer::radix::Radix;
 ///
 /// The number has a type of its own, so a literal needs one: `Digits(36, 1000u64)`. Its room is the number of its digits.
 ///
-/// `{}` of a `Digits` has the code of every radix, about 75 KB in a program compiled by rustc, also if the radix is a
-/// constant. `to_str`, `to_text` and `write_pieces` have only the code of a constant radix.
+/// `{}` of a `Digits` has the code of every radix, tens of kilobytes, also if the radix is a constant. `to_str`,
+/// `to_text` and `write_pieces` have only the code of a constant radix.
 ///
 /// ```
-/// use cojimuran::parts::{Digits, Lower, Part};
+/// use cojimuran::{Digits, Lower, Part};
 ///
 /// assert_eq!(Digits(16, 255u32).to_str(&mut [0; 64]), "FF");
 /// assert_eq!(Lower(Digits(16, 255u32)).to_str(&mut [0; 64]), "ff");

@@ -59,12 +59,12 @@ fn write_grouped_units<T: ToLexical>(
     group_digits(whole, format, buffer) + 1 + decimals
 }
 
-/// A number of units of 10^-`decimals`, such as an amount in cents: `Fixed(-5i64, 2)` writes `-0.05`,
-/// and `Fixed(1234u32, 3)` writes `1.234`. At least one digit precedes the point, and `decimals`
+/// An integer with a decimal point before its last `decimals` digits, such as an amount in cents: `Fixed(-5i64, 2)`
+/// writes `-0.05`, and `Fixed(1234u32, 3)` writes `1.234`. At least one digit precedes the point, and `decimals`
 /// digits follow it; a number without decimals has no point. There are at most 19 decimals. Its room is at most 22 bytes.
 ///
 /// ```
-/// use cojimuran::parts::{Fixed, Part};
+/// use cojimuran::{Fixed, Part};
 ///
 /// assert_eq!(Fixed(-5i64, 2).to_str(&mut [0; 64]), "-0.05");
 /// assert_eq!(Fixed(1234u32, 3).to_str(&mut [0; 64]), "1.234");
@@ -109,7 +109,7 @@ impl<T: ToLexical> Show for Fixed<T> {
 /// in groups of three with `,`, `GroupedFixed(-123456, 2, &format)` writes `-1,234.56`. Its room is at most 39 bytes.
 ///
 /// ```
-/// use cojimuran::parts::{GroupedFixed, Part};
+/// use cojimuran::{GroupedFixed, Part};
 ///
 /// let format = cojimuran::NumberFormatBuilder::new().digit_grouping(3, b',').build_strict();
 /// assert_eq!(GroupedFixed(-123456, 2, &format).to_str(&mut [0; 64]), "-1,234.56");

@@ -22,10 +22,11 @@ fn largest_magnitude<T: ToLexical>() -> u64 {
 
 /// A number in a format, with its sign and its groups: in a format with groups of three digits and
 /// the separator `,`, `Formatted(1234567, &format)` writes `1,234,567`. Its room is the length of the longest text of the
-/// type in the format: 26 bytes for 64 bits in groups of three, and at most 128 bytes for every type and format.
+/// type in the format: 26 bytes for 64 bits in decimal and groups of three, and at most 128 bytes for every type and
+/// format.
 ///
 /// ```
-/// use cojimuran::parts::{Formatted, Part};
+/// use cojimuran::{Formatted, Part};
 ///
 /// let format = cojimuran::NumberFormatBuilder::new().digit_grouping(3, b',').build_strict();
 /// assert_eq!(Formatted(1234567, &format).to_str(&mut [0; 64]), "1,234,567");

@@ -7,6 +7,8 @@ use crate::parts::numbers::decimal::Decimal;
 use crate::parts::own::Own;
 use crate::parts::part::Part;
 
+// Each type has its own `impl`: a generic one would also be one for `&str` and tuples, and the toolchain takes none that a
+// macro writes.
 impl Part for u8 {
     #[inline(always)]
     #[track_caller]

@@ -3,7 +3,7 @@
 //! Numbers with leading zeros, up to a fixed width.
 
 use crate::num::limits::is_radix;
-use crate::parts::formatting::show::{Show, write_at_once};
+use crate::parts::formatting::show::{Show, write_in_one_piece};
 use crate::parts::layout::fill::write_copies;
 use crate::parts::own::Own;
 use crate::parts::part::Part;
@@ -12,7 +12,7 @@ use crate::write_integer::padded::{fits_decimal_width, write_padded};
 use crate::write_integer::radix::Radix;
 use core::fmt;
 
-// The digits of the longest number, and the most that are written to a writer at once.
+// The digits of the longest number, and the most that are written to a writer in one piece.
 pub(crate) const MOST_DIGITS: usize = 64;
 
 // Returns whether the number has so few bits that it is below `radix^width`. To count its digits costs more, and is not
@@ -31,7 +31,7 @@ fn has_few_bits(number: u64, radix: u32, width: usize) -> bool {
 /// room is the width.
 ///
 /// ```
-/// use cojimuran::parts::{PaddedDigits, Part};
+/// use cojimuran::{PaddedDigits, Part};
 ///
 /// assert_eq!(PaddedDigits(16, 1u8, 2).to_str(&mut [0; 64]), "01");
 /// ```
@@ -78,7 +78,7 @@ impl<T: DigitCount + Radix> Show for PaddedDigits<T> {
     fn write_pieces<O: fmt::Write>(self, out: &mut O) -> fmt::Result {
         let width = self.2.min(MOST_DIGITS);
         write_copies(b'0', self.2 - width, out)?;
-        write_at_once(PaddedDigits(self.0, self.1, width), out)
+        write_in_one_piece(PaddedDigits(self.0, self.1, width), out)
     }
 }
 
@@ -87,7 +87,7 @@ impl<T: DigitCount + Radix> Show for PaddedDigits<T> {
 /// [`ZeroPadded`](super::super::ZeroPadded) writes every number: `ZeroPadded(123u8, 2)` writes `123`.
 ///
 /// ```
-/// use cojimuran::parts::{Padded, Part, ZeroPadded};
+/// use cojimuran::{Padded, Part, ZeroPadded};
 ///
 /// assert_eq!(Padded(3u8, 2).to_str(&mut [0; 64]), "03");
 /// assert_eq!(ZeroPadded(123u8, 2).to_str(&mut [0; 64]), "123");

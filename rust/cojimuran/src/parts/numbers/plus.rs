@@ -13,7 +13,7 @@ use crate::write_integer::format::STANDARD;
 /// `Plus(-5)` writes `-5`. `ZeroPadded(Plus(42), 8)` writes `+0000042`, as `{:+08}` does. Its room is at most 21 bytes.
 ///
 /// ```
-/// use cojimuran::parts::{Part, Plus, ZeroPadded};
+/// use cojimuran::{Part, Plus, ZeroPadded};
 ///
 /// assert_eq!(Plus(5u8).to_str(&mut [0; 64]), "+5");
 /// assert_eq!(Plus(-5).to_str(&mut [0; 64]), "-5");

@@ -2,7 +2,7 @@
 
 //! Unsigned numbers in radix 16 and in radix 2, in the room of their type, and bytes in radix 16.
 
-use crate::parts::formatting::show::{MOST_AT_ONCE, Show, write_at_once};
+use crate::parts::formatting::show::{MOST_IN_ONE_PIECE, Show, write_in_one_piece};
 use crate::parts::layout::joined::{separator_before, write_next};
 use crate::parts::numbers::padded::PaddedDigits;
 use crate::parts::own::Own;
@@ -16,7 +16,7 @@ use core::fmt;
 /// is that of its type: 2 bytes for a `u8`, and 16 for a `u64`. So a literal needs a type: `Hex(255u8)`.
 ///
 /// ```
-/// use cojimuran::parts::{Hex, Part};
+/// use cojimuran::{Hex, Part};
 ///
 /// assert_eq!(Hex(255u32).to_str(&mut [0; 64]), "FF");
 /// ```
@@ -60,7 +60,7 @@ impl<T: Radix> Show for Hex<T> {
 /// is that of its type: 8 bytes for a `u8`, and 64 for a `u64`. So a literal needs a type: `Binary(5u8)`.
 ///
 /// ```
-/// use cojimuran::parts::{Binary, Part};
+/// use cojimuran::{Binary, Part};
 ///
 /// assert_eq!(Binary(5u8).to_str(&mut [0; 64]), "101");
 /// ```
@@ -105,7 +105,7 @@ impl<T: Radix> Show for Binary<T> {
 /// is this width.
 ///
 /// ```
-/// use cojimuran::parts::{FullHex, Part};
+/// use cojimuran::{FullHex, Part};
 ///
 /// assert_eq!(FullHex(255u16).to_str(&mut [0; 64]), "00FF");
 /// ```
@@ -176,7 +176,7 @@ impl Part for HexByte {
 /// text.
 ///
 /// ```
-/// use cojimuran::parts::{HexBytes, Part};
+/// use cojimuran::{HexBytes, Part};
 ///
 /// assert_eq!(HexBytes(&[1, 255], "").to_str(&mut [0; 64]), "01FF");
 /// assert_eq!(HexBytes(&[1, 255], ":").to_str(&mut [0; 64]), "01:FF");
@@ -228,8 +228,8 @@ impl Show for HexBytes<'_> {
     #[inline(always)]
     #[track_caller]
     fn write_pieces<O: fmt::Write>(self, out: &mut O) -> fmt::Result {
-        if self.room() <= MOST_AT_ONCE {
-            return write_at_once(self, out);
+        if self.room() <= MOST_IN_ONE_PIECE {
+            return write_in_one_piece(self, out);
         }
         for (index, byte) in self.0.iter().enumerate() {
             out.write_str(separator_before(index, self.1))?;

@@ -65,7 +65,7 @@ fn write_magnitude<T: ToLexical>(number: T, exponent: i32, buffer: &mut [u8]) ->
 /// first if there are more. Its room is 13 bytes more than that of [`Decimal`](super::super::Decimal).
 ///
 /// ```
-/// use cojimuran::parts::{Part, Scientific};
+/// use cojimuran::{Part, Scientific};
 ///
 /// assert_eq!(Scientific(1234, -59).to_str(&mut [0; 64]), "1.234e-56");
 /// assert_eq!(Scientific(-1000, 0).to_str(&mut [0; 64]), "-1e3");

@@ -12,7 +12,7 @@ use crate::write_integer::buffer::copy_to_front;
 /// other parts, `Sign(-5, false)` writes `-`, as `Sign(-5, true)` does, and `Sign(5, true)` writes `+`. Its room is 1.
 ///
 /// ```
-/// use cojimuran::parts::{Part, Sign};
+/// use cojimuran::{Part, Sign};
 ///
 /// assert_eq!(Sign(-5, false).to_str(&mut [0; 64]), "-");
 /// assert_eq!(Sign(5, true).to_str(&mut [0; 64]), "+");

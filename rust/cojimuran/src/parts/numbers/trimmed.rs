@@ -31,7 +31,7 @@ fn write_trimmed_units<T: ToLexical>(number: T, decimals: usize, buffer: &mut [u
 /// 22 bytes.
 ///
 /// ```
-/// use cojimuran::parts::{Part, TrimmedFixed};
+/// use cojimuran::{Part, TrimmedFixed};
 ///
 /// assert_eq!(TrimmedFixed(-1500, 3).to_str(&mut [0; 64]), "-1.5");
 /// assert_eq!(TrimmedFixed(2000u32, 3).to_str(&mut [0; 64]), "2");

@@ -12,7 +12,7 @@ use core::str::from_utf8;
 /// A part whose text is the bytes of a slice: `Bytes(b"ab")` writes `ab`. Its room is the length of the slice.
 ///
 /// ```
-/// use cojimuran::parts::{Bytes, Part};
+/// use cojimuran::{Bytes, Part};
 ///
 /// assert_eq!(Bytes(b"ab").to_str(&mut [0; 64]), "ab");
 /// ```
@@ -64,7 +64,7 @@ impl Show for Bytes<'_> {
 /// A part whose text is one byte: `Byte(b'a')` writes `a`. Its room is 1.
 ///
 /// ```
-/// use cojimuran::parts::{Byte, Part};
+/// use cojimuran::{Byte, Part};
 ///
 /// assert_eq!(Byte(b'a').to_str(&mut [0; 64]), "a");
 /// ```

@@ -2,7 +2,7 @@
 
 //! Parts in lowercase.
 
-use crate::parts::formatting::show::{MOST_AT_ONCE, Show, write_at_once};
+use crate::parts::formatting::show::{MOST_IN_ONE_PIECE, Show, write_in_one_piece};
 use crate::parts::own::Own;
 use crate::parts::part::Part;
 use core::fmt;
@@ -11,7 +11,7 @@ use core::fmt;
 /// `Lower(PaddedDigits(16, 255u32, 4))` writes `00ff`. Its room is that of the part.
 ///
 /// ```
-/// use cojimuran::parts::{Lower, PaddedDigits, Part};
+/// use cojimuran::{Lower, PaddedDigits, Part};
 ///
 /// assert_eq!(Lower(PaddedDigits(16, 255u32, 4)).to_str(&mut [0; 64]), "00ff");
 /// ```
@@ -55,8 +55,8 @@ impl<P: Show> Show for Lower<P> {
 
     #[inline]
     fn write_pieces<O: fmt::Write>(self, out: &mut O) -> fmt::Result {
-        if self.room() <= MOST_AT_ONCE {
-            return write_at_once(self, out);
+        if self.room() <= MOST_IN_ONE_PIECE {
+            return write_in_one_piece(self, out);
         }
         let mut lowering = Lowering { out };
         let result = self.0.write_pieces(&mut lowering);
@@ -81,7 +81,7 @@ impl<O: fmt::Write> fmt::Write for Lowering<'_, O> {
             if piece.is_empty() {
                 return Err(fmt::Error);
             }
-            write_at_once(Lower(piece), self.out)?;
+            write_in_one_piece(Lower(piece), self.out)?;
             start += piece.len();
         }
         Ok(())

@@ -65,7 +65,7 @@ impl<P: Show> Show for Option<P> {
 /// `OrElse(None::<u8>, "n/a")` writes `n/a`. Both must be valid. Its room is the larger of the two.
 ///
 /// ```
-/// use cojimuran::parts::{OrElse, Part};
+/// use cojimuran::{OrElse, Part};
 ///
 /// assert_eq!(OrElse(Some(5u8), "n/a").to_str(&mut [0; 64]), "5");
 /// assert_eq!(OrElse(None::<u8>, "n/a").to_str(&mut [0; 64]), "n/a");

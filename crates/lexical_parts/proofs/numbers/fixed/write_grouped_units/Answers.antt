@@ -15,7 +15,11 @@ returns-then-decimals-eq0-clause-text g c =
 
 pub returns-then-decimals-eq0-clause-at_most : goal.returns-then-decimals-eq0-clause-at_most
 returns-then-decimals-eq0-clause-at_most g c =
-    omega (arith, grouped_units-le c.args.format.now.digit_grouping c.write_units-count.ensures, c.group_digits.ensures.total)
+    omega (
+      arith,
+      grouped_units-le c.args.format.now.digit_grouping c.write_units-count.ensures,
+      c.group_digits.ensures.total,
+    )
 
 pub insert_fill-requires : goal.insert_fill-requires
 insert_fill-requires g c =
@@ -41,8 +45,17 @@ returns-clause-text g c =
     let whole = units.result - c.args.decimals in
     let some : 1 ≤ c.args.decimals = omega (arith, c.if-decimals-eq0.false) in
     let enough : c.args.decimals ≤ length (take (length units.new.buffer - whole) (drop whole units.new.buffer)) =
-    omega (arith, units.ensures.front.fits, units.ensures.count, units.ensures.is.more, units.auto.buffer, length-take {A = ℕ}, length-drop {A = ℕ}) in
-    written_with_point _ units.ensures refl some (omega (arith, c.grouped_len.ensures)) enough c.insert_fill.ensures moved.groups moved.count moved.total
+    omega (
+      arith,
+      units.ensures.front.fits,
+      units.ensures.count,
+      units.ensures.is.more,
+      units.auto.buffer,
+      length-take {A = ℕ},
+      length-drop {A = ℕ},
+    ) in
+    written_with_point _ units.ensures refl some (omega (arith, c.grouped_len.ensures))
+    enough c.insert_fill.ensures moved.groups moved.count moved.total
 
 pub returns-clause-at_most : goal.returns-clause-at_most
 returns-clause-at_most g c =

@@ -10,13 +10,21 @@ use Rattle.lexical_parts.proofs.numbers.scientific.write_magnitude.Goals as goal
 use Rattle.lexical_parts.proofs.numbers.scientific.write_magnitude.Goals.{After-count_without_zeros-kept}
 
 pub write_magnitude-count-requires : goal.write_magnitude-count-requires
-write_magnitude-count-requires g c = decimal_width-le_20 _ g.met.T.LexicalInteger.bit_width g.met.T.LexicalInteger.decimal_width
+write_magnitude-count-requires g c =
+    decimal_width-le_20 _ g.met.T.LexicalInteger.bit_width g.met.T.LexicalInteger.decimal_width
 
 -- no more digits are left than a number of the type has
-kept_few : (g : _) (c : After-count_without_zeros-kept g) → c.count_without_zeros-kept.result ≤ g.T.LexicalInteger.DECIMAL_WIDTH
+kept_few : (g : _) (c : After-count_without_zeros-kept g)
+    → c.count_without_zeros-kept.result ≤ g.T.LexicalInteger.DECIMAL_WIDTH
 kept_few g c =
     let few = few_digits g.met.T.LexicalInteger.decimal_width c.in_range.ensures.at_least c.in_range.ensures.at_most in
-    omega (arith, few, c.write_magnitude-count.ensures.digits.count, c.count_without_zeros-kept.ensures.within, length-take {A = ℕ})
+    omega (
+      arith,
+      few,
+      c.write_magnitude-count.ensures.digits.count,
+      c.count_without_zeros-kept.ensures.within,
+      length-take {A = ℕ},
+    )
 
 pub write_with_point-end-requires-clause-room : goal.write_with_point-end-requires-clause-room
 write_with_point-end-requires-clause-room g c =
@@ -40,5 +48,7 @@ returns-clause-text g c =
     let kept = c.count_without_zeros-kept.ensures in
     let exponent = to_z-of_z w32 c.args.exponent (search rules) in
     let first = to_z-of_z w64 c.first_exponent.result (search rules) in
-    written_scientific is kept.some kept.within kept.zeros kept.last (rw exponent at (c.first_exponent.ensures.exponent _ is))
-    (λ units some. written_then _ _ _ _ _ _ _ _ (c.write_with_point-end.ensures.text units some) (rw first at c.write_exponent.ensures.text))
+    written_scientific is kept.some kept.within kept.zeros kept.last
+    (rw exponent at (c.first_exponent.ensures.exponent _ is))
+    (λ units some. written_then _ _ _ _ _ _ _ _ (c.write_with_point-end.ensures.text units some)
+    (rw first at c.write_exponent.ensures.text))

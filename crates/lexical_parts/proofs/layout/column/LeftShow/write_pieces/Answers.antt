@@ -5,4 +5,4 @@ use Rattle.lexical_parts.proofs.layout.column.LeftShow.write_pieces.Goals as goa
 pub returns : goal.returns
 returns g c = λ ok.
     let filled = rw c.saturating_sub.ensures at (c.write_copies.ensures ok) in
-    WritesSome-left _ _ _ _ _ _ _ _ (c.in_ok-write_counted.ensures refl) filled
+    WritesSome-left _ _ _ _ _ _ _ _ (c.in_ok-write_exactly.ensures refl) filled

@@ -5,4 +5,4 @@ use Rattle.lexical_parts.proofs.layout.column.RightShow.write_pieces.Goals as go
 pub returns : goal.returns
 returns g c = λ ok.
     let filled = rw c.saturating_sub.ensures at (c.in_ok-write_copies.ensures refl) in
-    WritesSome-right _ _ _ _ _ _ _ _ filled (c.write_counted.ensures ok)
+    WritesSome-right _ _ _ _ _ _ _ _ filled (c.write_exactly.ensures ok)

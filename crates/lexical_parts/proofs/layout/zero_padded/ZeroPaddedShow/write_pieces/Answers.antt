@@ -4,7 +4,7 @@ use Rattle.lexical_parts.proofs.layout.zero_padded.ZeroPaddedShow.write_pieces.G
 
 pub returns : goal.returns
 returns g c = λ ok.
-    let some = c.in_ok-write_counted.ensures refl in
+    let some = c.in_ok-write_exactly.ensures refl in
     let closed = adding_closed g.O.Write.write_str_gives (λ t. t.out) (λ t. t.zeros) _ _ _ some.wrote in
     let name = closed.0 in
     let rest = rw closed.2 at (c.write_copies.ensures ok) in

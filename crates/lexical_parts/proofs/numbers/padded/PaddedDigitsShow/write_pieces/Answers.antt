@@ -4,15 +4,15 @@ use Rattle.lexical_parts.proofs.Equations.{bits-small, wide_padded}
 use Rattle.lexical_parts.proofs.OfNumbers.Widths.{fits_in_64}
 use Rattle.lexical_parts.proofs.numbers.padded.PaddedDigitsShow.write_pieces.Goals as goal
 
-pub write_at_once-requires-clause-valid : goal.write_at_once-requires-clause-valid
-write_at_once-requires-clause-valid g c =
+pub write_in_one_piece-requires-clause-valid : goal.write_in_one_piece-requires-clause-valid
+write_in_one_piece-requires-clause-valid g c =
     let radix = c.requires.valid.0 in
     let small = bits-small g.met.T.UnsignedInteger.range.width c.fits_bits.ensures in
     (radix, rw c.min-width.ensures (fits_in_64 _ _ _ radix.at_least_two small c.requires.valid.1))
 
 pub returns : goal.returns
 returns g c = λ ok.
-    let some = c.write_at_once.ensures ok in
+    let some = c.write_in_one_piece.ensures ok in
     let within : c.min-width.result ≤ c.args.self.2 = omega (arith, c.min-width.ensures) in
     record {
       text = _;

@@ -1,6 +1,6 @@
 use Rattle.std.proofs.Common.{refl, arith}
 use Rattle.std.proofs.Output.{writes_in_calls_single}
-use Rattle.lexical_parts.proofs.formatting.counted.CountedWrite.write_str.Goals as goal
+use Rattle.lexical_parts.proofs.formatting.limited.LimitedWrite.write_str.Goals as goal
 
 pub returns-in-Some : goal.returns-in-Some
 returns-in-Some g c = record {

@@ -1,4 +1,4 @@
-// Made by `strip` from crates/lexical_parts/src/formatting/counted.rt. Edit that file, not this one.
+// Made by `strip` from crates/lexical_parts/src/formatting/limited.rt. Edit that file, not this one.
 
 //! The length of a text that is written in pieces.
 
@@ -6,14 +6,14 @@ use crate::parts::formatting::cut::Nowhere;
 use crate::parts::formatting::show::Show;
 use core::fmt;
 
-// A writer that counts the bytes of what it passes on.
-struct Counted<'a, O> {
+// A writer that passes on a limited number of bytes.
+struct Limited<'a, O> {
     out: &'a mut O,
     // How many more bytes it passes on.
     left: usize,
 }
 
-impl<O: fmt::Write> fmt::Write for Counted<'_, O> {
+impl<O: fmt::Write> fmt::Write for Limited<'_, O> {
     #[inline]
     fn write_str(&mut self, text: &str) -> fmt::Result {
         match self.left.checked_sub(text.len()) {
@@ -33,26 +33,26 @@ pub(crate) fn count_bytes<P: Show>(part: P) -> Result<usize, fmt::Error> {
         return Ok(count);
     }
     let mut nowhere = Nowhere;
-    let mut counted = Counted {
+    let mut limited = Limited {
         out: &mut nowhere,
         left: usize::MAX,
     };
-    part.write_pieces(&mut counted)?;
-    Ok(usize::MAX.saturating_sub(counted.left))
+    part.write_pieces(&mut limited)?;
+    Ok(usize::MAX.saturating_sub(limited.left))
 }
 
 // Writes a text of this length, or returns an error if the part has another one.
 #[inline]
-pub(crate) fn write_counted<P: Show, O: fmt::Write>(
+pub(crate) fn write_exactly<P: Show, O: fmt::Write>(
     part: P,
     count: usize,
     out: &mut O,
 ) -> fmt::Result {
-    let mut counted = Counted { out, left: count };
-    part.write_pieces(&mut counted)?;
-    let left = counted.left;
+    let mut limited = Limited { out, left: count };
+    part.write_pieces(&mut limited)?;
+    let left = limited.left;
     // No effect at run time, but by this use it is known what the writer is now.
-    let Counted { out, .. } = counted;
+    let Limited { out, .. } = limited;
     let _ = &*out;
     if left == 0 { Ok(()) } else { Err(fmt::Error) }
 }

@@ -9,15 +9,15 @@ use crate::formatting::cut::Nowhere;
 use crate::formatting::show::Show;
 use std::fmt;
 
-// A writer that counts the bytes of what it passes on.
+// A writer that passes on a limited number of bytes.
 #[derive(Drop)]
-struct Counted<'a, O> {
+struct Limited<'a, O> {
     out: &'a mut O,
     // How many more bytes it passes on.
     left: usize,
 }
 
-impl<O: fmt::Write> fmt::Write for Counted<'_, O> {
+impl<O: fmt::Write> fmt::Write for Limited<'_, O> {
     ghost write_str_gives = { λ s bytes t. (t.out.ghost_name ≡ s.out.ghost_name)
         × WritesInCalls O.write_str_gives s.out.now bytes t.out.now × (length bytes + t.left ≡ s.left) };
 
@@ -41,16 +41,16 @@ pub(crate) fn count_bytes<P: Show>(part: P) -> Result<usize, fmt::Error>
         return Ok(count);
     }
     let mut nowhere = Nowhere;
-    let mut counted = Counted {
+    let mut limited = Limited {
         out: &mut nowhere,
         left: usize::MAX,
     };
-    part.write_pieces(&mut counted)?;
-    Ok(usize::MAX.saturating_sub(counted.left))
+    part.write_pieces(&mut limited)?;
+    Ok(usize::MAX.saturating_sub(limited.left))
 }
 
 // Writes a text of this length, or returns an error if the part has another one.
-pub(crate) fn write_counted<P: Show, O: fmt::Write>(
+pub(crate) fn write_exactly<P: Show, O: fmt::Write>(
     part: P,
     count: usize,
     out: &mut O,
@@ -59,11 +59,11 @@ pub(crate) fn write_counted<P: Show, O: fmt::Write>(
     requires utf8 { P.is_utf8 part }
     ensures { IsOk result → WritesSome O.write_str_gives (IsOfLength (P.is_text part) count) out.old out.new }
 {
-    let mut counted = Counted { out, left: count };
-    part.write_pieces(&mut counted)?;
-    let left = counted.left;
+    let mut limited = Limited { out, left: count };
+    part.write_pieces(&mut limited)?;
+    let left = limited.left;
     // No effect at run time, but by this use it is known what the writer is now.
-    let Counted { out, .. } = counted;
+    let Limited { out, .. } = limited;
     let _ = &*out;
     if left == 0 { Ok(()) } else { Err(fmt::Error) }
 }

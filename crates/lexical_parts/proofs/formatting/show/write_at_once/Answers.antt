@@ -1,7 +1,0 @@
-use Rattle.lexical_parts.proofs.OfFormatting.ShownParts.{written_at_once}
-use Rattle.lexical_parts.proofs.formatting.show.write_at_once.Goals as goal
-
-pub returns-in-Some : goal.returns-in-Some
-returns-in-Some g c = λ ok.
-    let wrote : g.O.Write.write_str_gives c.args.out.now c.in-Some.text.now c.write_str.new.self = c.write_str.ensures.ok ok in
-    written_at_once _ _ _ _ _ c.in-Some.ensures.text wrote
