@@ -32,10 +32,10 @@ pub const MAX_ANSWER: usize = BUFFER_SIZE + 11;
 ///
 /// # Panics
 ///
-/// If the buffer is [too short](crate#conditions).
+/// If the buffer is too short.
 pub fn write_answer(line: Option<&[u8]>, line_number: u64, buffer: &mut [u8]) -> (usize, bool)
     requires at_most { IfSome line (λ bytes. length bytes.now ≤ 64) }
-    requires room { BUFFER_SIZE + 11 ≤ length buffer.old }
+    requires room { MAX_ANSWER ≤ length buffer.old }
     ensures within { result.0 ≤ length buffer.new }
     ensures answer { (bytes : List ℕ) → bytes_of line.entry ≡ short_line bytes
         → Writes (IsAnswer line_number bytes) buffer.old buffer.new result.0 }
@@ -52,7 +52,7 @@ pub fn write_answer(line: Option<&[u8]>, line_number: u64, buffer: &mut [u8]) ->
 
 // Writes `bad line `, the line number in decimal and a newline, and returns their length.
 fn write_bad_line(line_number: u64, buffer: &mut [u8]) -> usize
-    requires { BUFFER_SIZE + 11 ≤ length buffer.old }
+    requires { MAX_ANSWER ≤ length buffer.old }
     ensures { Writes (WithNewline (IsBadLine line_number)) buffer.old buffer.new result }
 {
     let start = copy_to_front(b"bad line ", buffer);

@@ -21,7 +21,7 @@ use lexical_write_integer::laws::sizes_suffice;
 ///
 /// # Panics
 ///
-/// If the buffer is [too short](crate#conditions).
+/// If the buffer is too short.
 pub fn write_joined<T: ToLexicalWithOptions>(
     values: &[T],
     separator: u8,
@@ -60,7 +60,7 @@ pub fn write_joined<T: ToLexicalWithOptions>(
 ///
 /// # Panics
 ///
-/// If the buffer is [too short](crate#conditions).
+/// If the buffer is too short.
 pub fn join<'a, T: ToLexicalWithOptions>(
     values: &[T],
     separator: u8,

@@ -59,12 +59,11 @@ pub fn answer_reader<R: Read + Drop, K: BlockSink, const SIZE: usize>(
 /// So an answer never waits for the next line. A failure ends the call.
 ///
 /// The block of 128 KiB that is read into is on the stack. With a `BlockWriter` of 16 KiB, a call uses
-/// about 160 KB of stack, and no other memory.
+/// about 160 KB of stack (180 KB if Rattle's own compiler builds it), and no other memory.
 pub fn answer_stream<S: BlockSource, K: BlockSink, const SIZE: usize>(
     source: &mut S,
     writer: &mut BlockWriter<K, SIZE>,
 ) -> u8
-    // If Rattle's own compiler builds it, a call uses about 180 KB of stack.
     requires fresh { S.yielded source.old ≡ [] }
     requires no_failure { (S.failures source.old ≡ 0) × (writer.old.failures ≡ 0) }
     ensures range { result ≤ 2 }

@@ -9,7 +9,12 @@ slice_bounds-room-end-2 g c = sym (length-take-le 128 c.args.buffer.now (omega (
 
 pub write_text-end-requires : goal.write_text-end-requires
 write_text-end-requires g c =
-    omega (arith, c.size_suffices.ensures.size, c.size_suffices.ensures.buffer, length-take-le 128 c.args.buffer.now (omega (arith, c.requires)))
+    omega (
+      arith,
+      c.size_suffices.ensures.size,
+      c.size_suffices.ensures.buffer,
+      length-take-le 128 c.args.buffer.now (omega (arith, c.requires)),
+    )
 
 pub returns : goal.returns
 returns g c =

@@ -22,9 +22,11 @@ loop-index-preserved g c =
     omega (arith, c.requires, c.loop-index.invariant.within, mul-le-mul_right (size + 1) inside) in
     let before = take index values in
     let many : length before ≡ index = length-take-le index values (omega arith) in
-    let next : take (index + 1) values ≡ before ++ x ∷ [] = take_more values index x inside ∙ ap (λ y. before ++ y ∷ []) (sym c.index-values-index.is) in
+    let next : take (index + 1) values ≡ before ++ x ∷ [] =
+    take_more values index x inside ∙ ap (λ y. before ++ y ∷ []) (sym c.index-values-index.is) in
     let was = c.loop-index.invariant.written in
-    let ready : Ready (IsOf x) (AreJoined IsOf (c.args.separator ∷ []) (before ++ x ∷ [])) c.args.buffer.now c.if-index-gt0.buffer c.if-index-gt0.count =
+    let ready : Ready (IsOf x) (AreJoined IsOf (c.args.separator ∷ []) (before ++ x ∷ []))
+    c.args.buffer.now c.if-index-gt0.buffer c.if-index-gt0.count =
     elim c.if-index-gt0.branch [
       | then-index-gt0 w ↦
           rw (w.buffer-is, w.count-is) (Ready-push IsOf c.args.separator before x c.args.buffer.now c.loop-index.buffer
@@ -34,7 +36,12 @@ loop-index-preserved g c =
           c.loop-index.count (omega (arith, many, w.if-index-gt0.false)) was)
     ] in
     let within : c.if-index-gt0.count ≤ index * (size + 1) =
-    grind (arith, c.if-index-gt0.branch, c.loop-index.invariant.within, (λ (some : 1 ≤ index). mul-le-mul_right (size + 1) some)) in
+    grind (
+      arith,
+      c.if-index-gt0.branch,
+      c.loop-index.invariant.within,
+      (λ (some : 1 ≤ index). mul-le-mul_right (size + 1) some),
+    ) in
     let text = c.write_lexical_with_options-count.ensures.text in
     record {
       written = rw next (Writes-after ready.text _ _ _ _ _ _ ready.counted ready.front ready.whole text);
@@ -42,4 +49,5 @@ loop-index-preserved g c =
     }
 
 pub returns-clause-text : goal.returns-clause-text
-returns-clause-text g c = rw (take_all c.loop-index.index c.args.values.now c.loop-index-test.false) at c.loop-index.invariant.written
+returns-clause-text g c = rw (take_all c.loop-index.index c.args.values.now c.loop-index-test.false)
+    at c.loop-index.invariant.written

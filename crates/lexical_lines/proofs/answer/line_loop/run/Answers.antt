@@ -9,7 +9,8 @@ use Rattle.lexical_lines.proofs.Runs.{BreaksOff-open, answers_ended}
 use Rattle.lexical_lines.proofs.answer.line_loop.run.Goals as goal
 
 -- a call that succeeded had no failure
-IfOk-no_failure : {A E P : Type 0} {Q R : A → Type 0} (before after : ℕ) (result : Result A E) → after ≡ before + failures_of result
+IfOk-no_failure : {A E P : Type 0} {Q R : A → Type 0} (before after : ℕ) (result : Result A E)
+    → after ≡ before + failures_of result
     → OnOk result P → IfOk result Q → ((a : A) → after ≡ before → P → Q a → R a) → IfOk result R
 IfOk-no_failure before after result failures p q then = grind arith
 
@@ -53,8 +54,10 @@ returns-clause-err g c =
     let next = c.in_ok-byte.ensures in
     let same = added-more _ _ _ _ loop.yielded (rw c.in_default.is at next.yielded) ∙ append-nil _ in
     let ended : g.S.ByteSource.is_ended c.next.new.self ≡ true = (rw c.in_default.is at next.ended) ∙ or-true _ in
-    rw (same, ended, added-more _ _ _ _ loop.taken c.finish.ensures.puts.longer) (OnErr-one_failure _ _ c.finish.result c.finish.ensures.puts.failures
-    (λ failed broke. inr (grind (arith, next.failures, loop.source_failures, loop.sink_failures, broke _ _ loop.read))) c.finish.ensures.err)
+    rw (same, ended, added-more _ _ _ _ loop.taken c.finish.ensures.puts.longer)
+    (OnErr-one_failure _ _ c.finish.result c.finish.ensures.puts.failures
+    (λ failed broke. inr (grind (arith, next.failures, loop.source_failures, loop.sink_failures, broke _ _ loop.read)))
+    c.finish.ensures.err)
 
 pub returns-clause-ok : goal.returns-clause-ok
 returns-clause-ok g c =
@@ -63,8 +66,16 @@ returns-clause-ok g c =
     let finish = c.finish.ensures in
     let same = added-more _ _ _ _ loop.yielded (rw c.in_default.is at next.yielded) ∙ append-nil _ in
     let ended : g.S.ByteSource.is_ended c.next.new.self ≡ true = (rw c.in_default.is at next.ended) ∙ or-true _ in
-    rw (same, added-more _ _ _ _ loop.taken finish.puts.longer) (IfOk-no_failure _ _ c.finish.result finish.puts.failures finish.ok finish.valid
-    (λ all_valid sink answers told. grind (arith, next.failures, loop.source_failures, loop.sink_failures, answers _ _ loop.read, told _ _ loop.read)))
+    rw (same, added-more _ _ _ _ loop.taken finish.puts.longer)
+    (IfOk-no_failure _ _ c.finish.result finish.puts.failures finish.ok finish.valid
+    (λ all_valid sink answers told. grind (
+      arith,
+      next.failures,
+      loop.source_failures,
+      loop.sink_failures,
+      answers _ _ loop.read,
+      told _ _ loop.read,
+    )))
 
 pub returns-in_err-byte-clause-err : goal.returns-in_err-byte-clause-err
 unfolding HasAnswered
@@ -78,7 +89,9 @@ returns-in_err-byte-clause-err g c =
     }))
 
 pub returns-clause-kept_source : goal.returns-clause-kept_source
-returns-clause-kept_source g c = g.met.S.ByteSource.keeps_transitive _ _ _ c.loop-byte.invariant.source_kept c.in_ok-byte.ensures.kept
+returns-clause-kept_source g c =
+    g.met.S.ByteSource.keeps_transitive _ _ _ c.loop-byte.invariant.source_kept c.in_ok-byte.ensures.kept
 
 pub returns-clause-kept_sink : goal.returns-clause-kept_sink
-returns-clause-kept_sink g c = g.met.K.ByteSink.keeps_transitive _ _ _ c.loop-byte.invariant.sink_kept c.finish.ensures.puts.kept
+returns-clause-kept_sink g c =
+    g.met.K.ByteSink.keeps_transitive _ _ _ c.loop-byte.invariant.sink_kept c.finish.ensures.puts.kept

@@ -1,4 +1,5 @@
-use Rattle.std.proofs.Common.{◌≡◌, ◌<◌, ℕ, List, [], ◌∷◌, ◌++◌, length, take, drop, refl, sym, append_assoc, length-append, length-drop}
+use Rattle.std.proofs.Common.{◌≡◌, ◌<◌, ℕ, List, [], ◌∷◌, ◌++◌, length, take, drop, refl, sym, append_assoc}
+use Rattle.std.proofs.Common.{length-append, length-drop}
 use Rattle.std.proofs.Common.{take-append-drop, arith}
 use Rattle.std.proofs.lemmas.List.{take_all}
 use Rattle.std.proofs.lemmas.Result.{err_from_is_err_and}
@@ -10,12 +11,17 @@ use Rattle.lexical_lines.proofs.Runs.{AnswererState-more}
 use Rattle.lexical_lines.proofs.answer.answerer.Answerer.push_all.Goals as goal
 
 -- the next line of the slice
-line_more : (bytes front rest end more : List ℕ) → bytes ≡ front ++ rest → rest ≡ end ++ 10 ∷ more → bytes ≡ (front ++ (end ++ 10 ∷ [])) ++ more
+line_more : (bytes front rest end more : List ℕ) → bytes ≡ front ++ rest → rest ≡ end ++ 10 ∷ more
+    → bytes ≡ (front ++ (end ++ 10 ∷ [])) ++ more
 line_more bytes front rest end more e f = grind (arith, append_assoc)
 
 -- fewer bytes than all are a proper prefix
 beginning : (count : ℕ) (bytes : List ℕ) → count < length bytes → IsBeginning (take count bytes) bytes
-beginning count bytes less = (drop count bytes, omega (arith, less, length-drop count bytes), sym (take-append-drop count bytes))
+beginning count bytes less = (
+  drop count bytes,
+  omega (arith, less, length-drop count bytes),
+  sym (take-append-drop count bytes),
+)
 
 pub loop-tail-preserved : goal.loop-tail-preserved
 loop-tail-preserved g c =
@@ -28,7 +34,11 @@ loop-tail-preserved g c =
       read = (
         front ++ line,
         line_more _ front _ c.in-Some.tail.now c.in-Some.more.now whole c.in-Some.ensures.found,
-        λ read written h. rw (added-after written _ _ _ _ c.loop-tail.invariant.taken put.taken, all, sym (append_assoc read front line))
+        λ read written h. rw (
+          added-after written _ _ _ _ c.loop-tail.invariant.taken put.taken,
+          all,
+          sym (append_assoc read front line),
+        )
             (c.answer_line-count.ensures.whole (read ++ front) _ (reads read written h)),
       );
       taken = grown _ _ _ _ _ c.loop-tail.invariant.taken put.taken;
@@ -57,4 +67,5 @@ returns-clause-ok g c = λ read written h.
     let (front, whole, reads) = c.loop-tail.invariant.read in
     let so_far = reads read written h in
     rw (whole, ← append_assoc read front c.loop-tail.rest.now)
-    (AnswererState-more so_far c.loop-tail.rest.now _ c.in_default.ensures.none (c.push_all.ensures so_far.rest so_far.last) refl refl)
+    (AnswererState-more so_far c.loop-tail.rest.now _ c.in_default.ensures.none
+    (c.push_all.ensures so_far.rest so_far.last) refl refl)

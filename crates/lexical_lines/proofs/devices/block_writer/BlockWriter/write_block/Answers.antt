@@ -1,6 +1,7 @@
 use Rattle.lexical_lines.specs.Source.{failures_of}
 use Rattle.std.proofs.lemmas.Grind.{common_steps}
-use Rattle.std.proofs.Common.{◌≡◌, ℕ, ◌+◌, ◌-◌, ◌≤◌, List, ◌++◌, length, take, drop, sym, ap, ◌∙◌, length-take, take-append-drop, append_assoc, []}
+use Rattle.std.proofs.Common.{◌≡◌, ℕ, ◌+◌, ◌-◌, ◌≤◌, List, ◌++◌, length, take, drop, sym, ap, ◌∙◌, length-take}
+use Rattle.std.proofs.Common.{take-append-drop, append_assoc, []}
 use Rattle.std.proofs.Common.{arith}
 use Rattle.std.specs.List.{copy_within}
 use Rattle.std.proofs.lemmas.List.{append-nil, drop-take}
@@ -22,16 +23,24 @@ parted xs ys count end ordered within moved = grind (arith, take-copy_within, ta
 
 -- each byte that was taken is still taken: it was written, or it is in the block
 same : (written after xs ys : List ℕ) (count end : ℕ) → after ≡ written ++ take count (take end xs)
-    → take end xs ≡ take count (take end xs) ++ take (end - count) ys → after ++ take (end - count) ys ≡ written ++ take end xs
+    → take end xs ≡ take count (take end xs) ++ take (end - count) ys
+    → after ++ take (end - count) ys ≡ written ++ take end xs
 same written after xs ys count end passed parts = grind (arith, append_assoc)
 
 pub returns-clause-taken : goal.returns-clause-taken
 returns-clause-taken g c =
     let w = c.self.inside in
     let count = c.put_all-count.result.0 in
-    let bound : count ≤ w.end = grind (arith, c.put_all-count.ensures.ok, c.put_all-count.ensures.err, length-take w.end w.block) in
-    let parts = parted w.block c.copy_within.new.self count w.end bound (omega (arith, c.self.invariant.1, c.self.told)) c.copy_within.ensures.after in
-    same (g.K.ByteSink.taken w.sink) _ w.block c.copy_within.new.self count w.end c.put_all-count.ensures.taken parts ∙ ap taken c.self.view_is
+    let bound : count ≤ w.end = grind (
+      arith,
+      c.put_all-count.ensures.ok,
+      c.put_all-count.ensures.err,
+      length-take w.end w.block,
+    ) in
+    let parts = parted w.block c.copy_within.new.self count w.end bound (omega (arith, c.self.invariant.1, c.self.told))
+    c.copy_within.ensures.after in
+    same (g.K.ByteSink.taken w.sink) _ w.block c.copy_within.new.self count w.end c.put_all-count.ensures.taken parts
+    ∙ ap taken c.self.view_is
 
 pub returns-clause-kept : goal.returns-clause-kept
 returns-clause-kept g c =

@@ -2,7 +2,8 @@ use Rattle.std.proofs.Common.{◌≡◌, ℕ, List, [], ◌++◌, length-take, s
 use Rattle.std.proofs.KnownBytes.{Appends-nil}
 use Rattle.std.proofs.lemmas.List.{append-nil}
 use Rattle.lexical_lines.specs.BlockWriter.{BlockWriting, taken, TakesMore}
-use Rattle.lexical_lines.proofs.devices.block_writer.BlockWriterByteSink.put.Goals.{then-self+in_ok-write_block, else-self}
+use Rattle.lexical_lines.proofs.devices.block_writer.BlockWriterByteSink.put.Goals.{then-self+in_ok-write_block}
+use Rattle.lexical_lines.proofs.devices.block_writer.BlockWriterByteSink.put.Goals.{else-self}
 use Rattle.lexical_lines.proofs.devices.block_writer.BlockWriterByteSink.put.Goals as goal
 
 -- more bytes are in the block
@@ -24,7 +25,14 @@ returns-clause-kept g c =
 pub returns-in_err-write_block-clause-count : goal.returns-in_err-write_block-clause-count
 returns-in_err-write_block-clause-count g c = λ room.
     let w = c.self.inside in
-    absurd (omega (arith, room, c.if-self.true, length-take w.end w.block, ap (λ w. length w.held) c.self.view_is, c.self.told))
+    absurd (omega (
+      arith,
+      room,
+      c.if-self.true,
+      length-take w.end w.block,
+      ap (λ w. length w.held) c.self.view_is,
+      c.self.told,
+    ))
 
 pub returns-clause-flushes : goal.returns-clause-flushes
 returns-clause-flushes g c =
@@ -39,7 +47,20 @@ returns-clause-full_count g c = λ full.
     let held = ap (λ s. length s.held) c.self.view_is in
     elim c.if-self.branch [
       | then-self+in_ok-write_block w ↦
-          omega (arith, c.fill_block.ensures.count, ap (λ s. length s.held) w.self-is, ap length w.in_ok-write_block.ensures.ok)
+          omega (
+            arith,
+            c.fill_block.ensures.count,
+            ap (λ s. length s.held) w.self-is,
+            ap length w.in_ok-write_block.ensures.ok,
+          )
       | else-self w ↦
-          absurd (omega (arith, full, w.if-self.false, length-take c.self.inside.end c.self.inside.block, held, c.self.told, c.self.invariant))
+          absurd (omega (
+            arith,
+            full,
+            w.if-self.false,
+            length-take c.self.inside.end c.self.inside.block,
+            held,
+            c.self.told,
+            c.self.invariant,
+          ))
     ]
