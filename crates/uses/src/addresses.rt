@@ -26,9 +26,12 @@ pub fn same_address(a: u32, b: u16, c: u32, d: u16)
 
 /// A law: if two hosts with a path have equal texts, so have the hosts, and the paths.
 pub fn same_path<P: Part, Q: Part>(a: u32, b: u32, p: P, q: Q)
-    ensures { (text : List ℕ) → (IsDecimal (pos a) then IsStr "/" then P.is_text p) text
+    ensures hosts { (text : List ℕ) → (IsDecimal (pos a) then IsStr "/" then P.is_text p) text
         → (IsDecimal (pos b) then IsStr "/" then Q.is_text q) text
-        → HaveInCommon (IsDecimal (pos a)) (IsDecimal (pos b)) × HaveInCommon (P.is_text p) (Q.is_text q) }
+        → HaveInCommon (IsDecimal (pos a)) (IsDecimal (pos b)) }
+    ensures paths { (text : List ℕ) → (IsDecimal (pos a) then IsStr "/" then P.is_text p) text
+        → (IsDecimal (pos b) then IsStr "/" then Q.is_text q) text
+        → HaveInCommon (P.is_text p) (Q.is_text q) }
 {
     text_has_no(a, &STANDARD, b'/');
     text_has_no(b, &STANDARD, b'/');

@@ -15,8 +15,8 @@ ghost use Rattle.lexical_lines.specs.Request.{IsRequestFor};
 
 use lexical_lines::laws::answer_read_back;
 use lexical_parts::{
-    Digits, Formatted, Lower, Padded, Part, ZeroPadded, common_zero_padded, fixed_read_back,
-    zero_padded_read_back,
+    Digits, Formatted, Lower, Padded, Part, ZeroPadded, common_fixed, common_zero_padded,
+    fixed_read_back, zero_padded_read_back,
 };
 use lexical_write_integer::format::STANDARD;
 use lexical_write_integer::laws::{
@@ -116,6 +116,13 @@ pub fn same_in_five_characters(a: i16, b: i16) -> bool
 {
     common_zero_padded(a, b, &STANDARD, 5);
     a == b
+}
+
+/// A law: amounts in cents with equal texts, such as `-0.05`, are equal.
+pub fn same_amount(a: i64, b: i64)
+    ensures { (text : List ℕ) → IsFixed 2 a text → IsFixed 2 b text → a ≡ b }
+{
+    common_fixed(a, b, 2);
 }
 
 /// Reads back the text of a number of any type in decimal, if `parse` of the type returns the number for each text that

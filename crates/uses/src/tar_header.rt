@@ -1,9 +1,13 @@
 //! Writes the fields of a tar header, and two cells of a row, to their places.
 
 ghost use Rattle.std.specs.Prelude.{◌≡◌, ◌^◌, ◌<◌, ◌≤◌, slice_range, length};
+ghost use Rattle.lexical_write_integer.specs.Buffer.{Writes};
 ghost use Rattle.lexical_write_integer.specs.Padded.{IsPadded};
+ghost use Rattle.lexical_write_integer.specs.Sequence.{IsExactly};
+ghost use Rattle.lexical_parts.specs.Column.{IsAtLeft};
+ghost use Rattle.lexical_parts.specs.Sequence.{◌then◌, IsStr};
 
-use lexical_parts::{Padded, PaddedDigits, Part, write_field};
+use lexical_parts::{Left, Padded, PaddedDigits, Part, write_field};
 use lexical_write_integer::laws::padded_length;
 
 /// Writes the name of a file, its mode, its size and the sum of the header to their fields, each number in radix 8. What
@@ -27,6 +31,35 @@ pub fn write_header(name: &str, mode: u32, size: u64, sum: u32, header: &mut [u8
     write_field(PaddedDigits(8, mode, 7), 100, 7, header);
     write_field(PaddedDigits(8, size, 11), 124, 11, header);
     write_field(PaddedDigits(8, sum, 6), 148, 6, header);
+}
+
+/// Writes the first five fields of a header, one after another: the name and zeros up to 100 bytes, and the mode, the
+/// owner, the group and the size in radix 8, each with a zero after it. Returns the index after them.
+pub fn write_first_fields(
+    name: &str,
+    mode: u32,
+    owner: u32,
+    group: u32,
+    size: u64,
+    header: &mut [u8; 512],
+) -> usize
+    requires name { length name.now ≤ 100 }
+    requires mode { mode < 8 ^ 7 }
+    requires owner { owner < 8 ^ 7 }
+    requires group { group < 8 ^ 7 }
+    requires size { size < 8 ^ 11 }
+    ensures { Writes (IsAtLeft 100 0 (IsExactly name.now) then (IsPadded 8 7 mode then IsStr "\0")
+        then (IsPadded 8 7 owner then IsStr "\0") then (IsPadded 8 7 group then IsStr "\0")
+        then (IsPadded 8 11 size then IsStr "\0")) header.old header.new result }
+{
+    (
+        Left(name, 100, 0),
+        (PaddedDigits(8, mode, 7), "\0"),
+        (PaddedDigits(8, owner, 7), "\0"),
+        (PaddedDigits(8, group, 7), "\0"),
+        (PaddedDigits(8, size, 11), "\0"),
+    )
+        .write_to(header)
 }
 
 /// Writes two numbers of ten digits to a row, with what is there between them.

@@ -23,7 +23,7 @@ use crate::identifier::{
 };
 use crate::printed::printed;
 use crate::sorted_keys::{comes_before, is_earlier_key};
-use crate::tar_header::write_header;
+use crate::tar_header::{write_first_fields, write_header};
 use crate::time_of_day::write_time;
 use lexical_parts::{Decimal, Part};
 use lexical_write_integer::{
@@ -244,7 +244,7 @@ fn times_of_day(rt: HostRuntime) {
     check(&rt, time, *b"23:59Z");
 }
 
-// As Python's `tarfile` writes them for a file of 1000 bytes with the mode 0644.
+// As Python's `tarfile` writes them for a file of 1000 bytes with the mode 0644, the owner 1000 and the group 100.
 #[test]
 fn fields_of_a_header(rt: HostRuntime) {
     let mut header = [7; 512];
@@ -253,6 +253,17 @@ fn fields_of_a_header(rt: HostRuntime) {
     check_bytes(&rt, &header[99..108], b"\x070000644\x07");
     check_bytes(&rt, &header[123..136], b"\x0700000001750\x07");
     check_bytes(&rt, &header[147..155], b"\x07007463\x07");
+
+    let mut header = [7; 512];
+    let end = write_first_fields("size.txt", 420, 1000, 100, 1000, &mut header);
+    check(&rt, end, 136);
+    check_bytes(&rt, &header[..8], b"size.txt");
+    check_bytes(&rt, &header[8..100], &[0; 92]);
+    check_bytes(
+        &rt,
+        &header[100..137],
+        b"0000644\x000001750\x000000144\x0000000001750\0\x07",
+    );
 }
 
 #[test]

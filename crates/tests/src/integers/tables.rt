@@ -2,8 +2,8 @@
 
 use crate::integers::checks::{check_equal, valid};
 use crate::integers::exact_buffers::digits::check_types;
-use crate::integers::lines::read;
 use crate::integers::numbers::NUMBERS;
+use crate::integers::rows::read;
 use lexical_write_integer::NumberFormatBuilder;
 use lexical_write_integer::algorithm::algorithm;
 use lexical_write_integer::decimal::fast_digit_count;

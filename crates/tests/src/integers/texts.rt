@@ -9,8 +9,8 @@ ghost use Rattle.lexical_num.specs.Format.{standard};
 ghost use Rattle.lexical_write_integer.specs.Text.{need};
 
 use crate::integers::checks::{ROOM, check_buffer, check_equal, valid};
-use crate::integers::lines::read;
 use crate::integers::numbers::NUMBERS;
+use crate::integers::rows::read;
 use lexical_num::WriteOptions;
 use lexical_write_integer::format::STANDARD;
 use lexical_write_integer::laws::size_suffices;

@@ -1,7 +1,7 @@
 // Tests of the errors of a build.
 
 use crate::integers::checks::check_equal;
-use crate::integers::lines::read;
+use crate::integers::rows::read;
 use lexical_num::{Error, NumberFormat, NumberFormatBuilder};
 use std::fmt::InlineText;
 use std::process::Abort;
