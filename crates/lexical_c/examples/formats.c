@@ -7,7 +7,7 @@ int main(void)
 {
     const struct lexical_format hexadecimal = LEXICAL_RADIX(16);
     const struct lexical_format grouped = { .radix = 10, .group_size = 3, .mark = ',' };
-    char buffer[LEXICAL_BUFFER_SIZE + 1];
+    char buffer[2 + LEXICAL_BUFFER_SIZE + 1]; /* the prefix, the digits and a NUL */
 
     size_t count = lexical_write(48879u, &hexadecimal, buffer, sizeof buffer);
     printf("%.*s\n", (int)count, buffer);
@@ -15,7 +15,7 @@ int main(void)
     count = lexical_write(1234567, &grouped, buffer, sizeof buffer);
     printf("%.*s\n", (int)count, buffer);
 
-    /* The prefix is no part of what is padded. */
+    /* Pad only the digits, not the prefix. */
     memcpy(buffer, "0x", 2);
     count = lexical_write(48879u, &hexadecimal, buffer + 2, sizeof buffer - 2);
     count = lexical_pad(count, 8, buffer + 2, sizeof buffer - 2);

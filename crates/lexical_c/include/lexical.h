@@ -1,6 +1,6 @@
 /* SPDX-License-Identifier: MIT OR Apache-2.0 */
 /*
- * lexical.h: converts integers to text, in every radix from 2 to 36.
+ * lexical.h: functions that write integers as text, in every radix from 2 to 36.
  *
  * Examples, in C11 or later. These lines write 48879 in decimal, and count becomes 5:
  *
@@ -26,8 +26,8 @@
  * These write 0xBEEF, and count becomes 6, or 0 if the number does not fit. Use them
  * only for unsigned types, because a '-' would come after the prefix:
  *
- *     memcpy(buffer, "0x", 2);
- *     count = lexical_write(48879u, &hexadecimal, buffer + 2, sizeof buffer - 2);
+ *     char prefixed[2 + LEXICAL_BUFFER_SIZE] = "0x";
+ *     count = lexical_write(48879u, &hexadecimal, prefixed + 2, sizeof prefixed - 2);
  *     count = count == 0 ? 0 : count + 2;
  *
  * Before C11, name the type of the number: lexical_decimal_i32(48879, buffer, sizeof buffer).
@@ -41,42 +41,39 @@
  * of digits.
  *
  * Format. `format` points to a struct lexical_format. A call only reads it. The pointer
- * must not be NULL. The fields may have any values, because every function that returns
- * a size returns 0 for an invalid format.
+ * must not be NULL. The fields may have any values: a function that takes an invalid
+ * format returns 0, and lexical_check_format says why.
  *
- * Buffer. `buffer` points to `size` bytes that the call may write. The size must be at
- * most PTRDIFF_MAX, which no object exceeds. The pointer may be NULL if the size is 0.
- * The bytes may be uninitialized, except the text that you pass to lexical_pad. They
- * must not overlap the format, and no other thread may use them during the call. The
- * call writes nothing outside the buffer, and keeps no pointer to it. Bytes after the
- * text keep their values.
+ * Buffer. `buffer` points to `size` bytes that the call may write. The size must not
+ * exceed PTRDIFF_MAX; no object is larger. The pointer may be NULL if the size is 0. The
+ * bytes must not overlap the format, and no other thread may use them during the call.
+ * They may be uninitialized, except the text that you pass to lexical_pad, because the
+ * library is not built with -Clinker-plugin-lto of rustc. The call writes nothing outside
+ * the buffer, and keeps no pointer to it. Bytes after the text keep their values.
  *
  * Size of the buffer. LEXICAL_BUFFER_SIZE bytes are enough for every number of every
  * type in every format. A terminating NUL needs one byte more.
  *
- * Return value. A call that writes returns the length of the text in the buffer. This
- * length does not count a NUL. A text has at least one digit, so 0 always means an
- * error.
+ * Return value. A call that writes returns the length of the text in the buffer, without
+ * a NUL. A text is never empty, so 0 always means an error.
  *
- * Errors. If the text does not fit the buffer or the format is invalid, a call that
- * returns a size returns 0. The buffer is then unchanged, but lexical_terminate makes
- * it an empty string. To learn which of the two errors it was, call
- * lexical_check_format. If it returns 0, the format is valid, so the buffer was too
- * short. Otherwise it returns a number that names the first invalid field. No call
- * changes errno.
+ * Errors. If the format is invalid or the text does not fit the buffer, a call that
+ * returns a size returns 0, and the buffer is unchanged. (lexical_terminate then makes the
+ * buffer an empty string, unless `size` is 0.) To tell these two errors apart, call
+ * lexical_check_format after the call that failed. If it returns 0, the buffer was too
+ * short. Otherwise it returns the constant LEXICAL_INVALID_.. of the first invalid field.
+ * No call changes errno.
  *
- * Speed. lexical_decimal is about as fast as lexical_write in radix 10, and a program
- * that calls only lexical_decimal is smaller if you link it with -Wl,--gc-sections.
- * Groups take more than three times as long as no groups. In uppercase radix 8 or 16 a
- * buffer that is shorter than the constant for the type, such as LEXICAL_BUFFER_SIZE_U32,
- * takes about twice the time, because the text is then copied. In radix 10 the size does
- * not matter.
+ * Speed. A buffer with fewer bytes than the type has bits costs some time in most radices,
+ * because the call must first check that the text fits, and one that barely fits costs
+ * more. Grouping makes a call about three times as slow. lexical_decimal is about as fast as lexical_write in radix 10, and a program that calls only
+ * lexical_decimal is smaller if you link it with -Wl,--gc-sections.
  *
  * Proof. The sources are written in Rattle, a dialect of Rust with contracts. A prover,
  * which is not public, has checked that they write the right text for all arguments
- * that meet the conditions above under "Format" and "Buffer". The Rust code made from
- * them, the handwritten file that turns C pointers into slices, and the compiled library
- * are tested, not proved.
+ * that meet the conditions above under "Format" and "Buffer", with a size_t of 64 bits.
+ * With 32 bits nothing is proved. The Rust code made from the sources, the handwritten
+ * file that exports the functions with a buffer, and the compiled library are only tested.
  *
  * Threads and signals. The functions have no state and allocate nothing, so you can
  * call them in any thread and in any signal handler.
@@ -125,7 +122,7 @@
     LEXICAL_HAS((nothrow, pure, nonnull(n), warn_unused_result))               \
     LEXICAL_ACCESS((read_only, n))
 
-/* The default of a field of a format, so that g++ does not warn of fields that you do not name. */
+/* Default values of the fields of a format, which silence -Wmissing-field-initializers in g++. */
 #if defined(__cplusplus) && __cplusplus >= 201402L
 #define LEXICAL_DEFAULT(value) = value
 #else
@@ -141,7 +138,7 @@ extern "C" {
 /*
  * The version of this header, as a string, and as a number: 1000000 times the
  * major number, plus 1000 times the minor number, plus the patch number. The
- * major number is also that of the name liblexical_c.so.1.
+ * major number is also the number in the soname, liblexical_c.so.1.
  */
 #define LEXICAL_VERSION_STRING "1.0.0"
 #define LEXICAL_VERSION 1000000
@@ -162,9 +159,8 @@ LEXICAL_HAS((nothrow, const)) uint32_t lexical_version(void) LEXICAL_NOEXCEPT;
 /* ---- decimal numbers ----------------------------------------------------- */
 
 /*
- * A buffer size that is enough for every text of lexical_decimal_T. It has no room for the
- * '+' of an unsigned number, for separators, or for a NUL. For a format with these use
- * lexical_buffer_size_T.
+ * A buffer size that is enough for every text of lexical_decimal_T, without a NUL. For a
+ * format with groups or a '+' use lexical_buffer_size_T.
  */
 #define LEXICAL_BUFFER_SIZE_DECIMAL_U8 3
 #define LEXICAL_BUFFER_SIZE_DECIMAL_U16 5
@@ -211,8 +207,7 @@ size_t lexical_decimal_i64(int64_t value, char *buffer, size_t size) LEXICAL_NOE
 /*
  * A format: how a number is written.
  *
- * A format is best initialized by the names of its fields (C99, C++20), so that
- * all others are 0:
+ * Initialize a format by the names of its fields (C99, C++20). Those that you omit are 0:
  *
  *     const struct lexical_format format = { .radix = 10, .group_size = 3, .mark = ',' };
  *
@@ -220,8 +215,9 @@ size_t lexical_decimal_i64(int64_t value, char *buffer, size_t size) LEXICAL_NOE
  * bits, so that a wrong radix such as 266 is refused and not truncated to 10.
  *
  * In C++14 and later each field after the radix has a default value, which is 0, so the
- * struct is not trivial. g++ therefore warns if you set a format to zeros by memset, so
- * write `format = {}`. A union that has a format as a member needs a constructor.
+ * struct is not trivial. g++ therefore warns if you set a format to zeros by memset. Write
+ * `format = {}` instead, which is invalid until you set the radix. A union that has a
+ * format as a member needs an initializer or a constructor.
  */
 struct lexical_format {
     uint32_t radix;         /* from 2 to 36 */
@@ -238,16 +234,16 @@ struct lexical_format {
 /*
  * The format of a radix, as an initializer: with no '+' and no groups, in uppercase.
  * The radix may have any standard integer type. A number that is not from 2 to 36 becomes
- * the radix 0, which is invalid. If it is a constant, it does not compile with gcc and
- * clang (except in C++98), nor with other compilers in C11 and later: the error speaks of
- * an array of a negative size. The radix is evaluated once, except in C before C11 with
+ * the radix 0, which is invalid. An integer constant expression that is not from 2 to 36
+ * is a compile error with gcc and clang (not in C++98), and with other compilers from C11
+ * on. The message is about the size of an array, or about narrowing -1. The radix is evaluated once, except in C before C11 with
  * compilers other than gcc and clang.
  */
 #define LEXICAL_RADIX(radix) { LEXICAL_PRIVATE_RADIX(radix), 0, 0, 0, 0, { 0, 0 } }
 
 /*
  * The standard format, as an initializer and as an object: decimal, with no '+'
- * and no groups. The object is hidden: each program and each shared library has its own
+ * and no groups. The object has hidden ELF visibility: each program and each shared library has its own
  * copy. With compilers other than gcc and clang, each file in C, or in C++ before C++17,
  * has its own copy.
  */
@@ -297,10 +293,10 @@ uint32_t lexical_check_format(const struct lexical_format *format) LEXICAL_NOEXC
  * lexical_buffer_size_T: returns a buffer size that is enough for every number of the
  * type in the format, with its sign and its separators. With a buffer of this size,
  * lexical_write_T never returns 0 for this format. In radix 10 it is the length of the
- * longest text. In other radices it is the constant for the type, such as
- * LEXICAL_BUFFER_SIZE_U32, because lexical_write_T is faster with a buffer of that size.
- * The length of the longest text is lexical_length_u32(UINT32_MAX, format), and for a
- * signed type lexical_length_i32(INT32_MIN, format).
+ * longest text, or at most 2 bytes more for a signed type with groups or a '+'. In other
+ * radices it is the constant for the type, such as LEXICAL_BUFFER_SIZE_U32. The exact
+ * length of the longest text is lexical_length_u32(UINT32_MAX, format), and for a signed
+ * type lexical_length_i32(INT32_MIN, format).
  *
  * The size is from 1 to LEXICAL_BUFFER_SIZE, or 0 if the format is invalid.
  */
@@ -362,7 +358,7 @@ size_t lexical_length_i64(int64_t value,
 /*
  * lexical_write_T: writes a number in a format.
  *
- *     value   the number; for a ptrdiff_t use lexical_write_i64
+ *     value   the number; before C11 use lexical_write_i64 for a ptrdiff_t
  *     format  how the number is written
  *     buffer  where the text begins
  *     size    the size of the buffer in bytes
@@ -403,8 +399,8 @@ size_t lexical_write_i64(int64_t value, const struct lexical_format *format,
 /*
  * lexical_pad: inserts zeros into a text, after its sign, until it has `width` bytes.
  *
- *     count   the length of the text, which another call has returned
- *     width   the length that the text is to have; a longer text stays as it is
+ *     count   the length of the text at `buffer`, or 0 after an error
+ *     width   the minimum length of the text; a longer text stays as it is
  *     buffer  where the text begins
  *     size    the size of the buffer in bytes
  *
@@ -413,13 +409,13 @@ size_t lexical_write_i64(int64_t value, const struct lexical_format *format,
  * 0, the buffer is unchanged. So you can pass the result of another call as `count`, even
  * if it is 0.
  *
- * lexical_pad knows no prefix: it would make 00000xFF of 0xFF. So pad only the digits,
-  * with `buffer + 2` as the buffer and a size that is 2 less, before you add 2 to the count. The zeros are not grouped: 1,234,567 padded to 12 bytes
- * is 0001,234,567.
+ * lexical_pad knows no prefix: it would make 00000xFF of 0xFF. So pad only the digits:
+ * pass `buffer + 2` and `size - 2`, and then add 2 to the count. The zeros are not
+ * grouped: 1,234,567 padded to 12 bytes is 0001,234,567.
  *
- * If `width` is greater than `size`, lexical_pad returns 0 although the text without
- * zeros is in the buffer. If you want that text then, keep its count: lexical_terminate
- * erases the text if you pass the 0.
+ * If `width` is greater than `size`, lexical_pad returns 0, although the text without
+ * zeros is in the buffer. To keep that text, save its length: lexical_terminate erases
+ * the text if you pass the 0 on.
  */
 LEXICAL_HAS((nothrow, warn_unused_result)) LEXICAL_ACCESS((read_write, 3, 4))
 size_t lexical_pad(size_t count, size_t width, char *buffer, size_t size) LEXICAL_NOEXCEPT;
@@ -427,13 +423,13 @@ size_t lexical_pad(size_t count, size_t width, char *buffer, size_t size) LEXICA
 /*
  * lexical_terminate: writes a NUL after a text, which makes it a string.
  *
- *     count   the length of the text, which another call has returned
+ *     count   the length of the text at `buffer`, or 0 after an error
  *     buffer  where the text begins
  *     size    the size of the buffer in bytes, with a byte for the NUL
  *
  * Returns `count`. Returns 0 if `count` is 0, or if the NUL does not fit because `size`
- * is at most `count`. If it returns 0, it has made the buffer an empty string, which
- * erases a text in it. If `size` is 0, nothing is written.
+ * is at most `count`. In that case, unless `size` is 0, the buffer becomes an empty string,
+ * and a text in it is lost.
  */
 LEXICAL_HAS((nothrow)) LEXICAL_ACCESS((write_only, 2, 3))
 size_t lexical_terminate(size_t count, char *buffer, size_t size) LEXICAL_NOEXCEPT;
@@ -449,9 +445,9 @@ size_t lexical_terminate(size_t count, char *buffer, size_t size) LEXICAL_NOEXCE
  * call the function for the type of the value, for example lexical_write_i32 for an int.
  * In C they are macros, which evaluate each argument once. A variable of the type char or
  * bool is refused, and in C++ also one of the type wchar_t, char8_t, char16_t or char32_t:
- * cast it to int if you mean its number. In C the expressions 'x' and a > b have the type
- * int, so they are accepted. So is true before C23. In C11 and later gcc also needs a cast
- * for a bit-field.
+ * cast it to int if you mean its number. In C, 'x' and a > b have the type int, and so has
+ * true before C23; they compile. In C gcc also refuses a bit-field without a cast, unless
+ * it has 8, 16, 32 or 64 bits.
  *
  * In C++ the format may also be passed as an object, and in C++11 and later as
  * an initializer:
@@ -471,18 +467,18 @@ extern "C++" {
     size_t lexical_decimal(type, char *, size_t) = delete;                     \
     size_t lexical_write(type, const struct lexical_format *, char *, size_t) = delete; \
     size_t lexical_length(type, const struct lexical_format *) = delete;
-/* Without these, {} as the format would be a pointer that is NULL. */
+/* These refuse {} as the format, which otherwise would be a null pointer. */
 #define LEXICAL_REFUSED_NULL(type)                                             \
     size_t lexical_write(type, decltype(nullptr), char *, size_t) = delete;    \
     size_t lexical_length(type, decltype(nullptr)) = delete;
 #else
 #define LEXICAL_REFUSED_NULL(type)
 /* A call whose result has an incomplete type does not compile. */
-struct lexical_refused;
+struct lexical_private_refused;
 #define LEXICAL_REFUSED(type)                                                  \
-    lexical_refused lexical_decimal(type, char *, size_t);                     \
-    lexical_refused lexical_write(type, const lexical_format *, char *, size_t); \
-    lexical_refused lexical_length(type, const lexical_format *);
+    lexical_private_refused lexical_decimal(type, char *, size_t);                     \
+    lexical_private_refused lexical_write(type, const lexical_format *, char *, size_t);\
+    lexical_private_refused lexical_length(type, const lexical_format *);
 #endif
 #define LEXICAL_OVERLOAD(name, type)                                           \
     LEXICAL_REFUSED_NULL(type)                                                 \

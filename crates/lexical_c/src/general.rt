@@ -5,6 +5,8 @@ ghost use Rattle.lexical_c.specs.Buffer.{WritesIf, WritesOrRefuses};
 ghost use Rattle.lexical_c.specs.Format.{format_of};
 
 use crate::format::{CFormat, number_format};
+use crate::integer::WideInteger;
+use crate::plain::{format_by_bits, has_only_radix_and_case, write_in_case};
 use lexical_write_integer::buffer::copy_to_front;
 use lexical_write_integer::laws::size_suffices;
 use lexical_write_integer::{BUFFER_SIZE, Options, ToLexicalWithOptions, WriteOptions};
@@ -13,13 +15,14 @@ use lexical_write_integer::{BUFFER_SIZE, Options, ToLexicalWithOptions, WriteOpt
 /// leaves the buffer unchanged if the format is invalid or the text does not fit.
 // It is cold, so that the tests before a call of it are separate branches, each of which is one instruction fewer.
 #[cold]
-pub fn write_if_it_fits<T: ToLexicalWithOptions>(
-    value: T,
-    format: &CFormat,
-    buffer: &mut [u8],
-) -> usize
+pub fn write_if_it_fits<T: WideInteger>(value: T, format: &CFormat, buffer: &mut [u8]) -> usize
     ensures { WritesOrRefuses (T.number value) format.now buffer.old buffer.new result }
 {
+    if has_only_radix_and_case(format) {
+        if let Some(plain) = format_by_bits(value, format.radix, buffer.len()) {
+            return write_in_case(value, &plain, format, buffer);
+        }
+    }
     let count = write_uppercase(value, format, buffer);
     if format.lowercase != 0 {
         buffer[..count].make_ascii_lowercase();

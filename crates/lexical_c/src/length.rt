@@ -7,7 +7,7 @@ use crate::format::{CFormat, number_format};
 use lexical_write_integer::{ToLexical, sign_len};
 
 // Returns the length of the text of the number, or 0 if the format is invalid.
-fn counted_length<T: ToLexical>(value: T, format: &CFormat) -> usize
+fn length_in_format<T: ToLexical>(value: T, format: &CFormat) -> usize
     ensures { IsLength (T.number value) format.now result }
 {
     let Some(format) = number_format(format) else {
@@ -23,7 +23,7 @@ fn counted_length<T: ToLexical>(value: T, format: &CFormat) -> usize
 pub extern "C" fn lexical_length_u8(value: u8, format: &CFormat) -> usize
     ensures { IsLength (pos value) format.now result }
 {
-    counted_length::<u8>(value, format)
+    length_in_format::<u8>(value, format)
 }
 
 /// Returns the length of the text of a `uint16_t` in the format, or 0 if the format is invalid.
@@ -31,7 +31,7 @@ pub extern "C" fn lexical_length_u8(value: u8, format: &CFormat) -> usize
 pub extern "C" fn lexical_length_u16(value: u16, format: &CFormat) -> usize
     ensures { IsLength (pos value) format.now result }
 {
-    counted_length::<u16>(value, format)
+    length_in_format::<u16>(value, format)
 }
 
 /// Returns the length of the text of a `uint32_t` in the format, or 0 if the format is invalid.
@@ -39,7 +39,7 @@ pub extern "C" fn lexical_length_u16(value: u16, format: &CFormat) -> usize
 pub extern "C" fn lexical_length_u32(value: u32, format: &CFormat) -> usize
     ensures { IsLength (pos value) format.now result }
 {
-    counted_length::<u32>(value, format)
+    length_in_format::<u32>(value, format)
 }
 
 /// Returns the length of the text of a `uint64_t` in the format, or 0 if the format is invalid.
@@ -47,7 +47,7 @@ pub extern "C" fn lexical_length_u32(value: u32, format: &CFormat) -> usize
 pub extern "C" fn lexical_length_u64(value: u64, format: &CFormat) -> usize
     ensures { IsLength (pos value) format.now result }
 {
-    counted_length::<u64>(value, format)
+    length_in_format::<u64>(value, format)
 }
 
 /// Returns the length of the text of a `size_t` in the format, or 0 if the format is invalid.
@@ -55,7 +55,7 @@ pub extern "C" fn lexical_length_u64(value: u64, format: &CFormat) -> usize
 pub extern "C" fn lexical_length_size(value: usize, format: &CFormat) -> usize
     ensures { IsLength (pos value) format.now result }
 {
-    counted_length::<u64>(value as u64, format)
+    length_in_format::<u64>(value as u64, format)
 }
 
 /// Returns the length of the text of an `int8_t` in the format, or 0 if the format is invalid.
@@ -63,7 +63,7 @@ pub extern "C" fn lexical_length_size(value: usize, format: &CFormat) -> usize
 pub extern "C" fn lexical_length_i8(value: i8, format: &CFormat) -> usize
     ensures { IsLength value format.now result }
 {
-    counted_length::<i8>(value, format)
+    length_in_format::<i8>(value, format)
 }
 
 /// Returns the length of the text of an `int16_t` in the format, or 0 if the format is invalid.
@@ -71,7 +71,7 @@ pub extern "C" fn lexical_length_i8(value: i8, format: &CFormat) -> usize
 pub extern "C" fn lexical_length_i16(value: i16, format: &CFormat) -> usize
     ensures { IsLength value format.now result }
 {
-    counted_length::<i16>(value, format)
+    length_in_format::<i16>(value, format)
 }
 
 /// Returns the length of the text of an `int32_t` in the format, or 0 if the format is invalid.
@@ -79,7 +79,7 @@ pub extern "C" fn lexical_length_i16(value: i16, format: &CFormat) -> usize
 pub extern "C" fn lexical_length_i32(value: i32, format: &CFormat) -> usize
     ensures { IsLength value format.now result }
 {
-    counted_length::<i32>(value, format)
+    length_in_format::<i32>(value, format)
 }
 
 /// Returns the length of the text of an `int64_t` in the format, or 0 if the format is invalid.
@@ -87,5 +87,5 @@ pub extern "C" fn lexical_length_i32(value: i32, format: &CFormat) -> usize
 pub extern "C" fn lexical_length_i64(value: i64, format: &CFormat) -> usize
     ensures { IsLength value format.now result }
 {
-    counted_length::<i64>(value, format)
+    length_in_format::<i64>(value, format)
 }

@@ -1,19 +1,25 @@
 //! Writes a number in a format without groups and required signs, to a buffer that is long enough for
 //! every number of the type.
 
-ghost use Rattle.std.specs.Prelude.{◌≡◌, ◌*◌, ◌≤◌, ◌↔◌, IsTrue, length, map, false, None, IfSome};
+ghost use Rattle.std.specs.Prelude.{◌≡◌, ◌+◌, ◌*◌, ◌≤◌, ◌≤ℤ◌, ◌↔◌, ℕ, ℤ, IsTrue, length, map, false, None, IfSome};
+ghost use Rattle.std.specs.Prelude.{unsigned_abs};
 ghost use Rattle.std.specs.Int.Bits.{bit_or};
 ghost use Rattle.lexical_num.specs.Format.{IsRadix, standard};
-ghost use Rattle.lexical_num.specs.Size.{size_in};
+ghost use Rattle.lexical_num.specs.Range.{greatest_of, least_of};
+ghost use Rattle.lexical_num.specs.Sign.{sign_of};
 ghost use Rattle.lexical_write_integer.specs.Buffer.{WritesText};
+ghost use Rattle.lexical_write_integer.specs.DigitCount.{digit_count};
 ghost use Rattle.lexical_write_integer.specs.Text.{need};
+ghost use Rattle.lexical_c.specs.Buffer.{WritesOrRefuses};
 ghost use Rattle.lexical_c.specs.Format.{HasOnlyRadixAndCase};
 
 use crate::format::CFormat;
+use crate::integer::WideInteger;
+use lexical_num::LexicalInteger;
+use lexical_num::format::STANDARD;
 use lexical_num::limits::is_radix;
-use lexical_write_integer::{
-    FormattedSize, NumberFormat, NumberFormatBuilder, ToLexical, sign_len,
-};
+use lexical_write_integer::digit_count::fast_log2;
+use lexical_write_integer::{NumberFormat, NumberFormatBuilder, ToLexical, sign_len};
 
 /// Returns whether every field but the radix, the mark and lowercase is 0. No field is tested by itself, so
 /// that one branch is enough.
@@ -27,19 +33,47 @@ pub fn has_only_radix_and_case(format: &CFormat) -> bool
 }
 
 /// Returns the format of this radix without a required sign and groups if the radix is valid and not 10, and a buffer
-/// of `room` bytes is enough for every number of the type. Otherwise returns `None`.
-pub fn fitting_format<T: FormattedSize>(radix: u32, room: usize) -> Option<NumberFormat>
+/// of `room` bytes is enough for every number of the type in each radix. Otherwise returns `None`.
+// The room is tested first: so each test stays a branch of its own, which is one instruction fewer.
+pub fn fitting_format<T: LexicalInteger>(radix: u32, room: usize) -> Option<NumberFormat>
     ensures format { IfSome result (λ plain. plain ≡ record standard { mantissa_radix = radix }) }
     ensures radix { IfSome result (λ plain. IsRadix radix) }
-    ensures room { IfSome result (λ plain.
-        size_in T.FORMATTED_SIZE T.FORMATTED_SIZE_DECIMAL plain ≤ room) }
+    ensures room { IfSome result (λ plain. (x : ℤ) → least_of T.BITS T.IS_SIGNED ≤ℤ x
+        → x ≤ℤ greatest_of T.BITS T.IS_SIGNED → (width : ℕ) → need x width plain ≤ room) }
 {
-    if radix != 10 && is_radix(u64::from(radix)) && T::FORMATTED_SIZE <= room {
-        let builder = NumberFormatBuilder::new().mantissa_radix(radix as u8);
-        Some(builder.build_strict())
+    if T::BITS + usize::from(T::IS_SIGNED) <= room && radix != 10 && is_radix(u64::from(radix)) {
+        Some(format_in(radix))
     } else {
         None
     }
+}
+
+/// Returns the same format if the radix is valid and not 10, and a buffer of `room` bytes is enough for each number that
+/// has the highest bit of this one. Otherwise returns `None`.
+pub fn format_by_bits<T: WideInteger>(value: T, radix: u32, room: usize) -> Option<NumberFormat>
+    ensures format { IfSome result (λ plain. plain ≡ record standard { mantissa_radix = radix }) }
+    ensures radix { IfSome result (λ plain. IsRadix radix) }
+    ensures room { IfSome result (λ plain. (width : ℕ) → need (T.number value) width plain ≤ room) }
+{
+    if radix == 10 || !is_radix(u64::from(radix)) {
+        return None;
+    }
+    let digits = room.saturating_sub(sign_len(value, &STANDARD));
+    // A digit has at least as many bits as the logarithm of the radix, and no number has more than 64.
+    if digits.min(64) * fast_log2(radix) > fast_log2(value.magnitude()) {
+        Some(format_in(radix))
+    } else {
+        None
+    }
+}
+
+// Returns the format of a radix without a required sign and groups.
+fn format_in(radix: u32) -> NumberFormat
+    requires { IsRadix radix }
+    ensures { result ≡ record standard { mantissa_radix = radix } }
+{
+    let builder = NumberFormatBuilder::new().mantissa_radix(radix as u8);
+    builder.build_strict()
 }
 
 // Sets the bit 32 in each byte of a text.
@@ -94,4 +128,26 @@ pub fn write_plain<T: ToLexical>(value: T, format: &NumberFormat, buffer: &mut [
     buffer[0] = b'-';
     let sign = sign_len(value, format);
     sign + value.write_magnitude(format, &mut buffer[sign..])
+}
+
+/// Writes a number in the case that the format requests, as `write_plain` does. The format must have only a radix and a
+/// case, and `plain` is the same without the case.
+pub fn write_in_case<T: WideInteger>(
+    value: T,
+    plain: &NumberFormat,
+    format: &CFormat,
+    buffer: &mut [u8],
+) -> usize
+    requires only { HasOnlyRadixAndCase format.now }
+    requires radix { IsRadix format.now.radix }
+    requires plain { plain.now ≡ record standard { mantissa_radix = format.now.radix } }
+    requires room { need (T.number value) T.DECIMAL_WIDTH plain.now ≤ length buffer.old }
+    ensures { WritesOrRefuses (T.number value) format.now buffer.old buffer.new result }
+{
+    value.in_range();
+    let count = write_plain(value, plain, buffer);
+    if format.lowercase != 0 {
+        set_lowercase_bit(&mut buffer[..count]);
+    }
+    count
 }

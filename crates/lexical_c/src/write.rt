@@ -11,7 +11,6 @@ use crate::general::write_if_it_fits;
 use crate::hexadecimal::write_hexadecimal;
 use crate::integer::CInteger;
 use crate::plain::{fitting_format, has_only_radix_and_case, set_lowercase_bit, write_plain};
-use lexical_write_integer::laws::size_suffices;
 
 // Writes a number to the buffer, and returns the text's length, or 0 if the format is invalid or it does not fit.
 fn write<T: CInteger>(value: T, format: &CFormat, buffer: &mut [u8]) -> usize
@@ -64,10 +63,7 @@ fn write_in_radix<T: CInteger>(value: T, format: &CFormat, buffer: &mut [u8]) ->
 {
     value.in_range();
     match fitting_format::<T>(format.radix, buffer.len()) {
-        Some(plain) => {
-            size_suffices(value, &plain);
-            write_plain(value, &plain, buffer)
-        }
+        Some(plain) => write_plain(value, &plain, buffer),
         None => write_if_it_fits(value.widen(), format, buffer),
     }
 }
@@ -81,7 +77,6 @@ fn write_in_lowercase<T: CInteger>(value: T, format: &CFormat, buffer: &mut [u8]
     value.in_range();
     match fitting_format::<T>(format.radix, buffer.len()) {
         Some(plain) => {
-            size_suffices(value, &plain);
             let count = write_plain(value, &plain, buffer);
             set_lowercase_bit(&mut buffer[..count]);
             count

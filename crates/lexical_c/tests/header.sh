@@ -106,7 +106,7 @@ check_standard() {
 compiles_examples() {
   { printf '#include <lexical.h>\n#include <string.h>\nint main(void)\n{\n'
     sed -n '/^ [*][/]$/q; s/^ [*]     /    /p' "$crate/include/lexical.h"
-    printf 'return count != 6 || memcmp(buffer, "0xBEEF", 6) || strcmp(text, "-42");\n}\n'; } > "$work/top.c"
+    printf 'return count != 6 || memcmp(prefixed, "0xBEEF", 6) || strcmp(text, "-42");\n}\n'; } > "$work/top.c"
   runs_with "$CC" -std=c11 "$work/top.c"
 }
 

@@ -33,6 +33,15 @@ uninstalls() {
     make_c prefix="$prefix" libdir="$folder" uninstall && prints "$(cat "$work/others")" find "$prefix" ! -type d
 }
 
+# Whether the header and the manual can be outside prefix, where pkg-config finds the header, and are then uninstalled.
+honours_folders() {
+  other=$work/other
+  set -- prefix="$work/split" includedir="$other/include" mandir="$other/man"
+  make_c "$@" install && prints '' find "$work/split" -name '*.h' -o -name '*.3' && ls "$other/man/man3/lexical_pad.3" &&
+    $CC -fsyntax-only $(PKG_CONFIG_PATH="$work/split/lib/pkgconfig" pkg-config --cflags lexical_c) \
+      "$crate/examples/first.c" && make_c "$@" uninstall && prints '' find "$work/split" "$other" ! -type d
+}
+
 # Whether man finds the page by the name of each function, and shows it in 80 columns without a warning.
 shows_manual() {
   for name in $wanted; do man -M "$prefix/share/man" -w "$name" || return; done
@@ -182,6 +191,7 @@ check_installation() {
     expect_with 'go pkg-config' 'the Go example' runs_go
   fi
   expect 'make uninstall' uninstalls
+  expect_with pkg-config 'includedir and mandir' honours_folders
   expect 'make check' prints 'the archive and the shared library have passed' make_c check
   [ "$builder$is_quick$TARGET" = rustc ] || return
   expect_with 'dh dpkg-buildpackage lintian' 'the Debian packages' makes_packages deb

@@ -3,6 +3,8 @@
 //! Writes a number whose text may not fit, or whose format may have groups, a required sign or lowercase.
 
 use crate::format::{CFormat, number_format};
+use crate::integer::WideInteger;
+use crate::plain::{format_by_bits, has_only_radix_and_case, write_in_case};
 use cojimuran::buffer::copy_to_front;
 use cojimuran::{BUFFER_SIZE, Options, ToLexicalWithOptions, WriteOptions};
 
@@ -11,11 +13,12 @@ use cojimuran::{BUFFER_SIZE, Options, ToLexicalWithOptions, WriteOptions};
 // It is cold, so that the tests before a call of it are separate branches, each of which is one instruction fewer.
 #[cold]
 #[inline]
-pub fn write_if_it_fits<T: ToLexicalWithOptions>(
-    value: T,
-    format: &CFormat,
-    buffer: &mut [u8],
-) -> usize {
+pub fn write_if_it_fits<T: WideInteger>(value: T, format: &CFormat, buffer: &mut [u8]) -> usize {
+    if has_only_radix_and_case(format) {
+        if let Some(plain) = format_by_bits(value, format.radix, buffer.len()) {
+            return write_in_case(value, &plain, format, buffer);
+        }
+    }
     let count = write_uppercase(value, format, buffer);
     if format.lowercase != 0 {
         buffer[..count].make_ascii_lowercase();

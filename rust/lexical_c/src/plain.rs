@@ -4,8 +4,12 @@
 //! every number of the type.
 
 use crate::format::CFormat;
+use crate::integer::WideInteger;
+use cojimuran::LexicalInteger;
+use cojimuran::digit_count::fast_log2;
+use cojimuran::format::STANDARD;
 use cojimuran::format::is_radix;
-use cojimuran::{FormattedSize, NumberFormat, NumberFormatBuilder, ToLexical, sign_len};
+use cojimuran::{NumberFormat, NumberFormatBuilder, ToLexical, sign_len};
 
 /// Returns whether every field but the radix, the mark and lowercase is 0. No field is tested by itself, so
 /// that one branch is enough.
@@ -18,15 +22,38 @@ pub fn has_only_radix_and_case(format: &CFormat) -> bool {
 }
 
 /// Returns the format of this radix without a required sign and groups if the radix is valid and not 10, and a buffer
-/// of `room` bytes is enough for every number of the type. Otherwise returns `None`.
+/// of `room` bytes is enough for every number of the type in each radix. Otherwise returns `None`.
+// The room is tested first: so each test stays a branch of its own, which is one instruction fewer.
 #[inline(always)]
-pub fn fitting_format<T: FormattedSize>(radix: u32, room: usize) -> Option<NumberFormat> {
-    if radix != 10 && is_radix(u64::from(radix)) && T::FORMATTED_SIZE <= room {
-        let builder = NumberFormatBuilder::new().mantissa_radix(radix as u8);
-        Some(builder.build_strict())
+pub fn fitting_format<T: LexicalInteger>(radix: u32, room: usize) -> Option<NumberFormat> {
+    if T::BITS + usize::from(T::IS_SIGNED) <= room && radix != 10 && is_radix(u64::from(radix)) {
+        Some(format_in(radix))
     } else {
         None
     }
+}
+
+/// Returns the same format if the radix is valid and not 10, and a buffer of `room` bytes is enough for each number that
+/// has the highest bit of this one. Otherwise returns `None`.
+#[inline(always)]
+pub fn format_by_bits<T: WideInteger>(value: T, radix: u32, room: usize) -> Option<NumberFormat> {
+    if radix == 10 || !is_radix(u64::from(radix)) {
+        return None;
+    }
+    let digits = room.saturating_sub(sign_len(value, &STANDARD));
+    // A digit has at least as many bits as the logarithm of the radix, and no number has more than 64.
+    if digits.min(64) * fast_log2(radix) > fast_log2(value.magnitude()) {
+        Some(format_in(radix))
+    } else {
+        None
+    }
+}
+
+// Returns the format of a radix without a required sign and groups.
+#[inline(always)]
+fn format_in(radix: u32) -> NumberFormat {
+    let builder = NumberFormatBuilder::new().mantissa_radix(radix as u8);
+    builder.build_strict()
 }
 
 // Sets the bit 32 in each byte of a text.
@@ -71,4 +98,20 @@ pub fn write_plain<T: ToLexical>(value: T, format: &NumberFormat, buffer: &mut [
     buffer[0] = b'-';
     let sign = sign_len(value, format);
     sign + value.write_magnitude(format, &mut buffer[sign..])
+}
+
+/// Writes a number in the case that the format requests, as `write_plain` does. The format must have only a radix and a
+/// case, and `plain` is the same without the case.
+#[inline(always)]
+pub fn write_in_case<T: WideInteger>(
+    value: T,
+    plain: &NumberFormat,
+    format: &CFormat,
+    buffer: &mut [u8],
+) -> usize {
+    let count = write_plain(value, plain, buffer);
+    if format.lowercase != 0 {
+        set_lowercase_bit(&mut buffer[..count]);
+    }
+    count
 }

@@ -6,8 +6,8 @@ use Rattle.lexical_write_integer.proofs.OfDigits.Count.DigitCounts.{digit_count-
 use Rattle.lexical_num.proofs.Magnitudes.{magnitude-small}
 use Rattle.lexical_write_integer.proofs.OfTexts.SizeBounds.{grouped_length-le, sign-le_one}
 use Rattle.lexical_c.proofs.TextLengths.{length-text_of}
-use Rattle.lexical_c.proofs.length.counted_length.Goals as goal
-use Rattle.lexical_c.proofs.length.counted_length.Goals.{After-sign_len}
+use Rattle.lexical_c.proofs.length.length_in_format.Goals as goal
+use Rattle.lexical_c.proofs.length.length_in_format.Goals.{After-sign_len}
 
 few : (g : _) (c : After-sign_len g) → c.magnitude_digits-digits.result ≤ 64
 few g c = grind (arith, digit_count-le_bits)
@@ -27,7 +27,8 @@ pub returns : goal.returns
 returns g c =
     let accepted = c.in-Some.ensures.valid.0 refl in
     let number = g.T.LexicalInteger.number c.args.value in
-    let small = magnitude-small _ g.met.T.LexicalInteger.bit_width number c.in_range.ensures.at_least c.in_range.ensures.at_most in
+    let small = magnitude-small _ g.met.T.LexicalInteger.bit_width number c.in_range.ensures.at_least
+    c.in_range.ensures.at_most in
     let text = length-text_of number (format_of c.args.format.now) accepted.valid small in
     let digits = digit_count-pos c.in-Some.format.mantissa_radix (unsigned_abs number) in
     let count = rw c.mantissa_radix.ensures.value at c.magnitude_digits-digits.ensures in
@@ -35,5 +36,10 @@ returns g c =
     let some = grouped_length-pos c.in-Some.format.digit_grouping _ digits in
     record {
       accepts = (λ _. accepted, λ _. omega (arith, groups, some));
-      count = λ _. omega (arith, text, rw c.in-Some.ensures.format at groups, rw c.in-Some.ensures.format at c.sign_len.ensures);
+      count = λ _. omega (
+        arith,
+        text,
+        rw c.in-Some.ensures.format at groups,
+        rw c.in-Some.ensures.format at c.sign_len.ensures,
+      );
     }
