@@ -1,6 +1,6 @@
 //! Each part, of values that a test chooses.
 
-use cojimuran::NumberFormat;
+use cojimuran::{NumberFormat, NumberFormatBuilder};
 
 /// What the parts of the table are made of.
 #[derive(Clone, Copy)]
@@ -12,6 +12,12 @@ pub struct Values<'a> {
     pub bytes: &'a [u8],
     pub groups: &'a NumberFormat,
 }
+
+const THOUSANDS: NumberFormat = NumberFormatBuilder::new().digit_grouping(3, b',').build_strict();
+
+/// With these values most parts have their longest texts.
+pub const LONGEST: Values =
+    Values { bits: u64::MAX, few: 1, width: 4, fill: b'.', bytes: &[1, 126], groups: &THOUSANDS };
 
 /// Calls a macro with the name of the `Values`, and for each part with the part of these values, and then its longest
 /// room and the text that fills it, if the values are `LONGEST` with the fields that follow.

@@ -1,11 +1,14 @@
 //! What the package has by hand: the ends of a `Vec` and of a `String`, values with `Display`, and owned strings.
 
-use cojimuran::parts::{Bytes, Joined, Padded, Part, Show, Shown};
-use cojimuran::{Append, Displayed};
+use cojimuran::{Append, Bytes, Displayed, Joined, Left, Padded, Part, Show, Shown};
 use std::borrow::Cow;
 use std::fmt;
 use std::net::Ipv4Addr;
+#[cfg(target_pointer_width = "64")]
+use std::os::unix::process::ExitStatusExt;
 use std::panic::{AssertUnwindSafe, catch_unwind};
+#[cfg(target_pointer_width = "64")]
+use std::process::Command;
 
 #[test]
 fn ends_of_strings_and_vectors() {
@@ -22,6 +25,22 @@ fn ends_of_strings_and_vectors() {
             Joined(&numbers, ",").append_to(&mut bytes);
             assert_eq!(bytes, expected.as_bytes());
         }
+    }
+}
+
+/// A child process runs this test again with the name of a variable, since the process that runs out of memory aborts.
+/// With pointers of 32 bits a machine may have the memory for every vector.
+#[cfg(target_pointer_width = "64")]
+#[test]
+fn a_vector_without_memory_aborts() {
+    const NAME: &str = "APPEND_WITHOUT_MEMORY";
+    if std::env::var_os(NAME).is_some() {
+        Left("", 1 << 62, b' ').append_to(&mut Vec::new());
+    } else {
+        let mut child = Command::new(std::env::current_exe().unwrap());
+        let ran = child.args(["--exact", "a_vector_without_memory_aborts"]).env(NAME, "1").output().unwrap();
+        assert_eq!(ran.status.signal(), Some(6), "{ran:?}");
+        assert!(String::from_utf8(ran.stderr).unwrap().contains("memory allocation of"));
     }
 }
 
@@ -55,6 +74,7 @@ fn values_with_display() {
     assert_eq!((line.text_len(), line.room()), (Some(22), 25));
     assert_eq!(format!("{:>30}", Shown(line)), format!("{text:>30}"));
     assert_eq!(Displayed("text").to_text(&mut [0; 4]), b"text");
+    assert_eq!(format!("{:>6.1}", Displayed(&-1.25)), "  -1.2");
     assert_eq!(Displayed(&format_args!("{:.3}", 0.25)).to_text(&mut [0; 9]), b"0.250");
     let mut exact = [b'?'; 23];
     assert_eq!(line.try_write_to(&mut exact[..21]), None);

@@ -1,8 +1,10 @@
-//! Parts in format strings, against what the standard library writes of its own integers: for the
-//! longest texts and some others, in each width up to three more than the text.
+//! Parts in format strings: numbers against what the standard library writes of its own integers, for the longest texts
+//! and some others, in each width up to three more than the text, and then each part by itself and by `Shown`.
 
-use cojimuran::parts::*;
+use cojimuran::*;
 use cojimuran::{NumberFormat, NumberFormatBuilder};
+use repository_tests::each_part;
+use repository_tests::parts::{LONGEST, Values};
 use std::fmt::{Display, Write};
 
 /// Compares a part with an integer, with the same options. The second one may have more of them.
@@ -382,4 +384,38 @@ fn parts_that_are_not_shown() {
 #[should_panic]
 fn twenty_decimals() {
     drop(Fixed(7u8, 20).to_string());
+}
+
+/// A part in a format string. If it has no `Display`, the method of a reference is found, which shows nothing.
+struct InFormat<P>(P);
+
+trait InFormats {
+    fn texts(&self) -> [String; 2];
+}
+
+impl<P: Display> InFormats for InFormat<P> {
+    fn texts(&self) -> [String; 2] {
+        [self.0.to_string(), format!("{:*^99}", self.0)]
+    }
+}
+
+impl<P: Show> InFormats for &InFormat<P> {
+    fn texts(&self) -> [String; 2] {
+        InFormat(Shown(self.0)).texts()
+    }
+}
+
+macro_rules! check_in_formats {
+    ($v:ident; $($part:expr => $room:expr, $text:expr $(, $field:ident = $value:expr)*;)+) => { $(
+        let $v = Values { $($field: $value,)* ..LONGEST };
+        _ = $v;
+        let expected = [$text.to_owned(), format!("{:*^99}", $text)];
+        assert_eq!((&InFormat($part)).texts(), expected, "{{}} of {}", stringify!($part));
+        assert_eq!(InFormat(Shown($part)).texts(), expected, "{{}} of a Shown({})", stringify!($part));
+    )+ };
+}
+
+#[test]
+fn parts_in_format_strings() {
+    each_part!(check_in_formats);
 }

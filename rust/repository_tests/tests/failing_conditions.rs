@@ -8,15 +8,12 @@ use cojimuran::decimal::Decimal as _;
 use cojimuran::digit_count::DigitCount;
 use cojimuran::format::STANDARD;
 use cojimuran::padded::write_padded;
-use cojimuran::parts::{
-    Byte, Bytes, Decimal, Digits, Fixed, Joined, Left, Padded, PaddedDigits, Part, Show, TrimmedFixed, write_field,
-    write_with_length,
-};
 use cojimuran::radix::{Radix, digit_to_char};
 use cojimuran::write::WriteInteger;
 use cojimuran::{
-    Append, NumberFormatBuilder, Options, ToLexical, ToLexicalWithOptions, UnsignedInteger, group_digits, jeaiii,
-    table, write_sign,
+    Append, Byte, Bytes, Decimal, Digits, Fixed, Joined, Left, NumberFormatBuilder, Options, Padded, PaddedDigits,
+    Part, Show, ToLexical, ToLexicalWithOptions, TrimmedFixed, UnsignedInteger, group_digits, jeaiii, table,
+    write_field, write_sign, write_with_length,
 };
 use lexwrite::lines::join;
 use std::panic::{AssertUnwindSafe, catch_unwind};
@@ -77,7 +74,7 @@ fn check_short(text: &[u8], call: impl Fn(&mut [u8]) -> usize) {
     assert_eq!((call(&mut buffer), &buffer[..text.len()]), (text.len(), text));
 }
 
-/// The end of the documentation of a function, `FUNCTION: WHEN`, for a call that panics then.
+/// A condition as documentation states it after `# Panics`, and a call that panics because it holds.
 type Panicking = (&'static str, &'static str);
 
 /// Checks several calls whose text is the same, and adds them.
@@ -103,7 +100,8 @@ fn short_buffers_of_each_function(called: &mut Vec<Panicking>) {
         b"255" => |b| 255u8.decimal(b), |b| jeaiii::from_u8(255, b), |b| 255u8.write_lexical(b);
         b"65535" => |b| 65535u16.decimal(b), |b| jeaiii::from_u16(65535, b), |b| 65535u16.write_text(b, &STANDARD);
         b"4294967295" => |b| u32::MAX.decimal(b), |b| jeaiii::from_u32(u32::MAX, b), |b| u32::MAX.write_integer(10, b);
-        digits => |b| u64::MAX.decimal(b), |b| jeaiii::from_u64(u64::MAX, b), |b| u64::MAX.write_magnitude(&STANDARD, b),
+        digits => |b| u64::MAX.decimal(b), |b| jeaiii::from_u64(u64::MAX, b),
+            |b| u64::MAX.write_magnitude(&STANDARD, b),
             |b| u64::MAX.write_mantissa(&STANDARD, b), |b| u64::MAX.write_exponent(&STANDARD, b),
             |b| Decimal(u64::MAX).write_to(b), |b| Decimal(u64::MAX).to_str(b).len(),
             |b| u64::MAX.to_lexical(b).len();
@@ -142,13 +140,20 @@ fn documented() -> Vec<(String, String)> {
                     continue;
                 }
                 let comment = after.lines().map_while(|line| line.trim_start().strip_prefix("///")).collect::<String>();
-                let sentence = comment.split('.').next().unwrap().replace("[too short](crate#conditions)", "too short");
+                let sentence =
+                    comment.split('.').next().unwrap().replace("[too short](crate::conditions)", "too short");
                 let conditions = sentence.trim().strip_prefix("If ").unwrap().split(", or if ");
                 found.extend(conditions.map(|condition| (name.to_owned(), condition.to_owned())));
             }
         }
     }
     found
+}
+
+/// Returns whether an expression calls a function of this name.
+fn calls(expression: &str, name: &str) -> bool {
+    let is_in_name = |c: char| c.is_alphanumeric() || c == '_';
+    expression.match_indices(&format!("{name}(")).any(|(at, _)| !expression[..at].ends_with(is_in_name))
 }
 
 #[test]
@@ -158,7 +163,7 @@ fn each_call_panics_as_its_documentation_says() {
         short_buffers_of_each_function(&mut called);
         messages(&mut called);
         for (name, condition) in &documented {
-            let is_of = |(when, call): &Panicking| when == condition && call.contains(&format!("{name}("));
+            let is_of = |(when, call): &Panicking| when == condition && calls(call, name);
             assert!(called.iter().any(is_of), "no call of {name} panics here if {condition}");
         }
         assert!(documented.len() > 60, "{}", documented.len());
@@ -223,7 +228,8 @@ fn messages(called: &mut Vec<Panicking>) {
         "the radix is not from 2 to 36", "the radix is not from 2 to 36": NumberFormatBuilder::from_radix(37),
             NumberFormatBuilder::from_radix(1), 255u8.digit_count(u32::MAX), 255u8.slow_digit_count(1),
             u64::MAX.digit_count(0), table(37), table(1), table::get_table(37), 7i8.magnitude_digits(1),
-            7u64.magnitude_digits(37), write_padded(0u8, 37, &mut []), write_with_length("a", 37, 1, 0, buffer), 7u32.write_integer_signed(37, buffer);
+            7u64.magnitude_digits(37), write_padded(0u8, 37, &mut []), write_with_length("a", 37, 1, 0, buffer),
+            7u32.write_integer_signed(37, buffer);
         "the radix is not from 2 to 36", "radix": 7u32.write_integer(0, buffer), 7u8.radix(1, buffer),
             7u64.compact(37, buffer), 7u16.write_integer(255, buffer), 7u64.radix(u32::MAX, buffer),
             Digits(1, 7u8).write_to(buffer), Digits(37, 7u8).room(), algorithm(7u8, 37, table(36), buffer);
@@ -246,20 +252,25 @@ fn messages(called: &mut Vec<Panicking>) {
             write_field(Padded(12u8, 1), 0, 1, buffer),
             (1u8, Padded(10u8, 1)).append_to(&mut Vec::new());
         "more than `isize::MAX` bytes would be reserved", "capacity overflow":
-            Left("", usize::MAX, b' ').append_to(&mut vec![1]), Left("", usize::MAX, b' ').append_to(&mut String::new());
-        "the text for a `String` is not UTF-8", "Utf8Error": not_utf8.append_to(&mut String::new());
+            Left("", usize::MAX, b' ').append_to(&mut vec![1]),
+            Left("", usize::MAX, b' ').append_to(&mut String::new());
+        "the text for a `String` is not UTF-8", "the text is not UTF-8": not_utf8.append_to(&mut String::new());
         "the text does not have `count` bytes", "the text does not have `count` bytes": write_field("ab", 0, 3, buffer);
-        "the text of the part is not UTF-8", "Utf8Error": not_utf8.to_str(buffer), not_utf8.try_to_str(buffer),
+        "the text of the part is not UTF-8", "the text is not UTF-8": not_utf8.to_str(buffer),
+            not_utf8.try_to_str(buffer),
             Byte(200).write_pieces(&mut String::new());
-        "the length and `extra` together are above `usize::MAX`", "the length and `extra` together are above usize::MAX":
+        "the length and `extra` together are above `usize::MAX`",
+            "the length and `extra` together are above usize::MAX":
             write_with_length("ab", 10, 20, usize::MAX - 1, buffer);
-        "the buffer is too short", "out of range": "ab".write_at(129, buffer), write_with_length("ab", 10, 129, 0, buffer);
+        "the buffer is too short", "out of range": "ab".write_at(129, buffer),
+            write_with_length("ab", 10, 129, 0, buffer);
         "the length has more digits than `width`", "the number has more digits than the width":
             write_with_length("0123456789", 10, 1, 0, buffer);
         "the number has more digits than the buffer has bytes", "the number has more digits than the width":
             write_padded(10u8, 10, &mut buffer[..1]), write_padded(1u8, 16, &mut []);
         "the table does not begin with the digit pairs of the radix",
-            "the table does not begin with the digit pairs of the radix": algorithm(7u32, 16, &table(16)[..511], buffer),
+            "the table does not begin with the digit pairs of the radix":
+            algorithm(7u32, 16, &table(16)[..511], buffer),
             algorithm(7u32, 12, table(13), buffer), algorithm(7u32, 13, table(12), buffer),
             algorithm(7u32, 2, table(36), buffer);
         "the number is 10^19 or above", "the number is 10^19 or above": u64::MAX.decimal_signed(buffer),
@@ -276,7 +287,8 @@ fn messages(called: &mut Vec<Panicking>) {
         "the number is not in this range", "n >= 1_000_000_000": jeaiii::fixed_8_ten(999_999_999),
             jeaiii::fixed_8_wide(999_999_999);
         "the number is not in this range", "n < 10_000_000_000": jeaiii::fixed_8_wide(10_000_000_000);
-        "the type does not have the number", "the type does not have the number": <u8 as UnsignedInteger>::from_u32(256),
+        "the type does not have the number", "the type does not have the number":
+            <u8 as UnsignedInteger>::from_u32(256),
             <u16 as UnsignedInteger>::from_u32(65_536);
         "the digits are grouped and the count is above `isize::MAX`", "the count is above isize::MAX":
             builder.digit_grouping(1, b',').build_strict().grouped_len(usize::MAX / 2 + 1);

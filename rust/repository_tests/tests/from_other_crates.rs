@@ -4,10 +4,9 @@
 #[path = "../../cojimuran/examples/number_of_128_bits.rs"]
 mod number_of_128_bits;
 
-use cojimuran::parts::{Digits, Fixed, Hex, Lower, Padded, Part, Right, Show, Shown, ZeroPadded};
 use cojimuran::{
-    Append, BUFFER_SIZE, Buffer, Displayed, FormattedSize, NumberFormat, NumberFormatBuilder, Options, ToLexical,
-    ToLexicalWithOptions,
+    BUFFER_SIZE, Buffer, Digits, Displayed, Fixed, FormattedSize, Hex, Lower, NumberFormat, NumberFormatBuilder,
+    Options, Padded, Part, Right, Show, Shown, ToLexical, ToLexicalWithOptions, ZeroPadded,
 };
 use number_of_128_bits::{format_i128, format_u128};
 use std::io::Write;
@@ -64,7 +63,7 @@ fn text_of(value: impl ToLexical) -> String {
 fn from_format() {
     let (number, a, b, cents, float) = (7u32, -1i64, 2i64, 1995u64, 0.5);
     let (mut text, mut buffer) = (String::new(), [0; 64]);
-    (a, ",", b, "\n").append_to(&mut text);
+    (a, ",", b, "\n").write_pieces(&mut text).unwrap();
     (Displayed(&format_args!("{float:.2}")), ",", b, "\n").write_pieces(&mut text).unwrap();
     assert_eq!(text, format!("{a},{b}\n{float:.2},{b}\n"));
     assert_eq!(Padded(number, 6).to_str(&mut buffer), format!("{number:06}"));
@@ -108,6 +107,8 @@ fn from_itoa() {
     output.extend_from_slice(number.to_lexical(&mut buffer));
     text.push_str((a, ",", b, "\n").to_str(&mut buffer));
     assert_eq!((output, text), (b"7".to_vec(), "-1,2\n".to_owned()));
+    let number = u128::MAX;
+    assert_eq!(Displayed(&number).to_str(&mut buffer), number.to_string());
 }
 
 #[test]

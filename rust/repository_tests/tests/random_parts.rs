@@ -1,7 +1,8 @@
-//! Random parts, nested three deep: `text_len` is the length of what is written, a buffer of that length is long enough,
-//! one that is a byte shorter stays as it is, and `{}` writes the same text. `RANDOM_PARTS=10000000` tries so many.
+//! Random parts, nested three deep: `text_len` is the length of what is written, a buffer of that length is long
+//! enough, one that is a byte shorter stays as it is, and `{}` writes the same text. `RANDOM_PARTS=10000000` tries so
+//! many.
 
-use cojimuran::parts::*;
+use cojimuran::*;
 use cojimuran::{NumberFormat, NumberFormatBuilder};
 use std::thread;
 

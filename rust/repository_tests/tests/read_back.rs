@@ -1,8 +1,10 @@
 //! The standard library reads back what is written: random numbers of each type and radix, and the smallest and the
 //! largest, with and without a required sign, in lowercase and with leading zeros.
 
-use cojimuran::parts::{Digits, Formatted, Lower, PaddedDigits, Part, ZeroPadded};
-use cojimuran::{BUFFER_SIZE, NumberFormatBuilder, Options, ToLexical, ToLexicalWithOptions};
+use cojimuran::{
+    BUFFER_SIZE, Digits, Formatted, Lower, NumberFormatBuilder, Options, PaddedDigits, Part, ToLexical,
+    ToLexicalWithOptions, ZeroPadded,
+};
 use std::str::from_utf8;
 
 /// A generator of random numbers, by multiplication and addition modulo 2^64.

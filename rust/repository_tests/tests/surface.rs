@@ -1,4 +1,5 @@
-//! The names of the package, and the traits of its types: a caller that takes one does not compile without it.
+//! The names of the package, and the traits of its types: a caller that takes one does not compile without it. Each
+//! part is in the table of parts that other tests use.
 
 #![allow(unused_imports, reason = "what is not there is an error")]
 
@@ -9,13 +10,14 @@ use cojimuran::jeaiii::{
     fixed_2, fixed_4, fixed_6, fixed_8_nine, fixed_8_ten, fixed_8_wide, from_i64, from_u8, from_u16, from_u32,
     from_u64, next2,
 };
-use cojimuran::parts::{Part, write_field, write_with_length};
+use cojimuran::parts::{Digits as _, Hex as _, Shown as _};
 use cojimuran::table::{DIGIT_TO_BASE2_SQUARED, DIGIT_TO_BASE36_SQUARED, get_table};
 use cojimuran::{
     BUFFER_SIZE, Buffer, Error, FormattedSize, LexicalInteger, NumberFormat, NumberFormatBuilder, Options,
-    OptionsBuilder, Result, ToLexical, ToLexicalWithOptions, UnsignedInteger, WriteOptions, algorithm::algorithm,
+    OptionsBuilder, Part, Result, ToLexical, ToLexicalWithOptions, UnsignedInteger, WriteOptions, algorithm::algorithm,
     compact::Compact, format::STANDARD, format::is_group_size, format::is_mark, format::is_radix, group_digits,
-    options, padded::write_padded, radix::Radix, radix::digit_to_char, sign_len, write::WriteInteger, write_sign,
+    options, padded::write_padded, radix::Radix, radix::digit_to_char, sign_len, write::WriteInteger, write_field,
+    write_sign, write_with_length,
 };
 use lexwrite::lines::{
     Answerer, BlockSink, BlockSource, BlockWriter, ByteSink, ByteSource, Reading, SliceSink, SliceSource, Writing,
@@ -72,4 +74,22 @@ fn devices() {
 fn the_package_needs_no_std() {
     let root = include_str!("../../cojimuran/src/lib.rs");
     assert!(root.contains("\n#![no_std]\n") && root.contains("\n#![deny(unsafe_code)]\n"));
+}
+
+/// Each part has its row in the table, and each file with an export a mistake.
+#[test]
+fn each_part_has_a_row() {
+    let (tuples, table) = (include_str!("rooms.rs"), include_str!("../src/parts.rs"));
+    let mistakes = include_str!("../../../crates/lexical_parts/mistakes/bodies.edit");
+    let exports = include_str!("../../cojimuran/src/parts.rs").lines().filter_map(|line| line.strip_prefix("pub use "));
+    let exports: Vec<(&str, &str)> = exports.filter_map(|path| path.rsplit_once("::")).collect();
+    let names = exports.iter().flat_map(|(_, names)| names.split(|c: char| !c.is_alphanumeric()));
+    let parts: Vec<&str> = names.filter(|name| name.starts_with(char::is_uppercase)).collect();
+    let has_row =
+        |name: &str| ["Part", "Buffer", "Show", "Shown"].contains(&name) || table.contains(&format!("{name}("));
+    let missing = parts.iter().copied().filter(|name| !has_row(name));
+    let has_mistake = |module: &str| mistakes.contains(&format!("file: src/{}.rt", module.replace("::", "/")));
+    let missing = missing.chain(exports.iter().map(|(module, _)| *module).filter(|module| !has_mistake(module)));
+    assert_eq!(missing.collect::<Vec<_>>(), Vec::<&str>::new());
+    assert!(parts.len() > 20 && (2..=12).all(|count| tuples.contains(&format!(") => {count}, \""))));
 }

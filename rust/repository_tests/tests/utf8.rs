@@ -1,7 +1,7 @@
 //! Each `&str` of a part is UTF-8, whatever the part and the buffer. Parts of the package are not checked by std where
 //! their values show it; those of a caller are.
 
-use cojimuran::parts::*;
+use cojimuran::*;
 use cojimuran::{Buffer, NumberFormatBuilder};
 use repository_tests::each_part;
 use repository_tests::parts::Values;
