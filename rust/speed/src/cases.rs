@@ -1,7 +1,6 @@
 //! What is written, and where to: each loop is a function of its own, so neither it nor the call in it is shared.
 
-use cojimuran::parts::{Hex, Part};
-use cojimuran::{NumberFormat, NumberFormatBuilder, Options, ToLexical, ToLexicalWithOptions};
+use cojimuran::{Hex, NumberFormat, NumberFormatBuilder, Options, Part, ToLexical, ToLexicalWithOptions};
 use std::hint::black_box;
 use std::io::Write;
 

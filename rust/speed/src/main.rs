@@ -11,7 +11,7 @@ use std::process::{Command, ExitCode};
 use std::time::Instant;
 
 /// How many numbers a pass writes.
-const COUNT: usize = 2048;
+const COUNT: usize = 10_000;
 
 /// The numbers of a pass: small, of any length in bits, and of any value.
 const DISTRIBUTIONS: [&str; 3] = ["below 1000", "of 1 to 64 bits", "of 64 bits"];

@@ -1,10 +1,11 @@
 //! Counts the instructions of a number with valgrind, beside other crates: `cargo run --release`. With `-- --times` it
 //! measures nanoseconds instead. With `-- --by-digits` it counts decimal and radix 36 by the number of digits, as
-//! `docs/figures/draw` takes it. With the feature `format_into` it also has that method of std, which is not stable yet.
+//! `docs/figures/draw` takes it. With the feature `format_into` it also has that method of std, which is not stable
+//! yet.
 
 #![cfg_attr(feature = "format_into", feature(int_format_into))]
 
-use cojimuran::parts::{Decimal, Digits, Hex, Joined, Part, Show, Shown};
+use cojimuran::{Decimal, Digits, Displayed, Hex, Joined, Lower, Part, Show, Shown};
 use cojimuran::{Append, Buffer, NumberFormat, NumberFormatBuilder, Options, ToLexical, ToLexicalWithOptions};
 use lexical_write_integer as lexical;
 use std::fmt::Write as _;
@@ -12,6 +13,10 @@ use std::hint::black_box;
 use std::io::Write as _;
 use std::process::Command;
 use std::time::Instant;
+
+#[allow(dead_code, reason = "it is a program")]
+#[path = "../../../cojimuran/examples/number_of_128_bits.rs"]
+mod example;
 
 /// How many numbers are written.
 const COUNT: usize = 10_000;
@@ -113,7 +118,8 @@ macro_rules! append {
     }};
 }
 
-/// Returns a loop over groups of numbers, each of which is written to a `String`, which is empty again after some bytes.
+/// Returns a loop over groups of numbers, each of which is written to a `String`, which is empty again after some
+/// bytes.
 macro_rules! lines {
     ($count:literal, |$numbers:ident, $text:ident| $call:expr) => {{
         #[inline(never)]
@@ -139,10 +145,23 @@ fn line(number: u64) -> impl Show {
     ("id=", number, " flags=0x", Hex(number as u16))
 }
 
+/// Returns a number of 65 to 128 bits.
+fn with_128_bits(number: u64) -> u128 {
+    u128::from(number) << 64 | u128::from(number)
+}
+
 /// Returns a line of CSV.
 fn csv(numbers: &[u64; 4]) -> impl Show {
     let [first, second, third, fourth] = *numbers;
     (first, ",", second, ",", third, ",", fourth, "\n")
+}
+
+/// Appends numbers, each followed by a comma, with a `Buffer`.
+fn join_by_buffer(numbers: &[u64], text: &mut String) {
+    for number in numbers {
+        text.push_str(Buffer::new().format(*number));
+        text.push(',');
+    }
 }
 
 /// Appends numbers, each followed by a comma, with `itoa`.
@@ -199,9 +218,12 @@ fn rows() -> Vec<Row> {
     let vec_lexical = append!(u64, |n, bytes| {
         bytes.extend_from_slice(lexical::ToLexical::to_lexical(n, &mut [0; 20]));
     });
+    let lower_hex = taken!(u64, |n| Lower(Hex(n)).to_str(&mut [0; 16]));
+    let lower_digits = taken!(u64, |n| Lower(Digits(36, n)).to_str(&mut [0; 13]));
     let shown = each!(u64, |n, b| write!(&mut b[..], "{}", Decimal(n)).map_or(0, |()| 1));
     let str_line = each!(u64, |n, b| line(n).to_str(&mut b).len());
     let shown_line = each!(u64, |n, b| write!(&mut b[..], "{}", Shown(line(n))).map_or(0, |()| 1));
+    let displayed = taken!(u64, |n| Displayed(&with_128_bits(n)).to_str(&mut [0; 40]));
     let str_csv = lines!(4, |numbers, text| text.push_str(csv(numbers).to_str(&mut [0; 84])));
     vec![
         ("`u64` as a `&str`", [taken!(u64, |n| Buffer::new().format(n)), None, str_u64, format_into!(u64)]),
@@ -226,9 +248,21 @@ fn rows() -> Vec<Row> {
         ("`u64`, radix 36", [ours_36, lexical_36, None, None]),
         ("`Hex` of a `u64`", [each!(u64, |n, b| Hex(n).write_to(&mut b)), None, None, std!(u64, |n| "{n:X}")]),
         ("`Digits` in radix 36 as a `&str`", [each!(u64, |n, b| Digits(36, n).to_str(&mut b).len()), None, None, None]),
+        ("`Lower(Hex)` of a `u64` as a `&str`", [lower_hex, None, None, std!(u64, |n| "{n:x}")]),
+        ("`Lower(Digits)` in radix 36 as a `&str`", [lower_digits, None, None, None]),
         ("`{}` of a `u64`", [shown, None, None, std!(u64, |n| "{n}")]),
         ("`id=N flags=0xM` as a `&str`", [str_line, None, None, std!(u64, |n| "id={n} flags=0x{:X}", n as u16)]),
         ("`{}` of that line, by `Shown`", [shown_line, None, None, None]),
+        (
+            "`u128` as a `&str`, by the example",
+            [
+                taken!(u64, |n| example::format_u128(with_128_bits(n), &mut [0; 40])),
+                None,
+                taken!(u64, |n| itoa::Buffer::new().format(with_128_bits(n))),
+                std!(u64, |n| "{}", with_128_bits(n)),
+            ],
+        ),
+        ("the same by `Displayed`", [displayed, None, None, None]),
         (
             "each of 8 `u64` with commas, to a `String`",
             [
@@ -252,6 +286,10 @@ fn rows() -> Vec<Row> {
             "the same by `write_pieces`",
             [lines!(4, |numbers, text| csv(numbers).write_pieces(&mut text).unwrap()), None, None, None],
         ),
+        (
+            "the same by a loop of `Buffer::format` and `push_str`",
+            [lines!(4, |numbers, text| join_by_buffer(numbers, &mut text)), None, None, None],
+        ),
         ("`u64` of 3 digits as a `&str`", predictable!(u64, |n| 100 + (n & 511))),
         ("`u64` of 20 digits as a `&str`", predictable!(u64, |n| n | 3 << 62)),
         ("`i64` that is not negative, as a `&str`", predictable!(i64, |n| n & i64::MAX)),
@@ -265,8 +303,8 @@ fn random(state: &mut u64) -> u64 {
     *state
 }
 
-/// Returns numbers of 1 to 64 bits, each length as often, or of this many digits in a radix. The lengths are in no order,
-/// since a processor learns to predict lengths that follow a pattern.
+/// Returns numbers of 1 to 64 bits, each length as often, or of this many digits in a radix. The lengths are in no
+/// order, since a processor learns to predict lengths that follow a pattern.
 fn numbers(digits: Option<(u64, u32)>) -> Vec<u64> {
     let state = &mut 0x9e37_79b9_7f4a_7c15_u64;
     let number = |_| match digits {
