@@ -1,7 +1,6 @@
 //! Writes numbers of 128 bits in decimal, from parts of 64 bits.
 
-use cojimuran::parts::Padded;
-use cojimuran::{Digits, Part};
+use cojimuran::{Digits, Padded, Part};
 
 /// Returns the decimal text of the number, which has at most 39 bytes.
 pub fn format_u128(number: u128, buffer: &mut [u8; 40]) -> &str {

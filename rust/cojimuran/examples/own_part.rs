@@ -1,6 +1,6 @@
 //! A part of your own that delegates to another part.
 
-use cojimuran::parts::{Padded, Part, Show, Shown};
+use cojimuran::{Padded, Part, Show, Shown};
 use std::fmt;
 
 #[derive(Clone, Copy)]
@@ -12,6 +12,12 @@ struct Time {
 impl Time {
     fn text(self) -> impl Show {
         (Padded(self.hour, 2), ":", Padded(self.minute, 2))
+    }
+}
+
+impl fmt::Display for Time {
+    fn fmt(&self, f: &mut fmt::Formatter<'_>) -> fmt::Result {
+        Shown(self.text()).fmt(f)
     }
 }
 
@@ -43,4 +49,5 @@ fn main() {
     let time = Time { hour: 7, minute: 5 };
     assert_eq!((time, " start").to_str(&mut [0; 11]), "07:05 start");
     assert_eq!(format!("{}", Shown((time, " start"))), "07:05 start");
+    assert_eq!(format!("{time:>7}"), "  07:05");
 }

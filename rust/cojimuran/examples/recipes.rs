@@ -1,10 +1,9 @@
 //! The recipes of the README, each beside the text that it writes.
 
-use cojimuran::parts::{
-    Digits, Fixed, Formatted, Hex, HexBytes, Joined, Left, Lower, Padded, Part, Right, Show, Shown,
-    ZeroPadded,
+use cojimuran::{
+    Append, Buffer, Digits, Displayed, Fixed, Formatted, GroupedFixed, Hex, HexBytes, Joined, Left,
+    Lower, NumberFormat, NumberFormatBuilder, Padded, Part, Right, Show, Shown, ZeroPadded,
 };
-use cojimuran::{Append, Buffer, Displayed, NumberFormat, NumberFormatBuilder};
 use std::io::Write;
 
 const THOUSANDS: NumberFormat = NumberFormatBuilder::new()
@@ -22,6 +21,8 @@ fn main() {
     let people = Formatted(1234567u32, &THOUSANDS);
     assert_eq!(people.to_str(&mut buffer), "1,234,567");
     assert_eq!(Fixed(-1995i64, 2).to_str(&mut buffer), "-19.95");
+    let total = GroupedFixed(123456789u32, 2, &THOUSANDS);
+    assert_eq!(total.to_str(&mut buffer), "1,234,567.89");
     // Fixed widths: two digits, zeros after a sign, and columns.
     let time = (Padded(7u8, 2), ":", Padded(5u8, 2));
     assert_eq!(time.to_str(&mut buffer), "07:05");

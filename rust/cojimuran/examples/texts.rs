@@ -1,7 +1,7 @@
 //! Texts to copy: an identifier, a row of CSV, a UUID, an IPv6 address, a line of a dump and a line of a log.
 
-use cojimuran::parts::{
-    Decimal, Digits, Fixed, Hex, HexBytes, Joined, Lower, Padded, PaddedDigits, Part,
+use cojimuran::{
+    Decimal, Digits, Fixed, Hex, HexBytes, Joined, Lower, Padded, PaddedDigits, Part, Show,
 };
 
 /// An identifier in radix 36 and in lowercase, as in a short link: `rs` for 1000.
@@ -62,9 +62,11 @@ fn log_line(seconds: u32, level: &str, celsius: Option<i32>) -> String {
         Padded(seconds % 60, 2),
     );
     let temperature = celsius.map(|celsius| (" ", Decimal(celsius), " °C"));
+    let mut line = String::new();
     (time, " [", level, "]", temperature)
-        .to_str(&mut [0; 64])
-        .to_owned()
+        .write_pieces(&mut line)
+        .unwrap();
+    line
 }
 
 fn main() {

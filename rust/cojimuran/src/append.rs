@@ -8,8 +8,7 @@ use alloc::vec::Vec;
 /// Appends a part to a `Vec<u8>` or a `String`, with the feature `alloc`, which is off by default.
 ///
 /// ```
-/// use cojimuran::Append;
-/// use cojimuran::parts::{Fixed, Joined};
+/// use cojimuran::{Append, Fixed, Joined};
 ///
 /// let row = (7u32, ",", Fixed(1999u32, 2), ",", Joined(&[38u8, 40], " "), "\n");
 /// let mut csv = String::from("id,price,sizes\n");

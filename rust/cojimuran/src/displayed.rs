@@ -6,8 +6,7 @@ use core::fmt::{self, Display, Write};
 /// A value that has `Display`, such as a float or an IP address, as a part: its text is what `{}` writes.
 ///
 /// ```
-/// use cojimuran::parts::{Part, Padded};
-/// use cojimuran::Displayed;
+/// use cojimuran::{Displayed, Padded, Part};
 ///
 /// let mut buffer = [0; 64];
 /// let row = (7u32, ",", Displayed(&-1.5), ",", Padded(5u8, 2));
@@ -38,6 +37,13 @@ impl<T: ?Sized> Clone for Displayed<'_, T> {
 }
 
 impl<T: ?Sized> Copy for Displayed<'_, T> {}
+
+impl<T: Display + ?Sized> Display for Displayed<'_, T> {
+    #[inline]
+    fn fmt(&self, f: &mut fmt::Formatter<'_>) -> fmt::Result {
+        self.0.fmt(f)
+    }
+}
 
 /// A writer that only counts bytes.
 struct Count(usize);

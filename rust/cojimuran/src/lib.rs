@@ -2,7 +2,7 @@
 //! to a `String`, a `Vec` or a `fmt::Write`, or write a value whose own `Display` allocates.
 //!
 //! The sources are written in Rattle, a dialect of Rust with contracts, and a prover has checked them:
-//! [when its conditions hold](#conditions), a call writes exactly the right bytes and does not panic. The prover is not
+//! when its [`conditions`] hold, a call writes exactly the right bytes and does not panic. The prover is not
 //! public. A program makes this Rust code from the sources, and the Rust code is tested. [`Displayed`] and what needs the
 //! feature `alloc` are written by hand and tested. What calls cost is on the page [`costs`].
 //!
@@ -13,22 +13,25 @@
 //! ```
 //!
 //! It prints the lines `-1234`, `3W5E11264SGSF` and `id=7 flags=0xFF`. The digits above 9 are `A` to `Z`. For lowercase
-//! write [`Lower(Digits(36, number))`](parts::Lower).
+//! write [`Lower(Digits(36, number))`](Lower).
 //!
 //! # What you call
 //!
 //! - [`Buffer`] writes one number in decimal and returns a `&str`: `Buffer::new().format(number)`.
-//! - [`Part`] is a value that has a text, such as a number, a `&str` or a tuple of 2 to 12 parts. Its method
-//!   [`to_str`](Part::to_str) writes the text to a buffer and returns a `&str`. [`to_text`](Part::to_text) returns bytes.
-//! - [`Digits`] is an unsigned number in a radix, [`Hex`] one in radix 16, [`Fixed`] an amount such as `-19.95`,
-//!   [`Joined`] a slice with a separator between its elements, and [`Decimal`] a number in generic code. [`parts`] has
-//!   all others but [`Displayed`]: groups of digits, fixed widths, columns, bytes in hexadecimal, absent values
-//!   (`Option`).
-//! - [`Show`] is a part that a format string can have: `{}` of [`Shown(part)`](Shown) writes its text. Its method
-//!   [`write_pieces`](Show::write_pieces) writes the text to a `String` or any other `fmt::Write`.
-//! - [`Displayed`] is any value with `Display`, such as a float, as a part: `("t=", Displayed(&1.5))`.
-//! - [`ToLexical`] writes one number in decimal and returns bytes. [`ToLexicalWithOptions`] does so in a
-//!   [`NumberFormat`], which has a radix, a required `+` and groups of digits.
+//! - [`Part`] is the trait of values that have a text: numbers, `&str`, tuples of 2 to 12 parts, and the parts below. Its
+//!   method [`to_str`](Part::to_str) writes the text to a buffer and returns a `&str`. [`to_text`](Part::to_text) returns
+//!   bytes.
+//! - Parts that are numbers: [`Digits`] in a radix, [`Hex`], [`FullHex`] and [`Binary`], [`Formatted`] in a
+//!   [`NumberFormat`] with groups or a `+`, [`Padded`] and [`PaddedDigits`] with leading zeros, [`Fixed`],
+//!   [`GroupedFixed`] and [`TrimmedFixed`] for amounts such as `-19.95`, [`Scientific`], [`Plus`], and [`Decimal`] for
+//!   generic code.
+//! - Parts that change, place or join others: [`Lower`], [`Left`], [`Right`] and [`Center`] for columns, [`ZeroPadded`],
+//!   [`Joined`] for a slice with separators, `Option` and [`OrElse`].
+//! - [`Displayed`] makes a part of any value with `Display`, such as a float: `("t=", Displayed(&1.5))`.
+//! - [`Show`] is the trait of parts that a format string can have: `{}` of [`Shown(part)`](Shown) writes the text. Its
+//!   method [`write_pieces`](Show::write_pieces) writes the text to a `String` or any other `fmt::Write`.
+//! - [`ToLexical`] is the trait of numbers that are written in decimal, as bytes. [`ToLexicalWithOptions`] does so in a
+//!   [`NumberFormat`].
 //! - `Append`, with the feature `alloc`, writes a part to the end of a `String` or a `Vec<u8>`:
 //!   `(7u8, " apples").append_to(&mut string)`. With this feature, references to a `String` are parts too.
 //!
@@ -40,8 +43,7 @@
 //! # A `String`, a `Vec`, a format string
 //!
 //! ```
-//! use cojimuran::parts::Padded;
-//! use cojimuran::{Buffer, Digits, Hex, Part, Show, Shown};
+//! use cojimuran::{Buffer, Digits, Hex, Padded, Part, Show, Shown};
 //!
 //! // The end of a `String`, or of any other `fmt::Write`. With the feature `alloc`, `append_to` does this too.
 //! let mut path = String::from("/l/");
@@ -73,10 +75,10 @@
 //!
 //! # How large the buffer must be
 //!
-//! Most calls reserve the room that the longest number of the type would need: 20 bytes for a `u64`, even for 7.
+//! Most calls require the room that the longest number of the type would need: 20 bytes for a `u64`, even for 7.
 //! [`FormattedSize::FORMATTED_SIZE_DECIMAL`] is this size, [`BUFFER_SIZE`] is enough for every number in every format, and
 //! [`Part::room`] is enough for a part. A [`Buffer`] needs no size. With a shorter buffer a call panics, or works for some
-//! values: do not rely on that.
+//! values: do not rely on that. The page [`buffers`] has the room of each part.
 //!
 //! # What is written is read back
 //!
@@ -89,7 +91,6 @@
 //! assert_eq!((-1234i32).to_str(&mut buffer).parse(), Ok(-1234));
 //! assert_eq!(u64::from_str_radix(Digits(36, u64::MAX).to_str(&mut buffer), 36), Ok(u64::MAX));
 //! ```
-#![doc = include_str!("../CONDITIONS.md")]
 //!
 //! # Versions
 //!
@@ -119,6 +120,7 @@ mod strings;
     reason = "the modules and their exports are those of the crates of Rattle"
 )]
 mod num;
+#[doc(hidden)]
 pub mod parts;
 mod tables;
 #[allow(
@@ -130,6 +132,17 @@ mod write_integer;
 #[cfg(doctest)]
 mod misuse;
 
+/// A page, not a module: how large the buffer must be.
+#[cfg(doc)]
+#[doc = include_str!("../BUFFERS.md")]
+pub mod buffers {}
+
+/// A page, not a module: what calls require, and what happens otherwise.
+#[cfg(doc)]
+#[doc = include_str!("../CONDITIONS.md")]
+pub mod conditions {}
+
+/// A page, not a module: the time and the code size of calls.
 #[cfg(doc)]
 #[doc = include_str!("../COSTS.md")]
 pub mod costs {}
@@ -143,7 +156,11 @@ pub use num::{
     UnsignedInteger,
 };
 #[doc(inline)]
-pub use parts::{Buffer, Decimal, Digits, Fixed, Hex, Joined, Part, Show, Shown};
+pub use parts::{
+    Binary, Buffer, Byte, Bytes, Center, Decimal, Digits, Fixed, Formatted, FullHex, GroupedFixed,
+    Hex, HexBytes, Joined, Left, Lower, OrElse, Padded, PaddedDigits, Part, Plus, Right,
+    Scientific, Show, Shown, Sign, TrimmedFixed, ZeroPadded, write_field, write_with_length,
+};
 pub use write_integer::{ToLexical, ToLexicalWithOptions, group_digits, sign_len, write_sign};
 
 #[doc(hidden)]
@@ -245,11 +262,16 @@ mod sealed {
     /// The integer types. Only they implement `LexicalInteger`, so it may get further methods.
     pub trait Sealed {}
 
-    macro_rules! seal {
-        ($($number:ty)*) => { $(impl Sealed for $number {})* };
-    }
-
-    seal! { u8 u16 u32 u64 usize i8 i16 i32 i64 isize }
+    impl Sealed for u8 {}
+    impl Sealed for u16 {}
+    impl Sealed for u32 {}
+    impl Sealed for u64 {}
+    impl Sealed for usize {}
+    impl Sealed for i8 {}
+    impl Sealed for i16 {}
+    impl Sealed for i32 {}
+    impl Sealed for i64 {}
+    impl Sealed for isize {}
 }
 
 pub mod write {

@@ -4,7 +4,7 @@
 //! A part of one's own does not say that it is known to be UTF-8:
 //!
 //! ```compile_fail,E0425
-//! use cojimuran::parts::Part;
+//! use cojimuran::Part;
 //!
 //! #[derive(Clone, Copy)]
 //! struct Liar;
@@ -23,7 +23,7 @@
 //! Nor with a parameter of any type:
 //!
 //! ```compile_fail,E0049
-//! use cojimuran::parts::Part;
+//! use cojimuran::Part;
 //!
 //! #[derive(Clone, Copy)]
 //! struct Liar;
@@ -36,7 +36,7 @@
 //! ```
 //!
 //! ```compile_fail,E0053
-//! use cojimuran::parts::Part;
+//! use cojimuran::Part;
 //!
 //! #[derive(Clone, Copy)]
 //! struct Liar<T>(std::marker::PhantomData<T>);
@@ -51,7 +51,7 @@
 //! Nor with the type that inference finds, which no signature can leave open:
 //!
 //! ```compile_fail,E0121
-//! use cojimuran::parts::Part;
+//! use cojimuran::Part;
 //!
 //! #[derive(Clone, Copy)]
 //! struct Liar;
@@ -74,7 +74,7 @@
 //! Nor by a macro that takes the method of another part:
 //!
 //! ```compile_fail
-//! use cojimuran::parts::Part;
+//! use cojimuran::Part;
 //!
 //! macro_rules! like {
 //!     ($other:ty) => { use <$other as Part>::is_known_utf8; };
@@ -86,7 +86,7 @@
 //! Nor does it ask whether another part is known:
 //!
 //! ```compile_fail,E0061
-//! use cojimuran::parts::Part;
+//! use cojimuran::Part;
 //!
 //! 5u8.is_known_utf8();
 //! ```
