@@ -120,12 +120,21 @@ links_with_pkg_config() (
 builds_with_cmake() {
   project=$work/project built=$work/project/build
   fails grep -r -F "$prefix" "$folder/cmake" && mkdir "$project" && cp "$crate/examples/first.c" "$project" || return
+  # Version 1.9 of a package with the same rule.
+  : > "$project/laterConfig.cmake"
+  sed "s/(PACKAGE_VERSION $version)/(PACKAGE_VERSION 1.9)/" "$folder/cmake/lexical_c/lexical_cConfigVersion.cmake" \
+    > "$project/laterConfigVersion.cmake"
   cat > "$project/CMakeLists.txt" <<END
 cmake_minimum_required(VERSION 3.13)
 project(example C)
 foreach(wanted 1.0 "$version;EXACT" 1.0...2 "1.0.9;EXACT" 0.9 1.999 1.999...2 2.0)
   find_package(lexical_c \${wanted} QUIET)
   message(STATUS "wanted \${wanted}: \${lexical_c_FOUND}")
+endforeach()
+foreach(wanted 1.0...1.9 1.0...1.8 1.0...<1.9)
+  unset(later_DIR CACHE)
+  find_package(later \${wanted} QUIET PATHS "$project" NO_DEFAULT_PATH)
+  message(STATUS "wanted \${wanted}: \${later_FOUND}")
 endforeach()
 find_package(lexical_c 1.0 REQUIRED)
 add_library(first SHARED first.c)
@@ -136,7 +145,7 @@ foreach(kind shared static lexical_c)
 endforeach()
 END
   lexical_c_DIR="$folder/cmake/lexical_c" CC="$CC" cmake -S "$project" -B "$built" > "$work/said" &&
-    prints '1 1 1 0 0 0 0 0' echo $(sed -n 's/^-- wanted .*: //p' "$work/said") && cmake --build "$built" &&
+    prints '1 1 1 0 0 0 0 0 1 0 0' echo $(sed -n 's/^-- wanted .*: //p' "$work/said") && cmake --build "$built" &&
     prints 1234567 "$built/shared" && prints 1234567 "$built/static" && prints 1234567 "$built/lexical_c" &&
     prints main names '-D --defined-only' "$built/libfirst.so" &&
     readelf -d "$built/lexical_c" | grep "NEEDED.*\[liblexical_c.so.$major\]"
