@@ -41,15 +41,15 @@
  * of digits.
  *
  * Format. `format` points to a struct lexical_format. A call only reads it. The pointer
- * must not be NULL. The fields may have any values: a function that takes an invalid
- * format returns 0, and lexical_check_format says why.
+ * must not be NULL. The fields may have any values: lexical_check_format says which field
+ * is invalid, and every other function returns 0 for an invalid format.
  *
  * Buffer. `buffer` points to `size` bytes that the call may write. The size must not
  * exceed PTRDIFF_MAX; no object is larger. The pointer may be NULL if the size is 0. The
  * bytes must not overlap the format, and no other thread may use them during the call.
- * They may be uninitialized, except the text that you pass to lexical_pad, because the
- * library is not built with -Clinker-plugin-lto of rustc. The call writes nothing outside
- * the buffer, and keeps no pointer to it. Bytes after the text keep their values.
+ * They need not be initialized, except for the text that you pass to lexical_pad. The
+ * call writes nothing outside the buffer, and keeps no pointer to it. Bytes after the
+ * text keep their values.
  *
  * Size of the buffer. LEXICAL_BUFFER_SIZE bytes are enough for every number of every
  * type in every format. A terminating NUL needs one byte more.
@@ -57,23 +57,26 @@
  * Return value. A call that writes returns the length of the text in the buffer, without
  * a NUL. A text is never empty, so 0 always means an error.
  *
- * Errors. If the format is invalid or the text does not fit the buffer, a call that
- * returns a size returns 0, and the buffer is unchanged. (lexical_terminate then makes the
- * buffer an empty string, unless `size` is 0.) To tell these two errors apart, call
+ * Errors. If the format is invalid or the text does not fit the buffer, a call that writes
+ * returns 0, and the buffer is unchanged. (lexical_terminate is the exception: it makes
+ * the buffer an empty string, unless `size` is 0.) To tell these two errors apart, call
  * lexical_check_format after the call that failed. If it returns 0, the buffer was too
  * short. Otherwise it returns the constant LEXICAL_INVALID_.. of the first invalid field.
  * No call changes errno.
  *
- * Speed. A buffer with fewer bytes than the type has bits costs some time in most radices,
- * because the call must first check that the text fits, and one that barely fits costs
- * more. Grouping makes a call about three times as slow. lexical_decimal is about as fast as lexical_write in radix 10, and a program that calls only
- * lexical_decimal is smaller if you link it with -Wl,--gc-sections.
+ * Speed. For full speed in every radix give a buffer of LEXICAL_BUFFER_SIZE_T bytes, such
+ * as 64 for a uint32_t. In a shorter one, a call in most radices must first check that the
+ * text fits, and it is slowest if the text only just fits. Groups make a call three to
+ * four times as slow. lexical_decimal is about as fast as lexical_write in radix 10, and a
+ * program that calls only lexical_decimal is smaller if you link it with
+ * -Wl,--gc-sections.
  *
  * Proof. The sources are written in Rattle, a dialect of Rust with contracts. A prover,
  * which is not public, has checked that they write the right text for all arguments
  * that meet the conditions above under "Format" and "Buffer", with a size_t of 64 bits.
- * With 32 bits nothing is proved. The Rust code made from the sources, the handwritten
- * file that exports the functions with a buffer, and the compiled library are only tested.
+ * Only tested are: the Rust code made from the sources, the handwritten file that exports
+ * the functions with a buffer and takes a NULL of size 0, the macros, constants and
+ * overloads of this header, the compiled library, and all of it with 32 bits.
  *
  * Threads and signals. The functions have no state and allocate nothing, so you can
  * call them in any thread and in any signal handler.
@@ -122,7 +125,7 @@
     LEXICAL_HAS((nothrow, pure, nonnull(n), warn_unused_result))               \
     LEXICAL_ACCESS((read_only, n))
 
-/* Default values of the fields of a format, which silence -Wmissing-field-initializers in g++. */
+/* Default values of the fields, which silence -Wmissing-field-initializers in g++. */
 #if defined(__cplusplus) && __cplusplus >= 201402L
 #define LEXICAL_DEFAULT(value) = value
 #else
@@ -214,36 +217,46 @@ size_t lexical_decimal_i64(int64_t value, char *buffer, size_t size) LEXICAL_NOE
  * Groups are counted from the right: this format writes 1,234,567. The fields have 32
  * bits, so that a wrong radix such as 266 is refused and not truncated to 10.
  *
- * In C++14 and later each field after the radix has a default value, which is 0, so the
- * struct is not trivial. g++ therefore warns if you set a format to zeros by memset. Write
- * `format = {}` instead, which is invalid until you set the radix. A union that has a
- * format as a member needs an initializer or a constructor.
+ * In C++14 and C++17, which have no such initializers, write the fields in their order,
+ * { 10, 0, 3, ',' }, or set the fields of a variable. Each field after the radix has a
+ * default value there, which is 0, so the struct is not trivial. g++ therefore warns if
+ * you set a format to zeros by memset. Write `format = {}` instead, and then set the radix.
+ * A union that has a format as a member needs an initializer or a constructor.
  */
 struct lexical_format {
-    uint32_t radix;         /* from 2 to 36 */
-    uint32_t required_sign LEXICAL_DEFAULT(0); /* 0 for no '+', and any other number for a '+' */
-    uint32_t group_size LEXICAL_DEFAULT(0);    /* digits in a group, from 1 to 64, or 0 for no groups */
-    uint32_t mark LEXICAL_DEFAULT(0);          /* the separator between groups: a byte from 32 to 126
-                               that is not a letter, a digit, '+' or '-'. Unused
-                               if group_size is 0 */
-    uint32_t lowercase LEXICAL_DEFAULT(0);     /* 0 for digits 'A' to 'Z', and any other number for
-                               'a' to 'z' */
-    uint32_t reserved[2] LEXICAL_DEFAULT({}); /* 0, for fields of a later version */
+    /* From 2 to 36. */
+    uint32_t radix;
+    /* 0, or any other number for a '+' before zero and positive numbers. */
+    uint32_t required_sign LEXICAL_DEFAULT(0);
+    /* The digits of a group, from 1 to 64, or 0 for no groups. */
+    uint32_t group_size LEXICAL_DEFAULT(0);
+    /* The separator between groups: a byte from 32 to 126 that is not a letter, a digit,
+       '+' or '-'. It is unused if group_size is 0. */
+    uint32_t mark LEXICAL_DEFAULT(0);
+    /* 0 for the digits 'A' to 'Z', and any other number for 'a' to 'z'. */
+    uint32_t lowercase LEXICAL_DEFAULT(0);
+    /* 0. A later version may use these for new fields. */
+    uint32_t reserved[2] LEXICAL_DEFAULT({});
 };
 
 /*
  * The format of a radix, as an initializer: with no '+' and no groups, in uppercase.
+ * For lowercase write { .radix = 16, .lowercase = 1 }.
+ *
  * The radix may have any standard integer type. A number that is not from 2 to 36 becomes
  * the radix 0, which is invalid. An integer constant expression that is not from 2 to 36
  * is a compile error with gcc and clang (not in C++98), and with other compilers from C11
- * on. The message is about the size of an array, or about narrowing -1. The radix is evaluated once, except in C before C11 with
- * compilers other than gcc and clang.
+ * on. The radix is evaluated once, except in C before C11 with compilers other than gcc
+ * and clang.
  */
 #define LEXICAL_RADIX(radix) { LEXICAL_PRIVATE_RADIX(radix), 0, 0, 0, 0, { 0, 0 } }
 
 /*
  * The standard format, as an initializer and as an object: decimal, with no '+'
- * and no groups. The object has hidden ELF visibility: each program and each shared library has its own
+ * and no groups. lexical_decimal writes its texts, and lexical_length with
+ * &lexical_standard_format returns their lengths.
+ *
+ * The object has hidden ELF visibility: each program and each shared library has its own
  * copy. With compilers other than gcc and clang, each file in C, or in C++ before C++17,
  * has its own copy.
  */
@@ -293,7 +306,7 @@ uint32_t lexical_check_format(const struct lexical_format *format) LEXICAL_NOEXC
  * lexical_buffer_size_T: returns a buffer size that is enough for every number of the
  * type in the format, with its sign and its separators. With a buffer of this size,
  * lexical_write_T never returns 0 for this format. In radix 10 it is the length of the
- * longest text, or at most 2 bytes more for a signed type with groups or a '+'. In other
+ * longest text, but for a signed type with groups or a '+' up to 2 bytes more. In other
  * radices it is the constant for the type, such as LEXICAL_BUFFER_SIZE_U32. The exact
  * length of the longest text is lexical_length_u32(UINT32_MAX, format), and for a signed
  * type lexical_length_i32(INT32_MIN, format).
@@ -358,13 +371,14 @@ size_t lexical_length_i64(int64_t value,
 /*
  * lexical_write_T: writes a number in a format.
  *
- *     value   the number; before C11 use lexical_write_i64 for a ptrdiff_t
+ *     value   the number
  *     format  how the number is written
  *     buffer  where the text begins
  *     size    the size of the buffer in bytes
  *
  * Returns the length of the text, or 0 if the format is invalid or the text does not
- * fit the buffer. If it returns 0, the buffer is unchanged.
+ * fit the buffer. If it returns 0, the buffer is unchanged. For a ptrdiff_t use
+ * lexical_write_i64.
  */
 LEXICAL_WRITES
 size_t lexical_write_u8(uint8_t value, const struct lexical_format *format,
@@ -414,8 +428,8 @@ size_t lexical_write_i64(int64_t value, const struct lexical_format *format,
  * grouped: 1,234,567 padded to 12 bytes is 0001,234,567.
  *
  * If `width` is greater than `size`, lexical_pad returns 0, although the text without
- * zeros is in the buffer. To keep that text, save its length: lexical_terminate erases
- * the text if you pass the 0 on.
+ * zeros is in the buffer. To keep that text, save its length: if you pass that 0 to
+ * lexical_terminate, it erases the text.
  */
 LEXICAL_HAS((nothrow, warn_unused_result)) LEXICAL_ACCESS((read_write, 3, 4))
 size_t lexical_pad(size_t count, size_t width, char *buffer, size_t size) LEXICAL_NOEXCEPT;
@@ -427,9 +441,10 @@ size_t lexical_pad(size_t count, size_t width, char *buffer, size_t size) LEXICA
  *     buffer  where the text begins
  *     size    the size of the buffer in bytes, with a byte for the NUL
  *
- * Returns `count`. Returns 0 if `count` is 0, or if the NUL does not fit because `size`
- * is at most `count`. In that case, unless `size` is 0, the buffer becomes an empty string,
- * and a text in it is lost.
+ * Returns `count`, or 0 if `count` is 0 or the NUL does not fit, because `size` is at most
+ * `count`. If it returns 0, the buffer becomes an empty string and a text in it is lost,
+ * unless `size` is 0. So the buffer is a string in any case, and you may ignore the result
+ * where an empty string will do.
  */
 LEXICAL_HAS((nothrow)) LEXICAL_ACCESS((write_only, 2, 3))
 size_t lexical_terminate(size_t count, char *buffer, size_t size) LEXICAL_NOEXCEPT;
@@ -446,8 +461,8 @@ size_t lexical_terminate(size_t count, char *buffer, size_t size) LEXICAL_NOEXCE
  * In C they are macros, which evaluate each argument once. A variable of the type char or
  * bool is refused, and in C++ also one of the type wchar_t, char8_t, char16_t or char32_t:
  * cast it to int if you mean its number. In C, 'x' and a > b have the type int, and so has
- * true before C23; they compile. In C gcc also refuses a bit-field without a cast, unless
- * it has 8, 16, 32 or 64 bits.
+ * true before C23; they compile. In C, gcc also refuses a bit-field, unless it has 8, 16,
+ * 32 or 64 bits: cast it to its type. In C++98 cast a long long to int64_t.
  *
  * In C++ the format may also be passed as an object, and in C++11 and later as
  * an initializer:
@@ -510,6 +525,10 @@ LEXICAL_OVERLOAD(i64, long)
 #if __cplusplus >= 201103L
 LEXICAL_OVERLOAD(u64, unsigned long long)
 LEXICAL_OVERLOAD(i64, long long)
+#elif SIZE_MAX == UINT32_MAX
+/* Here these are not long, and C++98 has no long long. */
+LEXICAL_OVERLOAD(u64, uint64_t)
+LEXICAL_OVERLOAD(i64, int64_t)
 #endif
 LEXICAL_REFUSED(char)
 LEXICAL_REFUSED(bool)
@@ -545,7 +564,7 @@ inline size_t lexical_length(T value, const lexical_format &format) LEXICAL_NOEX
              unsigned long long: function##_u64, signed char: function##_i8,   \
              short: function##_i16, int: function##_i32, long: function##_i64, \
              long long: function##_i64)
-/* The arguments after the value are passed on as they are, because a compound literal has commas of its own. */
+/* What follows the value is passed on as it is: a compound literal has commas of its own. */
 #define lexical_decimal(value, ...)                                            \
     LEXICAL_PRIVATE_FOR_TYPE(lexical_decimal, value)(value, __VA_ARGS__)
 #define lexical_write(value, ...)                                              \
@@ -591,13 +610,15 @@ lexical_private_radix(uint64_t number)
     return number < 2 || number > 36 ? 0 : (uint32_t)number;
 }
 /*
- * Yields the first value if the number is an integer constant expression, and otherwise the second. 0 times such an
- * expression is a null pointer constant, so ?: has the type int *. Otherwise it has the type void *. The result does
- * not depend on what a compiler optimizes. The number is not evaluated.
+ * Yields the first value if the number is an integer constant expression, and otherwise
+ * the second. 0 times such an expression is a null pointer constant, so ?: has the type
+ * int *. Otherwise it has the type void *. The result does not depend on what a compiler
+ * optimizes. The number is not evaluated.
  */
 #define LEXICAL_PRIVATE_IF_CONSTANT(number, value, other)                      \
     _Generic(1 ? (void *)((intptr_t)(number) * 0) : (int *)0, int *: (value), default: (other))
-/* A constant that is no radix is refused by an array of a negative size. A variable is evaluated once. */
+/* A constant that is no radix is refused by an array of a negative size. A variable is
+   evaluated once. */
 #define LEXICAL_PRIVATE_RADIX(number)                                          \
     (LEXICAL_PRIVATE_EXTENSION LEXICAL_PRIVATE_IF_CONSTANT(                    \
         number,                                                                \
