@@ -2,7 +2,8 @@
 /*
  * lexical.h: functions that write integers as text, in every radix from 2 to 36.
  *
- * Examples, in C11 or later. These lines write 48879 in decimal, and count becomes 5:
+ * Examples, in C11 or later, and with gcc and clang also in C99. These lines write 48879
+ * in decimal, and count becomes 5:
  *
  *     char buffer[LEXICAL_BUFFER_SIZE];
  *     size_t count = lexical_decimal(48879, buffer, sizeof buffer);
@@ -18,19 +19,17 @@
  *     count = lexical_decimal(-42, text, sizeof text);
  *     lexical_terminate(count, text, sizeof text);
  *
- * These write 0000BEEF, with zeros up to 8 bytes:
+ * These make the string "0x0000beef": a prefix, and behind it a number in lowercase, with
+ * zeros up to 8 digits. If count is 0 then, something did not fit, and the string is "0x".
+ * Write a prefix only before unsigned types, because a '-' would come after it:
  *
- *     count = lexical_write(48879, &hexadecimal, buffer, sizeof buffer);
- *     count = lexical_pad(count, 8, buffer, sizeof buffer);
+ *     const struct lexical_format lowercase = { .radix = 16, .lowercase = 1 };
+ *     char prefixed[2 + LEXICAL_BUFFER_SIZE + 1] = "0x";
+ *     count = lexical_write(48879u, &lowercase, prefixed + 2, sizeof prefixed - 2);
+ *     count = lexical_pad(count, 8, prefixed + 2, sizeof prefixed - 2);
+ *     count = lexical_terminate(count, prefixed + 2, sizeof prefixed - 2);
  *
- * These write 0xBEEF, and count becomes 6, or 0 if the number does not fit. Use them
- * only for unsigned types, because a '-' would come after the prefix:
- *
- *     char prefixed[2 + LEXICAL_BUFFER_SIZE] = "0x";
- *     count = lexical_write(48879u, &hexadecimal, prefixed + 2, sizeof prefixed - 2);
- *     count = count == 0 ? 0 : count + 2;
- *
- * Before C11, name the type of the number: lexical_decimal_i32(48879, buffer, sizeof buffer).
+ * In C89, name the type of the number: lexical_decimal_i32(48879, buffer, sizeof buffer).
  * To write several numbers into one buffer, see examples/line.c of the sources.
  *
  * Text. A negative number begins with '-'. Any other number begins with '+' if the
@@ -42,7 +41,7 @@
  *
  * Format. `format` points to a struct lexical_format. A call only reads it. The pointer
  * must not be NULL. The fields may have any values: lexical_check_format says which field
- * is invalid, and every other function returns 0 for an invalid format.
+ * is invalid, and every other function that takes a format returns 0 if it is invalid.
  *
  * Buffer. `buffer` points to `size` bytes that the call may write. The size must not
  * exceed PTRDIFF_MAX; no object is larger. The pointer may be NULL if the size is 0. The
@@ -64,12 +63,14 @@
  * short. Otherwise it returns the constant LEXICAL_INVALID_.. of the first invalid field.
  * No call changes errno.
  *
- * Speed. For full speed in every radix give a buffer of LEXICAL_BUFFER_SIZE_T bytes, such
- * as 64 for a uint32_t. In a shorter one, a call in most radices must first check that the
- * text fits, and it is slowest if the text only just fits. Groups make a call three to
- * four times as slow. lexical_decimal is about as fast as lexical_write in radix 10, and a
- * program that calls only lexical_decimal is smaller if you link it with
- * -Wl,--gc-sections.
+ * Speed. For full speed in every radix, give a buffer with a byte for each bit of the type,
+ * and one more for the sign of a signed type: 32 for a uint32_t, and 65 for an int64_t. In
+ * a shorter one, a call in most radices must first check that the text fits, and it is
+ * slowest if the text only just fits. Groups make a call three to four times as slow.
+ *
+ * Size. The archive adds 177 KB to a program. If you link with -Wl,--gc-sections, it adds 3
+ * KB for lexical_decimal, and 90 to 105 KB for lexical_write of one type. lexical_decimal
+ * is about as fast as lexical_write in radix 10.
  *
  * Proof. The sources are written in Rattle, a dialect of Rust with contracts. A prover,
  * which is not public, has checked that they write the right text for all arguments
@@ -217,11 +218,10 @@ size_t lexical_decimal_i64(int64_t value, char *buffer, size_t size) LEXICAL_NOE
  * Groups are counted from the right: this format writes 1,234,567. The fields have 32
  * bits, so that a wrong radix such as 266 is refused and not truncated to 10.
  *
- * In C++14 and C++17, which have no such initializers, write the fields in their order,
- * { 10, 0, 3, ',' }, or set the fields of a variable. Each field after the radix has a
- * default value there, which is 0, so the struct is not trivial. g++ therefore warns if
- * you set a format to zeros by memset. Write `format = {}` instead, and then set the radix.
- * A union that has a format as a member needs an initializer or a constructor.
+ * In C89, and in C++ before C++20, write the fields in their order, { 10, 0, 3, ',' }, or
+ * set the fields of a variable. From C++14 on, each field after the radix has the default
+ * value 0, so the struct is not trivial: write `format = {}` and then set the radix, in
+ * place of memset, and give an initializer to a union that has a format as a member.
  */
 struct lexical_format {
     /* From 2 to 36. */
@@ -245,9 +245,9 @@ struct lexical_format {
  *
  * The radix may have any standard integer type. A number that is not from 2 to 36 becomes
  * the radix 0, which is invalid. An integer constant expression that is not from 2 to 36
- * is a compile error with gcc and clang (not in C++98), and with other compilers from C11
- * on. The radix is evaluated once, except in C before C11 with compilers other than gcc
- * and clang.
+ * does not compile: with gcc and clang (except in C++98), and in C11 and later with every
+ * compiler. The radix is evaluated once, except in C before C11 with compilers other than
+ * gcc and clang.
  */
 #define LEXICAL_RADIX(radix) { LEXICAL_PRIVATE_RADIX(radix), 0, 0, 0, 0, { 0, 0 } }
 
@@ -455,9 +455,17 @@ size_t lexical_terminate(size_t count, char *buffer, size_t size) LEXICAL_NOEXCE
 
 /* ---- the function for a type ------------------------------------------------- */
 
+/* Before C11, _Generic is an extension of gcc and clang. */
+#if defined(__GNUC__)
+#define LEXICAL_PRIVATE_EXTENSION __extension__
+#else
+#define LEXICAL_PRIVATE_EXTENSION
+#endif
+
 /*
- * lexical_decimal, lexical_write and lexical_length, in C11 and later, and in C++. They
- * call the function for the type of the value, for example lexical_write_i32 for an int.
+ * lexical_decimal, lexical_write and lexical_length, in C++, in C11 and later, and with gcc
+ * and clang in C99. They call the function for the type of the value, for example
+ * lexical_write_i32 for an int.
  * In C they are macros, which evaluate each argument once. A variable of the type char or
  * bool is refused, and in C++ also one of the type wchar_t, char8_t, char16_t or char32_t:
  * cast it to int if you mean its number. In C, 'x' and a > b have the type int, and so has
@@ -557,13 +565,15 @@ inline size_t lexical_length(T value, const lexical_format &format) LEXICAL_NOEX
 #undef LEXICAL_REFUSED
 #undef LEXICAL_REFUSED_NULL
 }
-#elif defined(__STDC_VERSION__) && __STDC_VERSION__ >= 201112L
+#elif defined(__STDC_VERSION__)                                               \
+    && (__STDC_VERSION__ >= 201112L || (__STDC_VERSION__ >= 199901L && defined(__GNUC__)))
 #define LEXICAL_PRIVATE_FOR_TYPE(function, value)                              \
-    _Generic((value), unsigned char: function##_u8, unsigned short: function##_u16, \
-             unsigned int: function##_u32, unsigned long: function##_u64,      \
-             unsigned long long: function##_u64, signed char: function##_i8,   \
-             short: function##_i16, int: function##_i32, long: function##_i64, \
-             long long: function##_i64)
+    (LEXICAL_PRIVATE_EXTENSION _Generic((value),                               \
+        unsigned char: function##_u8, unsigned short: function##_u16,          \
+        unsigned int: function##_u32, unsigned long: function##_u64,           \
+        unsigned long long: function##_u64, signed char: function##_i8,        \
+        short: function##_i16, int: function##_i32, long: function##_i64,      \
+        long long: function##_i64))
 /* What follows the value is passed on as it is: a compound literal has commas of its own. */
 #define lexical_decimal(value, ...)                                            \
     LEXICAL_PRIVATE_FOR_TYPE(lexical_decimal, value)(value, __VA_ARGS__)
@@ -599,10 +609,8 @@ lexical_private_radix(uint64_t number) LEXICAL_NOEXCEPT
 #endif
 #elif defined(__GNUC__) || (defined(__STDC_VERSION__) && __STDC_VERSION__ >= 201112L)
 #if defined(__GNUC__)
-#define LEXICAL_PRIVATE_EXTENSION __extension__
 static __inline__ uint32_t
 #else
-#define LEXICAL_PRIVATE_EXTENSION
 static inline uint32_t
 #endif
 lexical_private_radix(uint64_t number)

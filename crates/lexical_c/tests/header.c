@@ -141,7 +141,7 @@ static void check_radices(void)
 
 static void check_choice(void)
 {
-#if defined(__cplusplus) || __STDC_VERSION__ >= 201112L
+#if defined(__cplusplus) || __STDC_VERSION__ >= 199901L
     static const struct lexical_format HEXADECIMAL = FORMAT(16, 1, 4, '_', 0);
     TRY(unsigned char, -1, "255", "+FF")
     TRY(unsigned short, -1, "65535", "+FFFF")
