@@ -89,7 +89,7 @@ builds_examples() {
       prints "$(printf '%b' "$lines")" "$work/example" || return
   done 4<<'END'
 first.c|c11|1234567
-formats.c|c11|BEEF\n1,234,567\n0x0000BEEF
+formats.c|c11|BEEF\n1,234,567\n0x0000beef
 line.c|c11|id=0xBEEF size=1,234,567 change=-42\nThe line has more than 20 bytes.\nThe format is invalid.
 example17.cpp|c++17|1,234,567\n-4D2
 example20.cpp|c++20|1,234,567
@@ -183,7 +183,8 @@ check_installation() {
   version=$(sed -n 's/^#define LEXICAL_VERSION_STRING "\(.*\)"$/\1/p' "$crate/include/lexical.h")
   major=${version%%.*} prefix=$work/prefix folder=$work/prefix/lib/here
   expect 'install before make' refuses 'run make first' B="$work/nothing"
-  expect 'a prefix with a space' refuses 'without spaces' prefix='/a b'
+  expect 'a prefix with a space' refuses 'without a space' prefix='/a b'
+  expect 'a prefix that sed would change' refuses 'without a space' prefix='/a&b'
   expect 'a libdir that is not below prefix' refuses 'below prefix' prefix=/usr libdir=/lib
   expect 'make install' installs
   expect 'the library is replaced, not overwritten' replaces_library
