@@ -108,7 +108,7 @@ fn pad_number(
 }
 
 impl<T: ToLexical> fmt::Display for Formatted<'_, T> {
-    #[inline]
+    #[inline(always)]
     fn fmt(&self, f: &mut fmt::Formatter<'_>) -> fmt::Result {
         let mut buffer = [0; BUFFER_SIZE];
         let text = Formatted(self.0, self.1).to_str(&mut buffer);
@@ -122,14 +122,14 @@ impl<T: ToLexical> fmt::Display for Formatted<'_, T> {
 }
 
 impl<T: ToLexical> fmt::Display for Decimal<T> {
-    #[inline]
+    #[inline(always)]
     fn fmt(&self, f: &mut fmt::Formatter<'_>) -> fmt::Result {
         fmt::Display::fmt(&Formatted(self.0, &STANDARD), f)
     }
 }
 
 impl<T: ToLexical> fmt::Display for Plus<T> {
-    #[inline]
+    #[inline(always)]
     fn fmt(&self, f: &mut fmt::Formatter<'_>) -> fmt::Result {
         let format = NumberFormatBuilder::new()
             .required_mantissa_sign(true)
@@ -139,7 +139,7 @@ impl<T: ToLexical> fmt::Display for Plus<T> {
 }
 
 impl<T: Radix> fmt::Display for Hex<T> {
-    #[inline]
+    #[inline(always)]
     fn fmt(&self, f: &mut fmt::Formatter<'_>) -> fmt::Result {
         let mut buffer = [0; 16];
         let text = Hex(self.0).to_str(&mut buffer);
@@ -148,7 +148,7 @@ impl<T: Radix> fmt::Display for Hex<T> {
 }
 
 impl<T: Radix> fmt::Display for Binary<T> {
-    #[inline]
+    #[inline(always)]
     fn fmt(&self, f: &mut fmt::Formatter<'_>) -> fmt::Result {
         let mut buffer = [0; MOST_DIGITS];
         let text = Binary(self.0).to_str(&mut buffer);
@@ -158,7 +158,7 @@ impl<T: Radix> fmt::Display for Binary<T> {
 
 impl<T: DigitCount + Radix> Digits<T> {
     // Returns the text, or an error if the radix is not from 2 to 36.
-    #[inline]
+    #[inline(always)]
     fn shown(self, buffer: &mut [u8; MOST_DIGITS]) -> Result<&str, fmt::Error> {
         if !is_radix(u64::from(self.0)) {
             return Err(fmt::Error);
@@ -169,7 +169,7 @@ impl<T: DigitCount + Radix> Digits<T> {
 }
 
 impl<T: DigitCount + Radix> fmt::Display for Digits<T> {
-    #[inline]
+    #[inline(always)]
     fn fmt(&self, f: &mut fmt::Formatter<'_>) -> fmt::Result {
         let mut buffer = [0; MOST_DIGITS];
         let text = Digits(self.0, self.1).shown(&mut buffer)?;
@@ -201,7 +201,7 @@ fn pad_wide(f: &mut fmt::Formatter<'_>, zeros: usize, digits: &str) -> fmt::Resu
 impl<T: DigitCount + Radix> PaddedDigits<T> {
     // Returns the last 64 digits of the text, or all if it has fewer. It is an error if the radix is not from 2 to 36,
     // or if the number does not fit in the width.
-    #[inline]
+    #[inline(always)]
     fn shown(self, buffer: &mut [u8; MOST_DIGITS]) -> Result<&str, fmt::Error> {
         if !self.is_known_utf8(Own) {
             return Err(fmt::Error);
@@ -211,7 +211,7 @@ impl<T: DigitCount + Radix> PaddedDigits<T> {
 }
 
 impl<T: DigitCount + Radix> fmt::Display for PaddedDigits<T> {
-    #[inline]
+    #[inline(always)]
     fn fmt(&self, f: &mut fmt::Formatter<'_>) -> fmt::Result {
         let mut buffer = [0; MOST_DIGITS];
         let digits = PaddedDigits(self.0, self.1, self.2).shown(&mut buffer)?;
@@ -224,14 +224,14 @@ impl<T: DigitCount + Radix> fmt::Display for PaddedDigits<T> {
 }
 
 impl<T: DigitCount + Radix> fmt::Display for Padded<T> {
-    #[inline]
+    #[inline(always)]
     fn fmt(&self, f: &mut fmt::Formatter<'_>) -> fmt::Result {
         fmt::Display::fmt(&PaddedDigits(10, self.0, self.1), f)
     }
 }
 
 impl<T: DigitCount + Radix> fmt::Display for FullHex<T> {
-    #[inline]
+    #[inline(always)]
     fn fmt(&self, f: &mut fmt::Formatter<'_>) -> fmt::Result {
         fmt::Display::fmt(&PaddedDigits(16, self.0, T::BITS / 4), f)
     }
@@ -239,7 +239,7 @@ impl<T: DigitCount + Radix> fmt::Display for FullHex<T> {
 
 impl<T: ToLexical> GroupedFixed<'_, T> {
     // Returns the text, or an error if there are more than 19 decimals.
-    #[inline]
+    #[inline(always)]
     fn shown(self, buffer: &mut [u8; LONGEST_FIXED]) -> Result<&str, fmt::Error> {
         if self.1 > 19 {
             return Err(fmt::Error);
@@ -250,7 +250,7 @@ impl<T: ToLexical> GroupedFixed<'_, T> {
 }
 
 impl<T: ToLexical> fmt::Display for GroupedFixed<'_, T> {
-    #[inline]
+    #[inline(always)]
     fn fmt(&self, f: &mut fmt::Formatter<'_>) -> fmt::Result {
         let mut buffer = [0; LONGEST_FIXED];
         let text = GroupedFixed(self.0, self.1, self.2).shown(&mut buffer)?;
@@ -259,7 +259,7 @@ impl<T: ToLexical> fmt::Display for GroupedFixed<'_, T> {
 }
 
 impl<T: ToLexical> fmt::Display for Fixed<T> {
-    #[inline]
+    #[inline(always)]
     fn fmt(&self, f: &mut fmt::Formatter<'_>) -> fmt::Result {
         fmt::Display::fmt(&GroupedFixed(self.0, self.1, &STANDARD), f)
     }
@@ -267,7 +267,7 @@ impl<T: ToLexical> fmt::Display for Fixed<T> {
 
 impl<T: ToLexical> TrimmedFixed<T> {
     // Returns the text, or an error if there are more than 19 decimals.
-    #[inline]
+    #[inline(always)]
     fn shown(self, buffer: &mut [u8; LONGEST_FIXED]) -> Result<&str, fmt::Error> {
         if self.1 > 19 {
             return Err(fmt::Error);
@@ -278,7 +278,7 @@ impl<T: ToLexical> TrimmedFixed<T> {
 }
 
 impl<T: ToLexical> fmt::Display for TrimmedFixed<T> {
-    #[inline]
+    #[inline(always)]
     fn fmt(&self, f: &mut fmt::Formatter<'_>) -> fmt::Result {
         let mut buffer = [0; LONGEST_FIXED];
         let text = TrimmedFixed(self.0, self.1).shown(&mut buffer)?;

@@ -134,70 +134,70 @@ pub(crate) fn write_fill(count: usize, f: &mut fmt::Formatter<'_>) -> fmt::Resul
 }
 
 impl<P: Show> fmt::Display for Shown<P> {
-    #[inline]
+    #[inline(always)]
     fn fmt(&self, f: &mut fmt::Formatter<'_>) -> fmt::Result {
         Shown(self.0).show(f)
     }
 }
 
 impl<P: Show> fmt::Display for Lower<P> {
-    #[inline]
+    #[inline(always)]
     fn fmt(&self, f: &mut fmt::Formatter<'_>) -> fmt::Result {
         Shown(*self).show(f)
     }
 }
 
 impl<P: Show> fmt::Display for ZeroPadded<P> {
-    #[inline]
+    #[inline(always)]
     fn fmt(&self, f: &mut fmt::Formatter<'_>) -> fmt::Result {
         Shown(*self).show(f)
     }
 }
 
 impl<P: Show> fmt::Display for Left<P> {
-    #[inline]
+    #[inline(always)]
     fn fmt(&self, f: &mut fmt::Formatter<'_>) -> fmt::Result {
         Shown(*self).show(f)
     }
 }
 
 impl<P: Show> fmt::Display for Right<P> {
-    #[inline]
+    #[inline(always)]
     fn fmt(&self, f: &mut fmt::Formatter<'_>) -> fmt::Result {
         Shown(*self).show(f)
     }
 }
 
 impl<P: Show> fmt::Display for Center<P> {
-    #[inline]
+    #[inline(always)]
     fn fmt(&self, f: &mut fmt::Formatter<'_>) -> fmt::Result {
         Shown(*self).show(f)
     }
 }
 
 impl<P: Show> fmt::Display for Joined<'_, P> {
-    #[inline]
+    #[inline(always)]
     fn fmt(&self, f: &mut fmt::Formatter<'_>) -> fmt::Result {
         Shown(Joined(self.0, self.1)).show(f)
     }
 }
 
 impl<P: Show, Q: Show> fmt::Display for OrElse<P, Q> {
-    #[inline]
+    #[inline(always)]
     fn fmt(&self, f: &mut fmt::Formatter<'_>) -> fmt::Result {
         Shown(*self).show(f)
     }
 }
 
 impl<T: ToLexical> fmt::Display for Scientific<T> {
-    #[inline]
+    #[inline(always)]
     fn fmt(&self, f: &mut fmt::Formatter<'_>) -> fmt::Result {
         Shown(*self).show(f)
     }
 }
 
 impl fmt::Display for HexBytes<'_> {
-    #[inline]
+    #[inline(always)]
     fn fmt(&self, f: &mut fmt::Formatter<'_>) -> fmt::Result {
         Shown(*self).show(f)
     }
