@@ -25,7 +25,8 @@ use core::fmt::{self, Display, Write};
 /// limit such as `{:.3e}`.
 ///
 /// This part is not proved: what it writes is what the `Display` of the value does. If that `Display` returns an error,
-/// `write_pieces` and `{}` return it, and the other calls panic.
+/// `write_pieces` and `{}` return it, unless the part is in a column, a `ZeroPadded` or a `Lower`, or `{}` has a width:
+/// then they panic, because they need the length first. The other calls panic.
 #[derive(Debug)]
 pub struct Displayed<'a, T: ?Sized>(pub &'a T);
 
@@ -75,7 +76,7 @@ impl<T: Display + ?Sized> Part for Displayed<'_, T> {
     #[inline]
     fn room(self) -> usize {
         let mut count = Count(0);
-        write!(count, "{}", self.0).expect("`Display` of the value returns no error");
+        write!(count, "{}", self.0).expect("the `Display` of the value returned an error");
         count.0
     }
 

@@ -24,7 +24,7 @@ pub struct Buffer {
 }
 
 impl Buffer {
-    /// Returns a buffer of 20 bytes, so each number may have its own.
+    /// Returns a buffer of 20 bytes on the stack. It costs nearly nothing to make one for each number.
     pub fn new() -> Buffer {
         Buffer { bytes: [0; 20] }
     }

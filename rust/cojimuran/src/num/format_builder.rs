@@ -47,7 +47,7 @@ impl NumberFormatBuilder {
     }
 
     /// Returns the format whose radices are both `radix`, from 2 to 36, with no required sign and no
-    /// groups.
+    /// groups. It is finished: for groups or a required sign begin with `new().radix(radix)`.
     ///
     /// # Panics
     ///

@@ -22,7 +22,7 @@ pub struct Buffer {
 }
 
 impl Buffer {
-    /// Returns a buffer of 20 bytes, so each number may have its own.
+    /// Returns a buffer of 20 bytes on the stack. It costs nearly nothing to make one for each number.
     #[must_use]
     #[inline]
     pub fn new() -> Buffer {

@@ -12,10 +12,13 @@ use crate::write_integer::radix::Radix;
 /// The digits of an unsigned number in a radix from 2 to 36: `Digits(16, 255u32)` writes `FF`. The digits above 9 are `A`
 /// to `Z`; `Lower(Digits(16, 255u32))` writes `ff`. With another radix the part is not valid.
 ///
-/// The number has a type of its own, so a literal needs one: `Digits(36, 1000u64)`. Its room is the number of its digits.
+/// The radix comes first, and the number is unsigned. A literal needs a type, because an `i32` is signed:
+/// `Digits(36, 1000u64)`. If an error says that `i32: UnsignedInteger` or `i32: Radix` is not satisfied, the number is
+/// signed: write it by `Formatted`. The room is the number of digits.
 ///
-/// `{}` of a `Digits` has the code of every radix, tens of kilobytes, also if the radix is a constant. `to_str`,
-/// `to_text` and `write_pieces` have only the code of a constant radix.
+/// If the radix is a constant, `to_str`, `to_text` and `write_pieces` of the part alone or in a tuple have the code of
+/// this radix only. `{}` has the code of every radix, which is 65 to 90 KB, and so has a second call of `append_to`, of
+/// `try_to_str`, or with the part in an `Option` or a column.
 ///
 /// ```
 /// use cojimuran::{Digits, Lower, Part};

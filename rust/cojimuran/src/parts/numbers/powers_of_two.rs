@@ -13,7 +13,10 @@ use crate::write_integer::radix::{Radix, constant_radix};
 use core::fmt;
 
 /// The digits of an unsigned number in radix 16, without a prefix: `Hex(255u32)` writes `FF`. Its room
-/// is that of its type: 2 bytes for a `u8`, and 16 for a `u64`. So a literal needs a type: `Hex(255u8)`.
+/// is that of its type: 2 bytes for a `u8`, and 16 for a `u64`.
+///
+/// A literal needs a type, because an `i32` is signed: `Hex(255u8)`. If an error says that `i32: UnsignedInteger` or
+/// `i32: Radix` is not satisfied, the number is signed: write it by `Formatted`.
 ///
 /// ```
 /// use cojimuran::{Hex, Part};
@@ -57,7 +60,8 @@ impl<T: Radix> Show for Hex<T> {
 }
 
 /// The digits of an unsigned number in radix 2, without a prefix: `Binary(5u8)` writes `101`. Its room
-/// is that of its type: 8 bytes for a `u8`, and 64 for a `u64`. So a literal needs a type: `Binary(5u8)`.
+/// is that of its type: 8 bytes for a `u8`, and 64 for a `u64`. A literal needs a type, because an `i32` is signed:
+/// `Binary(5u8)`.
 ///
 /// ```
 /// use cojimuran::{Binary, Part};
@@ -101,8 +105,8 @@ impl<T: Radix> Show for Binary<T> {
 }
 
 /// All digits of an unsigned number in radix 16, with leading zeros up to the width of its type, which is 2 for a `u8`, and
-/// 16 for a `u64` and for a `usize` on every target: `FullHex(255u16)` writes `00FF`. So a literal needs a type. Its room
-/// is this width.
+/// 16 for a `u64` and for a `usize` on every target: `FullHex(255u16)` writes `00FF`. A literal needs a type, because an
+/// `i32` is signed. The room is this width.
 ///
 /// ```
 /// use cojimuran::{FullHex, Part};
