@@ -5,7 +5,7 @@
 //! size_t count = lexical_decimal_u32(48879, buffer, sizeof buffer);
 //! ```
 //!
-//! writes `48879` to the buffer and returns 5. The example is from `tests/header.c`. No proof covers the
+//! writes `48879` to the buffer and returns 5. No proof covers the
 //! code of a C caller, so each function checks the format and the length of the buffer when it is
 //! called, and returns 0 if it cannot write.
 #![tactic(auto)]

@@ -141,8 +141,8 @@ impl NumberFormat {
         let _ = &self.parts;
     }
 
-    /// Returns whether numbers can be written in the format. This is true for each format that was built
-    /// from valid parts.
+    /// Returns whether numbers can be written in the format. It is always true, because a builder makes no other
+    /// formats.
     pub fn is_valid(&self) -> bool
         ensures always { IsTrue result }
         ensures valid { IsValid self.now }

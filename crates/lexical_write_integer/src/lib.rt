@@ -25,8 +25,7 @@
 //! assert_eq!(rt; &*text, b"+127".as_slice());
 //! ```
 
-// The examples above are from `a_first_use` in `crates/uses/src/tests.rt`. `crates/uses` has others, and the
-// documentation of most calls names one.
+// The examples above are from `a_first_use` in `crates/uses/src/tests.rt`. `crates/uses` has others.
 #![tactic(auto)]
 
 // The texts of numbers: the calls that most callers want.

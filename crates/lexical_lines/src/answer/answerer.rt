@@ -50,7 +50,7 @@ impl Answerer {
     ///
     /// An error of the sink at this answer.
     pub fn push<K: ByteSink>(&mut self, byte: u8, sink: &mut K) -> io::Result<()>
-        // After an error nothing is promised of the answers.
+        // After an error the answerer is of no more use. `err` says what was written.
         ensures ok { OnOk result ((read written : List ℕ) → HasAnswered read written self.old
             → HasAnswered (read ++ byte ∷ []) (written ++ added (K.taken sink.old) (K.taken sink.new)) self.new) }
         ensures err { OnErr result ((read written : List ℕ) → HasAnswered read written self.old

@@ -7,8 +7,7 @@ ghost use Rattle.lexical_lines.specs.Decimal.{IsDecimalNumeral};
 
 use lexical_num::limits::is_radix;
 
-// Parses decimal digits, of which there are too few for a sum that does not fit in a `u64`. Returns `None` if the text
-// is anything else.
+// Parses at most 19 decimal digits, so the sum fits in a `u64`. Returns `None` if the text is anything else.
 fn parse_short(text: &[u8]) -> Option<u64>
     requires some { 1 ≤ length text.now }
     requires at_most { length text.now ≤ 19 }

@@ -67,7 +67,7 @@ fn write_grouped_units<T: ToLexical>(
     if decimals == 0 {
         return group_digits(whole, format, buffer);
     }
-    // Of these points the groups replace all but the last.
+    // A byte for each separator and one for the point. `group_digits` writes over all but the last.
     let points = format.grouped_len(whole) + 1 - whole;
     insert_fill(b'.', points, decimals, &mut buffer[whole..]);
     group_digits(whole, format, buffer) + 1 + decimals

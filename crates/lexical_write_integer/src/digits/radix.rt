@@ -100,7 +100,7 @@ fn write_by_table<T: UnsignedInteger, const R: u32>(
     write_digits::<T, R>(value, get_table(R), buffer, turns)
 }
 
-// Writes a number as `write_by_table` does, but is called: its code is too long for each caller.
+// Writes a number as `write_by_table` does, but is never inlined: its code is too long for each caller.
 // It is cold: otherwise each call for a shorter number would save registers that only this needs.
 #[cold]
 fn write_out_of_line<T: UnsignedInteger, const R: u32>(
@@ -139,9 +139,9 @@ fn write_short_inline<T: UnsignedInteger, const R: u32>(
     write_out_of_line::<T, R>(value, buffer, turns)
 }
 
-// Writes the digits with the table of the radix, by the code of the radix, which names its table. In a power of 2 it is
-// short enough to be in each caller. It is cold, so its choice of a radix is not made one jump with the test for radix
-// 10 before it.
+// Writes the digits by the code of the radix, which names the table. In a power of 2 this code is short enough to be in
+// each caller. The function is cold, so that LLVM does not join its choice of a radix with the test for radix 10 before
+// it.
 #[cold]
 pub(crate) fn radix_inlined<T: UnsignedInteger>(
     value: T,

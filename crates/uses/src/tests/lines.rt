@@ -203,7 +203,7 @@ fn settings(rt: HostRuntime) {
     check_buffer(&rt, &buffer, 7, b"limit=\n");
 }
 
-// The example of parts in the README, and a change to the text that it returns.
+// The example of the crate `lexical_parts`, and a change to the text that it returns.
 #[test]
 fn texts_for_writing(rt: HostRuntime) {
     let mut buffer = [7; 40];

@@ -113,8 +113,8 @@ impl NumberFormat {
         }
     }
 
-    /// Returns whether numbers can be written in the format. This is true for each format that was built
-    /// from valid parts.
+    /// Returns whether numbers can be written in the format. It is always true, because a builder makes no other
+    /// formats.
     #[must_use]
     #[inline]
     pub const fn is_valid(&self) -> bool {

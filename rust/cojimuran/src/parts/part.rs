@@ -88,8 +88,8 @@ pub trait Part: Copy {
         index + self.write_to(&mut buffer[index..])
     }
 
-    /// If the buffer has `room` bytes or more, or the room is at most 256 bytes and the buffer is as long as the text,
-    /// writes the text to its start, and returns the length of the text; every byte after the text is unchanged.
+    /// If the buffer has `room` bytes or more, or the room is at most 256 bytes and the text fits in the buffer, writes
+    /// the text to its start, and returns the length of the text; every byte after the text is unchanged.
     /// Otherwise returns `None`, and the buffer is unchanged. Only the room and the length are tested: the part must be
     /// valid.
     ///

@@ -35,8 +35,8 @@ pub trait Show: Part {
     /// # Errors
     ///
     /// Returns the error of the writer, and an error for a `Bytes`, alone or in a tuple, that is not UTF-8. For a part of
-    /// your own it also returns an error if its room is above 256 bytes and you do not define this method, or if it does not write the same
-    /// text each time.
+    /// your own it also returns an error if its room is above 256 bytes and you do not define this method, or if it does
+    /// not write the same text each time.
     ///
     /// # Panics
     ///

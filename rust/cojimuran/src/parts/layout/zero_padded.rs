@@ -73,7 +73,7 @@ impl<P: Show> Show for ZeroPadded<P> {
             zeros: self.1.saturating_sub(count),
         };
         write_exactly(self.0, count, &mut adding)?;
-        // A text without a byte has begun no piece.
+        // An empty text has taken no zeros, so they are written now.
         let zeros = adding.zeros;
         // By this use it is known what the writer is now.
         let AddingZeros { out, .. } = adding;

@@ -17,7 +17,7 @@ use crate::write_integer::radix::Radix;
 /// signed: write it by `Formatted`. The room is the number of digits.
 ///
 /// If the radix is a constant, `to_str`, `to_text` and `write_pieces` of the part alone or in a tuple have the code of
-/// this radix only. `{}` has the code of every radix, which is 65 to 90 KB, and so has a second call of `append_to`, of
+/// this radix only. `{}` has the code of every radix, which is 64 KB or more, and so has a second call of `append_to`, of
 /// `try_to_str`, or with the part in an `Option` or a column.
 ///
 /// ```

@@ -10,7 +10,8 @@ const ONE: u64 = 1 << 32;
 
 // Indexed by the position of the highest set bit. The high 32 bits of `number + entry` are the digit
 // count. If a power of ten lies among the numbers with that highest bit, the entry is the larger count
-// minus that power, so only the numbers from that power upwards carry into the larger count.
+// minus that power, so only the numbers from that power upwards carry into the larger count. Otherwise the entry is the
+// count after the next power of ten minus that power, or, if no such power is below 2^32, the count.
 const DIGITS_BY_LOG2: [u64; 32] = [
     ONE,
     2 * ONE - 10,

@@ -64,8 +64,8 @@ fn write_64(n: u64, buffer: &mut [u8]) -> usize {
     }
 }
 
-// Writes the digits of a number of up to 32 bits. `write_32` is in each of its callers. In small code these share this
-// function, and otherwise it is in them too.
+// Writes the digits of a number of up to 32 bits. `strip` has rustc inline `write_32` into each caller. When rustc
+// optimizes for size, it can keep this copy as one function.
 #[inline]
 fn shared_write_32(n: u32, buffer: &mut [u8]) -> usize {
     write_32(n, buffer)

@@ -107,9 +107,9 @@ fn write_up_to_four<const R: u32>(
     }
 }
 
-// Writes a number of three digits or more: first it counts them, and then it writes four per iteration while more than
-// four are left. In a power of 2 the first four digits of the number are then written, which are found before the loop,
-// so that the number takes no register in it, and otherwise those that are left.
+// Writes a number of three digits or more. First it counts them, and then it writes four per iteration while more than
+// four are left. At last it writes the first one to four digits. In a power of 2 these are found before the loop, so that
+// the number takes no register in it.
 #[inline(always)]
 #[track_caller]
 pub(super) fn write_after_count<const R: u32>(
@@ -137,7 +137,7 @@ pub(super) fn write_after_count<const R: u32>(
         left = remove_four::<R>(left);
     }
     if R == 1 << bits {
-        // The counter notes this quotient. Its digits are those of `first`.
+        // The counter, which only contracts see, notes this quotient. Its digits are those of `first`.
         remove_two::<R>(left);
         write_four(first, table, buffer, 0);
     } else {
@@ -184,7 +184,7 @@ fn write_one_or_two<const R: u32>(
 }
 
 // Writes the one or two digits of a number as `write_one_or_two` does. It reads both characters as one number, in one
-// instruction, but into one of few registers, so it writes no part of a longer number.
+// instruction, but into one of few registers.
 #[inline(always)]
 #[track_caller]
 fn write_one_pair<const R: u32>(
