@@ -10,7 +10,7 @@ infixr 5 ◌then◌
 abbrev pub ◌then◌ : (List ℕ → Type 0) → (List ℕ → Type 0) → List ℕ → Type 0
 IsFirst then IsSecond = Then IsFirst IsSecond
 
--- exactly the bytes of a literal
+-- exactly the characters of a literal, which are its bytes if it is ASCII
 abbrev pub IsStr : String → List ℕ → Type 0
 IsStr literal = IsExactly (codes literal)
 
