@@ -32,7 +32,7 @@ pub slice_index-pairs_first : (radix i : ℕ) → i < radix * radix
 unfolding pairs
 slice_index-pairs_first radix i within = (digits_from radix 0 (radix * radix) i i within (omega arith)).0
 
--- and that of its second digit at the index after it
+-- the character of the second digit of i is at index 2 * i + 1
 pub slice_index-pairs_second : (radix i : ℕ) → i < radix * radix
     → slice_index (pairs radix) (2 * i + 1) ≡ digit_char (i % radix)
 unfolding pairs

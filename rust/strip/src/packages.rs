@@ -158,8 +158,8 @@ pub(crate) const SOURCES: &[Source] = &[
                 "#[inline(always)]\n#[track_caller]",
                 "buffer.rt texts/to_lexical.rt texts/integers.rt digits/write.rt digits/decimal.rt
                 digits/decimal/jeaiii.rt digits/pairs.rt digits/decimal/kernels.rt digits/decimal/decimal_pairs.rt
-                digits/radix/table_writer.rt write_digits write_by_fast_count write_by_table radix_inlined
-                constant_radix digit_count most_digits fast_log2",
+                digits/radix/counting_writer.rt digits/radix/steps.rt digits/radix/table_writer.rt write_digits
+                write_by_fast_count write_by_table radix_inlined constant_radix digit_count most_digits fast_log2",
             ),
         ],
         left_out: "turns",

@@ -16,7 +16,7 @@ use Rattle.lexical_write_integer.proofs.OfDigits.Powers.{div-pow_more}
 use Rattle.lexical_write_integer.proofs.OfDigits.Numerals.{IsBlockOf-one, IsBlockOf-append, IsNumeralOf-block}
 use borrow.Rule.Slice.PartMut.{put_mid}
 
--- one digit
+-- a digit that is written at an index is a block of one digit
 pub WritesBlock-one : (r d at : ℕ) (list : List ℕ) → d < r → at < length list
     → WritesBlock r 1 d at list (set list at (digit_char d))
 WritesBlock-one r d at list small room = search (arith, IsBlockOf-one, drop-set, take-set)
@@ -109,7 +109,7 @@ pub IsWrittenBack-counts : {r n taken rest at : ℕ} {before after : List ℕ}
     → 2 ≤ r → IsWrittenBack r n taken rest at before after → digit_count r rest + taken ≡ digit_count r n
 IsWrittenBack-counts {r} {n} {taken} {rest} two w = digit_count-left r n taken rest two w.fewer w.left
 
--- of `count` digits in total, as many remain as the index
+-- if the digits are written from the back, as many remain as the index says
 pub IsWrittenBack-left : {r n count rest at : ℕ} {before after : List ℕ}
     → 2 ≤ r → count ≡ digit_count r n → at ≤ count → IsWrittenBack r n (count - at) rest at before after
     → digit_count r rest ≡ at

@@ -24,7 +24,7 @@ pub length-after : (text following : List ℕ) (count more : ℕ) → count ≡ 
     → count + more ≡ length (text ++ following)
 length-after text following count more e f = omega (arith, length-append text following)
 
--- as many bytes of the buffer as were written are the text of `Writes`
+-- the first bytes of the buffer, as many as were written, are the text of `Writes`
 pub take-Writes : {Is : List ℕ → Type 0} (before after : List ℕ) (count : ℕ) (w : Writes Is before after count)
     → take count after ≡ w.text
 take-Writes before after count w = grind (arith, take_at)

@@ -131,7 +131,7 @@ IsNumeralOf-block r n count digits two few b =
 pub digits_unique : (r n : ℕ) (a b : List ℕ) → 2 ≤ r → IsDigits r n a → IsDigits r n b → a ≡ b
 digits_unique r n a b two p q = grind (arith, numeral_unique)
 
--- and its length is the digit count
+-- the length of the digits of a number is its digit count
 pub length-IsDigits : (r n : ℕ) (text : List ℕ) → 2 ≤ r → IsDigits r n text → length text ≡ digit_count r n
 length-IsDigits r n text two p = ap length p.characters ∙ length-map p.digits digit_char
     ∙ length-IsNumeralOf two p.numeral

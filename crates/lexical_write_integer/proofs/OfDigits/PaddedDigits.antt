@@ -28,7 +28,7 @@ map-zeros : (k : ℕ) → map digit_char (replicate k 0) ≡ replicate k 48
 map-zeros zero = refl
 map-zeros (suc k) = ap (λ text. 48 ∷ text) (map-zeros k)
 
--- as many zeros as the width
+-- the number 0 in a width is as many zeros as the width
 pub IsPadded-zeros : (r width : ℕ) → 0 < r → IsPadded r width 0 (replicate width 48)
 IsPadded-zeros r width some = record {
   digits = replicate width 0;

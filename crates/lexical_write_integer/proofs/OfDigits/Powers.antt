@@ -20,7 +20,7 @@ pow-three r = rw (pow-suc r 2, pow-two) refl
 pub pow-four : (r : ℕ) → r ^ 4 ≡ r * r * (r * r)
 pow-four r = rw (pow-add r 2 2, pow-two) refl
 
--- and the eighth power the square of the fourth
+-- the eighth power is the square of the fourth
 pub pow-eight : (r : ℕ) → r ^ 8 ≡ r ^ 4 * r ^ 4
 pow-eight r = pow-add r 4 4
 

@@ -48,7 +48,7 @@ AllAscii-grouped : (grouping : Option (ℕ × ℕ)) (bytes : List ℕ) → ForSo
     → AllAscii (grouped grouping bytes)
 AllAscii-grouped grouping bytes good all = grind (arith, AllAscii-in_groups)
 
--- so are the characters of the digits of a radix of at most 36
+-- the characters of the digits of a radix of at most 36 are below 128
 pub IsAscii-digit_chars : (r : ℕ) (digits : List ℕ) → r ≤ 36 → All (λ d. d < r) digits → IsAscii (map digit_char digits)
 IsAscii-digit_chars r digits few below =
     IsAscii-from_all (map digit_char digits) (AllAscii-digit_chars r digits few below)
@@ -57,7 +57,7 @@ IsAscii-digit_chars r digits few below =
 AllAscii-sign : (x : ℤ) (required : Bool) → AllAscii (sign_of x required)
 AllAscii-sign x required = grind arith
 
--- and the text of a number in such a radix, if its groups are valid
+-- the bytes of the text of a number, in a radix of at most 36, are below 128, if its groups are valid
 pub IsAscii-IsText : (x : ℤ) (format : Format) (text : List ℕ)
     → format.mantissa_radix ≤ 36 → ForSome format.digit_grouping IsGrouping → IsText x format text → IsAscii text
 IsAscii-IsText x format text few good is =

@@ -25,7 +25,7 @@ digits_equal_iff r m n s t two p q = (
   λ same. digits_unique r n s t two (rw same at p) q,
 )
 
--- so are their texts with leading zeros in one width
+-- the texts of two numbers with leading zeros in one width are equal if and only if the numbers are
 pub padded_equal_iff : (r width m n : ℕ) (s t : List ℕ) → IsPadded r width m s → IsPadded r width n t
     → (s ≡ t) ↔ (m ≡ n)
 padded_equal_iff r width m n s t p q = (
@@ -33,7 +33,7 @@ padded_equal_iff r width m n s t p q = (
   λ same. padded_unique r width n s t (rw same at p) q,
 )
 
--- and their texts in one format
+-- the texts of two numbers in one format are equal if and only if the numbers are
 pub texts_equal_iff : (m n : ℤ) (format : Format) (s t : List ℕ) → 2 ≤ format.mantissa_radix → IsText m format s
     → IsText n format t → (s ≡ t) ↔ (m ≡ n)
 texts_equal_iff m n format s t two p q = (

@@ -56,7 +56,7 @@ IsText-one_sign : (m n : ℕ) (format : Format) (text : List ℕ) → IsText (ne
     → IsText (pos n) format text → ⊥
 IsText-one_sign m n format text p q = grind (arith, common_steps)
 
--- and in a format the text of one number only
+-- a text is in one format the text of one number only
 pub equal_from_IsText : (m n : ℤ) (format : Format) (text : List ℕ) → IsText m format text
     → IsText n format text → m ≡ n
 equal_from_IsText (pos m) (pos n) format text p q =

@@ -62,7 +62,7 @@ digits_read r n text few is =
     let numeral = is.numeral.numeral in
     block_read r n is.digits text few numeral.nonempty numeral.below_radix is.numeral.value is.characters
 
--- so they are with leading zeros, if there is a digit at all
+-- digits with leading zeros are read as the number, if there is a digit at all
 pub padded_read : (r width n : ℕ) (text : List ℕ) → r ≤ 36 → 1 ≤ width → IsPadded r width n text → IsRead r n text
 padded_read r width n text few some is =
     block_read r n is.digits text few (omega (arith, some, is.block.counted))
@@ -98,12 +98,12 @@ read_signed r (pos n) false digits few read =
     let minus = no_minus r digits few read.numeral.1 in
     record { numeral = rw (minus, plus) read.numeral; value = rw (minus, plus) (ap pos read.value) }
 
--- without groups
+-- the text of a number without groups is its sign and its digits
 pub bare : (x : ℤ) (f : Format) (text : List ℕ) → f.digit_grouping ≡ None → (is : IsText x f text)
     → text ≡ sign_of x f.required_mantissa_sign ++ is.digits
 bare x f text none is = is.whole ∙ ap (λ g. sign_of x f.required_mantissa_sign ++ grouped g is.digits) none
 
--- in lowercase no value of a digit changes, and no sign
+-- ---- in lowercase no value of a digit changes, and no sign
 
 -- the value of a character as a digit is the same in lowercase
 lower_digit : (c : ℕ) → digit_value (to_ascii_lowercase c) ≡ digit_value c

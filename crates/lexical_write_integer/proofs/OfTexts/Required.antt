@@ -37,7 +37,7 @@ digit_count-le_need r n width some fits =
     (λ e. digit_count-le r n width some (rw (eqb-true r 10 e) fits))
     (λ _. omega arith)
 
--- and for the sign, the digits and the separators between their groups
+-- the required length has room for the sign, the digits and the separators between their groups
 pub grouped_length-le_need : {x least greatest : ℤ} (format : Format) {width count : ℕ}
     → IsDecimalWidth least greatest width → least ≤ℤ x → x ≤ℤ greatest
     → count ≡ digit_count format.mantissa_radix (unsigned_abs x)

@@ -76,7 +76,7 @@ text_none p x f text bare_format other plus minus few is =
     let in_digits = digits_have_no _ _ _ is.digits few other is.magnitude in
     rw (bare _ _ text bare_format is) (All-append (λ b. b ≢ p) _ is.digits (sign_is_none _ _ _ plus minus) in_digits)
 
--- and it is not empty
+-- the text of a number is not empty
 pub text_some : (x : ℤ) (f : Format) (text : List ℕ) → f.digit_grouping ≡ None → IsText x f text → 0 < length text
 text_some x f text bare_format is =
     let digits = is.magnitude in

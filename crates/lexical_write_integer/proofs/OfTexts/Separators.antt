@@ -24,7 +24,7 @@ pub digit_chars_have_no : (p r : ℕ) (digits : List ℕ) → r ≤ 36 → IsNot
 digit_chars_have_no p r digits few other below =
     All-map (λ b. b ≢ p) digit_char digits (λ k d l. digit_is_none p _ other (omega (arith, below k d l)))
 
--- so no text of digits has such a byte
+-- no text of digits has a byte that is neither a letter nor a digit
 pub digits_have_no : (p r n : ℕ) (text : List ℕ) → r ≤ 36 → IsNotAsciiAlphanumeric p → IsDigits r n text
     → All (λ b. b ≢ p) text
 digits_have_no p r n text few other is =

@@ -34,7 +34,7 @@ pub record IsAfterSign (x : ℤ) (format : Format) (between written after : List
   pub groups : Front written after (grouped format.digit_grouping (take digits written))
   pub total_count : total ≡ length (grouped format.digit_grouping (take digits written))
 
--- with the sign before them they are the text
+-- such digits, with the sign before them, are the text of the number
 WritesText-after : {x : ℤ} {format : Format} {before between written after : List ℕ} {sign digits total : ℕ}
     → Front before between (sign_of x format.required_mantissa_sign)
     → IsAfterSign x format between written after sign digits total

@@ -30,7 +30,7 @@ sign-le : (bits : ℕ) (is_signed : Bool) (x : ℤ) (required : Bool) → least_
     → length (sign_of x required) ≤ (if is_signed then 1 else 0) + (if required then 1 else 0)
 sign-le bits is_signed x required low = grind arith
 
--- and at most one byte in each case
+-- a sign is at most one byte
 pub sign-le_one : (x : ℤ) (required : Bool) → length (sign_of x required) ≤ 1
 sign-le_one x required = grind arith
 
@@ -47,7 +47,7 @@ need-le_size {bits} {width} {size} {size_decimal} is_signed of_type sizes x form
     let few = digit_count-le_bits format.mantissa_radix (unsigned_abs x) bits radix.at_least_two some fits in
     grind arith
 
--- and the size is at most the room, even with groups of one digit and a required sign
+-- the size in a format is at most the room, even with groups of one digit and a required sign
 pub size_in-le : {room bits width size size_decimal : ℕ} {is_signed : Bool}
     → AreSizes room bits is_signed width size size_decimal
     → (format : Format) → size_in size size_decimal format ≤ room

@@ -95,7 +95,7 @@ pub(crate) fn has_fast_count(radix: u32) -> bool
 
 /// Returns how many digits the number has. They are counted from the highest set bit if the radix is a
 /// power of 2, by `decimal_count` in radix 10, and otherwise by division. The radix is from 2 to 36.
-#[tactic(auto, using(crate::proofs::OfDigits::Radix::Loops::Records::none_noted))]
+#[tactic(auto, using(crate::proofs::OfDigits::Radix::Loops::Notes::none_noted))]
 pub fn digit_count_counted<T: DecimalCount>(x: T, radix: u32, turns: &mut Turns) -> usize
     requires { IsRadix radix }
     ensures count { result ≡ digit_count radix (T.magnitude x) }

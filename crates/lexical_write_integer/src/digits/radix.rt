@@ -12,6 +12,8 @@ pub mod algorithm;
 mod binary_words;
 mod by_radix;
 pub mod compact;
+mod counting_writer;
+mod steps;
 mod table_writer;
 
 use crate::digits::count::has_fast_count;
@@ -20,12 +22,13 @@ use crate::laws::digit_count_within_bits;
 use crate::turns::Turns;
 use binary_words::write_binary;
 use by_radix::by_radix;
+use counting_writer::{
+    count_and_write_five_to_eight, count_and_write_more, count_and_write_up_to_four, eighth_power,
+};
 use lexical_num::num::UnsignedInteger;
 use lexical_tables::get_table;
-use table_writer::{
-    count_and_write_five_to_eight, count_and_write_more, count_and_write_up_to_four, eighth_power,
-    fourth_power, write_after_count, write_short,
-};
+use steps::fourth_power;
+use table_writer::{write_after_count, write_short};
 
 // Writes a number in the radix `R`, whose digits are counted without division, with a table that begins with the digit
 // pairs of that radix.

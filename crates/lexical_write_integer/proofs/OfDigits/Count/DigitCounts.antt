@@ -135,7 +135,7 @@ width-le width most limit needed below = grind (arith, cases_lt, pow-le-pow_righ
 pub width-le_64 : (bits : ℕ) → IsBitWidth bits → bits ≤ 64
 width-le_64 bits is = grind arith
 
--- and each has at least one
+-- each type has at least one bit
 pub width-some : (bits : ℕ) → IsBitWidth bits → 0 < bits
 width-some bits is = grind arith
 
@@ -143,12 +143,12 @@ width-some bits is = grind arith
 pub digit_count-le_width : (r n bits : ℕ) → 2 ≤ r → IsBitWidth bits → n < 2 ^ bits → digit_count r n ≤ bits
 digit_count-le_width r n bits two width fits = digit_count-le_bits r n bits two (width-some bits width) fits
 
--- so a writer of its digits writes at most one byte for each bit
+-- a writer of the digits of a number writes at most one byte for each bit of its type
 pub WritesDigits-short : {r n bits len : ℕ} {before after : List ℕ}
     → WritesDigits r n before after len → 2 ≤ r → IsBitWidth bits → n < 2 ^ bits → len ≤ bits
 WritesDigits-short w two width fits = omega (arith, w.count, digit_count-le_width _ _ _ two width fits)
 
--- and so at most 64 digits
+-- a number of each type has at most 64 digits
 pub digit_count-le_64 : (r n bits : ℕ) → 2 ≤ r → IsBitWidth bits → n < 2 ^ bits → digit_count r n ≤ 64
 digit_count-le_64 r n bits two width fits =
     omega (arith, digit_count-le_width r n bits two width fits, width-le_64 bits width)
@@ -171,9 +171,9 @@ digit_count-le_10 n fits = digit_count-le 10 n 10 (omega arith) (omega arith)
 pub digit_count-le_19 : (n : ℕ) → n < 10 ^ 19 → digit_count 10 n ≤ 19
 digit_count-le_19 n fits = digit_count-le 10 n 19 (omega arith) (omega arith)
 
--- and a number of 64 bits at most 20
+-- a number of 64 bits has at most 20 decimal digits
 pub digit_count-le_20 : (n : ℕ) → n < 2 ^ 64 → digit_count 10 n ≤ 20
 digit_count-le_20 n fits = digit_count-le 10 n 20 (omega arith) (omega arith)
 
--- for a buffer that has room for every number of a width
+-- how many decimal digits a number has at most, for a buffer that has room for every number of a width
 pub ruleset widths = (digit_count-le_3, digit_count-le_5, digit_count-le_10, digit_count-le_19, digit_count-le_20)

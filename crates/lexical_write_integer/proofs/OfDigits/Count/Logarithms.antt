@@ -82,7 +82,7 @@ digit_count-estimate_more number e est above =
     let last : e + 2 - 1 ≡ e + 1 = omega arith in
     digit_count-is 10 number (e + 2) (omega arith) (omega arith) (log10-lt number e est) (λ more. rw last above)
 
--- in a radix that is a power of two
+-- the digit count in a radix that is a power of two, by the logarithm to base 2
 pub digit_count-log2 : (number k step : ℕ) → 0 < step → IsLog2 number k → digit_count (2 ^ step) number ≡ k / step + 1
 digit_count-log2 number k step some log =
     let q = k / step in
@@ -107,7 +107,7 @@ digit_count-log2 number k step some log =
     digit_count-is (2 ^ step) number (q + 1) two (omega arith) (rw pow-pow high)
     (λ more. rw (last, pow-pow) (low (omega arith)))
 
--- in any radix
+-- a radix of at least 2 has a logarithm to base 2 above 0
 pub IsLog2-some : (r k : ℕ) → 2 ≤ r → IsLog2 r k → 0 < k
 IsLog2-some r k two log = (log.of_positive (omega (arith, two))).greatest 1 (omega (arith, two))
 

@@ -17,6 +17,6 @@ step-pos step is = grind arith
 pub power-small : (r step : ℕ) → r ≤ 36 → IsStep step → r ^ step < 4294967296
 power-small r step few stepped = grind (arith, pow-le-pow_left)
 
--- and each of them is more than 1
+-- each power by which a count goes on is more than 1
 pub power-gt_one : (r step : ℕ) → 2 ≤ r → IsStep step → 1 < r ^ step
 power-gt_one r step two stepped = omega (arith, pow-lt_more r 0 step two (step-pos step stepped), pow-zero r)

@@ -35,7 +35,7 @@ WritesDigits-two pair first second p small e room following =
       kept = refl;
     })
 
--- one digit
+-- a first pair below 10 is one digit
 pub WritesDigits-one : (pair first second : ℕ) {before list : List ℕ} → IsFirstPair pair first second → pair < 100
     → leb 10 pair ≡ false
     → 1 ≤ length before → drop 1 before ≡ list → WritesDigits 10 pair before (first ∷ list) 1

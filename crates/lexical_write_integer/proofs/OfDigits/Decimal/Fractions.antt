@@ -46,7 +46,7 @@ moved_more y i = rw (pow-add 100 i 1) (grind arith)
 whole_part_of_product : (y : ℕ) → y * 100 / 2 ^ 32 ≡ y / 2 ^ 32 * 100 + y % 2 ^ 32 * 100 / 2 ^ 32
 whole_part_of_product y = omega arith
 
--- one further pair
+-- one further pair is the whole part of 100 times what is after the point
 pub carried-more : (y i : ℕ) → carried y (i + 1) ≡ carried y i * 100 + y * 100 ^ i % 2 ^ 32 * 100 / 2 ^ 32
 carried-more y i = rw (moved_more y i) at (whole_part_of_product (y * 100 ^ i))
 

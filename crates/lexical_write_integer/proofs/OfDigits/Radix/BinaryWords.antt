@@ -60,7 +60,7 @@ same-true (x ∷ xs) (y ∷ ys) h =
     let parts = and_parts (eqb x y) (same xs ys) h in
     rw (eqb-true x y parts.0, same-true xs ys parts.1) refl
 
--- then each of them passes it alone
+-- if all numbers below a bound pass a test, each of them does
 pub all_below-at : (test : ℕ → Bool) (n k : ℕ) → all_below test n ≡ true → k < n → test k ≡ true
 all_below-at test zero k h less = absurd (omega arith)
 all_below-at test (suc n) k h less =

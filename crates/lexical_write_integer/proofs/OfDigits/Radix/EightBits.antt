@@ -71,7 +71,7 @@ WritesBlock-overlap n count taken wide {before} {between} {after} some more few 
     ∙ ap (λ e. drop e before) order in
     WritesBlock-over following whole
 
--- with the zeros it has as many digits as are written
+-- the digits that remain, with zeros after them, have as many digits as are written
 pub shifted-lt : (n count taken wide : ℕ) → taken ≤ count → count ≤ taken + wide → n < 2 ^ count
     → n / 2 ^ taken * 2 ^ (taken + wide - count) < 2 ^ wide
 shifted-lt n count taken wide some few fits =

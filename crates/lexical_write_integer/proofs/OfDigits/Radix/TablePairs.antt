@@ -26,12 +26,12 @@ pub pair_first : (r k : ℕ) (table : List ℕ) → BeginsWithPairs r table → 
     → get_or table (2 * k) 0 ≡ digit_char (k / r)
 pair_first r k table t small = grind (arith, get_or-take, slice_index-pairs_first)
 
--- the second is at the index after the first
+-- the second character of pair k is at index 2 * k + 1 of the table
 pub pair_second : (r k : ℕ) (table : List ℕ) → BeginsWithPairs r table → k < r * r
     → get_or table (2 * k + 1) 0 ≡ digit_char (k % r)
 pair_second r k table t small = grind (arith, get_or-take, slice_index-pairs_second)
 
--- both, as they are copied from the table
+-- both characters of a pair, as they are copied from the table
 pub characters-pair : (r k : ℕ) (table : List ℕ) → BeginsWithPairs r table → k < r * r
     → take (2 * k + 2 - 2 * k) (drop (2 * k) table) ≡ map digit_char (k / r ∷ k % r ∷ [])
 characters-pair r k table t small =
@@ -42,7 +42,7 @@ characters-pair r k table t small =
     let second = drop-cons table (suc (2 * k)) 0 (omega arith) in
     rw (count, first, second, next, pair_first r k table t small, pair_second r k table t small) refl
 
--- both, as the low and the high byte of a number
+-- both characters of a pair, as the low and the high byte of a number
 pub joined : (first second n : ℕ) → first < 256 → n ≡ from_le_bytes w16 (first ∷ second ∷ []) → (n % 256 ≡ first)
     × (n / 256 ≡ second)
 joined first second n small is = (omega (arith, is, small), omega (arith, is, small))

@@ -13,7 +13,7 @@ pub mark_before-whole : (grouping : ℕ × ℕ) (right : ℕ) → right % groupi
     → mark_before grouping right ≡ grouping.1 ∷ []
 mark_before-whole grouping right whole = cond-true _ _ _ (eq-eqb (right % grouping.0) 0 whole)
 
--- and nothing is before digits that do not
+-- no separator is before digits that do not make whole groups
 pub mark_before-part : (grouping : ℕ × ℕ) (right : ℕ) → (right % grouping.0 ≡ 0 → ⊥) → mark_before grouping right ≡ []
 mark_before-part grouping right part = cond-false _ _ _ (ne_eqb (right % grouping.0) 0 part)
 
@@ -83,7 +83,7 @@ pub record HasRoomInGroups (grouping : ℕ × ℕ) (count total : ℕ) (before :
   pub total_count : total ≡ count + (count - 1) / grouping.0
   pub room : total ≤ length before
 
--- in groups they have exactly that length
+-- the digits of a buffer with room for their groups are, in groups, exactly as long as that room
 pub length-in_groups_taken : {grouping : ℕ × ℕ} {count total : ℕ} {before : List ℕ}
     → HasRoomInGroups grouping count total before → length (in_groups grouping (take count before)) ≡ total
 length-in_groups_taken {grouping} {count} {total} {before} h = grind (arith, length-in_groups, length-take-le)
@@ -133,7 +133,7 @@ pub length-grouped_lt : (grouping : Option (ℕ × ℕ)) (xs ys : List ℕ) → 
     → length (grouped grouping xs) < length (grouped grouping ys)
 length-grouped_lt grouping xs ys less = grind (arith, length-in_groups_lt)
 
--- and equally many digits take equally many bytes
+-- equally many digits take equally many bytes in the groups of a format
 pub length-grouped_same : (grouping : Option (ℕ × ℕ)) (xs ys : List ℕ) → length xs ≡ length ys
     → length (grouped grouping xs) ≡ length (grouped grouping ys)
 length-grouped_same grouping xs ys same = grind (arith, length-in_groups_same)

@@ -56,6 +56,7 @@ pub(crate) fn write_one_or_two(pair: u32, buffer: &mut [u8]) -> usize
 fn write_first(pair: u32, buffer: &mut [u8]) -> usize
     requires pair { pair < 100 }
     requires room { 2 ≤ length buffer.old }
+    // The old buffer is not named, because the byte after a single digit changes.
     ensures digits { WritesDigits 10 pair buffer.new buffer.new result }
     ensures rest { drop 2 buffer.new ≡ drop 2 buffer.old }
     ensures some { 1 ≤ result }

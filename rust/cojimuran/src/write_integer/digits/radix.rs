@@ -7,6 +7,8 @@ pub mod algorithm;
 mod binary_words;
 mod by_radix;
 pub mod compact;
+mod counting_writer;
+mod steps;
 mod table_writer;
 
 use crate::num::num::UnsignedInteger;
@@ -15,10 +17,11 @@ use crate::write_integer::digits::count::has_fast_count;
 use crate::write_integer::digits::pairs::RadixTable;
 use binary_words::write_binary;
 use by_radix::by_radix;
-use table_writer::{
+use counting_writer::{
     count_and_write_five_to_eight, count_and_write_more, count_and_write_up_to_four, eighth_power,
-    fourth_power, write_after_count, write_short,
 };
+use steps::fourth_power;
+use table_writer::{write_after_count, write_short};
 
 // Writes a number in the radix `R`, whose digits are counted without division, with a table that begins with the digit
 // pairs of that radix.

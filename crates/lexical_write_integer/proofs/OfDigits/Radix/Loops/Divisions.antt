@@ -12,7 +12,7 @@ use Rattle.lexical_write_integer.proofs.OfDigits.Count.DigitCounts.{digit_count-
 use Rattle.lexical_write_integer.proofs.OfDigits.Powers.{div-pow_more}
 use Rattle.lexical_write_integer.proofs.OfDigits.Count.RadixPowers.{step-pos, power-gt_one}
 
--- ---- the recorded quotients
+-- ---- the noted quotients
 
 -- without an iteration there is no quotient
 pub quotients-none : (r n step : ℕ) → quotients r n step 0 ≡ []
@@ -63,7 +63,7 @@ pub record IsDivided (r n step taken left : ℕ) (before after : List ℕ) : Typ
   pub fewer : taken < digit_count r n
   pub notes : after ≡ before ++ quotients r n step turns
 
--- before the first iteration, no digit is removed and nothing recorded
+-- before the first iteration, no digit is removed and nothing noted
 pub IsDivided-start : {r n step : ℕ} {notes : List ℕ} → IsDivided r n step 0 n notes notes
 IsDivided-start {r} {n} {notes = notes} = grind (arith, pow-zero, digit_count-pos, quotients-none, append-nil)
 
@@ -73,7 +73,7 @@ pub IsDivided-room : {r n step taken left : ℕ} {before after : List ℕ}
 IsDivided-room {r} {n} {step} {taken} {left} two d long =
     omega (arith, digit_count-more r step left two long, digit_count-left r n taken left two d.fewer d.rest)
 
--- an iteration divides what is left, which is at least the power it divides by, and records the quotient
+-- an iteration divides what is left, which is at least the power it divides by, and notes the quotient
 pub IsDivided-more : {r n step taken left next : ℕ} {before between after : List ℕ}
     → 2 ≤ r → IsDivided r n step taken left before between → r ^ step ≤ left → next ≡ left / r ^ step
     → after ≡ between ++ next ∷ []
@@ -82,7 +82,7 @@ IsDivided-more {r} {n} {step} {taken} {next = next} {before} two d long e noted 
     let turn : taken + step ≡ step * (d.turns + 1) = grind (arith, d.by_turns) in
     grind (arith, div-pow_more, IsDivided-room, quotients-more, append_assoc)
 
--- at the end of the loop
+-- the loop ends when the number that is left has at most `step` digits
 pub TakesDigits-end : {r n step taken left : ℕ} {before after : List ℕ}
     → 2 ≤ r → IsStep step → IsDivided r n step taken left before after → left < r ^ step
     → TakesDigits r n step taken left before after

@@ -2,7 +2,7 @@ use Rattle.std.proofs.Common.{sym, arith}
 use Rattle.std.proofs.Math.Nat.{div-one}
 use Rattle.lexical_write_integer.proofs.OfDigits.Count.DigitCounts.{digit_count-le_64, digit_count-pos}
 use Rattle.lexical_write_integer.proofs.OfDigits.Count.Logarithms.{digit_count-log2}
-use Rattle.lexical_write_integer.proofs.OfDigits.Radix.Loops.Records.{slow_noted, has_no_fast_count}
+use Rattle.lexical_write_integer.proofs.OfDigits.Radix.Loops.Notes.{slow_noted, has_no_fast_count}
 use Rattle.lexical_write_integer.proofs.digits.count.digit_count_counted.Goals as goal
 
 pub returns-in-2-clause-count : goal.returns-in-2-clause-count

@@ -12,7 +12,7 @@ pow-power-requires g c = power-small _ _ c.requires.radix.at_most_36 c.requires.
 pub returns-then-power-BITS-eq0-clause-power : goal.returns-then-power-BITS-eq0-clause-power
 returns-then-power-BITS-eq0-clause-power g c = c.from_u32.ensures ∙ c.pow-power.ensures
 
--- this too, since a power that does not fit would be cut off
+-- with an answer here, too, the refusal of a mistake says what is wrong: a power that does not fit would be cut off
 pub from_u32-requires : goal.from_u32-requires
 from_u32-requires g c =
     let small = power-small _ _ c.requires.radix.at_most_36 c.requires.exponent in

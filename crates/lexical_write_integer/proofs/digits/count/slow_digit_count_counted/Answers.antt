@@ -2,8 +2,8 @@ use Rattle.std.proofs.Common.{◌≡◌, ◌+◌, ◌≤◌, ◌++◌, arith}
 use Rattle.lexical_write_integer.specs.DigitCount.{digit_count}
 use Rattle.lexical_write_integer.specs.LoopTurns.{slow_notes}
 use Rattle.lexical_write_integer.proofs.OfDigits.Count.DigitCounts.{digit_count-le_64}
-use Rattle.lexical_write_integer.proofs.OfDigits.Radix.Loops.Records.{slow_count-is, slow_notes-are, length-more}
-use Rattle.lexical_write_integer.proofs.OfDigits.Radix.Loops.Records.{length-slow_notes}
+use Rattle.lexical_write_integer.proofs.OfDigits.Radix.Loops.Notes.{slow_count-is, slow_notes-are, length-more}
+use Rattle.lexical_write_integer.proofs.OfDigits.Radix.Loops.Notes.{length-slow_notes}
 use Rattle.lexical_write_integer.proofs.digits.count.slow_digit_count_counted.Goals as goal
 use Rattle.lexical_write_integer.proofs.digits.count.slow_digit_count_counted.Goals.{After-take_digits-by_one}
 

@@ -1,10 +1,10 @@
-use Rattle.lexical_write_integer.proofs.OfDigits.Radix.Loops.Records.{none_noted, table_notes-are}
+use Rattle.lexical_write_integer.proofs.OfDigits.Radix.Loops.Notes.{none_noted, table_notes-are}
 use Rattle.lexical_write_integer.proofs.digits.radix.write_by_fast_count.Goals as goal
 
 pub returns-then-number-from-clause-digits : goal.returns-then-number-from-clause-digits
 returns-then-number-from-clause-digits g c = c.write_short.ensures.digits
 
--- the count records nothing
+-- the count notes nothing
 pub returns-else-number-from-clause-notes : goal.returns-else-number-from-clause-notes
 returns-else-number-from-clause-notes g c =
     let old = c.args.turns.now in

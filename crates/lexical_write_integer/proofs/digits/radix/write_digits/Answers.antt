@@ -2,7 +2,7 @@ use Rattle.std.proofs.Common.{◌≡◌, ◌++◌, ap, sym, arith}
 use Rattle.lexical_write_integer.specs.Buffer.{WritesDigits}
 use Rattle.lexical_write_integer.specs.LoopTurns.{count_notes, loop_notes, takes_four}
 use Rattle.lexical_write_integer.proofs.OfDigits.Count.RadixPowers.{power-small}
-use Rattle.lexical_write_integer.proofs.OfDigits.Radix.Loops.Records.{slow_noted, table_notes-are}
+use Rattle.lexical_write_integer.proofs.OfDigits.Radix.Loops.Notes.{slow_noted, table_notes-are}
 use Rattle.lexical_write_integer.proofs.digits.radix.write_digits.Goals as goal
 use Rattle.lexical_write_integer.proofs.digits.radix.write_digits.Goals.{then-number-fourth_power}
 use Rattle.lexical_write_integer.proofs.digits.radix.write_digits.Goals.{else-number-fourth_power+then-number-eighth_power}

@@ -1,7 +1,7 @@
 use Rattle.std.proofs.Common.{arith}
 use Rattle.std.proofs.lemmas.Bool.{eq-eqb, ne_eqb}
 use Rattle.lexical_write_integer.proofs.OfDigits.Count.DigitCounts.{WritesDigits-short}
-use Rattle.lexical_write_integer.proofs.OfDigits.Radix.Loops.Records.{table_turns-are, table_turns-few}
+use Rattle.lexical_write_integer.proofs.OfDigits.Radix.Loops.Notes.{table_turns-are, table_turns-few}
 use Rattle.lexical_write_integer.proofs.digits.write.write_integer_counted.Goals as goal
 
 pub returns-then-radix-eq10-clause-at_most : goal.returns-then-radix-eq10-clause-at_most

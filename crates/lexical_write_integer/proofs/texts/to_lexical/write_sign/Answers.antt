@@ -40,7 +40,7 @@ returns-clause-sign g c =
           ) refl
     ]
 
--- as above
+-- for zero the cases are the same
 pub returns-clause-none : goal.returns-clause-none
 returns-clause-none g c zero =
     elim c.if-is_negative.branch [

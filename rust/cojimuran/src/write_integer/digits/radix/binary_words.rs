@@ -2,7 +2,8 @@
 
 // Writing binary digits, eight at a time, as the bytes of a word.
 
-use super::table_writer::{count_some, remove_four};
+use super::steps::remove_four;
+use super::table_writer::count_some;
 
 // Writes the eight binary digits of a number below 256 at index `at`. Each byte of the product is the number, of which
 // the mask keeps another bit. The sum carries a bit that is set to bit 7 of its byte, and no further.

@@ -4,7 +4,7 @@ use Rattle.lexical_write_integer.proofs.OfDigits.Decimal.FirstPairs.{IsFirstPair
 use Rattle.lexical_write_integer.proofs.digits.decimal.decimal_pairs.write_first.Goals as goal
 use mir.Val.{bool_byte}
 
--- they are written over themselves
+-- the digits of the first pair, where a single digit is written over the zero after it
 digits : (pair first second : ℕ) (is_pair : Bool) (list : List ℕ) → IsFirstPair pair first second → pair < 100
     → 2 ≤ length list → leb 10 pair ≡ is_pair
     → WritesDigits 10 pair (set (set list 1 second) 0 first) (set (set list 1 second) 0 first) (1 + bool_byte is_pair)

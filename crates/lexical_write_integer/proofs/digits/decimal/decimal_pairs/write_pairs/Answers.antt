@@ -8,7 +8,7 @@ use Rattle.lexical_write_integer.proofs.OfDigits.Decimal.PairBlocks.{WritesDigit
 use Rattle.lexical_write_integer.proofs.OfDigits.Decimal.PairBlocks.{room_for_carried}
 use Rattle.lexical_write_integer.proofs.digits.decimal.decimal_pairs.write_pairs.Goals as goal
 
--- the record of one further pair
+-- the note of one further pair
 products-more : (fraction i : ℕ) → products fraction (i + 1) ≡ products fraction i
     ++ (fraction * 100 ^ i % 2 ^ 32 * 100) ∷ []
 products-more fraction i = map-range_with_len_more (λ j. fraction * 100 ^ j % 2 ^ 32 * 100) 0 i i (zero-add i)

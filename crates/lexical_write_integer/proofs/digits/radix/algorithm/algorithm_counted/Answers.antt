@@ -1,6 +1,6 @@
 use Rattle.std.proofs.Common.{arith}
 use Rattle.lexical_write_integer.proofs.OfDigits.Count.DigitCounts.{WritesDigits-short}
-use Rattle.lexical_write_integer.proofs.OfDigits.Radix.Loops.Records.{table_turns-are, table_turns-few}
+use Rattle.lexical_write_integer.proofs.OfDigits.Radix.Loops.Notes.{table_turns-are, table_turns-few}
 use Rattle.lexical_write_integer.proofs.digits.radix.algorithm.algorithm_counted.Goals as goal
 
 pub returns-clause-turns : goal.returns-clause-turns

@@ -1,5 +1,5 @@
 use Rattle.std.proofs.Common.{arith}
-use Rattle.lexical_write_integer.proofs.OfDigits.Radix.Loops.Records.{loop_notes-after}
+use Rattle.lexical_write_integer.proofs.OfDigits.Radix.Loops.Notes.{loop_notes-after}
 use Rattle.lexical_write_integer.proofs.digits.radix.binary_words.note_up_to_eight.Goals as goal
 
 pub returns : goal.returns

@@ -8,7 +8,7 @@ use Rattle.lexical_write_integer.proofs.Buffers.Blocks.{IsWrittenBack-more, IsWr
 use Rattle.lexical_write_integer.proofs.Buffers.BlocksAfter.{WritesDigits-block}
 use Rattle.lexical_write_integer.proofs.OfDigits.Count.DigitCounts.{digit_count-fits, digit_count-more}
 use Rattle.lexical_write_integer.proofs.OfDigits.Radix.EightBits.{WritesBlock-overlap, shifted-lt}
-use Rattle.lexical_write_integer.proofs.OfDigits.Radix.Loops.Records.{none_noted, table_notes-are}
+use Rattle.lexical_write_integer.proofs.OfDigits.Radix.Loops.Notes.{none_noted, table_notes-are}
 use Rattle.lexical_write_integer.proofs.OfDigits.Radix.Loops.ShortNumbers.{fits-within, longer-than}
 use Rattle.lexical_write_integer.proofs.digits.radix.binary_words.write_binary.Goals as goal
 use Rattle.lexical_write_integer.proofs.digits.radix.binary_words.write_binary.Goals.{In-loop-at, After-loop-at}

@@ -1,6 +1,6 @@
 use Rattle.std.proofs.Common.{arith}
 use Rattle.lexical_write_integer.proofs.OfDigits.Count.DigitCounts.{WritesDigits-short}
-use Rattle.lexical_write_integer.proofs.OfDigits.Radix.Loops.Records.{length-more, length-compact_notes}
+use Rattle.lexical_write_integer.proofs.OfDigits.Radix.Loops.Notes.{length-more, length-compact_notes}
 use Rattle.lexical_write_integer.proofs.digits.radix.compact.compact_counted.Goals as goal
 
 pub returns-clause-turns : goal.returns-clause-turns

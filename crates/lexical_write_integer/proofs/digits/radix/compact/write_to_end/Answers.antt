@@ -10,7 +10,7 @@ use Rattle.lexical_write_integer.proofs.Buffers.Blocks.{WritesBlock-one}
 use Rattle.lexical_write_integer.proofs.OfDigits.Count.DigitCounts.{digit_count-one}
 use Rattle.lexical_write_integer.proofs.OfDigits.Radix.Loops.Divisions.{IsDivided-start, IsDivided-room, IsDivided-more}
 use Rattle.lexical_write_integer.proofs.OfDigits.Radix.Loops.Divisions.{TakesDigits-end}
-use Rattle.lexical_write_integer.proofs.OfDigits.Radix.Loops.Records.{compact_notes-are}
+use Rattle.lexical_write_integer.proofs.OfDigits.Radix.Loops.Notes.{compact_notes-are}
 use Rattle.lexical_write_integer.proofs.OfDigits.Powers.{pow-one}
 use Rattle.lexical_write_integer.proofs.digits.radix.compact.write_to_end.Goals as goal
 use Rattle.lexical_write_integer.proofs.digits.radix.compact.write_to_end.Goals.{In-loop-left, After-loop-left}

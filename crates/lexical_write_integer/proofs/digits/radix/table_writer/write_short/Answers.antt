@@ -1,9 +1,9 @@
 use Rattle.std.proofs.Common.{◌^◌, ◌<◌}
 use Rattle.lexical_write_integer.proofs.OfDigits.Powers.{pow-two}
-use Rattle.lexical_write_integer.proofs.OfDigits.Radix.Loops.Records.{loop_notes-none, table_notes-are}
+use Rattle.lexical_write_integer.proofs.OfDigits.Radix.Loops.Notes.{loop_notes-none, table_notes-are}
 use Rattle.lexical_write_integer.proofs.digits.radix.table_writer.write_short.Goals as goal
 
--- the writer's loop records nothing
+-- the writer's loop notes nothing
 pub returns-clause-notes : goal.returns-clause-notes
 returns-clause-notes g c =
     let r = g.row.R in

@@ -1,4 +1,4 @@
--- The quotients that the loops record, and how many of them there are.
+-- The quotients that the loops note, and how many of them there are.
 use Rattle.std.proofs.lemmas.Grind.{common_steps}
 use Rattle.std.proofs.Common.{◌≡◌, ◌≢◌, ℕ, ◌+◌, ◌*◌, ◌/◌, ◌%◌, ◌^◌, ◌<◌, ◌≤◌, true, false, cond, ltb, eqb, List, []}
 use Rattle.std.proofs.Common.{◌∷◌, ◌++◌, length, refl, sym, ap, ◌∙◌, inl}
@@ -53,7 +53,7 @@ two_notes {r} {n} {four} {left} two t =
     (quotients-one r (n / r ^ (4 * (digits_after_first r n / 4))) 2
     ∙ ap (λ k. k ∷ []) (left_left r n (4 * (digits_after_first r n / 4)) 2)))
 
--- what both loops record, one after the other
+-- what both loops note, one after the other
 pub loop_notes-are : {r n four left_four by_two left_two : ℕ} {a b c : List ℕ}
     → 2 ≤ r → TakesDigits r n 4 four left_four a b → TakesDigits r left_four 2 by_two left_two b c
     → c ≡ a ++ loop_notes r n
@@ -94,7 +94,7 @@ last_notes {r} {n} {four} {left_four} {by_two} {left_two} two t u =
     let none : digits_after_first r left_two / 1 ≡ 0 = omega (arith, eqb-false (digit_count r n % 2) 0 odd) in
     rw none (quotients-none r left_two 1))
 
--- what the three loops record, one after the other
+-- what the three loops note, one after the other
 pub slow_notes-are : {r n four left_four by_two left_two by_one left_one : ℕ} {a b c d : List ℕ}
     → 2 ≤ r → TakesDigits r n 4 four left_four a b → TakesDigits r left_four 2 by_two left_two b c
     → TakesDigits r left_two 1 by_one left_one c d → d ≡ a ++ slow_notes r n
@@ -104,23 +104,23 @@ slow_notes-are {r} {n} {a = a} two t u v =
 
 -- ---- a number of up to four digits
 
--- of one or two digits the loops that remove four and two digits record nothing
+-- with one or two digits, the loops that remove four and two digits note nothing
 pub loop_notes-short : (r n : ℕ) → 2 ≤ r → n < r ^ 2 → loop_notes r n ≡ []
 unfolding loop_notes quotients
 loop_notes-short r n two short = grind (arith, digit_count-le, cases_eq, digit_count-pos)
 
--- with one or two digits, the loops before the last of the count record nothing
+-- with one or two digits, the notes do not change if what these loops note is appended
 pub loop_notes-none : (r n : ℕ) (notes : List ℕ) → 2 ≤ r → n < r ^ 2 → notes ≡ notes ++ loop_notes r n
 loop_notes-none r n notes two short = rw (loop_notes-short r n two short) (sym (append-nil notes))
 
--- and with three or four, a quotient
+-- with three or four digits, the loops that remove four and two digits note one quotient
 pub loop_notes-pair : (r n : ℕ) → 2 ≤ r → r ^ 2 ≤ n → n < r ^ 4 → loop_notes r n ≡ n / r ^ 2 ∷ []
 unfolding loop_notes quotients
 loop_notes-pair r n two long short =
     let split = digit_count-split r 2 n two long in
     grind (arith, digit_count-le, digit_count-pos)
 
--- the slow count records nothing of a single digit
+-- the slow count notes nothing of a single digit
 pub slow_notes-one : (r n : ℕ) → 2 ≤ r → n < r → slow_notes r n ≡ []
 unfolding slow_notes
 slow_notes-one r n two short =
@@ -128,13 +128,13 @@ slow_notes-one r n two short =
     omega (arith, pow-one r, pow-le-pow_right {n = r} (omega arith) {i = 1} {j = 2} (omega arith)) in
     rw (loop_notes-short r n two short_too, digit_count-one r n two short) refl
 
--- of two digits it records the first one
+-- the slow count notes the first of two digits
 pub slow_notes-two : (r n : ℕ) → 2 ≤ r → r ≤ n → n < r ^ 2 → slow_notes r n ≡ n / r ∷ []
 unfolding slow_notes
 slow_notes-two r n two long short =
     rw (loop_notes-short r n two short, digit_count-two r n two long short, pow-one) refl
 
--- of three or four digits it records the quotient by the square, and then what it records of that
+-- of three or four digits it notes the quotient by the square, and then what it notes of that
 pub slow_notes-pair : (r n : ℕ) → 2 ≤ r → r ^ 2 ≤ n → n < r ^ 4 → slow_notes r n ≡ n / r ^ 2 ∷ slow_notes r (n / r ^ 2)
 unfolding slow_notes
 slow_notes-pair r n two long short =
@@ -143,13 +143,13 @@ slow_notes-pair r n two long short =
     let few = digit_count-le r (n / r ^ 2) 2 (omega arith) below in
     grind (arith, digit_count-split, loop_notes-pair, loop_notes-short, digit_count-pos, div-pow_more)
 
--- ---- a number of more than four digits: its first quotient, and then what is recorded for that quotient
+-- ---- a number of more than four digits: its first quotient, and then what is noted for that quotient
 
 -- a number that is at least r ^ 4 has four more digits after its first one than its quotient by r ^ 4 has
 after_four : (r n : ℕ) → 2 ≤ r → r ^ 4 ≤ n → digits_after_first r n ≡ digits_after_first r (n / r ^ 4) + 4
 after_four r n two long = omega (arith, digit_count-split r 4 n two long, digit_count-pos r (n / r ^ 4))
 
--- the loops that remove four and two digits record the first quotient, and then what they record of it
+-- the loops that remove four and two digits note the first quotient, and then what they note of it
 pub loop_notes-first : (r n : ℕ) → 2 ≤ r → r ^ 4 ≤ n → loop_notes r n ≡ n / r ^ 4 ∷ loop_notes r (n / r ^ 4)
 unfolding loop_notes
 loop_notes-first r n two long =
@@ -159,14 +159,14 @@ loop_notes-first r n two long =
     let order : 4 * (b / 4) + 2 + 4 ≡ 4 * (b / 4 + 1) + 2 = omega arith in
     rw (after_four r n two long, turns, more, quotients-first, ← order, ← div-pow_more) refl
 
--- and so does the slow count
+-- the slow count notes the first quotient, and then what it notes of that
 pub slow_notes-first : (r n : ℕ) → 2 ≤ r → r ^ 4 ≤ n → slow_notes r n ≡ n / r ^ 4 ∷ slow_notes r (n / r ^ 4)
 unfolding slow_notes
 slow_notes-first r n two long = grind (arith, digit_count-split, loop_notes-first, after_four, div-pow_more)
 
 -- ---- one digit per iteration
 
--- a loop that removes single digits records what the compact writer does
+-- a loop that removes single digits notes what the compact writer does
 pub compact_notes-are : {r n taken left : ℕ} {a b : List ℕ} → TakesDigits r n 1 taken left a b
     → b ≡ a ++ compact_notes r n
 unfolding compact_notes
@@ -174,12 +174,12 @@ compact_notes-are {r} {n} {a = a} t = t.notes ∙ ap (λ k. a ++ quotients r n 1
 
 -- ---- the radices in which digits are counted without a loop
 
--- in these radices the digit count records nothing
+-- in a radix with a fast count the digit count notes nothing
 pub none_noted : (r n : ℕ) (notes : List ℕ) → has_fast_count r ≡ true → notes ≡ notes ++ count_notes r n
 unfolding count_notes
 none_noted r n notes at_once = rw at_once (sym (append-nil notes))
 
--- in any other radix it records what the slow count does
+-- in any other radix the digit count notes what the slow count does
 pub slow_noted : (r n : ℕ) (a b : List ℕ) → has_fast_count r ≡ false → b ≡ a ++ slow_notes r n
     → b ≡ a ++ count_notes r n
 unfolding count_notes
@@ -191,40 +191,40 @@ has_no_fast_count r p2 p4 p8 p10 p16 p32 = grind arith
 
 -- ---- the table writer
 
--- what the digit count records, and then what the loops do, is what the table writer records
+-- what the digit count notes, and then what the loops do, is what the table writer notes
 pub table_notes-are : (r n : ℕ) (a b c : List ℕ) → b ≡ a ++ count_notes r n → c ≡ b ++ loop_notes r n
     → c ≡ a ++ table_notes r n
 unfolding table_notes
 table_notes-are r n a b c counted written = rw (written, counted) (append_assoc a (count_notes r n) (loop_notes r n))
 
--- ---- a number of more than four digits, whose first quotient is recorded before what is recorded for that quotient
+-- ---- a number of more than four digits, whose first quotient is noted before what is noted for that quotient
 
 -- a list to which one quotient and then others are appended
 pub after_first : (a b c : List ℕ) (q : ℕ) (notes : List ℕ) → b ≡ a ++ q ∷ [] → c ≡ b ++ notes → c ≡ a ++ q ∷ notes
 after_first a b c q notes noted following = rw (following, noted) (append_assoc a (q ∷ []) notes)
 
--- the first quotient, and then what the loops of four and two digits record of it, is what they record of the number
+-- the first quotient, and then what the loops of four and two digits note of it, is what they note of the number
 pub loop_notes-after : (r n : ℕ) (a b c : List ℕ)
     → 2 ≤ r → r ^ 4 ≤ n → b ≡ a ++ n / r ^ 4 ∷ [] → c ≡ b ++ loop_notes r (n / r ^ 4) → c ≡ a ++ loop_notes r n
 loop_notes-after r n a b c two long noted following = grind (arith, loop_notes-first, after_first)
 
--- the same for the slow count
+-- the first quotient, and then what the slow count notes of it, is what it notes of the number
 pub slow_notes-after : (r n : ℕ) (a b c : List ℕ)
     → 2 ≤ r → r ^ 4 ≤ n → b ≡ a ++ n / r ^ 4 ∷ [] → c ≡ b ++ slow_notes r (n / r ^ 4) → c ≡ a ++ slow_notes r n
 slow_notes-after r n a b c two long noted following = grind (arith, slow_notes-first, after_first)
 
--- ---- how many quotients are recorded
+-- ---- how many quotients are noted
 
 -- a list to which some numbers are appended
 pub length-more : (a b notes : List ℕ) (more : ℕ) → b ≡ a ++ notes → length notes ≡ more → length b ≡ length a + more
 length-more a b notes more noted count = ap length noted ∙ length-append a notes ∙ ap (λ k. length a + k) count
 
--- the loops that remove four and two digits record one quotient in each iteration
+-- the loops that remove four and two digits note one quotient in each iteration
 pub length-loop_notes : (r n : ℕ) → length (loop_notes r n) ≡ loop_turns (digit_count r n)
 unfolding loop_notes
 length-loop_notes r n = grind (arith, common_steps, length-quotients)
 
--- so does the slow count
+-- the slow count notes one quotient in each iteration
 pub length-slow_notes : (r n : ℕ) → length (slow_notes r n) ≡ slow_turns (digit_count r n)
 unfolding slow_notes
 length-slow_notes r n = grind (arith, common_steps, length-loop_notes)
@@ -234,12 +234,12 @@ pub length-count_notes : (r n : ℕ) → length (count_notes r n) ≡ count_turn
 unfolding count_notes
 length-count_notes r n = grind (arith, length-slow_notes)
 
--- the table writer
+-- the table writer notes one number in each iteration, those of its digit count among them
 pub length-table_notes : (r n : ℕ) → length (table_notes r n) ≡ table_turns r (digit_count r n)
 unfolding table_notes
 length-table_notes r n = grind (arith, length-append, length-count_notes, length-loop_notes)
 
--- and the compact writer
+-- the compact writer notes one quotient in each iteration
 pub length-compact_notes : (r n : ℕ) → length (compact_notes r n) ≡ compact_turns (digit_count r n)
 unfolding compact_notes
 length-compact_notes r n = length-quotients r n 1 (digits_after_first r n)
@@ -275,12 +275,12 @@ table_turns-le_21 r n two fits =
           omega (arith, count_turns-le r (digit_count r n), twice_turns-le (digit_count r n) few)
     ]
 
--- what the table writer records, as a number of iterations
+-- what the table writer notes, as a number of iterations
 pub table_turns-are : (r n digits : ℕ) (a b : List ℕ)
     → b ≡ a ++ table_notes r n → digits ≡ digit_count r n → length b ≡ length a + table_turns r digits
 table_turns-are r n digits a b noted count = rw count (length-more a b _ _ noted (length-table_notes r n))
 
--- the table writer records at most 21 quotients of a number of a type
+-- the table writer notes at most 21 quotients of a number of a type
 pub table_turns-few : (bits r n : ℕ) (a b : List ℕ)
     → 2 ≤ r → IsBitWidth bits → n < 2 ^ bits → b ≡ a ++ table_notes r n → length b ≤ length a + 21
 table_turns-few bits r n a b two width fits noted = grind (arith, length-more, length-table_notes, table_turns-le_21)

@@ -1,4 +1,4 @@
-use Rattle.lexical_write_integer.proofs.digits.radix.table_writer.+count_and_write_more.Given as goal
+use Rattle.lexical_write_integer.proofs.digits.radix.counting_writer.+count_and_write_more.Given as goal
 
 -- each call divides the number
 abbrev pub decreases-count_and_write_more : goal.decreases-count_and_write_more

@@ -2,8 +2,8 @@ use Rattle.std.proofs.Common.{◌/◌, ap, arith}
 use Rattle.lexical_write_integer.specs.LoopTurns.{takes_four}
 use Rattle.lexical_write_integer.proofs.OfDigits.Count.DigitCounts.{digit_count-split}
 use Rattle.lexical_write_integer.proofs.OfDigits.Radix.Loops.Divisions.{left-smaller}
-use Rattle.lexical_write_integer.proofs.OfDigits.Radix.Loops.Records.{loop_notes-after}
-use Rattle.lexical_write_integer.proofs.digits.radix.table_writer.remove_four.Goals as goal
+use Rattle.lexical_write_integer.proofs.OfDigits.Radix.Loops.Notes.{loop_notes-after}
+use Rattle.lexical_write_integer.proofs.digits.radix.steps.remove_four.Goals as goal
 
 pub returns-clause-notes_in_loop : goal.returns-clause-notes_in_loop
 returns-clause-notes_in_loop g c = grind (arith, loop_notes-after)

@@ -2,11 +2,11 @@ use Rattle.lexical_write_integer.specs.LoopTurns.{loop_notes}
 use Rattle.std.proofs.Common.{◌≡◌, ◌+◌, ◌/◌, ◌^◌, ◌++◌, ◌∙◌, arith}
 use Rattle.lexical_write_integer.specs.Buffer.{WritesDigits}
 use Rattle.lexical_write_integer.proofs.Buffers.BlocksAfter.{WritesDigits-after}
-use Rattle.lexical_write_integer.proofs.OfDigits.Radix.Loops.Records.{slow_notes-after}
+use Rattle.lexical_write_integer.proofs.OfDigits.Radix.Loops.Notes.{slow_notes-after}
 use Rattle.lexical_write_integer.proofs.OfDigits.Radix.Loops.ShortNumbers.{HasEight-of}
-use Rattle.lexical_write_integer.proofs.digits.radix.table_writer.+count_and_write_more.Goals as goal
-use Rattle.lexical_write_integer.proofs.digits.radix.table_writer.+count_and_write_more.Goals.{then-second-eighth_power}
-use Rattle.lexical_write_integer.proofs.digits.radix.table_writer.+count_and_write_more.Goals.{else-second-eighth_power}
+use Rattle.lexical_write_integer.proofs.digits.radix.counting_writer.+count_and_write_more.Goals as goal
+use Rattle.lexical_write_integer.proofs.digits.radix.counting_writer.+count_and_write_more.Goals.{then-second-eighth_power}
+use Rattle.lexical_write_integer.proofs.digits.radix.counting_writer.+count_and_write_more.Goals.{else-second-eighth_power}
 
 pub remove_four-first-requires-clause-long : goal.remove_four-first-requires-clause-long
 remove_four-first-requires-clause-long g t c = (HasEight-of c.args.table.is_radix.at_least_two c.requires.long).value

@@ -1,10 +1,10 @@
 use Rattle.std.proofs.Common.{◌≤◌, ◌^◌, ◌*◌, arith}
 use Rattle.lexical_write_integer.proofs.OfDigits.Radix.Loops.ShortNumbers.{quotient-some}
 use Rattle.lexical_write_integer.proofs.OfDigits.Powers.{pow-two}
-use Rattle.lexical_write_integer.proofs.OfDigits.Radix.Loops.Records.{loop_notes-none, loop_notes-pair}
-use Rattle.lexical_write_integer.proofs.digits.radix.table_writer.remove_two.Goals as goal
+use Rattle.lexical_write_integer.proofs.OfDigits.Radix.Loops.Notes.{loop_notes-none, loop_notes-pair}
+use Rattle.lexical_write_integer.proofs.digits.radix.steps.remove_two.Goals as goal
 
--- the quotient is recorded if it is not 0
+-- the quotient is noted if it is not 0
 pub returns-then-pair-gt0-clause-notes : goal.returns-then-pair-gt0-clause-notes
 returns-then-pair-gt0-clause-notes g c =
     let r = g.row.R in

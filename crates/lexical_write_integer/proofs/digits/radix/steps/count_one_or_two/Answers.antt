@@ -3,10 +3,10 @@ use Rattle.std.proofs.lemmas.Bool.{ltb-true, ltb-false}
 use Rattle.std.proofs.lemmas.List.{append-nil}
 use Rattle.lexical_write_integer.proofs.OfDigits.Count.DigitCounts.{digit_count-tested}
 use Rattle.lexical_write_integer.proofs.OfDigits.Powers.{pow-one}
-use Rattle.lexical_write_integer.proofs.OfDigits.Radix.Loops.Records.{slow_notes-one, slow_notes-two}
+use Rattle.lexical_write_integer.proofs.OfDigits.Radix.Loops.Notes.{slow_notes-one, slow_notes-two}
 use Rattle.lexical_write_integer.proofs.OfDigits.Radix.Loops.ShortNumbers.{quotient-some, quotient-none}
-use Rattle.lexical_write_integer.proofs.digits.radix.table_writer.count_one_or_two.Goals as goal
-use Rattle.lexical_write_integer.proofs.digits.radix.table_writer.count_one_or_two.Goals.{then-left-gt0, else-left-gt0}
+use Rattle.lexical_write_integer.proofs.digits.radix.steps.count_one_or_two.Goals as goal
+use Rattle.lexical_write_integer.proofs.digits.radix.steps.count_one_or_two.Goals.{then-left-gt0, else-left-gt0}
 
 -- the quotient is 0 if there is one digit
 pub returns-clause-count : goal.returns-clause-count
@@ -19,7 +19,7 @@ returns-clause-count c =
     (λ e. rw pow-one (quotient-some r n (ltb-true 0 (n / r) e)))
     (λ e. rw pow-one (quotient-none r n (omega arith) (ltb-false 0 (n / r) e))))
 
--- and then it is not recorded
+-- with one digit the quotient is not noted
 pub returns-clause-notes : goal.returns-clause-notes
 returns-clause-notes c =
     elim c.if-left-gt0.branch [

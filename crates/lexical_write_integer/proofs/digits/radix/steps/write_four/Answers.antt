@@ -4,7 +4,7 @@ use Rattle.lexical_write_integer.proofs.Buffers.Blocks.{WritesBlock-part}
 use Rattle.lexical_write_integer.proofs.OfDigits.Count.RadixPowers.{power-gt_one}
 use Rattle.lexical_write_integer.proofs.OfDigits.Powers.{pow-two, pow-four}
 use Rattle.lexical_write_integer.proofs.OfDigits.Radix.TablePairs.{WritesBlock-pairs}
-use Rattle.lexical_write_integer.proofs.digits.radix.table_writer.write_four.Goals as goal
+use Rattle.lexical_write_integer.proofs.digits.radix.steps.write_four.Goals as goal
 
 pub write-requires-2 : goal.write-requires-2
 write-requires-2 g c = grind (arith, pow-two, power-gt_one, pow-four, div_below)
