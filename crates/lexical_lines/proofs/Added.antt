@@ -15,7 +15,7 @@ grown a b c x y e f = grind (arith, append_assoc, added-is)
 pub added-more : (a b c x : List ℕ) → b ≡ a ++ added a b → c ≡ b ++ x → added a c ≡ added a b ++ x
 added-more a b c x e f = added-is a c (added a b ++ x) (f ∙ ap (λ front. front ++ x) e ∙ append_assoc a (added a b) x)
 
--- so it does with other elements at the front
+-- with other elements at the front, too, what is appended next comes after what was appended before
 pub added-after : (front a b c x : List ℕ) → b ≡ a ++ added a b → c ≡ b ++ x
     → front ++ added a c ≡ (front ++ added a b) ++ x
 added-after front a b c x e f = ap (λ more. front ++ more) (added-more a b c x e f)

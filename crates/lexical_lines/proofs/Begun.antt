@@ -14,7 +14,7 @@ begins-ended is_whole read put answered = λ more text whole all.
     let (rest, e) = AnswersEnded-begins read more put text answered all in
     starts_with_of_append text put rest e
 
--- so are answers that broke off after a part of the bytes that were read next
+-- answers that broke off within the bytes that were read next are a prefix of the answers to every longer input
 pub begins-broken : (is_whole : Bool) (read next front put : List ℕ) → StartsWith next front
     → BreaksOff false (read ++ front) put
     → BeginsAnswers is_whole (read ++ next) put
@@ -36,7 +36,7 @@ begins-last is_whole read put is broke = λ more text whole all.
     let (last, some, e) = BreaksOff-begins true read more put text (λ _. whole is) broke all in
     starts_with_of_append text put last e
 
--- and so are the answers to all its lines
+-- if these bytes are the whole input, the answers to all its lines are a prefix of its answers
 pub begins-all : (is_whole : Bool) (read put : List ℕ) → is_whole ≡ true → AnswersAll read put
     → BeginsAnswers is_whole read put
 begins-all is_whole read put is answered = λ more text whole all.

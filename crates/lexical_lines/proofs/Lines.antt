@@ -36,7 +36,7 @@ pub AreLines-ended : {bytes : List ℕ} {ended : List (List ℕ)} {rest : List �
     → AreLines bytes ended
 AreLines-ended {ended = ended} {rest = rest} cut none = grind (arith, append-nil)
 
--- if not, it is the last line
+-- if the rest is not empty, it is the last line
 pub AreLines-rest : {bytes : List ℕ} {ended : List (List ℕ)} {rest : List ℕ} → IsCut bytes ended rest → (rest ≡ [] → ⊥)
     → AreLines bytes (ended ++ rest ∷ [])
 AreLines-rest {ended = ended} {rest = rest} cut some = grind arith
@@ -69,7 +69,7 @@ IsCut-longer {bytes} {ended} {rest} (byte ∷ more) h = elim (cases_eq byte 10) 
 IsCut-exists : (bytes : List ℕ) → (ended : List (List ℕ)) × (rest : List ℕ) × IsCut bytes ended rest
 IsCut-exists bytes = IsCut-longer bytes IsCut-none
 
--- so they are the first of all its lines
+-- the lines that ended in these bytes are the first lines of every longer input
 pub AreLines-longer : {bytes : List ℕ} {ended : List (List ℕ)} {rest : List ℕ} (more : List ℕ) → IsCut bytes ended rest
     → (others : List (List ℕ)) × AreLines (bytes ++ more) (ended ++ others)
 AreLines-longer {ended = ended} more cut =
@@ -114,7 +114,7 @@ pub IsCut-unique : {bytes : List ℕ} {ended other : List (List ℕ)} {rest last
     → (ended ≡ other) × (rest ≡ last)
 IsCut-unique p q = cuts_unique _ _ _ _ p.each q.each p.rest_inside q.rest_inside (sym p.whole ∙ q.whole)
 
--- and so one list of all its lines
+-- an input has one list of all its lines
 pub AreLines-unique : (bytes : List ℕ) (all other : List (List ℕ)) → AreLines bytes all → AreLines bytes other
     → all ≡ other
 AreLines-unique bytes all other p q =

@@ -67,7 +67,7 @@ module _ (before after : Option (List ℕ)) (count : ℕ) (block rest : List ℕ
       (omega (arith, left, length-take-le count block within)) (rw (old, new) read.0)
       (λ told used is. grind (arith, nat_tests, still-at_end before after (take count block) read.0, room))
 
-  -- so what a source with a limit will yield loses these bytes, and a read of none is at its end
+  -- what a source with a limit will yield loses the bytes of a read, and a read of no bytes is at its end
   pub ReadConsumes-limited : (limit left : ℕ) → left + count ≡ limit
       → Consumes (option_map (take limit) before) (option_map (take left) after)
       (take count (block ++ rest)) × (count ≡ 0 → 0 < length (block ++ rest) → IsAtEnd (option_map (take left) after))

@@ -52,7 +52,7 @@ module _ {kind : IntegerType} {plus : Bool} {radix : ℕ} {number : ℤ} {line :
       (digits-unsigned 43 h.radix_text (32 ∷ h.value_text) (omega arith) radix_decimal.nonempty radix_decimal.bytes) in
       (name.0, parts.0, parts.1)
 
-  -- and one way to read that as digits, a space and a value
+  -- there is one way to read what follows the type as digits, a space and a value
   pub IsRequest-value : (digits value : List ℕ) → radix_value ≡ digits ++ 32 ∷ value → All IsDigitByte digits
       → (digits ≡ h.radix_text) × (value ≡ h.value_text)
   IsRequest-value digits value e bytes =

@@ -121,7 +121,7 @@ module _ {bytes written : List ℕ} {answerer : Answerer} (h : AnswererState byt
   lines_at_rest some are = rw (AreLines-unique _ _ _ are (AreLines-ended (IsCut-newline h.cut) refl))
       (AreLines-rest h.cut (λ empty. some (h.last ∙ ap short_line empty)))
 
-  -- so what is answered after that newline is the answers to the input
+  -- what is answered after a newline behind the input is the answers to the input
   pub answers_at_rest : {put : List ℕ} {next : Answerer} → (answerer.line ≡ short_line [] → ⊥)
       → AnswererState (bytes ++ 10 ∷ []) put next
       → AnswersAll bytes put
@@ -131,7 +131,7 @@ module _ {bytes written : List ℕ} {answerer : Answerer} (h : AnswererState byt
     answered = k.answered;
   }
 
-  -- and a run that broke off at that newline broke off at the end of the input
+  -- a run that broke off at a newline behind the input broke off at the end of the input
   pub BreaksOff-rest : {put : List ℕ} → (answerer.line ≡ short_line [] → ⊥) → BreaksOff false (bytes ++ 10 ∷ []) put
       → BreaksOff true bytes put
   BreaksOff-rest some broke = BreaksOff-as (inl refl) (λ all. lines_at_rest some) broke

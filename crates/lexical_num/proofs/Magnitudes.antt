@@ -16,7 +16,7 @@ pub magnitude-below : {bits : ℕ} (is_signed : Bool) → IsBitWidth bits → (x
     → x ≤ℤ greatest_of bits is_signed → unsigned_abs x < 2 ^ bits
 magnitude-below v0 width v2 low high = grind arith
 
--- so it fits in 64 bits
+-- a magnitude fits in 64 bits
 pub magnitude-small : {bits : ℕ} (is_signed : Bool) → IsBitWidth bits → (x : ℤ) → least_of bits is_signed ≤ℤ x
     → x ≤ℤ greatest_of bits is_signed → unsigned_abs x < 2 ^ 64
 magnitude-small is_signed width x low high = omega (arith, halves width, magnitude-below is_signed width x low high)

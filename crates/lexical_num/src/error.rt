@@ -14,7 +14,7 @@ use std::fmt;
 /// ```
 pub type Result<T> = std::result::Result<T, Error>;
 
-/// The first part of a format that is invalid, with the invalid byte.
+/// The first field of a format that is invalid, with the invalid byte.
 ///
 /// ```
 /// use lexical_write_integer::{Error, NumberFormatBuilder};

@@ -5,7 +5,7 @@ pub(crate) mod decimal;
 pub(crate) mod digits;
 pub(crate) mod formatted;
 
-// The integer types, with a sign in each case, and the sign alone.
+// The integer types, numbers that always have a sign, and the sign alone.
 mod integers;
 pub(crate) mod plus;
 pub(crate) mod sign;

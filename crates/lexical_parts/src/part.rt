@@ -45,7 +45,7 @@ pub trait Part: Copy {
     ghost is_utf8: { Self → Type 0 } = { λ _. ⊤ };
 
     /// Returns a number of bytes that is enough for the text, or `usize::MAX` if that number does not
-    /// fit in a `usize`. The part must be valid: of another part the number may not be enough.
+    /// fit in a `usize`. The part must be valid: for an invalid part the number may be too small.
     fn room(self) -> usize
         requires { is_valid self }
         ensures { result ≡ min (room self) usize.MAX };
@@ -120,6 +120,7 @@ pub trait Part: Copy {
     final fn write_at(self, index: usize, buffer: &mut [u8]) -> usize
         requires valid { is_valid self }
         requires room { index + room self ≤ length buffer.old }
+        // The text and the bytes before it are together a text from the start of the buffer, so calls in a row add up.
         ensures text { Writes (IsExactly (take index buffer.old) then is_text self) buffer.old buffer.new result }
         ensures front { (IsExactly (take index buffer.old) then is_text self) (take result buffer.new) }
         ensures before { take index buffer.new ≡ take index buffer.old }

@@ -76,7 +76,7 @@ module _ {W : Type 0} (f : Formatter W) where
   pub no_width : is_some (spec_width (formatter_spec f)) ≡ false → (formatter_spec f).width ≡ 0
   no_width = none_is_zero (formatter_spec f).width
 
-  -- and if it has no precision, that field is the largest number of 64 bits
+  -- if a formatter has no precision, the field for it is the largest number of 64 bits
   pub no_precision : is_some (spec_precision (formatter_spec f)) ≡ false → (formatter_spec f).precision ≡ 2 ^ 64 - 1
   no_precision = none_is_most (formatter_spec f).precision
 

@@ -113,7 +113,7 @@ module _ {W : Type 0} (took : W → List ℕ → W → Type 0) (nothing : (w : W
   folds w [] v same = subst (took w []) same (nothing w)
   folds w (x ∷ xs) v p = both w p.0 v x (concat xs) p.1 (folds p.0 xs v p.2)
 
-  -- so it holds of the whole text of the calls
+  -- such a relation holds of the whole text of the calls
   pub closed_calls : (w v : W) (text : List ℕ) → WritesInCalls took w text v → took w text v
   closed_calls w v text calls = subst (λ b. took w b v) calls.whole (folds w calls.parts v calls.calls)
 
@@ -196,7 +196,7 @@ module _ {W : Type 0} (took : W → List ℕ → W → Type 0) (Is : List ℕ �
         plain = record { bare = rw some.wrote.spec plain.bare; flush = some.wrote.flush };
       }
 
-  -- and as it is by a formatter without options
+  -- a text as it is, if the formatter has no options
   pub displays_only : (o : Option (List ℕ)) → IfSome o (λ bytes. IsOnly Is bytes)
       → (IsFlush f → IsAligned f → IsOk r → ShowsSome took Is f g) → DisplaysOnOk took f r o g
   displays_only None one shows = one

@@ -24,7 +24,7 @@ kept_before i xs ys same from to within =
           ∙ sym (part_of_front i from to ys ordered within)
     ]
 
--- and lists with the same bytes from i on have the same bytes in each range from there
+-- lists with the same bytes from i on have the same bytes in each range from i on
 pub kept_after : (i : ℕ) (xs ys : List ℕ) → drop i xs ≡ drop i ys → (from to : ℕ) → i ≤ from
     → slice_range xs from to ≡ slice_range ys from to
 kept_after i xs ys same from to within =

@@ -35,7 +35,7 @@ module _ {A : Type 0} (IsOf : A → List ℕ → Type 0) (separator : List ℕ) 
       ))
       xs ys both.text both.is both.also
 
--- in lowercase
+-- ---- the same for texts in lowercase
 
 -- if the two parts of a text, each in lowercase, are of the kinds C and D, the text in lowercase is one of the kind C
 -- followed by one of the kind D
@@ -73,7 +73,7 @@ module _ (r width : ℕ) (few : r ≤ 36) (some : 1 ≤ width) where
       equal_lists (IsPadded r width) separator width some (λ n text is. length-IsPadded r width n text is)
       (λ m n text p q. sym ((read m).unsigned m refl text p).value ∙ ((read n).unsigned n refl text q).value) xs ys both
 
-  -- and if they have one in lowercase in common
+  -- two such lists are equal if they have a joined text in lowercase in common
   pub equal_lower_bytes : (separator xs ys : List ℕ)
       → HaveInCommon (IsLowercase (AreJoined (IsPadded r width) separator xs))
       (IsLowercase (AreJoined (IsPadded r width) separator ys)) → xs ≡ ys

@@ -18,7 +18,7 @@ only_fraction zero units few = only_exactly _
 only_fraction (suc decimals) units few =
     only_then (only_exactly _) (only_padded 10 (suc decimals) units (omega arith) few)
 
--- so has a number of units with its whole part in groups, if its magnitude is below 2 ^ 64
+-- a number of units with its whole part in groups has one text, the computed one, if its magnitude is below 2 ^ 64
 pub only_grouped_fixed : (grouping : Option (ℕ × ℕ)) (decimals : ℕ) (x : ℤ) → unsigned_abs x < 2 ^ 64
     → IsOnly (IsGroupedFixed grouping decimals x) (fixed_text grouping decimals x)
 only_grouped_fixed grouping decimals x small =
@@ -28,7 +28,7 @@ only_grouped_fixed grouping decimals x small =
     omega (arith, div-le_self (unsigned_abs x) (10 ^ decimals), small) in
     only_then (only_exactly _) (only_then (only_text _ _ (omega arith) whole) (only_fraction decimals _ rest))
 
--- without groups
+-- a number of units without groups has one text, the computed one, if its magnitude is below 2 ^ 64
 pub only_fixed : (decimals : ℕ) (x : ℤ) → unsigned_abs x < 2 ^ 64
     → IsOnly (IsFixed decimals x) (fixed_text None decimals x)
 only_fixed decimals x small = record {
@@ -36,7 +36,7 @@ only_fixed decimals x small = record {
       (then_as (λ _ sign. sign) (then_as IsDigits-as_text (λ _ fraction. fraction)) text is);
 }
 
--- so a text of a number of units, in groups or not, is the computed one
+-- a text of a number of units, with its whole part in groups or not, is the computed one
 pub fixed_is : (grouping : Option (ℕ × ℕ)) (decimals : ℕ) (x : ℤ) (text : List ℕ) → unsigned_abs x < 2 ^ 64
     → IsGroupedFixed grouping decimals x text → text ≡ fixed_text grouping decimals x
 fixed_is grouping decimals x text small is = (only_grouped_fixed grouping decimals x small).only text is
@@ -69,7 +69,7 @@ only_units decimals units small =
     let whole : units / 10 ^ decimals < 2 ^ 64 = omega (arith, div-le_self units (10 ^ decimals), small) in
     only_then (only_digits 10 _ (omega arith) whole) (only_fraction decimals _ rest)
 
--- so it has without zeros at the end of its fraction
+-- a number of units without its sign and without zeros at the end of its fraction has one text, the computed one
 pub only_trimmed : (decimals units : ℕ) → units < 2 ^ 64
     → IsOnly (IsTrimmedUnits decimals units) (trimmed_units_text decimals units)
 only_trimmed decimals units small = record {
@@ -81,12 +81,12 @@ only_trimmed decimals units small = record {
       ∙ sym (trimmed_as decimals units is.zeros is.left is.few is.whole is.shortest);
 }
 
--- and with its sign
+-- a number of units with its sign and without zeros at the end of its fraction has one text, the computed one
 pub only_trimmed_fixed : (decimals : ℕ) (x : ℤ) → unsigned_abs x < 2 ^ 64
     → IsOnly (IsTrimmedFixed decimals x) (trimmed_text decimals x)
 only_trimmed_fixed decimals x small = only_then (only_exactly _) (only_trimmed decimals _ small)
 
--- so a text of it is the computed one
+-- a text of a number of units without zeros at the end of its fraction is the computed one
 pub trimmed_is : (decimals : ℕ) (x : ℤ) (text : List ℕ) → unsigned_abs x < 2 ^ 64 → IsTrimmedFixed decimals x text
     → text ≡ trimmed_text decimals x
 trimmed_is decimals x text small is = (only_trimmed_fixed decimals x small).only text is

@@ -90,7 +90,7 @@ need-le_room {bits} {width} is_signed x format of_type decimal two low high =
     (omega (arith, digits, counted)) in
     omega (arith, more, sign-le (least_of bits is_signed) x format.required_mantissa_sign low)
 
--- and that room is at most 128
+-- the room of a type in a format is at most 128
 pub room-le : {bits : ℕ} (is_signed : Bool) (format : Format) → IsBitWidth bits → 2 ≤ format.mantissa_radix
     → formatted_room bits is_signed format ≤ 128
 room-le {bits} is_signed format of_type two = grind (arith, count_in-is, largest-small, digit_count-le_64, sign-le_one)

@@ -36,7 +36,7 @@ AreUnits-digits decimals added width {number} {text} is few is_zeros =
     text is refl is_zeros (omega arith) in
     record { more = omega arith; few = omega arith; whole = around.0; rest = around.1 }
 
--- so they are if the zeros are inserted before the digits in the buffer
+-- the buffer has the digits of a number of units, once the zeros are inserted before the digits of the number
 pub written_after_zeros : {number count : ℕ} {before between after : List ℕ} (decimals added width : ℕ)
     → Writes (IsDigits 10 number) before between count
     → count ≤ width → added ≡ (decimals + 1) - count → Front between after (replicate added 48 ++ take count between)
@@ -170,7 +170,7 @@ written_with_point {grouping} {decimals} {units} {whole = whole} {points} {total
       count = omega (arith, length-append G (46 ∷ D), G_long, left);
     }
 
--- without decimals
+-- without decimals, the text of the whole part is the text of the units
 IsGroupedUnits-whole : {grouping : Option (ℕ × ℕ)} (decimals units : ℕ) → decimals ≡ 0
     → (text : List ℕ) → IsText (pos (units / 10 ^ decimals)) (record standard { digit_grouping = grouping }) text
     → IsGroupedUnits grouping decimals units text

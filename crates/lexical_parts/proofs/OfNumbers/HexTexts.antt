@@ -25,7 +25,7 @@ hex_bytes_computed separator (byte ∷ next ∷ rest) text is =
     let others = hex_bytes_computed separator (next ∷ rest) is.is_second.second is.is_second.is_second in
     is.whole ∙ rw (first, is.is_second.whole, is.is_second.is_first, others) refl
 
--- and no other
+-- bytes in two digits each, with a separator between them, have no text but the computed one
 pub only_hex_bytes : (separator bytes : List ℕ)
     → IsOnly (AreJoined (IsPadded 16 2) separator bytes) (hex_bytes_text separator bytes)
 only_hex_bytes separator bytes = record { only = hex_bytes_computed separator bytes }

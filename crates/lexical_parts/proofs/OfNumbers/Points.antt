@@ -46,7 +46,7 @@ IsBlockOf-split r whole count n digits b =
       },
     )
 
--- so are their characters
+-- the first characters of a padded number are those of the quotient, and the others those of the remainder
 pub IsPadded-split : (r whole count n : ℕ) (text : List ℕ) → IsPadded r (whole + count) n text
     → IsPadded r whole (n / r ^ count) (take whole text) × IsPadded r count (n % r ^ count) (drop whole text)
 IsPadded-split r whole count n text is =
@@ -96,7 +96,7 @@ digits_around_point n decimals added count whole text is counted is_zeros is_who
       both.1,
     )
 
--- they are the digits of the number, with zeros before them
+-- the digits around the point are together the digits of the number, with zeros before them
 pub padded_around_point : {n decimals : ℕ} {whole rest : List ℕ} → IsDigits 10 (n / 10 ^ decimals) whole
     → IsPadded 10 decimals (n % 10 ^ decimals) rest
     → IsPadded 10 (length whole + decimals) n (whole ++ rest)

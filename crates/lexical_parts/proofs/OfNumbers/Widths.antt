@@ -24,7 +24,7 @@ hex_digits _ n is_16 fits = digit_count-le 16 n 4 (omega arith) fits
 hex_digits _ n is_32 fits = digit_count-le 16 n 8 (omega arith) fits
 hex_digits _ n is_64 fits = digit_count-le 16 n 16 (omega arith) fits
 
--- so it is below 16 to the power of a quarter of its bits
+-- a number is below 16 to the power of a quarter of its bits
 pub fits_full_hex : (bits n : ℕ) → IsBitWidth bits → n < 2 ^ bits → n < 16 ^ (bits / 4)
 fits_full_hex _ n is_8 fits = fits
 fits_full_hex _ n is_16 fits = fits
@@ -38,7 +38,7 @@ fits_width r n width count two is few =
     (omega (arith, is, few)) in
     omega (arith, digit_count-fits r n two, power)
 
--- and one that is below that power has no more digits, or it is 0
+-- a number that is below a power of the radix and has more digits than that power has zeros is 0
 pub few_or_none : (r n width : ℕ) → width < digit_count r n → n < r ^ width → n ≡ 0
 few_or_none r n zero many fits = omega (arith, fits, pow-zero r)
 few_or_none r n (suc width) many fits =
@@ -57,7 +57,7 @@ fits_in_64 r n width two small fits =
           rw same fits
     ]
 
--- so is one that has few enough bits, if each digit of the radix has room for `bits` of them
+-- a number that has few enough bits is below a power of the radix, if each digit has room for `bits` of them
 pub fits_bits : (r bits n width : ℕ) → 2 ^ bits ≤ r → n < 2 ^ (bits * width) → n < r ^ width
 fits_bits r bits n width low few = omega (arith, few, pow-pow 2 bits width, pow-le-pow_left low width)
 

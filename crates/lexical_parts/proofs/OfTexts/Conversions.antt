@@ -26,6 +26,6 @@ IsPlus-from_then text is = record { digits = is.second; magnitude = is.is_second
 pub IsDigits-from_text : {number : ℕ} (text : List ℕ) → IsText (pos number) standard text → IsDigits 10 number text
 IsDigits-from_text text is = rw is.whole is.magnitude
 
--- and back
+-- the digits of a number are its text in the standard format
 pub IsDigits-as_text : {number : ℕ} (text : List ℕ) → IsDigits 10 number text → IsText (pos number) standard text
 IsDigits-as_text text is = record { digits = text; magnitude = is; whole = refl }

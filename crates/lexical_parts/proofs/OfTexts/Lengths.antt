@@ -38,7 +38,7 @@ digits_length r number count two is = record { each = λ text digits. length-IsD
 pub padded_length : (r width number : ℕ) → HasLength (IsPadded r width number) width
 padded_length r width number = record { each = λ text is. length-IsPadded r width number text is }
 
--- in decimal, with the sign
+-- a number in decimal is as long as its sign and its digits
 pub decimal_length : (number : ℤ) (required : Bool) (count : ℕ)
     → count ≡ length (sign_of number required) + digit_count 10 (unsigned_abs number)
     → HasLength (IsText number (record standard { required_mantissa_sign = required })) count
@@ -55,7 +55,7 @@ only_length bytes text count one is long = record {
   each = λ other other_is. ap length (one.only other other_is ∙ sym (one.only text is)) ∙ sym long;
 }
 
--- in any format, with the separators between the groups of digits
+-- a number in a format is as long as its sign, its digits and the separators between their groups
 pub formatted_length : (number : ℤ) (format : Format) (count : ℕ) → 2 ≤ format.mantissa_radix
     → ForSome format.digit_grouping IsGrouping
     → count ≡ length (sign_of number format.required_mantissa_sign)
@@ -133,7 +133,7 @@ at_left_length width fill count whole texts most = record {
       omega (arith, long, length-replicate {A = ℕ} (width - length is.cell) fill, texts.each is.cell is.is, most);
 }
 
--- and so has one at the right
+-- a text at the right of a column has the width of the column, or its own length if that is greater
 pub at_right_length : {Is : List ℕ → Type 0} (width fill count whole : ℕ) → HasLength Is count → whole ≡ max count width
     → HasLength (IsAtRight width fill Is) whole
 at_right_length width fill count whole texts most = record {
@@ -142,7 +142,7 @@ at_right_length width fill count whole texts most = record {
       omega (arith, long, length-replicate {A = ℕ} (width - length is.cell) fill, texts.each is.cell is.is, most);
 }
 
--- one in the middle
+-- a text in the middle of a column has the width of the column, or its own length if that is greater
 pub centered_length : {Is : List ℕ → Type 0} (width fill count whole : ℕ) → HasLength Is count → whole ≡ max count width
     → HasLength (IsCentered width fill Is) whole
 centered_length width fill count whole texts most = record {
@@ -162,7 +162,7 @@ centered_length width fill count whole texts most = record {
       );
 }
 
--- and one with zeros after its sign
+-- a text with zeros after its sign has the width, or its own length if that is greater
 pub zero_padded_length : {Is : List ℕ → Type 0} (width count whole : ℕ) → HasLength Is count → whole ≡ max count width
     → HasLength (IsZeroPadded width Is) whole
 zero_padded_length width count whole texts most = record {

@@ -34,7 +34,7 @@ left_only Is width fill (Some x) one = record {
   only = λ text is. is.whole ∙ ap (λ cell. cell ++ replicate (width - length cell) fill) (one.only is.cell is.is);
 }
 
--- or at its right
+-- if the only text of a part is known, so is that of the part at the right of a column
 pub right_only : (Is : List ℕ → Type 0) (width fill : ℕ) (o : Option (List ℕ)) → IfSome o (λ bytes. IsOnly Is bytes)
     → IfSome (right_text width fill o) (λ bytes. IsOnly (IsAtRight width fill Is) bytes)
 right_only Is width fill None one = one
@@ -42,7 +42,7 @@ right_only Is width fill (Some x) one = record {
   only = λ text is. is.whole ∙ ap (λ cell. replicate (width - length cell) fill ++ cell) (one.only is.cell is.is);
 }
 
--- or in its middle
+-- if the only text of a part is known, so is that of the part in the middle of a column
 pub centered_only : (Is : List ℕ → Type 0) (width fill : ℕ) (o : Option (List ℕ)) → IfSome o (λ bytes. IsOnly Is bytes)
     → IfSome (centered_text width fill o) (λ bytes. IsOnly (IsCentered width fill Is) bytes)
 centered_only Is width fill None one = one
@@ -51,7 +51,7 @@ centered_only Is width fill (Some x) one = record {
       ++ replicate (width - length cell - (width - length cell) / 2) fill) (one.only is.cell is.is);
 }
 
--- and so is that of the part in lowercase
+-- if the only text of a part is known, so is that of the part in lowercase
 pub lower_only : (Is : List ℕ → Type 0) (o : Option (List ℕ)) → IfSome o (λ bytes. IsOnly Is bytes)
     → IfSome (lower_text o) (λ bytes. IsOnly (IsLowercase Is) bytes)
 lower_only Is None one = one
@@ -60,7 +60,7 @@ lower_only Is (Some x) one = record {
       ∙ ap (map to_ascii_lowercase) (one.only is.original is.is);
 }
 
--- or with zeros after its sign
+-- if the only text of a part is known, so is that of the part with zeros after its sign
 pub zero_padded_only : (Is : List ℕ → Type 0) (width : ℕ) (o : Option (List ℕ)) → IfSome o (λ bytes. IsOnly Is bytes)
     → IfSome (zero_padded_text width o) (λ bytes. IsOnly (IsZeroPadded width Is) bytes)
 zero_padded_only Is width None one = one

@@ -63,7 +63,7 @@ lower_is_utf8 texts = record {
 sign_ends : (text : List ℕ) → IsUtf8 text → IsCharBoundary text (sign_length text)
 sign_ends text u = grind (arith, common_steps, IsCharBoundary-start, IsCharBoundary-after_ascii)
 
--- and with zeros after its sign
+-- a text with zeros after its sign is UTF-8
 pub zero_padded_is_utf8 : {Is : List ℕ → Type 0} (width : ℕ) → AreUtf8 Is → AreUtf8 (IsZeroPadded width Is)
 zero_padded_is_utf8 width texts = record {
   each = λ text is.

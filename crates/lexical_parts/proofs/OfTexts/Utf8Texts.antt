@@ -27,7 +27,7 @@ one_is_utf8 byte small = grind (arith, IsUtf8-from_ascii)
 pub digits_are_utf8 : (r number : ℕ) → r ≤ 36 → AreUtf8 (IsDigits r number)
 digits_are_utf8 r number few = grind (arith, IsUtf8-from_ascii, IsAscii-digit_chars)
 
--- the same with leading zeros
+-- digits with leading zeros, in a radix of at most 36
 pub padded_is_utf8 : (r width number : ℕ) → r ≤ 36 → AreUtf8 (IsPadded r width number)
 padded_is_utf8 r width number few = grind (arith, IsUtf8-from_ascii, IsAscii-digit_chars)
 
@@ -37,7 +37,7 @@ pub text_is_utf8 : (number : ℤ) (format : Format) → format.mantissa_radix �
 text_is_utf8 number format few groups =
     record { each = λ text is. IsUtf8-from_ascii text (IsAscii-IsText number format text few groups is) }
 
--- without groups, whether or not a sign is required
+-- the text of a number in decimal without groups, whether or not a sign is required
 pub decimal_is_utf8 : (number : ℤ) (required : Bool)
     → AreUtf8 (IsText number (record standard { required_mantissa_sign = required }))
 decimal_is_utf8 number required = text_is_utf8 number _ (omega arith) (λ grouping none. search rules)
@@ -70,14 +70,14 @@ at_left_is_utf8 width fill small cells = record {
   each = λ text is. rw is.whole (search (IsUtf8-append, fill_is_utf8, small, cells.each is.cell is.is));
 }
 
--- a text at its right
+-- a text at the right of a column
 pub at_right_is_utf8 : {Is : List ℕ → Type 0} (width fill : ℕ) → fill < 128 → AreUtf8 Is
     → AreUtf8 (IsAtRight width fill Is)
 at_right_is_utf8 width fill small cells = record {
   each = λ text is. rw is.whole (search (IsUtf8-append, fill_is_utf8, small, cells.each is.cell is.is));
 }
 
--- and one in its middle
+-- a text in the middle of a column
 pub centered_is_utf8 : {Is : List ℕ → Type 0} (width fill : ℕ) → fill < 128 → AreUtf8 Is
     → AreUtf8 (IsCentered width fill Is)
 centered_is_utf8 width fill small cells = record {

@@ -12,7 +12,7 @@ ghost use Rattle.lexical_parts.specs.Fixed.{fixed_text, units_text};
 ghost use Rattle.lexical_parts.specs.Trimmed.{trimmed_text, trimmed_units_text};
 
 use crate::formatting::cell::{is_short_cell, write_cell};
-use crate::formatting::shown::write_fill;
+use crate::formatting::shown::format_fill;
 use crate::numbers::decimal::Decimal;
 use crate::numbers::digits::Digits;
 use crate::numbers::fixed::{Fixed, GroupedFixed, LONGEST_FIXED};
@@ -256,12 +256,12 @@ fn pad_wide<W: fmt::Write>(f: &mut fmt::Formatter<W>, zeros: usize, digits: &str
         .saturating_sub(plus.len());
     let fill = fill_of_number(f, missing);
     let before = fill_before_number(f, fill);
-    write_fill(before, f)?;
+    format_fill(before, f)?;
     f.write_str(plus)?;
     write_zeros(missing - fill, f)?;
     write_zeros(zeros, f)?;
     f.write_str(digits)?;
-    write_fill(fill - before, f)
+    format_fill(fill - before, f)
 }
 
 impl<T: DigitCount + Radix> PaddedDigits<T> {

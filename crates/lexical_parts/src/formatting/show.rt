@@ -12,9 +12,9 @@ use std::fmt;
 pub(crate) const MOST_IN_ONE_PIECE: usize = 256;
 
 /// A part that `{}` can print: `{}` of [`Shown(part)`](super::super::Shown) writes its text. For example, `{}` of
-/// `Shown(("id=", 7u8))` writes `id=7`. The parts of this crate are such parts, and so is a tuple, a
-/// [`Joined`](super::super::Joined) or a column of such parts. Many of them, such as `Hex`, also have `Display`, so you can
-/// write them without `Shown`.
+/// `Shown(("id=", 7u8))` writes `id=7`. All parts of this crate implement it, and so do tuples, columns and
+/// [`Joined`](super::super::Joined) of them. Many of them, such as `Hex`, also have `Display`, so you can write them without
+/// `Shown`.
 ///
 /// If you implement this trait for a part of your own, `{}` of `Shown` writes it, alone or in a tuple. You must define
 /// `is_showable`, and `write_pieces` too if the room of the part can be above 256 bytes.

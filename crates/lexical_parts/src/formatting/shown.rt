@@ -24,7 +24,9 @@ use crate::texts::option::OrElse;
 use lexical_write_integer::ToLexical;
 use std::fmt;
 
-/// A tuple of parts, or another part, in a format string. A width, a fill and a precision work as for a `&str`.
+/// A tuple of parts, or another part, in a format string. A width, a fill and a precision work as for a `&str`, also if the
+/// part is a number: `{:3}` of `Shown(5u8)` writes `5` and two spaces, and `{:03}` does the same. For zeros write the
+/// number without `Shown`, such as `{:03}` of `Hex(5u8)`.
 ///
 /// # Errors
 ///
@@ -118,13 +120,13 @@ fn pad_pieces<P: Show, W: fmt::Write>(part: P, f: &mut fmt::Formatter<W>) -> fmt
     let count = most - write_first(part, most, &mut Nowhere)?;
     let padding = f.width().unwrap_or(0).saturating_sub(count);
     let before = padding_before(f, padding);
-    write_fill(before, f)?;
+    format_fill(before, f)?;
     let left = write_cut(part, most, f)?;
     // A part has the same text each time.
     if most.saturating_sub(left) != count {
         return Err(fmt::Error);
     }
-    write_fill(padding - before, f)
+    format_fill(padding - before, f)
 }
 
 // Writes the first `most` characters of the text, and returns how many fewer it has.
@@ -159,7 +161,7 @@ fn padding_before<W: fmt::Write>(f: &fmt::Formatter<W>, padding: usize) -> usize
 }
 
 // Writes copies of the fill of the formatter.
-pub(crate) fn write_fill<W: fmt::Write>(count: usize, f: &mut fmt::Formatter<W>) -> fmt::Result
+pub(crate) fn format_fill<W: fmt::Write>(count: usize, f: &mut fmt::Formatter<W>) -> fmt::Result
     ensures { WritesStyledOnOk W.write_str_gives f.old result (fill_text (formatter_spec f.old) count) f.new }
 {
     let mut array = [0; 4];

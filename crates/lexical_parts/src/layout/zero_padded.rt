@@ -25,7 +25,7 @@ fn length_of_sign(text: &[u8]) -> usize
 }
 
 /// A part with zeros after its sign, up to the width: `ZeroPadded(Decimal(-42), 6)` writes `-00042`, as
-/// `{:06}` does. A text longer than the width, which counts bytes, has no zeros. Its room is the width or that of the
+/// `{:06}` does. A text longer than the width, which counts bytes, gets no zeros. Its room is the width or that of the
 /// part, whichever is larger. [`Padded`](super::super::Padded) has a width that the number must fit.
 ///
 /// ```

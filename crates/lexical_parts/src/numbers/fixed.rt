@@ -123,7 +123,7 @@ impl<T: ToLexical> Show for Fixed<T> {
     }
 }
 
-/// A number as [`Fixed`] writes it, with its whole part in the groups of the format, and nothing else of it:
+/// A number as [`Fixed`] writes it, with its whole part in the groups of the format, whose radix and sign are ignored:
 /// in groups of three with `,`, `GroupedFixed(-123456, 2, &format)` writes `-1,234.56`. Its room is at most 39 bytes.
 ///
 /// ```

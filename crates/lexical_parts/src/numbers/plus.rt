@@ -1,4 +1,4 @@
-//! Numbers with a sign in each case.
+//! Numbers that always have a sign.
 #![tactic(auto, using(crate::proofs::OfTexts::Parts::parts))]
 
 ghost use Rattle.lexical_num.specs.Format.{standard};
@@ -15,7 +15,7 @@ use lexical_write_integer::ToLexical;
 use lexical_write_integer::format::STANDARD;
 use lexical_write_integer::laws::size_suffices;
 
-/// A number in decimal with a sign in each case, `+` if it is not negative: `Plus(5u8)` writes `+5`, and
+/// A number in decimal that always has a sign, `+` if it is not negative: `Plus(5u8)` writes `+5`, and
 /// `Plus(-5)` writes `-5`. `ZeroPadded(Plus(42), 8)` writes `+0000042`, as `{:+08}` does. Its room is at most 21 bytes.
 ///
 /// ```

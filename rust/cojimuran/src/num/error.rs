@@ -16,7 +16,7 @@ use core::fmt;
 /// ```
 pub type Result<T> = core::result::Result<T, Error>;
 
-/// The first part of a format that is invalid, with the invalid byte.
+/// The first field of a format that is invalid, with the invalid byte.
 ///
 /// ```
 /// use cojimuran::{Error, NumberFormatBuilder};

@@ -25,7 +25,7 @@ use core::str::{from_utf8, from_utf8_unchecked};
 /// ```
 pub trait Part: Copy {
     /// Returns a number of bytes that is enough for the text, or `usize::MAX` if that number does not
-    /// fit in a `usize`. The part must be valid: of another part the number may not be enough.
+    /// fit in a `usize`. The part must be valid: for an invalid part the number may be too small.
     #[must_use]
     fn room(self) -> usize;
 

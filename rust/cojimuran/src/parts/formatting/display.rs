@@ -5,7 +5,7 @@
 
 use crate::num::limits::is_radix;
 use crate::parts::formatting::cell::{is_short_cell, write_cell};
-use crate::parts::formatting::shown::write_fill;
+use crate::parts::formatting::shown::format_fill;
 use crate::parts::numbers::decimal::Decimal;
 use crate::parts::numbers::digits::Digits;
 use crate::parts::numbers::fixed::{Fixed, GroupedFixed, LONGEST_FIXED};
@@ -190,12 +190,12 @@ fn pad_wide(f: &mut fmt::Formatter<'_>, zeros: usize, digits: &str) -> fmt::Resu
         .saturating_sub(plus.len());
     let fill = fill_of_number(f, missing);
     let before = fill_before_number(f, fill);
-    write_fill(before, f)?;
+    format_fill(before, f)?;
     f.write_str(plus)?;
     write_zeros(missing - fill, f)?;
     write_zeros(zeros, f)?;
     f.write_str(digits)?;
-    write_fill(fill - before, f)
+    format_fill(fill - before, f)
 }
 
 impl<T: DigitCount + Radix> PaddedDigits<T> {

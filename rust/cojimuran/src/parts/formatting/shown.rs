@@ -14,7 +14,9 @@ use crate::parts::texts::option::OrElse;
 use crate::write_integer::ToLexical;
 use core::fmt;
 
-/// A tuple of parts, or another part, in a format string. A width, a fill and a precision work as for a `&str`.
+/// A tuple of parts, or another part, in a format string. A width, a fill and a precision work as for a `&str`, also if the
+/// part is a number: `{:3}` of `Shown(5u8)` writes `5` and two spaces, and `{:03}` does the same. For zeros write the
+/// number without `Shown`, such as `{:03}` of `Hex(5u8)`.
 ///
 /// # Errors
 ///
@@ -88,13 +90,13 @@ fn pad_pieces<P: Show>(part: P, f: &mut fmt::Formatter<'_>) -> fmt::Result {
     let count = most - write_first(part, most, &mut Nowhere)?;
     let padding = f.width().unwrap_or(0).saturating_sub(count);
     let before = padding_before(f, padding);
-    write_fill(before, f)?;
+    format_fill(before, f)?;
     let left = write_cut(part, most, f)?;
     // A part has the same text each time.
     if most.saturating_sub(left) != count {
         return Err(fmt::Error);
     }
-    write_fill(padding - before, f)
+    format_fill(padding - before, f)
 }
 
 // Writes the first `most` characters of the text, and returns how many fewer it has.
@@ -124,7 +126,7 @@ fn padding_before(f: &fmt::Formatter<'_>, padding: usize) -> usize {
 
 // Writes copies of the fill of the formatter.
 #[inline]
-pub(crate) fn write_fill(count: usize, f: &mut fmt::Formatter<'_>) -> fmt::Result {
+pub(crate) fn format_fill(count: usize, f: &mut fmt::Formatter<'_>) -> fmt::Result {
     let mut array = [0; 4];
     let fill: &str = f.fill().encode_utf8(&mut array);
     for _ in 0..count {

@@ -7,6 +7,8 @@ use crate::parts::own::Own;
 use crate::parts::part::Part;
 use core::fmt;
 
+// Each length has an `impl` of its own, since the toolchain takes none that a macro writes. A tuple of three members or
+// more does what the pair of its first member and of the tuple of the others does.
 impl<A: Part, B: Part> Part for (A, B) {
     #[inline(always)]
     #[track_caller]

@@ -1,6 +1,6 @@
 // Made by `strip` from crates/lexical_parts/src/numbers/plus.rt. Edit that file, not this one.
 
-//! Numbers with a sign in each case.
+//! Numbers that always have a sign.
 
 use crate::parts::formatting::show::Show;
 use crate::parts::numbers::sign::Sign;
@@ -9,7 +9,7 @@ use crate::parts::part::Part;
 use crate::write_integer::ToLexical;
 use crate::write_integer::format::STANDARD;
 
-/// A number in decimal with a sign in each case, `+` if it is not negative: `Plus(5u8)` writes `+5`, and
+/// A number in decimal that always has a sign, `+` if it is not negative: `Plus(5u8)` writes `+5`, and
 /// `Plus(-5)` writes `-5`. `ZeroPadded(Plus(42), 8)` writes `+0000042`, as `{:+08}` does. Its room is at most 21 bytes.
 ///
 /// ```

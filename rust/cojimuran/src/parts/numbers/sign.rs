@@ -8,8 +8,8 @@ use crate::parts::own::Own;
 use crate::parts::part::Part;
 use crate::write_integer::buffer::copy_to_front;
 
-/// The sign of a number: `-` if it is below 0, and otherwise nothing, or a `+` if one is required. Before
-/// other parts, `Sign(-5, false)` writes `-`, as `Sign(-5, true)` does, and `Sign(5, true)` writes `+`. Its room is 1.
+/// The sign of a number: `-` if it is below 0, and otherwise nothing, or a `+` if one is required.
+/// `Sign(-5, false)` writes `-`, as `Sign(-5, true)` does, and `Sign(5, true)` writes `+`. Its room is 1.
 ///
 /// ```
 /// use cojimuran::{Part, Sign};

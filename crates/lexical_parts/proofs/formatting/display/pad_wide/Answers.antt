@@ -31,12 +31,12 @@ returns-clause-styled g c = λ flush ok.
       c.saturating_sub-2.ensures,
       c.saturating_sub-missing.ensures,
     ) in
-    let filled = c.in_ok-write_fill.ensures flush refl in
+    let filled = c.in_ok-format_fill.ensures flush refl in
     let sign = rw c.plus_of-plus.ensures at (c.in_ok-write_str.ensures.styled filled.flush refl) in
     let zeros = c.in_ok-write_zeros.ensures sign.flush refl in
     let more = c.in_ok-write_zeros-2.ensures zeros.flush refl in
     let last = c.in_ok-write_str-2.ensures.styled more.flush refl in
-    let after = c.write_fill-2.ensures last.flush ok in
+    let after = c.format_fill-2.ensures last.flush ok in
     let same = last.spec ∙ more.spec ∙ zeros.spec ∙ sign.spec ∙ filled.spec in
     let rest = has_written_styled_of_eq _ _ _ _ _
     (ap (λ s. fill_text s (c.fill_of_number-fill.result - c.fill_before_number-before.result)) same) after in

@@ -24,13 +24,13 @@ returns g c = λ flush aligned ok.
           omega (arith, zero_padding, c.padding_before-before.ensures.within) in
           zero_before ∙ sym (padding_before_none spec 1) ∙ ap (λ n. padding_before spec n 1) (sym zero_padding)
     ] in
-    let filled = c.in_ok-write_fill.ensures flush refl in
+    let filled = c.in_ok-format_fill.ensures flush refl in
     let cell = c.in_ok-left.ensures filled.flush in
     let shown = take_chars spec.precision cell.0 in
     let counted = char_count-take_chars spec.precision cell.0 in
     let left : padding ≡ spec.width - char_count shown = omega (arith, wide, most, counted, cell.3) in
     let wrote = rw most at cell.2 in
-    let after = c.write_fill-2.ensures wrote.flush ok in
+    let after = c.format_fill-2.ensures wrote.flush ok in
     let same = wrote.spec ∙ filled.spec in
     let rest = has_written_styled_of_eq _ _ _ _ _
     (ap (λ s. fill_text s (padding - c.padding_before-before.result)) same) after in

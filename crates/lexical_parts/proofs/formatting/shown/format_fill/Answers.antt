@@ -1,7 +1,7 @@
 use Rattle.std.proofs.Common.{◌≡◌, refl, arith, add-one}
 use Rattle.std.proofs.Output.{has_written_styled_nil, has_written_styled_append, has_written_styled_of_eq}
 use Rattle.std.proofs.Padding.{repeat_more}
-use Rattle.lexical_parts.proofs.formatting.shown.write_fill.Goals as goal
+use Rattle.lexical_parts.proofs.formatting.shown.format_fill.Goals as goal
 
 pub loop-init : goal.loop-init
 loop-init g c = λ p. has_written_styled_nil _ _ p

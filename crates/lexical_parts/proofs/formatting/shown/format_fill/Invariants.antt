@@ -1,5 +1,5 @@
 use Rattle.std.specs.Fmt.{HasWrittenStyled, IsFlush, fill_text, formatter_spec}
-use Rattle.lexical_parts.proofs.formatting.shown.write_fill.Given as goal
+use Rattle.lexical_parts.proofs.formatting.shown.format_fill.Given as goal
 
 -- some copies are written
 abbrev pub invariant-loop : goal.invariant-loop
