@@ -1,7 +1,8 @@
 // Prints how long the library takes beside std::to_chars, snprintf, and {fmt} if it is there, in nanoseconds per number:
-// the best of 100 interleaved passes over 10,000 numbers of 1 to 64 bits, each length as often. Their order is random,
-// since a processor learns to predict lengths that follow a pattern. {fmt} has format strings that are compiled
-// (FMT_COMPILE), and in the first row fmt::format_int, which writes to a buffer of its own.
+// the best of 100 interleaved passes over 10,000 random numbers, which are shifted right so that each length in bits is
+// about as frequent. Their order is random, since a processor learns to predict lengths that follow a pattern. {fmt} has
+// format strings that are compiled (FMT_COMPILE), and in the first row fmt::format_int, which writes to a buffer of its
+// own.
 #include <lexical.h>
 
 #include <algorithm>
@@ -15,11 +16,13 @@
 #if __has_include(<fmt/compile.h>)
 #define FMT_HEADER_ONLY
 #include <fmt/compile.h>
-#define FMT(text) [](uint64_t value) { return size_t(fmt::format_to(buffer, FMT_COMPILE(text), value) - buffer); }
+#define FMT(type, text) \
+    [](uint64_t value) { return size_t(fmt::format_to(buffer, FMT_COMPILE(text), static_cast<type>(value)) - buffer); }
 #else
-#define FMT(text) nullptr
+#define FMT(type, text) nullptr
 #endif
-#define PRINTF(format) [](uint64_t value) { return size_t(std::snprintf(buffer, sizeof buffer, format, value)); }
+#define PRINTF(type, format) \
+    [](uint64_t value) { return size_t(std::snprintf(buffer, sizeof buffer, format, static_cast<type>(value))); }
 
 namespace {
 
@@ -27,19 +30,29 @@ char buffer[LEXICAL_BUFFER_SIZE];
 using Writer = size_t (*)(uint64_t);
 
 // Each writer is called by a pointer, as a function of a library is.
-size_t decimal(uint64_t value) { return lexical_decimal_u64(value, buffer, sizeof buffer); }
+template <typename T>
+size_t decimal(uint64_t value)
+{
+    return lexical_decimal(static_cast<T>(value), buffer, sizeof buffer);
+}
 
 template <unsigned radix, unsigned lowercase, unsigned group_size = 0, size_t size = sizeof buffer>
 size_t lexical(uint64_t value)
 {
     static const lexical_format format = { radix, 0, group_size, ',', lowercase, { 0, 0 } };
-    return lexical_write_u64(value, &format, buffer, size);
+    return lexical_write(value, &format, buffer, size);
 }
 
-template <int radix>
+size_t with_sign(uint64_t value)
+{
+    static const lexical_format format = { 10, 1, 0, 0, 0, { 0, 0 } };
+    return lexical_write(static_cast<int32_t>(value), &format, buffer, sizeof buffer);
+}
+
+template <int radix, typename T = uint64_t>
 size_t to_chars(uint64_t value)
 {
-    return size_t(std::to_chars(buffer, buffer + sizeof buffer, value, radix).ptr - buffer);
+    return size_t(std::to_chars(buffer, buffer + sizeof buffer, static_cast<T>(value), radix).ptr - buffer);
 }
 
 #if __has_include(<fmt/compile.h>)
@@ -58,9 +71,7 @@ size_t group_digits(uint64_t value)
 const Writer format_int = nullptr, group_digits = nullptr;
 #endif
 
-std::vector<uint64_t> numbers;
-
-double nanoseconds(Writer writer)
+double nanoseconds(Writer writer, const std::vector<uint64_t> &numbers)
 {
     using clock = std::chrono::steady_clock;
     auto start = clock::now();
@@ -72,6 +83,7 @@ double nanoseconds(Writer writer)
 
 struct Row {
     const char *name;
+    const std::vector<uint64_t> &numbers;
     Writer writers[4];
     double best[4];
 };
@@ -80,33 +92,48 @@ struct Row {
 
 int main()
 {
+    // Numbers of 1 to 64 bits, and positive and negative ones of 1 to 31 bits.
+    std::vector<uint64_t> u64, i32;
     uint64_t state = 0;
     for (int i = 0; i < 10000; i++) {
         uint64_t mixed = state += 0x9e3779b97f4a7c15u;
         mixed = (mixed ^ (mixed >> 30)) * 0xbf58476d1ce4e5b9u;
         mixed = (mixed ^ (mixed >> 27)) * 0x94d049bb133111ebu;
-        numbers.push_back((mixed ^ (mixed >> 31)) >> (i % 64));
+        mixed ^= mixed >> 31;
+        u64.push_back(mixed >> (i % 64));
+        uint64_t magnitude = mixed >> (33 + i % 31);
+        i32.push_back(mixed % 2 == 0 ? magnitude : -magnitude);
     }
-    std::shuffle(numbers.begin(), numbers.end(), std::mt19937_64());
+    for (auto numbers : { &u64, &i32 }) std::shuffle(numbers->begin(), numbers->end(), std::mt19937_64());
     Row rows[] = {
-        { "lexical_decimal_u64", { decimal, to_chars<10>, PRINTF("%" PRIu64), format_int }, {} },
-        { "radix 10", { lexical<10, 0>, to_chars<10>, PRINTF("%" PRIu64), FMT("{}") }, {} },
-        { "radix 2", { lexical<2, 0>, to_chars<2>, nullptr, FMT("{:b}") }, {} },
-        { "radix 8", { lexical<8, 0>, to_chars<8>, PRINTF("%" PRIo64), FMT("{:o}") }, {} },
-        { "radix 16", { lexical<16, 0>, nullptr, PRINTF("%" PRIX64), FMT("{:X}") }, {} },
-        { "radix 16, lowercase", { lexical<16, 1>, to_chars<16>, PRINTF("%" PRIx64), FMT("{:x}") }, {} },
-        { "radix 16, buffer of 24 bytes", { lexical<16, 0, 0, 24>, nullptr, PRINTF("%" PRIX64), FMT("{:X}") }, {} },
-        { "radix 10, groups of 3", { lexical<10, 0, 3>, nullptr, nullptr, group_digits }, {} },
-        { "radix 36", { lexical<36, 0>, nullptr, nullptr, nullptr }, {} },
-        { "radix 36, lowercase", { lexical<36, 1>, to_chars<36>, nullptr, nullptr }, {} },
+        { "`u64`, `lexical_decimal`", u64,
+          { decimal<uint64_t>, to_chars<10>, PRINTF(uint64_t, "%" PRIu64), format_int }, {} },
+        { "`u64`, radix 10", u64,
+          { lexical<10, 0>, to_chars<10>, PRINTF(uint64_t, "%" PRIu64), FMT(uint64_t, "{}") }, {} },
+        { "`u64`, radix 2", u64, { lexical<2, 0>, to_chars<2>, nullptr, FMT(uint64_t, "{:b}") }, {} },
+        { "`u64`, radix 8", u64,
+          { lexical<8, 0>, to_chars<8>, PRINTF(uint64_t, "%" PRIo64), FMT(uint64_t, "{:o}") }, {} },
+        { "`u64`, radix 16", u64,
+          { lexical<16, 0>, nullptr, PRINTF(uint64_t, "%" PRIX64), FMT(uint64_t, "{:X}") }, {} },
+        { "`u64`, radix 16, lowercase", u64,
+          { lexical<16, 1>, to_chars<16>, PRINTF(uint64_t, "%" PRIx64), FMT(uint64_t, "{:x}") }, {} },
+        { "`u64`, radix 16, buffer of 24 bytes", u64,
+          { lexical<16, 0, 0, 24>, nullptr, PRINTF(uint64_t, "%" PRIX64), FMT(uint64_t, "{:X}") }, {} },
+        { "`u64`, groups of 3", u64, { lexical<10, 0, 3>, nullptr, nullptr, group_digits }, {} },
+        { "`u64`, radix 36", u64, { lexical<36, 0>, nullptr, nullptr, nullptr }, {} },
+        { "`u64`, radix 36, lowercase", u64, { lexical<36, 1>, to_chars<36>, nullptr, nullptr }, {} },
+        { "`i32`, `lexical_decimal`", i32,
+          { decimal<int32_t>, to_chars<10, int32_t>, PRINTF(int32_t, "%" PRId32), FMT(int32_t, "{}") }, {} },
+        { "`i32`, with a `+`", i32,
+          { with_sign, nullptr, PRINTF(int32_t, "%+" PRId32), FMT(int32_t, "{:+}") }, {} },
     };
     for (int pass = 0; pass < 100; pass++)
         for (Row &row : rows)
             for (int i = 0; i < 4; i++) {
-                double taken = row.writers[i] == nullptr ? 0 : nanoseconds(row.writers[i]);
+                double taken = row.writers[i] == nullptr ? 0 : nanoseconds(row.writers[i], row.numbers);
                 if (pass == 0 || taken < row.best[i]) row.best[i] = taken;
             }
-    std::puts("| `u64` | lexical | `to_chars` | `snprintf` | {fmt} |\n|---|---|---|---|---|");
+    std::puts("| number and format | lexical | `to_chars` | `snprintf` | {fmt} |\n|---|---|---|---|---|");
     for (const Row &row : rows) {
         std::printf("| %s |", row.name);
         for (double best : row.best) best == 0 ? std::printf(" - |") : std::printf(" %.1f |", best);

@@ -1,4 +1,4 @@
-// In C++17, with a cast, since braces refuse to narrow a `char` variable.
+// In C++17: sets the fields of a copy of the standard format.
 #include <lexical.h>
 
 #include <iostream>
@@ -6,10 +6,9 @@
 
 int main()
 {
-    const char mark = ',';
     lexical_format format = lexical_standard_format;
     format.group_size = 3;
-    format.mark = static_cast<unsigned char>(mark);
+    format.mark = ',';
     char buffer[LEXICAL_BUFFER_SIZE];
     std::size_t count = lexical_write(1234567, format, buffer, sizeof buffer);
     if (count == 0)

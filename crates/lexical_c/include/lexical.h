@@ -2,26 +2,26 @@
 /*
  * lexical.h: functions that write integers as text, in every radix from 2 to 36.
  *
- * Examples, in C11 or later, and with gcc and clang also in C99. These lines write 48879
- * in decimal, and count becomes 5:
+ * These examples are in C11, or in C99 with gcc or clang. The first lines write 48879 in
+ * decimal, and count becomes 5:
  *
  *     char buffer[LEXICAL_BUFFER_SIZE];
  *     size_t count = lexical_decimal(48879, buffer, sizeof buffer);
  *
- * These write it in hexadecimal, which is BEEF, and count becomes 4:
+ * These lines write it in hexadecimal, which is BEEF, and count becomes 4:
  *
  *     const struct lexical_format hexadecimal = LEXICAL_RADIX(16);
  *     count = lexical_write(48879, &hexadecimal, buffer, sizeof buffer);
  *
- * These make the NUL-terminated string "-42":
+ * These lines make the NUL-terminated string "-42":
  *
  *     char text[LEXICAL_BUFFER_SIZE_DECIMAL_I32 + 1];
  *     count = lexical_decimal(-42, text, sizeof text);
  *     lexical_terminate(count, text, sizeof text);
  *
- * These make the string "0x0000beef": a prefix, and behind it a number in lowercase, with
- * zeros up to 8 digits. If count is 0 then, something did not fit, and the string is "0x".
- * Write a prefix only before unsigned types, because a '-' would come after it:
+ * These lines make the string "0x0000beef": a prefix, followed by a number in lowercase,
+ * with zeros up to 8 digits. If count is then 0, something did not fit, and the string is
+ * "0x". Use a prefix only with unsigned types, because a '-' would come after it:
  *
  *     const struct lexical_format lowercase = { .radix = 16, .lowercase = 1 };
  *     char prefixed[2 + LEXICAL_BUFFER_SIZE + 1] = "0x";
@@ -41,7 +41,7 @@
  *
  * Format. `format` points to a struct lexical_format. A call only reads it. The pointer
  * must not be NULL. The fields may have any values: lexical_check_format says which field
- * is invalid, and every other function that takes a format returns 0 if it is invalid.
+ * is invalid, and every other function returns 0 if the format is invalid.
  *
  * Buffer. `buffer` points to `size` bytes that the call may write. The size must not
  * exceed PTRDIFF_MAX; no object is larger. The pointer may be NULL if the size is 0. The
@@ -63,24 +63,17 @@
  * short. Otherwise it returns the constant LEXICAL_INVALID_.. of the first invalid field.
  * No call changes errno.
  *
- * Speed. For full speed in every radix, give a buffer with a byte for each bit of the type,
- * and one more for the sign of a signed type: 32 for a uint32_t, and 65 for an int64_t. In
- * a shorter one, a call in most radices must first check that the text fits, and it is
- * slowest if the text only just fits. Groups make a call three to four times as slow.
- *
- * Size. The archive adds 177 KB to a program. If you link with -Wl,--gc-sections, it adds 3
- * KB for lexical_decimal, and 90 to 105 KB for lexical_write of one type. lexical_decimal
- * is about as fast as lexical_write in radix 10.
+ * Speed. A call without groups and without '+' is fastest if the buffer has a byte for
+ * each bit of the type, and one more for the sign of a signed type: 32 for a uint32_t, and
+ * 65 for an int64_t. README.md of the sources measures time and code.
  *
  * Proof. The sources are written in Rattle, a dialect of Rust with contracts. A prover,
- * which is not public, has checked that they write the right text for all arguments
- * that meet the conditions above under "Format" and "Buffer", with a size_t of 64 bits.
- * Only tested are: the Rust code made from the sources, the handwritten file that exports
- * the functions with a buffer and takes a NULL of size 0, the macros, constants and
- * overloads of this header, the compiled library, and all of it with 32 bits.
+ * which is not public, has checked that the functions write the right text for all
+ * arguments that meet the conditions above under "Format" and "Buffer", with a size_t of
+ * 64 bits. The compiled library, this header and a size_t of 32 bits are only tested.
  *
- * Threads and signals. The functions have no state and allocate nothing, so you can
- * call them in any thread and in any signal handler.
+ * Threads and signals. The functions have no state and allocate nothing. So you can call
+ * them in any thread, with a buffer of its own, and in any signal handler.
  *
  * Names. All names begin with lexical_ or LEXICAL_. Those that begin with
  * lexical_private_ or LEXICAL_PRIVATE_ may change in any version, so do not use them.
@@ -140,9 +133,8 @@ extern "C" {
 /* ---- the version --------------------------------------------------------- */
 
 /*
- * The version of this header, as a string, and as a number: 1000000 times the
- * major number, plus 1000 times the minor number, plus the patch number. The
- * major number is also the number in the soname, liblexical_c.so.1.
+ * The version of this header. LEXICAL_VERSION is 1000000 * major + 1000 * minor + patch.
+ * The major number is also in the soname, liblexical_c.so.1.
  */
 #define LEXICAL_VERSION_STRING "1.0.0"
 #define LEXICAL_VERSION 1000000
@@ -219,9 +211,11 @@ size_t lexical_decimal_i64(int64_t value, char *buffer, size_t size) LEXICAL_NOE
  * bits, so that a wrong radix such as 266 is refused and not truncated to 10.
  *
  * In C89, and in C++ before C++20, write the fields in their order, { 10, 0, 3, ',' }, or
- * set the fields of a variable. From C++14 on, each field after the radix has the default
- * value 0, so the struct is not trivial: write `format = {}` and then set the radix, in
- * place of memset, and give an initializer to a union that has a format as a member.
+ * set the fields of a variable.
+ *
+ * From C++14 on, each field after the radix has the default value 0. So the struct is not
+ * trivial: clear one by `format = {}` and not by memset. A union with such a member needs an
+ * initializer.
  */
 struct lexical_format {
     /* From 2 to 36. */
@@ -240,14 +234,16 @@ struct lexical_format {
 };
 
 /*
- * The format of a radix, as an initializer: with no '+' and no groups, in uppercase.
+ * The format of a radix, as an initializer: in uppercase, with no '+' and no groups.
  * For lowercase write { .radix = 16, .lowercase = 1 }.
  *
- * The radix may have any standard integer type. A number that is not from 2 to 36 becomes
- * the radix 0, which is invalid. An integer constant expression that is not from 2 to 36
- * does not compile: with gcc and clang (except in C++98), and in C11 and later with every
- * compiler. The radix is evaluated once, except in C before C11 with compilers other than
- * gcc and clang.
+ * The radix may have any standard integer type. If it is not from 2 to 36, the radix of the
+ * format is 0, which is invalid. An integer constant expression that is not from 2 to 36
+ * does not compile; the error speaks of an array of a negative size, or of -1. This is so in
+ * C11 and later, and with gcc and clang also in earlier C and in C++11 and later.
+ *
+ * The radix is evaluated once, except in C before C11 with compilers other than gcc and
+ * clang.
  */
 #define LEXICAL_RADIX(radix) { LEXICAL_PRIVATE_RADIX(radix), 0, 0, 0, 0, { 0, 0 } }
 
@@ -256,9 +252,9 @@ struct lexical_format {
  * and no groups. lexical_decimal writes its texts, and lexical_length with
  * &lexical_standard_format returns their lengths.
  *
- * The object has hidden ELF visibility: each program and each shared library has its own
- * copy. With compilers other than gcc and clang, each file in C, or in C++ before C++17,
- * has its own copy.
+ * Each program and each shared library has its own copy of the object, because its name is
+ * hidden from the dynamic linker (ELF visibility). With gcc and clang each file in C has a
+ * weak symbol of it. With other compilers each file in C, or in C++ before C++17, has a copy.
  */
 #define LEXICAL_STANDARD_FORMAT { 10, 0, 0, 0, 0, { 0, 0 } }
 #if defined(__cplusplus) && __cplusplus >= 201703L
@@ -306,7 +302,7 @@ uint32_t lexical_check_format(const struct lexical_format *format) LEXICAL_NOEXC
  * lexical_buffer_size_T: returns a buffer size that is enough for every number of the
  * type in the format, with its sign and its separators. With a buffer of this size,
  * lexical_write_T never returns 0 for this format. In radix 10 it is the length of the
- * longest text, but for a signed type with groups or a '+' up to 2 bytes more. In other
+ * longest text, or for a signed type with groups or a '+' at most 2 bytes more. In other
  * radices it is the constant for the type, such as LEXICAL_BUFFER_SIZE_U32. The exact
  * length of the longest text is lexical_length_u32(UINT32_MAX, format), and for a signed
  * type lexical_length_i32(INT32_MIN, format).
@@ -441,10 +437,10 @@ size_t lexical_pad(size_t count, size_t width, char *buffer, size_t size) LEXICA
  *     buffer  where the text begins
  *     size    the size of the buffer in bytes, with a byte for the NUL
  *
- * Returns `count`, or 0 if `count` is 0 or the NUL does not fit, because `size` is at most
- * `count`. If it returns 0, the buffer becomes an empty string and a text in it is lost,
- * unless `size` is 0. So the buffer is a string in any case, and you may ignore the result
- * where an empty string will do.
+ * Returns `count`. Returns 0 if `count` is 0, or if `size` is not greater than `count`, so
+ * that the NUL does not fit. Then a text in the buffer is lost: the buffer becomes an empty
+ * string, unless `size` is 0. So a buffer of at least one byte is a string after every call,
+ * and you may ignore the result where an empty string will do.
  */
 LEXICAL_HAS((nothrow)) LEXICAL_ACCESS((write_only, 2, 3))
 size_t lexical_terminate(size_t count, char *buffer, size_t size) LEXICAL_NOEXCEPT;
@@ -465,12 +461,14 @@ size_t lexical_terminate(size_t count, char *buffer, size_t size) LEXICAL_NOEXCE
 /*
  * lexical_decimal, lexical_write and lexical_length, in C++, in C11 and later, and with gcc
  * and clang in C99. They call the function for the type of the value, for example
- * lexical_write_i32 for an int.
- * In C they are macros, which evaluate each argument once. A variable of the type char or
- * bool is refused, and in C++ also one of the type wchar_t, char8_t, char16_t or char32_t:
- * cast it to int if you mean its number. In C, 'x' and a > b have the type int, and so has
- * true before C23; they compile. In C, gcc also refuses a bit-field, unless it has 8, 16,
- * 32 or 64 bits: cast it to its type. In C++98 cast a long long to int64_t.
+ * lexical_write_i32 for an int. In C they are macros, which evaluate each argument once.
+ *
+ * - A variable of the type char or bool is refused, and in C++ also one of the type wchar_t,
+ *   char8_t, char16_t or char32_t: cast it to int if you mean its number.
+ * - In C, 'x' and a > b have the type int, and so has true before C23: they compile.
+ * - In C, gcc also refuses a bit-field, unless it has 8, 16, 32 or 64 bits: cast it to its
+ *   type.
+ * - In C++98 cast a long long to int64_t.
  *
  * In C++ the format may also be passed as an object, and in C++11 and later as
  * an initializer:

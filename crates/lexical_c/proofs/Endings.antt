@@ -17,7 +17,7 @@ moved_behind_zeros : (before moved zeros : List ℕ) (sign count width more : �
 moved_behind_zeros before moved zeros sign count width more within wide room some is_moved are_zeros =
     same_lists _ _ (grind (arith, places)) (λ k d h. grind (arith, places))
 
--- so the text has the width
+-- a text with zeros inserted after its sign has the width
 pub padded : (before moved zeros : List ℕ) (sign count width more : ℕ) → 1 ≤ count → count < width
     → width ≤ length before →
     more ≡ width - count → sign ≡ sign_length (take count before) →

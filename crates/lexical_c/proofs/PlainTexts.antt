@@ -28,7 +28,7 @@ only_radix format only = rw (only.sign, only.groups) refl
 pub plain_valid : (radix : ℕ) → IsRadix radix → IsValid (record standard { mantissa_radix = radix })
 plain_valid radix is = grind arith
 
--- so a C format with nothing but a valid radix and a case is accepted
+-- a C format with nothing but a valid radix and a case is accepted
 pub accepted : (format : CFormat) → HasOnlyRadixAndCase format → IsRadix format.radix → IsAccepted format
 accepted format only radix = record {
   valid = rw (only_radix format only) (plain_valid format.radix radix);

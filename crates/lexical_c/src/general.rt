@@ -15,7 +15,7 @@ use lexical_write_integer::{BUFFER_SIZE, Options, ToLexicalWithOptions, WriteOpt
 /// leaves the buffer unchanged if the format is invalid or the text does not fit.
 // It is cold, so that the tests before a call of it are separate branches, each of which is one instruction fewer.
 #[cold]
-pub fn write_if_it_fits<T: WideInteger>(value: T, format: &CFormat, buffer: &mut [u8]) -> usize
+pub fn write_general<T: WideInteger>(value: T, format: &CFormat, buffer: &mut [u8]) -> usize
     ensures { WritesOrRefuses (T.number value) format.now buffer.old buffer.new result }
 {
     if has_only_radix_and_case(format) {
@@ -30,7 +30,7 @@ pub fn write_if_it_fits<T: WideInteger>(value: T, format: &CFormat, buffer: &mut
     count
 }
 
-// Writes the number in uppercase, whatever the format requests, or refuses it as `write_if_it_fits` does.
+// Writes the number in uppercase, whatever the format requests, or refuses it as `write_general` does.
 fn write_uppercase<T: ToLexicalWithOptions>(value: T, format: &CFormat, buffer: &mut [u8]) -> usize
     ensures { WritesIf (T.number value) format.now (IsText (T.number value) (format_of format.now))
         buffer.old buffer.new result }

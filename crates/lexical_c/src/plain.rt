@@ -1,5 +1,5 @@
-//! Writes a number in a format without groups and required signs, to a buffer that is long enough for
-//! every number of the type.
+//! Writes a number in a format without groups and required signs. The buffer is long enough for every number of the type,
+//! or at least for every number that has as many bits as this one.
 
 ghost use Rattle.std.specs.Prelude.{◌≡◌, ◌+◌, ◌*◌, ◌≤◌, ◌≤ℤ◌, ◌↔◌, ℕ, ℤ, IsTrue, length, map, false, None, IfSome};
 ghost use Rattle.std.specs.Prelude.{unsigned_abs};

@@ -115,8 +115,8 @@ links_with_pkg_config() (
     hides $CXX -std=c++17 "$crate/examples/example17.cpp" $cflags $static
 )
 
-# Whether CMake finds the package by each of some versions and ranges, and by no other, and builds a program with each
-# of its libraries, and a library that exports nothing of the archive in it.
+# Whether CMake finds the package by some versions, ranges and components, and by no other and for no other size of
+# pointers, and builds a program with each of its libraries, and a library that exports nothing of the archive in it.
 builds_with_cmake() {
   project=$work/project built=$work/project/build
   fails grep -r -F "$prefix" "$folder/cmake" && mkdir "$project" && cp "$crate/examples/first.c" "$project" || return
@@ -127,7 +127,8 @@ builds_with_cmake() {
   cat > "$project/CMakeLists.txt" <<END
 cmake_minimum_required(VERSION 3.13)
 project(example C)
-foreach(wanted 1.0 "$version;EXACT" 1.0...2 "1.0.9;EXACT" 0.9 1.999 1.999...2 2.0)
+foreach(wanted 1.0 "$version;EXACT" 1.0...2 "1.0.9;EXACT" 0.9 1.999 1.999...2 2.0 "1.0;COMPONENTS;static"
+    "1.0;COMPONENTS;other")
   find_package(lexical_c \${wanted} QUIET)
   message(STATUS "wanted \${wanted}: \${lexical_c_FOUND}")
 endforeach()
@@ -136,6 +137,13 @@ foreach(wanted 1.0...1.9 1.0...1.8 1.0...<1.9)
   find_package(later \${wanted} QUIET PATHS "$project" NO_DEFAULT_PATH)
   message(STATUS "wanted \${wanted}: \${later_FOUND}")
 endforeach()
+set(size_of_a_pointer \${CMAKE_SIZEOF_VOID_P})
+set(CMAKE_SIZEOF_VOID_P 2)
+unset(lexical_c_DIR CACHE)
+find_package(lexical_c 1.0 QUIET)
+message(STATUS "wanted for another machine: \${lexical_c_FOUND}")
+set(CMAKE_SIZEOF_VOID_P \${size_of_a_pointer})
+unset(lexical_c_DIR CACHE)
 find_package(lexical_c 1.0 REQUIRED)
 add_library(first SHARED first.c)
 target_link_libraries(first lexical_c::static)
@@ -145,7 +153,7 @@ foreach(kind shared static lexical_c)
 endforeach()
 END
   lexical_c_DIR="$folder/cmake/lexical_c" CC="$CC" cmake -S "$project" -B "$built" > "$work/said" &&
-    prints '1 1 1 0 0 0 0 0 1 0 0' echo $(sed -n 's/^-- wanted .*: //p' "$work/said") && cmake --build "$built" &&
+    prints '1 1 1 0 0 0 0 0 1 0 1 0 0 0' echo $(sed -n 's/^-- wanted .*: //p' "$work/said") && cmake --build "$built" &&
     prints 1234567 "$built/shared" && prints 1234567 "$built/static" && prints 1234567 "$built/lexical_c" &&
     prints main names '-D --defined-only' "$built/libfirst.so" &&
     readelf -d "$built/lexical_c" | grep "NEEDED.*\[liblexical_c.so.$major\]"
@@ -182,7 +190,7 @@ makes_packages() (
 check_installation() {
   version=$(sed -n 's/^#define LEXICAL_VERSION_STRING "\(.*\)"$/\1/p' "$crate/include/lexical.h")
   major=${version%%.*} prefix=$work/prefix folder=$work/prefix/lib/here
-  expect 'install before make' refuses 'run make first' B="$work/nothing"
+  expect 'install before make' refuses 'run make first' BUILD="$work/nothing"
   expect 'a prefix with a space' refuses 'without a space' prefix='/a b'
   expect 'a prefix that sed would change' refuses 'without a space' prefix='/a&b'
   expect 'a libdir that is not below prefix' refuses 'below prefix' prefix=/usr libdir=/lib

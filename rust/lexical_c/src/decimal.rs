@@ -18,14 +18,14 @@ pub fn write_decimal<T: ToLexicalWithOptions, W: WideInteger>(
     if T::FORMATTED_SIZE_DECIMAL <= buffer.len() {
         value.write_lexical(buffer)
     } else {
-        write_if_it_fits(wide, buffer)
+        write_decimal_by_array(wide, buffer)
     }
 }
 
 // Does what `write_decimal` does, by an array. It is cold, so `write_decimal` does not save registers for it.
 #[cold]
 #[inline]
-fn write_if_it_fits<T: ToLexicalWithOptions>(value: T, buffer: &mut [u8]) -> usize {
+fn write_decimal_by_array<T: ToLexicalWithOptions>(value: T, buffer: &mut [u8]) -> usize {
     let mut text = [0; BUFFER_SIZE];
     let count = value.write_lexical(&mut text);
     if count <= buffer.len() {

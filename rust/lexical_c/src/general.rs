@@ -13,7 +13,7 @@ use cojimuran::{BUFFER_SIZE, Options, ToLexicalWithOptions, WriteOptions};
 // It is cold, so that the tests before a call of it are separate branches, each of which is one instruction fewer.
 #[cold]
 #[inline]
-pub fn write_if_it_fits<T: WideInteger>(value: T, format: &CFormat, buffer: &mut [u8]) -> usize {
+pub fn write_general<T: WideInteger>(value: T, format: &CFormat, buffer: &mut [u8]) -> usize {
     if has_only_radix_and_case(format) {
         if let Some(plain) = format_by_bits(value, format.radix, buffer.len()) {
             return write_in_case(value, &plain, format, buffer);
@@ -26,7 +26,7 @@ pub fn write_if_it_fits<T: WideInteger>(value: T, format: &CFormat, buffer: &mut
     count
 }
 
-// Writes the number in uppercase, whatever the format requests, or refuses it as `write_if_it_fits` does.
+// Writes the number in uppercase, whatever the format requests, or refuses it as `write_general` does.
 #[inline]
 fn write_uppercase<T: ToLexicalWithOptions>(
     value: T,

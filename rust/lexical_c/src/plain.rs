@@ -1,7 +1,7 @@
 // Made by `strip` from crates/lexical_c/src/plain.rt. Edit that file, not this one.
 
-//! Writes a number in a format without groups and required signs, to a buffer that is long enough for
-//! every number of the type.
+//! Writes a number in a format without groups and required signs. The buffer is long enough for every number of the type,
+//! or at least for every number that has as many bits as this one.
 
 use crate::format::CFormat;
 use crate::integer::WideInteger;

@@ -5,7 +5,7 @@
 
 use crate::decimal::write_decimal;
 use crate::format::CFormat;
-use crate::general::write_if_it_fits;
+use crate::general::write_general;
 use crate::hexadecimal::write_hexadecimal;
 use crate::integer::CInteger;
 use crate::plain::{fitting_format, has_only_radix_and_case, set_lowercase_bit, write_plain};
@@ -26,7 +26,7 @@ fn write<T: CInteger>(value: T, format: &CFormat, buffer: &mut [u8]) -> usize {
 #[inline]
 fn write_other<T: CInteger>(value: T, format: &CFormat, buffer: &mut [u8]) -> usize {
     if !has_only_radix_and_case(format) {
-        write_if_it_fits(value.widen(), format, buffer)
+        write_general(value.widen(), format, buffer)
     } else if format.radix <= 10 {
         write_digits(value, format, buffer)
     } else if format.radix == 16 {
@@ -52,7 +52,7 @@ fn write_digits<T: CInteger>(value: T, format: &CFormat, buffer: &mut [u8]) -> u
 fn write_in_radix<T: CInteger>(value: T, format: &CFormat, buffer: &mut [u8]) -> usize {
     match fitting_format::<T>(format.radix, buffer.len()) {
         Some(plain) => write_plain(value, &plain, buffer),
-        None => write_if_it_fits(value.widen(), format, buffer),
+        None => write_general(value.widen(), format, buffer),
     }
 }
 
@@ -65,7 +65,7 @@ fn write_in_lowercase<T: CInteger>(value: T, format: &CFormat, buffer: &mut [u8]
             set_lowercase_bit(&mut buffer[..count]);
             count
         }
-        None => write_if_it_fits(value.widen(), format, buffer),
+        None => write_general(value.widen(), format, buffer),
     }
 }
 

@@ -1,6 +1,6 @@
 use Rattle.std.proofs.Common.{arith}
 use Rattle.lexical_c.proofs.WrittenTexts.{in_lowercase, in_uppercase}
-use Rattle.lexical_c.proofs.general.write_if_it_fits.Goals as goal
+use Rattle.lexical_c.proofs.general.write_general.Goals as goal
 
 -- the check finds this proof by itself, but with an answer the refusal of a mistake says what is wrong
 pub write_in_case-requires-clause-room : goal.write_in_case-requires-clause-room

@@ -3,7 +3,7 @@ use Rattle.lexical_num.proofs.Magnitudes.{magnitude-small}
 use Rattle.lexical_c.specs.declared.format.TheConstants.{DECIMAL}
 use Rattle.lexical_c.proofs.WrittenTexts.{count-le, count-length, decimal_accepted, in_decimal, length-written}
 use Rattle.lexical_c.proofs.WrittenTexts.{written_by_copy, refused}
-use Rattle.lexical_c.proofs.decimal.write_if_it_fits.Goals as goal
+use Rattle.lexical_c.proofs.decimal.write_decimal_by_array.Goals as goal
 
 pub slice_bounds-copy_to_front-end : goal.slice_bounds-copy_to_front-end
 slice_bounds-copy_to_front-end g c = count-length _ _ _ c.write_lexical-count.ensures.text
