@@ -38,7 +38,8 @@
 //! Most programs need nothing else. [`padded::write_padded`] fills a buffer with a number, [`group_digits`] and
 //! [`write_sign`] are for writers of your own, and [`compact::Compact`] is for little code. The other modules and items
 //! mirror the Rust crate `lexical-write-integer`, so that a program can move from that crate: options, which have no
-//! effect, the writers of digits without a sign, and their tables.
+//! effect, the writers of digits without a sign, and their tables. [What to change](from_other_crates) in a program that
+//! uses that crate, `itoa` or `format!` is on a page of its own.
 //!
 //! # A `String`, a `Vec`, a format string
 //!
@@ -64,6 +65,24 @@
 //! assert_eq!(format!("{:>6}", Hex(255u16)), "    FF");
 //! assert_eq!(format!("{}", Shown(("id=", 7u8))), "id=7");
 //! ```
+//!
+//! # Options in a format string
+//!
+//! Numbers as parts take the width, the fill, the `+` and the `0` of an integer: [`Decimal`], [`Plus`], [`Formatted`],
+//! [`Hex`], [`FullHex`], [`Binary`], [`Digits`], [`Padded`], [`PaddedDigits`], [`Fixed`], [`GroupedFixed`] and
+//! [`TrimmedFixed`]. `#` and a precision have no effect. All other parts, among them [`Shown`] and [`Lower`] of a number,
+//! take the width, the fill and the precision of a `&str`:
+//!
+//! ```
+//! use cojimuran::{Hex, Lower, Shown};
+//!
+//! assert_eq!(format!("{:06}|{:6}", Hex(255u16), Hex(255u16)), "0000FF|    FF");
+//! assert_eq!(format!("{:06}|{:.1}", Lower(Hex(255u16)), Lower(Hex(255u16))), "ff    |f");
+//! assert_eq!(format!("{:03}|{:>3}", Shown(5u8), Shown(5u8)), "5  |  5");
+//! ```
+//!
+//! `{}` of a part that is [not valid](conditions#valid-parts) returns an error, so `format!` and `println!` panic. The
+//! standard library expects a `Display` to fail only if its formatter does; but a proved function cannot panic.
 //!
 //! # A part of your own
 //!
@@ -143,9 +162,18 @@ pub mod buffers {}
 pub mod conditions {}
 
 /// A page, not a module: the time and the code size of calls.
+///
+/// [128]: crate::from_other_crates#numbers-of-128-bits
 #[cfg(doc)]
 #[doc = include_str!("../COSTS.md")]
 pub mod costs {}
+
+/// A page, not a module: what to change in a program that uses another crate or `format!`.
+///
+/// [room]: crate::buffers
+#[cfg(doc)]
+#[doc = include_str!("../FROM_OTHER_CRATES.md")]
+pub mod from_other_crates {}
 
 #[cfg(feature = "alloc")]
 pub use append::{Append, AppendTarget};
