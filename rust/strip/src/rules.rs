@@ -85,6 +85,8 @@ impl Rule {
         if to.len() > self.from.len() && words(&to).ends_with(&format!(" {}", words(&self.from))) {
             // What is added comes after the comment, which stays with what it was before.
             let added = to.len() - self.from.len();
+            // Otherwise it would continue a line of documentation.
+            to[0].before = "\n".to_owned();
             tokens.splice(at..at, to.drain(..added));
             return;
         }

@@ -13,6 +13,22 @@ pub(crate) const EXPORTS: &[(&str, &str)] = &[
     ("lexical_lines::", "lexwrite::lines::"),
 ];
 
+/// What rustc says of a type that does not implement a trait. Rattle does not know such attributes.
+const NO_INTEGER: &str = "#[diagnostic::on_unimplemented(
+    message = \"`{Self}` is not an integer type that this crate writes\",
+    note = \"it writes `u8` to `u64`, `usize`, `i8` to `i64` and `isize`; `Displayed(&value)` writes what has `Display`\")]";
+const NOT_UNSIGNED: &str = "#[diagnostic::on_unimplemented(
+    message = \"`{Self}` is not an unsigned integer type that this crate writes\",
+    note = \"a literal needs a type, such as `255u8`; a signed number in a radix is written by `Formatted`\")]";
+const NO_PART: &str = "#[diagnostic::on_unimplemented(
+    message = \"`{Self}` is not a part\",
+    note = \"a value with `Display` is a part as `Displayed(&value)`\")]";
+
+/// Returns a rule that writes an attribute above the only place with these tokens.
+fn above(attribute: &str, from: &str) -> Rule {
+    once(from, &format!("{attribute} {from}"))
+}
+
 /// Returns all rules, in the order in which they are applied. If one were missing, rustc or the last check of `strip`
 /// would refuse what is left.
 pub(crate) fn rules() -> Vec<Rule> {
@@ -21,12 +37,15 @@ pub(crate) fn rules() -> Vec<Rule> {
         Of("lexical_num").rules([
             // So neither a new method nor a new error breaks a user.
             once("pub trait LexicalInteger: Copy {", "pub trait LexicalInteger: Copy + crate::sealed::Sealed {"),
+            above(NO_INTEGER, "pub trait FormattedSize"),
+            above(NOT_UNSIGNED, "pub trait UnsignedInteger"),
             once("pub enum Error {", "#[non_exhaustive]\npub enum Error {"),
             // Nor does a field of the options or their builder.
             once("pub struct Options {", "#[non_exhaustive]\npub struct Options {"),
             once("pub struct OptionsBuilder {", "#[non_exhaustive]\npub struct OptionsBuilder {"),
         ]),
         Of("lexical_write_integer").rules([
+            above(NO_INTEGER, "pub trait Decimal"),
             // The root of the package exports it.
             once("pub use lexical_tables as table;", ""),
             // Its message names what does not hold, and nothing else.
@@ -42,6 +61,8 @@ pub(crate) fn rules() -> Vec<Rule> {
             once("pub fn compact_counted", "pub(crate) fn compact_counted"),
         ]),
         Of("lexical_parts").rules([
+            above(NO_PART, "pub trait Part"),
+            above(NO_PART, "pub trait Show"),
             // Parts can be keys and compared, as values of std can.
             everywhere("#[derive(Clone, Copy, Debug, Drop)]", "#[derive(Clone, Copy, PartialEq, Eq, Hash, Debug)]"),
             // A formatter has no parameter here, but a lifetime.

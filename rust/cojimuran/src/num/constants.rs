@@ -23,6 +23,10 @@ pub const BUFFER_SIZE: usize = 128;
 /// let mut buffer = [0; u64::FORMATTED_SIZE_DECIMAL];
 /// assert_eq!(u64::MAX.to_lexical(&mut buffer), b"18446744073709551615");
 /// ```
+#[diagnostic::on_unimplemented(
+    message = "`{Self}` is not an integer type that this crate writes",
+    note = "it writes `u8` to `u64`, `usize`, `i8` to `i64` and `isize`; `Displayed(&value)` writes what has `Display`"
+)]
 pub trait FormattedSize: LexicalInteger {
     /// The buffer length in a radix other than 10, with a sign and with groups.
     const FORMATTED_SIZE: usize;

@@ -178,6 +178,10 @@ impl LexicalInteger for isize {
 /// }
 /// assert_eq!(last_digit(1234u16), 4);
 /// ```
+#[diagnostic::on_unimplemented(
+    message = "`{Self}` is not an unsigned integer type that this crate writes",
+    note = "a literal needs a type, such as `255u8`; a signed number in a radix is written by `Formatted`"
+)]
 pub trait UnsignedInteger: LexicalInteger {
     /// Converts a number that fits the type.
     ///

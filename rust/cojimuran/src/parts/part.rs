@@ -23,6 +23,10 @@ use core::str::{from_utf8, from_utf8_unchecked};
 ///
 /// assert_eq!((250, " g").to_str(&mut [0; 64]), "250 g");
 /// ```
+#[diagnostic::on_unimplemented(
+    message = "`{Self}` is not a part",
+    note = "a value with `Display` is a part as `Displayed(&value)`"
+)]
 pub trait Part: Copy {
     /// Returns a number of bytes that is enough for the text, or `usize::MAX` if that number does not
     /// fit in a `usize`. The part must be valid: for an invalid part the number may be too small.
