@@ -20,7 +20,7 @@ fn write<T: CInteger>(value: T, format: &CFormat, buffer: &mut [u8]) -> usize {
     }
 }
 
-// Does what `write` does in any other format. It is cold, and so not inlined: otherwise a call in uppercase
+// Does what `write` does in any other format. It is cold: otherwise a call in uppercase
 // would save registers that only this needs.
 #[cold]
 #[inline]

@@ -23,7 +23,7 @@ impl Random {
         self.next() % most
     }
 
-    /// Returns a number with each count of digits.
+    /// Returns a number of up to 64 bits, whose count of digits is random.
     fn number(&mut self) -> u64 {
         let bits = self.below(64);
         self.next() >> bits

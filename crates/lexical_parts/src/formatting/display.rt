@@ -88,7 +88,7 @@ fn fill_before_number<W: fmt::Write>(f: &fmt::Formatter<W>, fill: usize) -> usiz
     }
 }
 
-// Writes a text as `pad_number` does, in a format with a width or another option. It is cold, and so not inlined:
+// Writes a text as `pad_number` does, in a format with a width or another option. It is cold:
 // otherwise a number in `{}` would save registers that only this needs.
 #[cold]
 fn pad_with_options<W: fmt::Write>(
@@ -240,7 +240,7 @@ impl<T: DigitCount + Radix> fmt::Display for Digits<T> {
     }
 }
 
-// Writes zeros and then digits as the standard library writes an integer. It is cold, and so not inlined: few numbers
+// Writes zeros and then digits as the standard library writes an integer. It is cold: few numbers
 // have more than 64 digits.
 #[cold]
 fn pad_wide<W: fmt::Write>(f: &mut fmt::Formatter<W>, zeros: usize, digits: &str) -> fmt::Result

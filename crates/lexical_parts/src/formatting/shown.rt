@@ -107,7 +107,7 @@ fn is_bare<W: fmt::Write>(f: &fmt::Formatter<W>) -> bool
 }
 
 // Writes the text with the width and the precision of the formatter, as std writes a `&str`. The text is written twice,
-// the first time to count its characters. It is cold, and so not inlined: most texts are written in one piece.
+// the first time to count its characters. It is cold: most texts are written in one piece.
 #[cold]
 fn pad_pieces<P: Show, W: fmt::Write>(part: P, f: &mut fmt::Formatter<W>) -> fmt::Result
     requires valid { P.is_valid part }
@@ -122,7 +122,7 @@ fn pad_pieces<P: Show, W: fmt::Write>(part: P, f: &mut fmt::Formatter<W>) -> fmt
     let before = padding_before(f, padding);
     format_fill(before, f)?;
     let left = write_cut(part, most, f)?;
-    // A part has the same text each time.
+    // A part of a caller may have another text each time.
     if most.saturating_sub(left) != count {
         return Err(fmt::Error);
     }

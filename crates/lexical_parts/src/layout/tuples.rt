@@ -118,7 +118,8 @@ impl<A: Part, B: Part, C: Part, D: Part> Part for (A, B, C, D) {
 }
 
 impl<A: Show, B: Show, C: Show, D: Show> Show for (A, B, C, D) {
-    ghost text = { λ p. option_append (A.text p.0) (option_append (B.text p.1) (option_append (C.text p.2) (D.text p.3))) };
+    ghost text = { λ p. option_append (A.text p.0) (option_append (B.text p.1) (option_append (C.text p.2)
+        (D.text p.3))) };
 
     fn is_showable(self) -> bool {
         (self.0, (self.1, self.2, self.3)).is_showable()
@@ -159,7 +160,8 @@ impl<A: Part, B: Part, C: Part, D: Part, E: Part> Part for (A, B, C, D, E) {
 }
 
 impl<A: Show, B: Show, C: Show, D: Show, E: Show> Show for (A, B, C, D, E) {
-    ghost text = { λ p. option_append (A.text p.0) (option_append (B.text p.1) (option_append (C.text p.2) (option_append (D.text p.3) (E.text p.4)))) };
+    ghost text = { λ p. option_append (A.text p.0) (option_append (B.text p.1) (option_append (C.text p.2)
+        (option_append (D.text p.3) (E.text p.4)))) };
 
     fn is_showable(self) -> bool {
         (self.0, (self.1, self.2, self.3, self.4)).is_showable()
@@ -201,7 +203,8 @@ impl<A: Part, B: Part, C: Part, D: Part, E: Part, F: Part> Part for (A, B, C, D,
 }
 
 impl<A: Show, B: Show, C: Show, D: Show, E: Show, F: Show> Show for (A, B, C, D, E, F) {
-    ghost text = { λ p. option_append (A.text p.0) (option_append (B.text p.1) (option_append (C.text p.2) (option_append (D.text p.3) (option_append (E.text p.4) (F.text p.5))))) };
+    ghost text = { λ p. option_append (A.text p.0) (option_append (B.text p.1) (option_append (C.text p.2)
+        (option_append (D.text p.3) (option_append (E.text p.4) (F.text p.5))))) };
 
     fn is_showable(self) -> bool {
         (self.0, (self.1, self.2, self.3, self.4, self.5)).is_showable()
@@ -243,7 +246,8 @@ impl<A: Part, B: Part, C: Part, D: Part, E: Part, F: Part, G: Part> Part for (A,
 }
 
 impl<A: Show, B: Show, C: Show, D: Show, E: Show, F: Show, G: Show> Show for (A, B, C, D, E, F, G) {
-    ghost text = { λ p. option_append (A.text p.0) (option_append (B.text p.1) (option_append (C.text p.2) (option_append (D.text p.3) (option_append (E.text p.4) (option_append (F.text p.5) (G.text p.6)))))) };
+    ghost text = { λ p. option_append (A.text p.0) (option_append (B.text p.1) (option_append (C.text p.2)
+        (option_append (D.text p.3) (option_append (E.text p.4) (option_append (F.text p.5) (G.text p.6)))))) };
 
     fn is_showable(self) -> bool {
         (self.0, (self.1, self.2, self.3, self.4, self.5, self.6)).is_showable()
@@ -291,7 +295,9 @@ impl<A: Part, B: Part, C: Part, D: Part, E: Part, F: Part, G: Part, H: Part> Par
 
 impl<A: Show, B: Show, C: Show, D: Show, E: Show, F: Show, G: Show, H: Show> Show
     for (A, B, C, D, E, F, G, H) {
-    ghost text = { λ p. option_append (A.text p.0) (option_append (B.text p.1) (option_append (C.text p.2) (option_append (D.text p.3) (option_append (E.text p.4) (option_append (F.text p.5) (option_append (G.text p.6) (H.text p.7))))))) };
+    ghost text = { λ p. option_append (A.text p.0) (option_append (B.text p.1) (option_append (C.text p.2)
+        (option_append (D.text p.3) (option_append (E.text p.4) (option_append (F.text p.5)
+        (option_append (G.text p.6) (H.text p.7))))))) };
 
     fn is_showable(self) -> bool {
         let (a, b, c, d, e, f, g, h) = self;
@@ -344,7 +350,9 @@ impl<A: Part, B: Part, C: Part, D: Part, E: Part, F: Part, G: Part, H: Part, I: 
 
 impl<A: Show, B: Show, C: Show, D: Show, E: Show, F: Show, G: Show, H: Show, I: Show> Show
     for (A, B, C, D, E, F, G, H, I) {
-    ghost text = { λ p. option_append (A.text p.0) (option_append (B.text p.1) (option_append (C.text p.2) (option_append (D.text p.3) (option_append (E.text p.4) (option_append (F.text p.5) (option_append (G.text p.6) (option_append (H.text p.7) (I.text p.8)))))))) };
+    ghost text = { λ p. option_append (A.text p.0) (option_append (B.text p.1) (option_append (C.text p.2)
+        (option_append (D.text p.3) (option_append (E.text p.4) (option_append (F.text p.5)
+        (option_append (G.text p.6) (option_append (H.text p.7) (I.text p.8)))))))) };
 
     fn is_showable(self) -> bool {
         let (a, b, c, d, e, f, g, h, i) = self;
@@ -397,7 +405,9 @@ impl<A: Part, B: Part, C: Part, D: Part, E: Part, F: Part, G: Part, H: Part, I: 
 
 impl<A: Show, B: Show, C: Show, D: Show, E: Show, F: Show, G: Show, H: Show, I: Show, J: Show> Show
     for (A, B, C, D, E, F, G, H, I, J) {
-    ghost text = { λ p. option_append (A.text p.0) (option_append (B.text p.1) (option_append (C.text p.2) (option_append (D.text p.3) (option_append (E.text p.4) (option_append (F.text p.5) (option_append (G.text p.6) (option_append (H.text p.7) (option_append (I.text p.8) (J.text p.9))))))))) };
+    ghost text = { λ p. option_append (A.text p.0) (option_append (B.text p.1) (option_append (C.text p.2)
+        (option_append (D.text p.3) (option_append (E.text p.4) (option_append (F.text p.5)
+        (option_append (G.text p.6) (option_append (H.text p.7) (option_append (I.text p.8) (J.text p.9))))))))) };
 
     fn is_showable(self) -> bool {
         let (a, b, c, d, e, f, g, h, i, j) = self;
@@ -473,7 +483,10 @@ impl<
     J: Show,
     K: Show,
 > Show for (A, B, C, D, E, F, G, H, I, J, K) {
-    ghost text = { λ p. option_append (A.text p.0) (option_append (B.text p.1) (option_append (C.text p.2) (option_append (D.text p.3) (option_append (E.text p.4) (option_append (F.text p.5) (option_append (G.text p.6) (option_append (H.text p.7) (option_append (I.text p.8) (option_append (J.text p.9) (K.text p.10)))))))))) };
+    ghost text = { λ p. option_append (A.text p.0) (option_append (B.text p.1) (option_append (C.text p.2)
+        (option_append (D.text p.3) (option_append (E.text p.4) (option_append (F.text p.5)
+        (option_append (G.text p.6) (option_append (H.text p.7) (option_append (I.text p.8)
+        (option_append (J.text p.9) (K.text p.10)))))))))) };
 
     fn is_showable(self) -> bool {
         let (a, b, c, d, e, f, g, h, i, j, k) = self;
@@ -551,7 +564,10 @@ impl<
     K: Show,
     L: Show,
 > Show for (A, B, C, D, E, F, G, H, I, J, K, L) {
-    ghost text = { λ p. option_append (A.text p.0) (option_append (B.text p.1) (option_append (C.text p.2) (option_append (D.text p.3) (option_append (E.text p.4) (option_append (F.text p.5) (option_append (G.text p.6) (option_append (H.text p.7) (option_append (I.text p.8) (option_append (J.text p.9) (option_append (K.text p.10) (L.text p.11))))))))))) };
+    ghost text = { λ p. option_append (A.text p.0) (option_append (B.text p.1) (option_append (C.text p.2)
+        (option_append (D.text p.3) (option_append (E.text p.4) (option_append (F.text p.5)
+        (option_append (G.text p.6) (option_append (H.text p.7) (option_append (I.text p.8)
+        (option_append (J.text p.9) (option_append (K.text p.10) (L.text p.11))))))))))) };
 
     fn is_showable(self) -> bool {
         let (a, b, c, d, e, f, g, h, i, j, k, l) = self;

@@ -175,7 +175,7 @@ impl<T: ToLexical> Part for GroupedFixed<'_, T> {
         ensures valid { IsTrue result → self.entry.1 ≤ 19 }
         ensures known { self.entry.1 ≤ 19 → IsTrue result }
     {
-        19 >= self.1
+        self.1 <= 19
     }
 }
 

@@ -103,7 +103,7 @@ fn write_by_table<T: UnsignedInteger, const R: u32>(
     write_digits::<T, R>(value, get_table(R), buffer, turns)
 }
 
-// Writes a number as `write_by_table` does, but is never inlined: its code is too long for each caller.
+// Writes a number as `write_by_table` does, by a call: its code is too long for each caller.
 // It is cold: otherwise each call for a shorter number would save registers that only this needs.
 #[cold]
 fn write_out_of_line<T: UnsignedInteger, const R: u32>(

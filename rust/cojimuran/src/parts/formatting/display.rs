@@ -70,7 +70,7 @@ fn fill_before_number(f: &fmt::Formatter<'_>, fill: usize) -> usize {
     }
 }
 
-// Writes a text as `pad_number` does, in a format with a width or another option. It is cold, and so not inlined:
+// Writes a text as `pad_number` does, in a format with a width or another option. It is cold:
 // otherwise a number in `{}` would save registers that only this needs.
 #[cold]
 #[inline]
@@ -177,7 +177,7 @@ impl<T: DigitCount + Radix> fmt::Display for Digits<T> {
     }
 }
 
-// Writes zeros and then digits as the standard library writes an integer. It is cold, and so not inlined: few numbers
+// Writes zeros and then digits as the standard library writes an integer. It is cold: few numbers
 // have more than 64 digits.
 #[cold]
 #[inline]

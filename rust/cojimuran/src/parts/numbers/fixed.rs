@@ -145,7 +145,7 @@ impl<T: ToLexical> Part for GroupedFixed<'_, T> {
 
     #[inline(always)]
     fn is_known_utf8(self, _own: Own) -> bool {
-        19 >= self.1
+        self.1 <= 19
     }
 }
 
