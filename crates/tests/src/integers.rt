@@ -15,9 +15,8 @@ mod tables;
 mod texts;
 mod writes;
 
-// The first test of the project.
 #[test]
-fn the_first_test(rt: HostRuntime) {
+fn two_texts_in_longer_buffers(rt: HostRuntime) {
     use checks::check_equal;
     use lexical_write_integer::ToLexical;
     let mut three = [7, 7, 7];

@@ -15,8 +15,8 @@ pub(crate) fn is_short_cell<W: fmt::Write>(f: &fmt::Formatter<W>, text: &str) ->
     ensures { IsTrue result → IsShortCell f.now text.now }
 {
     let is_at_right = matches!(f.align(), None | Some(fmt::Alignment::Right));
-    let has_spaces = f.fill().is_ascii() && !f.sign_aware_zero_pad() && !f.sign_plus();
-    is_at_right && has_spaces && f.width().unwrap_or(0) <= 128 && text.len() <= 128
+    let has_only_ascii_fill = f.fill().is_ascii() && !f.sign_aware_zero_pad() && !f.sign_plus();
+    is_at_right && has_only_ascii_fill && f.width().unwrap_or(0) <= 128 && text.len() <= 128
 }
 
 // Writes the text at the right of the column, as the standard library writes an integer.

@@ -12,8 +12,8 @@ use core::fmt;
 #[inline]
 pub(crate) fn is_short_cell(f: &fmt::Formatter<'_>, text: &str) -> bool {
     let is_at_right = matches!(f.align(), None | Some(fmt::Alignment::Right));
-    let has_spaces = f.fill().is_ascii() && !f.sign_aware_zero_pad() && !f.sign_plus();
-    is_at_right && has_spaces && f.width().unwrap_or(0) <= 128 && text.len() <= 128
+    let has_only_ascii_fill = f.fill().is_ascii() && !f.sign_aware_zero_pad() && !f.sign_plus();
+    is_at_right && has_only_ascii_fill && f.width().unwrap_or(0) <= 128 && text.len() <= 128
 }
 
 // Writes the text at the right of the column, as the standard library writes an integer.
