@@ -1,5 +1,4 @@
-//! A date with a time of day, as an example of a part of a text that a caller defines, and a timestamp
-//! that contains it.
+//! A date with a time of day, which is a part of a text that a caller defines, and a timestamp that contains it.
 
 ghost use Rattle.std.specs.Prelude.{◌≡◌, ◌<◌, ◌≤◌, length, true, unsigned_abs, ⊤};
 ghost use Rattle.lexical_num.specs.Sign.{sign_of};
