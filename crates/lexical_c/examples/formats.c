@@ -20,6 +20,7 @@ int main(void)
     count = lexical_write(48879u, &lowercase, prefixed + 2, sizeof prefixed - 2);
     count = lexical_pad(count, 8, prefixed + 2, sizeof prefixed - 2);
     count = lexical_terminate(count, prefixed + 2, sizeof prefixed - 2);
-    puts(prefixed);
+    if (count != 0)
+        puts(prefixed);
     return count == 0;
 }

@@ -41,12 +41,12 @@
  *
  * Format. `format` points to a struct lexical_format. A call only reads it. The pointer
  * must not be NULL. The fields may have any values: lexical_check_format says which field
- * is invalid, and every other function returns 0 if the format is invalid.
+ * is invalid, and every other function that takes a format returns 0 if it is invalid.
  *
  * Buffer. `buffer` points to `size` bytes that the call may write. The size must not
  * exceed PTRDIFF_MAX; no object is larger. The pointer may be NULL if the size is 0. The
- * bytes must not overlap the format, and no other thread may use them during the call.
- * They need not be initialized, except for the text that you pass to lexical_pad. The
+ * buffer must not overlap the format, and no other thread may use it during the call.
+ * It need not be initialized, except for the text that you pass to lexical_pad. The
  * call writes nothing outside the buffer, and keeps no pointer to it. Bytes after the
  * text keep their values.
  *
@@ -58,19 +58,20 @@
  *
  * Errors. If the format is invalid or the text does not fit the buffer, a call that writes
  * returns 0, and the buffer is unchanged. (lexical_terminate is the exception: it makes
- * the buffer an empty string, unless `size` is 0.) To tell these two errors apart, call
- * lexical_check_format after the call that failed. If it returns 0, the buffer was too
- * short. Otherwise it returns the constant LEXICAL_INVALID_.. of the first invalid field.
+ * the buffer an empty string, unless `size` is 0.) If lexical_check_format(format) is then
+ * 0, the buffer was too short. Otherwise it is the constant LEXICAL_INVALID_.. of the first
+ * invalid field.
  * No call changes errno.
  *
  * Speed. A call without groups and without '+' is fastest if the buffer has a byte for
  * each bit of the type, and one more for the sign of a signed type: 32 for a uint32_t, and
- * 65 for an int64_t. README.md of the sources measures time and code.
+ * 65 for an int64_t.
  *
  * Proof. The sources are written in Rattle, a dialect of Rust with contracts. A prover,
- * which is not public, has checked that the functions write the right text for all
- * arguments that meet the conditions above under "Format" and "Buffer", with a size_t of
- * 64 bits. The compiled library, this header and a size_t of 32 bits are only tested.
+ * which is not public, has checked that the functions of these sources write the right text
+ * for all arguments that meet the conditions above under "Format" and "Buffer", with a
+ * size_t of 64 bits. Only tested are the Rust that is generated from them, the handwritten
+ * Rust, the compiled library, this header, and a size_t of 32 bits.
  *
  * Threads and signals. The functions have no state and allocate nothing. So you can call
  * them in any thread, with a buffer of its own, and in any signal handler.
@@ -156,7 +157,8 @@ LEXICAL_HAS((nothrow, const)) uint32_t lexical_version(void) LEXICAL_NOEXCEPT;
 
 /*
  * A buffer size that is enough for every text of lexical_decimal_T, without a NUL. For a
- * format with groups or a '+' use lexical_buffer_size_T.
+ * format with groups or a '+' use LEXICAL_BUFFER_SIZE_U32 and so on, or at run time
+ * lexical_buffer_size_T.
  */
 #define LEXICAL_BUFFER_SIZE_DECIMAL_U8 3
 #define LEXICAL_BUFFER_SIZE_DECIMAL_U16 5
@@ -214,8 +216,8 @@ size_t lexical_decimal_i64(int64_t value, char *buffer, size_t size) LEXICAL_NOE
  * set the fields of a variable.
  *
  * From C++14 on, each field after the radix has the default value 0. So the struct is not
- * trivial: clear one by `format = {}` and not by memset. A union with such a member needs an
- * initializer.
+ * trivial: set one by an initializer and not by memset, and give an initializer to a union
+ * with such a member.
  */
 struct lexical_format {
     /* From 2 to 36. */
@@ -239,8 +241,8 @@ struct lexical_format {
  *
  * The radix may have any standard integer type. If it is not from 2 to 36, the radix of the
  * format is 0, which is invalid. An integer constant expression that is not from 2 to 36
- * does not compile; the error speaks of an array of a negative size, or of -1. This is so in
- * C11 and later, and with gcc and clang also in earlier C and in C++11 and later.
+ * does not compile (in C11 and later; with gcc and clang in any C, and in C++11 and later).
+ * The error mentions an array of a negative size, or -1.
  *
  * The radix is evaluated once, except in C before C11 with compilers other than gcc and
  * clang.
@@ -252,9 +254,9 @@ struct lexical_format {
  * and no groups. lexical_decimal writes its texts, and lexical_length with
  * &lexical_standard_format returns their lengths.
  *
- * Each program and each shared library has its own copy of the object, because its name is
- * hidden from the dynamic linker (ELF visibility). With gcc and clang each file in C has a
- * weak symbol of it. With other compilers each file in C, or in C++ before C++17, has a copy.
+ * With gcc and clang its address is the same everywhere in a program, but differs between a
+ * program and its shared libraries, because the name is hidden from the dynamic linker. With
+ * other compilers each file in C, or in C++ before C++17, has an object of its own.
  */
 #define LEXICAL_STANDARD_FORMAT { 10, 0, 0, 0, 0, { 0, 0 } }
 #if defined(__cplusplus) && __cplusplus >= 201703L
@@ -301,11 +303,11 @@ uint32_t lexical_check_format(const struct lexical_format *format) LEXICAL_NOEXC
 /*
  * lexical_buffer_size_T: returns a buffer size that is enough for every number of the
  * type in the format, with its sign and its separators. With a buffer of this size,
- * lexical_write_T never returns 0 for this format. In radix 10 it is the length of the
- * longest text, or for a signed type with groups or a '+' at most 2 bytes more. In other
- * radices it is the constant for the type, such as LEXICAL_BUFFER_SIZE_U32. The exact
- * length of the longest text is lexical_length_u32(UINT32_MAX, format), and for a signed
- * type lexical_length_i32(INT32_MIN, format).
+ * lexical_write_T never returns 0 for this format. It is a bound: in radix 10 at most 2
+ * bytes more than the longest text, and in other radices the constant for the type, such as
+ * LEXICAL_BUFFER_SIZE_U32. The exact length of the longest text is
+ * lexical_length_u32(UINT32_MAX, format), and for a signed type
+ * lexical_length_i32(INT32_MIN, format).
  *
  * The size is from 1 to LEXICAL_BUFFER_SIZE, or 0 if the format is invalid.
  */
@@ -424,8 +426,8 @@ size_t lexical_write_i64(int64_t value, const struct lexical_format *format,
  * grouped: 1,234,567 padded to 12 bytes is 0001,234,567.
  *
  * If `width` is greater than `size`, lexical_pad returns 0, although the text without
- * zeros is in the buffer. To keep that text, save its length: if you pass that 0 to
- * lexical_terminate, it erases the text.
+ * zeros is in the buffer. To keep that text, save its length: lexical_terminate with that 0
+ * erases it.
  */
 LEXICAL_HAS((nothrow, warn_unused_result)) LEXICAL_ACCESS((read_write, 3, 4))
 size_t lexical_pad(size_t count, size_t width, char *buffer, size_t size) LEXICAL_NOEXCEPT;
@@ -465,9 +467,9 @@ size_t lexical_terminate(size_t count, char *buffer, size_t size) LEXICAL_NOEXCE
  *
  * - A variable of the type char or bool is refused, and in C++ also one of the type wchar_t,
  *   char8_t, char16_t or char32_t: cast it to int if you mean its number.
- * - In C, 'x' and a > b have the type int, and so has true before C23: they compile.
- * - In C, gcc also refuses a bit-field, unless it has 8, 16, 32 or 64 bits: cast it to its
- *   type.
+ * - In C, 'x', a > b and (before C23) true are of the type int, so they compile.
+ * - In C, gcc also refuses a bit-field, unless it has 8, 16, 32 or 64 bits: cast it to the
+ *   type with which it is declared.
  * - In C++98 cast a long long to int64_t.
  *
  * In C++ the format may also be passed as an object, and in C++11 and later as
