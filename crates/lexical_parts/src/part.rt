@@ -168,7 +168,8 @@ pub trait Part: Copy {
     /// must have `room` bytes or more.
     ///
     /// `std::str::from_utf8` reads the text once to check it if there is a `Bytes`, a `Displayed`, a reference to a
-    /// `String` or a part of your own in it. Other texts need no check.
+    /// `String` or a part of your own in it, if a byte or a fill in it is 128 or above, or if the buffer is shorter than
+    /// the room. Other texts need no check.
     ///
     /// # Panics
     ///

@@ -25,8 +25,8 @@ use core::fmt::{self, Display, Write};
 /// limit such as `{:.3e}`.
 ///
 /// This part is not proved: what it writes is what the `Display` of the value does. If that `Display` returns an error,
-/// `write_pieces` and `{}` return it, unless the part is in a column, a `ZeroPadded` or a `Lower`, or `{}` has a width:
-/// then they panic, because they need the length first. The other calls panic.
+/// `write_pieces` and `{}` return it, unless the part is in a column, a `ZeroPadded` or a `Lower`, or in a `Shown` with a
+/// width or a precision: then they panic, because they need the length first. The other calls panic.
 #[derive(Debug)]
 pub struct Displayed<'a, T: ?Sized>(pub &'a T);
 

@@ -1,9 +1,10 @@
-//! Writes integers as text, in every radix from 2 to 36, into a buffer that you supply. It allocates only where you append
-//! to a `String`, a `Vec` or a `fmt::Write`, or write a value whose own `Display` allocates.
+//! Writes integers as text, in every radix from 2 to 36, into a buffer that you supply. It allocates only if the target of
+//! `append_to` or `write_pieces` grows, if `append_to` needs a temporary buffer, or if the `Display` in a [`Displayed`]
+//! allocates.
 //!
-//! The sources are written in Rattle, a dialect of Rust with contracts, and a prover has checked them:
-//! when its [`conditions`] hold, a call writes exactly the right bytes and does not panic. The prover is not
-//! public. A program makes this Rust code from the sources, and the Rust code is tested. [`Displayed`] and what needs the
+//! The sources are written in Rattle, a dialect of Rust with contracts, and a prover has checked them: when its
+//! [conditions] hold, a call does not panic, and writes exactly the right bytes (`{}` and `write_pieces` only if they
+//! succeed). The prover is not public. A program makes this Rust code from the sources, and the Rust code is tested. [`Displayed`] and what needs the
 //! feature `alloc` are written by hand and tested. What calls cost is on the page [`costs`].
 //!
 //! # A first program
@@ -36,7 +37,7 @@
 //!   `(7u8, " apples").append_to(&mut string)`. With this feature, references to a `String` are parts too.
 //!
 //! Most programs need nothing else. [`padded::write_padded`] fills a buffer with a number, [`group_digits`] and
-//! [`write_sign`] are for writers of your own, and [`compact::Compact`] is for little code. The other modules and items
+//! [`write_sign`] are for writers of your own, and [`compact::Compact`] is for small programs. The other modules and items
 //! mirror the Rust crate `lexical-write-integer`, so that a program can move from that crate: options, which have no
 //! effect, the writers of digits without a sign, and their tables. [What to change](from_other_crates) in a program that
 //! uses that crate, `itoa` or `format!` is on a page of its own.
@@ -70,8 +71,8 @@
 //!
 //! Numbers as parts take the width, the fill, the `+` and the `0` of an integer: [`Decimal`], [`Plus`], [`Formatted`],
 //! [`Hex`], [`FullHex`], [`Binary`], [`Digits`], [`Padded`], [`PaddedDigits`], [`Fixed`], [`GroupedFixed`] and
-//! [`TrimmedFixed`]. `#` and a precision have no effect. All other parts, among them [`Shown`] and [`Lower`] of a number,
-//! take the width, the fill and the precision of a `&str`:
+//! [`TrimmedFixed`]. `#` and a precision have no effect. A [`Displayed`] passes all options to its value. All other parts,
+//! among them [`Shown`] and [`Lower`] of a number, take the width, the fill and the precision of a `&str`:
 //!
 //! ```
 //! use cojimuran::{Hex, Lower, Shown};
@@ -94,7 +95,7 @@
 //!
 //! # How large the buffer must be
 //!
-//! Most calls require the room that the longest number of the type would need: 20 bytes for a `u64`, even for 7.
+//! A number in decimal requires the room that the longest number of its type would need: 20 bytes for a `u64`, even for 7.
 //! [`FormattedSize::FORMATTED_SIZE_DECIMAL`] is this size, [`BUFFER_SIZE`] is enough for every number in every format, and
 //! [`Part::room`] is enough for a part. A [`Buffer`] needs no size. With a shorter buffer a call panics, or works for some
 //! values: do not rely on that. The page [`buffers`] has the room of each part.

@@ -22,7 +22,12 @@ const NOT_UNSIGNED: &str = "#[diagnostic::on_unimplemented(
     note = \"a literal needs a type, such as `255u8`; a signed number in a radix is written by `Formatted`\")]";
 const NO_PART: &str = "#[diagnostic::on_unimplemented(
     message = \"`{Self}` is not a part\",
-    note = \"a value with `Display` is a part as `Displayed(&value)`\")]";
+    note = \"a value with `Display` is a part as `Displayed(&value)`; a tuple has 2 to 12 members; \\
+    references to a `String` need the feature `alloc`\")]";
+const NO_SHOW: &str = "#[diagnostic::on_unimplemented(
+    message = \"`{Self}` is not a part with `Show`\",
+    note = \"a value with `Display` is a part as `Displayed(&value)`; implement `Show` for a part of your own; \\
+    a tuple has 2 to 12 members\")]";
 
 /// Returns a rule that writes an attribute above the only place with these tokens.
 fn above(attribute: &str, from: &str) -> Rule {
@@ -46,6 +51,10 @@ pub(crate) fn rules() -> Vec<Rule> {
         ]),
         Of("lexical_write_integer").rules([
             above(NO_INTEGER, "pub trait Decimal"),
+            above(NO_INTEGER, "pub trait ToLexical"),
+            above(NO_INTEGER, "pub trait ToLexicalWithOptions"),
+            above(NOT_UNSIGNED, "pub trait Radix"),
+            above(NOT_UNSIGNED, "pub trait DigitCount"),
             // The root of the package exports it.
             once("pub use lexical_tables as table;", ""),
             // Its message names what does not hold, and nothing else.
@@ -62,7 +71,7 @@ pub(crate) fn rules() -> Vec<Rule> {
         ]),
         Of("lexical_parts").rules([
             above(NO_PART, "pub trait Part"),
-            above(NO_PART, "pub trait Show"),
+            above(NO_SHOW, "pub trait Show"),
             // Parts can be keys and compared, as values of std can.
             everywhere("#[derive(Clone, Copy, Debug, Drop)]", "#[derive(Clone, Copy, PartialEq, Eq, Hash, Debug)]"),
             // A formatter has no parameter here, but a lifetime.

@@ -25,7 +25,8 @@ use core::str::{from_utf8, from_utf8_unchecked};
 /// ```
 #[diagnostic::on_unimplemented(
     message = "`{Self}` is not a part",
-    note = "a value with `Display` is a part as `Displayed(&value)`"
+    note = "a value with `Display` is a part as `Displayed(&value)`; a tuple has 2 to 12 members; \
+    references to a `String` need the feature `alloc`"
 )]
 pub trait Part: Copy {
     /// Returns a number of bytes that is enough for the text, or `usize::MAX` if that number does not
@@ -114,7 +115,8 @@ pub trait Part: Copy {
     /// must have `room` bytes or more.
     ///
     /// `std::str::from_utf8` reads the text once to check it if there is a `Bytes`, a `Displayed`, a reference to a
-    /// `String` or a part of your own in it. Other texts need no check.
+    /// `String` or a part of your own in it, if a byte or a fill in it is 128 or above, or if the buffer is shorter than
+    /// the room. Other texts need no check.
     ///
     /// # Panics
     ///

@@ -22,8 +22,9 @@ pub(crate) const MOST_IN_ONE_PIECE: usize = 256;
 /// assert_eq!(Shown(("id=", 7u8)).to_string(), "id=7");
 /// ```
 #[diagnostic::on_unimplemented(
-    message = "`{Self}` is not a part",
-    note = "a value with `Display` is a part as `Displayed(&value)`"
+    message = "`{Self}` is not a part with `Show`",
+    note = "a value with `Display` is a part as `Displayed(&value)`; implement `Show` for a part of your own; \
+    a tuple has 2 to 12 members"
 )]
 pub trait Show: Part {
     /// Returns whether the part is valid and its text is UTF-8, as `to_str` requires. If it returns `false`, `{}` of the

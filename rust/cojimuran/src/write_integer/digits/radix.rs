@@ -121,6 +121,10 @@ pub fn constant_radix<T: UnsignedInteger>(value: T, radix: u32, buffer: &mut [u8
 }
 
 /// An unsigned integer type whose digits are written in every radix by the table writer.
+#[diagnostic::on_unimplemented(
+    message = "`{Self}` is not an unsigned integer type that this crate writes",
+    note = "a literal needs a type, such as `255u8`; a signed number in a radix is written by `Formatted`"
+)]
 pub trait Radix: UnsignedInteger {
     /// Writes the digits of the number to the start of the buffer, and returns how many there are. The
     /// radix must be from 2 to 36, and the buffer must have room for the digits.

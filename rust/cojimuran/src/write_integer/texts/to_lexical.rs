@@ -19,6 +19,10 @@ use crate::write_integer::buffer::front_mut;
 /// let mut buffer = [0; 20];
 /// assert_eq!((-1234i64).to_lexical(&mut buffer), b"-1234");
 /// ```
+#[diagnostic::on_unimplemented(
+    message = "`{Self}` is not an integer type that this crate writes",
+    note = "it writes `u8` to `u64`, `usize`, `i8` to `i64` and `isize`; `Displayed(&value)` writes what has `Display`"
+)]
 pub trait ToLexical: LexicalInteger + FormattedSize {
     /// Writes the number in decimal to the start of the buffer, and returns the length of its text: a
     /// `-` if it is below 0, and then the digits. Every byte after the text is unchanged. The buffer
@@ -96,6 +100,10 @@ pub trait ToLexical: LexicalInteger + FormattedSize {
 /// let text = u64::MAX.to_lexical_with_options(&mut buffer, &radix_36, &Options::new());
 /// assert_eq!(text, b"3W5E11264SGSF");
 /// ```
+#[diagnostic::on_unimplemented(
+    message = "`{Self}` is not an integer type that this crate writes",
+    note = "it writes `u8` to `u64`, `usize`, `i8` to `i64` and `isize`; `Displayed(&value)` writes what has `Display`"
+)]
 pub trait ToLexicalWithOptions: ToLexical {
     /// The type of the options. Options have no effect yet.
     type Options: WriteOptions;
