@@ -47,6 +47,14 @@ pub trait LexicalInteger: Copy {
     fn is_negative(self) -> bool
         ensures { IsTrue result ↔ number self <ℤ pos 0 };
 
+    /// Returns 1 if the number is below 0, and otherwise 0.
+    fn sign_bit(self) -> usize
+        ensures negative { number self <ℤ pos 0 → result ≡ 1 }
+        ensures other { pos 0 ≤ℤ number self → result ≡ 0 }
+    {
+        usize::from(self.is_negative())
+    }
+
     ghost decimal_width: { IsDecimalWidth (least_of BITS IS_SIGNED) (greatest_of BITS IS_SIGNED) DECIMAL_WIDTH };
 
     ghost bit_width: { IsBitWidth BITS };

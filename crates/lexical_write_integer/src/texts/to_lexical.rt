@@ -227,7 +227,8 @@ fn write_sign_before_digits<T: LexicalInteger>(
     if T::IS_SIGNED || is_required {
         buffer[0] = sign_character(is_negative, is_required);
     }
-    usize::from(is_negative || is_required)
+    // By a call of its own: from `is_negative` LLVM would choose between two addresses of the digits.
+    number.sign_bit() | usize::from(is_required)
 }
 
 /// Returns the length of the sign of the number in the format, 0 or 1.

@@ -25,6 +25,13 @@ pub trait LexicalInteger: Copy + crate::sealed::Sealed {
     /// Returns whether the number is below 0.
     #[must_use]
     fn is_negative(self) -> bool;
+
+    /// Returns 1 if the number is below 0, and otherwise 0.
+    #[must_use]
+    #[inline]
+    fn sign_bit(self) -> usize {
+        usize::from(self.is_negative())
+    }
 }
 
 impl LexicalInteger for u8 {
