@@ -23,5 +23,9 @@ pub fn is_group_size(size: u64) -> bool
 pub fn is_mark(byte: u64) -> bool
     ensures { IsTrue result ↔ IsMark byte }
 {
-    32 <= byte && byte <= 126 && !(byte as u8).is_ascii_alphanumeric() && byte != 43 && byte != 45
+    32 <= byte
+        && byte <= 126
+        && !(byte as u8).is_ascii_alphanumeric()
+        && byte != b'+' as u64
+        && byte != b'-' as u64
 }

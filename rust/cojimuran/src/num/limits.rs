@@ -22,5 +22,9 @@ pub const fn is_group_size(size: u64) -> bool {
 #[must_use]
 #[inline]
 pub const fn is_mark(byte: u64) -> bool {
-    32 <= byte && byte <= 126 && !(byte as u8).is_ascii_alphanumeric() && byte != 43 && byte != 45
+    32 <= byte
+        && byte <= 126
+        && !(byte as u8).is_ascii_alphanumeric()
+        && byte != b'+' as u64
+        && byte != b'-' as u64
 }
