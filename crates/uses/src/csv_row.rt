@@ -6,8 +6,8 @@ ghost use Rattle.lexical_write_integer.specs.Buffer.{Writes};
 ghost use Rattle.lexical_write_integer.specs.Sequence.{AreJoined, IsExactly};
 ghost use Rattle.lexical_parts.specs.Joined.{AreEach, joined_room};
 ghost use Rattle.lexical_parts.specs.Length.{HasLonger};
-ghost use Rattle.lexical_parts.specs.Sequence.{◌then◌, IsDecimal, IsStr};
-ghost use Rattle.uses.specs.CsvRow.{IsEntry, IsRow, row_room};
+ghost use Rattle.lexical_parts.specs.Sequence.{◌then◌, IsStr};
+ghost use Rattle.uses.specs.CsvRow.{IsEntry, IsList, IsRow, list_room, row_room};
 
 use lexical_num::FormattedSize;
 use lexical_parts::{Joined, Part, Show, rooms_at_most};
@@ -61,20 +61,15 @@ pub fn write_summary(summary: &Summary, buffer: &mut [u8; ROW_SIZE]) -> usize
     )
 }
 
-/// Writes the numbers in brackets, with `, ` between adjacent numbers, to the start of the buffer, and
-/// returns the number of bytes written. The room of the text is 20 bytes for each number, 2 for each separator and 2
-/// for the brackets. Returns `None`, and leaves the buffer unchanged, if the buffer does not have the room, and the room
-/// is above 256 bytes or the text does not fit.
+/// Writes the numbers in brackets, with `, ` between adjacent numbers, to the start of the buffer, and returns the
+/// number of bytes written. The room of the text is 20 bytes for each number, 2 for each separator and 2 for the
+/// brackets. Returns `None`, and leaves the buffer unchanged, if the buffer does not have the room, and the room is
+/// above 256 bytes or the text does not fit.
 pub fn try_write_list(numbers: &[i64], buffer: &mut [u8]) -> Option<usize>
-    ensures fits { 1 + (joined_room (λ _. 20) 2 numbers.now + 1) ≤ length buffer.old → IsSome result }
-    ensures longer { IfNone result (1 + (joined_room (λ _. 20) 2 numbers.now + 1) ≤ 256
-        → HasLonger (IsStr "[" then AreJoined IsDecimal (codes ", ") numbers.now then IsStr "]")
-        (length buffer.old)) }
-    ensures large { IsSome result → 256 < 1 + (joined_room (λ _. 20) 2 numbers.now + 1)
-        → 1 + (joined_room (λ _. 20) 2 numbers.now + 1) ≤ length buffer.old }
-    ensures text { IfSome result (Writes
-        (IsStr "[" then AreJoined IsDecimal (codes ", ") numbers.now then IsStr "]")
-        buffer.old buffer.new) }
+    ensures fits { list_room numbers.now ≤ length buffer.old → IsSome result }
+    ensures longer { IfNone result (list_room numbers.now ≤ 256 → HasLonger (IsList numbers.now) (length buffer.old)) }
+    ensures large { IsSome result → 256 < list_room numbers.now → list_room numbers.now ≤ length buffer.old }
+    ensures text { IfSome result (Writes (IsList numbers.now) buffer.old buffer.new) }
     ensures none { IfNone result (buffer.new ≡ buffer.old) }
 {
     ("[", Joined(numbers, ", "), "]").try_write_to(buffer)
