@@ -11,7 +11,7 @@ ghost use Rattle.lexical_write_integer.specs.Text.{IsText};
 use lexical_num::{FormattedSize, LexicalInteger, NumberFormat, WriteOptions};
 use lexical_write_integer::ToLexicalWithOptions;
 use lexical_write_integer::buffer::front_mut;
-use lexical_write_integer::laws::sizes_suffice;
+use lexical_write_integer::laws::size_suffices_for_type;
 
 /// Writes the texts of the values, with `separator` between adjacent texts, to the start of `buffer`, and
 /// returns the number of bytes written: 0 if there are no values.
@@ -37,7 +37,7 @@ pub fn write_joined<T: ToLexicalWithOptions>(
     ensures at_most { result ≤ length values.now
         * (size_in T.FORMATTED_SIZE T.FORMATTED_SIZE_DECIMAL format.now + 1) - 1 }
 {
-    sizes_suffice::<T>(format);
+    size_suffices_for_type::<T>(format);
     let size = options.buffer_size::<T>(format);
     let mut count = 0;
     for (index, value) in values.iter().enumerate() {

@@ -26,5 +26,5 @@ pub use groups::text_in_groups;
 pub use reading::{
     digits_read_back, equal_across_formats, grouped_read_back, padded_read_back, text_read_back,
 };
-pub use room::{padded_length, size_suffices, sizes_suffice, text_length};
+pub use room::{padded_length, size_suffices, size_suffices_for_type, text_length};
 pub use rows::equal_rows;

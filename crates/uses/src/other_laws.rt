@@ -15,7 +15,7 @@ use lexical_lines::laws::{answers_unique, lines_unique};
 use lexical_num::NumberFormat;
 use lexical_write_integer::laws::{
     different_padded, different_texts, numeral_exists, numeral_unique, padded_computed,
-    padded_equal_iff, sizes_suffice, text_in_groups,
+    padded_equal_iff, size_suffices_for_type, text_in_groups,
 };
 
 /// A law: the text of an amount is not that of another one, so a reader can tell them apart.
@@ -66,7 +66,8 @@ pub fn same_digits(a: &[u8], b: &[u8])
     numeral_unique(36, a, b);
 }
 
-/// A law: in an amount in groups of three with commas, a comma is before the last three digits, the last six, and so on.
+/// A law: in an amount in groups of three with commas, a comma is before the last three digits, the last six, and so
+/// on.
 pub fn commas(amount: i64, format: &NumberFormat)
     requires { format.now.digit_grouping ≡ Some (3, 44) }
     ensures { (text : List ℕ) → IsText amount format.now text → (groups : ℕ) → 1 ≤ groups
@@ -81,7 +82,7 @@ pub fn size_of_each_i16(format: &NumberFormat)
     ensures { (number : ℤ) → least_of 16 true ≤ℤ number → number ≤ℤ greatest_of 16 true
         → need number 5 format.now ≤ size_in 32 6 format.now }
 {
-    sizes_suffice::<i16>(format);
+    size_suffices_for_type::<i16>(format);
 }
 
 /// A law: two programs that cut an input into lines cut it into the same ones.

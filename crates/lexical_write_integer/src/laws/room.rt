@@ -16,7 +16,7 @@ use lexical_num::num::LexicalInteger;
 
 /// A law: the size of a type in a format, which `buffer_size` of the options returns, is enough for the
 /// required length of each number in the range of the type.
-pub fn sizes_suffice<T: FormattedSize>(format: &NumberFormat)
+pub fn size_suffices_for_type<T: FormattedSize>(format: &NumberFormat)
     ensures { (number : ℤ) → least_of T.BITS T.IS_SIGNED ≤ℤ number → number ≤ℤ greatest_of T.BITS T.IS_SIGNED
         → need number T.DECIMAL_WIDTH format.now
         ≤ size_in T.FORMATTED_SIZE T.FORMATTED_SIZE_DECIMAL format.now }
@@ -31,7 +31,7 @@ pub fn size_suffices<T: FormattedSize>(value: T, format: &NumberFormat)
         ≤ size_in T.FORMATTED_SIZE T.FORMATTED_SIZE_DECIMAL format.now }
     ensures buffer { size_in T.FORMATTED_SIZE T.FORMATTED_SIZE_DECIMAL format.now ≤ BUFFER_SIZE }
 {
-    sizes_suffice::<T>(format);
+    size_suffices_for_type::<T>(format);
     value.in_range();
 }
 
