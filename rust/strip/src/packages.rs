@@ -197,7 +197,7 @@ pub(crate) const SOURCES: &[Source] = &[
         name: "lexical_lines",
         module: "lines",
         left_out: "devices/trace",
-        laws: "laws note_put record_flush",
+        laws: "laws record_put record_flush",
         ..PROGRAM
     },
     Source {

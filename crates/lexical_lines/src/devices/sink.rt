@@ -86,7 +86,7 @@ pub fn put_all<K: ByteSink>(sink: &mut K, bytes: &[u8]) -> (usize, io::Result<()
 }
 
 /// Records the outcome of a call of `put` in the trace: the bytes that the sink took, or its failure.
-pub fn note_put(trace: &mut Trace, bytes: &[u8], outcome: &io::Result<usize>)
+pub fn record_put(trace: &mut Trace, bytes: &[u8], outcome: &io::Result<usize>)
     requires { IfOk outcome.now (λ count. count ≤ length bytes.now) }
     ensures { trace.new ≡ record trace.old {
       bytes = trace.old.bytes ++ take (taken_by outcome.now) bytes.now;

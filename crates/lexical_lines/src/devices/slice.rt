@@ -8,7 +8,7 @@ ghost use Rattle.lexical_lines.specs.Source.{yielded_by, reports_end, failures_o
 ghost use Rattle.lexical_write_integer.specs.Buffer.{Writes};
 
 use crate::answer::line_loop::run;
-use crate::devices::sink::{ByteSink, note_put};
+use crate::devices::sink::{ByteSink, record_put};
 use crate::devices::source::ByteSource;
 use crate::devices::trace::Trace;
 use std::io;
@@ -154,7 +154,7 @@ impl ByteSink for SliceSink<'_> {
         self.buffer[self.count..end].copy_from_slice(&bytes[..count]);
         self.count = end;
         let outcome = Ok(count);
-        note_put(&mut self.trace, bytes, &outcome);
+        record_put(&mut self.trace, bytes, &outcome);
         outcome
     }
 }

@@ -6,7 +6,7 @@ ghost use Rattle.std.specs.Io.KnownBytes.{Consumes, IsAtEnd, ReadConsumes, Write
 ghost use Rattle.lexical_lines.specs.Sink.{taken_by, put_failures};
 ghost use Rattle.lexical_lines.specs.Source.{yielded_by, reports_end, reads_end, failures_of};
 
-use crate::devices::sink::{BlockSink, ByteSink, note_put, record_flush};
+use crate::devices::sink::{BlockSink, ByteSink, record_flush, record_put};
 use crate::devices::source::{BlockSource, ByteSource};
 use crate::devices::trace::Trace;
 use std::io;
@@ -207,7 +207,7 @@ impl<W: Write> ByteSink for Writing<W> {
             result bytes.now }
     {
         let outcome = self.writer.write(bytes);
-        note_put(&mut self.trace, bytes, &outcome);
+        record_put(&mut self.trace, bytes, &outcome);
         outcome
     }
 }
