@@ -10,7 +10,7 @@ ghost use Rattle.lexical_parts.specs.Length.{HasLength, HasLonger};
 ghost use Rattle.lexical_parts.specs.Sequence.{◌then◌};
 ghost use Rattle.lexical_parts.specs.Utf8.{AreUtf8};
 
-use crate::own::Own;
+use crate::sealed::Sealed;
 use lexical_write_integer::buffer::{copy_to_front, front_mut};
 use std::str::{from_utf8, from_utf8_unchecked};
 
@@ -73,9 +73,9 @@ pub trait Part: Copy {
     }
 
     // Whether the values of the part show that it is valid and that its text is UTF-8. A part of another crate cannot
-    // define this method, since it cannot name `Own`.
+    // define this method, since it cannot name `Sealed`.
     #[doc(hidden)]
-    fn is_known_utf8(self, _own: Own) -> bool
+    fn is_known_valid_utf8(self, _sealed: Sealed) -> bool
         ensures valid { IsTrue result → is_valid self }
         ensures utf8 { IsTrue result → is_utf8 self }
     {
@@ -85,7 +85,7 @@ pub trait Part: Copy {
     // Returns a number of bytes that is enough for the text, as `room` does. It may be larger, and then takes fewer
     // instructions.
     #[doc(hidden)]
-    fn most_room(self, _own: Own) -> usize
+    fn most_room(self, _sealed: Sealed) -> usize
         requires { is_valid self }
         ensures { min (room self) usize.MAX ≤ result }
     {
@@ -162,14 +162,14 @@ pub trait Part: Copy {
         write_if_it_fits(self, buffer)
     }
 
-    /// Writes the text to the start of the buffer, and returns it as a `&str`, which borrows the buffer. Every byte after
-    /// the text is unchanged, which is tested, and not proved. The part must be valid, each [`Byte`](super::Byte) in it
-    /// and each fill byte of a column must be below 128, each [`Bytes`](super::Bytes) in it must be UTF-8, and the buffer
-    /// must have `room` bytes or more.
+    /// Writes the text to the start of the buffer, and returns it as a `&str`, which borrows the buffer. Every byte
+    /// after the text is unchanged, which is tested, and not proved. The part must be valid, each [`Byte`](super::Byte)
+    /// in it and each fill byte of a column must be below 128, each [`Bytes`](super::Bytes) in it must be UTF-8, and
+    /// the buffer must have `room` bytes or more.
     ///
     /// `std::str::from_utf8` reads the text once to check it if there is a `Bytes`, a `Displayed`, a reference to a
-    /// `String` or a part of your own in it, if a byte or a fill in it is 128 or above, or if the buffer is shorter than
-    /// the room. Other texts need no check.
+    /// `String` or a part of your own in it, if a byte or a fill in it is 128 or above, or if the buffer is shorter
+    /// than the room. Other texts need no check.
     ///
     /// # Panics
     ///
@@ -182,11 +182,11 @@ pub trait Part: Copy {
         ensures text { is_text self result.now }
         ensures at_most { length result.now ≤ room self }
     {
-        let is_sure = is_sure(self, buffer);
+        let needs_no_check = needs_no_check(self, buffer);
         let text = self.to_text(buffer);
-        if is_sure {
-            // SAFETY: `is_sure` ensures what `to_text` requires, and `is_utf8`. So `to_text` ensures `utf8`: the text
-            // is UTF-8.
+        if needs_no_check {
+            // SAFETY: `needs_no_check` ensures what `to_text` requires, and `is_utf8`. So `to_text` ensures `utf8`: the
+            // text is UTF-8.
             unsafe { from_utf8_unchecked(text) }
         } else {
             let checked = from_utf8(text);
@@ -217,8 +217,9 @@ pub trait Part: Copy {
     }
 }
 
-// Writes the text to the start of a buffer that is shorter than the room, if the room is at most 256 bytes and the buffer
-// is as long as the text. If rustc did not inline it, each caller would write its part to the stack for this call.
+// Writes the text to the start of a buffer that is shorter than the room, if the room is at most 256 bytes and the
+// buffer is as long as the text. If rustc did not inline it, each caller would write its part to the stack for this
+// call.
 fn write_if_it_fits<P: Part>(part: P, buffer: &mut [u8]) -> Option<usize>
     requires { P.is_valid part }
     ensures longer { IfNone result (P.room part ≤ 256 → HasLonger (P.is_text part) (length buffer.old)) }
@@ -256,12 +257,12 @@ fn str_if_it_fits<P: Part>(part: P, buffer: &mut [u8]) -> Option<&str>
 
 // Returns true only if the part is valid, its text is UTF-8, and the buffer has its room. For a part of another crate
 // it returns false, because nothing is known of the text of such a part.
-fn is_sure<P: Part>(part: P, buffer: &[u8]) -> bool
+fn needs_no_check<P: Part>(part: P, buffer: &[u8]) -> bool
     ensures valid { IsTrue result → P.is_valid part }
     ensures utf8 { IsTrue result → P.is_utf8 part }
     ensures room { IsTrue result → P.room part ≤ length buffer.now }
 {
-    part.is_known_utf8(Own) && has_room(part, buffer)
+    part.is_known_valid_utf8(Sealed) && has_room(part, buffer)
 }
 
 // Returns whether the buffer has the room of a part.
@@ -269,5 +270,5 @@ fn has_room<P: Part>(part: P, buffer: &[u8]) -> bool
     requires { P.is_valid part }
     ensures { IsTrue result → P.room part ≤ length buffer.now }
 {
-    part.most_room(Own) <= buffer.len() || part.room() <= buffer.len()
+    part.most_room(Sealed) <= buffer.len() || part.room() <= buffer.len()
 }

@@ -1,5 +1,5 @@
-//! What safe code cannot do, so that no text becomes a `&str` that is not UTF-8 (`Part::to_str`). Only the documentation
-//! tests have this module, and each example must not compile.
+//! What safe code cannot do, so that no text becomes a `&str` that is not UTF-8 (`Part::to_str`). Only the
+//! documentation tests have this module, and each example must not compile.
 //!
 //! A part of one's own does not say that it is known to be UTF-8:
 //!
@@ -12,12 +12,12 @@
 //! impl Part for Liar {
 //!     fn room(self) -> usize { 1 }
 //!     fn write_to(self, buffer: &mut [u8]) -> usize { buffer[0] = 200; 1 }
-//!     fn is_known_utf8(self, _: cojimuran::parts::Own) -> bool { true }
+//!     fn is_known_valid_utf8(self, _: cojimuran::parts::Sealed) -> bool { true }
 //! }
 //! ```
 //!
 //! ```compile_fail,E0603
-//! use cojimuran::parts::own::Own;
+//! use cojimuran::parts::sealed::Sealed;
 //! ```
 //!
 //! Nor with a parameter of any type:
@@ -31,7 +31,7 @@
 //! impl Part for Liar {
 //!     fn room(self) -> usize { 1 }
 //!     fn write_to(self, buffer: &mut [u8]) -> usize { buffer[0] = 200; 1 }
-//!     fn is_known_utf8<T>(self, _: T) -> bool { true }
+//!     fn is_known_valid_utf8<T>(self, _: T) -> bool { true }
 //! }
 //! ```
 //!
@@ -44,7 +44,7 @@
 //! impl<T: Copy> Part for Liar<T> {
 //!     fn room(self) -> usize { 1 }
 //!     fn write_to(self, buffer: &mut [u8]) -> usize { buffer[0] = 200; 1 }
-//!     fn is_known_utf8(self, _: T) -> bool { true }
+//!     fn is_known_valid_utf8(self, _: T) -> bool { true }
 //! }
 //! ```
 //!
@@ -59,7 +59,7 @@
 //! impl Part for Liar {
 //!     fn room(self) -> usize { 1 }
 //!     fn write_to(self, buffer: &mut [u8]) -> usize { buffer[0] = 200; 1 }
-//!     fn is_known_utf8(self, _: _) -> bool { true }
+//!     fn is_known_valid_utf8(self, _: _) -> bool { true }
 //! }
 //! ```
 //!
@@ -77,7 +77,7 @@
 //! use cojimuran::Part;
 //!
 //! macro_rules! like {
-//!     ($other:ty) => { use <$other as Part>::is_known_utf8; };
+//!     ($other:ty) => { use <$other as Part>::is_known_valid_utf8; };
 //! }
 //!
 //! like!(u8);
@@ -88,7 +88,7 @@
 //! ```compile_fail,E0061
 //! use cojimuran::Part;
 //!
-//! 5u8.is_known_utf8();
+//! 5u8.is_known_valid_utf8();
 //! ```
 //!
 //! A part of the package cannot get other methods:

@@ -178,10 +178,10 @@ pub(crate) const SOURCES: &[Source] = &[
         attributes: &[
             // The only function of the package that is not safe code.
             ("#[inline(always)]\n#[track_caller]\n#[allow(unsafe_code)]", "to_str"),
-            ("#[inline(always)]", "numbers/padded.rt is_known_utf8 most_room has_room is_sure"),
+            ("#[inline(always)]", "numbers/padded.rt is_known_valid_utf8 most_room has_room needs_no_check"),
             // Some parts are formatted as others in a constant radix. If that radix were not known there, `{}` of a
             // `Decimal` would have the code of all radices in small programs.
-            ("#[inline(always)]", "fmt shown"),
+            ("#[inline(always)]", "fmt text_or_error"),
             // A panic of a short buffer names the line of the caller.
             (
                 "#[inline(always)]\n#[track_caller]",

@@ -21,8 +21,8 @@ use crate::numbers::padded::{MOST_DIGITS, Padded, PaddedDigits};
 use crate::numbers::plus::Plus;
 use crate::numbers::powers_of_two::{Binary, FullHex, Hex};
 use crate::numbers::trimmed::TrimmedFixed;
-use crate::own::Own;
 use crate::part::Part;
+use crate::sealed::Sealed;
 use lexical_num::limits::is_radix;
 use lexical_write_integer::digit_count::DigitCount;
 use lexical_write_integer::format::STANDARD;
@@ -213,7 +213,7 @@ impl<T: Radix> fmt::Display for Binary<T> {
 
 impl<T: DigitCount + Radix> Digits<T> {
     // Returns the text, or an error if the radix is not from 2 to 36.
-    fn shown(self, buffer: &mut [u8; MOST_DIGITS]) -> Result<&str, fmt::Error>
+    fn text_or_error(self, buffer: &mut [u8; MOST_DIGITS]) -> Result<&str, fmt::Error>
         ensures ok { IsOk result ↔ IsRadix self.0 }
         ensures text { IfOk result (λ text. text.now ≡ digits_text self.0 (T.magnitude self.1)) }
     {
@@ -235,7 +235,7 @@ impl<T: DigitCount + Radix> fmt::Display for Digits<T> {
 
     fn fmt<W: fmt::Write>(&self, f: &mut fmt::Formatter<W>) -> fmt::Result {
         let mut buffer = [0; MOST_DIGITS];
-        let text = Digits(self.0, self.1).shown(&mut buffer)?;
+        let text = Digits(self.0, self.1).text_or_error(&mut buffer)?;
         pad_number(f, false, false, text)
     }
 }
@@ -267,12 +267,12 @@ fn pad_wide<W: fmt::Write>(f: &mut fmt::Formatter<W>, zeros: usize, digits: &str
 impl<T: DigitCount + Radix> PaddedDigits<T> {
     // Returns the last 64 digits of the text, or all if it has fewer. It is an error if the radix is not from 2 to 36,
     // or if the number does not fit in the width.
-    fn shown(self, buffer: &mut [u8; MOST_DIGITS]) -> Result<&str, fmt::Error>
+    fn text_or_error(self, buffer: &mut [u8; MOST_DIGITS]) -> Result<&str, fmt::Error>
         ensures ok { IsOk result ↔ (IsRadix self.0 × (T.magnitude self.1 < self.0 ^ self.2)) }
         ensures text { IfOk result (λ text.
             replicate (self.2 - 64) 48 ++ text.now ≡ padded_text self.0 self.2 (T.magnitude self.1)) }
     {
-        if !self.is_known_utf8(Own) {
+        if !self.is_known_valid_utf8(Sealed) {
             return Err(fmt::Error);
         }
         self.1.fits_bits();
@@ -288,7 +288,7 @@ impl<T: DigitCount + Radix> fmt::Display for PaddedDigits<T> {
 
     fn fmt<W: fmt::Write>(&self, f: &mut fmt::Formatter<W>) -> fmt::Result {
         let mut buffer = [0; MOST_DIGITS];
-        let digits = PaddedDigits(self.0, self.1, self.2).shown(&mut buffer)?;
+        let digits = PaddedDigits(self.0, self.1, self.2).text_or_error(&mut buffer)?;
         if self.2 <= MOST_DIGITS {
             pad_number(f, false, false, digits)
         } else {
@@ -321,7 +321,7 @@ impl<T: DigitCount + Radix> fmt::Display for FullHex<T> {
 
 impl<T: ToLexical> GroupedFixed<'_, T> {
     // Returns the text, or an error if there are more than 19 decimals.
-    fn shown(self, buffer: &mut [u8; LONGEST_FIXED]) -> Result<&str, fmt::Error>
+    fn text_or_error(self, buffer: &mut [u8; LONGEST_FIXED]) -> Result<&str, fmt::Error>
         ensures ok { IsOk result ↔ (self.entry.1 ≤ 19) }
         ensures text { IfOk result (λ text.
             text.now ≡ fixed_text self.entry.2.now.digit_grouping self.entry.1 (T.number self.entry.0)) }
@@ -343,7 +343,7 @@ impl<T: ToLexical> fmt::Display for GroupedFixed<'_, T> {
 
     fn fmt<W: fmt::Write>(&self, f: &mut fmt::Formatter<W>) -> fmt::Result {
         let mut buffer = [0; LONGEST_FIXED];
-        let text = GroupedFixed(self.0, self.1, self.2).shown(&mut buffer)?;
+        let text = GroupedFixed(self.0, self.1, self.2).text_or_error(&mut buffer)?;
         pad_number(f, self.0.is_negative(), false, text)
     }
 }
@@ -361,7 +361,7 @@ impl<T: ToLexical> fmt::Display for Fixed<T> {
 
 impl<T: ToLexical> TrimmedFixed<T> {
     // Returns the text, or an error if there are more than 19 decimals.
-    fn shown(self, buffer: &mut [u8; LONGEST_FIXED]) -> Result<&str, fmt::Error>
+    fn text_or_error(self, buffer: &mut [u8; LONGEST_FIXED]) -> Result<&str, fmt::Error>
         ensures ok { IsOk result ↔ (self.1 ≤ 19) }
         ensures text { IfOk result (λ text. text.now ≡ trimmed_text self.1 (T.number self.0)) }
     {
@@ -382,7 +382,7 @@ impl<T: ToLexical> fmt::Display for TrimmedFixed<T> {
 
     fn fmt<W: fmt::Write>(&self, f: &mut fmt::Formatter<W>) -> fmt::Result {
         let mut buffer = [0; LONGEST_FIXED];
-        let text = TrimmedFixed(self.0, self.1).shown(&mut buffer)?;
+        let text = TrimmedFixed(self.0, self.1).text_or_error(&mut buffer)?;
         pad_number(f, self.0.is_negative(), false, text)
     }
 }

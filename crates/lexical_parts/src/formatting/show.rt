@@ -13,8 +13,8 @@ pub(crate) const MOST_IN_ONE_PIECE: usize = 256;
 
 /// A part that `{}` can print: `{}` of [`Shown(part)`](super::super::Shown) writes its text. For example, `{}` of
 /// `Shown(("id=", 7u8))` writes `id=7`. All parts of this crate implement it, and so do tuples, columns and
-/// [`Joined`](super::super::Joined) of them. Many of them, such as `Hex`, also have `Display`, so you can write them without
-/// `Shown`.
+/// [`Joined`](super::super::Joined) of them. Many of them, such as `Hex`, also have `Display`, so you can write them
+/// without `Shown`.
 ///
 /// If you implement this trait for a part of your own, `{}` of `Shown` writes it, alone or in a tuple. You must define
 /// `is_showable`, and `write_pieces` too if the room of the part can be above 256 bytes.
@@ -28,8 +28,8 @@ pub trait Show: Part {
     // The text, if the prover computes it.
     ghost text: { Self → Option (List ℕ) } = { λ _. None };
 
-    /// Returns whether the part is valid and its text is UTF-8, as `to_str` requires. If it returns `false`, `{}` of the
-    /// part is an error. For a part of your own that is always valid, return `true`.
+    /// Returns whether the part is valid and its text is UTF-8, as `to_str` requires. If it returns `false`, `{}` of
+    /// the part is an error. For a part of your own that is always valid, return `true`.
     fn is_showable(self) -> bool
         ensures valid { IsTrue result → Self.is_valid self }
         ensures utf8 { IsTrue result → Self.is_utf8 self }
@@ -42,9 +42,9 @@ pub trait Show: Part {
     ///
     /// # Errors
     ///
-    /// Returns the error of the writer, and an error for a `Bytes`, alone or in a tuple, that is not UTF-8. For a part of
-    /// your own it also returns an error if its room is above 256 bytes and you do not define this method, or if it does
-    /// not write the same text each time.
+    /// Returns the error of the writer, and an error for a `Bytes`, alone or in a tuple, that is not UTF-8. For a part
+    /// of your own it also returns an error if its room is above 256 bytes and you do not define this method, or if it
+    /// does not write the same text each time.
     ///
     /// # Panics
     ///

@@ -24,14 +24,14 @@ use crate::texts::option::OrElse;
 use lexical_write_integer::ToLexical;
 use std::fmt;
 
-/// A tuple of parts, or another part, in a format string. A width, a fill and a precision work as for a `&str`, also if the
-/// part is a number: `{:3}` of `Shown(5u8)` writes `5` and two spaces, and `{:03}` does the same. For zeros write the
-/// number without `Shown`, such as `{:03}` of `Hex(5u8)`.
+/// A tuple of parts, or another part, in a format string. A width, a fill and a precision work as for a `&str`, also if
+/// the part is a number: `{:3}` of `Shown(5u8)` writes `5` and two spaces, and `{:03}` does the same. For zeros write
+/// the number without `Shown`, such as `{:03}` of `Hex(5u8)`.
 ///
 /// # Errors
 ///
-/// `fmt` returns an error, so `format!` and `println!` panic, if a part in it is not valid, or if it contains a byte that
-/// `to_str` refuses.
+/// `fmt` returns an error, so `format!` and `println!` panic, if a part in it is not valid, or if it contains a byte
+/// that `to_str` refuses.
 ///
 /// ```
 /// use lexical_parts::{Hex, Shown};
@@ -195,7 +195,8 @@ impl<P: Show> fmt::Display for Lower<P> {
 impl<P: Show> fmt::Display for ZeroPadded<P> {
     ghost output = { λ part. zero_padded_text part.1 (P.text part.0) };
 
-    ghost styled_output = { λ part spec. aligned_text spec.align (styled_text spec) (zero_padded_text part.1 (P.text part.0)) };
+    ghost styled_output = { λ part spec.
+        aligned_text spec.align (styled_text spec) (zero_padded_text part.1 (P.text part.0)) };
 
     fn fmt<W: fmt::Write>(&self, f: &mut fmt::Formatter<W>) -> fmt::Result {
         Shown(*self).show(f)
@@ -205,7 +206,8 @@ impl<P: Show> fmt::Display for ZeroPadded<P> {
 impl<P: Show> fmt::Display for Left<P> {
     ghost output = { λ part. left_text part.1 part.2 (P.text part.0) };
 
-    ghost styled_output = { λ part spec. aligned_text spec.align (styled_text spec) (left_text part.1 part.2 (P.text part.0)) };
+    ghost styled_output = { λ part spec.
+        aligned_text spec.align (styled_text spec) (left_text part.1 part.2 (P.text part.0)) };
 
     fn fmt<W: fmt::Write>(&self, f: &mut fmt::Formatter<W>) -> fmt::Result {
         Shown(*self).show(f)
@@ -215,7 +217,8 @@ impl<P: Show> fmt::Display for Left<P> {
 impl<P: Show> fmt::Display for Right<P> {
     ghost output = { λ part. right_text part.1 part.2 (P.text part.0) };
 
-    ghost styled_output = { λ part spec. aligned_text spec.align (styled_text spec) (right_text part.1 part.2 (P.text part.0)) };
+    ghost styled_output = { λ part spec.
+        aligned_text spec.align (styled_text spec) (right_text part.1 part.2 (P.text part.0)) };
 
     fn fmt<W: fmt::Write>(&self, f: &mut fmt::Formatter<W>) -> fmt::Result {
         Shown(*self).show(f)
@@ -225,7 +228,8 @@ impl<P: Show> fmt::Display for Right<P> {
 impl<P: Show> fmt::Display for Center<P> {
     ghost output = { λ part. centered_text part.1 part.2 (P.text part.0) };
 
-    ghost styled_output = { λ part spec. aligned_text spec.align (styled_text spec) (centered_text part.1 part.2 (P.text part.0)) };
+    ghost styled_output = { λ part spec.
+        aligned_text spec.align (styled_text spec) (centered_text part.1 part.2 (P.text part.0)) };
 
     fn fmt<W: fmt::Write>(&self, f: &mut fmt::Formatter<W>) -> fmt::Result {
         Shown(*self).show(f)
@@ -235,7 +239,8 @@ impl<P: Show> fmt::Display for Center<P> {
 impl<P: Show> fmt::Display for Joined<'_, P> {
     ghost output = { λ part. joined_text P.text part.1.now part.0.now };
 
-    ghost styled_output = { λ part spec. aligned_text spec.align (styled_text spec) (joined_text P.text part.1.now part.0.now) };
+    ghost styled_output = { λ part spec.
+        aligned_text spec.align (styled_text spec) (joined_text P.text part.1.now part.0.now) };
 
     fn fmt<W: fmt::Write>(&self, f: &mut fmt::Formatter<W>) -> fmt::Result {
         Shown(Joined(self.0, self.1)).show(f)
@@ -245,7 +250,8 @@ impl<P: Show> fmt::Display for Joined<'_, P> {
 impl<P: Show, Q: Show> fmt::Display for OrElse<P, Q> {
     ghost output = { λ part. or_else_text P.text (Q.text part.1) part.0 };
 
-    ghost styled_output = { λ part spec. aligned_text spec.align (styled_text spec) (or_else_text P.text (Q.text part.1) part.0) };
+    ghost styled_output = { λ part spec.
+        aligned_text spec.align (styled_text spec) (or_else_text P.text (Q.text part.1) part.0) };
 
     fn fmt<W: fmt::Write>(&self, f: &mut fmt::Formatter<W>) -> fmt::Result {
         Shown(*self).show(f)
@@ -255,7 +261,8 @@ impl<P: Show, Q: Show> fmt::Display for OrElse<P, Q> {
 impl<T: ToLexical> fmt::Display for Scientific<T> {
     ghost output = { λ part. Some (scientific_text (T.number part.0) part.1) };
 
-    ghost styled_output = { λ part spec. aligned_text spec.align (styled_text spec) (Some (scientific_text (T.number part.0) part.1)) };
+    ghost styled_output = { λ part spec.
+        aligned_text spec.align (styled_text spec) (Some (scientific_text (T.number part.0) part.1)) };
 
     fn fmt<W: fmt::Write>(&self, f: &mut fmt::Formatter<W>) -> fmt::Result {
         Shown(*self).show(f)
@@ -265,7 +272,8 @@ impl<T: ToLexical> fmt::Display for Scientific<T> {
 impl fmt::Display for HexBytes<'_> {
     ghost output = { λ part. Some (hex_bytes_text part.1.now part.0.now) };
 
-    ghost styled_output = { λ part spec. aligned_text spec.align (styled_text spec) (Some (hex_bytes_text part.1.now part.0.now)) };
+    ghost styled_output = { λ part spec.
+        aligned_text spec.align (styled_text spec) (Some (hex_bytes_text part.1.now part.0.now)) };
 
     fn fmt<W: fmt::Write>(&self, f: &mut fmt::Formatter<W>) -> fmt::Result {
         Shown(*self).show(f)

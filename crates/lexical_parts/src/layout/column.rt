@@ -7,8 +7,8 @@ ghost use Rattle.lexical_parts.specs.Column.{IsAtLeft, IsAtRight, IsCentered, ce
 use crate::formatting::limited::{count_bytes, write_exactly};
 use crate::formatting::show::{MOST_IN_ONE_PIECE, Show, write_in_one_piece};
 use crate::layout::fill::{insert_fill, write_copies, write_fill};
-use crate::own::Own;
 use crate::part::Part;
+use crate::sealed::Sealed;
 use std::fmt;
 
 /// A part that is aligned to the left of a column: a byte, often a space, is added after its text, up to
@@ -46,8 +46,8 @@ impl<P: Part> Part for Left<P> {
         Some(self.0.text_len()?.max(self.1))
     }
 
-    fn is_known_utf8(self, own: Own) -> bool {
-        self.2 < 128 && self.0.is_known_utf8(own)
+    fn is_known_valid_utf8(self, sealed: Sealed) -> bool {
+        self.2 < 128 && self.0.is_known_valid_utf8(sealed)
     }
 }
 
@@ -104,8 +104,8 @@ impl<P: Part> Part for Right<P> {
         Some(self.0.text_len()?.max(self.1))
     }
 
-    fn is_known_utf8(self, own: Own) -> bool {
-        self.2 < 128 && self.0.is_known_utf8(own)
+    fn is_known_valid_utf8(self, sealed: Sealed) -> bool {
+        self.2 < 128 && self.0.is_known_valid_utf8(sealed)
     }
 }
 
@@ -165,8 +165,8 @@ impl<P: Part> Part for Center<P> {
         Some(self.0.text_len()?.max(self.1))
     }
 
-    fn is_known_utf8(self, own: Own) -> bool {
-        self.2 < 128 && self.0.is_known_utf8(own)
+    fn is_known_valid_utf8(self, sealed: Sealed) -> bool {
+        self.2 < 128 && self.0.is_known_valid_utf8(sealed)
     }
 }
 

@@ -9,8 +9,8 @@ ghost use Rattle.lexical_parts.specs.ZeroPadded.{IsZeroPadded, piece_with_zeros,
 use crate::formatting::limited::{count_bytes, write_exactly};
 use crate::formatting::show::{MOST_IN_ONE_PIECE, Show, write_in_one_piece};
 use crate::layout::fill::{insert_fill, write_copies};
-use crate::own::Own;
 use crate::part::Part;
+use crate::sealed::Sealed;
 use std::fmt;
 
 // Returns the length of the sign with which the text begins: 1 for `-` or `+`, and otherwise 0.
@@ -61,8 +61,8 @@ impl<P: Part> Part for ZeroPadded<P> {
         Some(self.0.text_len()?.max(self.1))
     }
 
-    fn is_known_utf8(self, own: Own) -> bool {
-        self.0.is_known_utf8(own)
+    fn is_known_valid_utf8(self, sealed: Sealed) -> bool {
+        self.0.is_known_valid_utf8(sealed)
     }
 }
 

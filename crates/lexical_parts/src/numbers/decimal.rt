@@ -9,8 +9,8 @@ ghost use Rattle.lexical_parts.specs.Length.{HasLength};
 
 use crate::formatting::show::Show;
 use crate::numbers::formatted::Formatted;
-use crate::own::Own;
 use crate::part::Part;
+use crate::sealed::Sealed;
 use lexical_write_integer::ToLexical;
 use lexical_write_integer::format::STANDARD;
 use lexical_write_integer::laws::size_suffices;
@@ -48,7 +48,7 @@ impl<T: ToLexical> Part for Decimal<T> {
         Formatted(self.0, &STANDARD).text_len()
     }
 
-    fn is_known_utf8(self, _own: Own) -> bool {
+    fn is_known_valid_utf8(self, _sealed: Sealed) -> bool {
         true
     }
 }
@@ -58,6 +58,6 @@ impl<T: ToLexical> Show for Decimal<T> {
 
     fn is_showable(self) -> bool {
         self.0.in_range();
-        self.is_known_utf8(Own)
+        self.is_known_valid_utf8(Sealed)
     }
 }

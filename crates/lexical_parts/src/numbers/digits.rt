@@ -9,21 +9,22 @@ ghost use Rattle.lexical_write_integer.specs.Text.{IsDigits};
 ghost use Rattle.lexical_parts.specs.Length.{HasLength};
 
 use crate::formatting::show::Show;
-use crate::own::Own;
 use crate::part::Part;
+use crate::sealed::Sealed;
 use lexical_num::limits::is_radix;
 use lexical_write_integer::digit_count::{DigitCount, most_digits};
 use lexical_write_integer::radix::Radix;
 
-/// The digits of an unsigned number in a radix from 2 to 36: `Digits(16, 255u32)` writes `FF`. The digits above 9 are `A`
-/// to `Z`; `Lower(Digits(16, 255u32))` writes `ff`. With another radix the part is not valid.
+/// The digits of an unsigned number in a radix from 2 to 36: `Digits(16, 255u32)` writes `FF`. The digits above 9 are
+/// `A` to `Z`; `Lower(Digits(16, 255u32))` writes `ff`. With another radix the part is not valid.
 ///
 /// The radix comes first, and the number is unsigned. A literal needs a type, because an `i32` is signed:
 /// `Digits(36, 1000u64)`. If an error says that `i32: UnsignedInteger` or `i32: Radix` is not satisfied, the number is
 /// signed: write it by `Formatted`. The room is the number of digits.
 ///
-/// If the radix is a constant, `to_str`, `to_text` and `write_pieces` usually have the code of this radix only. `{}` has the
-/// code of every radix, which is 64 KB or more, and so have [some other calls](crate::costs#the-code-of-all-radices).
+/// If the radix is a constant, `to_str`, `to_text` and `write_pieces` usually have the code of this radix only. `{}`
+/// has the code of every radix, which is 64 KB or more, and so have [some other
+/// calls](crate::costs#the-code-of-all-radices).
 ///
 /// ```
 /// use lexical_parts::{Digits, Lower, Part};
@@ -57,12 +58,12 @@ impl<T: Radix + DigitCount> Part for Digits<T> {
         Some(self.1.digit_count(self.0))
     }
 
-    fn most_room(self, _own: Own) -> usize {
+    fn most_room(self, _sealed: Sealed) -> usize {
         self.1.fits_bits();
         most_digits::<T>(self.0)
     }
 
-    fn is_known_utf8(self, _own: Own) -> bool
+    fn is_known_valid_utf8(self, _sealed: Sealed) -> bool
         ensures valid { IsTrue result → IsRadix self.0 }
         ensures known { IsRadix self.0 → IsTrue result }
     {
@@ -75,6 +76,6 @@ impl<T: Radix + DigitCount> Show for Digits<T> {
 
     fn is_showable(self) -> bool {
         self.1.fits_bits();
-        self.is_known_utf8(Own)
+        self.is_known_valid_utf8(Sealed)
     }
 }

@@ -11,8 +11,8 @@ ghost use Rattle.lexical_parts.specs.Length.{HasLength};
 use crate::formatting::show::Show;
 use crate::layout::fill::insert_fill;
 use crate::numbers::sign::Sign;
-use crate::own::Own;
 use crate::part::Part;
+use crate::sealed::Sealed;
 use lexical_write_integer::format::STANDARD;
 use lexical_write_integer::laws::size_suffices;
 use lexical_write_integer::{NumberFormat, ToLexical, group_digits, sign_len};
@@ -74,8 +74,8 @@ fn write_grouped_units<T: ToLexical>(
 }
 
 /// An integer with a decimal point before its last `decimals` digits, such as an amount in cents: `Fixed(-5i64, 2)`
-/// writes `-0.05`, and `Fixed(1234u32, 3)` writes `1.234`. At least one digit precedes the point, and `decimals`
-/// digits follow it; a number without decimals has no point. There are at most 19 decimals. Its room is at most 22 bytes.
+/// writes `-0.05`, and `Fixed(1234u32, 3)` writes `1.234`. At least one digit precedes the point, and `decimals` digits
+/// follow it; a number without decimals has no point. There are at most 19 decimals. Its room is at most 22 bytes.
 ///
 /// ```
 /// use lexical_parts::{Fixed, Part};
@@ -109,8 +109,8 @@ impl<T: ToLexical> Part for Fixed<T> {
         GroupedFixed(self.0, self.1, &STANDARD).text_len()
     }
 
-    fn is_known_utf8(self, own: Own) -> bool {
-        GroupedFixed(self.0, self.1, &STANDARD).is_known_utf8(own)
+    fn is_known_valid_utf8(self, sealed: Sealed) -> bool {
+        GroupedFixed(self.0, self.1, &STANDARD).is_known_valid_utf8(sealed)
     }
 }
 
@@ -119,7 +119,7 @@ impl<T: ToLexical> Show for Fixed<T> {
 
     fn is_showable(self) -> bool {
         self.0.in_range();
-        self.is_known_utf8(Own)
+        self.is_known_valid_utf8(Sealed)
     }
 }
 
@@ -171,7 +171,7 @@ impl<T: ToLexical> Part for GroupedFixed<'_, T> {
         Some(sign + self.2.grouped_len(whole) + self.1 + self.1.min(1))
     }
 
-    fn is_known_utf8(self, _own: Own) -> bool
+    fn is_known_valid_utf8(self, _sealed: Sealed) -> bool
         ensures valid { IsTrue result → self.entry.1 ≤ 19 }
         ensures known { self.entry.1 ≤ 19 → IsTrue result }
     {
@@ -184,6 +184,6 @@ impl<T: ToLexical> Show for GroupedFixed<'_, T> {
 
     fn is_showable(self) -> bool {
         self.0.in_range();
-        self.is_known_utf8(Own)
+        self.is_known_valid_utf8(Sealed)
     }
 }

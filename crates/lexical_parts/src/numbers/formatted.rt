@@ -9,8 +9,8 @@ ghost use Rattle.lexical_parts.specs.Formatted.{formatted_room, largest_magnitud
 ghost use Rattle.lexical_parts.specs.Length.{HasLength};
 
 use crate::formatting::show::Show;
-use crate::own::Own;
 use crate::part::Part;
+use crate::sealed::Sealed;
 use lexical_write_integer::digit_count::DigitCount;
 use lexical_write_integer::{NumberFormat, ToLexical, sign_len};
 
@@ -36,10 +36,9 @@ pub fn formatted_room_suffices<T: ToLexical>(number: T, format: &NumberFormat)
     format.in_range();
 }
 
-/// A number in a format, with its sign and its groups: in a format with groups of three digits and
-/// the separator `,`, `Formatted(1234567, &format)` writes `1,234,567`. Its room is the length of the longest text of the
-/// type in the format: 26 bytes for 64 bits in decimal and groups of three, and at most 128 bytes for every type and
-/// format.
+/// A number in a format, with its sign and its groups: in a format with groups of three digits and the separator `,`,
+/// `Formatted(1234567, &format)` writes `1,234,567`. Its room is the length of the longest text of the type in the
+/// format: 26 bytes for 64 bits in decimal and groups of three, and at most 128 bytes for every type and format.
 ///
 /// ```
 /// use lexical_parts::{Formatted, Part};
@@ -78,7 +77,7 @@ impl<T: ToLexical> Part for Formatted<'_, T> {
         Some(sign_len(self.0, self.1) + self.1.grouped_len(digits))
     }
 
-    fn is_known_utf8(self, _own: Own) -> bool {
+    fn is_known_valid_utf8(self, _sealed: Sealed) -> bool {
         true
     }
 }
@@ -89,6 +88,6 @@ impl<T: ToLexical> Show for Formatted<'_, T> {
     fn is_showable(self) -> bool {
         self.0.in_range();
         self.1.in_range();
-        self.is_known_utf8(Own)
+        self.is_known_valid_utf8(Sealed)
     }
 }

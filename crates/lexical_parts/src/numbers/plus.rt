@@ -9,8 +9,8 @@ ghost use Rattle.lexical_parts.specs.Length.{HasLength};
 
 use crate::formatting::show::Show;
 use crate::numbers::sign::Sign;
-use crate::own::Own;
 use crate::part::Part;
+use crate::sealed::Sealed;
 use lexical_write_integer::ToLexical;
 use lexical_write_integer::format::STANDARD;
 use lexical_write_integer::laws::size_suffices;
@@ -52,7 +52,7 @@ impl<T: ToLexical> Part for Plus<T> {
         Some(1 + self.0.magnitude_digits(10))
     }
 
-    fn is_known_utf8(self, _own: Own) -> bool {
+    fn is_known_valid_utf8(self, _sealed: Sealed) -> bool {
         true
     }
 }
@@ -62,6 +62,6 @@ impl<T: ToLexical> Show for Plus<T> {
 
     fn is_showable(self) -> bool {
         self.0.in_range();
-        self.is_known_utf8(Own)
+        self.is_known_valid_utf8(Sealed)
     }
 }

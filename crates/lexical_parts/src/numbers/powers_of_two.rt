@@ -12,8 +12,8 @@ ghost use Rattle.lexical_parts.specs.Length.{HasLength};
 use crate::formatting::show::{MOST_IN_ONE_PIECE, Show, write_in_one_piece};
 use crate::layout::joined::{separator_before, write_next};
 use crate::numbers::padded::PaddedDigits;
-use crate::own::Own;
 use crate::part::Part;
+use crate::sealed::Sealed;
 use crate::texts::strings::str_is_utf8;
 use lexical_tables::get_table;
 use lexical_write_integer::digit_count::DigitCount;
@@ -57,7 +57,7 @@ impl<T: Radix> Part for Hex<T> {
         Some(self.0.as_u64().digit_count(16))
     }
 
-    fn is_known_utf8(self, _own: Own) -> bool {
+    fn is_known_valid_utf8(self, _sealed: Sealed) -> bool {
         true
     }
 }
@@ -67,7 +67,7 @@ impl<T: Radix> Show for Hex<T> {
 
     fn is_showable(self) -> bool {
         self.0.fits_bits();
-        self.is_known_utf8(Own)
+        self.is_known_valid_utf8(Sealed)
     }
 }
 
@@ -105,7 +105,7 @@ impl<T: Radix> Part for Binary<T> {
         Some(self.0.as_u64().digit_count(2))
     }
 
-    fn is_known_utf8(self, _own: Own) -> bool {
+    fn is_known_valid_utf8(self, _sealed: Sealed) -> bool {
         true
     }
 }
@@ -115,13 +115,13 @@ impl<T: Radix> Show for Binary<T> {
 
     fn is_showable(self) -> bool {
         self.0.fits_bits();
-        self.is_known_utf8(Own)
+        self.is_known_valid_utf8(Sealed)
     }
 }
 
-/// All digits of an unsigned number in radix 16, with leading zeros up to the width of its type, which is 2 for a `u8`, and
-/// 16 for a `u64` and for a `usize` on every target: `FullHex(255u16)` writes `00FF`. A literal needs a type, because an
-/// `i32` is signed. The room is this width.
+/// All digits of an unsigned number in radix 16, with leading zeros up to the width of its type, which is 2 for a `u8`,
+/// and 16 for a `u64` and for a `usize` on every target: `FullHex(255u16)` writes `00FF`. A literal needs a type,
+/// because an `i32` is signed. The room is this width.
 ///
 /// ```
 /// use lexical_parts::{FullHex, Part};
@@ -152,7 +152,7 @@ impl<T: DigitCount + Radix> Part for FullHex<T> {
         Some(T::BITS / 4)
     }
 
-    fn is_known_utf8(self, _own: Own) -> bool {
+    fn is_known_valid_utf8(self, _sealed: Sealed) -> bool {
         true
     }
 }
@@ -162,7 +162,7 @@ impl<T: DigitCount + Radix> Show for FullHex<T> {
 
     fn is_showable(self) -> bool {
         self.0.fits_bits();
-        self.is_known_utf8(Own)
+        self.is_known_valid_utf8(Sealed)
     }
 }
 
@@ -192,9 +192,8 @@ impl Part for HexByte {
     }
 }
 
-/// The bytes of a slice in radix 16, each in two digits, with a separator between adjacent bytes:
-/// `HexBytes(&[1, 255], "")` writes `01FF`, and `HexBytes(&[1, 255], ":")` writes `01:FF`. Its room is the length of its
-/// text.
+/// The bytes of a slice in radix 16, each in two digits, with a separator between adjacent bytes: `HexBytes(&[1, 255],
+/// "")` writes `01FF`, and `HexBytes(&[1, 255], ":")` writes `01:FF`. Its room is the length of its text.
 ///
 /// ```
 /// use lexical_parts::{HexBytes, Part};
@@ -232,7 +231,7 @@ impl Part for HexBytes<'_> {
         digits.checked_add(separators.checked_mul(self.1.len())?)
     }
 
-    fn is_known_utf8(self, _own: Own) -> bool {
+    fn is_known_valid_utf8(self, _sealed: Sealed) -> bool {
         true
     }
 }
@@ -241,7 +240,7 @@ impl Show for HexBytes<'_> {
     ghost text = { λ part. Some (hex_bytes_text part.1.now part.0.now) };
 
     fn is_showable(self) -> bool {
-        self.is_known_utf8(Own)
+        self.is_known_valid_utf8(Sealed)
     }
 
     fn write_pieces<O: fmt::Write>(self, out: &mut O) -> fmt::Result {

@@ -12,8 +12,8 @@ ghost use Rattle.lexical_parts.specs.Length.{HasLength};
 
 use crate::formatting::show::Show;
 use crate::numbers::sign::Sign;
-use crate::own::Own;
 use crate::part::Part;
+use crate::sealed::Sealed;
 use crate::texts::bytes::Bytes;
 use lexical_write_integer::ToLexical;
 use lexical_write_integer::format::STANDARD;
@@ -132,7 +132,7 @@ impl<T: ToLexical> Part for Scientific<T> {
         Some(self.write_to(&mut [0; LONGEST]))
     }
 
-    fn is_known_utf8(self, _own: Own) -> bool {
+    fn is_known_valid_utf8(self, _sealed: Sealed) -> bool {
         true
     }
 }
@@ -142,6 +142,6 @@ impl<T: ToLexical> Show for Scientific<T> {
 
     fn is_showable(self) -> bool {
         self.0.in_range();
-        self.is_known_utf8(Own)
+        self.is_known_valid_utf8(Sealed)
     }
 }

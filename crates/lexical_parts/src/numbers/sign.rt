@@ -7,8 +7,8 @@ ghost use Rattle.lexical_write_integer.specs.Sequence.{IsExactly};
 ghost use Rattle.lexical_parts.specs.Length.{HasLength};
 
 use crate::formatting::show::Show;
-use crate::own::Own;
 use crate::part::Part;
+use crate::sealed::Sealed;
 use lexical_num::num::LexicalInteger;
 use lexical_write_integer::buffer::copy_to_front;
 
@@ -50,7 +50,7 @@ impl<T: LexicalInteger> Part for Sign<T> {
         Some(usize::from(self.0.is_negative() || self.1))
     }
 
-    fn is_known_utf8(self, _own: Own) -> bool {
+    fn is_known_valid_utf8(self, _sealed: Sealed) -> bool {
         true
     }
 }
@@ -59,6 +59,6 @@ impl<T: LexicalInteger> Show for Sign<T> {
     ghost text = { λ part. Some (sign_of (T.number part.0) part.1) };
 
     fn is_showable(self) -> bool {
-        self.is_known_utf8(Own)
+        self.is_known_valid_utf8(Sealed)
     }
 }

@@ -11,8 +11,8 @@ use crate::formatting::show::Show;
 use crate::numbers::fixed::{Fixed, LONGEST_FIXED, write_units};
 use crate::numbers::scientific::count_without_zeros;
 use crate::numbers::sign::Sign;
-use crate::own::Own;
 use crate::part::Part;
+use crate::sealed::Sealed;
 use crate::texts::bytes::Bytes;
 use lexical_write_integer::ToLexical;
 use lexical_write_integer::format::STANDARD;
@@ -37,9 +37,9 @@ fn write_trimmed_units<T: ToLexical>(number: T, decimals: usize, buffer: &mut [u
     (Bytes(&units[..whole]), ".", Bytes(&units[whole..kept])).write_to(buffer)
 }
 
-/// A number as [`Fixed`](super::super::Fixed) writes it, without zeros at the end of its fraction, and without a point if no
-/// decimal is left: `TrimmedFixed(-1500, 3)` writes `-1.5`, and `TrimmedFixed(2000u32, 3)` writes `2`. Its room is at most
-/// 22 bytes.
+/// A number as [`Fixed`](super::super::Fixed) writes it, without zeros at the end of its fraction, and without a point
+/// if no decimal is left: `TrimmedFixed(-1500, 3)` writes `-1.5`, and `TrimmedFixed(2000u32, 3)` writes `2`. Its room
+/// is at most 22 bytes.
 ///
 /// ```
 /// use lexical_parts::{Part, TrimmedFixed};
@@ -77,8 +77,8 @@ impl<T: ToLexical> Part for TrimmedFixed<T> {
         Some(self.write_to(&mut [0; LONGEST_FIXED]))
     }
 
-    fn is_known_utf8(self, own: Own) -> bool {
-        Fixed(self.0, self.1).is_known_utf8(own)
+    fn is_known_valid_utf8(self, sealed: Sealed) -> bool {
+        Fixed(self.0, self.1).is_known_valid_utf8(sealed)
     }
 }
 
@@ -87,6 +87,6 @@ impl<T: ToLexical> Show for TrimmedFixed<T> {
 
     fn is_showable(self) -> bool {
         self.0.in_range();
-        self.is_known_utf8(Own)
+        self.is_known_valid_utf8(Sealed)
     }
 }

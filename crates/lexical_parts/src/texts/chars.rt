@@ -6,8 +6,8 @@ ghost use Rattle.lexical_write_integer.specs.Sequence.{IsExactly};
 ghost use Rattle.lexical_parts.specs.Length.{HasLength};
 
 use crate::formatting::show::Show;
-use crate::own::Own;
 use crate::part::Part;
+use crate::sealed::Sealed;
 use crate::texts::strings::str_is_utf8;
 
 impl Part for char {
@@ -33,7 +33,7 @@ impl Part for char {
         Some(self.len_utf8())
     }
 
-    fn is_known_utf8(self, _own: Own) -> bool {
+    fn is_known_valid_utf8(self, _sealed: Sealed) -> bool {
         true
     }
 }
@@ -42,6 +42,6 @@ impl Show for char {
     ghost text = { λ character. Some (encode_utf8 character) };
 
     fn is_showable(self) -> bool {
-        self.is_known_utf8(Own)
+        self.is_known_valid_utf8(Sealed)
     }
 }

@@ -6,8 +6,8 @@ ghost use Rattle.lexical_parts.specs.Optional.{IsOptional, IsOrElse, IsValidOpti
 ghost use Rattle.lexical_parts.specs.Optional.{optional_text, or_else_text};
 
 use crate::formatting::show::Show;
-use crate::own::Own;
 use crate::part::Part;
+use crate::sealed::Sealed;
 use lexical_write_integer::buffer::copy_to_front;
 use std::fmt;
 
@@ -45,13 +45,13 @@ impl<P: Part> Part for Option<P> {
         }
     }
 
-    fn is_known_utf8(self, own: Own) -> bool
+    fn is_known_valid_utf8(self, sealed: Sealed) -> bool
         ensures valid { IsTrue result → IsValidOptional P.is_valid self }
         ensures utf8 { IsTrue result → IsValidOptional P.is_utf8 self }
         ensures none { IfNone self (IsTrue result) }
     {
         match self {
-            Some(part) => part.is_known_utf8(own),
+            Some(part) => part.is_known_valid_utf8(sealed),
             // No bytes are UTF-8.
             None => true,
         }
@@ -120,8 +120,8 @@ impl<P: Part, Q: Part> Part for OrElse<P, Q> {
         }
     }
 
-    fn is_known_utf8(self, own: Own) -> bool {
-        self.0.is_known_utf8(own) && self.1.is_known_utf8(own)
+    fn is_known_valid_utf8(self, sealed: Sealed) -> bool {
+        self.0.is_known_valid_utf8(sealed) && self.1.is_known_valid_utf8(sealed)
     }
 }
 

@@ -1,8 +1,8 @@
 //! References to parts, which have the text of the part.
 
 use crate::formatting::show::Show;
-use crate::own::Own;
 use crate::part::Part;
+use crate::sealed::Sealed;
 use std::fmt;
 
 impl<P: Part> Part for &P {
@@ -26,8 +26,8 @@ impl<P: Part> Part for &P {
         (*self).text_len()
     }
 
-    fn is_known_utf8(self, own: Own) -> bool {
-        (*self).is_known_utf8(own)
+    fn is_known_valid_utf8(self, sealed: Sealed) -> bool {
+        (*self).is_known_valid_utf8(sealed)
     }
 }
 

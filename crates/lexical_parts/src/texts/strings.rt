@@ -7,8 +7,8 @@ ghost use Rattle.lexical_parts.specs.Length.{HasLength, IsOnly};
 ghost use Rattle.lexical_parts.specs.Utf8.{AreUtf8};
 
 use crate::formatting::show::Show;
-use crate::own::Own;
 use crate::part::Part;
+use crate::sealed::Sealed;
 use lexical_write_integer::buffer::copy_to_front;
 use std::fmt;
 
@@ -37,7 +37,7 @@ impl Part for &str {
         Some(self.len())
     }
 
-    fn is_known_utf8(self, _own: Own) -> bool
+    fn is_known_valid_utf8(self, _sealed: Sealed) -> bool
         ensures known { IsTrue result }
     {
         true
@@ -51,7 +51,7 @@ impl Show for &str {
         ensures only { IsTrue result → IsOnly (IsExactly self.now) self.now }
         ensures showable { IsTrue result }
     {
-        self.is_known_utf8(Own)
+        self.is_known_valid_utf8(Sealed)
     }
 
     fn write_pieces<O: fmt::Write>(self, out: &mut O) -> fmt::Result {

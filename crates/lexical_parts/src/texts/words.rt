@@ -7,8 +7,8 @@ ghost use Rattle.lexical_parts.specs.Word.{word};
 ghost use Rattle.lexical_parts.specs.Length.{HasLength};
 
 use crate::formatting::show::Show;
-use crate::own::Own;
 use crate::part::Part;
+use crate::sealed::Sealed;
 use crate::texts::strings::str_is_utf8;
 
 // Returns `true` or `false`.
@@ -40,7 +40,7 @@ impl Part for bool {
         Some(word(self).len())
     }
 
-    fn is_known_utf8(self, _own: Own) -> bool {
+    fn is_known_valid_utf8(self, _sealed: Sealed) -> bool {
         true
     }
 }
@@ -49,6 +49,6 @@ impl Show for bool {
     ghost text = { λ flag. Some (word flag) };
 
     fn is_showable(self) -> bool {
-        self.is_known_utf8(Own)
+        self.is_known_valid_utf8(Sealed)
     }
 }

@@ -2,7 +2,7 @@
 
 //! The trait that each part of a text implements.
 
-use crate::parts::own::Own;
+use crate::parts::sealed::Sealed;
 use crate::write_integer::buffer::{copy_to_front, front_mut};
 use core::str::{from_utf8, from_utf8_unchecked};
 
@@ -51,11 +51,11 @@ pub trait Part: Copy {
     }
 
     // Whether the values of the part show that it is valid and that its text is UTF-8. A part of another crate cannot
-    // define this method, since it cannot name `Own`.
+    // define this method, since it cannot name `Sealed`.
     #[doc(hidden)]
     #[must_use]
     #[inline(always)]
-    fn is_known_utf8(self, _own: Own) -> bool {
+    fn is_known_valid_utf8(self, _sealed: Sealed) -> bool {
         false
     }
 
@@ -64,7 +64,7 @@ pub trait Part: Copy {
     #[doc(hidden)]
     #[must_use]
     #[inline(always)]
-    fn most_room(self, _own: Own) -> usize {
+    fn most_room(self, _sealed: Sealed) -> usize {
         self.room()
     }
 
@@ -109,14 +109,14 @@ pub trait Part: Copy {
         write_if_it_fits(self, buffer)
     }
 
-    /// Writes the text to the start of the buffer, and returns it as a `&str`, which borrows the buffer. Every byte after
-    /// the text is unchanged, which is tested, and not proved. The part must be valid, each [`Byte`](super::Byte) in it
-    /// and each fill byte of a column must be below 128, each [`Bytes`](super::Bytes) in it must be UTF-8, and the buffer
-    /// must have `room` bytes or more.
+    /// Writes the text to the start of the buffer, and returns it as a `&str`, which borrows the buffer. Every byte
+    /// after the text is unchanged, which is tested, and not proved. The part must be valid, each [`Byte`](super::Byte)
+    /// in it and each fill byte of a column must be below 128, each [`Bytes`](super::Bytes) in it must be UTF-8, and
+    /// the buffer must have `room` bytes or more.
     ///
     /// `std::str::from_utf8` reads the text once to check it if there is a `Bytes`, a `Displayed`, a reference to a
-    /// `String` or a part of your own in it, if a byte or a fill in it is 128 or above, or if the buffer is shorter than
-    /// the room. Other texts need no check.
+    /// `String` or a part of your own in it, if a byte or a fill in it is 128 or above, or if the buffer is shorter
+    /// than the room. Other texts need no check.
     ///
     /// # Panics
     ///
@@ -126,12 +126,12 @@ pub trait Part: Copy {
     #[track_caller]
     #[allow(unsafe_code)]
     fn to_str(self, buffer: &mut [u8]) -> &str {
-        let is_sure = is_sure(self, buffer);
+        let needs_no_check = needs_no_check(self, buffer);
         let text = self.to_text(buffer);
-        if is_sure {
+        if needs_no_check {
             debug_assert!(from_utf8(text).is_ok());
-            // SAFETY: `is_sure` ensures what `to_text` requires, and `is_utf8`. So `to_text` ensures `utf8`: the text
-            // is UTF-8.
+            // SAFETY: `needs_no_check` ensures what `to_text` requires, and `is_utf8`. So `to_text` ensures `utf8`: the
+            // text is UTF-8.
             unsafe { from_utf8_unchecked(text) }
         } else {
             let checked = from_utf8(text);
@@ -155,8 +155,9 @@ pub trait Part: Copy {
     }
 }
 
-// Writes the text to the start of a buffer that is shorter than the room, if the room is at most 256 bytes and the buffer
-// is as long as the text. If rustc did not inline it, each caller would write its part to the stack for this call.
+// Writes the text to the start of a buffer that is shorter than the room, if the room is at most 256 bytes and the
+// buffer is as long as the text. If rustc did not inline it, each caller would write its part to the stack for this
+// call.
 #[inline]
 fn write_if_it_fits<P: Part>(part: P, buffer: &mut [u8]) -> Option<usize> {
     let mut array = [0; 256];
@@ -182,12 +183,12 @@ fn str_if_it_fits<P: Part>(part: P, buffer: &mut [u8]) -> Option<&str> {
 // Returns true only if the part is valid, its text is UTF-8, and the buffer has its room. For a part of another crate
 // it returns false, because nothing is known of the text of such a part.
 #[inline(always)]
-fn is_sure<P: Part>(part: P, buffer: &[u8]) -> bool {
-    part.is_known_utf8(Own) && has_room(part, buffer)
+fn needs_no_check<P: Part>(part: P, buffer: &[u8]) -> bool {
+    part.is_known_valid_utf8(Sealed) && has_room(part, buffer)
 }
 
 // Returns whether the buffer has the room of a part.
 #[inline(always)]
 fn has_room<P: Part>(part: P, buffer: &[u8]) -> bool {
-    part.most_room(Own) <= buffer.len() || part.room() <= buffer.len()
+    part.most_room(Sealed) <= buffer.len() || part.room() <= buffer.len()
 }

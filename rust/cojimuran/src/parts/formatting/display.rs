@@ -14,8 +14,8 @@ use crate::parts::numbers::padded::{MOST_DIGITS, Padded, PaddedDigits};
 use crate::parts::numbers::plus::Plus;
 use crate::parts::numbers::powers_of_two::{Binary, FullHex, Hex};
 use crate::parts::numbers::trimmed::TrimmedFixed;
-use crate::parts::own::Own;
 use crate::parts::part::Part;
+use crate::parts::sealed::Sealed;
 use crate::write_integer::digit_count::DigitCount;
 use crate::write_integer::format::STANDARD;
 use crate::write_integer::radix::Radix;
@@ -159,7 +159,7 @@ impl<T: Radix> fmt::Display for Binary<T> {
 impl<T: DigitCount + Radix> Digits<T> {
     // Returns the text, or an error if the radix is not from 2 to 36.
     #[inline(always)]
-    fn shown(self, buffer: &mut [u8; MOST_DIGITS]) -> Result<&str, fmt::Error> {
+    fn text_or_error(self, buffer: &mut [u8; MOST_DIGITS]) -> Result<&str, fmt::Error> {
         if !is_radix(u64::from(self.0)) {
             return Err(fmt::Error);
         }
@@ -172,7 +172,7 @@ impl<T: DigitCount + Radix> fmt::Display for Digits<T> {
     #[inline(always)]
     fn fmt(&self, f: &mut fmt::Formatter<'_>) -> fmt::Result {
         let mut buffer = [0; MOST_DIGITS];
-        let text = Digits(self.0, self.1).shown(&mut buffer)?;
+        let text = Digits(self.0, self.1).text_or_error(&mut buffer)?;
         pad_number(f, false, false, text)
     }
 }
@@ -202,8 +202,8 @@ impl<T: DigitCount + Radix> PaddedDigits<T> {
     // Returns the last 64 digits of the text, or all if it has fewer. It is an error if the radix is not from 2 to 36,
     // or if the number does not fit in the width.
     #[inline(always)]
-    fn shown(self, buffer: &mut [u8; MOST_DIGITS]) -> Result<&str, fmt::Error> {
-        if !self.is_known_utf8(Own) {
+    fn text_or_error(self, buffer: &mut [u8; MOST_DIGITS]) -> Result<&str, fmt::Error> {
+        if !self.is_known_valid_utf8(Sealed) {
             return Err(fmt::Error);
         }
         Ok(PaddedDigits(self.0, self.1, self.2.min(MOST_DIGITS)).to_str(buffer))
@@ -214,7 +214,7 @@ impl<T: DigitCount + Radix> fmt::Display for PaddedDigits<T> {
     #[inline(always)]
     fn fmt(&self, f: &mut fmt::Formatter<'_>) -> fmt::Result {
         let mut buffer = [0; MOST_DIGITS];
-        let digits = PaddedDigits(self.0, self.1, self.2).shown(&mut buffer)?;
+        let digits = PaddedDigits(self.0, self.1, self.2).text_or_error(&mut buffer)?;
         if self.2 <= MOST_DIGITS {
             pad_number(f, false, false, digits)
         } else {
@@ -240,7 +240,7 @@ impl<T: DigitCount + Radix> fmt::Display for FullHex<T> {
 impl<T: ToLexical> GroupedFixed<'_, T> {
     // Returns the text, or an error if there are more than 19 decimals.
     #[inline(always)]
-    fn shown(self, buffer: &mut [u8; LONGEST_FIXED]) -> Result<&str, fmt::Error> {
+    fn text_or_error(self, buffer: &mut [u8; LONGEST_FIXED]) -> Result<&str, fmt::Error> {
         if self.1 > 19 {
             return Err(fmt::Error);
         }
@@ -253,7 +253,7 @@ impl<T: ToLexical> fmt::Display for GroupedFixed<'_, T> {
     #[inline(always)]
     fn fmt(&self, f: &mut fmt::Formatter<'_>) -> fmt::Result {
         let mut buffer = [0; LONGEST_FIXED];
-        let text = GroupedFixed(self.0, self.1, self.2).shown(&mut buffer)?;
+        let text = GroupedFixed(self.0, self.1, self.2).text_or_error(&mut buffer)?;
         pad_number(f, self.0.is_negative(), false, text)
     }
 }
@@ -268,7 +268,7 @@ impl<T: ToLexical> fmt::Display for Fixed<T> {
 impl<T: ToLexical> TrimmedFixed<T> {
     // Returns the text, or an error if there are more than 19 decimals.
     #[inline(always)]
-    fn shown(self, buffer: &mut [u8; LONGEST_FIXED]) -> Result<&str, fmt::Error> {
+    fn text_or_error(self, buffer: &mut [u8; LONGEST_FIXED]) -> Result<&str, fmt::Error> {
         if self.1 > 19 {
             return Err(fmt::Error);
         }
@@ -281,7 +281,7 @@ impl<T: ToLexical> fmt::Display for TrimmedFixed<T> {
     #[inline(always)]
     fn fmt(&self, f: &mut fmt::Formatter<'_>) -> fmt::Result {
         let mut buffer = [0; LONGEST_FIXED];
-        let text = TrimmedFixed(self.0, self.1).shown(&mut buffer)?;
+        let text = TrimmedFixed(self.0, self.1).text_or_error(&mut buffer)?;
         pad_number(f, self.0.is_negative(), false, text)
     }
 }

@@ -5,8 +5,8 @@
 use crate::parts::formatting::limited::{count_bytes, write_exactly};
 use crate::parts::formatting::show::{MOST_IN_ONE_PIECE, Show, write_in_one_piece};
 use crate::parts::layout::fill::{insert_fill, write_copies, write_fill};
-use crate::parts::own::Own;
 use crate::parts::part::Part;
+use crate::parts::sealed::Sealed;
 use core::fmt;
 
 /// A part that is aligned to the left of a column: a byte, often a space, is added after its text, up to
@@ -39,8 +39,8 @@ impl<P: Part> Part for Left<P> {
     }
 
     #[inline(always)]
-    fn is_known_utf8(self, own: Own) -> bool {
-        self.2 < 128 && self.0.is_known_utf8(own)
+    fn is_known_valid_utf8(self, sealed: Sealed) -> bool {
+        self.2 < 128 && self.0.is_known_valid_utf8(sealed)
     }
 }
 
@@ -93,8 +93,8 @@ impl<P: Part> Part for Right<P> {
     }
 
     #[inline(always)]
-    fn is_known_utf8(self, own: Own) -> bool {
-        self.2 < 128 && self.0.is_known_utf8(own)
+    fn is_known_valid_utf8(self, sealed: Sealed) -> bool {
+        self.2 < 128 && self.0.is_known_valid_utf8(sealed)
     }
 }
 
@@ -150,8 +150,8 @@ impl<P: Part> Part for Center<P> {
     }
 
     #[inline(always)]
-    fn is_known_utf8(self, own: Own) -> bool {
-        self.2 < 128 && self.0.is_known_utf8(own)
+    fn is_known_valid_utf8(self, sealed: Sealed) -> bool {
+        self.2 < 128 && self.0.is_known_valid_utf8(sealed)
     }
 }
 

@@ -3,8 +3,8 @@
 //! The parts of a slice, with a separator between adjacent parts.
 
 use crate::parts::formatting::show::Show;
-use crate::parts::own::Own;
 use crate::parts::part::Part;
+use crate::parts::sealed::Sealed;
 use core::fmt;
 
 // Returns what precedes the part at the index.
@@ -80,9 +80,9 @@ impl<P: Part> Part for Joined<'_, P> {
     }
 
     #[inline(always)]
-    fn is_known_utf8(self, own: Own) -> bool {
+    fn is_known_valid_utf8(self, sealed: Sealed) -> bool {
         for part in self.0 {
-            if !part.is_known_utf8(own) {
+            if !part.is_known_valid_utf8(sealed) {
                 return false;
             }
         }

@@ -5,11 +5,11 @@
 use crate::parts::part::Part;
 use crate::write_integer::padded::write_padded;
 
-/// Writes the length of a part plus `extra` in `width` digits of the radix, and then the part. Returns the length of the
-/// part alone, without the digits before it. For example, `write_with_length("done\n", 16, 4, 4, &mut buffer)` writes
-/// `0009done\n`: the length 5 plus 4, in four digits of radix 16, and then the part. It returns 5. Later bytes are
-/// unchanged. The part must be valid, its room plus `extra` below `radix^width`, and the buffer as long as `width` and the
-/// room.
+/// Writes the length of a part plus `extra` in `width` digits of the radix, and then the part. Returns the length of
+/// the part alone, without the digits before it. For example, `write_with_length("done\n", 16, 4, 4, &mut buffer)`
+/// writes `0009done\n`: the length 5 plus 4, in four digits of radix 16, and then the part. It returns 5. Later bytes
+/// are unchanged. The part must be valid, its room plus `extra` below `radix^width`, and the buffer as long as `width`
+/// and the room.
 ///
 /// ```
 /// use cojimuran::write_with_length;
@@ -21,8 +21,8 @@ use crate::write_integer::padded::write_padded;
 ///
 /// # Panics
 ///
-/// If the part is not valid, or if the radix is not from 2 to 36, or if the buffer is [too short](crate::conditions), or
-/// if the length has more digits than `width`, or if the length and `extra` together are above `usize::MAX`.
+/// If the part is not valid, or if the radix is not from 2 to 36, or if the buffer is [too short](crate::conditions),
+/// or if the length has more digits than `width`, or if the length and `extra` together are above `usize::MAX`.
 #[inline]
 pub fn write_with_length<P: Part>(
     part: P,

@@ -5,8 +5,8 @@
 use crate::parts::formatting::limited::{count_bytes, write_exactly};
 use crate::parts::formatting::show::{MOST_IN_ONE_PIECE, Show, write_in_one_piece};
 use crate::parts::layout::fill::{insert_fill, write_copies};
-use crate::parts::own::Own;
 use crate::parts::part::Part;
+use crate::parts::sealed::Sealed;
 use core::fmt;
 
 // Returns the length of the sign with which the text begins: 1 for `-` or `+`, and otherwise 0.
@@ -51,8 +51,8 @@ impl<P: Part> Part for ZeroPadded<P> {
     }
 
     #[inline(always)]
-    fn is_known_utf8(self, own: Own) -> bool {
-        self.0.is_known_utf8(own)
+    fn is_known_valid_utf8(self, sealed: Sealed) -> bool {
+        self.0.is_known_valid_utf8(sealed)
     }
 }
 

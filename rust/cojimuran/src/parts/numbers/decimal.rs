@@ -4,8 +4,8 @@
 
 use crate::parts::formatting::show::Show;
 use crate::parts::numbers::formatted::Formatted;
-use crate::parts::own::Own;
 use crate::parts::part::Part;
+use crate::parts::sealed::Sealed;
 use crate::write_integer::ToLexical;
 use crate::write_integer::format::STANDARD;
 
@@ -41,7 +41,7 @@ impl<T: ToLexical> Part for Decimal<T> {
     }
 
     #[inline(always)]
-    fn is_known_utf8(self, _own: Own) -> bool {
+    fn is_known_valid_utf8(self, _sealed: Sealed) -> bool {
         true
     }
 }
@@ -50,6 +50,6 @@ impl<T: ToLexical> Show for Decimal<T> {
     #[inline(always)]
     #[track_caller]
     fn is_showable(self) -> bool {
-        self.is_known_utf8(Own)
+        self.is_known_valid_utf8(Sealed)
     }
 }

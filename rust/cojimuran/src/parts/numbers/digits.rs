@@ -4,20 +4,21 @@
 
 use crate::num::limits::is_radix;
 use crate::parts::formatting::show::Show;
-use crate::parts::own::Own;
 use crate::parts::part::Part;
+use crate::parts::sealed::Sealed;
 use crate::write_integer::digit_count::{DigitCount, most_digits};
 use crate::write_integer::radix::Radix;
 
-/// The digits of an unsigned number in a radix from 2 to 36: `Digits(16, 255u32)` writes `FF`. The digits above 9 are `A`
-/// to `Z`; `Lower(Digits(16, 255u32))` writes `ff`. With another radix the part is not valid.
+/// The digits of an unsigned number in a radix from 2 to 36: `Digits(16, 255u32)` writes `FF`. The digits above 9 are
+/// `A` to `Z`; `Lower(Digits(16, 255u32))` writes `ff`. With another radix the part is not valid.
 ///
 /// The radix comes first, and the number is unsigned. A literal needs a type, because an `i32` is signed:
 /// `Digits(36, 1000u64)`. If an error says that `i32: UnsignedInteger` or `i32: Radix` is not satisfied, the number is
 /// signed: write it by `Formatted`. The room is the number of digits.
 ///
-/// If the radix is a constant, `to_str`, `to_text` and `write_pieces` usually have the code of this radix only. `{}` has the
-/// code of every radix, which is 64 KB or more, and so have [some other calls](crate::costs#the-code-of-all-radices).
+/// If the radix is a constant, `to_str`, `to_text` and `write_pieces` usually have the code of this radix only. `{}`
+/// has the code of every radix, which is 64 KB or more, and so have [some other
+/// calls](crate::costs#the-code-of-all-radices).
 ///
 /// ```
 /// use cojimuran::{Digits, Lower, Part};
@@ -48,12 +49,12 @@ impl<T: Radix + DigitCount> Part for Digits<T> {
     }
 
     #[inline(always)]
-    fn most_room(self, _own: Own) -> usize {
+    fn most_room(self, _sealed: Sealed) -> usize {
         most_digits::<T>(self.0)
     }
 
     #[inline(always)]
-    fn is_known_utf8(self, _own: Own) -> bool {
+    fn is_known_valid_utf8(self, _sealed: Sealed) -> bool {
         is_radix(u64::from(self.0))
     }
 }
@@ -62,6 +63,6 @@ impl<T: Radix + DigitCount> Show for Digits<T> {
     #[inline(always)]
     #[track_caller]
     fn is_showable(self) -> bool {
-        self.is_known_utf8(Own)
+        self.is_known_valid_utf8(Sealed)
     }
 }

@@ -5,8 +5,8 @@
 use crate::parts::formatting::show::Show;
 use crate::parts::layout::fill::insert_fill;
 use crate::parts::numbers::sign::Sign;
-use crate::parts::own::Own;
 use crate::parts::part::Part;
+use crate::parts::sealed::Sealed;
 use crate::write_integer::format::STANDARD;
 use crate::write_integer::{NumberFormat, ToLexical, group_digits, sign_len};
 
@@ -60,8 +60,8 @@ fn write_grouped_units<T: ToLexical>(
 }
 
 /// An integer with a decimal point before its last `decimals` digits, such as an amount in cents: `Fixed(-5i64, 2)`
-/// writes `-0.05`, and `Fixed(1234u32, 3)` writes `1.234`. At least one digit precedes the point, and `decimals`
-/// digits follow it; a number without decimals has no point. There are at most 19 decimals. Its room is at most 22 bytes.
+/// writes `-0.05`, and `Fixed(1234u32, 3)` writes `1.234`. At least one digit precedes the point, and `decimals` digits
+/// follow it; a number without decimals has no point. There are at most 19 decimals. Its room is at most 22 bytes.
 ///
 /// ```
 /// use cojimuran::{Fixed, Part};
@@ -92,8 +92,8 @@ impl<T: ToLexical> Part for Fixed<T> {
     }
 
     #[inline(always)]
-    fn is_known_utf8(self, own: Own) -> bool {
-        GroupedFixed(self.0, self.1, &STANDARD).is_known_utf8(own)
+    fn is_known_valid_utf8(self, sealed: Sealed) -> bool {
+        GroupedFixed(self.0, self.1, &STANDARD).is_known_valid_utf8(sealed)
     }
 }
 
@@ -101,7 +101,7 @@ impl<T: ToLexical> Show for Fixed<T> {
     #[inline(always)]
     #[track_caller]
     fn is_showable(self) -> bool {
-        self.is_known_utf8(Own)
+        self.is_known_valid_utf8(Sealed)
     }
 }
 
@@ -144,7 +144,7 @@ impl<T: ToLexical> Part for GroupedFixed<'_, T> {
     }
 
     #[inline(always)]
-    fn is_known_utf8(self, _own: Own) -> bool {
+    fn is_known_valid_utf8(self, _sealed: Sealed) -> bool {
         self.1 <= 19
     }
 }
@@ -153,6 +153,6 @@ impl<T: ToLexical> Show for GroupedFixed<'_, T> {
     #[inline(always)]
     #[track_caller]
     fn is_showable(self) -> bool {
-        self.is_known_utf8(Own)
+        self.is_known_valid_utf8(Sealed)
     }
 }

@@ -3,8 +3,8 @@
 //! A number in a format, which has a radix, a sign and groups of digits.
 
 use crate::parts::formatting::show::Show;
-use crate::parts::own::Own;
 use crate::parts::part::Part;
+use crate::parts::sealed::Sealed;
 use crate::write_integer::digit_count::DigitCount;
 use crate::write_integer::{NumberFormat, ToLexical, sign_len};
 
@@ -20,10 +20,9 @@ fn largest_magnitude<T: ToLexical>() -> u64 {
     }
 }
 
-/// A number in a format, with its sign and its groups: in a format with groups of three digits and
-/// the separator `,`, `Formatted(1234567, &format)` writes `1,234,567`. Its room is the length of the longest text of the
-/// type in the format: 26 bytes for 64 bits in decimal and groups of three, and at most 128 bytes for every type and
-/// format.
+/// A number in a format, with its sign and its groups: in a format with groups of three digits and the separator `,`,
+/// `Formatted(1234567, &format)` writes `1,234,567`. Its room is the length of the longest text of the type in the
+/// format: 26 bytes for 64 bits in decimal and groups of three, and at most 128 bytes for every type and format.
 ///
 /// ```
 /// use cojimuran::{Formatted, Part};
@@ -57,7 +56,7 @@ impl<T: ToLexical> Part for Formatted<'_, T> {
     }
 
     #[inline(always)]
-    fn is_known_utf8(self, _own: Own) -> bool {
+    fn is_known_valid_utf8(self, _sealed: Sealed) -> bool {
         true
     }
 }
@@ -66,6 +65,6 @@ impl<T: ToLexical> Show for Formatted<'_, T> {
     #[inline(always)]
     #[track_caller]
     fn is_showable(self) -> bool {
-        self.is_known_utf8(Own)
+        self.is_known_valid_utf8(Sealed)
     }
 }

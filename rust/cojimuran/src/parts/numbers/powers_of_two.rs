@@ -5,8 +5,8 @@
 use crate::parts::formatting::show::{MOST_IN_ONE_PIECE, Show, write_in_one_piece};
 use crate::parts::layout::joined::{separator_before, write_next};
 use crate::parts::numbers::padded::PaddedDigits;
-use crate::parts::own::Own;
 use crate::parts::part::Part;
+use crate::parts::sealed::Sealed;
 use crate::tables::get_table;
 use crate::write_integer::digit_count::DigitCount;
 use crate::write_integer::radix::{Radix, constant_radix};
@@ -46,7 +46,7 @@ impl<T: Radix> Part for Hex<T> {
     }
 
     #[inline(always)]
-    fn is_known_utf8(self, _own: Own) -> bool {
+    fn is_known_valid_utf8(self, _sealed: Sealed) -> bool {
         true
     }
 }
@@ -55,7 +55,7 @@ impl<T: Radix> Show for Hex<T> {
     #[inline(always)]
     #[track_caller]
     fn is_showable(self) -> bool {
-        self.is_known_utf8(Own)
+        self.is_known_valid_utf8(Sealed)
     }
 }
 
@@ -91,7 +91,7 @@ impl<T: Radix> Part for Binary<T> {
     }
 
     #[inline(always)]
-    fn is_known_utf8(self, _own: Own) -> bool {
+    fn is_known_valid_utf8(self, _sealed: Sealed) -> bool {
         true
     }
 }
@@ -100,13 +100,13 @@ impl<T: Radix> Show for Binary<T> {
     #[inline(always)]
     #[track_caller]
     fn is_showable(self) -> bool {
-        self.is_known_utf8(Own)
+        self.is_known_valid_utf8(Sealed)
     }
 }
 
-/// All digits of an unsigned number in radix 16, with leading zeros up to the width of its type, which is 2 for a `u8`, and
-/// 16 for a `u64` and for a `usize` on every target: `FullHex(255u16)` writes `00FF`. A literal needs a type, because an
-/// `i32` is signed. The room is this width.
+/// All digits of an unsigned number in radix 16, with leading zeros up to the width of its type, which is 2 for a `u8`,
+/// and 16 for a `u64` and for a `usize` on every target: `FullHex(255u16)` writes `00FF`. A literal needs a type,
+/// because an `i32` is signed. The room is this width.
 ///
 /// ```
 /// use cojimuran::{FullHex, Part};
@@ -136,7 +136,7 @@ impl<T: DigitCount + Radix> Part for FullHex<T> {
     }
 
     #[inline(always)]
-    fn is_known_utf8(self, _own: Own) -> bool {
+    fn is_known_valid_utf8(self, _sealed: Sealed) -> bool {
         true
     }
 }
@@ -145,7 +145,7 @@ impl<T: DigitCount + Radix> Show for FullHex<T> {
     #[inline(always)]
     #[track_caller]
     fn is_showable(self) -> bool {
-        self.is_known_utf8(Own)
+        self.is_known_valid_utf8(Sealed)
     }
 }
 
@@ -175,9 +175,8 @@ impl Part for HexByte {
     }
 }
 
-/// The bytes of a slice in radix 16, each in two digits, with a separator between adjacent bytes:
-/// `HexBytes(&[1, 255], "")` writes `01FF`, and `HexBytes(&[1, 255], ":")` writes `01:FF`. Its room is the length of its
-/// text.
+/// The bytes of a slice in radix 16, each in two digits, with a separator between adjacent bytes: `HexBytes(&[1, 255],
+/// "")` writes `01FF`, and `HexBytes(&[1, 255], ":")` writes `01:FF`. Its room is the length of its text.
 ///
 /// ```
 /// use cojimuran::{HexBytes, Part};
@@ -217,7 +216,7 @@ impl Part for HexBytes<'_> {
     }
 
     #[inline(always)]
-    fn is_known_utf8(self, _own: Own) -> bool {
+    fn is_known_valid_utf8(self, _sealed: Sealed) -> bool {
         true
     }
 }
@@ -226,7 +225,7 @@ impl Show for HexBytes<'_> {
     #[inline(always)]
     #[track_caller]
     fn is_showable(self) -> bool {
-        self.is_known_utf8(Own)
+        self.is_known_valid_utf8(Sealed)
     }
 
     #[inline(always)]

@@ -4,8 +4,8 @@
 
 use crate::parts::formatting::show::Show;
 use crate::parts::numbers::sign::Sign;
-use crate::parts::own::Own;
 use crate::parts::part::Part;
+use crate::parts::sealed::Sealed;
 use crate::parts::texts::bytes::Bytes;
 use crate::write_integer::ToLexical;
 use crate::write_integer::format::STANDARD;
@@ -92,7 +92,7 @@ impl<T: ToLexical> Part for Scientific<T> {
     }
 
     #[inline(always)]
-    fn is_known_utf8(self, _own: Own) -> bool {
+    fn is_known_valid_utf8(self, _sealed: Sealed) -> bool {
         true
     }
 }
@@ -100,6 +100,6 @@ impl<T: ToLexical> Part for Scientific<T> {
 impl<T: ToLexical> Show for Scientific<T> {
     #[inline]
     fn is_showable(self) -> bool {
-        self.is_known_utf8(Own)
+        self.is_known_valid_utf8(Sealed)
     }
 }

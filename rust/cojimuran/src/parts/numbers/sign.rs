@@ -4,8 +4,8 @@
 
 use crate::num::num::LexicalInteger;
 use crate::parts::formatting::show::Show;
-use crate::parts::own::Own;
 use crate::parts::part::Part;
+use crate::parts::sealed::Sealed;
 use crate::write_integer::buffer::copy_to_front;
 
 /// The sign of a number: `-` if it is below 0, and otherwise nothing, or a `+` if one is required.
@@ -43,7 +43,7 @@ impl<T: LexicalInteger> Part for Sign<T> {
     }
 
     #[inline(always)]
-    fn is_known_utf8(self, _own: Own) -> bool {
+    fn is_known_valid_utf8(self, _sealed: Sealed) -> bool {
         true
     }
 }
@@ -51,6 +51,6 @@ impl<T: LexicalInteger> Part for Sign<T> {
 impl<T: LexicalInteger> Show for Sign<T> {
     #[inline]
     fn is_showable(self) -> bool {
-        self.is_known_utf8(Own)
+        self.is_known_valid_utf8(Sealed)
     }
 }

@@ -6,8 +6,8 @@ use crate::parts::formatting::show::Show;
 use crate::parts::numbers::fixed::{Fixed, LONGEST_FIXED, write_units};
 use crate::parts::numbers::scientific::count_without_zeros;
 use crate::parts::numbers::sign::Sign;
-use crate::parts::own::Own;
 use crate::parts::part::Part;
+use crate::parts::sealed::Sealed;
 use crate::parts::texts::bytes::Bytes;
 use crate::write_integer::ToLexical;
 
@@ -26,9 +26,9 @@ fn write_trimmed_units<T: ToLexical>(number: T, decimals: usize, buffer: &mut [u
     (Bytes(&units[..whole]), ".", Bytes(&units[whole..kept])).write_to(buffer)
 }
 
-/// A number as [`Fixed`](super::super::Fixed) writes it, without zeros at the end of its fraction, and without a point if no
-/// decimal is left: `TrimmedFixed(-1500, 3)` writes `-1.5`, and `TrimmedFixed(2000u32, 3)` writes `2`. Its room is at most
-/// 22 bytes.
+/// A number as [`Fixed`](super::super::Fixed) writes it, without zeros at the end of its fraction, and without a point
+/// if no decimal is left: `TrimmedFixed(-1500, 3)` writes `-1.5`, and `TrimmedFixed(2000u32, 3)` writes `2`. Its room
+/// is at most 22 bytes.
 ///
 /// ```
 /// use cojimuran::{Part, TrimmedFixed};
@@ -58,14 +58,14 @@ impl<T: ToLexical> Part for TrimmedFixed<T> {
     }
 
     #[inline(always)]
-    fn is_known_utf8(self, own: Own) -> bool {
-        Fixed(self.0, self.1).is_known_utf8(own)
+    fn is_known_valid_utf8(self, sealed: Sealed) -> bool {
+        Fixed(self.0, self.1).is_known_valid_utf8(sealed)
     }
 }
 
 impl<T: ToLexical> Show for TrimmedFixed<T> {
     #[inline]
     fn is_showable(self) -> bool {
-        self.is_known_utf8(Own)
+        self.is_known_valid_utf8(Sealed)
     }
 }

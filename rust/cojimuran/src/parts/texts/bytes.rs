@@ -3,8 +3,8 @@
 //! Bytes as a part: those of a slice, or a single one.
 
 use crate::parts::formatting::show::Show;
-use crate::parts::own::Own;
 use crate::parts::part::Part;
+use crate::parts::sealed::Sealed;
 use crate::write_integer::buffer::copy_to_front;
 use core::fmt;
 use core::str::from_utf8;
@@ -39,7 +39,7 @@ impl Part for Bytes<'_> {
     }
 
     #[inline(always)]
-    fn is_known_utf8(self, _own: Own) -> bool {
+    fn is_known_valid_utf8(self, _sealed: Sealed) -> bool {
         from_utf8(self.0).is_ok()
     }
 }
@@ -48,7 +48,7 @@ impl Show for Bytes<'_> {
     #[inline(always)]
     #[track_caller]
     fn is_showable(self) -> bool {
-        self.is_known_utf8(Own)
+        self.is_known_valid_utf8(Sealed)
     }
 
     #[inline(always)]
@@ -91,7 +91,7 @@ impl Part for Byte {
     }
 
     #[inline(always)]
-    fn is_known_utf8(self, _own: Own) -> bool {
+    fn is_known_valid_utf8(self, _sealed: Sealed) -> bool {
         self.0 < 128
     }
 }
@@ -100,6 +100,6 @@ impl Show for Byte {
     #[inline(always)]
     #[track_caller]
     fn is_showable(self) -> bool {
-        self.is_known_utf8(Own)
+        self.is_known_valid_utf8(Sealed)
     }
 }

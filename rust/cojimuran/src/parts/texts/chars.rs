@@ -3,8 +3,8 @@
 //! Characters, which are parts: the text of a `char` is its UTF-8.
 
 use crate::parts::formatting::show::Show;
-use crate::parts::own::Own;
 use crate::parts::part::Part;
+use crate::parts::sealed::Sealed;
 
 impl Part for char {
     #[inline(always)]
@@ -28,7 +28,7 @@ impl Part for char {
     }
 
     #[inline(always)]
-    fn is_known_utf8(self, _own: Own) -> bool {
+    fn is_known_valid_utf8(self, _sealed: Sealed) -> bool {
         true
     }
 }
@@ -37,6 +37,6 @@ impl Show for char {
     #[inline(always)]
     #[track_caller]
     fn is_showable(self) -> bool {
-        self.is_known_utf8(Own)
+        self.is_known_valid_utf8(Sealed)
     }
 }

@@ -3,15 +3,15 @@
 //! Parts in lowercase.
 
 use crate::parts::formatting::show::{MOST_IN_ONE_PIECE, Show, write_in_one_piece};
-use crate::parts::own::Own;
 use crate::parts::part::Part;
+use crate::parts::sealed::Sealed;
 use core::fmt;
 
 /// A part in lowercase: its text with `A` to `Z` as `a` to `z`, and every other byte unchanged.
 /// `Lower(PaddedDigits(16, 255u32, 4))` writes `00ff`. Its room is that of the part.
 ///
-/// In a format string it is a text, and not a number: `{:04}` of `Lower(Hex(255u32))` writes `ff` and two spaces, although
-/// `{:04}` of `Hex(255u32)` writes `00FF`.
+/// In a format string it is a text, and not a number: `{:04}` of `Lower(Hex(255u32))` writes `ff` and two spaces,
+/// although `{:04}` of `Hex(255u32)` writes `00FF`.
 ///
 /// ```
 /// use cojimuran::{Lower, PaddedDigits, Part};
@@ -40,13 +40,13 @@ impl<P: Part> Part for Lower<P> {
     }
 
     #[inline(always)]
-    fn most_room(self, own: Own) -> usize {
-        self.0.most_room(own)
+    fn most_room(self, sealed: Sealed) -> usize {
+        self.0.most_room(sealed)
     }
 
     #[inline(always)]
-    fn is_known_utf8(self, own: Own) -> bool {
-        self.0.is_known_utf8(own)
+    fn is_known_valid_utf8(self, sealed: Sealed) -> bool {
+        self.0.is_known_valid_utf8(sealed)
     }
 }
 

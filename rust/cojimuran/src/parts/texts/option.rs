@@ -3,8 +3,8 @@
 //! Parts that may be absent: the text of `Some(part)` is that of the part, and `None` has no bytes.
 
 use crate::parts::formatting::show::Show;
-use crate::parts::own::Own;
 use crate::parts::part::Part;
+use crate::parts::sealed::Sealed;
 use crate::write_integer::buffer::copy_to_front;
 use core::fmt;
 
@@ -34,9 +34,9 @@ impl<P: Part> Part for Option<P> {
     }
 
     #[inline(always)]
-    fn is_known_utf8(self, own: Own) -> bool {
+    fn is_known_valid_utf8(self, sealed: Sealed) -> bool {
         match self {
-            Some(part) => part.is_known_utf8(own),
+            Some(part) => part.is_known_valid_utf8(sealed),
             // No bytes are UTF-8.
             None => true,
         }
@@ -96,8 +96,8 @@ impl<P: Part, Q: Part> Part for OrElse<P, Q> {
     }
 
     #[inline(always)]
-    fn is_known_utf8(self, own: Own) -> bool {
-        self.0.is_known_utf8(own) && self.1.is_known_utf8(own)
+    fn is_known_valid_utf8(self, sealed: Sealed) -> bool {
+        self.0.is_known_valid_utf8(sealed) && self.1.is_known_valid_utf8(sealed)
     }
 }
 

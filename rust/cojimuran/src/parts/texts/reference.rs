@@ -3,8 +3,8 @@
 //! References to parts, which have the text of the part.
 
 use crate::parts::formatting::show::Show;
-use crate::parts::own::Own;
 use crate::parts::part::Part;
+use crate::parts::sealed::Sealed;
 use core::fmt;
 
 impl<P: Part> Part for &P {
@@ -24,8 +24,8 @@ impl<P: Part> Part for &P {
     }
 
     #[inline(always)]
-    fn is_known_utf8(self, own: Own) -> bool {
-        (*self).is_known_utf8(own)
+    fn is_known_valid_utf8(self, sealed: Sealed) -> bool {
+        (*self).is_known_valid_utf8(sealed)
     }
 }
 

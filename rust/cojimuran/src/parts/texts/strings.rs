@@ -3,8 +3,8 @@
 //! Strings, which are parts: the text of a `&str` is the string.
 
 use crate::parts::formatting::show::Show;
-use crate::parts::own::Own;
 use crate::parts::part::Part;
+use crate::parts::sealed::Sealed;
 use crate::write_integer::buffer::copy_to_front;
 use core::fmt;
 
@@ -28,7 +28,7 @@ impl Part for &str {
     }
 
     #[inline(always)]
-    fn is_known_utf8(self, _own: Own) -> bool {
+    fn is_known_valid_utf8(self, _sealed: Sealed) -> bool {
         true
     }
 }
@@ -37,7 +37,7 @@ impl Show for &str {
     #[inline(always)]
     #[track_caller]
     fn is_showable(self) -> bool {
-        self.is_known_utf8(Own)
+        self.is_known_valid_utf8(Sealed)
     }
 
     #[inline(always)]

@@ -3,8 +3,8 @@
 //! The words `true` and `false`, which are the texts of a `bool`.
 
 use crate::parts::formatting::show::Show;
-use crate::parts::own::Own;
 use crate::parts::part::Part;
+use crate::parts::sealed::Sealed;
 
 // Returns `true` or `false`.
 #[inline(always)]
@@ -34,7 +34,7 @@ impl Part for bool {
     }
 
     #[inline(always)]
-    fn is_known_utf8(self, _own: Own) -> bool {
+    fn is_known_valid_utf8(self, _sealed: Sealed) -> bool {
         true
     }
 }
@@ -43,6 +43,6 @@ impl Show for bool {
     #[inline(always)]
     #[track_caller]
     fn is_showable(self) -> bool {
-        self.is_known_utf8(Own)
+        self.is_known_valid_utf8(Sealed)
     }
 }

@@ -1,7 +1,9 @@
+// Made by `strip` from crates/lexical_parts/src/sealed.rt. Edit that file, not this one.
+
 //! Seals the methods of `Part` that only the parts of this library may define, so that `to_str` can rely on them.
 
 /// An argument of the sealed methods of `Part`. No other crate can name this type, so no other crate can define or call
 /// a method that takes it.
 #[doc(hidden)]
-#[derive(Clone, Copy, Debug, Drop)]
-pub struct Own;
+#[derive(Clone, Copy, PartialEq, Eq, Hash, Debug)]
+pub struct Sealed;

@@ -1,6 +1,6 @@
 use Rattle.std.proofs.Common.{take}
 use Rattle.std.specs.List.{All}
-use Rattle.lexical_parts.proofs.layout.joined.JoinedPart.is_known_utf8.Given as goal
+use Rattle.lexical_parts.proofs.layout.joined.JoinedPart.is_known_valid_utf8.Given as goal
 
 -- the parts so far are valid, and their texts are UTF-8
 abbrev pub invariant-loop-part : goal.invariant-loop-part

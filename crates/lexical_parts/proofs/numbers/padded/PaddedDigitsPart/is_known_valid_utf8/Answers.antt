@@ -1,7 +1,7 @@
 use Rattle.std.proofs.Common.{IsTrue, false, inl, inr}
 use Rattle.std.proofs.lemmas.Bool.{cases_lt, le-leb, leb-true}
 use Rattle.lexical_parts.proofs.OfNumbers.Widths.{few_or_none, fits_width}
-use Rattle.lexical_parts.proofs.numbers.padded.PaddedDigitsPart.is_known_utf8.Goals as goal
+use Rattle.lexical_parts.proofs.numbers.padded.PaddedDigitsPart.is_known_valid_utf8.Goals as goal
 
 pub returns-else-has_few_bits-clause-valid : goal.returns-else-has_few_bits-clause-valid
 returns-else-has_few_bits-clause-valid g c =
