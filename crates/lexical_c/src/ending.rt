@@ -16,9 +16,9 @@ fn length_of_sign(text: &[u8]) -> usize
     }
 }
 
-/// Inserts zeros into the text of `count` bytes at the start of the buffer, after its sign if it has one, so that it has
-/// at least `width` bytes, and returns its length. Returns 0 and leaves the buffer unchanged if `count` is 0, or if the
-/// buffer is shorter than `count` or `width`.
+/// Inserts zeros into the text of `count` bytes at the start of the buffer, after its sign if it has one, so that it
+/// has at least `width` bytes, and returns its length. Returns 0 and leaves the buffer unchanged if `count` is 0, or if
+/// the buffer is shorter than `count` or `width`.
 #[unsafe(no_mangle)]
 pub extern "C" fn lexical_pad(count: usize, width: usize, buffer: &mut [u8]) -> usize
     ensures { PadsOrRefuses count width buffer.old buffer.new result }
@@ -36,8 +36,8 @@ pub extern "C" fn lexical_pad(count: usize, width: usize, buffer: &mut [u8]) -> 
     width
 }
 
-/// Writes a 0 after the text of `count` bytes at the start of the buffer, and returns `count`. If the buffer has no room
-/// for both, writes a 0 to its start, so that it holds an empty string, and returns 0.
+/// Writes a 0 after the text of `count` bytes at the start of the buffer, and returns `count`. If the buffer has no
+/// room for both, writes a 0 to its start, so that it holds an empty string, and returns 0.
 #[unsafe(no_mangle)]
 pub extern "C" fn lexical_terminate(count: usize, buffer: &mut [u8]) -> usize
     ensures count { result ≡ (if nat_lt count (length buffer.old) then count else 0) }

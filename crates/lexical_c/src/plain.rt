@@ -1,5 +1,5 @@
-//! Writes a number in a format without groups and required signs. The buffer is long enough for every number of the type,
-//! or at least for every number that has as many bits as this one.
+//! Writes a number in a format without groups and required signs. The buffer is long enough for every number of the
+//! type, or at least for every number that has as many bits as this one.
 
 ghost use Rattle.std.specs.Prelude.{◌≡◌, ◌+◌, ◌*◌, ◌≤◌, ◌≤ℤ◌, ◌↔◌, ℕ, ℤ, IsTrue, length, map, false, None, IfSome};
 ghost use Rattle.std.specs.Prelude.{unsigned_abs};
@@ -48,8 +48,8 @@ pub fn fitting_format<T: LexicalInteger>(radix: u32, room: usize) -> Option<Numb
     }
 }
 
-/// Returns the same format if the radix is valid and not 10, and a buffer of `room` bytes is enough for each number that
-/// has the highest bit of this one. Otherwise returns `None`.
+/// Returns the same format if the radix is valid and not 10, and a buffer of `room` bytes is enough for each number
+/// that has the highest bit of this one. Otherwise returns `None`.
 pub fn format_by_bits<T: WideInteger>(value: T, radix: u32, room: usize) -> Option<NumberFormat>
     ensures format { IfSome result (λ plain. plain ≡ record standard { mantissa_radix = radix }) }
     ensures radix { IfSome result (λ plain. IsRadix radix) }

@@ -1,5 +1,5 @@
-// Tests of `lexical_num`, `lexical_tables` and `lexical_write_integer` against known values: formats, tables, digit counts
-// and writers.
+// Tests of `lexical_num`, `lexical_tables` and `lexical_write_integer` against known values: formats, tables, digit
+// counts and writers.
 
 mod checks;
 mod counts;

@@ -1,8 +1,8 @@
 //! Calls whose conditions only just hold.
 //!
 //! With one byte less, with the next number or with another radix, the check refuses each of these calls, as
-//! `mistakes/bodies.edit` shows. The functions promise nothing about their results, so only the condition of the call can
-//! be refused. Those of `clones` have no condition, and promise that they never fail.
+//! `mistakes/bodies.edit` shows. The functions promise nothing about their results, so only the condition of the call
+//! can be refused. Those of `clones` have no condition, and promise that they never fail.
 
 pub mod clones;
 pub mod counts;

@@ -1,7 +1,7 @@
 //! What single calls note in a counter, a ghost value of the type `Turns`.
 //!
-//! A test cannot read a ghost value, so each function makes some calls, each with a new `Turns`, and returns them, and its
-//! contract says what was noted.
+//! A test cannot read a ghost value, so each function makes some calls, each with a new `Turns`, and returns them, and
+//! its contract says what was noted.
 #![tactic(auto, unfolding(lexical_write_integer::specs::DigitCount::digit_count, lexical_write_integer::specs::DigitCount::least_exponent, lexical_write_integer::specs::LoopTurns::quotients, lexical_write_integer::specs::LoopTurns::compact_notes, lexical_write_integer::specs::LoopTurns::loop_notes, lexical_write_integer::specs::LoopTurns::slow_notes, lexical_write_integer::specs::LoopTurns::count_notes, lexical_write_integer::specs::LoopTurns::table_notes))]
 
 ghost use Rattle.std.specs.Prelude.{◌≡◌, ◌-◌, ◌^◌, ◌<◌, ◌≤◌, [], ◌∷◌, length};

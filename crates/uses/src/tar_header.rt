@@ -10,8 +10,8 @@ ghost use Rattle.lexical_parts.specs.Sequence.{◌then◌, IsStr};
 use lexical_parts::{Left, Padded, PaddedDigits, Part, write_field};
 use lexical_write_integer::laws::padded_length;
 
-/// Writes the name of a file, its mode, its size and the sum of the header to their fields, each number in radix 8. What
-/// is between the fields and after them does not change.
+/// Writes the name of a file, its mode, its size and the sum of the header to their fields, each number in radix 8.
+/// What is between the fields and after them does not change.
 pub fn write_header(name: &str, mode: u32, size: u64, sum: u32, header: &mut [u8; 512])
     requires name { length name.now ≤ 100 }
     requires mode { mode < 8 ^ 7 }

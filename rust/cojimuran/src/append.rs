@@ -32,18 +32,19 @@ use alloc::vec::Vec;
 /// assert_eq!(squares, "1;4;9;");
 /// ```
 pub trait Append: Part {
-    /// Appends the text to a `Vec<u8>` or a `String`. The part must be valid, and for a `String` its text must be UTF-8,
-    /// as [`to_str`](Part::to_str) says.
+    /// Appends the text to a `Vec<u8>` or a `String`. The part must be valid, and for a `String` its text must be
+    /// UTF-8, as [`to_str`](Part::to_str) says.
     ///
-    /// A `String` grows by the length of the text, as with `push_str`. So does a `Vec` if the [`room`](Part::room) of the
-    /// part is at most 256 bytes; otherwise the vector must have, or gets, the room. For a `String` a part with a larger
-    /// room is first written to a temporary buffer of that size. [`write_pieces`](crate::Show::write_pieces) needs none.
+    /// A `String` grows by the length of the text, as with `push_str`. So does a `Vec` if the [`room`](Part::room) of
+    /// the part is at most 256 bytes; otherwise the vector must have, or gets, the room. For a `String` a part with a
+    /// larger room is first written to a temporary buffer of that size. [`write_pieces`](crate::Show::write_pieces)
+    /// needs none.
     ///
     /// # Panics
     ///
-    /// If the part is not valid, or if the text for a `String` is not UTF-8, or if more than `isize::MAX` bytes would be
-    /// reserved. A `String` is then unchanged, and a `Vec` may have zeros at its end. If there is not enough memory for
-    /// fewer bytes, the process aborts, as it does for `Vec::push`.
+    /// If the part is not valid, or if the text for a `String` is not UTF-8, or if more than `isize::MAX` bytes would
+    /// be reserved. A `String` is then unchanged, and a `Vec` may have zeros at its end. If there is not enough memory
+    /// for fewer bytes, the process aborts, as it does for `Vec::push`.
     fn append_to<T: AppendTarget>(self, target: &mut T);
 }
 

@@ -18,15 +18,15 @@ use core::fmt::{self, Display, Write};
 /// assert_eq!(text, "t=0.250 s");
 /// ```
 ///
-/// The value is formatted once to write it, and once more each time that a call asks for its [`room`](Part::room) or its
-/// length, as `try_to_str` does. It must write the same text each time.
+/// The value is formatted once to write it, and once more each time that a call asks for its [`room`](Part::room) or
+/// its length, as `try_to_str` does. It must write the same text each time.
 ///
-/// A text can be long: `{}` of `1e300` has 301 bytes. So take [`room`](Part::room) bytes, `write_pieces`, or a format with a
-/// limit such as `{:.3e}`.
+/// A text can be long: `{}` of `1e300` has 301 bytes. So take [`room`](Part::room) bytes, `write_pieces`, or a format
+/// with a limit such as `{:.3e}`.
 ///
 /// This part is not proved: what it writes is what the `Display` of the value does. If that `Display` returns an error,
-/// `write_pieces` and `{}` return it, unless the part is in a column, a `ZeroPadded` or a `Lower`, or in a `Shown` with a
-/// width or a precision: then they panic, because they need the length first. The other calls panic.
+/// `write_pieces` and `{}` return it, unless the part is in a column, a `ZeroPadded` or a `Lower`, or in a `Shown` with
+/// a width or a precision: then they panic, because they need the length first. The other calls panic.
 #[derive(Debug)]
 pub struct Displayed<'a, T: ?Sized>(pub &'a T);
 

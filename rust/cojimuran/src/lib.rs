@@ -1,11 +1,12 @@
-//! Writes integers as text, in every radix from 2 to 36, into a buffer that you supply. It allocates only if the target of
-//! `append_to` or `write_pieces` grows, if `append_to` needs a temporary buffer, or if the `Display` in a [`Displayed`]
-//! allocates.
+//! Writes integers as text, in every radix from 2 to 36, into a buffer that you supply. It allocates only if the target
+//! of `append_to` or `write_pieces` grows, if `append_to` needs a temporary buffer, or if the `Display` in a
+//! [`Displayed`] allocates.
 //!
 //! The sources are written in Rattle, a dialect of Rust with contracts, and a prover has checked them: when its
 //! [conditions] hold, a call does not panic, and writes exactly the right bytes (`{}` and `write_pieces` only if they
-//! succeed). The prover is not public. A program makes this Rust code from the sources, and the Rust code is tested. [`Displayed`] and what needs the
-//! feature `alloc` are written by hand and tested. What calls cost is on the page [`costs`].
+//! succeed). The prover is not public. A program makes this Rust code from the sources, and the Rust code is tested.
+//! [`Displayed`] and what needs the feature `alloc` are written by hand and tested. What calls cost is on the page
+//! [`costs`].
 //!
 //! # A first program
 //!

@@ -12,9 +12,9 @@ fn length_of_sign(text: &[u8]) -> usize {
     }
 }
 
-/// Inserts zeros into the text of `count` bytes at the start of the buffer, after its sign if it has one, so that it has
-/// at least `width` bytes, and returns its length. Returns 0 and leaves the buffer unchanged if `count` is 0, or if the
-/// buffer is shorter than `count` or `width`.
+/// Inserts zeros into the text of `count` bytes at the start of the buffer, after its sign if it has one, so that it
+/// has at least `width` bytes, and returns its length. Returns 0 and leaves the buffer unchanged if `count` is 0, or if
+/// the buffer is shorter than `count` or `width`.
 #[inline]
 pub fn lexical_pad(count: usize, width: usize, buffer: &mut [u8]) -> usize {
     if count == 0 || count > buffer.len() || width > buffer.len() {
@@ -30,8 +30,8 @@ pub fn lexical_pad(count: usize, width: usize, buffer: &mut [u8]) -> usize {
     width
 }
 
-/// Writes a 0 after the text of `count` bytes at the start of the buffer, and returns `count`. If the buffer has no room
-/// for both, writes a 0 to its start, so that it holds an empty string, and returns 0.
+/// Writes a 0 after the text of `count` bytes at the start of the buffer, and returns `count`. If the buffer has no
+/// room for both, writes a 0 to its start, so that it holds an empty string, and returns 0.
 #[inline]
 pub fn lexical_terminate(count: usize, buffer: &mut [u8]) -> usize {
     let end = if count < buffer.len() { count } else { 0 };

@@ -1,7 +1,7 @@
 // Made by `strip` from crates/lexical_c/src/plain.rt. Edit that file, not this one.
 
-//! Writes a number in a format without groups and required signs. The buffer is long enough for every number of the type,
-//! or at least for every number that has as many bits as this one.
+//! Writes a number in a format without groups and required signs. The buffer is long enough for every number of the
+//! type, or at least for every number that has as many bits as this one.
 
 use crate::format::CFormat;
 use crate::integer::WideInteger;
@@ -33,8 +33,8 @@ pub fn fitting_format<T: LexicalInteger>(radix: u32, room: usize) -> Option<Numb
     }
 }
 
-/// Returns the same format if the radix is valid and not 10, and a buffer of `room` bytes is enough for each number that
-/// has the highest bit of this one. Otherwise returns `None`.
+/// Returns the same format if the radix is valid and not 10, and a buffer of `room` bytes is enough for each number
+/// that has the highest bit of this one. Otherwise returns `None`.
 #[inline(always)]
 pub fn format_by_bits<T: WideInteger>(value: T, radix: u32, room: usize) -> Option<NumberFormat> {
     if radix == 10 || !is_radix(u64::from(radix)) {

@@ -7,8 +7,8 @@ fn main() -> ExitCode {
     ExitCode::from(answer_lines().unwrap_or(2))
 }
 
-/// Answers the lines through the files of the standard streams: of a stream that cannot be written, `Stdout` says that it
-/// was. It also repeats an interrupted write, and writes once more at the end of a process whose write failed.
+/// Answers the lines through the files of the standard streams: of a stream that cannot be written, `Stdout` says that
+/// it was. It also repeats an interrupted write, and writes once more at the end of a process whose write failed.
 #[cfg(unix)]
 fn answer_lines() -> std::io::Result<u8> {
     use lexwrite::lines::{BlockWriter, Writing, answer_reader};

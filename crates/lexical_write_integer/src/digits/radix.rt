@@ -1,5 +1,5 @@
-//! Writing the digits of a number in any radix, from the tables of digit pairs. In radix 10 and in powers of 2 the digits
-//! are counted first, and otherwise, by division, while they are written.
+//! Writing the digits of a number in any radix, from the tables of digit pairs. In radix 10 and in powers of 2 the
+//! digits are counted first, and otherwise, by division, while they are written.
 
 ghost use Rattle.std.specs.Prelude.{true, ◌≡◌, ◌*◌, ◌<◌, ◌≤◌, ◌++◌, length};
 ghost use Rattle.lexical_num.specs.Format.{IsRadix};

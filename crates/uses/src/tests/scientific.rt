@@ -86,9 +86,9 @@ fn floats(rt: HostRuntime) {
     check(&rt, write_float(1, 5, 0, &mut [7; 34]), "5e0");
 }
 
-// These are sums of the texts that Rust's `{:e}` writes: the test of this name in `rust/repository_tests` makes the same
-// 30,000 numbers, and compares its sums with these. The digits of the floats, of which there are at most 15, are their
-// shortest.
+// These are sums of the texts that Rust's `{:e}` writes: the test of this name in `rust/repository_tests` makes the
+// same 30,000 numbers, and compares its sums with these. The digits of the floats, of which there are at most 15, are
+// their shortest.
 #[test]
 fn numbers_as_rust_writes_them(rt: HostRuntime) {
     let mut numbers = Numbers(1);

@@ -1,5 +1,5 @@
-//! Writing the digits of a number with a table of digit pairs that the caller passes. `Radix` writes them with the table
-//! of this library.
+//! Writing the digits of a number with a table of digit pairs that the caller passes. `Radix` writes them with the
+//! table of this library.
 
 // `crates/tests/src/integers/tables.rt` has examples.
 ghost use Rattle.std.specs.Prelude.{◌≡◌, ◌+◌, ◌≤◌, ◌++◌, IsTrue, length};

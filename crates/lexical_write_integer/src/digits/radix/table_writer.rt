@@ -134,8 +134,8 @@ fn write_up_to_four<const R: u32>(
 }
 
 // Writes a number of three digits or more. First it counts them, and then it writes four per iteration while more than
-// four are left. At last it writes the first one to four digits. In a power of 2 these are found before the loop, so that
-// the number takes no register in it.
+// four are left. At last it writes the first one to four digits. In a power of 2 these are found before the loop, so
+// that the number takes no register in it.
 #[cold] // Otherwise each call would save registers that only this needs.
 pub(super) fn write_after_count<const R: u32>(
     value: u64,

@@ -1,7 +1,7 @@
 // Made by `strip` from crates/lexical_write_integer/src/digits/radix.rt. Edit that file, not this one.
 
-//! Writing the digits of a number in any radix, from the tables of digit pairs. In radix 10 and in powers of 2 the digits
-//! are counted first, and otherwise, by division, while they are written.
+//! Writing the digits of a number in any radix, from the tables of digit pairs. In radix 10 and in powers of 2 the
+//! digits are counted first, and otherwise, by division, while they are written.
 
 pub mod algorithm;
 mod binary_words;

@@ -1,7 +1,7 @@
 // Made by `strip` from crates/lexical_write_integer/src/digits/radix/algorithm.rt. Edit that file, not this one.
 
-//! Writing the digits of a number with a table of digit pairs that the caller passes. `Radix` writes them with the table
-//! of this library.
+//! Writing the digits of a number with a table of digit pairs that the caller passes. `Radix` writes them with the
+//! table of this library.
 
 use super::by_radix::by_radix;
 use super::write_digits;

@@ -98,8 +98,8 @@ fn write_up_to_four<const R: u32>(
 }
 
 // Writes a number of three digits or more. First it counts them, and then it writes four per iteration while more than
-// four are left. At last it writes the first one to four digits. In a power of 2 these are found before the loop, so that
-// the number takes no register in it.
+// four are left. At last it writes the first one to four digits. In a power of 2 these are found before the loop, so
+// that the number takes no register in it.
 #[inline(always)]
 #[track_caller]
 pub(super) fn write_after_count<const R: u32>(
