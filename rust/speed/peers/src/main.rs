@@ -1,12 +1,12 @@
-//! Counts the instructions of a number with valgrind, beside other crates: `cargo run --release`. With `-- --times` it
-//! measures nanoseconds instead. With `-- --by-digits` it counts decimal and radix 36 by the number of digits, as
-//! `docs/figures/draw` takes it. With the feature `format_into` it also has that method of std, which is not stable
-//! yet.
+//! Prints the nanoseconds that a number takes beside other crates, and the instructions, which valgrind counts:
+//! `cargo run --release`. With `-- --times` it prints only nanoseconds, and needs no valgrind. With `-- --by-digits` it
+//! counts instructions by the number of digits, as `docs/figures/draw` takes them. With the feature `format_into` it
+//! also has that method of std, which is not stable yet.
 
 #![cfg_attr(feature = "format_into", feature(int_format_into))]
 
-use cojimuran::{Decimal, Digits, Displayed, Hex, Joined, Lower, Part, Show, Shown};
 use cojimuran::{Append, Buffer, NumberFormat, NumberFormatBuilder, Options, ToLexical, ToLexicalWithOptions};
+use cojimuran::{Decimal, Digits, Displayed, Formatted, Hex, Joined, Lower, Part, Show, Shown};
 use lexical_write_integer as lexical;
 use std::fmt::Write as _;
 use std::hint::black_box;
@@ -20,6 +20,11 @@ mod example;
 
 /// How many numbers are written.
 const COUNT: usize = 10_000;
+
+/// How many passes are timed, of which the best counts.
+const PASSES: usize = 2_000;
+
+const THOUSANDS: NumberFormat = NumberFormatBuilder::new().digit_grouping(3, b',').build_strict();
 
 const RADICES: [NumberFormat; 37] = {
     let mut formats = [NumberFormatBuilder::from_radix(10); 37];
@@ -48,7 +53,7 @@ macro_rules! each {
             }
             total
         }
-        Some(each as Loop)
+        each as Loop
     }};
 }
 
@@ -56,33 +61,6 @@ macro_rules! each {
 macro_rules! taken {
     ($number:ty, |$value:ident| $text:expr) => {
         each!($number, |$value, b| black_box($text).len() + usize::from(b[0]))
-    };
-}
-
-/// Returns a loop of `format_into` of the standard library, if there is such a method.
-#[cfg(feature = "format_into")]
-macro_rules! format_into {
-    ($number:ty) => {
-        taken!($number, |n| n.format_into(&mut core::fmt::NumBuffer::new()))
-    };
-}
-
-#[cfg(not(feature = "format_into"))]
-macro_rules! format_into {
-    ($number:ty) => {
-        None
-    };
-}
-
-/// Returns the loops of numbers that are easy to predict: of one length, or of one sign.
-macro_rules! predictable {
-    ($number:ty, |$value:ident| $made:expr) => {
-        [
-            taken!($number, |$value| Buffer::new().format($made)),
-            None,
-            taken!($number, |$value| itoa::Buffer::new().format($made)),
-            None,
-        ]
     };
 }
 
@@ -114,7 +92,7 @@ macro_rules! append {
             }
             total + $bytes.len()
         }
-        Some(each as Loop)
+        each as Loop
     }};
 }
 
@@ -136,7 +114,7 @@ macro_rules! lines {
             }
             total + $text.len()
         }
-        Some(each as Loop)
+        each as Loop
     }};
 }
 
@@ -179,121 +157,172 @@ fn join_by_std(numbers: &[u64], text: &mut String) {
     }
 }
 
-/// Returns a loop of this package and one of `lexical-write-integer` in a radix.
+/// Returns the loop of this package and the one of `lexical-write-integer` in a radix.
 macro_rules! radix {
     ($radix:literal) => {{
-        const LEXICAL: u128 = lexical::NumberFormatBuilder::from_radix($radix);
+        const FORMAT: u128 = lexical::NumberFormatBuilder::from_radix($radix);
         (
             each!(u64, |n, b| n.to_lexical_with_options(&mut b, const { &RADICES[$radix] }, &Options::new()).len()),
             each!(u64, |n, b| {
                 let options = lexical::Options::new();
-                lexical::ToLexicalWithOptions::to_lexical_with_options::<LEXICAL>(n, &mut b, &options).len()
+                lexical::ToLexicalWithOptions::to_lexical_with_options::<FORMAT>(n, &mut b, &options).len()
             }),
         )
     }};
 }
 
-/// Returns the loops of a type in decimal.
-macro_rules! decimal {
-    ($number:ty) => {
-        [
-            each!($number, |n, b| n.to_lexical(&mut b).len()),
-            each!($number, |n, b| lexical::ToLexical::to_lexical(n, &mut b).len()),
-            taken!($number, |n| itoa::Buffer::new().format(n)),
-            std!($number, |n| "{n}"),
-        ]
+/// Returns the row of numbers of a type in decimal, which are written as a `&str`.
+macro_rules! str {
+    ($name:literal, $number:ty, |$value:ident| $made:expr) => {
+        Row {
+            name: $name,
+            here: taken!($number, |$value| Buffer::new().format($made)),
+            others: vec![(ITOA, taken!($number, |$value| itoa::Buffer::new().format($made)))],
+        }
     };
 }
 
-/// What is written, and the loops of this package, of `lexical-write-integer`, of `itoa` and of the standard library.
-type Row = (&'static str, [Option<Loop>; 4]);
+/// Returns the row of a type in decimal.
+macro_rules! decimal {
+    ($name:literal, $number:ty) => {
+        Row {
+            name: $name,
+            here: each!($number, |n, b| n.to_lexical(&mut b).len()),
+            others: vec![
+                (LEXICAL, each!($number, |n, b| lexical::ToLexical::to_lexical(n, &mut b).len())),
+                (ITOA, taken!($number, |n| itoa::Buffer::new().format(n))),
+                (WRITE, std!($number, |n| "{n}")),
+            ],
+        }
+    };
+}
 
-fn rows() -> Vec<Row> {
-    let (ours_8, lexical_8) = radix!(8);
-    let (ours_16, lexical_16) = radix!(16);
-    let (ours_36, lexical_36) = radix!(36);
-    let str_u64 = taken!(u64, |n| itoa::Buffer::new().format(n));
-    let str_i32 = taken!(i32, |n| itoa::Buffer::new().format(n));
-    let vec_u64 = append!(u64, |n, bytes| bytes.extend_from_slice(itoa::Buffer::new().format(n).as_bytes()));
-    let vec_lexical = append!(u64, |n, bytes| {
-        bytes.extend_from_slice(lexical::ToLexical::to_lexical(n, &mut [0; 20]));
+const ITOA: &str = "`itoa`";
+const LEXICAL: &str = "`lexical-write-integer`";
+const WRITE: &str = "`write!`";
+
+/// What is written, the loop of this package, and the loops of others with their names.
+struct Row {
+    name: &'static str,
+    here: Loop,
+    others: Vec<(&'static str, Loop)>,
+}
+
+fn row(name: &'static str, here: Loop, others: &[(&'static str, Loop)]) -> Row {
+    Row { name, here, others: others.to_vec() }
+}
+
+fn rows_of_numbers() -> Vec<Row> {
+    let (here_8, lexical_8) = radix!(8);
+    let (here_16, lexical_16) = radix!(16);
+    let (here_36, lexical_36) = radix!(36);
+    let to_str_36 = each!(u64, |n, b| Digits(36, n).to_str(&mut b).len());
+    let lower_16 = taken!(u64, |n| Lower(Hex(n)).to_str(&mut [0; 16]));
+    let lower_36 = taken!(u64, |n| Lower(Digits(36, n)).to_str(&mut [0; 13]));
+    let groups = each!(u64, |n, b| Formatted(n, &THOUSANDS).to_str(&mut b).len());
+    let groups_by_num_format = each!(u64, |n, b| {
+        let mut text = num_format::Buffer::new();
+        text.write_formatted(&n, &num_format::Locale::en) + usize::from(black_box(text.as_bytes())[0] & b[0])
     });
-    let lower_hex = taken!(u64, |n| Lower(Hex(n)).to_str(&mut [0; 16]));
-    let lower_digits = taken!(u64, |n| Lower(Digits(36, n)).to_str(&mut [0; 13]));
+    let example = taken!(u64, |n| example::format_u128(with_128_bits(n), &mut [0; 40]));
+    let displayed = taken!(u64, |n| Displayed(&with_128_bits(n)).to_str(&mut [0; 40]));
+    let itoa_128 = taken!(u64, |n| itoa::Buffer::new().format(with_128_bits(n)));
+    let write_128 = std!(u64, |n| "{}", with_128_bits(n));
+    let radix_fmt_36 = std!(u64, |n| "{:#}", radix_fmt::radix_36(n));
+    let rows = [
+        str!("a `u64` as a `&str`", u64, |n| n),
+        str!("a `u64` of 3 digits as a `&str`", u64, |n| 100 + (n & 511)),
+        str!("a `u64` of 20 digits as a `&str`", u64, |n| n | 3 << 62),
+        str!("an `i64` that is not negative, as a `&str`", i64, |n| n & i64::MAX),
+        str!("an `i32` as a `&str`", i32, |n| n),
+        decimal!("a `u64` as bytes", u64),
+        decimal!("a `u32` as bytes", u32),
+        decimal!("a `u8` as bytes", u8),
+        decimal!("an `i64` as bytes", i64),
+        decimal!("an `i32` as bytes", i32),
+        decimal!("an `i8` as bytes", i8),
+        row("a `u64` in groups of three", groups, &[("`num-format`", groups_by_num_format)]),
+        row(
+            "a `u64` in radix 8, by a constant format",
+            here_8,
+            &[(LEXICAL, lexical_8), (WRITE, std!(u64, |n| "{n:o}"))],
+        ),
+        row(
+            "a `u64` in radix 16, by a constant format",
+            here_16,
+            &[(LEXICAL, lexical_16), (WRITE, std!(u64, |n| "{n:X}"))],
+        ),
+        row("the same by `Hex`", each!(u64, |n, b| Hex(n).write_to(&mut b)), &[]),
+        row("the same in lowercase, by `Lower(Hex)`", lower_16, &[(WRITE, std!(u64, |n| "{n:x}"))]),
+        row(
+            "a `u64` in radix 36, by a constant format",
+            here_36,
+            &[(LEXICAL, lexical_36), ("`radix_fmt`", radix_fmt_36)],
+        ),
+        row("the same by `Digits`", to_str_36, &[]),
+        row("the same in lowercase, by `Lower(Digits)`", lower_36, &[]),
+        row("a `u128` of 65 to 128 bits, by functions of your own", example, &[(ITOA, itoa_128), (WRITE, write_128)]),
+        row("the same by `Displayed`", displayed, &[]),
+    ];
+    rows.into_iter().map(with_format_into).collect()
+}
+
+/// Adds the method `format_into` of the standard library, which is not stable yet, to the row of a `&str` of any length.
+#[cfg(feature = "format_into")]
+fn with_format_into(mut row: Row) -> Row {
+    let found = match row.name {
+        "a `u64` as a `&str`" => taken!(u64, |n| n.format_into(&mut core::fmt::NumBuffer::new())),
+        "an `i32` as a `&str`" => taken!(i32, |n| n.format_into(&mut core::fmt::NumBuffer::new())),
+        _ => return row,
+    };
+    row.others.push(("`format_into`", found));
+    row
+}
+
+#[cfg(not(feature = "format_into"))]
+fn with_format_into(row: Row) -> Row {
+    row
+}
+
+fn rows_of_lines() -> Vec<Row> {
     let shown = each!(u64, |n, b| write!(&mut b[..], "{}", Decimal(n)).map_or(0, |()| 1));
     let str_line = each!(u64, |n, b| line(n).to_str(&mut b).len());
+    let write_line = std!(u64, |n| "id={n} flags=0x{:X}", n as u16);
     let shown_line = each!(u64, |n, b| write!(&mut b[..], "{}", Shown(line(n))).map_or(0, |()| 1));
-    let displayed = taken!(u64, |n| Displayed(&with_128_bits(n)).to_str(&mut [0; 40]));
+    let vec = append!(u64, |n, bytes| bytes.extend_from_slice(n.to_lexical(&mut [0; 20])));
+    let vec_by_others = [
+        (LEXICAL, append!(u64, |n, bytes| bytes.extend_from_slice(lexical::ToLexical::to_lexical(n, &mut [0; 20])))),
+        (ITOA, append!(u64, |n, bytes| bytes.extend_from_slice(itoa::Buffer::new().format(n).as_bytes()))),
+        (WRITE, append!(u64, |n, bytes| write!(bytes, "{n}").unwrap())),
+    ];
+    let joined = lines!(8, |numbers, text| text.push_str(Joined(numbers, ",").to_str(&mut [0; 168])));
+    let joined_by_others = [
+        (ITOA, lines!(8, |numbers, text| join_by_itoa(numbers, &mut text))),
+        (WRITE, lines!(8, |numbers, text| join_by_std(numbers, &mut text))),
+    ];
+    let csv_by_others = [
+        (ITOA, lines!(4, |numbers, text| join_by_itoa(numbers, &mut text))),
+        (WRITE, lines!(4, |n, text| writeln!(text, "{},{},{},{}", n[0], n[1], n[2], n[3]).unwrap())),
+    ];
     let str_csv = lines!(4, |numbers, text| text.push_str(csv(numbers).to_str(&mut [0; 84])));
+    let append_csv = lines!(4, |numbers, text| csv(numbers).append_to(&mut text));
+    let pieces_csv = lines!(4, |numbers, text| csv(numbers).write_pieces(&mut text).unwrap());
+    let buffer_csv = lines!(4, |numbers, text| join_by_buffer(numbers, &mut text));
     vec![
-        ("`u64` as a `&str`", [taken!(u64, |n| Buffer::new().format(n)), None, str_u64, format_into!(u64)]),
-        ("`i32` as a `&str`", [taken!(i32, |n| Buffer::new().format(n)), None, str_i32, format_into!(i32)]),
-        ("`u64`", decimal!(u64)),
-        ("`u32`", decimal!(u32)),
-        ("`u8`", decimal!(u8)),
-        ("`i64`", decimal!(i64)),
-        ("`i32`", decimal!(i32)),
-        ("`i8`", decimal!(i8)),
-        (
-            "`u64` to the end of a `Vec`",
-            [
-                append!(u64, |n, bytes| bytes.extend_from_slice(n.to_lexical(&mut [0; 20]))),
-                vec_lexical,
-                vec_u64,
-                append!(u64, |n, bytes| write!(bytes, "{n}").unwrap()),
-            ],
-        ),
-        ("`u64`, radix 8", [ours_8, lexical_8, None, std!(u64, |n| "{n:o}")]),
-        ("`u64`, radix 16", [ours_16, lexical_16, None, std!(u64, |n| "{n:X}")]),
-        ("`u64`, radix 36", [ours_36, lexical_36, None, None]),
-        ("`Hex` of a `u64`", [each!(u64, |n, b| Hex(n).write_to(&mut b)), None, None, std!(u64, |n| "{n:X}")]),
-        ("`Digits` in radix 36 as a `&str`", [each!(u64, |n, b| Digits(36, n).to_str(&mut b).len()), None, None, None]),
-        ("`Lower(Hex)` of a `u64` as a `&str`", [lower_hex, None, None, std!(u64, |n| "{n:x}")]),
-        ("`Lower(Digits)` in radix 36 as a `&str`", [lower_digits, None, None, None]),
-        ("`{}` of a `u64`", [shown, None, None, std!(u64, |n| "{n}")]),
-        ("`id=N flags=0xM` as a `&str`", [str_line, None, None, std!(u64, |n| "id={n} flags=0x{:X}", n as u16)]),
-        ("`{}` of that line, by `Shown`", [shown_line, None, None, None]),
-        (
-            "`u128` as a `&str`, by the example",
-            [
-                taken!(u64, |n| example::format_u128(with_128_bits(n), &mut [0; 40])),
-                None,
-                taken!(u64, |n| itoa::Buffer::new().format(with_128_bits(n))),
-                std!(u64, |n| "{}", with_128_bits(n)),
-            ],
-        ),
-        ("the same by `Displayed`", [displayed, None, None, None]),
-        (
-            "each of 8 `u64` with commas, to a `String`",
-            [
-                lines!(8, |numbers, text| text.push_str(Joined(numbers, ",").to_str(&mut [0; 168]))),
-                None,
-                lines!(8, |numbers, text| join_by_itoa(numbers, &mut text)),
-                lines!(8, |numbers, text| join_by_std(numbers, &mut text)),
-            ],
-        ),
-        (
-            "each of 4 `u64` in a line of CSV, by `to_str` and `push_str`",
-            [
-                str_csv,
-                None,
-                lines!(4, |numbers, text| join_by_itoa(numbers, &mut text)),
-                lines!(4, |n, text| writeln!(text, "{},{},{},{}", n[0], n[1], n[2], n[3]).unwrap()),
-            ],
-        ),
-        ("the same by `append_to`", [lines!(4, |numbers, text| csv(numbers).append_to(&mut text)), None, None, None]),
-        (
-            "the same by `write_pieces`",
-            [lines!(4, |numbers, text| csv(numbers).write_pieces(&mut text).unwrap()), None, None, None],
-        ),
-        (
-            "the same by a loop of `Buffer::format` and `push_str`",
-            [lines!(4, |numbers, text| join_by_buffer(numbers, &mut text)), None, None, None],
-        ),
-        ("`u64` of 3 digits as a `&str`", predictable!(u64, |n| 100 + (n & 511))),
-        ("`u64` of 20 digits as a `&str`", predictable!(u64, |n| n | 3 << 62)),
-        ("`i64` that is not negative, as a `&str`", predictable!(i64, |n| n & i64::MAX)),
+        row("`{}` of a `u64`, by `Decimal`", shown, &[(WRITE, std!(u64, |n| "{n}"))]),
+        row("a line `id=N flags=0xM`, M of 16 bits, by `to_str` of a tuple", str_line, &[(WRITE, write_line)]),
+        row("`{}` of that line, by `Shown`", shown_line, &[]),
+        row("a `u64` to the end of a `Vec`", vec, &vec_by_others),
+        row("each of 8 `u64` with commas, to the end of a `String`", joined, &joined_by_others),
+        row("each of 4 `u64` in a row of CSV, to a `String`, by `to_str` and `push_str`", str_csv, &csv_by_others),
+        row("the same by `append_to`", append_csv, &[]),
+        row("the same by `write_pieces`", pieces_csv, &[]),
+        row("the same by `Buffer::format` and `push_str` in a loop", buffer_csv, &[]),
     ]
+}
+
+fn rows() -> Vec<Row> {
+    rows_of_numbers().into_iter().chain(rows_of_lines()).collect()
 }
 
 fn random(state: &mut u64) -> u64 {
@@ -332,58 +361,60 @@ fn instructions(words: [usize; 4]) -> f64 {
     (run(COUNT) - run(0)) as f64 / COUNT as f64
 }
 
-/// Prints the counts of a row by the number of digits, which the radix bounds.
-fn print_by_digits(row: usize, radix: usize, most: usize) {
+/// Returns the loops of a row: the one of this package, and then those of others.
+fn loops(row: &Row) -> Vec<Loop> {
+    std::iter::once(row.here).chain(row.others.iter().map(|(_, each)| *each)).collect()
+}
+
+/// Prints the counts of the row with a name by the number of digits, which the radix bounds.
+fn print_by_digits(name: &str, radix: usize, most: usize) {
     let rows = rows();
+    let row = rows.iter().position(|row| row.name == name).expect("a row of this name");
     for digits in 1..=most {
-        let cells = rows[row].1.iter().enumerate().map(|(column, each)| match each {
-            Some(_) => format!("{:.0}", instructions([row, column, radix, digits])),
-            None => "-".to_owned(),
-        });
-        println!("{radix} {digits} {}", cells.collect::<Vec<_>>().join(" "));
+        let counts = (0..loops(&rows[row]).len()).map(|column| instructions([row, column, radix, digits]));
+        println!("{radix} {digits} {}", counts.map(|count| format!("{count:.0}")).collect::<Vec<_>>().join(" "));
     }
 }
 
-/// Returns how many nanoseconds a number takes: the best of 200 passes, in which the loops take turns.
-fn times(loops: &[Option<Loop>], numbers: &[u64]) -> Vec<Option<f64>> {
+/// Returns how many nanoseconds a number takes: the best of all passes, in which the loops take turns.
+fn times(loops: &[Loop], numbers: &[u64]) -> Vec<f64> {
     let mut best = vec![f64::MAX; loops.len()];
-    for _ in 0..200 {
+    for _ in 0..PASSES {
         for (each, best) in loops.iter().zip(&mut best) {
-            if let Some(each) = each {
-                let start = Instant::now();
-                black_box(each(numbers));
-                *best = best.min(start.elapsed().as_secs_f64() * 1e9 / COUNT as f64);
-            }
+            let start = Instant::now();
+            black_box(each(numbers));
+            *best = best.min(start.elapsed().as_secs_f64() * 1e9 / COUNT as f64);
         }
     }
-    loops.iter().zip(best).map(|(each, best)| each.map(|_| best)).collect()
+    best
 }
 
-/// Prints a table with a row for each of `rows`, and the cells that a function returns for it.
-fn print_table(cells: impl Fn(usize, &[Option<Loop>; 4]) -> Vec<String>) {
-    println!("| | here | `lexical-write-integer` | `itoa` | std |\n|---|---|---|---|---|");
-    for (row, (name, loops)) in rows().iter().enumerate() {
-        println!("| {name} | {} |", cells(row, loops).join(" | "));
+/// Prints the nanoseconds of each row, and the instructions in parentheses if they are wanted.
+fn print_table(with_instructions: bool) {
+    let numbers = numbers(None);
+    println!("| what is written | cojimuran | others |\n|---|---|---|");
+    for (index, row) in rows().iter().enumerate() {
+        let times = times(&loops(row), &numbers).into_iter().enumerate();
+        let mut cells = times.map(|(column, time)| match with_instructions {
+            true => format!("{time:.1} ({:.0})", instructions([index, column, 0, 0])),
+            false => format!("{time:.1}"),
+        });
+        let here = cells.next().expect("a loop of this package");
+        let others: Vec<String> =
+            row.others.iter().zip(cells).map(|((name, _), cell)| format!("{cell} with {name}")).collect();
+        println!("| {} | {here} | {} |", row.name, if others.is_empty() { "-".to_owned() } else { others.join(", ") });
     }
 }
 
 fn main() {
     let words: Vec<usize> = std::env::args().filter_map(|word| word.parse().ok()).collect();
     if let [row, column, radix, digits, count] = words[..] {
-        let each = rows()[row].1[column].expect("a loop");
         let digits = (radix > 0).then_some((radix as u64, digits as u32));
-        println!("{}", each(&numbers(digits)[..count]));
+        println!("{}", loops(&rows()[row])[column](&numbers(digits)[..count]));
     } else if std::env::args().any(|word| word == "--by-digits") {
-        print_by_digits(2, 10, 20);
-        print_by_digits(11, 36, 13);
-    } else if std::env::args().any(|word| word == "--times") {
-        let (numbers, none) = (numbers(None), "-".to_owned());
-        let text = |time: Option<f64>| time.map_or(none.clone(), |time| format!("{time:.1}"));
-        print_table(|_, loops| times(loops, &numbers).into_iter().map(text).collect());
+        print_by_digits("a `u64` as bytes", 10, 20);
+        print_by_digits("a `u64` in radix 36, by a constant format", 36, 13);
     } else {
-        let cell = |row, column: usize| format!("{:.0}", instructions([row, column, 0, 0]));
-        print_table(|row, loops| {
-            (0..4).map(|column| loops[column].map_or("-".to_owned(), |_| cell(row, column))).collect()
-        });
+        print_table(std::env::args().all(|word| word != "--times"));
     }
 }
