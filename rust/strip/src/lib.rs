@@ -31,26 +31,35 @@ mod tables;
 mod tokens;
 
 use additions::Additions;
-use files::{laid_out, read, without_layout, write};
+use files::{files_of, laid_out, read, remove, without_layout, write};
 use packages::{SOURCES, Source};
 use repository::Repository;
-use std::collections::BTreeMap;
+use std::collections::{BTreeMap, BTreeSet};
 use std::path::{Path, PathBuf};
 use tokens::Token;
 
 /// The path and the text of files.
 type Files = BTreeMap<PathBuf, String>;
 
-/// Writes all made files of the repository in a folder.
+/// How the first line of a made file begins.
+const MADE: &str = "// Made by `strip` from ";
+
+/// Writes all made files of the repository in a folder, and removes those of sources that are gone.
 pub fn make(top: &Path) -> Result<(), String> {
-    made(top)?.into_iter().try_for_each(|(path, text)| write(&top.join(path), &text))
+    let made = made(top)?;
+    stale(top, &made)?.iter().try_for_each(|path| remove(&top.join(path)))?;
+    made.into_iter().try_for_each(|(path, text)| write(&top.join(path), &text))
 }
 
 /// Returns an error that names each made file that is not what would be made now, and its first line that differs. What
 /// only another version of rustfmt would lay out otherwise is no difference.
 pub fn check(top: &Path) -> Result<(), String> {
     let mut wrong = Vec::new();
-    for (path, text) in made(top)? {
+    let made = made(top)?;
+    for path in stale(top, &made)? {
+        wrong.push(format!("{}: its source is gone", path.display()));
+    }
+    for (path, text) in made {
         let there = read(&top.join(&path)).unwrap_or_default();
         if without_layout(&there) != without_layout(&text) {
             let same = there.lines().zip(text.lines()).take_while(|(a, b)| a == b).count();
@@ -79,6 +88,21 @@ pub fn make_built(top: &Path, package: &str, folder: &Path) -> Result<(), String
     Ok(())
 }
 
+/// Returns the made files that are there, although their sources are gone.
+fn stale(top: &Path, made: &Files) -> Result<Vec<PathBuf>, String> {
+    let packages: BTreeSet<&str> =
+        SOURCES.iter().filter(|source| source.is_committed()).map(|source| source.package).collect();
+    let mut stale = Vec::new();
+    for package in packages {
+        for path in files_of(top, &Path::new("rust").join(package).join("src"), "rs")? {
+            if !made.contains_key(&path) && read(&top.join(&path))?.starts_with(MADE) {
+                stale.push(path);
+            }
+        }
+    }
+    Ok(stale)
+}
+
 /// Returns each file that is made of the repository in this folder.
 fn made(top: &Path) -> Result<Files, String> {
     let repository = Repository::read(top, SOURCES, tables::rules())?;
@@ -99,7 +123,7 @@ fn made_of(source: &Source, repository: &Repository) -> Result<Files, String> {
             let from = file.path.display();
             let code = translated(&file.tokens, &file.name, source, repository);
             let code = code.map_err(|what| format!("{from}:{what}"))?;
-            made.insert(path, format!("// Made by `strip` from {from}. Edit that file, not this one.\n\n{code}"));
+            made.insert(path, format!("{MADE}{from}. Edit that file, not this one.\n\n{code}"));
         }
     }
     Ok(made)

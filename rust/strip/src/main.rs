@@ -1,5 +1,5 @@
 //! Makes the sources of the Rust packages: `cargo run -p strip`. With `-- --check` it changes nothing, and fails with
-//! the file and the line of each one that would be made otherwise. With `-- --built PACKAGE FOLDER` it makes there what
+//! the file and the line of each one that would be made otherwise, and with each whose source is gone. With `-- --built PACKAGE FOLDER` it makes there what
 //! is made when cargo builds that package.
 
 use std::path::Path;
