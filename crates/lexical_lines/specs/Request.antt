@@ -4,7 +4,7 @@ use Rattle.lexical_num.specs.Format.{Format, IsRadix, standard}
 use Rattle.lexical_write_integer.specs.Text.{IsDigits}
 use Rattle.lexical_lines.specs.declared.request.integer_type.IntegerType.{IntegerType}
 use Rattle.lexical_lines.specs.declared.request.Number.{Number}
-use Rattle.lexical_lines.specs.declared.request.Number.TheVariants.{Unsigned, Signed}
+use Rattle.lexical_lines.specs.declared.request.Number.TheVariants.{WithoutMinus, WithMinus}
 use Rattle.lexical_lines.specs.Decimal.{IsDecimalNumeral}
 use Rattle.lexical_lines.specs.IntegerType.{name_of, with_sign, Holds}
 use Rattle.lexical_lines.specs.Split.{optional_sign}
@@ -40,8 +40,8 @@ IsRequestFor radix number line = (kind : IntegerType) × (plus : Bool) × IsRequ
 
 -- the number that a request stores
 abbrev pub number_of : Number → ℤ
-number_of (Unsigned magnitude) = pos magnitude
-number_of (Signed number) = number
+number_of (WithoutMinus magnitude) = pos magnitude
+number_of (WithMinus number) = number
 
 -- the standard format with this mantissa and exponent radix, and with the sign `+` required or not
 abbrev pub requested_format : ℕ → Bool → Format

@@ -44,8 +44,8 @@ pub fn write_answer(line: Option<&[u8]>, line_number: u64, buffer: &mut [u8]) ->
 {
     match parse(line) {
         // The text does not depend on the type, so the two widest types are enough.
-        Some((Number::Unsigned(number), format)) => (write_line(number, buffer, &format), true),
-        Some((Number::Signed(number), format)) => (write_line(number, buffer, &format), true),
+        Some((Number::WithoutMinus(number), format)) => (write_line(number, buffer, &format), true),
+        Some((Number::WithMinus(number), format)) => (write_line(number, buffer, &format), true),
         None => (write_bad_line(line_number, buffer), false),
     }
 }

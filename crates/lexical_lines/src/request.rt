@@ -22,9 +22,9 @@ use lexical_num::{NumberFormat, NumberFormatBuilder};
 #[derive(Clone, Copy)]
 pub enum Number {
     /// A number that has no `-` in the line.
-    Unsigned(u64),
+    WithoutMinus(u64),
     /// A number that has a `-` in the line: 0 or a negative number.
-    Signed(i64),
+    WithMinus(i64),
 }
 
 /// Parses a line, which is `None` if it is longer than 64 bytes. Returns the number to write and the
@@ -64,9 +64,9 @@ fn parse_value(kind: IntegerType, text: &[u8]) -> Option<Number>
     let (minus, digits) = strip_sign(b'-', text);
     let magnitude = parse_decimal(digits)?;
     if minus && kind.holds(true, magnitude) {
-        Some(Number::Signed(negated(magnitude)))
+        Some(Number::WithMinus(negated(magnitude)))
     } else if !minus && kind.holds(false, magnitude) {
-        Some(Number::Unsigned(magnitude))
+        Some(Number::WithoutMinus(magnitude))
     } else {
         None
     }

@@ -4,7 +4,7 @@ mod std_devices;
 ghost use Rattle.std.specs.Prelude.{◌≤◌, length, IfOk};
 
 use crate::lines::checks::{check_equal, kind_of};
-use crate::lines::devices::Taker;
+use crate::lines::devices::TestWriter;
 use lexical_lines::{BlockWriter, ByteSink, Writing};
 use std::cell::Cell;
 use std::io::ErrorKind;
@@ -14,7 +14,7 @@ const TEXT: &[u8] = b"0123456789abcdef";
 
 // Puts the bytes, and returns how many were taken. If there are none, flushes and returns 0.
 fn put_or_flush(
-    writer: &mut BlockWriter<Writing<Taker<'_>>, 7>,
+    writer: &mut BlockWriter<Writing<TestWriter<'_>>, 7>,
     bytes: &[u8],
 ) -> Result<usize, ErrorKind>
     ensures { IfOk result (λ count. count ≤ length bytes.now) }
@@ -30,7 +30,7 @@ fn put_or_flush(
 
 // Writes the text, at most `size` bytes at a time, and flushes. Repeats a step that fails, up to 40 steps,
 // and returns the number of failures, each of which must be of the kind of the writer, and the writer.
-fn write_through<'a>(rt: &impl Abort, taker: Taker<'a>, size: usize) -> (u32, Taker<'a>) {
+fn write_through<'a>(rt: &impl Abort, taker: TestWriter<'a>, size: usize) -> (u32, TestWriter<'a>) {
     let kind = taker.kind;
     let mut writer = BlockWriter::<_, 7>::new(Writing::new(taker));
     let mut errors = 0u32;
@@ -51,7 +51,7 @@ fn write_through<'a>(rt: &impl Abort, taker: Taker<'a>, size: usize) -> (u32, Ta
 // Puts one byte at a time, and checks how often the writer is called.
 fn check_calls(rt: &impl Abort, piece: usize, writes: usize) {
     let flushed = Cell::new(0);
-    let mut taker = Taker::new(&flushed);
+    let mut taker = TestWriter::new(&flushed);
     taker.piece = piece;
     let (errors, taker) = write_through(rt, taker, 1);
     check_equal(rt, piece, (errors, taker.writes), (0, writes));
@@ -68,7 +68,7 @@ fn writes_once_for_a_block(rt: HostRuntime) {
 // The writer fails after `bad_byte` bytes, once or for good, and takes the text.
 fn check_fault(rt: &impl Abort, kind: ErrorKind, is_for_good: bool, bad_byte: usize, text: &[u8]) {
     let flushed = Cell::new(0);
-    let mut taker = Taker::new(&flushed);
+    let mut taker = TestWriter::new(&flushed);
     taker.piece = 1;
     taker.bad_byte = bad_byte;
     taker.is_for_good = is_for_good;

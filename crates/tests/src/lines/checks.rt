@@ -2,7 +2,7 @@
 
 ghost use Rattle.std.specs.Prelude.{◌≡◌, ◌≤◌, IfOk, Ok};
 
-use crate::lines::devices::Taker;
+use crate::lines::devices::TestWriter;
 use lexical_lines::{
     ByteSink, ByteSource, SliceSink, SliceSource, Writing, answer_slice, run, status,
 };
@@ -131,7 +131,7 @@ pub fn check_slice<R: Copy + Debug + Drop>(
 /// Checks what a call of the sink returns.
 pub fn check_put(
     rt: &impl Abort,
-    sink: &mut Writing<Taker<'_>>,
+    sink: &mut Writing<TestWriter<'_>>,
     bytes: &[u8],
     expected: Result<usize, ErrorKind>,
 ) {
@@ -139,7 +139,13 @@ pub fn check_put(
 }
 
 /// Checks how often a writer was called, and what it has taken.
-pub fn check_taker(rt: &impl Abort, taker: &Taker<'_>, writes: usize, flushes: usize, text: &[u8]) {
+pub fn check_taker(
+    rt: &impl Abort,
+    taker: &TestWriter<'_>,
+    writes: usize,
+    flushes: usize,
+    text: &[u8],
+) {
     check_equal(rt, "writes", taker.writes, writes);
     check_equal(rt, "flushes", taker.flushes, flushes);
     check_equal(rt, "the text", taker.taken(), Some(text));

@@ -9,7 +9,7 @@ pub const NEVER: usize = usize::MAX;
 
 /// A reader that yields the bytes of a slice. One of its calls may fail, and the next one continues.
 #[derive(Drop)]
-pub struct Giver<'a> {
+pub struct TestReader<'a> {
     bytes: &'a [u8],
     // The largest number of bytes that a call yields.
     pub piece: usize,
@@ -22,9 +22,9 @@ pub struct Giver<'a> {
     pub seen: [usize; 4],
 }
 
-impl<'a> Giver<'a> {
-    pub fn new(bytes: &'a [u8], flushed: &'a Cell<usize>) -> Giver<'a> {
-        Giver {
+impl<'a> TestReader<'a> {
+    pub fn new(bytes: &'a [u8], flushed: &'a Cell<usize>) -> TestReader<'a> {
+        TestReader {
             bytes,
             piece: NEVER,
             bad_read: NEVER,
@@ -36,7 +36,7 @@ impl<'a> Giver<'a> {
     }
 }
 
-impl Read for Giver<'_> {
+impl Read for TestReader<'_> {
     fn read(&mut self, buffer: &mut [u8]) -> io::Result<usize> {
         let read = self.reads;
         self.reads = read.saturating_add(1);
@@ -53,7 +53,7 @@ impl Read for Giver<'_> {
 
 /// A writer that keeps the first 64 bytes that it takes, and counts all of them.
 #[derive(Drop)]
-pub struct Taker<'a> {
+pub struct TestWriter<'a> {
     kept: [u8; 64],
     pub count: usize,
     // The largest number of bytes that a call takes.
@@ -71,9 +71,9 @@ pub struct Taker<'a> {
     flushed: &'a Cell<usize>,
 }
 
-impl<'a> Taker<'a> {
-    pub fn new(flushed: &'a Cell<usize>) -> Taker<'a> {
-        Taker {
+impl<'a> TestWriter<'a> {
+    pub fn new(flushed: &'a Cell<usize>) -> TestWriter<'a> {
+        TestWriter {
             kept: [0; 64],
             count: 0,
             piece: NEVER,
@@ -93,7 +93,7 @@ impl<'a> Taker<'a> {
     }
 }
 
-impl Write for Taker<'_> {
+impl Write for TestWriter<'_> {
     fn write(&mut self, bytes: &[u8]) -> io::Result<usize> {
         self.writes = self.writes.saturating_add(1);
         let left = self.bad_byte.saturating_sub(self.count);

@@ -4,7 +4,7 @@
 use crate::lines::checks::{
     Outcome, UNCHANGED, check_buffer, check_equal, check_outcome, check_run,
 };
-use crate::lines::devices::{Giver, NEVER, Taker};
+use crate::lines::devices::{NEVER, TestReader, TestWriter};
 use crate::lines::failing::{FailingSink, FailingSource};
 use lexical_lines::{Reading, SliceSource, Writing, run};
 use std::cell::Cell;
@@ -71,7 +71,7 @@ fn check_source(
     expected: Outcome,
 ) {
     let flushed = Cell::new(0);
-    let mut reader = Giver::new(input.as_bytes(), &flushed);
+    let mut reader = TestReader::new(input.as_bytes(), &flushed);
     reader.bad_read = bad_read;
     reader.kind = kind_in(expected);
     let mut source = Reading::new(reader, limit);
@@ -121,7 +121,7 @@ fn sources_that_fail(rt: HostRuntime) {
 // as the output has.
 fn check_sink(rt: &impl Abort, input: &str, piece: usize, output: &[u8], expected: Outcome) {
     let flushed = Cell::new(0);
-    let mut writer = Taker::new(&flushed);
+    let mut writer = TestWriter::new(&flushed);
     writer.piece = piece;
     writer.bad_byte = output.len();
     writer.kind = kind_in(expected);

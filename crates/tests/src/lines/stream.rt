@@ -1,7 +1,7 @@
 // A `Reading` and a `Writing` call their reader and their writer once for each call, also after an error.
 
 use crate::lines::checks::{check_equal, check_put, check_taker};
-use crate::lines::devices::{Giver, Taker};
+use crate::lines::devices::{TestReader, TestWriter};
 use lexical_lines::{ByteSource, Reading, Writing};
 use std::cell::Cell;
 use std::io::ErrorKind;
@@ -10,7 +10,7 @@ use std::process::Abort;
 // Checks the next byte of the source, or the kind of its error.
 fn check_next(
     rt: &impl Abort,
-    source: &mut Reading<&mut Giver<'_>>,
+    source: &mut Reading<&mut TestReader<'_>>,
     expected: Result<Option<u8>, ErrorKind>,
 ) {
     let outcome = match source.next() {
@@ -24,7 +24,7 @@ fn check_next(
 #[test]
 fn a_source_reads_once_for_each_byte(rt: HostRuntime) {
     let flushed = Cell::new(0);
-    let mut reader = Giver::new(b"ab", &flushed);
+    let mut reader = TestReader::new(b"ab", &flushed);
     reader.bad_read = 1;
     let mut source = Reading::new(&mut reader, 3);
     check_next(&rt, &mut source, Ok(Some(b'a')));
@@ -38,7 +38,7 @@ fn a_source_reads_once_for_each_byte(rt: HostRuntime) {
 #[test]
 fn a_source_does_not_read_at_its_limit(rt: HostRuntime) {
     let flushed = Cell::new(0);
-    let mut reader = Giver::new(b"ab", &flushed);
+    let mut reader = TestReader::new(b"ab", &flushed);
     let mut source = Reading::new(&mut reader, 1);
     check_next(&rt, &mut source, Ok(Some(b'a')));
     check_next(&rt, &mut source, Ok(None));
@@ -49,7 +49,7 @@ fn a_source_does_not_read_at_its_limit(rt: HostRuntime) {
 #[test]
 fn a_sink_writes_once_for_each_put(rt: HostRuntime) {
     let flushed = Cell::new(0);
-    let mut writer = Taker::new(&flushed);
+    let mut writer = TestWriter::new(&flushed);
     writer.piece = 3;
     writer.bad_byte = 3;
     let mut sink = Writing::new(writer);

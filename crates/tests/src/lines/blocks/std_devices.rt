@@ -1,7 +1,7 @@
 // A `Reading` and a `Writing` call their reader and their writer once for each call, also after an error.
 
 use crate::lines::checks::{check_equal, check_put, check_taker, kind_of};
-use crate::lines::devices::{Giver, Taker};
+use crate::lines::devices::{TestReader, TestWriter};
 use lexical_lines::{BlockSink, BlockSource, Reading, Writing};
 use std::cell::Cell;
 use std::io::ErrorKind;
@@ -14,7 +14,7 @@ const FAILED: Result<usize, ErrorKind> = Err(ErrorKind::BrokenPipe);
 // Checks what a read of a block returns.
 fn check_read(
     rt: &impl Abort,
-    source: &mut Reading<&mut Giver<'_>>,
+    source: &mut Reading<&mut TestReader<'_>>,
     block: &mut [u8; 12],
     expected: Result<usize, ErrorKind>,
 ) {
@@ -24,7 +24,7 @@ fn check_read(
 #[test]
 fn a_source_reads_once_for_each_block(rt: HostRuntime) {
     let flushed = Cell::new(0);
-    let mut reader = Giver::new(TEXT, &flushed);
+    let mut reader = TestReader::new(TEXT, &flushed);
     reader.bad_read = 1;
     let mut source = Reading::whole(&mut reader);
     let mut block = [0; 12];
@@ -39,7 +39,7 @@ fn a_source_reads_once_for_each_block(rt: HostRuntime) {
 #[test]
 fn a_sink_writes_once_for_each_block(rt: HostRuntime) {
     let flushed = Cell::new(0);
-    let mut writer = Taker::new(&flushed);
+    let mut writer = TestWriter::new(&flushed);
     writer.piece = 7;
     writer.bad_byte = 7;
     let mut sink = Writing::new(writer);
@@ -51,7 +51,11 @@ fn a_sink_writes_once_for_each_block(rt: HostRuntime) {
 }
 
 // Checks what a flush returns.
-fn check_flush(rt: &impl Abort, sink: &mut Writing<Taker<'_>>, expected: Result<usize, ErrorKind>) {
+fn check_flush(
+    rt: &impl Abort,
+    sink: &mut Writing<TestWriter<'_>>,
+    expected: Result<usize, ErrorKind>,
+) {
     let outcome = match sink.flush() {
         Ok(()) => Ok(0),
         Err(error) => Err(error.kind()),
@@ -62,7 +66,7 @@ fn check_flush(rt: &impl Abort, sink: &mut Writing<Taker<'_>>, expected: Result<
 #[test]
 fn a_sink_flushes_once_for_each_flush(rt: HostRuntime) {
     let flushed = Cell::new(0);
-    let mut writer = Taker::new(&flushed);
+    let mut writer = TestWriter::new(&flushed);
     writer.bad_flush = 1;
     let mut sink = Writing::new(writer);
     check_flush(&rt, &mut sink, Ok(0));
