@@ -47,8 +47,8 @@ mod laws;
 pub use formatting::show::Show;
 pub use formatting::shown::Shown;
 pub use laws::equal::{
-    common_bytes, common_fixed, common_scientific, common_zero_padded, equal_padded_pairs,
-    equal_pairs, padded_decides, same_parts, same_split,
+    equal_fixed, equal_hex_bytes, equal_padded_pairs, equal_pairs, equal_scientific,
+    equal_zero_padded, padded_decides, same_parts, same_split,
 };
 pub use laws::positions::{byte_starts_at, part_starts_at};
 pub use laws::read_back::{fixed_read_back, zero_padded_read_back};

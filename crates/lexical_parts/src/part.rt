@@ -75,7 +75,7 @@ pub trait Part: Copy {
     // Whether the values of the part show that it is valid and that its text is UTF-8. A part of another crate cannot
     // define this method, since it cannot name `Sealed`.
     #[doc(hidden)]
-    fn is_known_valid_utf8(self, _sealed: Sealed) -> bool
+    fn is_known_valid_and_utf8(self, _sealed: Sealed) -> bool
         ensures valid { IsTrue result → is_valid self }
         ensures utf8 { IsTrue result → is_utf8 self }
     {
@@ -85,7 +85,7 @@ pub trait Part: Copy {
     // Returns a number of bytes that is enough for the text, as `room` does. It may be larger, and then takes fewer
     // instructions.
     #[doc(hidden)]
-    fn most_room(self, _sealed: Sealed) -> usize
+    fn room_bound(self, _sealed: Sealed) -> usize
         requires { is_valid self }
         ensures { min (room self) usize.MAX ≤ result }
     {
@@ -262,7 +262,7 @@ fn needs_no_check<P: Part>(part: P, buffer: &[u8]) -> bool
     ensures utf8 { IsTrue result → P.is_utf8 part }
     ensures room { IsTrue result → P.room part ≤ length buffer.now }
 {
-    part.is_known_valid_utf8(Sealed) && has_room(part, buffer)
+    part.is_known_valid_and_utf8(Sealed) && has_room(part, buffer)
 }
 
 // Returns whether the buffer has the room of a part.
@@ -270,5 +270,5 @@ fn has_room<P: Part>(part: P, buffer: &[u8]) -> bool
     requires { P.is_valid part }
     ensures { IsTrue result → P.room part ≤ length buffer.now }
 {
-    part.most_room(Sealed) <= buffer.len() || part.room() <= buffer.len()
+    part.room_bound(Sealed) <= buffer.len() || part.room() <= buffer.len()
 }

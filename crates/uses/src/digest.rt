@@ -6,7 +6,7 @@ ghost use Rattle.lexical_write_integer.specs.Padded.{IsPadded};
 ghost use Rattle.lexical_write_integer.specs.Sequence.{AreJoined};
 ghost use Rattle.lexical_write_integer.specs.Lowercase.{IsLowercase};
 
-use lexical_parts::{HexBytes, Lower, Part, common_bytes};
+use lexical_parts::{HexBytes, Lower, Part, equal_hex_bytes};
 
 /// Writes the 32 bytes as 64 hexadecimal digits in lowercase to the array, and returns 64.
 pub fn write_digest(bytes: &[u8; 32], buffer: &mut [u8; 64]) -> usize
@@ -20,5 +20,5 @@ pub fn same_digest(a: &[u8; 32], b: &[u8; 32])
     ensures { (text : List ℕ) → IsLowercase (AreJoined (IsPadded 16 2) [] a.now) text
         → IsLowercase (AreJoined (IsPadded 16 2) [] b.now) text → a.now ≡ b.now }
 {
-    common_bytes(a, b, "");
+    equal_hex_bytes(a, b, "");
 }

@@ -11,7 +11,7 @@ ghost use Rattle.lexical_parts.specs.Scientific.{IsScientific};
 ghost use Rattle.lexical_parts.specs.Sequence.{◌then◌};
 
 use lexical_num::{NumberFormat, NumberFormatBuilder, Result};
-use lexical_parts::{Part, Scientific, Sign, common_scientific};
+use lexical_parts::{Part, Scientific, Sign, equal_scientific};
 use lexical_write_integer::buffer::copy_to_front;
 use lexical_write_integer::laws::digit_count_within_bits;
 use lexical_write_integer::write::WriteInteger;
@@ -70,5 +70,5 @@ pub fn same_float(digits: u64, exponent: i32, other_digits: u64, other_exponent:
         → IsScientific (pos other_digits) other_exponent text
         → AreEqualScaled (pos digits) exponent (pos other_digits) other_exponent }
 {
-    common_scientific(digits, other_digits, exponent, other_exponent);
+    equal_scientific(digits, other_digits, exponent, other_exponent);
 }

@@ -15,7 +15,7 @@ ghost use Rattle.lexical_lines.specs.Request.{IsRequestFor};
 
 use lexical_lines::laws::answer_read_back;
 use lexical_parts::{
-    Digits, Formatted, Lower, Padded, Part, ZeroPadded, common_fixed, common_zero_padded,
+    Digits, Formatted, Lower, Padded, Part, ZeroPadded, equal_fixed, equal_zero_padded,
     fixed_read_back, zero_padded_read_back,
 };
 use lexical_write_integer::format::STANDARD;
@@ -114,7 +114,7 @@ pub fn same_in_five_characters(a: i16, b: i16) -> bool
     ensures text { (text : List ℕ) → IsZeroPadded 5 (IsDecimal a) text → IsZeroPadded 5 (IsDecimal b) text → a ≡ b }
     ensures result { IsTrue result ↔ (a ≡ b) }
 {
-    common_zero_padded(a, b, &STANDARD, 5);
+    equal_zero_padded(a, b, &STANDARD, 5);
     a == b
 }
 
@@ -122,7 +122,7 @@ pub fn same_in_five_characters(a: i16, b: i16) -> bool
 pub fn same_amount(a: i64, b: i64)
     ensures { (text : List ℕ) → IsFixed 2 a text → IsFixed 2 b text → a ≡ b }
 {
-    common_fixed(a, b, 2);
+    equal_fixed(a, b, 2);
 }
 
 /// Reads back the text of a number of any type in decimal, if `parse` of the type returns the number for each text that

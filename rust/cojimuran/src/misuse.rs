@@ -12,7 +12,7 @@
 //! impl Part for Liar {
 //!     fn room(self) -> usize { 1 }
 //!     fn write_to(self, buffer: &mut [u8]) -> usize { buffer[0] = 200; 1 }
-//!     fn is_known_valid_utf8(self, _: cojimuran::parts::Sealed) -> bool { true }
+//!     fn is_known_valid_and_utf8(self, _: cojimuran::parts::Sealed) -> bool { true }
 //! }
 //! ```
 //!
@@ -31,7 +31,7 @@
 //! impl Part for Liar {
 //!     fn room(self) -> usize { 1 }
 //!     fn write_to(self, buffer: &mut [u8]) -> usize { buffer[0] = 200; 1 }
-//!     fn is_known_valid_utf8<T>(self, _: T) -> bool { true }
+//!     fn is_known_valid_and_utf8<T>(self, _: T) -> bool { true }
 //! }
 //! ```
 //!
@@ -44,7 +44,7 @@
 //! impl<T: Copy> Part for Liar<T> {
 //!     fn room(self) -> usize { 1 }
 //!     fn write_to(self, buffer: &mut [u8]) -> usize { buffer[0] = 200; 1 }
-//!     fn is_known_valid_utf8(self, _: T) -> bool { true }
+//!     fn is_known_valid_and_utf8(self, _: T) -> bool { true }
 //! }
 //! ```
 //!
@@ -59,7 +59,7 @@
 //! impl Part for Liar {
 //!     fn room(self) -> usize { 1 }
 //!     fn write_to(self, buffer: &mut [u8]) -> usize { buffer[0] = 200; 1 }
-//!     fn is_known_valid_utf8(self, _: _) -> bool { true }
+//!     fn is_known_valid_and_utf8(self, _: _) -> bool { true }
 //! }
 //! ```
 //!
@@ -77,7 +77,7 @@
 //! use cojimuran::Part;
 //!
 //! macro_rules! like {
-//!     ($other:ty) => { use <$other as Part>::is_known_valid_utf8; };
+//!     ($other:ty) => { use <$other as Part>::is_known_valid_and_utf8; };
 //! }
 //!
 //! like!(u8);
@@ -88,7 +88,7 @@
 //! ```compile_fail,E0061
 //! use cojimuran::Part;
 //!
-//! 5u8.is_known_valid_utf8();
+//! 5u8.is_known_valid_and_utf8();
 //! ```
 //!
 //! A part of the package cannot get other methods:

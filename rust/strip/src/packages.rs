@@ -158,7 +158,7 @@ pub(crate) const SOURCES: &[Source] = &[
                 "#[inline(always)]\n#[track_caller]",
                 "buffer.rt texts/to_lexical.rt texts/integers.rt digits/write.rt digits/decimal.rt
                 digits/decimal/jeaiii.rt digits/pairs.rt digits/decimal/kernels.rt digits/decimal/decimal_pairs.rt
-                digits/radix/counting_writer.rt digits/radix/steps.rt digits/radix/table_writer.rt write_digits
+                digits/radix/counting_writer.rt digits/radix/steps.rt digits/radix/count_first_writer.rt write_digits
                 write_by_fast_count write_by_table radix_inlined constant_radix digit_count most_digits fast_log2",
             ),
         ],
@@ -178,7 +178,7 @@ pub(crate) const SOURCES: &[Source] = &[
         attributes: &[
             // The only function of the package that is not safe code.
             ("#[inline(always)]\n#[track_caller]\n#[allow(unsafe_code)]", "to_str"),
-            ("#[inline(always)]", "numbers/padded.rt is_known_valid_utf8 most_room has_room needs_no_check"),
+            ("#[inline(always)]", "numbers/padded.rt is_known_valid_and_utf8 room_bound has_room needs_no_check"),
             // Some parts are formatted as others in a constant radix. If that radix were not known there, `{}` of a
             // `Decimal` would have the code of all radices in small programs.
             ("#[inline(always)]", "fmt text_or_error"),

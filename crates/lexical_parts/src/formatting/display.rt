@@ -272,7 +272,7 @@ impl<T: DigitCount + Radix> PaddedDigits<T> {
         ensures text { IfOk result (λ text.
             replicate (self.2 - 64) 48 ++ text.now ≡ padded_text self.0 self.2 (T.magnitude self.1)) }
     {
-        if !self.is_known_valid_utf8(Sealed) {
+        if !self.is_known_valid_and_utf8(Sealed) {
             return Err(fmt::Error);
         }
         self.1.fits_bits();

@@ -104,7 +104,7 @@ pub fn equal_pairs<T: LexicalInteger, U: LexicalInteger>(
 }
 
 /// A law: if two `Fixed` with the same number of decimals have a text in common, their amounts are equal.
-pub fn common_fixed<T: LexicalInteger>(a: T, b: T, decimals: usize)
+pub fn equal_fixed<T: LexicalInteger>(a: T, b: T, decimals: usize)
     ensures { HaveInCommon (IsFixed decimals (T.number a)) (IsFixed decimals (T.number b)) → a ≡ b }
 {
     fixed_read_back(a, decimals);
@@ -113,7 +113,7 @@ pub fn common_fixed<T: LexicalInteger>(a: T, b: T, decimals: usize)
 
 /// A law: if two numbers have a text of a `ZeroPadded` of one width in common, the numbers are equal. The format has
 /// no groups.
-pub fn common_zero_padded<T: LexicalInteger>(a: T, b: T, format: &NumberFormat, width: usize)
+pub fn equal_zero_padded<T: LexicalInteger>(a: T, b: T, format: &NumberFormat, width: usize)
     requires { format.now.digit_grouping ≡ None }
     ensures { HaveInCommon (IsZeroPadded width (IsText (T.number a) format.now))
         (IsZeroPadded width (IsText (T.number b) format.now)) → a ≡ b }
@@ -125,7 +125,7 @@ pub fn common_zero_padded<T: LexicalInteger>(a: T, b: T, format: &NumberFormat, 
 /// A law: if two `HexBytes` with the same separator have a text in common, or a text in lowercase, their bytes are
 /// equal. With two separators that is not so: `HexBytes(&[1, 2], "AA")` and `HexBytes(&[1, 0xAA, 2], "")` both write
 /// `01AA02`.
-pub fn common_bytes(a: &[u8], b: &[u8], separator: &str)
+pub fn equal_hex_bytes(a: &[u8], b: &[u8], separator: &str)
     ensures text { HaveInCommon (AreJoined (IsPadded 16 2) separator.now a.now)
         (AreJoined (IsPadded 16 2) separator.now b.now) → a.now ≡ b.now }
     ensures lowercase { HaveInCommon (IsLowercase (AreJoined (IsPadded 16 2) separator.now a.now))
@@ -134,7 +134,7 @@ pub fn common_bytes(a: &[u8], b: &[u8], separator: &str)
 
 /// A law: if two `Scientific` have a text in common, their values are equal: `a` times 10^`exponent` is `b` times
 /// 10^`other`.
-pub fn common_scientific<T: LexicalInteger>(a: T, b: T, exponent: i32, other: i32)
+pub fn equal_scientific<T: LexicalInteger>(a: T, b: T, exponent: i32, other: i32)
     ensures { HaveInCommon (IsScientific (T.number a) exponent) (IsScientific (T.number b) other)
         → AreEqualScaled (T.number a) exponent (T.number b) other }
 {}

@@ -46,8 +46,8 @@ impl<P: Part> Part for Left<P> {
         Some(self.0.text_len()?.max(self.1))
     }
 
-    fn is_known_valid_utf8(self, sealed: Sealed) -> bool {
-        self.2 < 128 && self.0.is_known_valid_utf8(sealed)
+    fn is_known_valid_and_utf8(self, sealed: Sealed) -> bool {
+        self.2 < 128 && self.0.is_known_valid_and_utf8(sealed)
     }
 }
 
@@ -104,8 +104,8 @@ impl<P: Part> Part for Right<P> {
         Some(self.0.text_len()?.max(self.1))
     }
 
-    fn is_known_valid_utf8(self, sealed: Sealed) -> bool {
-        self.2 < 128 && self.0.is_known_valid_utf8(sealed)
+    fn is_known_valid_and_utf8(self, sealed: Sealed) -> bool {
+        self.2 < 128 && self.0.is_known_valid_and_utf8(sealed)
     }
 }
 
@@ -165,8 +165,8 @@ impl<P: Part> Part for Center<P> {
         Some(self.0.text_len()?.max(self.1))
     }
 
-    fn is_known_valid_utf8(self, sealed: Sealed) -> bool {
-        self.2 < 128 && self.0.is_known_valid_utf8(sealed)
+    fn is_known_valid_and_utf8(self, sealed: Sealed) -> bool {
+        self.2 < 128 && self.0.is_known_valid_and_utf8(sealed)
     }
 }
 

@@ -95,13 +95,13 @@ impl<P: Part> Part for Joined<'_, P> {
         count.checked_add(separators.checked_mul(self.1.len())?)
     }
 
-    fn is_known_valid_utf8(self, sealed: Sealed) -> bool
+    fn is_known_valid_and_utf8(self, sealed: Sealed) -> bool
         ensures valid { IsTrue result → All P.is_valid self.entry.0.now }
         ensures utf8 { IsTrue result → All P.is_utf8 self.entry.0.now }
         ensures empty { self.entry.0.now ≡ [] → IsTrue result }
     {
         for part in self.0 {
-            if !part.is_known_valid_utf8(sealed) {
+            if !part.is_known_valid_and_utf8(sealed) {
                 return false;
             }
         }

@@ -35,8 +35,8 @@ impl<A: Part, B: Part> Part for (A, B) {
         first + self.1.write_to(&mut buffer[first..])
     }
 
-    fn is_known_valid_utf8(self, sealed: Sealed) -> bool {
-        self.0.is_known_valid_utf8(sealed) && self.1.is_known_valid_utf8(sealed)
+    fn is_known_valid_and_utf8(self, sealed: Sealed) -> bool {
+        self.0.is_known_valid_and_utf8(sealed) && self.1.is_known_valid_and_utf8(sealed)
     }
 }
 
@@ -74,8 +74,8 @@ impl<A: Part, B: Part, C: Part> Part for (A, B, C) {
         (self.0, (self.1, self.2)).write_to(buffer)
     }
 
-    fn is_known_valid_utf8(self, sealed: Sealed) -> bool {
-        (self.0, (self.1, self.2)).is_known_valid_utf8(sealed)
+    fn is_known_valid_and_utf8(self, sealed: Sealed) -> bool {
+        (self.0, (self.1, self.2)).is_known_valid_and_utf8(sealed)
     }
 }
 
@@ -112,8 +112,8 @@ impl<A: Part, B: Part, C: Part, D: Part> Part for (A, B, C, D) {
         (self.0, (self.1, self.2, self.3)).write_to(buffer)
     }
 
-    fn is_known_valid_utf8(self, sealed: Sealed) -> bool {
-        (self.0, (self.1, self.2, self.3)).is_known_valid_utf8(sealed)
+    fn is_known_valid_and_utf8(self, sealed: Sealed) -> bool {
+        (self.0, (self.1, self.2, self.3)).is_known_valid_and_utf8(sealed)
     }
 }
 
@@ -154,8 +154,8 @@ impl<A: Part, B: Part, C: Part, D: Part, E: Part> Part for (A, B, C, D, E) {
         (self.0, (self.1, self.2, self.3, self.4)).write_to(buffer)
     }
 
-    fn is_known_valid_utf8(self, sealed: Sealed) -> bool {
-        (self.0, (self.1, self.2, self.3, self.4)).is_known_valid_utf8(sealed)
+    fn is_known_valid_and_utf8(self, sealed: Sealed) -> bool {
+        (self.0, (self.1, self.2, self.3, self.4)).is_known_valid_and_utf8(sealed)
     }
 }
 
@@ -197,8 +197,8 @@ impl<A: Part, B: Part, C: Part, D: Part, E: Part, F: Part> Part for (A, B, C, D,
         (self.0, (self.1, self.2, self.3, self.4, self.5)).write_to(buffer)
     }
 
-    fn is_known_valid_utf8(self, sealed: Sealed) -> bool {
-        (self.0, (self.1, self.2, self.3, self.4, self.5)).is_known_valid_utf8(sealed)
+    fn is_known_valid_and_utf8(self, sealed: Sealed) -> bool {
+        (self.0, (self.1, self.2, self.3, self.4, self.5)).is_known_valid_and_utf8(sealed)
     }
 }
 
@@ -240,8 +240,8 @@ impl<A: Part, B: Part, C: Part, D: Part, E: Part, F: Part, G: Part> Part for (A,
         (self.0, (self.1, self.2, self.3, self.4, self.5, self.6)).write_to(buffer)
     }
 
-    fn is_known_valid_utf8(self, sealed: Sealed) -> bool {
-        (self.0, (self.1, self.2, self.3, self.4, self.5, self.6)).is_known_valid_utf8(sealed)
+    fn is_known_valid_and_utf8(self, sealed: Sealed) -> bool {
+        (self.0, (self.1, self.2, self.3, self.4, self.5, self.6)).is_known_valid_and_utf8(sealed)
     }
 }
 
@@ -287,9 +287,9 @@ impl<A: Part, B: Part, C: Part, D: Part, E: Part, F: Part, G: Part, H: Part> Par
         (a, (b, c, d, e, f, g, h)).write_to(buffer)
     }
 
-    fn is_known_valid_utf8(self, sealed: Sealed) -> bool {
+    fn is_known_valid_and_utf8(self, sealed: Sealed) -> bool {
         let (a, b, c, d, e, f, g, h) = self;
-        (a, (b, c, d, e, f, g, h)).is_known_valid_utf8(sealed)
+        (a, (b, c, d, e, f, g, h)).is_known_valid_and_utf8(sealed)
     }
 }
 
@@ -342,9 +342,9 @@ impl<A: Part, B: Part, C: Part, D: Part, E: Part, F: Part, G: Part, H: Part, I: 
         (a, (b, c, d, e, f, g, h, i)).write_to(buffer)
     }
 
-    fn is_known_valid_utf8(self, sealed: Sealed) -> bool {
+    fn is_known_valid_and_utf8(self, sealed: Sealed) -> bool {
         let (a, b, c, d, e, f, g, h, i) = self;
-        (a, (b, c, d, e, f, g, h, i)).is_known_valid_utf8(sealed)
+        (a, (b, c, d, e, f, g, h, i)).is_known_valid_and_utf8(sealed)
     }
 }
 
@@ -397,9 +397,9 @@ impl<A: Part, B: Part, C: Part, D: Part, E: Part, F: Part, G: Part, H: Part, I: 
         (a, (b, c, d, e, f, g, h, i, j)).write_to(buffer)
     }
 
-    fn is_known_valid_utf8(self, sealed: Sealed) -> bool {
+    fn is_known_valid_and_utf8(self, sealed: Sealed) -> bool {
         let (a, b, c, d, e, f, g, h, i, j) = self;
-        (a, (b, c, d, e, f, g, h, i, j)).is_known_valid_utf8(sealed)
+        (a, (b, c, d, e, f, g, h, i, j)).is_known_valid_and_utf8(sealed)
     }
 }
 
@@ -464,9 +464,9 @@ impl<
         (a, (b, c, d, e, f, g, h, i, j, k)).write_to(buffer)
     }
 
-    fn is_known_valid_utf8(self, sealed: Sealed) -> bool {
+    fn is_known_valid_and_utf8(self, sealed: Sealed) -> bool {
         let (a, b, c, d, e, f, g, h, i, j, k) = self;
-        (a, (b, c, d, e, f, g, h, i, j, k)).is_known_valid_utf8(sealed)
+        (a, (b, c, d, e, f, g, h, i, j, k)).is_known_valid_and_utf8(sealed)
     }
 }
 
@@ -544,9 +544,9 @@ impl<
         (a, (b, c, d, e, f, g, h, i, j, k, l)).write_to(buffer)
     }
 
-    fn is_known_valid_utf8(self, sealed: Sealed) -> bool {
+    fn is_known_valid_and_utf8(self, sealed: Sealed) -> bool {
         let (a, b, c, d, e, f, g, h, i, j, k, l) = self;
-        (a, (b, c, d, e, f, g, h, i, j, k, l)).is_known_valid_utf8(sealed)
+        (a, (b, c, d, e, f, g, h, i, j, k, l)).is_known_valid_and_utf8(sealed)
     }
 }
 

@@ -61,8 +61,8 @@ impl<P: Part> Part for ZeroPadded<P> {
         Some(self.0.text_len()?.max(self.1))
     }
 
-    fn is_known_valid_utf8(self, sealed: Sealed) -> bool {
-        self.0.is_known_valid_utf8(sealed)
+    fn is_known_valid_and_utf8(self, sealed: Sealed) -> bool {
+        self.0.is_known_valid_and_utf8(sealed)
     }
 }
 

@@ -48,7 +48,7 @@ impl<T: ToLexical> Part for Decimal<T> {
         Formatted(self.0, &STANDARD).text_len()
     }
 
-    fn is_known_valid_utf8(self, _sealed: Sealed) -> bool {
+    fn is_known_valid_and_utf8(self, _sealed: Sealed) -> bool {
         true
     }
 }
@@ -58,6 +58,6 @@ impl<T: ToLexical> Show for Decimal<T> {
 
     fn is_showable(self) -> bool {
         self.0.in_range();
-        self.is_known_valid_utf8(Sealed)
+        self.is_known_valid_and_utf8(Sealed)
     }
 }

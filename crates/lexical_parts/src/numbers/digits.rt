@@ -58,12 +58,12 @@ impl<T: Radix + DigitCount> Part for Digits<T> {
         Some(self.1.digit_count(self.0))
     }
 
-    fn most_room(self, _sealed: Sealed) -> usize {
+    fn room_bound(self, _sealed: Sealed) -> usize {
         self.1.fits_bits();
         most_digits::<T>(self.0)
     }
 
-    fn is_known_valid_utf8(self, _sealed: Sealed) -> bool
+    fn is_known_valid_and_utf8(self, _sealed: Sealed) -> bool
         ensures valid { IsTrue result → IsRadix self.0 }
         ensures known { IsRadix self.0 → IsTrue result }
     {
@@ -76,6 +76,6 @@ impl<T: Radix + DigitCount> Show for Digits<T> {
 
     fn is_showable(self) -> bool {
         self.1.fits_bits();
-        self.is_known_valid_utf8(Sealed)
+        self.is_known_valid_and_utf8(Sealed)
     }
 }

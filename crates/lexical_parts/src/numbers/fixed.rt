@@ -109,8 +109,8 @@ impl<T: ToLexical> Part for Fixed<T> {
         GroupedFixed(self.0, self.1, &STANDARD).text_len()
     }
 
-    fn is_known_valid_utf8(self, sealed: Sealed) -> bool {
-        GroupedFixed(self.0, self.1, &STANDARD).is_known_valid_utf8(sealed)
+    fn is_known_valid_and_utf8(self, sealed: Sealed) -> bool {
+        GroupedFixed(self.0, self.1, &STANDARD).is_known_valid_and_utf8(sealed)
     }
 }
 
@@ -119,7 +119,7 @@ impl<T: ToLexical> Show for Fixed<T> {
 
     fn is_showable(self) -> bool {
         self.0.in_range();
-        self.is_known_valid_utf8(Sealed)
+        self.is_known_valid_and_utf8(Sealed)
     }
 }
 
@@ -171,7 +171,7 @@ impl<T: ToLexical> Part for GroupedFixed<'_, T> {
         Some(sign + self.2.grouped_len(whole) + self.1 + self.1.min(1))
     }
 
-    fn is_known_valid_utf8(self, _sealed: Sealed) -> bool
+    fn is_known_valid_and_utf8(self, _sealed: Sealed) -> bool
         ensures valid { IsTrue result → self.entry.1 ≤ 19 }
         ensures known { self.entry.1 ≤ 19 → IsTrue result }
     {
@@ -184,6 +184,6 @@ impl<T: ToLexical> Show for GroupedFixed<'_, T> {
 
     fn is_showable(self) -> bool {
         self.0.in_range();
-        self.is_known_valid_utf8(Sealed)
+        self.is_known_valid_and_utf8(Sealed)
     }
 }

@@ -77,7 +77,7 @@ impl<T: ToLexical> Part for Formatted<'_, T> {
         Some(sign_len(self.0, self.1) + self.1.grouped_len(digits))
     }
 
-    fn is_known_valid_utf8(self, _sealed: Sealed) -> bool {
+    fn is_known_valid_and_utf8(self, _sealed: Sealed) -> bool {
         true
     }
 }
@@ -88,6 +88,6 @@ impl<T: ToLexical> Show for Formatted<'_, T> {
     fn is_showable(self) -> bool {
         self.0.in_range();
         self.1.in_range();
-        self.is_known_valid_utf8(Sealed)
+        self.is_known_valid_and_utf8(Sealed)
     }
 }

@@ -33,7 +33,7 @@ impl Part for u8 {
         Decimal(self).text_len()
     }
 
-    fn is_known_valid_utf8(self, _sealed: Sealed) -> bool {
+    fn is_known_valid_and_utf8(self, _sealed: Sealed) -> bool {
         true
     }
 }
@@ -42,7 +42,7 @@ impl Show for u8 {
     ghost text = { λ number. Some (text_of (pos number) standard) };
 
     fn is_showable(self) -> bool {
-        self.is_known_valid_utf8(Sealed)
+        self.is_known_valid_and_utf8(Sealed)
     }
 }
 
@@ -66,7 +66,7 @@ impl Part for u16 {
         Decimal(self).text_len()
     }
 
-    fn is_known_valid_utf8(self, _sealed: Sealed) -> bool {
+    fn is_known_valid_and_utf8(self, _sealed: Sealed) -> bool {
         true
     }
 }
@@ -75,7 +75,7 @@ impl Show for u16 {
     ghost text = { λ number. Some (text_of (pos number) standard) };
 
     fn is_showable(self) -> bool {
-        self.is_known_valid_utf8(Sealed)
+        self.is_known_valid_and_utf8(Sealed)
     }
 }
 
@@ -99,7 +99,7 @@ impl Part for u32 {
         Decimal(self).text_len()
     }
 
-    fn is_known_valid_utf8(self, _sealed: Sealed) -> bool {
+    fn is_known_valid_and_utf8(self, _sealed: Sealed) -> bool {
         true
     }
 }
@@ -108,7 +108,7 @@ impl Show for u32 {
     ghost text = { λ number. Some (text_of (pos number) standard) };
 
     fn is_showable(self) -> bool {
-        self.is_known_valid_utf8(Sealed)
+        self.is_known_valid_and_utf8(Sealed)
     }
 }
 
@@ -132,7 +132,7 @@ impl Part for u64 {
         Decimal(self).text_len()
     }
 
-    fn is_known_valid_utf8(self, _sealed: Sealed) -> bool {
+    fn is_known_valid_and_utf8(self, _sealed: Sealed) -> bool {
         true
     }
 }
@@ -141,7 +141,7 @@ impl Show for u64 {
     ghost text = { λ number. Some (text_of (pos number) standard) };
 
     fn is_showable(self) -> bool {
-        self.is_known_valid_utf8(Sealed)
+        self.is_known_valid_and_utf8(Sealed)
     }
 }
 
@@ -165,7 +165,7 @@ impl Part for usize {
         Decimal(self).text_len()
     }
 
-    fn is_known_valid_utf8(self, _sealed: Sealed) -> bool {
+    fn is_known_valid_and_utf8(self, _sealed: Sealed) -> bool {
         true
     }
 }
@@ -174,7 +174,7 @@ impl Show for usize {
     ghost text = { λ number. Some (text_of (pos number) standard) };
 
     fn is_showable(self) -> bool {
-        self.is_known_valid_utf8(Sealed)
+        self.is_known_valid_and_utf8(Sealed)
     }
 }
 
@@ -198,7 +198,7 @@ impl Part for i8 {
         Decimal(self).text_len()
     }
 
-    fn is_known_valid_utf8(self, _sealed: Sealed) -> bool {
+    fn is_known_valid_and_utf8(self, _sealed: Sealed) -> bool {
         true
     }
 }
@@ -207,7 +207,7 @@ impl Show for i8 {
     ghost text = { λ number. Some (text_of number standard) };
 
     fn is_showable(self) -> bool {
-        self.is_known_valid_utf8(Sealed)
+        self.is_known_valid_and_utf8(Sealed)
     }
 }
 
@@ -231,7 +231,7 @@ impl Part for i16 {
         Decimal(self).text_len()
     }
 
-    fn is_known_valid_utf8(self, _sealed: Sealed) -> bool {
+    fn is_known_valid_and_utf8(self, _sealed: Sealed) -> bool {
         true
     }
 }
@@ -240,7 +240,7 @@ impl Show for i16 {
     ghost text = { λ number. Some (text_of number standard) };
 
     fn is_showable(self) -> bool {
-        self.is_known_valid_utf8(Sealed)
+        self.is_known_valid_and_utf8(Sealed)
     }
 }
 
@@ -264,7 +264,7 @@ impl Part for i32 {
         Decimal(self).text_len()
     }
 
-    fn is_known_valid_utf8(self, _sealed: Sealed) -> bool {
+    fn is_known_valid_and_utf8(self, _sealed: Sealed) -> bool {
         true
     }
 }
@@ -273,7 +273,7 @@ impl Show for i32 {
     ghost text = { λ number. Some (text_of number standard) };
 
     fn is_showable(self) -> bool {
-        self.is_known_valid_utf8(Sealed)
+        self.is_known_valid_and_utf8(Sealed)
     }
 }
 
@@ -297,7 +297,7 @@ impl Part for i64 {
         Decimal(self).text_len()
     }
 
-    fn is_known_valid_utf8(self, _sealed: Sealed) -> bool {
+    fn is_known_valid_and_utf8(self, _sealed: Sealed) -> bool {
         true
     }
 }
@@ -306,7 +306,7 @@ impl Show for i64 {
     ghost text = { λ number. Some (text_of number standard) };
 
     fn is_showable(self) -> bool {
-        self.is_known_valid_utf8(Sealed)
+        self.is_known_valid_and_utf8(Sealed)
     }
 }
 
@@ -330,7 +330,7 @@ impl Part for isize {
         Decimal(self).text_len()
     }
 
-    fn is_known_valid_utf8(self, _sealed: Sealed) -> bool {
+    fn is_known_valid_and_utf8(self, _sealed: Sealed) -> bool {
         true
     }
 }
@@ -339,6 +339,6 @@ impl Show for isize {
     ghost text = { λ number. Some (text_of number standard) };
 
     fn is_showable(self) -> bool {
-        self.is_known_valid_utf8(Sealed)
+        self.is_known_valid_and_utf8(Sealed)
     }
 }

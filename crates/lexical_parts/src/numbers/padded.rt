@@ -71,12 +71,12 @@ impl<T: DigitCount + Radix> Part for PaddedDigits<T> {
         Some(self.2)
     }
 
-    fn is_known_valid_utf8(self, sealed: Sealed) -> bool
+    fn is_known_valid_and_utf8(self, sealed: Sealed) -> bool
         ensures valid { IsTrue result → IsRadix self.0 × (T.magnitude self.1 < self.0 ^ self.2) }
         ensures known { IsRadix self.0 → T.magnitude self.1 < self.0 ^ self.2 → IsTrue result }
     {
         if self.0 == 10 {
-            return Padded(self.1, self.2).is_known_valid_utf8(sealed);
+            return Padded(self.1, self.2).is_known_valid_and_utf8(sealed);
         }
         self.1.fits_bits();
         is_radix(u64::from(self.0))
@@ -90,7 +90,7 @@ impl<T: DigitCount + Radix> Show for PaddedDigits<T> {
 
     fn is_showable(self) -> bool {
         self.1.fits_bits();
-        self.is_known_valid_utf8(Sealed)
+        self.is_known_valid_and_utf8(Sealed)
     }
 
     fn write_pieces<O: fmt::Write>(self, out: &mut O) -> fmt::Result {
@@ -136,7 +136,7 @@ impl<T: DigitCount + Radix> Part for Padded<T> {
         Some(self.1)
     }
 
-    fn is_known_valid_utf8(self, _sealed: Sealed) -> bool
+    fn is_known_valid_and_utf8(self, _sealed: Sealed) -> bool
         ensures valid { IsTrue result → T.magnitude self.0 < 10 ^ self.1 }
         ensures known { T.magnitude self.0 < 10 ^ self.1 → IsTrue result }
     {
@@ -150,7 +150,7 @@ impl<T: DigitCount + Radix> Show for Padded<T> {
 
     fn is_showable(self) -> bool {
         self.0.fits_bits();
-        self.is_known_valid_utf8(Sealed)
+        self.is_known_valid_and_utf8(Sealed)
     }
 
     fn write_pieces<O: fmt::Write>(self, out: &mut O) -> fmt::Result {

@@ -52,7 +52,7 @@ impl<T: ToLexical> Part for Plus<T> {
         Some(1 + self.0.magnitude_digits(10))
     }
 
-    fn is_known_valid_utf8(self, _sealed: Sealed) -> bool {
+    fn is_known_valid_and_utf8(self, _sealed: Sealed) -> bool {
         true
     }
 }
@@ -62,6 +62,6 @@ impl<T: ToLexical> Show for Plus<T> {
 
     fn is_showable(self) -> bool {
         self.0.in_range();
-        self.is_known_valid_utf8(Sealed)
+        self.is_known_valid_and_utf8(Sealed)
     }
 }

@@ -57,7 +57,7 @@ impl<T: Radix> Part for Hex<T> {
         Some(self.0.as_u64().digit_count(16))
     }
 
-    fn is_known_valid_utf8(self, _sealed: Sealed) -> bool {
+    fn is_known_valid_and_utf8(self, _sealed: Sealed) -> bool {
         true
     }
 }
@@ -67,7 +67,7 @@ impl<T: Radix> Show for Hex<T> {
 
     fn is_showable(self) -> bool {
         self.0.fits_bits();
-        self.is_known_valid_utf8(Sealed)
+        self.is_known_valid_and_utf8(Sealed)
     }
 }
 
@@ -105,7 +105,7 @@ impl<T: Radix> Part for Binary<T> {
         Some(self.0.as_u64().digit_count(2))
     }
 
-    fn is_known_valid_utf8(self, _sealed: Sealed) -> bool {
+    fn is_known_valid_and_utf8(self, _sealed: Sealed) -> bool {
         true
     }
 }
@@ -115,7 +115,7 @@ impl<T: Radix> Show for Binary<T> {
 
     fn is_showable(self) -> bool {
         self.0.fits_bits();
-        self.is_known_valid_utf8(Sealed)
+        self.is_known_valid_and_utf8(Sealed)
     }
 }
 
@@ -152,7 +152,7 @@ impl<T: DigitCount + Radix> Part for FullHex<T> {
         Some(T::BITS / 4)
     }
 
-    fn is_known_valid_utf8(self, _sealed: Sealed) -> bool {
+    fn is_known_valid_and_utf8(self, _sealed: Sealed) -> bool {
         true
     }
 }
@@ -162,7 +162,7 @@ impl<T: DigitCount + Radix> Show for FullHex<T> {
 
     fn is_showable(self) -> bool {
         self.0.fits_bits();
-        self.is_known_valid_utf8(Sealed)
+        self.is_known_valid_and_utf8(Sealed)
     }
 }
 
@@ -231,7 +231,7 @@ impl Part for HexBytes<'_> {
         digits.checked_add(separators.checked_mul(self.1.len())?)
     }
 
-    fn is_known_valid_utf8(self, _sealed: Sealed) -> bool {
+    fn is_known_valid_and_utf8(self, _sealed: Sealed) -> bool {
         true
     }
 }
@@ -240,7 +240,7 @@ impl Show for HexBytes<'_> {
     ghost text = { λ part. Some (hex_bytes_text part.1.now part.0.now) };
 
     fn is_showable(self) -> bool {
-        self.is_known_valid_utf8(Sealed)
+        self.is_known_valid_and_utf8(Sealed)
     }
 
     fn write_pieces<O: fmt::Write>(self, out: &mut O) -> fmt::Result {

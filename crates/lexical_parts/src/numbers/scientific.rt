@@ -132,7 +132,7 @@ impl<T: ToLexical> Part for Scientific<T> {
         Some(self.write_to(&mut [0; LONGEST]))
     }
 
-    fn is_known_valid_utf8(self, _sealed: Sealed) -> bool {
+    fn is_known_valid_and_utf8(self, _sealed: Sealed) -> bool {
         true
     }
 }
@@ -142,6 +142,6 @@ impl<T: ToLexical> Show for Scientific<T> {
 
     fn is_showable(self) -> bool {
         self.0.in_range();
-        self.is_known_valid_utf8(Sealed)
+        self.is_known_valid_and_utf8(Sealed)
     }
 }

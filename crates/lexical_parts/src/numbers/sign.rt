@@ -50,7 +50,7 @@ impl<T: LexicalInteger> Part for Sign<T> {
         Some(usize::from(self.0.is_negative() || self.1))
     }
 
-    fn is_known_valid_utf8(self, _sealed: Sealed) -> bool {
+    fn is_known_valid_and_utf8(self, _sealed: Sealed) -> bool {
         true
     }
 }
@@ -59,6 +59,6 @@ impl<T: LexicalInteger> Show for Sign<T> {
     ghost text = { λ part. Some (sign_of (T.number part.0) part.1) };
 
     fn is_showable(self) -> bool {
-        self.is_known_valid_utf8(Sealed)
+        self.is_known_valid_and_utf8(Sealed)
     }
 }

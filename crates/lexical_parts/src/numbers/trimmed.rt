@@ -77,8 +77,8 @@ impl<T: ToLexical> Part for TrimmedFixed<T> {
         Some(self.write_to(&mut [0; LONGEST_FIXED]))
     }
 
-    fn is_known_valid_utf8(self, sealed: Sealed) -> bool {
-        Fixed(self.0, self.1).is_known_valid_utf8(sealed)
+    fn is_known_valid_and_utf8(self, sealed: Sealed) -> bool {
+        Fixed(self.0, self.1).is_known_valid_and_utf8(sealed)
     }
 }
 
@@ -87,6 +87,6 @@ impl<T: ToLexical> Show for TrimmedFixed<T> {
 
     fn is_showable(self) -> bool {
         self.0.in_range();
-        self.is_known_valid_utf8(Sealed)
+        self.is_known_valid_and_utf8(Sealed)
     }
 }

@@ -45,7 +45,7 @@ impl Part for Bytes<'_> {
         Some(self.0.len())
     }
 
-    fn is_known_valid_utf8(self, _sealed: Sealed) -> bool
+    fn is_known_valid_and_utf8(self, _sealed: Sealed) -> bool
         ensures utf8 { IsTrue result → IsUtf8 self.entry.0.now }
         ensures known { IsUtf8 self.entry.0.now → IsTrue result }
     {
@@ -61,7 +61,7 @@ impl Show for Bytes<'_> {
         ensures only { IsTrue result → IsOnly (IsExactly self.entry.0.now) self.entry.0.now }
         ensures showable { IsUtf8 self.entry.0.now → IsTrue result }
     {
-        self.is_known_valid_utf8(Sealed)
+        self.is_known_valid_and_utf8(Sealed)
     }
 
     fn write_pieces<O: fmt::Write>(self, out: &mut O) -> fmt::Result {
@@ -104,7 +104,7 @@ impl Part for Byte {
         Some(1)
     }
 
-    fn is_known_valid_utf8(self, _sealed: Sealed) -> bool
+    fn is_known_valid_and_utf8(self, _sealed: Sealed) -> bool
         ensures utf8 { IsTrue result → self.0 < 128 }
         ensures known { self.0 < 128 → IsTrue result }
     {
@@ -116,6 +116,6 @@ impl Show for Byte {
     ghost text = { λ part. Some (part.0 ∷ []) };
 
     fn is_showable(self) -> bool {
-        self.is_known_valid_utf8(Sealed)
+        self.is_known_valid_and_utf8(Sealed)
     }
 }

@@ -33,7 +33,7 @@ impl Part for char {
         Some(self.len_utf8())
     }
 
-    fn is_known_valid_utf8(self, _sealed: Sealed) -> bool {
+    fn is_known_valid_and_utf8(self, _sealed: Sealed) -> bool {
         true
     }
 }
@@ -42,6 +42,6 @@ impl Show for char {
     ghost text = { λ character. Some (encode_utf8 character) };
 
     fn is_showable(self) -> bool {
-        self.is_known_valid_utf8(Sealed)
+        self.is_known_valid_and_utf8(Sealed)
     }
 }

@@ -45,13 +45,13 @@ impl<P: Part> Part for Option<P> {
         }
     }
 
-    fn is_known_valid_utf8(self, sealed: Sealed) -> bool
+    fn is_known_valid_and_utf8(self, sealed: Sealed) -> bool
         ensures valid { IsTrue result → IsValidOptional P.is_valid self }
         ensures utf8 { IsTrue result → IsValidOptional P.is_utf8 self }
         ensures none { IfNone self (IsTrue result) }
     {
         match self {
-            Some(part) => part.is_known_valid_utf8(sealed),
+            Some(part) => part.is_known_valid_and_utf8(sealed),
             // No bytes are UTF-8.
             None => true,
         }
@@ -120,8 +120,8 @@ impl<P: Part, Q: Part> Part for OrElse<P, Q> {
         }
     }
 
-    fn is_known_valid_utf8(self, sealed: Sealed) -> bool {
-        self.0.is_known_valid_utf8(sealed) && self.1.is_known_valid_utf8(sealed)
+    fn is_known_valid_and_utf8(self, sealed: Sealed) -> bool {
+        self.0.is_known_valid_and_utf8(sealed) && self.1.is_known_valid_and_utf8(sealed)
     }
 }
 

@@ -37,7 +37,7 @@ impl Part for &str {
         Some(self.len())
     }
 
-    fn is_known_valid_utf8(self, _sealed: Sealed) -> bool
+    fn is_known_valid_and_utf8(self, _sealed: Sealed) -> bool
         ensures known { IsTrue result }
     {
         true
@@ -51,7 +51,7 @@ impl Show for &str {
         ensures only { IsTrue result → IsOnly (IsExactly self.now) self.now }
         ensures showable { IsTrue result }
     {
-        self.is_known_valid_utf8(Sealed)
+        self.is_known_valid_and_utf8(Sealed)
     }
 
     fn write_pieces<O: fmt::Write>(self, out: &mut O) -> fmt::Result {

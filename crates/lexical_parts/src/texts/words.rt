@@ -40,7 +40,7 @@ impl Part for bool {
         Some(word(self).len())
     }
 
-    fn is_known_valid_utf8(self, _sealed: Sealed) -> bool {
+    fn is_known_valid_and_utf8(self, _sealed: Sealed) -> bool {
         true
     }
 }
@@ -49,6 +49,6 @@ impl Show for bool {
     ghost text = { λ flag. Some (word flag) };
 
     fn is_showable(self) -> bool {
-        self.is_known_valid_utf8(Sealed)
+        self.is_known_valid_and_utf8(Sealed)
     }
 }

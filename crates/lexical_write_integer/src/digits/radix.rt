@@ -12,9 +12,9 @@ pub mod algorithm;
 mod binary_words;
 mod by_radix;
 pub mod compact;
+mod count_first_writer;
 mod counting_writer;
 mod steps;
-mod table_writer;
 
 use crate::digits::count::has_fast_count;
 use crate::digits::pairs::RadixTable;
@@ -22,13 +22,13 @@ use crate::laws::digit_count_within_bits;
 use crate::turns::Turns;
 use binary_words::write_binary;
 use by_radix::by_radix;
+use count_first_writer::{write_after_count, write_short};
 use counting_writer::{
     count_and_write_five_to_eight, count_and_write_more, count_and_write_up_to_four, eighth_power,
 };
 use lexical_num::num::UnsignedInteger;
 use lexical_tables::get_table;
 use steps::fourth_power;
-use table_writer::{write_after_count, write_short};
 
 // Writes a number in the radix `R`, whose digits are counted without division, with a table that begins with the digit
 // pairs of that radix.
@@ -39,7 +39,7 @@ fn write_by_fast_count<const R: u32>(
     turns: &mut Turns,
 ) -> usize
     requires radix { IsRadix R }
-    requires at_once { has_fast_count R ≡ true }
+    requires fast_count { has_fast_count R ≡ true }
     requires table { BeginsWithPairs R table.now }
     requires room { digit_count R number ≤ length buffer.old }
     ensures digits { WritesDigits R number buffer.old buffer.new result }
@@ -119,9 +119,9 @@ fn write_out_of_line<T: UnsignedInteger, const R: u32>(
     write_by_table::<T, R>(value, buffer, turns)
 }
 
-// Writes a number as `write_by_table` does: one or two digits, which are frequent, in each caller, and each number of a
-// type of 8 or 16 bits, whose code is short.
-fn write_short_inline<T: UnsignedInteger, const R: u32>(
+// Writes a number as `write_by_table` does. One or two digits, which are frequent, and each number of a type of 8 or 16
+// bits, whose code is short, are written in the caller. A longer number is written by a call.
+fn write_long_out_of_line<T: UnsignedInteger, const R: u32>(
     value: T,
     buffer: &mut [u8],
     turns: &mut Turns,
@@ -143,8 +143,8 @@ fn write_short_inline<T: UnsignedInteger, const R: u32>(
 }
 
 // Writes the digits by the code of the radix, which names the table. In a power of 2 this code is short enough to be in
-// each caller. The function is cold, so that LLVM does not join its choice of a radix with the test for radix 10 before
-// it.
+// each caller. The function is cold: otherwise LLVM would join its choice of a radix with the caller's test for radix
+// 10.
 #[cold]
 pub(crate) fn radix_inlined<T: UnsignedInteger>(
     value: T,
@@ -157,7 +157,7 @@ pub(crate) fn radix_inlined<T: UnsignedInteger>(
     ensures digits { WritesDigits radix (T.magnitude value) buffer.old buffer.new result }
     ensures notes { turns.new ≡ turns.old ++ table_notes radix (T.magnitude value) }
 {
-    by_radix!(radix, write_by_table or write_short_inline::<T>(value, buffer, turns))
+    by_radix!(radix, write_by_table or write_long_out_of_line::<T>(value, buffer, turns))
 }
 
 // Writes the digits as `radix_inlined` does, by a call in each radix unless they are one or two. So a caller has little
@@ -173,7 +173,7 @@ fn radix_called<T: UnsignedInteger>(
     ensures digits { WritesDigits radix (T.magnitude value) buffer.old buffer.new result }
     ensures notes { turns.new ≡ turns.old ++ table_notes radix (T.magnitude value) }
 {
-    by_radix!(radix, write_out_of_line or write_short_inline::<T>(value, buffer, turns))
+    by_radix!(radix, write_out_of_line or write_long_out_of_line::<T>(value, buffer, turns))
 }
 
 /// Writes the digits of the number as `Radix::radix` does, by code that rustc has in each caller: the radix is to be

@@ -13,6 +13,7 @@ pub fn table_of_the_largest_radix() -> usize {
 }
 
 // Returns the table of a radix, which begins with the pairs of its digits.
+#[tactic(auto, using(std::proofs::lemmas::List::take_all))]
 fn table_of(radix: u32) -> &'static [u8]
     requires { IsRadix radix }
     ensures { BeginsWithPairs radix result.now }

@@ -55,7 +55,7 @@ pub trait Part: Copy {
     #[doc(hidden)]
     #[must_use]
     #[inline(always)]
-    fn is_known_valid_utf8(self, _sealed: Sealed) -> bool {
+    fn is_known_valid_and_utf8(self, _sealed: Sealed) -> bool {
         false
     }
 
@@ -64,7 +64,7 @@ pub trait Part: Copy {
     #[doc(hidden)]
     #[must_use]
     #[inline(always)]
-    fn most_room(self, _sealed: Sealed) -> usize {
+    fn room_bound(self, _sealed: Sealed) -> usize {
         self.room()
     }
 
@@ -184,11 +184,11 @@ fn str_if_it_fits<P: Part>(part: P, buffer: &mut [u8]) -> Option<&str> {
 // it returns false, because nothing is known of the text of such a part.
 #[inline(always)]
 fn needs_no_check<P: Part>(part: P, buffer: &[u8]) -> bool {
-    part.is_known_valid_utf8(Sealed) && has_room(part, buffer)
+    part.is_known_valid_and_utf8(Sealed) && has_room(part, buffer)
 }
 
 // Returns whether the buffer has the room of a part.
 #[inline(always)]
 fn has_room<P: Part>(part: P, buffer: &[u8]) -> bool {
-    part.most_room(Sealed) <= buffer.len() || part.room() <= buffer.len()
+    part.room_bound(Sealed) <= buffer.len() || part.room() <= buffer.len()
 }

@@ -5,8 +5,8 @@ ghost use Rattle.lexical_write_integer.specs.Buffer.{WritesBlock, WritesDigits};
 ghost use Rattle.lexical_write_integer.specs.DigitCount.{digit_count};
 ghost use Rattle.lexical_write_integer.specs.LoopTurns.{loop_notes, table_notes};
 
+use super::count_first_writer::count_some;
 use super::steps::{remove_four, remove_two};
-use super::table_writer::count_some;
 use crate::turns::Turns;
 
 // Writes the eight binary digits of a number below 256 at index `at`. Each byte of the product is the number, of which

@@ -1,4 +1,4 @@
-// The steps of `table_writer` and `counting_writer`, each for two or four digits: removing them from a number, and
+// The steps of `count_first_writer` and `counting_writer`, each for two or four digits: removing them from a number, and
 // writing them from a table of digit pairs.
 
 // `turns` is the counter for the notes of a count, and `loop_turns` that for the notes of the writing.

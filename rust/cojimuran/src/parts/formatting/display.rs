@@ -203,7 +203,7 @@ impl<T: DigitCount + Radix> PaddedDigits<T> {
     // or if the number does not fit in the width.
     #[inline(always)]
     fn text_or_error(self, buffer: &mut [u8; MOST_DIGITS]) -> Result<&str, fmt::Error> {
-        if !self.is_known_valid_utf8(Sealed) {
+        if !self.is_known_valid_and_utf8(Sealed) {
             return Err(fmt::Error);
         }
         Ok(PaddedDigits(self.0, self.1, self.2.min(MOST_DIGITS)).to_str(buffer))

@@ -39,8 +39,8 @@ impl<P: Part> Part for Left<P> {
     }
 
     #[inline(always)]
-    fn is_known_valid_utf8(self, sealed: Sealed) -> bool {
-        self.2 < 128 && self.0.is_known_valid_utf8(sealed)
+    fn is_known_valid_and_utf8(self, sealed: Sealed) -> bool {
+        self.2 < 128 && self.0.is_known_valid_and_utf8(sealed)
     }
 }
 
@@ -93,8 +93,8 @@ impl<P: Part> Part for Right<P> {
     }
 
     #[inline(always)]
-    fn is_known_valid_utf8(self, sealed: Sealed) -> bool {
-        self.2 < 128 && self.0.is_known_valid_utf8(sealed)
+    fn is_known_valid_and_utf8(self, sealed: Sealed) -> bool {
+        self.2 < 128 && self.0.is_known_valid_and_utf8(sealed)
     }
 }
 
@@ -150,8 +150,8 @@ impl<P: Part> Part for Center<P> {
     }
 
     #[inline(always)]
-    fn is_known_valid_utf8(self, sealed: Sealed) -> bool {
-        self.2 < 128 && self.0.is_known_valid_utf8(sealed)
+    fn is_known_valid_and_utf8(self, sealed: Sealed) -> bool {
+        self.2 < 128 && self.0.is_known_valid_and_utf8(sealed)
     }
 }
 

@@ -80,9 +80,9 @@ impl<P: Part> Part for Joined<'_, P> {
     }
 
     #[inline(always)]
-    fn is_known_valid_utf8(self, sealed: Sealed) -> bool {
+    fn is_known_valid_and_utf8(self, sealed: Sealed) -> bool {
         for part in self.0 {
-            if !part.is_known_valid_utf8(sealed) {
+            if !part.is_known_valid_and_utf8(sealed) {
                 return false;
             }
         }

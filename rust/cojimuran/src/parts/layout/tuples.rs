@@ -31,8 +31,8 @@ impl<A: Part, B: Part> Part for (A, B) {
     }
 
     #[inline(always)]
-    fn is_known_valid_utf8(self, sealed: Sealed) -> bool {
-        self.0.is_known_valid_utf8(sealed) && self.1.is_known_valid_utf8(sealed)
+    fn is_known_valid_and_utf8(self, sealed: Sealed) -> bool {
+        self.0.is_known_valid_and_utf8(sealed) && self.1.is_known_valid_and_utf8(sealed)
     }
 }
 
@@ -71,8 +71,8 @@ impl<A: Part, B: Part, C: Part> Part for (A, B, C) {
     }
 
     #[inline(always)]
-    fn is_known_valid_utf8(self, sealed: Sealed) -> bool {
-        (self.0, (self.1, self.2)).is_known_valid_utf8(sealed)
+    fn is_known_valid_and_utf8(self, sealed: Sealed) -> bool {
+        (self.0, (self.1, self.2)).is_known_valid_and_utf8(sealed)
     }
 }
 
@@ -110,8 +110,8 @@ impl<A: Part, B: Part, C: Part, D: Part> Part for (A, B, C, D) {
     }
 
     #[inline(always)]
-    fn is_known_valid_utf8(self, sealed: Sealed) -> bool {
-        (self.0, (self.1, self.2, self.3)).is_known_valid_utf8(sealed)
+    fn is_known_valid_and_utf8(self, sealed: Sealed) -> bool {
+        (self.0, (self.1, self.2, self.3)).is_known_valid_and_utf8(sealed)
     }
 }
 
@@ -149,8 +149,8 @@ impl<A: Part, B: Part, C: Part, D: Part, E: Part> Part for (A, B, C, D, E) {
     }
 
     #[inline(always)]
-    fn is_known_valid_utf8(self, sealed: Sealed) -> bool {
-        (self.0, (self.1, self.2, self.3, self.4)).is_known_valid_utf8(sealed)
+    fn is_known_valid_and_utf8(self, sealed: Sealed) -> bool {
+        (self.0, (self.1, self.2, self.3, self.4)).is_known_valid_and_utf8(sealed)
     }
 }
 
@@ -188,8 +188,8 @@ impl<A: Part, B: Part, C: Part, D: Part, E: Part, F: Part> Part for (A, B, C, D,
     }
 
     #[inline(always)]
-    fn is_known_valid_utf8(self, sealed: Sealed) -> bool {
-        (self.0, (self.1, self.2, self.3, self.4, self.5)).is_known_valid_utf8(sealed)
+    fn is_known_valid_and_utf8(self, sealed: Sealed) -> bool {
+        (self.0, (self.1, self.2, self.3, self.4, self.5)).is_known_valid_and_utf8(sealed)
     }
 }
 
@@ -227,8 +227,8 @@ impl<A: Part, B: Part, C: Part, D: Part, E: Part, F: Part, G: Part> Part for (A,
     }
 
     #[inline(always)]
-    fn is_known_valid_utf8(self, sealed: Sealed) -> bool {
-        (self.0, (self.1, self.2, self.3, self.4, self.5, self.6)).is_known_valid_utf8(sealed)
+    fn is_known_valid_and_utf8(self, sealed: Sealed) -> bool {
+        (self.0, (self.1, self.2, self.3, self.4, self.5, self.6)).is_known_valid_and_utf8(sealed)
     }
 }
 
@@ -271,9 +271,9 @@ impl<A: Part, B: Part, C: Part, D: Part, E: Part, F: Part, G: Part, H: Part> Par
     }
 
     #[inline(always)]
-    fn is_known_valid_utf8(self, sealed: Sealed) -> bool {
+    fn is_known_valid_and_utf8(self, sealed: Sealed) -> bool {
         let (a, b, c, d, e, f, g, h) = self;
-        (a, (b, c, d, e, f, g, h)).is_known_valid_utf8(sealed)
+        (a, (b, c, d, e, f, g, h)).is_known_valid_and_utf8(sealed)
     }
 }
 
@@ -320,9 +320,9 @@ impl<A: Part, B: Part, C: Part, D: Part, E: Part, F: Part, G: Part, H: Part, I: 
     }
 
     #[inline(always)]
-    fn is_known_valid_utf8(self, sealed: Sealed) -> bool {
+    fn is_known_valid_and_utf8(self, sealed: Sealed) -> bool {
         let (a, b, c, d, e, f, g, h, i) = self;
-        (a, (b, c, d, e, f, g, h, i)).is_known_valid_utf8(sealed)
+        (a, (b, c, d, e, f, g, h, i)).is_known_valid_and_utf8(sealed)
     }
 }
 
@@ -369,9 +369,9 @@ impl<A: Part, B: Part, C: Part, D: Part, E: Part, F: Part, G: Part, H: Part, I: 
     }
 
     #[inline(always)]
-    fn is_known_valid_utf8(self, sealed: Sealed) -> bool {
+    fn is_known_valid_and_utf8(self, sealed: Sealed) -> bool {
         let (a, b, c, d, e, f, g, h, i, j) = self;
-        (a, (b, c, d, e, f, g, h, i, j)).is_known_valid_utf8(sealed)
+        (a, (b, c, d, e, f, g, h, i, j)).is_known_valid_and_utf8(sealed)
     }
 }
 
@@ -429,9 +429,9 @@ impl<
     }
 
     #[inline(always)]
-    fn is_known_valid_utf8(self, sealed: Sealed) -> bool {
+    fn is_known_valid_and_utf8(self, sealed: Sealed) -> bool {
         let (a, b, c, d, e, f, g, h, i, j, k) = self;
-        (a, (b, c, d, e, f, g, h, i, j, k)).is_known_valid_utf8(sealed)
+        (a, (b, c, d, e, f, g, h, i, j, k)).is_known_valid_and_utf8(sealed)
     }
 }
 
@@ -501,9 +501,9 @@ impl<
     }
 
     #[inline(always)]
-    fn is_known_valid_utf8(self, sealed: Sealed) -> bool {
+    fn is_known_valid_and_utf8(self, sealed: Sealed) -> bool {
         let (a, b, c, d, e, f, g, h, i, j, k, l) = self;
-        (a, (b, c, d, e, f, g, h, i, j, k, l)).is_known_valid_utf8(sealed)
+        (a, (b, c, d, e, f, g, h, i, j, k, l)).is_known_valid_and_utf8(sealed)
     }
 }
 

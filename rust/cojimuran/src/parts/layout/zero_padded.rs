@@ -51,8 +51,8 @@ impl<P: Part> Part for ZeroPadded<P> {
     }
 
     #[inline(always)]
-    fn is_known_valid_utf8(self, sealed: Sealed) -> bool {
-        self.0.is_known_valid_utf8(sealed)
+    fn is_known_valid_and_utf8(self, sealed: Sealed) -> bool {
+        self.0.is_known_valid_and_utf8(sealed)
     }
 }
 

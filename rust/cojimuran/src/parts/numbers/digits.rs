@@ -49,12 +49,12 @@ impl<T: Radix + DigitCount> Part for Digits<T> {
     }
 
     #[inline(always)]
-    fn most_room(self, _sealed: Sealed) -> usize {
+    fn room_bound(self, _sealed: Sealed) -> usize {
         most_digits::<T>(self.0)
     }
 
     #[inline(always)]
-    fn is_known_valid_utf8(self, _sealed: Sealed) -> bool {
+    fn is_known_valid_and_utf8(self, _sealed: Sealed) -> bool {
         is_radix(u64::from(self.0))
     }
 }
@@ -63,6 +63,6 @@ impl<T: Radix + DigitCount> Show for Digits<T> {
     #[inline(always)]
     #[track_caller]
     fn is_showable(self) -> bool {
-        self.is_known_valid_utf8(Sealed)
+        self.is_known_valid_and_utf8(Sealed)
     }
 }

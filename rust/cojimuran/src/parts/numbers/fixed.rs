@@ -92,8 +92,8 @@ impl<T: ToLexical> Part for Fixed<T> {
     }
 
     #[inline(always)]
-    fn is_known_valid_utf8(self, sealed: Sealed) -> bool {
-        GroupedFixed(self.0, self.1, &STANDARD).is_known_valid_utf8(sealed)
+    fn is_known_valid_and_utf8(self, sealed: Sealed) -> bool {
+        GroupedFixed(self.0, self.1, &STANDARD).is_known_valid_and_utf8(sealed)
     }
 }
 
@@ -101,7 +101,7 @@ impl<T: ToLexical> Show for Fixed<T> {
     #[inline(always)]
     #[track_caller]
     fn is_showable(self) -> bool {
-        self.is_known_valid_utf8(Sealed)
+        self.is_known_valid_and_utf8(Sealed)
     }
 }
 
@@ -144,7 +144,7 @@ impl<T: ToLexical> Part for GroupedFixed<'_, T> {
     }
 
     #[inline(always)]
-    fn is_known_valid_utf8(self, _sealed: Sealed) -> bool {
+    fn is_known_valid_and_utf8(self, _sealed: Sealed) -> bool {
         self.1 <= 19
     }
 }
@@ -153,6 +153,6 @@ impl<T: ToLexical> Show for GroupedFixed<'_, T> {
     #[inline(always)]
     #[track_caller]
     fn is_showable(self) -> bool {
-        self.is_known_valid_utf8(Sealed)
+        self.is_known_valid_and_utf8(Sealed)
     }
 }

@@ -58,9 +58,9 @@ impl<T: DigitCount + Radix> Part for PaddedDigits<T> {
     }
 
     #[inline(always)]
-    fn is_known_valid_utf8(self, sealed: Sealed) -> bool {
+    fn is_known_valid_and_utf8(self, sealed: Sealed) -> bool {
         if self.0 == 10 {
-            return Padded(self.1, self.2).is_known_valid_utf8(sealed);
+            return Padded(self.1, self.2).is_known_valid_and_utf8(sealed);
         }
         is_radix(u64::from(self.0))
             && (has_few_bits(self.1.as_u64(), self.0, self.2)
@@ -71,7 +71,7 @@ impl<T: DigitCount + Radix> Part for PaddedDigits<T> {
 impl<T: DigitCount + Radix> Show for PaddedDigits<T> {
     #[inline(always)]
     fn is_showable(self) -> bool {
-        self.is_known_valid_utf8(Sealed)
+        self.is_known_valid_and_utf8(Sealed)
     }
 
     #[inline(always)]
@@ -112,7 +112,7 @@ impl<T: DigitCount + Radix> Part for Padded<T> {
     }
 
     #[inline(always)]
-    fn is_known_valid_utf8(self, _sealed: Sealed) -> bool {
+    fn is_known_valid_and_utf8(self, _sealed: Sealed) -> bool {
         fits_decimal_width(self.0.as_u64(), self.1)
     }
 }
@@ -120,7 +120,7 @@ impl<T: DigitCount + Radix> Part for Padded<T> {
 impl<T: DigitCount + Radix> Show for Padded<T> {
     #[inline(always)]
     fn is_showable(self) -> bool {
-        self.is_known_valid_utf8(Sealed)
+        self.is_known_valid_and_utf8(Sealed)
     }
 
     #[inline(always)]

@@ -40,7 +40,7 @@ impl<T: ToLexical> Part for Plus<T> {
     }
 
     #[inline(always)]
-    fn is_known_valid_utf8(self, _sealed: Sealed) -> bool {
+    fn is_known_valid_and_utf8(self, _sealed: Sealed) -> bool {
         true
     }
 }
@@ -48,6 +48,6 @@ impl<T: ToLexical> Part for Plus<T> {
 impl<T: ToLexical> Show for Plus<T> {
     #[inline]
     fn is_showable(self) -> bool {
-        self.is_known_valid_utf8(Sealed)
+        self.is_known_valid_and_utf8(Sealed)
     }
 }

@@ -92,7 +92,7 @@ impl<T: ToLexical> Part for Scientific<T> {
     }
 
     #[inline(always)]
-    fn is_known_valid_utf8(self, _sealed: Sealed) -> bool {
+    fn is_known_valid_and_utf8(self, _sealed: Sealed) -> bool {
         true
     }
 }
@@ -100,6 +100,6 @@ impl<T: ToLexical> Part for Scientific<T> {
 impl<T: ToLexical> Show for Scientific<T> {
     #[inline]
     fn is_showable(self) -> bool {
-        self.is_known_valid_utf8(Sealed)
+        self.is_known_valid_and_utf8(Sealed)
     }
 }

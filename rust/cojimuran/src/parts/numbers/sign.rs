@@ -43,7 +43,7 @@ impl<T: LexicalInteger> Part for Sign<T> {
     }
 
     #[inline(always)]
-    fn is_known_valid_utf8(self, _sealed: Sealed) -> bool {
+    fn is_known_valid_and_utf8(self, _sealed: Sealed) -> bool {
         true
     }
 }
@@ -51,6 +51,6 @@ impl<T: LexicalInteger> Part for Sign<T> {
 impl<T: LexicalInteger> Show for Sign<T> {
     #[inline]
     fn is_showable(self) -> bool {
-        self.is_known_valid_utf8(Sealed)
+        self.is_known_valid_and_utf8(Sealed)
     }
 }

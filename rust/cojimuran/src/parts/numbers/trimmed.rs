@@ -58,14 +58,14 @@ impl<T: ToLexical> Part for TrimmedFixed<T> {
     }
 
     #[inline(always)]
-    fn is_known_valid_utf8(self, sealed: Sealed) -> bool {
-        Fixed(self.0, self.1).is_known_valid_utf8(sealed)
+    fn is_known_valid_and_utf8(self, sealed: Sealed) -> bool {
+        Fixed(self.0, self.1).is_known_valid_and_utf8(sealed)
     }
 }
 
 impl<T: ToLexical> Show for TrimmedFixed<T> {
     #[inline]
     fn is_showable(self) -> bool {
-        self.is_known_valid_utf8(Sealed)
+        self.is_known_valid_and_utf8(Sealed)
     }
 }

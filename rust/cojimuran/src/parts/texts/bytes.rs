@@ -39,7 +39,7 @@ impl Part for Bytes<'_> {
     }
 
     #[inline(always)]
-    fn is_known_valid_utf8(self, _sealed: Sealed) -> bool {
+    fn is_known_valid_and_utf8(self, _sealed: Sealed) -> bool {
         from_utf8(self.0).is_ok()
     }
 }
@@ -48,7 +48,7 @@ impl Show for Bytes<'_> {
     #[inline(always)]
     #[track_caller]
     fn is_showable(self) -> bool {
-        self.is_known_valid_utf8(Sealed)
+        self.is_known_valid_and_utf8(Sealed)
     }
 
     #[inline(always)]
@@ -91,7 +91,7 @@ impl Part for Byte {
     }
 
     #[inline(always)]
-    fn is_known_valid_utf8(self, _sealed: Sealed) -> bool {
+    fn is_known_valid_and_utf8(self, _sealed: Sealed) -> bool {
         self.0 < 128
     }
 }
@@ -100,6 +100,6 @@ impl Show for Byte {
     #[inline(always)]
     #[track_caller]
     fn is_showable(self) -> bool {
-        self.is_known_valid_utf8(Sealed)
+        self.is_known_valid_and_utf8(Sealed)
     }
 }

@@ -40,13 +40,13 @@ impl<P: Part> Part for Lower<P> {
     }
 
     #[inline(always)]
-    fn most_room(self, sealed: Sealed) -> usize {
-        self.0.most_room(sealed)
+    fn room_bound(self, sealed: Sealed) -> usize {
+        self.0.room_bound(sealed)
     }
 
     #[inline(always)]
-    fn is_known_valid_utf8(self, sealed: Sealed) -> bool {
-        self.0.is_known_valid_utf8(sealed)
+    fn is_known_valid_and_utf8(self, sealed: Sealed) -> bool {
+        self.0.is_known_valid_and_utf8(sealed)
     }
 }
 

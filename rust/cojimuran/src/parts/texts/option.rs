@@ -34,9 +34,9 @@ impl<P: Part> Part for Option<P> {
     }
 
     #[inline(always)]
-    fn is_known_valid_utf8(self, sealed: Sealed) -> bool {
+    fn is_known_valid_and_utf8(self, sealed: Sealed) -> bool {
         match self {
-            Some(part) => part.is_known_valid_utf8(sealed),
+            Some(part) => part.is_known_valid_and_utf8(sealed),
             // No bytes are UTF-8.
             None => true,
         }
@@ -96,8 +96,8 @@ impl<P: Part, Q: Part> Part for OrElse<P, Q> {
     }
 
     #[inline(always)]
-    fn is_known_valid_utf8(self, sealed: Sealed) -> bool {
-        self.0.is_known_valid_utf8(sealed) && self.1.is_known_valid_utf8(sealed)
+    fn is_known_valid_and_utf8(self, sealed: Sealed) -> bool {
+        self.0.is_known_valid_and_utf8(sealed) && self.1.is_known_valid_and_utf8(sealed)
     }
 }
 

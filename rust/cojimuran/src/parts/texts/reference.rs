@@ -24,8 +24,8 @@ impl<P: Part> Part for &P {
     }
 
     #[inline(always)]
-    fn is_known_valid_utf8(self, sealed: Sealed) -> bool {
-        (*self).is_known_valid_utf8(sealed)
+    fn is_known_valid_and_utf8(self, sealed: Sealed) -> bool {
+        (*self).is_known_valid_and_utf8(sealed)
     }
 }
 

@@ -7,9 +7,9 @@ pub mod algorithm;
 mod binary_words;
 mod by_radix;
 pub mod compact;
+mod count_first_writer;
 mod counting_writer;
 mod steps;
-mod table_writer;
 
 use crate::num::num::UnsignedInteger;
 use crate::tables::get_table;
@@ -17,11 +17,11 @@ use crate::write_integer::digits::count::has_fast_count;
 use crate::write_integer::digits::pairs::RadixTable;
 use binary_words::write_binary;
 use by_radix::by_radix;
+use count_first_writer::{write_after_count, write_short};
 use counting_writer::{
     count_and_write_five_to_eight, count_and_write_more, count_and_write_up_to_four, eighth_power,
 };
 use steps::fourth_power;
-use table_writer::{write_after_count, write_short};
 
 // Writes a number in the radix `R`, whose digits are counted without division, with a table that begins with the digit
 // pairs of that radix.
@@ -77,10 +77,10 @@ fn write_out_of_line<T: UnsignedInteger, const R: u32>(value: T, buffer: &mut [u
     write_by_table::<T, R>(value, buffer)
 }
 
-// Writes a number as `write_by_table` does: one or two digits, which are frequent, in each caller, and each number of a
-// type of 8 or 16 bits, whose code is short.
+// Writes a number as `write_by_table` does. One or two digits, which are frequent, and each number of a type of 8 or 16
+// bits, whose code is short, are written in the caller. A longer number is written by a call.
 #[inline]
-fn write_short_inline<T: UnsignedInteger, const R: u32>(value: T, buffer: &mut [u8]) -> usize {
+fn write_long_out_of_line<T: UnsignedInteger, const R: u32>(value: T, buffer: &mut [u8]) -> usize {
     let number = value.as_u64();
     if number < u64::from(R * R) {
         return write_short(number, RadixTable::<R>::new(), buffer);
@@ -92,20 +92,20 @@ fn write_short_inline<T: UnsignedInteger, const R: u32>(value: T, buffer: &mut [
 }
 
 // Writes the digits by the code of the radix, which names the table. In a power of 2 this code is short enough to be in
-// each caller. The function is cold, so that LLVM does not join its choice of a radix with the test for radix 10 before
-// it.
+// each caller. The function is cold: otherwise LLVM would join its choice of a radix with the caller's test for radix
+// 10.
 #[cold]
 #[inline(always)]
 #[track_caller]
 pub(crate) fn radix_inlined<T: UnsignedInteger>(value: T, radix: u32, buffer: &mut [u8]) -> usize {
-    by_radix!(radix, write_by_table or write_short_inline::<T>(value, buffer))
+    by_radix!(radix, write_by_table or write_long_out_of_line::<T>(value, buffer))
 }
 
 // Writes the digits as `radix_inlined` does, by a call in each radix unless they are one or two. So a caller has little
 // code: if the radix is constant there, rustc has only the code of that radix in the caller, and otherwise calls this.
 #[inline]
 fn radix_called<T: UnsignedInteger>(value: T, radix: u32, buffer: &mut [u8]) -> usize {
-    by_radix!(radix, write_out_of_line or write_short_inline::<T>(value, buffer))
+    by_radix!(radix, write_out_of_line or write_long_out_of_line::<T>(value, buffer))
 }
 
 /// Writes the digits of the number as `Radix::radix` does, by code that rustc has in each caller: the radix is to be

@@ -8,5 +8,5 @@ returns-then-number-from-clause-digits g c = c.write_short.ensures.digits
 pub returns-else-number-from-clause-notes : goal.returns-else-number-from-clause-notes
 returns-else-number-from-clause-notes g c =
     let old = c.args.turns.now in
-    table_notes-are g.row.R c.args.number old old _ (none_noted g.row.R c.args.number old c.requires.at_once)
+    table_notes-are g.row.R c.args.number old old _ (none_noted g.row.R c.args.number old c.requires.fast_count)
     c.write_after_count.ensures.notes_in_loop

@@ -2,8 +2,8 @@
 
 // Writing binary digits, eight at a time, as the bytes of a word.
 
+use super::count_first_writer::count_some;
 use super::steps::remove_four;
-use super::table_writer::count_some;
 
 // Writes the eight binary digits of a number below 256 at index `at`. Each byte of the product is the number, of which
 // the mask keeps another bit. The sum carries a bit that is set to bit 7 of its byte, and no further.

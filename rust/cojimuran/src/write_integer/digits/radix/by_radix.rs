@@ -17,18 +17,18 @@ macro_rules! by_radix {
             _ => panic!("the radix is not from 2 to 36"),
         }
     };
-    ($($power:literal)*; $($value:literal)*; $radix:expr, $short:ident or $run:ident::<$argument:tt>$arguments:tt) => {
+    ($($power:literal)*; $($value:literal)*; $radix:expr, $of_power:ident or $run:ident::<$argument:tt>$arguments:tt) => {
         match $radix {
-            $($power => $short::<$argument, $power>$arguments,)*
+            $($power => $of_power::<$argument, $power>$arguments,)*
             $($value => $run::<$argument, $value>$arguments,)*
             _ => panic!("the radix is not from 2 to 36"),
         }
     };
-    ($radix:expr, $short:ident or $($call:tt)+) => {
+    ($radix:expr, $of_power:ident or $($call:tt)+) => {
         by_radix!(
             2 4 8 16 32;
             3 5 6 7 9 10 11 12 13 14 15 17 18 19 20 21 22 23 24 25 26 27 28 29 30 31 33 34 35 36;
-            $radix, $short or $($call)+
+            $radix, $of_power or $($call)+
         )
     };
     ($radix:expr, $($call:tt)+) => {

@@ -1,6 +1,6 @@
 // Made by `strip` from crates/lexical_write_integer/src/digits/radix/steps.rt. Edit that file, not this one.
 
-// The steps of `table_writer` and `counting_writer`, each for two or four digits: removing them from a number, and
+// The steps of `count_first_writer` and `counting_writer`, each for two or four digits: removing them from a number, and
 // writing them from a table of digit pairs.
 
 use crate::write_integer::digits::pairs::RadixTable;

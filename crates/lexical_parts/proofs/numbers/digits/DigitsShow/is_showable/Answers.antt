@@ -3,5 +3,5 @@ use Rattle.lexical_parts.proofs.numbers.digits.DigitsShow.is_showable.Goals as g
 
 pub returns-clause-only : goal.returns-clause-only
 returns-clause-only g c = λ known.
-    only_digits _ _ (c.is_known_valid_utf8.ensures.valid known).at_least_two
+    only_digits _ _ (c.is_known_valid_and_utf8.ensures.valid known).at_least_two
     (bits-small g.met.T.UnsignedInteger.range.width c.fits_bits.ensures)

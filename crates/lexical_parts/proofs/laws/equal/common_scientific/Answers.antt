@@ -1,5 +1,0 @@
-use Rattle.lexical_parts.proofs.OfNumbers.EqualScientifics.{equal_scientifics}
-use Rattle.lexical_parts.proofs.laws.equal.common_scientific.Goals as goal
-
-pub returns : goal.returns
-returns g c = equal_scientifics _ _ _ _

@@ -1,4 +1,0 @@
-use Rattle.lexical_write_integer.proofs.digits.radix.write_short_inline.Goals as goal
-
-pub returns-then-number-from-clause-digits : goal.returns-then-number-from-clause-digits
-returns-then-number-from-clause-digits g c = rw (← c.as_u64-number.ensures) c.write_short.ensures.digits

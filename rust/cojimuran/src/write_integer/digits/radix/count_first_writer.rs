@@ -1,0 +1,137 @@
+// Made by `strip` from crates/lexical_write_integer/src/digits/radix/count_first_writer.rt. Edit that file, not this one.
+
+// Counting the digits of a number, and then writing them, four at a time: for numbers of one or two digits, and for the
+// radices in which a count needs no division.
+
+use super::steps::{
+    count_one_or_two, fourth_power, last_four, remove_four, remove_two, write_counted_pair,
+    write_four, write_one_pair,
+};
+use crate::write_integer::digits::count::{DigitCount, fast_log2, has_fast_count};
+use crate::write_integer::digits::pairs::RadixTable;
+
+// Returns how many digits a number of three or four digits has.
+#[inline(always)]
+#[track_caller]
+fn count_three_or_four(number: u64, radix: u32) -> usize {
+    3 + usize::from(number >= u64::from(radix * radix * radix))
+}
+
+// Writes the three or four digits of a number to the start of the buffer, and returns how many there are: the first
+// pair as two characters, of which the first is written over if it is a leading zero, and then the last pair.
+#[inline(always)]
+#[track_caller]
+fn write_three_or_four<const R: u32>(
+    number: u64,
+    table: RadixTable<'_, R>,
+    buffer: &mut [u8],
+) -> usize {
+    let count = count_three_or_four(number, R);
+    // rustc tests the end of these bytes once.
+    let written = &mut buffer[..count];
+    write_one_pair(remove_two::<R>(number), count - 2, table, written);
+    let pair = 2 * (number as u32 % (R * R)) as usize;
+    // Both bytes are read first, so a compiler moves them as one number.
+    let (third, fourth) = (table.pairs[pair], table.pairs[pair + 1]);
+    written[count - 1] = fourth;
+    written[count - 2] = third;
+    count
+}
+
+// Returns how many digits a number has that is not 0. Its logarithm is one instruction, which that of 0 is not.
+#[inline(always)]
+#[track_caller]
+pub(super) fn count_some(value: u64, radix: u32) -> usize {
+    let bits = fast_log2(radix);
+    if radix == 1 << bits {
+        let log2 = value.ilog2() as usize;
+        // By 4, which is a shift, the sum first takes fewer instructions.
+        if radix == 16 {
+            (log2 + bits) / bits
+        } else {
+            log2 / bits + 1
+        }
+    } else {
+        value.digit_count(radix)
+    }
+}
+
+// Returns how many digits a number of one or two digits has: by a division unless the radix has
+// a fast count.
+#[inline(always)]
+#[track_caller]
+fn count_short(number: u64, radix: u32) -> usize {
+    if has_fast_count(radix) {
+        1 + usize::from(number >= u64::from(radix))
+    } else {
+        count_one_or_two(number as u32, radix)
+    }
+}
+
+// Counts the one or two digits of a number, and writes them.
+#[inline(always)]
+#[track_caller]
+pub(super) fn write_short<const R: u32>(
+    number: u64,
+    table: RadixTable<'_, R>,
+    buffer: &mut [u8],
+) -> usize {
+    let count = count_short(number, R);
+    write_one_pair(number, count, table, buffer);
+    count
+}
+
+// Writes the one to four digits of a number, which are counted, to the start of the buffer.
+#[inline(always)]
+#[track_caller]
+fn write_up_to_four<const R: u32>(
+    number: u32,
+    digits: usize,
+    table: RadixTable<'_, R>,
+    buffer: &mut [u8],
+) {
+    if digits > 2 {
+        write_three_or_four(u64::from(number), table, buffer);
+    } else {
+        write_counted_pair(number, digits, table, buffer);
+    }
+}
+
+// Writes a number of three digits or more. First it counts them, and then it writes four per iteration while more than
+// four are left. At last it writes the first one to four digits. In a power of 2 these are found before the loop, so
+// that the number takes no register in it.
+#[inline(always)]
+#[track_caller]
+pub(super) fn write_after_count<const R: u32>(
+    value: u64,
+    table: RadixTable<'_, R>,
+    buffer: &mut [u8],
+) -> usize {
+    if value < fourth_power(R) {
+        return write_three_or_four(value, table, buffer);
+    }
+    let count = count_some(value, R);
+    // So rustc tests the end of the buffer once.
+    assert!(count <= buffer.len(), "the buffer is too short");
+    let bits = fast_log2(R);
+    let first = if R == 1 << bits {
+        last_four::<R>(value >> (bits * (count - 4)))
+    } else {
+        0
+    };
+    let mut left = value;
+    let mut at = count;
+    while at > 4 {
+        at -= 4;
+        write_four(last_four::<R>(left), table, buffer, at);
+        left = remove_four::<R>(left);
+    }
+    if R == 1 << bits {
+        // The counter, which only contracts see, notes this quotient. Its digits are those of `first`.
+        remove_two::<R>(left);
+        write_four(first, table, buffer, 0);
+    } else {
+        write_up_to_four(left as u32, at, table, buffer);
+    }
+    count
+}
