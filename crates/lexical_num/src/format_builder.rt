@@ -35,7 +35,7 @@ impl Model for NumberFormatBuilder {
 }
 
 impl NumberFormatBuilder {
-    /// Returns a builder with the parts of `format::STANDARD`: both radices are 10, no sign is required, and
+    /// Returns a builder with the fields of `format::STANDARD`: both radices are 10, no sign is required, and
     /// the digits are not grouped.
     pub fn new() -> Self
         ensures { result ≡ standard }
@@ -124,7 +124,7 @@ impl NumberFormatBuilder {
     ///
     /// # Errors
     ///
-    /// The error names the first invalid part: the mantissa radix is checked first, then the exponent
+    /// The error names the first invalid field: the mantissa radix is checked first, then the exponent
     /// radix, then the group size, then the separator.
     pub fn build(&self) -> Result<NumberFormat>
         ensures valid { IsOk result ↔ IsValid self.now }

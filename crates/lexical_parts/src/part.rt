@@ -44,8 +44,13 @@ pub trait Part: Copy {
     // The condition under which the text is UTF-8: that each byte that the part names is below 128.
     ghost is_utf8: { Self → Type 0 } = { λ _. ⊤ };
 
-    /// Returns a number of bytes that is enough for the text, or `usize::MAX` if that number does not
-    /// fit in a `usize`. The part must be valid: for an invalid part the number may be too small.
+    /// Returns a number of bytes that is enough for the text, or `usize::MAX` if that number does not fit in a `usize`.
+    /// The part must be valid: for a `Padded` or a `PaddedDigits` that is not, it returns the width.
+    ///
+    /// # Panics
+    ///
+    /// If the radix of a `Digits` is not from 2 to 36, or if a `Fixed`, a `GroupedFixed` or a `TrimmedFixed` has more
+    /// than 19 decimals.
     fn room(self) -> usize
         requires { is_valid self }
         ensures { result ≡ min (room self) usize.MAX };
@@ -64,7 +69,13 @@ pub trait Part: Copy {
         ensures utf8 { is_utf8 self → AreUtf8 (is_text self) };
 
     /// Returns the length of the text, if the part knows it without writing the text, and otherwise `None`, as it does
-    /// if you do not define this method. The part must be valid.
+    /// if you do not define this method. The part must be valid: for a `Padded` or a `PaddedDigits` that is not, it
+    /// returns the width.
+    ///
+    /// # Panics
+    ///
+    /// If the radix of a `Digits` is not from 2 to 36, or if a `Fixed`, a `GroupedFixed` or a `TrimmedFixed` has more
+    /// than 19 decimals.
     fn text_len(self) -> Option<usize>
         requires { is_valid self }
         ensures { IfSome result (λ count. HasLength (is_text self) count) }

@@ -7,8 +7,8 @@ const BAD: &[u8] = b"bad line 1\n";
 
 const BOTH_BAD: &[u8] = b"bad line 1\nbad line 2\n";
 
-// Checks the line with each of the 256 bytes at this index. With the valid bytes the line has a decimal
-// value from its sixth byte on, which is also the answer, and with a newline it is two lines.
+// Checks the line with each of the 256 bytes at this index. If the byte is valid, the answer is the line from index 6
+// on. If it is a newline, there are two lines.
 fn check_bytes<const N: usize>(
     rt: &impl Abort,
     line: [u8; N],

@@ -22,7 +22,7 @@ pub struct NumberFormatBuilder {
 }
 
 impl NumberFormatBuilder {
-    /// Returns a builder with the parts of `format::STANDARD`: both radices are 10, no sign is required, and
+    /// Returns a builder with the fields of `format::STANDARD`: both radices are 10, no sign is required, and
     /// the digits are not grouped.
     #[must_use]
     #[inline]
@@ -110,7 +110,7 @@ impl NumberFormatBuilder {
     ///
     /// # Errors
     ///
-    /// The error names the first invalid part: the mantissa radix is checked first, then the exponent
+    /// The error names the first invalid field: the mantissa radix is checked first, then the exponent
     /// radix, then the group size, then the separator.
     #[inline]
     pub const fn build(&self) -> Result<NumberFormat> {

@@ -29,8 +29,13 @@ use core::str::{from_utf8, from_utf8_unchecked};
     references to a `String` need the feature `alloc`"
 )]
 pub trait Part: Copy {
-    /// Returns a number of bytes that is enough for the text, or `usize::MAX` if that number does not
-    /// fit in a `usize`. The part must be valid: for an invalid part the number may be too small.
+    /// Returns a number of bytes that is enough for the text, or `usize::MAX` if that number does not fit in a `usize`.
+    /// The part must be valid: for a `Padded` or a `PaddedDigits` that is not, it returns the width.
+    ///
+    /// # Panics
+    ///
+    /// If the radix of a `Digits` is not from 2 to 36, or if a `Fixed`, a `GroupedFixed` or a `TrimmedFixed` has more
+    /// than 19 decimals.
     #[must_use]
     fn room(self) -> usize;
 
@@ -43,7 +48,13 @@ pub trait Part: Copy {
     fn write_to(self, buffer: &mut [u8]) -> usize;
 
     /// Returns the length of the text, if the part knows it without writing the text, and otherwise `None`, as it does
-    /// if you do not define this method. The part must be valid.
+    /// if you do not define this method. The part must be valid: for a `Padded` or a `PaddedDigits` that is not, it
+    /// returns the width.
+    ///
+    /// # Panics
+    ///
+    /// If the radix of a `Digits` is not from 2 to 36, or if a `Fixed`, a `GroupedFixed` or a `TrimmedFixed` has more
+    /// than 19 decimals.
     #[must_use]
     #[inline]
     fn text_len(self) -> Option<usize> {

@@ -39,13 +39,14 @@ pub trait Show: Part {
     ///
     /// # Errors
     ///
-    /// Returns the error of the writer, and an error for a `Bytes`, alone or in a tuple, that is not UTF-8. For a part
+    /// Returns the error of the writer, and an error for a `Bytes` that is not UTF-8, if it is alone, or in a tuple, an
+    /// `Option`, an `OrElse`, a `Joined` or a reference. For a part
     /// of your own it also returns an error if its room is above 256 bytes and you do not define this method, or if it
     /// does not write the same text each time.
     ///
     /// # Panics
     ///
-    /// If the part is not valid, or if the text of the part is not UTF-8.
+    /// If the part is not valid, or if its text is not UTF-8 and no error is returned for that.
     #[inline]
     fn write_pieces<O: fmt::Write>(self, out: &mut O) -> fmt::Result {
         write_in_one_piece(self, out)
