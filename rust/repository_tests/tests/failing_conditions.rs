@@ -232,7 +232,7 @@ fn messages(called: &mut Vec<Panicking>) {
             7u32.write_integer_signed(37, buffer);
         "the radix is not from 2 to 36", "radix": 7u32.write_integer(0, buffer), 7u8.radix(1, buffer),
             7u64.compact(37, buffer), 7u16.write_integer(255, buffer), 7u64.radix(u32::MAX, buffer),
-            Digits(1, 7u8).write_to(buffer), Digits(37, 7u8).room(), algorithm(7u8, 37, table(36), buffer);
+            Digits(1, 7u8).write_to(buffer), algorithm(7u8, 37, table(36), buffer);
         "a part is invalid: then `build` returns an error", "the mantissa radix is not from 2 to 36":
             builder.radix(37).build_strict();
         "a part is invalid: then `build` returns an error", "the exponent radix is not from 2 to 36":
@@ -241,9 +241,11 @@ fn messages(called: &mut Vec<Panicking>) {
             builder.digit_grouping(0, b',').build_strict();
         "a part is invalid: then `build` returns an error", "the separator is a letter, a digit or a sign":
             builder.digit_grouping(3, b'0').build_strict();
-        "the part is not valid", "20 decimals, but at most 19": Fixed(7i64, 20).to_text(buffer), Fixed(7u8, 20).room(),
-            TrimmedFixed(7u8, 20).room(), TrimmedFixed(7u8, 20).write_to(buffer), Fixed(7u8, 20).text_len(),
-            Fixed(7u8, 20).write_pieces(&mut String::new());
+        "the part is not valid", "20 decimals, but at most 19": Fixed(7i64, 20).to_text(buffer),
+            TrimmedFixed(7u8, 20).write_to(buffer), Fixed(7u8, 20).write_pieces(&mut String::new());
+        "the radix of a `Digits` is not from 2 to 36", "radix": Digits(37, 7u8).room(), Digits(1, 7u8).text_len();
+        "a `Fixed`, a `GroupedFixed` or a `TrimmedFixed` has more than 19 decimals", "20 decimals, but at most 19":
+            Fixed(7u8, 20).room(), TrimmedFixed(7u8, 20).room(), Fixed(7u8, 20).text_len();
         "the part is not valid", "90 decimals, but at most 19": Fixed(7u8, 90).to_str(buffer),
             Fixed(7u8, 90).try_write_to(buffer), Fixed(7u8, 90).write_to(buffer), Fixed(7u8, 90).write_at(1, buffer);
         "the part is not valid", "the number has more digits than the width": Padded(2026u16, 2).to_text(buffer),
@@ -257,7 +259,8 @@ fn messages(called: &mut Vec<Panicking>) {
         "the text for a `String` is not UTF-8", "the text is not UTF-8": not_utf8.append_to(&mut String::new());
         "the text does not have `count` bytes", "the text does not have `count` bytes": write_field("ab", 0, 3, buffer);
         "the text of the part is not UTF-8", "the text is not UTF-8": not_utf8.to_str(buffer),
-            not_utf8.try_to_str(buffer),
+            not_utf8.try_to_str(buffer);
+        "its text is not UTF-8 and no error is returned for that", "the text is not UTF-8":
             Byte(200).write_pieces(&mut String::new());
         "the length and `extra` together are above `usize::MAX`",
             "the length and `extra` together are above usize::MAX":

@@ -22,18 +22,21 @@ use core::fmt;
 pub struct Left<P>(pub P, pub usize, pub u8);
 
 impl<P: Part> Part for Left<P> {
-    #[inline]
+    #[inline(always)]
+    #[track_caller]
     fn room(self) -> usize {
         self.0.room().max(self.1)
     }
 
-    #[inline]
+    #[inline(always)]
+    #[track_caller]
     fn write_to(self, buffer: &mut [u8]) -> usize {
         let count = self.0.write_to(buffer);
         count + write_fill(self.2, self.1.saturating_sub(count), &mut buffer[count..])
     }
 
-    #[inline]
+    #[inline(always)]
+    #[track_caller]
     fn text_len(self) -> Option<usize> {
         Some(self.0.text_len()?.max(self.1))
     }
@@ -45,12 +48,14 @@ impl<P: Part> Part for Left<P> {
 }
 
 impl<P: Show> Show for Left<P> {
-    #[inline]
+    #[inline(always)]
+    #[track_caller]
     fn is_showable(self) -> bool {
         self.2 < 128 && self.0.is_showable()
     }
 
-    #[inline]
+    #[inline(always)]
+    #[track_caller]
     fn write_pieces<O: fmt::Write>(self, out: &mut O) -> fmt::Result {
         if self.room() <= MOST_IN_ONE_PIECE {
             return write_in_one_piece(self, out);
@@ -74,12 +79,14 @@ impl<P: Show> Show for Left<P> {
 pub struct Right<P>(pub P, pub usize, pub u8);
 
 impl<P: Part> Part for Right<P> {
-    #[inline]
+    #[inline(always)]
+    #[track_caller]
     fn room(self) -> usize {
         self.0.room().max(self.1)
     }
 
-    #[inline]
+    #[inline(always)]
+    #[track_caller]
     fn write_to(self, buffer: &mut [u8]) -> usize {
         let count = self.0.write_to(buffer);
         let added = self.1.saturating_sub(count);
@@ -87,7 +94,8 @@ impl<P: Part> Part for Right<P> {
         added + count
     }
 
-    #[inline]
+    #[inline(always)]
+    #[track_caller]
     fn text_len(self) -> Option<usize> {
         Some(self.0.text_len()?.max(self.1))
     }
@@ -99,12 +107,14 @@ impl<P: Part> Part for Right<P> {
 }
 
 impl<P: Show> Show for Right<P> {
-    #[inline]
+    #[inline(always)]
+    #[track_caller]
     fn is_showable(self) -> bool {
         self.2 < 128 && self.0.is_showable()
     }
 
-    #[inline]
+    #[inline(always)]
+    #[track_caller]
     fn write_pieces<O: fmt::Write>(self, out: &mut O) -> fmt::Result {
         if self.room() <= MOST_IN_ONE_PIECE {
             return write_in_one_piece(self, out);
@@ -129,12 +139,14 @@ impl<P: Show> Show for Right<P> {
 pub struct Center<P>(pub P, pub usize, pub u8);
 
 impl<P: Part> Part for Center<P> {
-    #[inline]
+    #[inline(always)]
+    #[track_caller]
     fn room(self) -> usize {
         self.0.room().max(self.1)
     }
 
-    #[inline]
+    #[inline(always)]
+    #[track_caller]
     fn write_to(self, buffer: &mut [u8]) -> usize {
         let count = self.0.write_to(buffer);
         let added = self.1.saturating_sub(count);
@@ -144,7 +156,8 @@ impl<P: Part> Part for Center<P> {
         end + write_fill(self.2, added - before, &mut buffer[end..])
     }
 
-    #[inline]
+    #[inline(always)]
+    #[track_caller]
     fn text_len(self) -> Option<usize> {
         Some(self.0.text_len()?.max(self.1))
     }
@@ -156,12 +169,14 @@ impl<P: Part> Part for Center<P> {
 }
 
 impl<P: Show> Show for Center<P> {
-    #[inline]
+    #[inline(always)]
+    #[track_caller]
     fn is_showable(self) -> bool {
         self.2 < 128 && self.0.is_showable()
     }
 
-    #[inline]
+    #[inline(always)]
+    #[track_caller]
     fn write_pieces<O: fmt::Write>(self, out: &mut O) -> fmt::Result {
         if self.room() <= MOST_IN_ONE_PIECE {
             return write_in_one_piece(self, out);

@@ -10,7 +10,8 @@ use crate::parts::sealed::Sealed;
 use core::fmt;
 
 // Returns the length of the sign with which the text begins: 1 for `-` or `+`, and otherwise 0.
-#[inline]
+#[inline(always)]
+#[track_caller]
 fn length_of_sign(text: &[u8]) -> usize {
     match text {
         [b'-' | b'+', ..] => 1,
@@ -31,12 +32,14 @@ fn length_of_sign(text: &[u8]) -> usize {
 pub struct ZeroPadded<P>(pub P, pub usize);
 
 impl<P: Part> Part for ZeroPadded<P> {
-    #[inline]
+    #[inline(always)]
+    #[track_caller]
     fn room(self) -> usize {
         self.0.room().max(self.1)
     }
 
-    #[inline]
+    #[inline(always)]
+    #[track_caller]
     fn write_to(self, buffer: &mut [u8]) -> usize {
         let count = self.0.write_to(buffer);
         let sign = length_of_sign(&buffer[..count]);
@@ -45,7 +48,8 @@ impl<P: Part> Part for ZeroPadded<P> {
         zeros + count
     }
 
-    #[inline]
+    #[inline(always)]
+    #[track_caller]
     fn text_len(self) -> Option<usize> {
         Some(self.0.text_len()?.max(self.1))
     }
@@ -57,12 +61,14 @@ impl<P: Part> Part for ZeroPadded<P> {
 }
 
 impl<P: Show> Show for ZeroPadded<P> {
-    #[inline]
+    #[inline(always)]
+    #[track_caller]
     fn is_showable(self) -> bool {
         self.0.is_showable()
     }
 
-    #[inline]
+    #[inline(always)]
+    #[track_caller]
     fn write_pieces<O: fmt::Write>(self, out: &mut O) -> fmt::Result {
         if self.room() <= MOST_IN_ONE_PIECE {
             return write_in_one_piece(self, out);
@@ -89,7 +95,8 @@ struct AddingZeros<'a, O> {
 }
 
 impl<O: fmt::Write> fmt::Write for AddingZeros<'_, O> {
-    #[inline]
+    #[inline(always)]
+    #[track_caller]
     fn write_str(&mut self, text: &str) -> fmt::Result {
         if text.is_empty() {
             return Ok(());

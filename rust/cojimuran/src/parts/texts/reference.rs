@@ -8,17 +8,20 @@ use crate::parts::sealed::Sealed;
 use core::fmt;
 
 impl<P: Part> Part for &P {
-    #[inline]
+    #[inline(always)]
+    #[track_caller]
     fn room(self) -> usize {
         (*self).room()
     }
 
-    #[inline]
+    #[inline(always)]
+    #[track_caller]
     fn write_to(self, buffer: &mut [u8]) -> usize {
         (*self).write_to(buffer)
     }
 
-    #[inline]
+    #[inline(always)]
+    #[track_caller]
     fn text_len(self) -> Option<usize> {
         (*self).text_len()
     }
@@ -30,12 +33,14 @@ impl<P: Part> Part for &P {
 }
 
 impl<P: Show> Show for &P {
-    #[inline]
+    #[inline(always)]
+    #[track_caller]
     fn is_showable(self) -> bool {
         (*self).is_showable()
     }
 
-    #[inline]
+    #[inline(always)]
+    #[track_caller]
     fn write_pieces<O: fmt::Write>(self, out: &mut O) -> fmt::Result {
         (*self).write_pieces(out)
     }
