@@ -178,7 +178,11 @@ pub(crate) const SOURCES: &[Source] = &[
         attributes: &[
             // The only function of the package that is not safe code.
             ("#[inline(always)]\n#[track_caller]\n#[allow(unsafe_code)]", "to_str"),
-            ("#[inline(always)]", "numbers/padded.rt is_known_valid_and_utf8 room_bound has_room needs_no_check"),
+            (
+                "#[inline(always)]",
+                "numbers/padded.rt is_known_valid_and_utf8 room_bound has_room needs_no_check try_to_str
+                write_in_one_piece",
+            ),
             // Some parts are formatted as others in a constant radix. If that radix were not known there, `{}` of a
             // `Decimal` would have the code of all radices in small programs.
             ("#[inline(always)]", "fmt text_or_error"),

@@ -157,7 +157,7 @@ pub trait Part: Copy {
     /// # Panics
     ///
     /// If the part is not valid, or if the text of the part is not UTF-8.
-    #[inline]
+    #[inline(always)]
     fn try_to_str(self, buffer: &mut [u8]) -> Option<&str> {
         if self.room() <= buffer.len() {
             return Some(self.to_str(buffer));

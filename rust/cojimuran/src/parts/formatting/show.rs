@@ -54,7 +54,7 @@ pub trait Show: Part {
 }
 
 // Writes the text to a writer with one call, or returns an error if the room is above 256 bytes.
-#[inline]
+#[inline(always)]
 pub(crate) fn write_in_one_piece<P: Part, O: fmt::Write>(part: P, out: &mut O) -> fmt::Result {
     match part.try_to_str(&mut [0; MOST_IN_ONE_PIECE]) {
         Some(text) => out.write_str(text),
