@@ -58,14 +58,14 @@
  *
  * Errors. If the format is invalid or the text does not fit the buffer, a call that writes
  * returns 0, and the buffer is unchanged. (lexical_terminate is the exception: it makes
- * the buffer an empty string, unless `size` is 0.) If lexical_check_format(format) is then
- * 0, the buffer was too short. Otherwise it is the constant LEXICAL_INVALID_.. of the first
- * invalid field.
- * No call changes errno.
+ * the buffer an empty string, unless `size` is 0.) Then call lexical_check_format(format):
+ * 0 means that the buffer was too short, and any other result is the constant
+ * LEXICAL_INVALID_.. of the first invalid field. No call changes errno.
  *
- * Speed. A call without groups and without '+' is fastest if the buffer has a byte for
- * each bit of the type, and one more for the sign of a signed type: 32 for a uint32_t, and
- * 65 for an int64_t.
+ * Speed. A call without groups and without '+' is fastest if the buffer is long enough for
+ * every number of the type. In decimal LEXICAL_BUFFER_SIZE_DECIMAL_.. bytes are enough. Any
+ * other radix takes a byte for each bit of the type, and one more for the sign of a signed
+ * type: 32 for a uint32_t, and 65 for an int64_t.
  *
  * Proof. The sources are written in Rattle, a dialect of Rust with contracts. A prover,
  * which is not public, has checked that the functions of these sources write the right text
@@ -216,15 +216,14 @@ size_t lexical_decimal_i64(int64_t value, char *buffer, size_t size) LEXICAL_NOE
  * set the fields of a variable.
  *
  * From C++14 on, each field after the radix has the default value 0. So the struct is not
- * trivial: set one by an initializer and not by memset, and give an initializer to a union
- * with such a member.
+ * trivial: g++ warns of memset, and a union with such a member needs an initializer.
  */
 struct lexical_format {
     /* From 2 to 36. */
     uint32_t radix;
     /* 0, or any other number for a '+' before zero and positive numbers. */
     uint32_t required_sign LEXICAL_DEFAULT(0);
-    /* The digits of a group, from 1 to 64, or 0 for no groups. */
+    /* The number of digits in a group, from 1 to 64, or 0 for no groups. */
     uint32_t group_size LEXICAL_DEFAULT(0);
     /* The separator between groups: a byte from 32 to 126 that is not a letter, a digit,
        '+' or '-'. It is unused if group_size is 0. */
@@ -239,10 +238,10 @@ struct lexical_format {
  * The format of a radix, as an initializer: in uppercase, with no '+' and no groups.
  * For lowercase write { .radix = 16, .lowercase = 1 }.
  *
- * The radix may have any standard integer type. If it is not from 2 to 36, the radix of the
- * format is 0, which is invalid. An integer constant expression that is not from 2 to 36
- * does not compile (in C11 and later; with gcc and clang in any C, and in C++11 and later).
- * The error mentions an array of a negative size, or -1.
+ * The radix may have any standard integer type except bool. If it is not from 2 to 36, the
+ * radix of the format is 0, which is invalid. An integer constant expression that is not
+ * from 2 to 36 does not compile (in C11 and later; with gcc and clang in any C, and in C++11
+ * and later). The error mentions an array of a negative size, or -1.
  *
  * The radix is evaluated once, except in C before C11 with compilers other than gcc and
  * clang.
@@ -421,8 +420,8 @@ size_t lexical_write_i64(int64_t value, const struct lexical_format *format,
  * 0, the buffer is unchanged. So you can pass the result of another call as `count`, even
  * if it is 0.
  *
- * lexical_pad knows no prefix: it would make 00000xFF of 0xFF. So pad only the digits:
- * pass `buffer + 2` and `size - 2`, and then add 2 to the count. The zeros are not
+ * lexical_pad knows no prefix: padded to 8 bytes, 0xFF becomes 00000xFF. So pad only the
+ * digits: pass `buffer + 2` and `size - 2`, and then add 2 to the count. The zeros are not
  * grouped: 1,234,567 padded to 12 bytes is 0001,234,567.
  *
  * If `width` is greater than `size`, lexical_pad returns 0, although the text without
@@ -465,8 +464,9 @@ size_t lexical_terminate(size_t count, char *buffer, size_t size) LEXICAL_NOEXCE
  * and clang in C99. They call the function for the type of the value, for example
  * lexical_write_i32 for an int. In C they are macros, which evaluate each argument once.
  *
- * - A variable of the type char or bool is refused, and in C++ also one of the type wchar_t,
- *   char8_t, char16_t or char32_t: cast it to int if you mean its number.
+ * - A variable of the type char or bool is refused, and in C++ also any other expression of
+ *   these types or of wchar_t, char8_t, char16_t or char32_t: cast it to int if you mean its
+ *   number.
  * - In C, 'x', a > b and (before C23) true are of the type int, so they compile.
  * - In C, gcc also refuses a bit-field, unless it has 8, 16, 32 or 64 bits: cast it to the
  *   type with which it is declared.

@@ -5,8 +5,8 @@
 mod number_of_128_bits;
 
 use cojimuran::{
-    BUFFER_SIZE, Buffer, Digits, Displayed, Fixed, FormattedSize, Hex, Lower, NumberFormat, NumberFormatBuilder,
-    Options, Padded, Part, Right, Show, Shown, ToLexical, ToLexicalWithOptions, ZeroPadded,
+    BUFFER_SIZE, Buffer, Digits, Displayed, Fixed, Formatted, FormattedSize, Hex, Lower, NumberFormat,
+    NumberFormatBuilder, Options, Padded, Part, Right, Show, Shown, ToLexical, ToLexicalWithOptions, ZeroPadded,
 };
 use number_of_128_bits::{format_i128, format_u128};
 use std::io::Write;
@@ -72,7 +72,18 @@ fn from_format() {
     assert_eq!(Right(number, 8, b' ').to_str(&mut buffer), format!("{number:>8}"));
     assert_eq!(Hex(number).to_str(&mut buffer), format!("{number:X}"));
     assert_eq!(Lower(Hex(number)).to_str(&mut buffer), format!("{number:x}"));
+    assert_eq!(("0x", Lower(Hex(number))).to_str(&mut buffer), format!("{number:#x}"));
     assert_eq!(Fixed(cents, 2).to_str(&mut buffer), format!("{}.{:02}", cents / 100, cents % 100));
+}
+
+const THOUSANDS: NumberFormat = NumberFormatBuilder::new().digit_grouping(3, b',').build_strict();
+
+#[test]
+fn from_num_format_and_radix_fmt() {
+    let (number, mut buffer) = (1234567u32, [0; 64]);
+    assert_eq!(Formatted(number, &THOUSANDS).to_str(&mut buffer), "1,234,567");
+    assert_eq!(Digits(36, number).to_str(&mut buffer), "QGLJ");
+    assert_eq!(Lower(Digits(36, number)).to_str(&mut buffer), "qglj");
 }
 
 /// Writes the same line in two ways.
