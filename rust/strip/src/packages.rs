@@ -186,14 +186,12 @@ pub(crate) const SOURCES: &[Source] = &[
             // Some parts are formatted as others in a constant radix. If that radix were not known there, `{}` of a
             // `Decimal` would have the code of all radices in small programs.
             ("#[inline(always)]", "fmt text_or_error"),
-            // A panic of a short buffer names the line of the caller. If parts that contain parts were functions that
-            // two calls share, these would not know the radix of a `Digits`, and would have the code of all radices.
+            // A panic of a short buffer names the line of the caller.
             (
                 "#[inline(always)]\n#[track_caller]",
-                "layout/tuples.rt layout/joined.rt layout/column.rt layout/zero_padded.rt numbers/integers.rt
-                numbers/decimal.rt numbers/digits.rt numbers/formatted.rt numbers/powers_of_two.rt numbers/fixed.rt
-                texts/strings.rt texts/words.rt texts/chars.rt texts/bytes.rt texts/option.rt
-                texts/reference.rt format to_text",
+                "layout/tuples.rt layout/joined.rt numbers/integers.rt numbers/decimal.rt numbers/digits.rt
+                numbers/formatted.rt numbers/powers_of_two.rt numbers/fixed.rt texts/strings.rt texts/words.rt
+                texts/chars.rt texts/bytes.rt format to_text",
             ),
         ],
         laws: "laws rooms_at_most formatted_room_suffices str_is_utf8",

@@ -22,21 +22,18 @@ use core::fmt;
 pub struct Left<P>(pub P, pub usize, pub u8);
 
 impl<P: Part> Part for Left<P> {
-    #[inline(always)]
-    #[track_caller]
+    #[inline]
     fn room(self) -> usize {
         self.0.room().max(self.1)
     }
 
-    #[inline(always)]
-    #[track_caller]
+    #[inline]
     fn write_to(self, buffer: &mut [u8]) -> usize {
         let count = self.0.write_to(buffer);
         count + write_fill(self.2, self.1.saturating_sub(count), &mut buffer[count..])
     }
 
-    #[inline(always)]
-    #[track_caller]
+    #[inline]
     fn text_len(self) -> Option<usize> {
         Some(self.0.text_len()?.max(self.1))
     }
@@ -48,14 +45,12 @@ impl<P: Part> Part for Left<P> {
 }
 
 impl<P: Show> Show for Left<P> {
-    #[inline(always)]
-    #[track_caller]
+    #[inline]
     fn is_showable(self) -> bool {
         self.2 < 128 && self.0.is_showable()
     }
 
-    #[inline(always)]
-    #[track_caller]
+    #[inline]
     fn write_pieces<O: fmt::Write>(self, out: &mut O) -> fmt::Result {
         if self.room() <= MOST_IN_ONE_PIECE {
             return write_in_one_piece(self, out);
@@ -79,14 +74,12 @@ impl<P: Show> Show for Left<P> {
 pub struct Right<P>(pub P, pub usize, pub u8);
 
 impl<P: Part> Part for Right<P> {
-    #[inline(always)]
-    #[track_caller]
+    #[inline]
     fn room(self) -> usize {
         self.0.room().max(self.1)
     }
 
-    #[inline(always)]
-    #[track_caller]
+    #[inline]
     fn write_to(self, buffer: &mut [u8]) -> usize {
         let count = self.0.write_to(buffer);
         let added = self.1.saturating_sub(count);
@@ -94,8 +87,7 @@ impl<P: Part> Part for Right<P> {
         added + count
     }
 
-    #[inline(always)]
-    #[track_caller]
+    #[inline]
     fn text_len(self) -> Option<usize> {
         Some(self.0.text_len()?.max(self.1))
     }
@@ -107,14 +99,12 @@ impl<P: Part> Part for Right<P> {
 }
 
 impl<P: Show> Show for Right<P> {
-    #[inline(always)]
-    #[track_caller]
+    #[inline]
     fn is_showable(self) -> bool {
         self.2 < 128 && self.0.is_showable()
     }
 
-    #[inline(always)]
-    #[track_caller]
+    #[inline]
     fn write_pieces<O: fmt::Write>(self, out: &mut O) -> fmt::Result {
         if self.room() <= MOST_IN_ONE_PIECE {
             return write_in_one_piece(self, out);
@@ -139,14 +129,12 @@ impl<P: Show> Show for Right<P> {
 pub struct Center<P>(pub P, pub usize, pub u8);
 
 impl<P: Part> Part for Center<P> {
-    #[inline(always)]
-    #[track_caller]
+    #[inline]
     fn room(self) -> usize {
         self.0.room().max(self.1)
     }
 
-    #[inline(always)]
-    #[track_caller]
+    #[inline]
     fn write_to(self, buffer: &mut [u8]) -> usize {
         let count = self.0.write_to(buffer);
         let added = self.1.saturating_sub(count);
@@ -156,8 +144,7 @@ impl<P: Part> Part for Center<P> {
         end + write_fill(self.2, added - before, &mut buffer[end..])
     }
 
-    #[inline(always)]
-    #[track_caller]
+    #[inline]
     fn text_len(self) -> Option<usize> {
         Some(self.0.text_len()?.max(self.1))
     }
@@ -169,14 +156,12 @@ impl<P: Part> Part for Center<P> {
 }
 
 impl<P: Show> Show for Center<P> {
-    #[inline(always)]
-    #[track_caller]
+    #[inline]
     fn is_showable(self) -> bool {
         self.2 < 128 && self.0.is_showable()
     }
 
-    #[inline(always)]
-    #[track_caller]
+    #[inline]
     fn write_pieces<O: fmt::Write>(self, out: &mut O) -> fmt::Result {
         if self.room() <= MOST_IN_ONE_PIECE {
             return write_in_one_piece(self, out);

@@ -10,8 +10,7 @@ use crate::parts::sealed::Sealed;
 use core::fmt;
 
 // Returns the length of the sign with which the text begins: 1 for `-` or `+`, and otherwise 0.
-#[inline(always)]
-#[track_caller]
+#[inline]
 fn length_of_sign(text: &[u8]) -> usize {
     match text {
         [b'-' | b'+', ..] => 1,
@@ -32,14 +31,12 @@ fn length_of_sign(text: &[u8]) -> usize {
 pub struct ZeroPadded<P>(pub P, pub usize);
 
 impl<P: Part> Part for ZeroPadded<P> {
-    #[inline(always)]
-    #[track_caller]
+    #[inline]
     fn room(self) -> usize {
         self.0.room().max(self.1)
     }
 
-    #[inline(always)]
-    #[track_caller]
+    #[inline]
     fn write_to(self, buffer: &mut [u8]) -> usize {
         let count = self.0.write_to(buffer);
         let sign = length_of_sign(&buffer[..count]);
@@ -48,8 +45,7 @@ impl<P: Part> Part for ZeroPadded<P> {
         zeros + count
     }
 
-    #[inline(always)]
-    #[track_caller]
+    #[inline]
     fn text_len(self) -> Option<usize> {
         Some(self.0.text_len()?.max(self.1))
     }
@@ -61,14 +57,12 @@ impl<P: Part> Part for ZeroPadded<P> {
 }
 
 impl<P: Show> Show for ZeroPadded<P> {
-    #[inline(always)]
-    #[track_caller]
+    #[inline]
     fn is_showable(self) -> bool {
         self.0.is_showable()
     }
 
-    #[inline(always)]
-    #[track_caller]
+    #[inline]
     fn write_pieces<O: fmt::Write>(self, out: &mut O) -> fmt::Result {
         if self.room() <= MOST_IN_ONE_PIECE {
             return write_in_one_piece(self, out);
@@ -95,8 +89,7 @@ struct AddingZeros<'a, O> {
 }
 
 impl<O: fmt::Write> fmt::Write for AddingZeros<'_, O> {
-    #[inline(always)]
-    #[track_caller]
+    #[inline]
     fn write_str(&mut self, text: &str) -> fmt::Result {
         if text.is_empty() {
             return Ok(());

@@ -8,20 +8,17 @@ use crate::parts::sealed::Sealed;
 use core::fmt;
 
 impl<P: Part> Part for &P {
-    #[inline(always)]
-    #[track_caller]
+    #[inline]
     fn room(self) -> usize {
         (*self).room()
     }
 
-    #[inline(always)]
-    #[track_caller]
+    #[inline]
     fn write_to(self, buffer: &mut [u8]) -> usize {
         (*self).write_to(buffer)
     }
 
-    #[inline(always)]
-    #[track_caller]
+    #[inline]
     fn text_len(self) -> Option<usize> {
         (*self).text_len()
     }
@@ -33,14 +30,12 @@ impl<P: Part> Part for &P {
 }
 
 impl<P: Show> Show for &P {
-    #[inline(always)]
-    #[track_caller]
+    #[inline]
     fn is_showable(self) -> bool {
         (*self).is_showable()
     }
 
-    #[inline(always)]
-    #[track_caller]
+    #[inline]
     fn write_pieces<O: fmt::Write>(self, out: &mut O) -> fmt::Result {
         (*self).write_pieces(out)
     }
