@@ -295,7 +295,7 @@ fn rows_of_lines() -> Vec<Row> {
         (ITOA, append!(u64, |n, bytes| bytes.extend_from_slice(itoa::Buffer::new().format(n).as_bytes()))),
         (WRITE, append!(u64, |n, bytes| write!(bytes, "{n}").unwrap())),
     ];
-    let joined = lines!(8, |numbers, text| text.push_str(Joined(numbers, ",").to_str(&mut [0; 168])));
+    let joined = lines!(8, |numbers, text| text.push_str((Joined(numbers, ","), ",").to_str(&mut [0; 168])));
     let joined_by_others = [
         (ITOA, lines!(8, |numbers, text| join_by_itoa(numbers, &mut text))),
         (WRITE, lines!(8, |numbers, text| join_by_std(numbers, &mut text))),
