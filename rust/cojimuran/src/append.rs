@@ -100,9 +100,11 @@ impl AppendTarget for Vec<u8> {
 impl AppendTarget for String {
     #[inline]
     fn append_part<P: Part>(&mut self, part: P) {
-        match part.try_to_str(&mut [0; MOST_AT_ONCE]) {
-            Some(text) => self.push_str(text),
-            None => self.push_str(part.to_str(&mut vec![0; part.room()])),
+        let room = part.room();
+        if room <= MOST_AT_ONCE {
+            self.push_str(part.to_str(&mut [0; MOST_AT_ONCE]));
+        } else {
+            self.push_str(part.to_str(&mut vec![0; room]));
         }
     }
 }

@@ -57,14 +57,16 @@ impl Additions<'_> {
         Ok(())
     }
 
-    /// Returns the attributes for inlining: as listed for the function or its file, and otherwise `#[inline]`. Tests
-    /// need none, and a function with an ABI has attributes of its own.
+    /// Returns the attributes for inlining: as listed for the function, for its file or for both, and otherwise
+    /// `#[inline]`. Tests need none, and a function with an ABI has attributes of its own.
     fn inlining(&self, tokens: &[Token], function: &Function) -> String {
         let is_exported = tokens[function.visibility..function.at].iter().any(|token| *token == "extern");
         if tokens[function.body] != "{" || self.source.is_test() || is_exported {
             return String::new();
         }
-        let is_listed = |(_, names): &&(_, &str)| has(names, function.name(tokens)) || has(names, self.file);
+        let name = function.name(tokens);
+        let both = format!("{}:{name}", self.file);
+        let is_listed = |(_, names): &&(_, &str)| [name, self.file, &both].iter().any(|each| has(names, each));
         let attributes = self.source.attributes.iter().find(is_listed);
         attributes.map_or("#[inline]", |(attributes, _)| attributes).to_owned() + "\n"
     }

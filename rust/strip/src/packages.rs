@@ -13,8 +13,8 @@ pub(crate) struct Source {
     pub package: &'static str,
     /// The module of the package that is made of the crate, or empty for its root.
     pub module: &'static str,
-    /// Attributes other than `#[inline]`, each with its functions, and the files, paths in `src`, whose functions have
-    /// it. The first that names a function counts.
+    /// Attributes other than `#[inline]`, each with the functions that have it, the files, paths in `src`, whose
+    /// functions have it, and functions of one file, as `FILE:NAME`. The first that names a function counts.
     pub attributes: Listed,
     /// The names of public functions that are `const fn`.
     pub constant: &'static str,
@@ -151,15 +151,14 @@ pub(crate) const SOURCES: &[Source] = &[
             // called from the writer of long numbers, which calls itself.
             ("#[inline]", "shared_write_32 shared_write_64 eighth_power count_and_write_more"),
             // What chooses a writer, the decimal writer, the writer for radices with a fast count, and what
-            // `write_out_of_line` calls. If the format is constant in a caller, so is the choice. The others would
-            // make the code of a caller long if its radix is known only at run time. rustc has `radix_called` in a
-            // caller only if the radix is constant there.
+            // `write_out_of_line` calls. If the format or the radix is constant in a caller, so is the choice.
             (
                 "#[inline(always)]\n#[track_caller]",
                 "buffer.rt texts/to_lexical.rt texts/integers.rt digits/write.rt digits/decimal.rt
                 digits/decimal/jeaiii.rt digits/pairs.rt digits/decimal/kernels.rt digits/decimal/decimal_pairs.rt
                 digits/radix/counting_writer.rt digits/radix/steps.rt digits/radix/count_first_writer.rt write_digits
-                write_by_fast_count write_by_table radix_inlined constant_radix digit_count most_digits fast_log2",
+                write_by_fast_count write_by_table radix radix_called radix_inlined constant_radix write_padded
+                digit_count most_digits fast_log2",
             ),
         ],
         left_out: "turns",
@@ -173,15 +172,22 @@ pub(crate) const SOURCES: &[Source] = &[
     Source {
         name: "lexical_parts",
         module: "parts",
-        // A tuple of parts and what it often contains. So the texts and the widths that are constant in a caller are
-        // known.
         attributes: &[
             // The only function of the package that is not safe code.
             ("#[inline(always)]\n#[track_caller]\n#[allow(unsafe_code)]", "to_str"),
+            // The code of a number in decimal is long. So a caller calls it, and has no copy of its own.
+            ("#[inline(never)]", "format"),
+            ("#[inline(never)]\n#[track_caller]", "numbers/integers.rt:write_to numbers/fixed.rt:write_to"),
+            // In a caller the radix, the texts and the widths are often constant. Each function on the way to the
+            // digits must be in the caller too: one that two callers share would have the code of every radix.
             (
                 "#[inline(always)]",
-                "numbers/padded.rt is_known_valid_and_utf8 room_bound has_room needs_no_check try_to_str
-                write_in_one_piece",
+                "numbers/padded.rt texts/option.rt texts/reference.rt
+                texts/lower.rt:room texts/lower.rt:write_to texts/lower.rt:write_pieces layout/column.rt:room
+                layout/column.rt:write_to layout/zero_padded.rt:room layout/zero_padded.rt:write_to
+                formatting/show.rt:write_pieces write_in_one_piece
+                write_at try_write_to write_if_it_fits try_to_str str_if_it_fits
+                is_known_valid_and_utf8 room_bound has_room needs_no_check",
             ),
             // Some parts are formatted as others in a constant radix. If that radix were not known there, `{}` of a
             // `Decimal` would have the code of all radices in small programs.
@@ -191,7 +197,7 @@ pub(crate) const SOURCES: &[Source] = &[
                 "#[inline(always)]\n#[track_caller]",
                 "layout/tuples.rt layout/joined.rt numbers/integers.rt numbers/decimal.rt numbers/digits.rt
                 numbers/formatted.rt numbers/powers_of_two.rt numbers/fixed.rt texts/strings.rt texts/words.rt
-                texts/chars.rt texts/bytes.rt format to_text",
+                texts/chars.rt texts/bytes.rt to_text",
             ),
         ],
         laws: "laws rooms_at_most formatted_room_suffices str_is_utf8",

@@ -68,6 +68,7 @@ impl Repository {
         for file in self.files.iter().filter(|file| file.source.name == source.name) {
             found.extend([file.name.clone(), file.name.trim_end_matches(".rt").to_owned()]);
             found.extend(file.tokens.iter().map(|token| token.text.clone()));
+            found.extend(names(&file.tokens).map(|name| format!("{}:{name}", file.name)));
         }
         match source.names().find(|name| !found.contains(*name)) {
             Some(name) => Err(format!("{}: it has no {name}", source.name)),

@@ -65,8 +65,8 @@ pub(crate) fn write_in_one_piece<P: Part, O: fmt::Write>(part: P, out: &mut O) -
     requires utf8 { P.is_utf8 part }
     ensures { IsOk result → WritesSome O.write_str_gives (P.is_text part) out.old out.new }
 {
-    match part.try_to_str(&mut [0; MOST_IN_ONE_PIECE]) {
-        Some(text) => out.write_str(text),
-        None => Err(fmt::Error),
+    if part.room() > MOST_IN_ONE_PIECE {
+        return Err(fmt::Error);
     }
+    out.write_str(part.to_str(&mut [0; MOST_IN_ONE_PIECE]))
 }

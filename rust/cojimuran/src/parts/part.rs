@@ -99,7 +99,7 @@ pub trait Part: Copy {
     /// # Panics
     ///
     /// If the part is not valid, or if the buffer is [too short](crate::conditions).
-    #[inline]
+    #[inline(always)]
     fn write_at(self, index: usize, buffer: &mut [u8]) -> usize {
         index + self.write_to(&mut buffer[index..])
     }
@@ -112,7 +112,7 @@ pub trait Part: Copy {
     /// # Panics
     ///
     /// If the part is not valid.
-    #[inline]
+    #[inline(always)]
     fn try_write_to(self, buffer: &mut [u8]) -> Option<usize> {
         if self.room() <= buffer.len() {
             return Some(self.write_to(buffer));
@@ -169,7 +169,7 @@ pub trait Part: Copy {
 // Writes the text to the start of a buffer that is shorter than the room, if the room is at most 256 bytes and the
 // buffer is as long as the text. If rustc did not inline it, each caller would write its part to the stack for this
 // call.
-#[inline]
+#[inline(always)]
 fn write_if_it_fits<P: Part>(part: P, buffer: &mut [u8]) -> Option<usize> {
     let mut array = [0; 256];
     if array.len() < part.room() {
@@ -183,7 +183,7 @@ fn write_if_it_fits<P: Part>(part: P, buffer: &mut [u8]) -> Option<usize> {
 }
 
 // Returns what `write_if_it_fits` writes as a `&str`.
-#[inline]
+#[inline(always)]
 fn str_if_it_fits<P: Part>(part: P, buffer: &mut [u8]) -> Option<&str> {
     let count = write_if_it_fits(part, buffer)?;
     let checked = from_utf8(&buffer[..count]);

@@ -47,7 +47,7 @@ pub trait Show: Part {
     /// # Panics
     ///
     /// If the part is not valid, or if its text is not UTF-8 and no error is returned for that.
-    #[inline]
+    #[inline(always)]
     fn write_pieces<O: fmt::Write>(self, out: &mut O) -> fmt::Result {
         write_in_one_piece(self, out)
     }
@@ -56,8 +56,8 @@ pub trait Show: Part {
 // Writes the text to a writer with one call, or returns an error if the room is above 256 bytes.
 #[inline(always)]
 pub(crate) fn write_in_one_piece<P: Part, O: fmt::Write>(part: P, out: &mut O) -> fmt::Result {
-    match part.try_to_str(&mut [0; MOST_IN_ONE_PIECE]) {
-        Some(text) => out.write_str(text),
-        None => Err(fmt::Error),
+    if part.room() > MOST_IN_ONE_PIECE {
+        return Err(fmt::Error);
     }
+    out.write_str(part.to_str(&mut [0; MOST_IN_ONE_PIECE]))
 }

@@ -22,12 +22,12 @@ use core::fmt;
 pub struct Left<P>(pub P, pub usize, pub u8);
 
 impl<P: Part> Part for Left<P> {
-    #[inline]
+    #[inline(always)]
     fn room(self) -> usize {
         self.0.room().max(self.1)
     }
 
-    #[inline]
+    #[inline(always)]
     fn write_to(self, buffer: &mut [u8]) -> usize {
         let count = self.0.write_to(buffer);
         count + write_fill(self.2, self.1.saturating_sub(count), &mut buffer[count..])
@@ -74,12 +74,12 @@ impl<P: Show> Show for Left<P> {
 pub struct Right<P>(pub P, pub usize, pub u8);
 
 impl<P: Part> Part for Right<P> {
-    #[inline]
+    #[inline(always)]
     fn room(self) -> usize {
         self.0.room().max(self.1)
     }
 
-    #[inline]
+    #[inline(always)]
     fn write_to(self, buffer: &mut [u8]) -> usize {
         let count = self.0.write_to(buffer);
         let added = self.1.saturating_sub(count);
@@ -129,12 +129,12 @@ impl<P: Show> Show for Right<P> {
 pub struct Center<P>(pub P, pub usize, pub u8);
 
 impl<P: Part> Part for Center<P> {
-    #[inline]
+    #[inline(always)]
     fn room(self) -> usize {
         self.0.room().max(self.1)
     }
 
-    #[inline]
+    #[inline(always)]
     fn write_to(self, buffer: &mut [u8]) -> usize {
         let count = self.0.write_to(buffer);
         let added = self.1.saturating_sub(count);

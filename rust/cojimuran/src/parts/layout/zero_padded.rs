@@ -31,12 +31,12 @@ fn length_of_sign(text: &[u8]) -> usize {
 pub struct ZeroPadded<P>(pub P, pub usize);
 
 impl<P: Part> Part for ZeroPadded<P> {
-    #[inline]
+    #[inline(always)]
     fn room(self) -> usize {
         self.0.room().max(self.1)
     }
 
-    #[inline]
+    #[inline(always)]
     fn write_to(self, buffer: &mut [u8]) -> usize {
         let count = self.0.write_to(buffer);
         let sign = length_of_sign(&buffer[..count]);

@@ -30,8 +30,7 @@ impl Buffer {
     }
 
     /// Returns the number in decimal, with a `-` if it is negative.
-    #[inline(always)]
-    #[track_caller]
+    #[inline(never)]
     pub fn format<T: ToLexical>(&mut self, number: T) -> &str {
         Decimal(number).to_str(&mut self.bytes)
     }

@@ -79,7 +79,7 @@ impl<T: ToLexical> Part for Fixed<T> {
         GroupedFixed(self.0, self.1, &STANDARD).room()
     }
 
-    #[inline(always)]
+    #[inline(never)]
     #[track_caller]
     fn write_to(self, buffer: &mut [u8]) -> usize {
         GroupedFixed(self.0, self.1, &STANDARD).write_to(buffer)
@@ -126,7 +126,7 @@ impl<T: ToLexical> Part for GroupedFixed<'_, T> {
         usize::from(T::IS_SIGNED) + self.2.grouped_len(whole) + self.1 + self.1.min(1)
     }
 
-    #[inline(always)]
+    #[inline(never)]
     #[track_caller]
     fn write_to(self, buffer: &mut [u8]) -> usize {
         let start = Sign(self.0, false).write_to(buffer);

@@ -16,7 +16,7 @@ impl Part for u8 {
         3
     }
 
-    #[inline(always)]
+    #[inline(never)]
     #[track_caller]
     fn write_to(self, buffer: &mut [u8]) -> usize {
         Decimal(self).write_to(buffer)
@@ -49,7 +49,7 @@ impl Part for u16 {
         5
     }
 
-    #[inline(always)]
+    #[inline(never)]
     #[track_caller]
     fn write_to(self, buffer: &mut [u8]) -> usize {
         Decimal(self).write_to(buffer)
@@ -82,7 +82,7 @@ impl Part for u32 {
         10
     }
 
-    #[inline(always)]
+    #[inline(never)]
     #[track_caller]
     fn write_to(self, buffer: &mut [u8]) -> usize {
         Decimal(self).write_to(buffer)
@@ -115,7 +115,7 @@ impl Part for u64 {
         20
     }
 
-    #[inline(always)]
+    #[inline(never)]
     #[track_caller]
     fn write_to(self, buffer: &mut [u8]) -> usize {
         Decimal(self).write_to(buffer)
@@ -148,7 +148,7 @@ impl Part for usize {
         20
     }
 
-    #[inline(always)]
+    #[inline(never)]
     #[track_caller]
     fn write_to(self, buffer: &mut [u8]) -> usize {
         Decimal(self).write_to(buffer)
@@ -181,7 +181,7 @@ impl Part for i8 {
         4
     }
 
-    #[inline(always)]
+    #[inline(never)]
     #[track_caller]
     fn write_to(self, buffer: &mut [u8]) -> usize {
         Decimal(self).write_to(buffer)
@@ -214,7 +214,7 @@ impl Part for i16 {
         6
     }
 
-    #[inline(always)]
+    #[inline(never)]
     #[track_caller]
     fn write_to(self, buffer: &mut [u8]) -> usize {
         Decimal(self).write_to(buffer)
@@ -247,7 +247,7 @@ impl Part for i32 {
         11
     }
 
-    #[inline(always)]
+    #[inline(never)]
     #[track_caller]
     fn write_to(self, buffer: &mut [u8]) -> usize {
         Decimal(self).write_to(buffer)
@@ -280,7 +280,7 @@ impl Part for i64 {
         20
     }
 
-    #[inline(always)]
+    #[inline(never)]
     #[track_caller]
     fn write_to(self, buffer: &mut [u8]) -> usize {
         Decimal(self).write_to(buffer)
@@ -313,7 +313,7 @@ impl Part for isize {
         20
     }
 
-    #[inline(always)]
+    #[inline(never)]
     #[track_caller]
     fn write_to(self, buffer: &mut [u8]) -> usize {
         Decimal(self).write_to(buffer)

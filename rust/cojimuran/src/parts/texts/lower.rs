@@ -22,12 +22,12 @@ use core::fmt;
 pub struct Lower<P>(pub P);
 
 impl<P: Part> Part for Lower<P> {
-    #[inline]
+    #[inline(always)]
     fn room(self) -> usize {
         self.0.room()
     }
 
-    #[inline]
+    #[inline(always)]
     fn write_to(self, buffer: &mut [u8]) -> usize {
         let count = self.0.write_to(buffer);
         buffer[..count].make_ascii_lowercase();
@@ -56,7 +56,7 @@ impl<P: Show> Show for Lower<P> {
         self.0.is_showable()
     }
 
-    #[inline]
+    #[inline(always)]
     fn write_pieces<O: fmt::Write>(self, out: &mut O) -> fmt::Result {
         if self.room() <= MOST_IN_ONE_PIECE {
             return write_in_one_piece(self, out);

@@ -9,7 +9,7 @@ use crate::write_integer::buffer::copy_to_front;
 use core::fmt;
 
 impl<P: Part> Part for Option<P> {
-    #[inline]
+    #[inline(always)]
     fn room(self) -> usize {
         match self {
             Some(part) => part.room(),
@@ -17,7 +17,7 @@ impl<P: Part> Part for Option<P> {
         }
     }
 
-    #[inline]
+    #[inline(always)]
     fn write_to(self, buffer: &mut [u8]) -> usize {
         match self {
             Some(part) => part.write_to(buffer),
@@ -25,7 +25,7 @@ impl<P: Part> Part for Option<P> {
         }
     }
 
-    #[inline]
+    #[inline(always)]
     fn text_len(self) -> Option<usize> {
         match self {
             Some(part) => part.text_len(),
@@ -44,7 +44,7 @@ impl<P: Part> Part for Option<P> {
 }
 
 impl<P: Show> Show for Option<P> {
-    #[inline]
+    #[inline(always)]
     fn is_showable(self) -> bool {
         match self {
             Some(part) => part.is_showable(),
@@ -52,7 +52,7 @@ impl<P: Show> Show for Option<P> {
         }
     }
 
-    #[inline]
+    #[inline(always)]
     fn write_pieces<O: fmt::Write>(self, out: &mut O) -> fmt::Result {
         match self {
             Some(part) => part.write_pieces(out),
@@ -74,12 +74,12 @@ impl<P: Show> Show for Option<P> {
 pub struct OrElse<P, Q>(pub Option<P>, pub Q);
 
 impl<P: Part, Q: Part> Part for OrElse<P, Q> {
-    #[inline]
+    #[inline(always)]
     fn room(self) -> usize {
         self.0.room().max(self.1.room())
     }
 
-    #[inline]
+    #[inline(always)]
     fn write_to(self, buffer: &mut [u8]) -> usize {
         match self.0 {
             Some(present) => present.write_to(buffer),
@@ -87,7 +87,7 @@ impl<P: Part, Q: Part> Part for OrElse<P, Q> {
         }
     }
 
-    #[inline]
+    #[inline(always)]
     fn text_len(self) -> Option<usize> {
         match self.0 {
             Some(present) => present.text_len(),
@@ -102,12 +102,12 @@ impl<P: Part, Q: Part> Part for OrElse<P, Q> {
 }
 
 impl<P: Show, Q: Show> Show for OrElse<P, Q> {
-    #[inline]
+    #[inline(always)]
     fn is_showable(self) -> bool {
         self.0.is_showable() && self.1.is_showable()
     }
 
-    #[inline]
+    #[inline(always)]
     fn write_pieces<O: fmt::Write>(self, out: &mut O) -> fmt::Result {
         match self.0 {
             Some(present) => present.write_pieces(out),

@@ -35,7 +35,8 @@ pub fn fits_decimal_width(number: u64, width: usize) -> bool {
 /// # Panics
 ///
 /// If the radix is not from 2 to 36, or if the number has more digits than the buffer has bytes.
-#[inline]
+#[inline(always)]
+#[track_caller]
 pub fn write_padded<T: DigitCount + Radix>(value: T, radix: u32, buffer: &mut [u8]) -> usize {
     let number = value.as_u64();
     if radix == 10 {

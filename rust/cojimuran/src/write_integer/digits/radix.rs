@@ -103,7 +103,8 @@ pub(crate) fn radix_inlined<T: UnsignedInteger>(value: T, radix: u32, buffer: &m
 
 // Writes the digits as `radix_inlined` does, by a call in each radix unless they are one or two. So a caller has little
 // code: if the radix is constant there, rustc has only the code of that radix in the caller, and otherwise calls this.
-#[inline]
+#[inline(always)]
+#[track_caller]
 fn radix_called<T: UnsignedInteger>(value: T, radix: u32, buffer: &mut [u8]) -> usize {
     by_radix!(radix, write_out_of_line or write_long_out_of_line::<T>(value, buffer))
 }
@@ -132,7 +133,8 @@ pub trait Radix: UnsignedInteger {
     /// # Panics
     ///
     /// If the radix is not from 2 to 36, or if the buffer is [too short](crate::conditions).
-    #[inline]
+    #[inline(always)]
+    #[track_caller]
     fn radix(self, radix: u32, buffer: &mut [u8]) -> usize {
         radix_called(self, radix, buffer)
     }
