@@ -25,7 +25,7 @@ use lexical_write_integer::{ToLexical, ToLexicalWithOptions};
 
 /// The length of a buffer that is long enough for every answer: `bad line `, the text of a number,
 /// and a newline.
-pub const MAX_ANSWER: usize = BUFFER_SIZE + 11;
+pub const MAX_ANSWER: usize = BUFFER_SIZE + 10;
 
 /// Writes the answer to a line to the start of `buffer`, and returns its length in bytes and whether
 /// the line is valid. `line` is `None` if the line is longer than 64 bytes.

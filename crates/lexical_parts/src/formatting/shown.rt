@@ -1,4 +1,4 @@
-//! Parts in a format string, whose text is not that of one number.
+//! Parts in a format string with the options of a `&str`: those whose text is not that of one number, and `Scientific`.
 
 ghost use Rattle.std.specs.Fmt.{DisplaysOnOk, DisplaysStyledOnOk, HasWrittenStyled, IsFlush, WritesStyledOnOk, char_count, fill_text, formatter_spec};
 ghost use Rattle.std.specs.Fmt.{padded, padding_before, styled_text, take_chars};

@@ -1,5 +1,5 @@
-//! Writing the digits of a number in any radix, from the tables of digit pairs. In radix 10 and in powers of 2 the
-//! digits are counted first, and otherwise, by division, while they are written.
+//! Writing the digits of a number in any radix, from the tables of digit pairs, and in radix 2 from 256 on without one.
+//! In radix 10 and in powers of 2 the digits are counted first, and otherwise, by division, while they are written.
 
 ghost use Rattle.std.specs.Prelude.{true, ◌≡◌, ◌*◌, ◌<◌, ◌≤◌, ◌++◌, length};
 ghost use Rattle.lexical_num.specs.Format.{IsRadix};
@@ -160,8 +160,8 @@ pub(crate) fn radix_inlined<T: UnsignedInteger>(
     by_radix!(radix, write_by_table or write_long_out_of_line::<T>(value, buffer, turns))
 }
 
-// Writes the digits as `radix_inlined` does, by a call in each radix unless they are one or two. So a caller has little
-// code: if the radix is constant there, rustc has only the code of that radix in the caller, and otherwise calls this.
+// Writes the digits as `radix_inlined` does, but unless they are one or two, by a call in each radix. So a caller whose
+// radix is constant has little code.
 fn radix_called<T: UnsignedInteger>(
     value: T,
     radix: u32,

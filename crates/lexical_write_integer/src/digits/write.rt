@@ -1,5 +1,5 @@
-//! Writing the digits of a number in any radix: with the decimal writer in radix 10, and otherwise with
-//! the table writer.
+//! Writing the digits of a number in any radix: with the decimal writer in radix 10, and otherwise with the writer of
+//! that radix.
 
 ghost use Rattle.std.specs.Prelude.{◌≡◌, ◌+◌, ◌^◌, ◌<◌, ◌≤◌, ◌++◌, length};
 ghost use Rattle.lexical_num.specs.Format.{IsRadix};

@@ -125,9 +125,9 @@ pub trait Part: Copy {
     /// in it and each fill byte of a column must be below 128, each [`Bytes`](super::Bytes) in it must be UTF-8, and
     /// the buffer must have `room` bytes or more.
     ///
-    /// `std::str::from_utf8` reads the text once to check it if there is a `Bytes`, a `Displayed`, a reference to a
-    /// `String` or a part of your own in it, if a byte or a fill in it is 128 or above, or if the buffer is shorter
-    /// than the room. Other texts need no check.
+    /// `std::str::from_utf8` reads the text once to check it if there is a `Displayed`, a reference to a `String` or a
+    /// part of your own in it, if a byte or a fill in it is 128 or above, or if the buffer is shorter than the room. It
+    /// reads a `Bytes` by itself. Other texts need no check.
     ///
     /// # Panics
     ///

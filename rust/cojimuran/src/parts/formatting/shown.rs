@@ -1,6 +1,6 @@
 // Made by `strip` from crates/lexical_parts/src/formatting/shown.rt. Edit that file, not this one.
 
-//! Parts in a format string, whose text is not that of one number.
+//! Parts in a format string with the options of a `&str`: those whose text is not that of one number, and `Scientific`.
 
 use crate::parts::formatting::cut::{Nowhere, write_first};
 use crate::parts::formatting::show::{MOST_IN_ONE_PIECE, Show};

@@ -1,7 +1,7 @@
 // Made by `strip` from crates/lexical_write_integer/src/digits/radix.rt. Edit that file, not this one.
 
-//! Writing the digits of a number in any radix, from the tables of digit pairs. In radix 10 and in powers of 2 the
-//! digits are counted first, and otherwise, by division, while they are written.
+//! Writing the digits of a number in any radix, from the tables of digit pairs, and in radix 2 from 256 on without one.
+//! In radix 10 and in powers of 2 the digits are counted first, and otherwise, by division, while they are written.
 
 pub mod algorithm;
 mod binary_words;
@@ -101,8 +101,8 @@ pub(crate) fn radix_inlined<T: UnsignedInteger>(value: T, radix: u32, buffer: &m
     by_radix!(radix, write_by_table or write_long_out_of_line::<T>(value, buffer))
 }
 
-// Writes the digits as `radix_inlined` does, by a call in each radix unless they are one or two. So a caller has little
-// code: if the radix is constant there, rustc has only the code of that radix in the caller, and otherwise calls this.
+// Writes the digits as `radix_inlined` does, but unless they are one or two, by a call in each radix. So a caller whose
+// radix is constant has little code.
 #[inline(always)]
 #[track_caller]
 fn radix_called<T: UnsignedInteger>(value: T, radix: u32, buffer: &mut [u8]) -> usize {

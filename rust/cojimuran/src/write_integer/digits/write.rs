@@ -1,7 +1,7 @@
 // Made by `strip` from crates/lexical_write_integer/src/digits/write.rt. Edit that file, not this one.
 
-//! Writing the digits of a number in any radix: with the decimal writer in radix 10, and otherwise with
-//! the table writer.
+//! Writing the digits of a number in any radix: with the decimal writer in radix 10, and otherwise with the writer of
+//! that radix.
 
 use super::count::DigitCount;
 use super::decimal::Decimal;
