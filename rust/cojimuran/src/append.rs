@@ -2,7 +2,6 @@
 
 use crate::parts::Part;
 use alloc::string::String;
-use alloc::vec;
 use alloc::vec::Vec;
 
 /// Appends a part to a `Vec<u8>` or a `String`, with the feature `alloc`, which is off by default.
@@ -101,10 +100,13 @@ impl AppendTarget for String {
     #[inline]
     fn append_part<P: Part>(&mut self, part: P) {
         let room = part.room();
-        if room <= MOST_AT_ONCE {
-            self.push_str(part.to_str(&mut [0; MOST_AT_ONCE]));
+        let (mut array, mut long) = ([0; MOST_AT_ONCE], Vec::new());
+        let buffer = if room <= MOST_AT_ONCE {
+            &mut array[..]
         } else {
-            self.push_str(part.to_str(&mut vec![0; room]));
-        }
+            long.resize(room, 0);
+            &mut long[..]
+        };
+        self.push_str(part.to_str(buffer));
     }
 }
