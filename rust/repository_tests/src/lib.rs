@@ -1,4 +1,5 @@
-//! What the tests of the repository are passed in place of the runtime of Rattle, and each part.
+//! What the tests of the repository share: what stands for the runtime of Rattle, each part, and random numbers.
 
 pub mod parts;
+pub mod random;
 pub mod runtime;

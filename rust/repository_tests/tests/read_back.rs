@@ -5,29 +5,19 @@ use cojimuran::{
     BUFFER_SIZE, Digits, Formatted, Lower, NumberFormatBuilder, Options, PaddedDigits, Part, ToLexical,
     ToLexicalWithOptions, ZeroPadded,
 };
+use repository_tests::random::Random;
 use std::str::from_utf8;
-
-/// A generator of random numbers, by multiplication and addition modulo 2^64.
-struct Numbers(u64);
-
-impl Numbers {
-    /// Returns a number of any length.
-    fn next(&mut self) -> u64 {
-        self.0 = self.0.wrapping_mul(6364136223846793005).wrapping_add(1442695040888963407);
-        (self.0 >> 32 ^ self.0) >> (self.0 >> 58)
-    }
-}
 
 /// Reads numbers of a type back, from texts in each format without groups.
 macro_rules! check_texts {
     ($($number:ty),+) => { $(
-        let mut numbers = Numbers(1);
+        let mut random = Random(1);
         for radix in 2..=36 {
             let plain = NumberFormatBuilder::from_radix(radix as u8);
             let builder = NumberFormatBuilder::new().mantissa_radix(radix as u8);
             let signed = builder.required_mantissa_sign(true).build_strict();
-            let random = (0..200).map(|_| numbers.next() as $number);
-            for number in random.chain([<$number>::MIN, <$number>::MAX, 0]) {
+            let some = (0..200).map(|_| random.number() as $number);
+            for number in some.chain([<$number>::MIN, <$number>::MAX, 0]) {
                 for format in [&plain, &signed] {
                     let (mut buffer, mut lower) = ([0; BUFFER_SIZE], [0; BUFFER_SIZE]);
                     let text = number.to_lexical_with_options(&mut buffer, format, &Options::new());
@@ -54,10 +44,10 @@ fn texts() {
 /// Reads numbers of an unsigned type back, from their digits and with leading zeros.
 macro_rules! check_digits {
     ($($number:ty),+) => { $(
-        let mut numbers = Numbers(2);
+        let mut random = Random(2);
         for radix in 2..=36 {
             for _ in 0..200 {
-                let (number, mut buffer) = (numbers.next() as $number, [0; 64]);
+                let (number, mut buffer) = (random.number() as $number, [0; 64]);
                 let digits = Digits(radix, number).to_str(&mut buffer);
                 assert_eq!(<$number>::from_str_radix(digits, radix), Ok(number));
                 let padded = PaddedDigits(radix, number, 64).to_str(&mut buffer);

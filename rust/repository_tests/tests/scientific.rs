@@ -2,37 +2,28 @@
 //! `numbers_as_rust_writes_them` in `crates/uses/src/tests/scientific.rt`, which makes the same numbers.
 
 use cojimuran::{Part, Scientific};
+use repository_tests::random::Random;
 
 /// How many numbers of each kind there are.
 const ROWS: usize = 10_000;
 
-/// A generator of pseudorandom numbers, by multiplication and addition modulo 2^64.
-struct Numbers(u64);
+/// Returns a number of any length, of which one in two has zeros at the end.
+fn number(random: &mut Random) -> u64 {
+    let (bits, choice) = (random.next(), random.next());
+    let number = bits >> (choice % 64);
+    let power = [1, 1, 1, 1, 10, 1000, 10_000_000, 1_000_000_000_000][(choice >> 8) as usize % 8];
+    number - number % power
+}
 
-impl Numbers {
-    fn next(&mut self) -> u64 {
-        self.0 = self.0.wrapping_mul(6364136223846793005).wrapping_add(1442695040888963407);
-        self.0 >> 32 ^ self.0
-    }
+fn signed(random: &mut Random) -> i64 {
+    let number = number(random) as i64;
+    if random.next() % 2 == 0 { number } else { number.wrapping_neg() }
+}
 
-    /// Returns a number of any length, of which one in two has zeros at the end.
-    fn number(&mut self) -> u64 {
-        let (bits, choice) = (self.next(), self.next());
-        let number = bits >> (choice % 64);
-        let power = [1, 1, 1, 1, 10, 1000, 10_000_000, 1_000_000_000_000][(choice >> 8) as usize % 8];
-        number - number % power
-    }
-
-    fn signed(&mut self) -> i64 {
-        let number = self.number() as i64;
-        if self.next() % 2 == 0 { number } else { number.wrapping_neg() }
-    }
-
-    /// Returns the digits of a float of at most 15 digits, which are its shortest, and the exponent of the last.
-    fn float(&mut self) -> (u64, i32) {
-        let exponent = (self.next() % 591) as i32 - 300;
-        (self.number() % 1_000_000_000_000_000, exponent)
-    }
+/// Returns the digits of a float of at most 15 digits, which are its shortest, and the exponent of the last.
+fn float(random: &mut Random) -> (u64, i32) {
+    let exponent = (random.next() % 591) as i32 - 300;
+    (number(random) % 1_000_000_000_000_000, exponent)
 }
 
 /// Compares a part with the text of the standard library, and adds the text to a sum (FNV-1a).
@@ -43,10 +34,10 @@ fn check(part: impl Part, expected: &str, sum: &mut u64) {
 
 #[test]
 fn numbers_as_rust_writes_them() {
-    let mut numbers = Numbers(1);
+    let random = &mut Random(1);
     let (mut unsigned_sum, mut signed_sum, mut float_sum) = (0, 0, 0);
     for _ in 0..ROWS {
-        let (unsigned, signed, (digits, exponent)) = (numbers.number(), numbers.signed(), numbers.float());
+        let (unsigned, signed, (digits, exponent)) = (number(random), signed(random), float(random));
         let float: f64 = format!("{digits}e{exponent}").parse().unwrap();
         check(Scientific(unsigned, 0), &format!("{unsigned:e}"), &mut unsigned_sum);
         check(Scientific(signed, 0), &format!("{signed:e}"), &mut signed_sum);

@@ -5,6 +5,7 @@ use cojimuran::*;
 use cojimuran::{Buffer, NumberFormatBuilder};
 use repository_tests::each_part;
 use repository_tests::parts::Values;
+use repository_tests::random::Random;
 use std::panic::{AssertUnwindSafe, catch_unwind, set_hook};
 use std::str::from_utf8;
 use std::sync::atomic::{AtomicU64, Ordering::Relaxed};
@@ -67,22 +68,17 @@ fn be_silent() {
     }));
 }
 
-fn next(state: &mut u64) -> u64 {
-    *state = state.wrapping_mul(6_364_136_223_846_793_005).wrapping_add(1_442_695_040_888_963_407);
-    *state ^ *state >> 29
-}
-
 #[test]
 fn each_str_is_utf8() {
     be_silent();
-    let state = &mut 9;
+    let random = &mut Random(9);
     let groups =
         NumberFormatBuilder::new().radix(7).required_mantissa_sign(true).digit_grouping(2, b'~').build_strict();
     let rounds = std::env::var("ROUNDS").map_or(12, |rounds| rounds.parse().unwrap());
     for _ in 0..rounds {
-        let (bits, few) = (next(state) >> (next(state) % 64), next(state) >> 20);
-        let (width, fill) = ((few % 40) as usize, (next(state) >> 40) as u8);
-        let bytes: Vec<u8> = (0..few % 5).map(|_| (next(state) >> 30) as u8).collect();
+        let (bits, few) = (random.number(), random.next() >> 20);
+        let (width, fill) = ((few % 40) as usize, (random.next() >> 40) as u8);
+        let bytes: Vec<u8> = (0..few % 5).map(|_| (random.next() >> 30) as u8).collect();
         let values = Values { bits, few, width, fill, bytes: &bytes, groups: &groups };
         macro_rules! check_each {
             ($v:ident; $($part:expr => $room:expr, $text:expr $(, $field:ident = $value:expr)*;)+) => {

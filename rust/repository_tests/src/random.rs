@@ -1,0 +1,22 @@
+//! Numbers that look random, and are the same in each run.
+
+/// A generator by multiplication and addition modulo 2^64.
+pub struct Random(pub u64);
+
+impl Random {
+    pub fn next(&mut self) -> u64 {
+        self.0 = self.0.wrapping_mul(6364136223846793005).wrapping_add(1442695040888963407);
+        self.0 >> 32 ^ self.0
+    }
+
+    /// Returns a number below another one.
+    pub fn below(&mut self, most: u64) -> u64 {
+        self.next() % most
+    }
+
+    /// Returns a number of any length.
+    pub fn number(&mut self) -> u64 {
+        let bits = self.below(64);
+        self.next() >> bits
+    }
+}
