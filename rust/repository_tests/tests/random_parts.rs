@@ -57,45 +57,46 @@ fn leaf(random: &mut Random, level: u8) {
     let bytes = number.to_le_bytes();
     // rustc makes functions for each type, so several parts are in one tuple.
     match random.below(7) {
-        0 => node(number, random, level),
-        1 => node(text(random), random, level),
-        2 => node((number as u8, number as u16, signed as i32, signed, Decimal(number as i8)), random, level),
-        3 => {
-            // Each call has the code of a radix that is known only at run time: so rustc compiles it once.
-            Digits(radix, number).try_part(random);
-            node((Plus(signed as i16), Digits(7, number), Hex(number), Binary(number as u32)), random, level);
+        0 => node(&number, random, level),
+        1 => node(&text(random), random, level),
+        2 => node(&(number as u8, number as u16, signed as i32, signed, Decimal(number as i8)), random, level),
+        3 => node(&(Plus(signed as i16), Digits(radix, number), Hex(number), Binary(number as u32)), random, level),
+        4 => {
+            let padded = (Padded(number as u32, 10 + small * small), PaddedDigits(3, number as u8, 6 + small));
+            node(&padded, random, level)
         }
-        4 => node((Padded(number as u32, 10 + small * small), PaddedDigits(3, number as u8, 6 + small)), random, level),
         5 => {
             let fixed = (Fixed(signed, small), GroupedFixed(signed as i32, small, &THOUSANDS));
             let rest = (TrimmedFixed(signed / 100 * 100, small), Scientific(signed / 1000 * 1000, number as i32));
-            node((fixed, rest, Formatted(signed, &THOUSANDS)), random, level)
+            node(&(fixed, rest, Formatted(signed, &THOUSANDS)), random, level)
         }
         _ => {
             let hex = HexBytes(&bytes[..small.min(8)], text(random));
             let sign = Sign(signed, number % 2 == 0);
-            node((hex, sign, number % 3 == 0, character, Byte(number as u8 % 128)), random, level)
+            node(&(hex, sign, number % 3 == 0, character, Byte(number as u8 % 128)), random, level)
         }
     }
 }
 
-fn node<P: Show>(part: P, random: &mut Random, level: u8) {
+// A part is in others by reference, because a reference is written by a call: so rustc compiles its code once.
+
+fn node<P: Show>(part: &P, random: &mut Random, level: u8) {
     let width = random.below(30) as usize;
     let is_there = random.below(2) == 0;
     match random.below(if level == 0 { 1 } else { 9 }) {
         0 => part.try_part(random),
-        1 => inner((part, text(random), part), random, level),
-        2 => inner(Joined(&[part; 4][..width % 5], text(random)), random, level),
-        3 => inner(Left(part, width, b'.'), random, level),
-        4 => inner(Right(part, width, b' '), random, level),
-        5 => inner(Center(part, width, b'*'), random, level),
-        6 => inner(ZeroPadded(part, width), random, level),
-        7 => inner(Lower(part), random, level),
-        _ => inner((is_there.then_some(part), OrElse(is_there.then_some(part), "n/a"), &part), random, level),
+        1 => inner(&(part, text(random), part), random, level),
+        2 => inner(&Joined(&[part; 4][..width % 5], text(random)), random, level),
+        3 => inner(&Left(part, width, b'.'), random, level),
+        4 => inner(&Right(part, width, b' '), random, level),
+        5 => inner(&Center(part, width, b'*'), random, level),
+        6 => inner(&ZeroPadded(part, width), random, level),
+        7 => inner(&Lower(part), random, level),
+        _ => inner(&(is_there.then_some(part), OrElse(is_there.then_some(part), "n/a")), random, level),
     }
 }
 
-fn inner<P: Show>(part: P, random: &mut Random, level: u8) {
+fn inner<P: Show>(part: &P, random: &mut Random, level: u8) {
     let width = random.below(90) as usize;
     match random.below(if level == 1 { 1 } else { 5 }) {
         0 => part.try_part(random),

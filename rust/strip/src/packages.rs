@@ -179,10 +179,11 @@ pub(crate) const SOURCES: &[Source] = &[
             ("#[inline(never)]", "format"),
             ("#[inline(never)]\n#[track_caller]", "numbers/integers.rt:write_to numbers/fixed.rt:write_to"),
             // In a caller the radix, the texts and the widths are often constant. Each function on the way to the
-            // digits must be in the caller too: one that two callers share would have the code of every radix.
+            // digits must be in the caller too: one that two callers share would have the code of every radix. Only
+            // what is behind a reference is called, so that a caller can say where its code ends.
             (
                 "#[inline(always)]",
-                "numbers/padded.rt texts/option.rt texts/reference.rt
+                "numbers/padded.rt texts/option.rt
                 texts/lower.rt:room texts/lower.rt:write_to texts/lower.rt:write_pieces layout/column.rt:room
                 layout/column.rt:write_to layout/zero_padded.rt:room layout/zero_padded.rt:write_to
                 formatting/show.rt:write_pieces write_in_one_piece write_field write_with_length
