@@ -235,13 +235,38 @@ struct lexical_format {
 };
 
 /*
- * The format of a radix, as an initializer: in uppercase, with no '+' and no groups.
- * For lowercase write { .radix = 16, .lowercase = 1 }.
+ * LEXICAL_FORMAT: a format as an argument. Write its fields as in an initializer:
+ *
+ *     count = lexical_write(48879, LEXICAL_FORMAT(.radix = 16), buffer, sizeof buffer);
+ *
+ * In C99 and later it is a pointer to an unnamed constant, which exists until the end of
+ * the block in which you write it.
+ *
+ * In C++ it is the format itself, because a pointer to a temporary object could outlive
+ * the object. So only lexical_write and lexical_length take it. C++20 has the names of
+ * fields. In C++11 to C++17 write the fields in their order: LEXICAL_FORMAT(10, 0, 3, ',').
+ *
+ * C89 and C++98 do not have this macro. It does not check the radix when you compile, as
+ * LEXICAL_RADIX does.
+ */
+#if defined(__cplusplus)
+#if __cplusplus >= 201103L
+#define LEXICAL_FORMAT(...) (lexical_format{ __VA_ARGS__ })
+#endif
+#elif defined(__STDC_VERSION__) && __STDC_VERSION__ >= 199901L
+#define LEXICAL_FORMAT(...) (&(const struct lexical_format){ __VA_ARGS__ })
+#endif
+
+/*
+ * LEXICAL_RADIX: the format of a radix, as an initializer: in uppercase, with no '+' and no
+ * groups.
+ *
+ *     const struct lexical_format hexadecimal = LEXICAL_RADIX(16);
  *
  * The radix may have any standard integer type except bool. If it is not from 2 to 36, the
- * radix of the format is 0, which is invalid. An integer constant expression that is not
- * from 2 to 36 does not compile (in C11 and later; with gcc and clang in any C, and in C++11
- * and later). The error mentions an array of a negative size, or -1.
+ * radix of the format is 0, which is invalid. If it is also an integer constant expression,
+ * it is a compile error: in C11 and later, and with gcc and clang in every C and in C++11
+ * and later. The error mentions an array of a negative size, or -1.
  *
  * The radix is evaluated once, except in C before C11 with compilers other than gcc and
  * clang.
@@ -252,16 +277,13 @@ struct lexical_format {
  * The standard format, as an initializer and as an object: decimal, with no '+'
  * and no groups. lexical_decimal writes its texts, and lexical_length with
  * &lexical_standard_format returns their lengths.
- *
- * With gcc and clang its address is the same everywhere in a program, but differs between a
- * program and its shared libraries, because the name is hidden from the dynamic linker. With
- * other compilers each file in C, or in C++ before C++17, has an object of its own.
  */
 #define LEXICAL_STANDARD_FORMAT { 10, 0, 0, 0, 0, { 0, 0 } }
 #if defined(__cplusplus) && __cplusplus >= 201703L
 LEXICAL_HAS((visibility("hidden")))
 inline constexpr lexical_format lexical_standard_format = LEXICAL_STANDARD_FORMAT;
 #elif defined(__GNUC__)
+/* One object in a program, which inline functions may use, and which no library exports. */
 extern __attribute__((weak, visibility("hidden"))) const struct lexical_format lexical_standard_format;
 const struct lexical_format lexical_standard_format = LEXICAL_STANDARD_FORMAT;
 #else
@@ -472,16 +494,10 @@ size_t lexical_terminate(size_t count, char *buffer, size_t size) LEXICAL_NOEXCE
  *   type with which it is declared.
  * - In C++98 cast a long long to int64_t.
  *
- * In C++ the format may also be passed as an object, and in C++11 and later as
- * an initializer:
+ * In C pass a pointer to the format, which LEXICAL_FORMAT is too. In C++ you can also pass
+ * the format itself, and in C++11 and later an initializer:
  *
  *     count = lexical_write(48879, LEXICAL_RADIX(16), buffer, sizeof buffer);
- *
- * In C99 and later you can pass &(const struct lexical_format)LEXICAL_RADIX(16), or all
- * fields:
- *
- *     count = lexical_write(1234567, &(const struct lexical_format){ .radix = 10,
- *         .group_size = 3, .mark = ',' }, buffer, sizeof buffer);
  */
 #if defined(__cplusplus)
 extern "C++" {

@@ -60,6 +60,10 @@ HAS(size_t lexical_terminate(size_t, char *, size_t))
 HAS(uint32_t lexical_version(void))
 HAS(uint32_t lexical_check_format(const struct lexical_format *))
 
+#ifndef __cplusplus
+static const struct lexical_format *const octal_literal = LEXICAL_FORMAT(.radix = 8);
+#endif
+
 /* Zeros, as the header explains them, and the version as a number and as a string. */
 static void check_examples(void)
 {
@@ -72,6 +76,8 @@ static void check_examples(void)
     check(lexical_version() == LEXICAL_VERSION, "lexical_version");
 #ifndef __cplusplus
     check_text(lexical_write_u32(48879, RADIX(36), buffer, sizeof buffer), "11PR");
+    check_text(lexical_write_u32(48879, LEXICAL_FORMAT(.radix = 36, .lowercase = 1), buffer, sizeof buffer), "11pr");
+    check(octal_literal->radix == 8 && octal_literal->group_size == 0, "LEXICAL_FORMAT of a static object");
 #endif
 }
 
@@ -159,6 +165,13 @@ static void check_choice(void)
     TRY(long long, -4611686018427387904LL, "-4611686018427387904", "-4000_0000_0000_0000")
     IS(lexical_write(48879, RADIX(16), buffer, sizeof buffer), "BEEF")
     IS(lexical_length(48879, RADIX(16)), "BEEF")
+    IS(lexical_write(-1234567, LEXICAL_FORMAT(10, 0, 3, ',', 0, { 0, 0 }), buffer, sizeof buffer), "-1,234,567")
+#if !defined(__cplusplus) || __cplusplus >= 202002L
+    IS(lexical_write(48879, LEXICAL_FORMAT(.radix = 16), buffer, sizeof buffer), "BEEF")
+    IS(lexical_write(1234567, LEXICAL_FORMAT(.radix = 10, .group_size = 3, .mark = '.'), buffer, 128), "1.234.567")
+    IS(lexical_length(1234567, LEXICAL_FORMAT(.radix = 10, .group_size = 3, .mark = '.')), "1.234.567")
+    check(lexical_write(1, LEXICAL_FORMAT(.radix = 37), buffer, sizeof buffer) == 0, "LEXICAL_FORMAT of no radix");
+#endif
 #if defined(__cplusplus) && __cplusplus >= 201402L
     lexical_format defaults;
     defaults.radix = 16;

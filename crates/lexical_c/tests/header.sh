@@ -19,7 +19,7 @@ with_each() {
 # explains_macros COMPILER: whether each macro that the header leaves is one that it explains or says not to use.
 explains_macros() {
   echo '#include "lexical.h"' > "$work/macros.c"
-  names='(BUFFER_SIZE|VERSION|INVALID|PRIVATE)(_.*)?|H|STANDARD_FORMAT|RADIX'
+  names='(BUFFER_SIZE|VERSION|INVALID|PRIVATE)(_.*)?|H|(STANDARD_)?FORMAT|RADIX'
   $1 -I"$crate/include" -E -dM "$work/macros.c" | sed -n 's/^#define \(lexical[a-z_]*\).*/\1/Ip' > "$work/macros"
   [ -s "$work/macros" ] && fails grep -Evx "LEXICAL_($names)|lexical_(decimal|write|length)" "$work/macros"
 }
