@@ -2,35 +2,34 @@
 /*
  * lexical.h: functions that write integers as text, in every radix from 2 to 36.
  *
- * These examples are in C11, or in C99 with gcc or clang. The first lines write 48879 in
- * decimal, and count becomes 5:
+ *   lexical_decimal(value, buffer, size)        writes a number in decimal
+ *   lexical_write(value, format, buffer, size)  writes a number in a format
+ *   lexical_length(value, format)               returns the length of such a text
+ *   lexical_buffer_size_T(format)               returns a buffer size for every number of a type
+ *   lexical_check_format(format)                tells which field of a format is invalid
+ *   lexical_pad(count, width, buffer, size)     inserts zeros after the sign of a text
+ *   lexical_terminate(count, buffer, size)      writes a NUL after a text
+ *   lexical_version()                           returns the version of the library
  *
- *     char buffer[LEXICAL_BUFFER_SIZE];
- *     size_t count = lexical_decimal(48879, buffer, sizeof buffer);
+ * T stands for a type: u8, u16, u32, u64, size, i8, i16, i32 or i64. The first three choose
+ * a function by the type of the value, in C++, in C11 and later, and in C99 with gcc or
+ * clang. In any C you can name the type, as in lexical_decimal_i32(-42, text, sizeof text).
  *
- * These lines write it in hexadecimal, which is BEEF, and count becomes 4:
- *
- *     const struct lexical_format hexadecimal = LEXICAL_RADIX(16);
- *     count = lexical_write(48879, &hexadecimal, buffer, sizeof buffer);
- *
- * These lines make the NUL-terminated string "-42":
+ * These lines make the string "-42", and count becomes 3:
  *
  *     char text[LEXICAL_BUFFER_SIZE_DECIMAL_I32 + 1];
- *     count = lexical_decimal(-42, text, sizeof text);
+ *     size_t count = lexical_decimal(-42, text, sizeof text);
  *     lexical_terminate(count, text, sizeof text);
  *
  * These lines make the string "0x0000beef": a prefix, followed by a number in lowercase,
  * with zeros up to 8 digits. If count is then 0, something did not fit, and the string is
  * "0x". Use a prefix only with unsigned types, because a '-' would come after it:
  *
- *     const struct lexical_format lowercase = { .radix = 16, .lowercase = 1 };
  *     char prefixed[2 + LEXICAL_BUFFER_SIZE + 1] = "0x";
- *     count = lexical_write(48879u, &lowercase, prefixed + 2, sizeof prefixed - 2);
+ *     count = lexical_write(48879u, LEXICAL_FORMAT(.radix = 16, .lowercase = 1),
+ *                           prefixed + 2, sizeof prefixed - 2);
  *     count = lexical_pad(count, 8, prefixed + 2, sizeof prefixed - 2);
  *     count = lexical_terminate(count, prefixed + 2, sizeof prefixed - 2);
- *
- * In C89, name the type of the number: lexical_decimal_i32(48879, buffer, sizeof buffer).
- * To write several numbers into one buffer, see examples/line.c of the sources.
  *
  * Text. A negative number begins with '-'. Any other number begins with '+' if the
  * format requires a sign, and otherwise with its first digit. The digits are '0' to
@@ -40,8 +39,9 @@
  * of digits.
  *
  * Format. `format` points to a struct lexical_format. A call only reads it. The pointer
- * must not be NULL. The fields may have any values: lexical_check_format says which field
- * is invalid, and every other function that takes a format returns 0 if it is invalid.
+ * must not be NULL. Each function detects invalid values of the fields, so they do not make
+ * the behaviour undefined: lexical_check_format tells which field is invalid, and every
+ * other function that takes a format returns 0.
  *
  * Buffer. `buffer` points to `size` bytes that the call may write. The size must not
  * exceed PTRDIFF_MAX; no object is larger. The pointer may be NULL if the size is 0. The
@@ -62,16 +62,10 @@
  * 0 means that the buffer was too short, and any other result is the constant
  * LEXICAL_INVALID_.. of the first invalid field. No call changes errno.
  *
- * Speed. A call without groups and without '+' is fastest if the buffer is long enough for
- * every number of the type. In decimal LEXICAL_BUFFER_SIZE_DECIMAL_.. bytes are enough. Any
- * other radix takes a byte for each bit of the type, and one more for the sign of a signed
- * type: 32 for a uint32_t, and 65 for an int64_t.
+ * Speed. A call is fastest if the buffer is long enough for every number of the type.
  *
- * Proof. The sources are written in Rattle, a dialect of Rust with contracts. A prover,
- * which is not public, has checked that the functions of these sources write the right text
- * for all arguments that meet the conditions above under "Format" and "Buffer", with a
- * size_t of 64 bits. Only tested are the Rust that is generated from them, the handwritten
- * Rust, the compiled library, this header, and a size_t of 32 bits.
+ * Proof. The sources of the library were proved by a prover that is not public, and the
+ * compiled library and this header are only tested, as README.md of the sources explains.
  *
  * Threads and signals. The functions have no state and allocate nothing. So you can call
  * them in any thread, with a buffer of its own, and in any signal handler.
