@@ -169,14 +169,14 @@ runs_go() (
 # have tested the library before. rustup has no compiler for the home of dh.
 makes_packages() (
   unset TMPDIR
-  RUSTC=$(rustc --print sysroot)/bin/rustc root=$work/package/root
-  export RUSTC
+  PATH=$(rustc --print sysroot)/bin:$PATH root=$work/package/root
   rm -rf "$work/package" && mkdir -p "$root" && cp -a "$copy" "$work/package/sources" || exit
   cd "$work/package/sources" || exit
   if [ "$1" = deb ]; then
     cp -R crates/lexical_c/package/debian . && dpkg-buildpackage -b -us -uc -d &&
       lintian --allow-root --fail-on error,warning --suppress-tags initial-upload-closes-no-bugs ../*.changes &&
-      for file in ../liblexical-c1_*.deb ../liblexical-c-dev_*.deb; do dpkg-deb -x "$file" "$root" || exit; done
+      for file in ../liblexical-c1_*.deb ../liblexical-c-dev_*.deb; do dpkg-deb -x "$file" "$root" || exit; done &&
+      ls "$root/usr/share/doc/liblexical-c-dev/README.Debian"
   else
     rpmbuild --build-in-place --nodeps -bb -D "_topdir $work/package/rpm" crates/lexical_c/package/lexical_c.spec &&
       for file in ../rpm/RPMS/*/*.rpm; do rpm2archive - < "$file" | tar xzf - -C "$root" || exit; done
@@ -212,6 +212,6 @@ check_installation() {
   expect_with pkg-config 'includedir and mandir' honours_folders
   expect 'make check' prints 'the archive and the shared library have passed' make_c check
   [ "$builder$is_quick$TARGET" = rustc ] || return
-  expect_with 'dh dpkg-buildpackage lintian' 'the Debian packages' makes_packages deb
+  expect_with 'dh dpkg-buildpackage lintian cargo rustfmt' 'the Debian packages' makes_packages deb
   expect_with rpmbuild 'the RPMs' makes_packages rpm
 }
