@@ -210,7 +210,7 @@ check_installation() {
   fi
   expect 'make uninstall' uninstalls
   expect_with pkg-config 'includedir and mandir' honours_folders
-  expect 'make check' prints 'the archive and the shared library have passed' make_c check
+  expect 'make check' prints 'the static and the shared library have passed' make_c check
   [ "$builder$is_quick$TARGET" = rustc ] || return
   expect_with 'dh dpkg-buildpackage lintian cargo rustfmt' 'the Debian packages' makes_packages deb
   expect_with rpmbuild 'the RPMs' makes_packages rpm
