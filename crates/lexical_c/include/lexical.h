@@ -11,9 +11,10 @@
  *   lexical_terminate(count, buffer, size)      writes a NUL after a text
  *   lexical_version()                           returns the version of the library
  *
- * T stands for a type: u8, u16, u32, u64, size, i8, i16, i32 or i64. The first three choose
- * a function by the type of the value, in C++, in C11 and later, and in C99 with gcc or
- * clang. In any C you can name the type, as in lexical_decimal_i32(-42, text, sizeof text).
+ * T stands for a type: u8, u16, u32, u64, size, i8, i16, i32 or i64. lexical_decimal,
+ * lexical_write and lexical_length choose a function by the type of the value, in C++, in
+ * C11 and later, and in C99 with gcc or clang. In any C you can name the type, as in
+ * lexical_decimal_i32(-42, text, sizeof text).
  *
  * These lines make the string "-42", and count becomes 3:
  *
@@ -58,9 +59,9 @@
  *
  * Errors. If the format is invalid or the text does not fit the buffer, a call that writes
  * returns 0, and the buffer is unchanged. (lexical_terminate is the exception: it makes
- * the buffer an empty string, unless `size` is 0.) Then call lexical_check_format(format):
- * 0 means that the buffer was too short, and any other result is the constant
- * LEXICAL_INVALID_.. of the first invalid field. No call changes errno.
+ * the buffer an empty string, unless `size` is 0.) To learn why a call returned 0, call
+ * lexical_check_format(format): 0 means that the buffer was too short, and any other result
+ * is the constant LEXICAL_INVALID_.. of the first invalid field. No call changes errno.
  *
  * Speed. A call is fastest if the buffer is long enough for every number of the type.
  *
@@ -210,7 +211,8 @@ size_t lexical_decimal_i64(int64_t value, char *buffer, size_t size) LEXICAL_NOE
  * set the fields of a variable.
  *
  * From C++14 on, each field after the radix has the default value 0. So the struct is not
- * trivial: g++ warns of memset, and a union with such a member needs an initializer.
+ * trivial: clear one by `format = {}`, because g++ warns of memset, and give a union with
+ * such a member an initializer.
  */
 struct lexical_format {
     /* From 2 to 36. */
@@ -252,15 +254,15 @@ struct lexical_format {
 #endif
 
 /*
- * LEXICAL_RADIX: the format of a radix, as an initializer: in uppercase, with no '+' and no
- * groups.
+ * LEXICAL_RADIX: an initializer for a format with this radix, in uppercase, with no '+' and
+ * no groups.
  *
  *     const struct lexical_format hexadecimal = LEXICAL_RADIX(16);
  *
  * The radix may have any standard integer type except bool. If it is not from 2 to 36, the
- * radix of the format is 0, which is invalid. If it is also an integer constant expression,
- * it is a compile error: in C11 and later, and with gcc and clang in every C and in C++11
- * and later. The error mentions an array of a negative size, or -1.
+ * radix of the format is 0, which is invalid. An invalid radix that is an integer constant
+ * expression is a compile error in C11 and later, and with gcc and clang also in older C and
+ * in C++11 and later. The error mentions an array of a negative size, or -1.
  *
  * The radix is evaluated once, except in C before C11 with compilers other than gcc and
  * clang.
@@ -277,7 +279,7 @@ struct lexical_format {
 LEXICAL_HAS((visibility("hidden")))
 inline constexpr lexical_format lexical_standard_format = LEXICAL_STANDARD_FORMAT;
 #elif defined(__GNUC__)
-/* One object in a program, which inline functions may use, and which no library exports. */
+/* A single object in each program: inline functions may use it, and no library exports it. */
 extern __attribute__((weak, visibility("hidden"))) const struct lexical_format lexical_standard_format;
 const struct lexical_format lexical_standard_format = LEXICAL_STANDARD_FORMAT;
 #else
