@@ -4,19 +4,20 @@
 pub struct Random(pub u64);
 
 impl Random {
-    pub fn next(&mut self) -> u64 {
+    /// Returns any number.
+    pub fn bits(&mut self) -> u64 {
         self.0 = self.0.wrapping_mul(6364136223846793005).wrapping_add(1442695040888963407);
         self.0 >> 32 ^ self.0
     }
 
     /// Returns a number below another one.
     pub fn below(&mut self, most: u64) -> u64 {
-        self.next() % most
+        self.bits() % most
     }
 
     /// Returns a number of any length.
     pub fn number(&mut self) -> u64 {
-        let bits = self.below(64);
-        self.next() >> bits
+        let fewer = self.below(64);
+        self.bits() >> fewer
     }
 }

@@ -9,7 +9,7 @@ const ROWS: usize = 10_000;
 
 /// Returns a number of any length, of which one in two has zeros at the end.
 fn number(random: &mut Random) -> u64 {
-    let (bits, choice) = (random.next(), random.next());
+    let (bits, choice) = (random.bits(), random.bits());
     let number = bits >> (choice % 64);
     let power = [1, 1, 1, 1, 10, 1000, 10_000_000, 1_000_000_000_000][(choice >> 8) as usize % 8];
     number - number % power
@@ -17,12 +17,12 @@ fn number(random: &mut Random) -> u64 {
 
 fn signed(random: &mut Random) -> i64 {
     let number = number(random) as i64;
-    if random.next() % 2 == 0 { number } else { number.wrapping_neg() }
+    if random.bits() % 2 == 0 { number } else { number.wrapping_neg() }
 }
 
 /// Returns the digits of a float of at most 15 digits, which are its shortest, and the exponent of the last.
 fn float(random: &mut Random) -> (u64, i32) {
-    let exponent = (random.next() % 591) as i32 - 300;
+    let exponent = (random.bits() % 591) as i32 - 300;
     (number(random) % 1_000_000_000_000_000, exponent)
 }
 
