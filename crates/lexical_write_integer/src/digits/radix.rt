@@ -116,7 +116,7 @@ fn write_out_of_line<T: UnsignedInteger, const R: u32>(
     ensures digits { WritesDigits R (T.magnitude value) buffer.old buffer.new result }
     ensures notes { turns.new ≡ turns.old ++ table_notes R (T.magnitude value) }
 {
-    write_by_table::<T, R>(value, buffer, turns)
+    write_digits::<T, R>(value, get_table(R), buffer, turns)
 }
 
 // Writes a number as `write_by_table` does. One or two digits, which are frequent, and each number of a type of 8 or 16

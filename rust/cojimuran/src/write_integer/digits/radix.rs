@@ -74,7 +74,7 @@ fn write_by_table<T: UnsignedInteger, const R: u32>(value: T, buffer: &mut [u8])
 #[cold]
 #[inline]
 fn write_out_of_line<T: UnsignedInteger, const R: u32>(value: T, buffer: &mut [u8]) -> usize {
-    write_by_table::<T, R>(value, buffer)
+    write_digits::<T, R>(value, get_table(R), buffer)
 }
 
 // Writes a number as `write_by_table` does. One or two digits, which are frequent, and each number of a type of 8 or 16
