@@ -19,8 +19,8 @@ pub use comparison::{
     equal_padded, equal_texts, order, padded_equal_iff, padded_order, texts_equal_iff,
 };
 pub use digits::{
-    digit_count_at_most, digit_count_is_least, digit_count_within_bits, numeral_exists,
-    numeral_unique,
+    digit_count_at_most, digit_count_is, digit_count_is_least, digit_count_within_bits,
+    numeral_exists, numeral_unique,
 };
 pub use groups::text_in_groups;
 pub use reading::{

@@ -1,6 +1,6 @@
 //! Laws on numerals and digit counts.
 
-ghost use Rattle.std.specs.Prelude.{◌≡◌, ℕ, ◌^◌, ◌<◌, ◌≤◌, List, length};
+ghost use Rattle.std.specs.Prelude.{◌≡◌, ℕ, ◌-◌, ◌^◌, ◌<◌, ◌≤◌, List, length};
 ghost use Rattle.lexical_num.specs.Format.{IsRadix};
 ghost use Rattle.lexical_write_integer.specs.DigitCount.{digit_count};
 ghost use Rattle.lexical_write_integer.specs.Numeral.{IsNumeral, IsNumeralOf, value_of};
@@ -24,6 +24,16 @@ pub fn digit_count_at_most(radix: u32, value: u64, count: u32)
     requires some { 1 ≤ count }
     requires fits { value < radix ^ count }
     ensures { digit_count radix value ≤ count }
+{}
+
+/// A law: a number has `count` digits if it is below the radix to the power of `count` and, unless `count` is 1, not
+/// below the power before that.
+pub fn digit_count_is(radix: u32, value: u64, count: usize)
+    requires radix { IsRadix radix }
+    requires some { 1 ≤ count }
+    requires fits { value < radix ^ count }
+    requires needed { 1 < count → radix ^ (count - 1) ≤ value }
+    ensures { digit_count radix value ≡ count }
 {}
 
 /// A law: the digit count of a number is at most the number of bits of its type.
