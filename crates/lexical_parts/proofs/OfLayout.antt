@@ -13,7 +13,5 @@ pub mod Splits
 pub mod EqualWidths
 -- texts at an index of a buffer
 pub mod TextsAtIndex
--- where a text ends
-pub mod Ends
 -- parts of a buffer that a later write leaves as they are
 pub mod Kept

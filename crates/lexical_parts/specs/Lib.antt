@@ -1,5 +1,6 @@
 pub mod Cell
 pub mod Column
+pub mod Fields
 pub mod Fixed
 pub mod Formatted
 pub mod HexBytes

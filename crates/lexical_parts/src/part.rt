@@ -1,11 +1,12 @@
 //! The trait that each part of a text implements.
 
-ghost use Rattle.std.specs.Prelude.{◌≡◌, ◌↔◌, ◌+◌, ◌<◌, ◌≤◌, IsTrue, List, ℕ, drop, length, min, slice_range, take, ⊤};
+ghost use Rattle.std.specs.Prelude.{◌≡◌, ◌↔◌, ◌+◌, ◌<◌, ◌≤◌, IsTrue, List, ℕ, drop, length, min, take, ⊤};
 ghost use Rattle.std.specs.Prelude.{IfNone, IfSome, IsSome};
 ghost use Rattle.std.specs.Borrow.{sem};
 ghost use Rattle.lexical_write_integer.specs.Buffer.{Writes};
 ghost use Rattle.lexical_write_integer.specs.Lending.{LendsFront};
 ghost use Rattle.lexical_write_integer.specs.Sequence.{IsExactly};
+ghost use Rattle.lexical_parts.specs.Fields.{bytes_between};
 ghost use Rattle.lexical_parts.specs.Length.{HasLength, HasLonger};
 ghost use Rattle.lexical_parts.specs.Sequence.{◌then◌};
 ghost use Rattle.lexical_parts.specs.Utf8.{AreUtf8};
@@ -135,13 +136,14 @@ pub trait Part: Copy {
         ensures text { Writes (IsExactly (take index buffer.old) then is_text self) buffer.old buffer.new result }
         ensures front { (IsExactly (take index buffer.old) then is_text self) (take result buffer.new) }
         ensures before { take index buffer.new ≡ take index buffer.old }
-        ensures field { is_text self (slice_range buffer.new index result) }
+        ensures field { is_text self (bytes_between buffer.new index result) }
+        ensures count { result ≡ index + length (bytes_between buffer.new index result) }
         ensures after { drop result buffer.new ≡ drop result buffer.old }
         ensures after_index { index ≤ result }
         ensures kept_before { (from to : ℕ) → to ≤ index
-            → slice_range buffer.new from to ≡ slice_range buffer.old from to }
+            → bytes_between buffer.new from to ≡ bytes_between buffer.old from to }
         ensures kept_after { (from to : ℕ) → result ≤ from
-            → slice_range buffer.new from to ≡ slice_range buffer.old from to }
+            → bytes_between buffer.new from to ≡ bytes_between buffer.old from to }
         ensures at_most { result ≤ index + room self }
         ensures utf8 { is_utf8 self → AreUtf8 (is_text self) }
         ensures same_length { length buffer.new ≡ length buffer.old }

@@ -1,6 +1,7 @@
 //! Writes numbers to slots of a table, which is a larger buffer.
 
-ghost use Rattle.std.specs.Prelude.{◌≡◌, ◌^◌, ◌<◌, ◌≤◌, ◌+◌, ◌*◌, drop, length, slice_range, take};
+ghost use Rattle.std.specs.Prelude.{◌≡◌, ◌^◌, ◌<◌, ◌≤◌, ◌+◌, ◌*◌, drop, length, take};
+ghost use Rattle.lexical_parts.specs.Fields.{bytes_between};
 ghost use Rattle.lexical_write_integer.specs.Padded.{IsPadded};
 
 use lexical_parts::{Padded, Part};
@@ -9,7 +10,7 @@ use lexical_parts::{Padded, Part};
 pub fn write_slot(number: u32, index: usize, table: &mut [u8])
     requires number { number < 10 ^ 6 }
     requires inside { 6 * index + 6 ≤ length table.old }
-    ensures slot { IsPadded 10 6 number (slice_range table.new (6 * index) (6 * index + 6)) }
+    ensures slot { IsPadded 10 6 number (bytes_between table.new (6 * index) (6 * index + 6)) }
     ensures before { take (6 * index) table.new ≡ take (6 * index) table.old }
     ensures after { drop (6 * index + 6) table.new ≡ drop (6 * index + 6) table.old }
 {

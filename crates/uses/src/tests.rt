@@ -248,11 +248,14 @@ fn times_of_day(rt: HostRuntime) {
 #[test]
 fn fields_of_a_header(rt: HostRuntime) {
     let mut header = [7; 512];
-    write_header("size.txt", 420, 1000, 3891, &mut header);
+    write_header("size.txt", 420, 1000, 100, 1000, 3913, &mut header);
     check_bytes(&rt, &header[..9], b"size.txt\x07");
-    check_bytes(&rt, &header[99..108], b"\x070000644\x07");
-    check_bytes(&rt, &header[123..136], b"\x0700000001750\x07");
-    check_bytes(&rt, &header[147..155], b"\x07007463\x07");
+    check_bytes(
+        &rt,
+        &header[99..136],
+        b"\x070000644\x070001750\x070000144\x0700000001750\x07",
+    );
+    check_bytes(&rt, &header[147..155], b"\x07007511\x07");
 
     let mut header = [7; 512];
     let end = write_first_fields("size.txt", 420, 1000, 100, 1000, &mut header);

@@ -2,6 +2,7 @@
 use Rattle.std.proofs.Common.{◌≡◌, ℕ, ◌+◌, ◌-◌, ◌≤◌, ◌∙◌, List, ap, arith, drop, inl, inr, slice_range, sym, take}
 use Rattle.std.proofs.lemmas.Bool.{cases_lt}
 use Rattle.std.proofs.lemmas.List.{drop-drop, drop-take, take-take}
+use Rattle.lexical_parts.specs.Fields.{bytes_between}
 
 -- a part of the first bytes
 part_of_front : (i from to : ℕ) (xs : List ℕ) → from ≤ to → to ≤ i
@@ -13,7 +14,8 @@ part_of_front i from to xs ordered within =
 
 -- lists with the same first i bytes have the same bytes in each range before i
 pub kept_before : (i : ℕ) (xs ys : List ℕ) → take i xs ≡ take i ys → (from to : ℕ) → to ≤ i
-    → slice_range xs from to ≡ slice_range ys from to
+    → bytes_between xs from to ≡ bytes_between ys from to
+unfolding bytes_between
 kept_before i xs ys same from to within =
     elim (cases_lt to from) [
       | inl reversed ↦
@@ -26,7 +28,8 @@ kept_before i xs ys same from to within =
 
 -- lists with the same bytes from i on have the same bytes in each range from i on
 pub kept_after : (i : ℕ) (xs ys : List ℕ) → drop i xs ≡ drop i ys → (from to : ℕ) → i ≤ from
-    → slice_range xs from to ≡ slice_range ys from to
+    → bytes_between xs from to ≡ bytes_between ys from to
+unfolding bytes_between
 kept_after i xs ys same from to within =
     let long : i + (from - i) ≡ from = omega (arith, within) in
     let rest : drop from xs ≡ drop from ys =

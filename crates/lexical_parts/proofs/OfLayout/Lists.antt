@@ -8,6 +8,7 @@ use Rattle.lexical_write_integer.specs.Buffer.{Writes}
 use Rattle.lexical_write_integer.specs.Sequence.{IsExactly, AreJoined}
 use Rattle.lexical_write_integer.proofs.Buffers.Prefixes.{Front-after, Writes-over-all, length-after, take-Writes}
 use Rattle.lexical_write_integer.proofs.OfTexts.Joins.{Leads, AreJoined-push}
+use Rattle.lexical_parts.specs.Fields.{bytes_between}
 use Rattle.lexical_parts.specs.Joined.{AreEach}
 use Rattle.lexical_parts.specs.Sequence.{◌then◌}
 
@@ -43,9 +44,10 @@ added_each IsOf start xs {i} d {before} {text} inside each is = grind (arith, co
 pub written_each : {A : Type 0} (IsOf : A → List ℕ → Type 0) (xs : List A) {i : ℕ} (d : A)
     {before between after : List ℕ} {count last : ℕ} →
     i < length xs → Writes (AreEach IsOf (take i xs)) before between count →
-    IsOf (get_or xs i d) (slice_range after count last) → take count after ≡ take count between →
+    IsOf (get_or xs i d) (bytes_between after count last) → take count after ≡ take count between →
     drop last after ≡ drop last between → count ≤ last → last ≤ length between → length after ≡ length between →
     Writes (AreEach IsOf (take (i + 1) xs)) before after last
+unfolding bytes_between
 written_each IsOf xs {i} d {before} {between} {after} {count} {last} inside texts is front rest some fits long =
     let part = slice_range after count last in
     let whole = texts.text ++ part in

@@ -6,6 +6,7 @@ use Rattle.lexical_write_integer.specs.Buffer.{Front, Writes}
 use Rattle.lexical_write_integer.specs.Sequence.{IsExactly, Then}
 use Rattle.lexical_write_integer.specs.Padded.{IsPadded}
 use Rattle.lexical_write_integer.proofs.Buffers.Prefixes.{Writes-after, Writes-is}
+use Rattle.lexical_parts.specs.Fields.{bytes_between}
 use borrow.Rule.Slice.PartMut.{mid_of, put_mid}
 
 -- what is written to the k bytes at index a is a text after the first a bytes
@@ -43,14 +44,22 @@ module _ {Is : List ℕ → Type 0} (a : ℕ) (xs zs : List ℕ) (end : ℕ) (in
   pub before_at : take a zs ≡ take a xs
   before_at = ap (take a) after ∙ take_at (take a xs) (w.is.second ++ unused) a long
 
-  -- the text is at the index
-  pub there_at : Is (slice_range zs a end)
-  there_at =
+  -- the bytes at the index are the text
+  bytes_at : slice_range zs a end ≡ w.is.second
+  bytes_at =
       let rest : drop a zs ≡ w.is.second ++ unused =
       ap (drop a) after ∙ drop_at (take a xs) (w.is.second ++ unused) a long in
-      let there : take (end - a) (drop a zs) ≡ w.is.second =
-      ap (take (end - a)) rest ∙ take_at w.is.second unused (end - a) (omega (arith, counted)) in
-      rw there w.is.is_second
+      ap (take (end - a)) rest ∙ take_at w.is.second unused (end - a) (omega (arith, counted))
+
+  -- the text is at the index
+  pub there_at : Is (bytes_between zs a end)
+  unfolding bytes_between
+  there_at = rw bytes_at w.is.is_second
+
+  -- the bytes at the index end where the text does
+  pub count_at : end ≡ a + length (bytes_between zs a end)
+  unfolding bytes_between
+  count_at = counted ∙ ap (λ text. a + length text) (sym bytes_at)
 
   -- the bytes after the text are unchanged
   pub after_at : drop end zs ≡ drop end xs

@@ -1,6 +1,7 @@
 //! Texts at fixed places of a buffer, such as the header of a file.
 
-ghost use Rattle.std.specs.Prelude.{◌≡◌, ◌+◌, ◌≤◌, List, drop, length, slice_range, take, ℕ};
+ghost use Rattle.std.specs.Prelude.{◌≡◌, ◌+◌, ◌≤◌, List, drop, length, take, ℕ};
+ghost use Rattle.lexical_parts.specs.Fields.{bytes_between};
 
 use crate::part::Part;
 
@@ -25,12 +26,12 @@ pub fn write_field<P: Part>(part: P, index: usize, count: usize, buffer: &mut [u
     requires room { P.room part ≤ count }
     requires width { (text : List ℕ) → P.is_text part text → length text ≡ count }
     requires inside { index + count ≤ length buffer.old }
-    ensures field { P.is_text part (slice_range buffer.new index (index + count)) }
+    ensures field { P.is_text part (bytes_between buffer.new index (index + count)) }
     ensures before { take index buffer.new ≡ take index buffer.old }
     ensures after { drop (index + count) buffer.new ≡ drop (index + count) buffer.old }
-    ensures kept_before { (from to : ℕ) → to ≤ index → slice_range buffer.new from to ≡ slice_range buffer.old from to }
+    ensures kept_before { (from to : ℕ) → to ≤ index → bytes_between buffer.new from to ≡ bytes_between buffer.old from to }
     ensures kept_after { (from to : ℕ) → index + count ≤ from
-        → slice_range buffer.new from to ≡ slice_range buffer.old from to }
+        → bytes_between buffer.new from to ≡ bytes_between buffer.old from to }
     ensures same_length { length buffer.new ≡ length buffer.old }
 {
     let end = part.write_at(index, buffer);

@@ -1,7 +1,7 @@
 use Rattle.std.proofs.Common.{length, ◌-◌, ◌≤◌, arith}
 use Rattle.lexical_write_integer.proofs.Buffers.Prefixes.{Writes-is}
 use Rattle.lexical_parts.proofs.OfLayout.Kept.{kept_after, kept_before}
-use Rattle.lexical_parts.proofs.OfLayout.TextsAtIndex.{at_is, before_at, there_at, after_at}
+use Rattle.lexical_parts.proofs.OfLayout.TextsAtIndex.{at_is, before_at, there_at, count_at, after_at}
 use Rattle.lexical_parts.proofs.part.Part.write_at.Goals as goal
 
 pub returns-clause-text : goal.returns-clause-text
@@ -20,6 +20,10 @@ returns-clause-before g c = before_at c.args.index c.args.buffer.now _ _ (omega 
 
 pub returns-clause-field : goal.returns-clause-field
 returns-clause-field g c = there_at c.args.index c.args.buffer.now _ _ (omega (arith, c.requires.room))
+    (returns-clause-text g c)
+
+pub returns-clause-count : goal.returns-clause-count
+returns-clause-count g c = count_at c.args.index c.args.buffer.now _ _ (omega (arith, c.requires.room))
     (returns-clause-text g c)
 
 pub returns-clause-after : goal.returns-clause-after
