@@ -17,7 +17,7 @@ use lexical_write_integer::compact::compact_counted;
 use lexical_write_integer::decimal::Decimal;
 use lexical_write_integer::digit_count::{DigitCount, slow_digit_count_counted};
 use lexical_write_integer::jeaiii::{from_u32_counted, from_u64_counted};
-use lexical_write_integer::laws::digit_count_is_least;
+use lexical_write_integer::laws::{digit_count_is, digit_count_is_least};
 use lexical_write_integer::table::get_table;
 use lexical_write_integer::turns::Turns;
 use lexical_write_integer::write::write_integer_counted;
@@ -46,6 +46,7 @@ pub fn turns_of<T: Decimal + DigitCount>(value: T, radix: u32, digits: usize) ->
     ensures turns { HasTurns result (write_turns radix digits) (table_turns radix digits)
         (slow_turns digits) (compact_turns digits) }
 {
+    digit_count_is(radix, value.as_u64(), digits);
     digit_count_is_least(radix, value.as_u64());
     let mut written = Turns::new();
     write_integer_counted(value, radix, &mut [0; 128], &mut written);

@@ -1,5 +1,5 @@
 //! Calls that use a table of digit pairs.
-#![tactic(auto, unfolding(lexical_write_integer::specs::DigitCount::digit_count, lexical_write_integer::specs::DigitCount::least_exponent))]
+#![tactic(auto, using(std::proofs::lemmas::List::take_all), unfolding(lexical_write_integer::specs::DigitCount::digit_count, lexical_write_integer::specs::DigitCount::least_exponent))]
 
 ghost use Rattle.lexical_num.specs.Format.{IsRadix};
 ghost use Rattle.lexical_write_integer.specs.Table.{BeginsWithPairs};
@@ -13,7 +13,6 @@ pub fn table_of_the_largest_radix() -> usize {
 }
 
 // Returns the table of a radix, which begins with the pairs of its digits.
-#[tactic(auto, using(std::proofs::lemmas::List::take_all))]
 fn table_of(radix: u32) -> &'static [u8]
     requires { IsRadix radix }
     ensures { BeginsWithPairs radix result.now }
@@ -28,5 +27,6 @@ pub fn digits_by_the_table_of_the_radix() -> usize {
 
 /// Writes 128 with the whole table of its radix, and returns the digit count.
 pub fn digits_by_the_whole_table() -> usize {
-    algorithm(128u8, 16, &get_table(16)[..512], &mut [0; 2])
+    let table = get_table(16);
+    algorithm(128u8, 16, &table[..table.len()], &mut [0; 2])
 }
