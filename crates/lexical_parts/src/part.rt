@@ -275,13 +275,6 @@ fn needs_no_check<P: Part>(part: P, buffer: &[u8]) -> bool
     ensures utf8 { IsTrue result → P.is_utf8 part }
     ensures room { IsTrue result → P.room part ≤ length buffer.now }
 {
-    part.is_known_valid_and_utf8(Sealed) && has_room(part, buffer)
-}
-
-// Returns whether the buffer has the room of a part.
-fn has_room<P: Part>(part: P, buffer: &[u8]) -> bool
-    requires { P.is_valid part }
-    ensures { IsTrue result → P.room part ≤ length buffer.now }
-{
-    part.room_bound(Sealed) <= buffer.len() || part.room() <= buffer.len()
+    part.is_known_valid_and_utf8(Sealed)
+        && (part.room_bound(Sealed) <= buffer.len() || part.room() <= buffer.len())
 }

@@ -195,11 +195,6 @@ fn str_if_it_fits<P: Part>(part: P, buffer: &mut [u8]) -> Option<&str> {
 // it returns false, because nothing is known of the text of such a part.
 #[inline(always)]
 fn needs_no_check<P: Part>(part: P, buffer: &[u8]) -> bool {
-    part.is_known_valid_and_utf8(Sealed) && has_room(part, buffer)
-}
-
-// Returns whether the buffer has the room of a part.
-#[inline(always)]
-fn has_room<P: Part>(part: P, buffer: &[u8]) -> bool {
-    part.room_bound(Sealed) <= buffer.len() || part.room() <= buffer.len()
+    part.is_known_valid_and_utf8(Sealed)
+        && (part.room_bound(Sealed) <= buffer.len() || part.room() <= buffer.len())
 }
