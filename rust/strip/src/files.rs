@@ -1,6 +1,5 @@
 //! Reads, lays out and writes files.
 
-use crate::tokens::lex;
 use std::path::{Path, PathBuf};
 use std::process::{Command, Stdio};
 use std::{fs, io};
@@ -51,16 +50,4 @@ pub(crate) fn laid_out(text: &str, top: &Path) -> Result<String, String> {
     let output = child.wait_with_output().map_err(say)?;
     let text = String::from_utf8_lossy(&output.stdout).into_owned();
     if output.status.success() { Ok(text) } else { Err(format!("rustfmt cannot read what is made: {text}")) }
-}
-
-/// Returns a text without what a layout changes: the white space between tokens, and the last comma before a bracket.
-/// White space in a literal stays, and between two words of a comment there is one blank.
-pub(crate) fn without_layout(text: &str) -> String {
-    let Ok(tokens) = lex(text) else {
-        return text.to_owned();
-    };
-    let one_blank = |comment: &str| comment.split_whitespace().collect::<Vec<_>>().join(" ");
-    let parts = tokens.iter().flat_map(|token| [one_blank(&token.before), token.text.clone(), one_blank(&token.after)]);
-    let text = parts.filter(|part| !part.is_empty()).collect::<Vec<_>>().join("\n");
-    text.replace("\n,\n)", "\n)").replace("\n,\n]", "\n]").replace("\n,\n}", "\n}")
 }

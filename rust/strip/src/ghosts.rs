@@ -1,105 +1,43 @@
-//! Leaves out ghosts, which are values of the types GHOSTS that only contracts read. Parameters and fields are ghosts
-//! by their type, and variables by their value. An argument is one if it names one, and must be one by the parameters
-//! of the function that is called, too. First `statements` leaves out what only makes a ghost, or calls its method or a
-//! law.
+//! Leaves out ghosts, which are values that only contracts read, and calls of laws, which only prove something.
+//!
+//! A statement is left out if it does nothing but to call a method of a ghost or a law, and then what is empty or unused
+//! around it. So are parameters, arguments and fields that are ghosts, and functions that only pass a new ghost to
+//! another one. What else names a ghost or a law stays, and is refused at the end.
 
-use crate::items::{after_type_arguments, elements, functions, remove_element};
+use crate::items::{Function, after_type_arguments, elements, functions};
+use crate::items::{remove, remove_and_keep_comment, remove_element};
 use crate::left_out::Names;
-use crate::statements::without_statements;
-use crate::tokens::{Token, words};
-use std::collections::{BTreeMap, BTreeSet};
+use crate::tokens::{Token, find, opening, words};
 
-/// The types whose values only contracts read.
-pub(crate) const GHOSTS: [&str; 3] = ["Turns", "Trace", "GhostLog"];
+/// The types of ghosts, and the names that all variables, parameters and fields of these types have.
+pub(crate) const GHOSTS: [&str; 5] = ["Turns", "Trace", "turns", "loop_turns", "trace"];
 
-/// The number of parameters and the ghosts among them, for each name of functions that have ghosts.
-pub(crate) type Signatures = BTreeMap<String, BTreeSet<(usize, Vec<usize>)>>;
+/// The functions that the arguments of laws call. They change nothing, so they are left out with the call of the law.
+const WITHOUT_EFFECT: [&str; 6] = ["as_bytes", "as_u64", "exponent_radix", "from", "from_radix", "mantissa_radix"];
 
-/// Adds the functions of a file that have ghosts.
-pub(crate) fn add_signatures(tokens: &[Token], signatures: &mut Signatures) {
-    for function in functions(tokens) {
-        let mut parameters = elements(tokens, function.parameters);
-        parameters.retain(|parameter| !tokens[parameter.clone()].iter().any(|token| *token == "self"));
-        let is_ghost = |at: &usize| is_of_ghost_type(&tokens[parameters[*at].clone()]);
-        let ghosts: Vec<usize> = (0..parameters.len()).filter(is_ghost).collect();
-        if !ghosts.is_empty() {
-            let name = function.name(tokens).to_owned();
-            signatures.entry(name).or_default().insert((parameters.len(), ghosts));
-        }
-    }
-}
+/// What a statement that is only a call does not have.
+const EFFECTS: [&str; 5] = ["?", "!", "=", "{", "return"];
 
-/// Returns whether this begins with `NAME: TYPE`, where the type is that of a ghost or a reference to it.
-pub(crate) fn is_of_ghost_type(element: &[Token]) -> bool {
-    let mut texts = element.iter().map(|token| &*token.text).skip_while(|text| ["pub", "mut"].contains(text)).skip(1);
-    texts.next() == Some(":")
-        && texts.find(|text| !["&", "mut"].contains(text)).is_some_and(|text| GHOSTS.contains(&text))
-}
-
-/// The names of the ghosts in a function: its parameters and variables, and the fields of its file.
-pub(crate) struct Ghosts<'a> {
-    variables: Names,
-    fields: &'a Names,
-}
-
-impl Ghosts<'_> {
-    /// Returns whether the name of a ghost is at an index: of a variable, or after `self.` of a field.
-    pub fn has(&self, tokens: &[Token], at: usize) -> bool {
-        let names = if at > 0 && tokens[at - 1] == "." { self.fields } else { &self.variables };
-        let is_of_other = at > 1 && tokens[at - 1] == "." && tokens[at - 2] != "self";
-        names.contains(&tokens[at].text) && !is_of_other
-    }
-
-    /// Returns whether an argument is a ghost, a reference to one, or a new one.
-    fn has_argument(&self, argument: &[Token]) -> bool {
-        let start = argument.iter().position(|token| !token.is_in(&["&", "mut"])).unwrap_or(0);
-        match &argument[start..] {
-            [_] => self.has(argument, start),
-            [object, dot, _] if *object == "self" && *dot == "." => self.has(argument, start + 2),
-            [ghost, rest @ ..] => ghost.is_in(&GHOSTS) && words(rest) == ":: new ( )",
-            [] => false,
-        }
-    }
-}
+/// The ending of the name of a function with a ghost.
+const COUNTED: &str = "_counted";
 
 /// Leaves out the ghosts of a file, and the calls of laws.
-pub(crate) fn without_ghosts(tokens: &mut Vec<Token>, laws: &Names, signatures: &Signatures) -> Result<(), String> {
-    let fields: Names = declared_ghosts(tokens).cloned().collect();
+pub(crate) fn without_ghosts(tokens: &mut Vec<Token>, laws: &Names) {
     // From the last one: so the places of the others stay as they are.
-    for function in functions(tokens).into_iter().rev() {
-        let range = function.at..function.whole(tokens).end;
-        let mut code: Vec<Token> = tokens.drain(range.clone()).collect();
-        let variables = declared_ghosts(&code).chain(new_ghosts(&code)).cloned().collect();
-        let ghosts = Ghosts { variables, fields: &fields };
-        without_statements(&mut code, laws, &ghosts)?;
-        (0..code.len()).try_for_each(|at| check_arguments(&code, at, signatures, &ghosts))?;
-        without_elements(&mut code, |element| is_of_ghost_type(element) || ghosts.has_argument(element));
-        tokens.splice(range.start..range.start, code);
+    for end in (1..tokens.len()).rev() {
+        if tokens.get(end).is_some_and(|token| *token == ";") {
+            let start = statement(tokens, end);
+            if is_for_proofs(&tokens[start..end], laws) {
+                remove(tokens, start..end + 1);
+                without_rest(tokens, start);
+            }
+        }
     }
-    without_elements(tokens, is_of_ghost_type);
-    Ok(())
-}
-
-/// Returns the names of parameters and fields that are ghosts.
-fn declared_ghosts(tokens: &[Token]) -> impl Iterator<Item = &String> {
-    let is_declared = |at: &usize| tokens[at + 1] == ":" && is_of_ghost_type(&tokens[*at..]);
-    (0..tokens.len() - 1).filter(is_declared).map(|at| &tokens[at].text)
-}
-
-/// Returns the names of variables that are new ghosts.
-fn new_ghosts(tokens: &[Token]) -> impl Iterator<Item = &String> {
-    let is_new =
-        |part: &&[Token]| part[0].is_in(&["let", "mut"]) && part[2] == "=" && part[3].is_in(&GHOSTS) && part[4] == "::";
-    tokens.windows(5).filter(is_new).map(|part| &part[1].text)
-}
-
-/// Leaves out elements of all lists in brackets.
-fn without_elements(tokens: &mut Vec<Token>, is_left_out: impl Fn(&[Token]) -> bool) {
     let mut at = 0;
     while at < tokens.len() {
         if tokens[at].is_in(&["(", "{"]) {
             for element in elements(tokens, at).into_iter().rev() {
-                if is_left_out(&tokens[element.clone()]) {
+                if is_ghost(&tokens[element.clone()]) {
                     remove_element(tokens, element);
                 }
             }
@@ -108,32 +46,93 @@ fn without_elements(tokens: &mut Vec<Token>, is_left_out: impl Fn(&[Token]) -> b
     }
 }
 
-/// Returns an error unless a call, whose arguments begin with the bracket at an index, has a ghost for each parameter
-/// that is one, and for no other.
-fn check_arguments(tokens: &[Token], open: usize, signatures: &Signatures, ghosts: &Ghosts) -> Result<(), String> {
-    let Some(name) = called(tokens, open) else {
-        return Ok(());
-    };
-    let arguments = elements(tokens, open);
-    let is_here = |at: &usize| ghosts.has_argument(&tokens[arguments[*at].clone()]);
-    let found: Vec<usize> = (0..arguments.len()).filter(is_here).collect();
-    let mut declared = signatures.get(name).into_iter().flatten().filter(|(count, _)| *count == arguments.len());
-    let is_right = match declared.next() {
-        Some((_, first)) => *first == found || declared.any(|(_, other)| *other == found),
-        None => found.is_empty(),
-    };
-    if is_right {
-        return Ok(());
+/// Returns where the statement begins that ends at an index.
+fn statement(tokens: &[Token], mut at: usize) -> usize {
+    while at > 0 && !tokens[at - 1].is_in(&["{", "}", ";"]) {
+        at = if tokens[at - 1].is_in(&[")", "]"]) { opening(tokens, at - 1) } else { at - 1 };
     }
-    Err(format!("{}: the ghosts of this call of `{name}` are not those of its parameters", tokens[open].line))
+    at
 }
 
-/// Returns the name of the function whose arguments begin with this bracket, if it is called here and not declared.
-fn called(tokens: &[Token], open: usize) -> Option<&str> {
-    let mut end = open;
-    if open > 0 && tokens[open - 1] == ">" {
-        end = (0..open).rev().find(|at| after_type_arguments(tokens, *at) == open)?;
+/// Returns whether a statement, without its `;`, only calls a method of a ghost or a law.
+fn is_for_proofs(statement: &[Token], laws: &Names) -> bool {
+    if statement.last().is_none_or(|token| *token != ")") {
+        return false;
     }
-    let is_call = tokens[open] == "(" && end > 1 && tokens[end - 1].is_word() && tokens[end - 2] != "fn";
-    is_call.then(|| &*tokens[end - 1].text)
+    let arguments = opening(statement, statement.len() - 1);
+    let calls = |at: usize| after_type_arguments(statement, at + 1) == arguments;
+    let is_method_of_ghost = |at: usize| at > 1 && statement[at - 1] == "." && statement[at - 2].is_in(&GHOSTS);
+    let is_for_proofs = |at: usize| calls(at) && (laws.contains(&statement[at].text) || is_method_of_ghost(at));
+    let is_other_call = |at: usize| statement[at].is_word() && !calls(at) && statement[at + 1] == "(";
+    let has_effect =
+        |at: usize| statement[at].is_in(&EFFECTS) || is_other_call(at) && !statement[at].is_in(&WITHOUT_EFFECT);
+    let is_whole = statement[0] != ".";
+    is_whole && (0..arguments).any(is_for_proofs) && !(0..statement.len()).any(has_effect)
+}
+
+/// Leaves out what is left around a statement that was at an index. That is an `if` with nothing in it whose condition
+/// calls nothing. And in `let NAME = VALUE; NAME }`, where only the statement read the name, it leaves `VALUE }`.
+fn without_rest(tokens: &mut Vec<Token>, at: usize) {
+    if tokens[at - 1] == "{" && tokens[at] == "}" {
+        let start = statement(tokens, at - 1);
+        let head = words(&tokens[start..at - 1]);
+        if head.starts_with("if ") && !head.contains('(') && tokens[at + 1] != "else" {
+            remove(tokens, start..at + 1);
+            without_rest(tokens, start);
+        }
+    } else if tokens[at - 1] == ";" && tokens[at].is_word() && tokens[at + 1] == "}" {
+        let binding = format!("let {} =", tokens[at].text);
+        let is_binding = |start: &usize| words(&tokens[*start..*start + 3]) == binding;
+        let start = (0..at - 2).rev().find(|start| is_binding(start) && find(tokens, *start, &[";"]) == at - 1);
+        if let Some(start) = start {
+            remove(tokens, at - 1..at + 1);
+            remove_and_keep_comment(tokens, start..start + 3);
+        }
+    }
+}
+
+/// Returns whether an element of a list is a ghost: `turns`, `self.trace`, `&mut Turns::new()`, `turns: &mut Turns`.
+fn is_ghost(element: &[Token]) -> bool {
+    let start = element.iter().position(|token| !token.is_in(&["pub", "&", "mut", "self", "."])).unwrap_or(0);
+    let rest = &element[start + 1..];
+    element[start].is_in(&GHOSTS) && (rest.is_empty() || rest[0] == ":" || words(rest) == ":: new ( )")
+}
+
+/// Gives each function `NAME_counted`, whose ghost is left out, the name `NAME`. If another function of that name does
+/// nothing but to call it, with its own parameters, one function is made of the two.
+pub(crate) fn without_counted(tokens: &mut Vec<Token>) {
+    let is_counted = |each: &Function| each.name(tokens).strip_suffix(COUNTED).map(str::to_owned);
+    let names: Names = functions(tokens).iter().filter_map(is_counted).collect();
+    for token in tokens.iter_mut().filter(|token| token.is_word() && token.text.ends_with(COUNTED)) {
+        token.text.truncate(token.text.len() - COUNTED.len());
+    }
+    for name in names {
+        let named = functions(tokens).into_iter().filter(|each| each.name(tokens) == name);
+        let (callers, others): (Vec<_>, Vec<_>) = named.partition(|each| only_calls_itself(tokens, each));
+        if let ([caller], [other, ..]) = (&*callers, &*others) {
+            make_one(tokens, caller, other);
+        }
+    }
+}
+
+/// Returns whether a function does nothing but to call itself with its own parameters.
+fn only_calls_itself(tokens: &[Token], function: &Function) -> bool {
+    let parameters = elements(tokens, function.parameters).into_iter().map(|range| &*tokens[range.start].text);
+    let parameters: Vec<&str> = parameters.filter(|parameter| *parameter != "self").collect();
+    let call = format!("{} ( {} )", function.name(tokens), parameters.join(" , ")).replace("  ", " ");
+    words(&tokens[function.inside(tokens)]).trim_start_matches("self . ") == call
+}
+
+/// Gives a function the body of the other one, which goes. If a trait only declares that one, so it does then this one.
+fn make_one(tokens: &mut Vec<Token>, caller: &Function, other: &Function) {
+    let (whole, place) = (other.whole(tokens), caller.body..caller.whole(tokens).end);
+    let body = tokens[other.body..whole.end].to_vec();
+    // What is later in the file comes first: so the place of the other stays as it is.
+    if whole.start < place.start {
+        tokens.splice(place, body);
+        remove(tokens, whole);
+    } else {
+        remove(tokens, whole);
+        tokens.splice(place, body);
+    }
 }

@@ -35,10 +35,6 @@ impl Function {
         self.first..closing(tokens, self.body) + 1
     }
 
-    pub fn has_result(&self, tokens: &[Token]) -> bool {
-        tokens[closing(tokens, self.parameters) + 1] == "->"
-    }
-
     /// Returns what is between its parameters and its clauses: the type of its result, and what `where` says.
     pub fn result<'a>(&self, tokens: &'a [Token]) -> &'a [Token] {
         let end = self.clauses.first().map_or(self.body, |clause| clause.start);

@@ -1,6 +1,6 @@
 //! Which crate becomes which files, and what the files have that the crate does not say.
 
-use crate::rules::{Rule, everywhere};
+use crate::tables::{NO_INTEGER, NO_PART, NO_SHOW, NOT_UNSIGNED};
 use std::path::{Path, PathBuf};
 
 /// A crate of Rattle, and the files that are made of it. rustc checks what is added. White space parts the names of a
@@ -13,7 +13,7 @@ pub(crate) struct Source {
     pub package: &'static str,
     /// The module of the package that is made of the crate, or empty for its root.
     pub module: &'static str,
-    /// Attributes other than `#[inline]`, each with the functions that have it, the files, paths in `src`, whose
+    /// Attributes other than `#[inline]`, each with the functions and types that have it, the files, paths in `src`, whose
     /// functions have it, and functions of one file, as `FILE:NAME`. The first that names a function counts.
     pub attributes: Listed,
     /// The names of public functions that are `const fn`.
@@ -24,8 +24,6 @@ pub(crate) struct Source {
     /// read, and modules in which all functions are laws. They are listed because no declaration says so: a function
     /// without a result might be called for what it asserts. One that does more than a law is refused.
     pub laws: &'static str,
-    /// Functions with a counter, each of which is called `NAME_counted`, and that are called `NAME` without it.
-    pub counted: &'static str,
 }
 
 /// Texts, and the names that each is for.
@@ -48,10 +46,17 @@ impl Source {
         modules.map(|path| path.rsplit('/').next().unwrap_or_default()).collect()
     }
 
+    /// Returns the attributes that are listed for a function or a type of a file.
+    pub fn attributes_of(&self, name: &str, file: &str) -> Option<&'static str> {
+        let both = format!("{file}:{name}");
+        let is_listed = |(_, names): &&(_, &str)| [name, file, &both].iter().any(|each| has(names, each));
+        self.attributes.iter().find(is_listed).map(|(attributes, _)| *attributes)
+    }
+
     /// Returns the names of functions, files and modules that the lists have.
     pub fn names(&self) -> impl Iterator<Item = &'static str> {
         let attributes = self.attributes.iter().map(|(_, names)| *names);
-        attributes.chain([self.constant, self.left_out, self.laws, self.counted]).flat_map(str::split_whitespace)
+        attributes.chain([self.constant, self.left_out, self.laws]).flat_map(str::split_whitespace)
     }
 
     /// Returns whether a function of a file is a law.
@@ -81,24 +86,6 @@ impl Source {
             _ => Some(folder.join(self.module).join(file).with_extension("rs")),
         }
     }
-
-    /// Returns rules that write the paths of the package in the place of those of the crate.
-    pub fn paths(&self) -> Vec<Rule> {
-        let mut paths = Vec::new();
-        if !self.module.is_empty() {
-            paths.push(everywhere("crate::", &format!("crate::{}::", self.module)));
-        }
-        let is_in_package = |source: &&Source| source.is_documented() && source.package == self.package;
-        for library in SOURCES.iter().filter(is_in_package) {
-            let (from, to) = (format!("{}::", library.name), format!("crate::{}::", library.module));
-            paths.push(everywhere(&from, &to));
-        }
-        // The packages that are not committed need std.
-        if self.is_committed() {
-            paths.push(everywhere("std::", "core::"));
-        }
-        paths
-    }
 }
 
 /// Returns whether a file is of one of these modules.
@@ -112,16 +99,8 @@ pub(crate) fn has(list: &str, name: &str) -> bool {
     list.split_whitespace().any(|listed| listed == name)
 }
 
-const LIBRARY: Source = Source {
-    name: "",
-    package: "cojimuran",
-    module: "",
-    attributes: &[],
-    constant: "",
-    left_out: "",
-    laws: "",
-    counted: "",
-};
+const LIBRARY: Source =
+    Source { name: "", package: "cojimuran", module: "", attributes: &[], constant: "", left_out: "", laws: "" };
 
 /// The lines of the program.
 const PROGRAM: Source = Source { package: "lexwrite", ..LIBRARY };
@@ -134,6 +113,12 @@ pub(crate) const SOURCES: &[Source] = &[
     Source {
         name: "lexical_num",
         module: "num",
+        attributes: &[
+            (NO_INTEGER, "FormattedSize"),
+            (NOT_UNSIGNED, "UnsignedInteger"),
+            // So neither a new error nor a field breaks a user.
+            ("#[non_exhaustive]", "Error Options OptionsBuilder"),
+        ],
         constant: "
             digit_to_char is_radix is_group_size is_mark are_valid new binary hexadecimal from_radix radix
             mantissa_radix exponent_radix required_mantissa_sign digit_grouping grouped_len is_valid build build_strict
@@ -147,6 +132,8 @@ pub(crate) const SOURCES: &[Source] = &[
         name: "lexical_write_integer",
         module: "write_integer",
         attributes: &[
+            (NO_INTEGER, "Decimal ToLexical ToLexicalWithOptions"),
+            (NOT_UNSIGNED, "Radix DigitCount"),
             // In small code a call is left of the first two, and else rustc has them in the caller. The others are
             // called from the writer of long numbers, which calls itself.
             ("#[inline]", "shared_write_32 shared_write_64 eighth_power count_and_write_more"),
@@ -162,10 +149,6 @@ pub(crate) const SOURCES: &[Source] = &[
             ),
         ],
         left_out: "turns",
-        counted: "
-            algorithm_counted compact_counted decimal_counted digit_count_counted from_i64_counted from_u16_counted
-            from_u32_counted from_u64_counted from_u8_counted slow_digit_count_counted
-            write_integer_counted",
         laws: "laws note_up_to_eight",
         ..LIBRARY
     },
@@ -173,6 +156,8 @@ pub(crate) const SOURCES: &[Source] = &[
         name: "lexical_parts",
         module: "parts",
         attributes: &[
+            (NO_PART, "Part"),
+            (NO_SHOW, "Show"),
             // The only function of the package that is not safe code.
             ("#[inline(always)]\n#[track_caller]\n#[allow(unsafe_code)]", "to_str"),
             // The code of a number in decimal is long. So a caller calls it, and has no copy of its own.

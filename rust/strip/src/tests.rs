@@ -1,27 +1,29 @@
 //! Small sources, and what becomes of each. The made files, which the gate compares, show the rest.
 
-use crate::files::{self, without_layout};
-use crate::ghosts::add_signatures;
 use crate::packages::{SOURCES, Source};
-use crate::repository::Repository;
-use crate::tokens::{Token, lex, lex_part, print, words};
-use crate::{rules, tables, translated};
+use crate::repository::{File, Repository};
+use crate::rules::{Rule, lex_and_apply};
+use crate::tokens::{lex_part, print, words};
+use crate::{files, translated};
 use std::path::Path;
 
-/// Returns what is made of a file of `lexical_write_integer`, in which `in_range` and `fits_bits` are laws.
+/// Returns what is made of a file of `lexical_write_integer`, in which `in_range`, `fits_bits` and `DECIMAL` are laws.
 fn made(text: &str) -> Result<String, String> {
-    let source = SOURCES.iter().find(|source| source.name == "lexical_write_integer").unwrap();
+    let source = &SOURCES[2];
     let mut repository = Repository { pages: "`group_digits`".to_owned(), ..Repository::default() };
     repository.laws.extend(["in_range", "fits_bits", "DECIMAL"].map(str::to_owned));
-    let place = [source.name, source.package, "a.rt"];
-    let tokens = rules::lex_and_apply(text, place, &mut source.paths(), &mut tables::rules())?;
-    add_signatures(&tokens, &mut repository.signatures);
-    translated(&tokens, "a.rt", source, &repository)
+    let tokens = lex_and_apply(text, [source.package, source.name, "lexical_write_integer/a.rt"], &mut Rule::all())?;
+    translated(&File { source, name: "a.rt".to_owned(), tokens }, &repository)
+}
+
+/// Returns the tokens of a text without its comments.
+fn code(text: &str) -> String {
+    words(&lex_part(text).unwrap())
 }
 
 #[track_caller]
 fn becomes(text: &str, expected: &str) {
-    assert_eq!(without_layout(&made(text).unwrap()), without_layout(expected), "of {text}");
+    assert_eq!(code(&made(text).unwrap()), code(expected), "of {text}");
 }
 
 #[track_caller]
@@ -29,67 +31,58 @@ fn is_refused(text: &str, error: &str) {
     assert_eq!(made(text).unwrap_err(), error, "of {text}");
 }
 
-/// A function `f` with a counter and this body, and another function with one.
+/// A function with a counter and this body.
 fn with_body(body: &str) -> String {
-    format!("fn g(a: u8, turns: &mut Turns, b: u8) {{}}\nfn f(turns: &mut Turns) -> u8 {{ {body} }}")
+    format!("fn f(turns: &mut Turns) -> u8 {{ {body} }}")
 }
 
 #[track_caller]
 fn body_becomes(body: &str, expected: &str) {
-    becomes(&with_body(body), &format!("#[inline] fn g(a: u8, b: u8) {{}} #[inline] fn f() -> u8 {{ {expected} }}"));
-}
-
-#[track_caller]
-fn body_is_refused(body: &str, error: &str) {
-    is_refused(&with_body(body), &format!("2: {error}"));
+    becomes(&with_body(body), &format!("#[inline] fn f() -> u8 {{ {expected} }}"));
 }
 
 /// Such an attribute was once left out by the words of the comment above it.
 #[test]
 fn a_reworded_comment_changes_only_the_comment() {
-    becomes(
-        "// It is cold.\n#[cold]\nfn write_more_than_ten() {}",
-        "// It is cold.\n#[inline]\nfn write_more_than_ten() {}",
-    );
-    becomes(
-        "// Reworded.\n#[cold]\nfn write_more_than_ten() {}",
-        "// Reworded.\n#[inline]\nfn write_more_than_ten() {}",
-    );
-    becomes("// It is cold.\n#[cold]\nfn other() {}", "// It is cold.\n#[cold]\n#[inline]\nfn other() {}");
+    for comment in ["// It is cold.", "// Reworded."] {
+        let kept = made(&format!("{comment}\n#[cold]\nfn other() {{}}")).unwrap();
+        assert_eq!(kept, format!("{comment}\n#[cold]\n#[inline]\nfn other() {{}}\n"));
+        let left_out = made(&format!("{comment}\n#[cold]\nfn write_more_than_ten() {{}}")).unwrap();
+        assert_eq!(left_out, format!("{comment}\n#[inline]\nfn write_more_than_ten() {{}}\n"));
+    }
 }
 
 /// A comment with such a word was once refused.
 #[test]
 fn a_comment_may_have_any_word() {
-    becomes("/// A record, a `ghost` and a proof.\nstruct S;", "/// A record, a `ghost` and a proof.\nstruct S;");
-}
-
-#[test]
-fn a_function_keeps_its_result() {
-    body_becomes("in_range(a); turns.tick(1); b", "b");
-    body_is_refused("in_range(a);", "f returns nothing");
-    body_is_refused("", "f returns nothing");
-    body_is_refused("in_range(a)", "`in_range` is not called by a statement of its own");
+    let text = "/// A record, a `ghost` and a proof that λ.\nstruct S;\n";
+    assert_eq!(made(text).unwrap(), text);
 }
 
 #[test]
 fn a_comment_goes_with_what_it_stands_at() {
-    becomes("// Of all.\n\n// Of it.\nghost use a;\nstruct B; // b", "// Of all.\n\nstruct B; // b");
-    becomes("#[cold] // So it is not inlined.\nfn write_more_than_ten() {}", "#[inline] fn write_more_than_ten() {}");
-    becomes("// Of f.\n#[tactic(auto)]\nfn f() {}", "// Of f.\n#[inline]\nfn f() {}");
-    becomes("// Of f.\nfinal fn f() {}", "// Of f.\n#[inline]\nfn f() {}");
+    let made = |text| made(text).unwrap();
+    assert_eq!(made("// Of all.\n\n// Of it.\nghost use a;\nstruct B; // b"), "// Of all.\n\nstruct B; // b\n");
+    assert_eq!(made("// Of f.\n#[tactic(auto)]\nfn f() {}"), "// Of f.\n#[inline]\nfn f() {}\n");
+    assert_eq!(made("// Of f.\nfinal fn f() {}"), "// Of f.\n#[inline]\nfn f() {}\n");
 }
 
 #[test]
 fn ghost_items_clauses_and_tactics_are_left_out() {
     becomes("fn f(a: u8) requires { b } ensures* c { d } { a } ghost e: { g };", "#[inline] fn f(a: u8) { a }");
-    becomes("struct S { a: u8, pub(crate) ghost n: { ℕ }, ghost m: { x' } }", "struct S { a: u8 }");
+    becomes("struct S { a: u8, pub(crate) ghost n: { ℕ }, ghost m: { x' } }", "struct S { a: u8, }");
     becomes("trait T { fn f() ensures { b }; ghost a = { b }; }", "trait T { fn f(); }");
     becomes("#![tactic(auto)] #[tactic(a, using(b))] fn f() {}", "#[inline] fn f() {}");
     becomes("impl<T> Model for S<T> { ghost a = { b }; } impl S {}", "impl S {}");
+}
+
+#[test]
+fn what_is_left_of_rattle_is_refused() {
     is_refused("fn f() requires a; fn i() { b }", "1: only Rattle has `requires`");
     is_refused("fn f() { ghost }", "1: only Rattle has `ghost`");
     is_refused("\nfn f() { λ }", "2: only Rattle has `λ`");
+    is_refused("fn f() { let a: Option<Turns>; }", "1: only Rattle has `Turns`");
+    is_refused("fn f() {\nif c { turns.tick(b) } }", "2: only Rattle has `turns`");
 }
 
 #[test]
@@ -101,42 +94,32 @@ fn laws_and_their_calls_are_left_out() {
         "let in_range = a < 2; if !in_range { return 0; } a",
         "let in_range = a < 2; if !in_range { return 0; } a",
     );
-    is_refused("fn in_range() -> u8 { 1 }", "1: in_range is no law");
-    is_refused("fn in_range(a: &mut u8) { 1 }", "1: in_range is no law");
-    is_refused("fn in_range(a: u8) { prove!(a < 2); }", "1: in_range is no law");
+}
+
+/// Otherwise what such a statement does would be lost.
+#[test]
+fn a_law_in_a_statement_that_does_more_is_refused() {
     for statement in [
         "let b = in_range(a);",
         "in_range(a()?);",
         "in_range(self.next());",
         "next().in_range();",
         "match a { b => {} }.in_range();",
+        "if a { in_range(b) }",
     ] {
-        body_is_refused(&format!("{statement} b"), "`in_range` is not called by a statement of its own");
+        is_refused(&with_body(&format!("{statement} b")), "1: only Rattle has `in_range`");
     }
-    body_is_refused("for a in b() { in_range(a); } 1", "nothing is left of this block");
+    // So a function keeps its result.
+    is_refused(&with_body("in_range(a)"), "1: only Rattle has `in_range`");
 }
 
 #[test]
 fn ghosts_are_left_out() {
     becomes("struct S { a: u8, trace: Trace }", "struct S { a: u8 }");
-    becomes(
-        "struct S { trace: Trace } fn f() -> S { S { trace: Trace::new() } }",
-        "struct S {} #[inline] fn f() -> S { S {} }",
-    );
-    body_becomes("turns.tick(1); b", "b");
-    body_becomes("let mut t = Turns::new(); t.append(turns); b", "b");
+    becomes("fn f() -> S { S { a, trace: Trace::new() } }", "#[inline] fn f() -> S { S { a } }");
+    body_becomes("turns.tick(1); self.trace.note(&a); b", "b");
     body_becomes("let a = b / 2; if a > 0 { turns.tick(a); } a", "b / 2");
     body_becomes("g(1, turns, g(1, &mut Turns::new(), 3))", "g(1, g(1, 3))");
-    // The same name may be that of another variable in another function.
-    becomes(
-        "fn f(turns: &mut Turns) { turns.tick(1); } fn h(turns: &mut Vec<u8>) { turns.tick(1); g(turns); }",
-        "#[inline] fn f() {} #[inline] fn h(turns: &mut Vec<u8>) { turns.tick(1); g(turns); }",
-    );
-    body_is_refused("if c { turns.tick(b) } 1", "`turns` is not called by a statement of its own");
-    body_is_refused("let a: Option<Turns>; 1", "only Rattle has `Turns`");
-    for (call, name) in [("g(turns, 1, 2)", "g"), ("g(1, 2, 3)", "g"), ("h(turns)", "h"), ("h::<u8>(turns)", "h")] {
-        body_is_refused(call, &format!("the ghosts of this call of `{name}` are not those of its parameters"));
-    }
 }
 
 #[test]
@@ -154,7 +137,6 @@ fn two_functions_become_one() {
         impl A for u8 { fn decimal_counted(self, turns: &mut Turns) { self.b() } }",
         "trait A { fn decimal(self); } impl A for u8 { #[inline] fn decimal(self) { self.b() } }",
     );
-    is_refused("pub fn a_counted(n: u8) { n }", "1: no list has a_counted");
 }
 
 #[test]
@@ -162,10 +144,8 @@ fn rules_write_tokens_otherwise() {
     becomes("fn f() { prove!(a); b }", "#[inline] fn f() { assert!(a); b }");
     becomes("#[derive(Clone, Drop)] struct A; #[derive(Drop)] struct B;", "#[derive(Clone)] struct A; struct B;");
     becomes("fn fmt<W: fmt::Write>(f: fmt::Formatter<W>) {}", "#[inline] fn fmt(f: fmt::Formatter<'_>) {}");
-    becomes(
-        "use lexical_num::A; use crate::b::C; use std::d;",
-        "use crate::num::A; use crate::write_integer::b::C; use core::d;",
-    );
+    let paths = "use crate::num::A; use crate::write_integer::b::C; use core::d;";
+    becomes("use lexical_num::A; use crate::b::C; use std::d;", paths);
 }
 
 #[test]
@@ -188,8 +168,10 @@ fn a_condition_needs_a_section_panics() {
     let error = "1: f requires something, but its documentation has no section `# Panics`";
     is_refused("pub fn f() requires { a } { b }", error);
     is_refused("trait T { fn f() requires { a }; }", error);
-    let made = made("/// # Panics\n///\n/// If b.\npub fn f() requires { a } { b }").unwrap();
-    assert_eq!(made, "/// # Panics\n///\n/// If b.\n#[inline]\npub fn f() { b }\n");
+    becomes(
+        "/// # Panics\n///\n/// If b.\npub fn f() requires { a } { b }",
+        "/// # Panics\n///\n/// If b.\n#[inline] pub fn f() { b }",
+    );
     becomes("fn f() requires { a } { b }", "#[inline] fn f() { b }");
     becomes("#[doc(hidden)] pub fn f() requires { a } { b }", "#[doc(hidden)] #[inline] pub fn f() { b }");
     becomes("pub fn group_digits() requires some { a } { b }", "#[inline] pub fn group_digits() { b }");
@@ -210,33 +192,28 @@ fn top() -> &'static Path {
 }
 
 #[test]
-fn a_rule_that_matches_nothing_or_too_much_is_refused() {
-    let error =
-        |rule| Repository::read(top(), &SOURCES[1..2], rules::Of("lexical_tables").rules([rule])).err().unwrap();
-    assert_eq!(error(rules::everywhere("gone", "")), "lexical_tables: the rule for `gone`: it matches nothing");
-    let often = error(rules::once("u8", ""));
-    assert!(often.starts_with("lexical_tables: the rule for `u8`: it matches "), "{often}");
+fn a_rule_or_a_name_of_a_list_that_is_for_nothing_is_refused() {
+    let error = |sources, rules| Repository::read(top(), sources, rules).err().unwrap();
+    let rules = vec![Rule::new("lexical_tables", "gone", "")];
+    assert_eq!(error(&SOURCES[1..2], rules), "lexical_tables: the rule for `gone` matches nothing");
     const OTHER: &[Source] = &[Source { constant: "digit_to_byte", ..SOURCES[1] }];
-    let error = Repository::read(top(), OTHER, Vec::new()).err().unwrap();
-    assert_eq!(error, "lexical_tables: it has no digit_to_byte");
+    assert_eq!(error(OTHER, Vec::new()), "lexical_tables: it has no digit_to_byte");
 }
 
 /// Here each comment and each layout of the crates is another one, and what is made of the code is the same.
 #[test]
 fn no_comment_and_no_layout_of_a_source_decides() {
-    let repository = Repository::read(top(), SOURCES, tables::rules()).unwrap();
+    let (repository, mut rules) = (Repository::read(top(), SOURCES, Rule::all()).unwrap(), Rule::all());
     for file in repository.files.iter().filter(|file| file.source.path_of_made(&file.name).is_some()) {
-        let mut other = lex(&files::read(&top().join(&file.path)).unwrap()).unwrap();
+        let mut other = lex_part(&files::read(&top().join(file.path())).unwrap()).unwrap();
         for (at, token) in other.iter_mut().enumerate() {
             token.before = if at % 5 == 0 { "\n// ghost requires { #[cold]\n" } else { "\n" }.to_owned();
             token.after.clear();
         }
-        let place = [file.source.name, file.source.package, &file.name];
-        let (mut paths, mut rules) = (file.source.paths(), tables::rules());
-        let other = rules::lex_and_apply(&print(&other), place, &mut paths, &mut rules).unwrap();
-        let made = |tokens: &[Token]| {
-            words(&lex_part(&translated(tokens, &file.name, file.source, &repository).unwrap()).unwrap())
-        };
-        assert_eq!(made(&file.tokens), made(&other), "{}", file.path.display());
+        let place = [file.source.package, file.source.name, &format!("{}/{}", file.source.name, file.name)];
+        let tokens = lex_and_apply(&print(&other), place, &mut rules).unwrap();
+        let other = File { name: file.name.clone(), tokens, ..*file };
+        let made = |file| code(&translated(file, &repository).unwrap());
+        assert_eq!(made(file), made(&other), "{}", file.path().display());
     }
 }
