@@ -12,7 +12,7 @@ const CHARACTERS: [u8; 36] = *b"0123456789ABCDEFGHIJKLMNOPQRSTUVWXYZ";
 /// # Panics
 ///
 /// If the digit is 36 or above.
-pub fn digit_to_char(digit: u32) -> u8
+pub const fn digit_to_char(digit: u32) -> u8
     requires { digit < 36 }
     ensures { result ≡ digit_char digit }
 {

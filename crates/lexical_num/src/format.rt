@@ -20,7 +20,7 @@ pub(crate) struct Parts {
 
 impl Parts {
     /// Returns whether a format can have these parts.
-    pub fn are_valid(&self) -> bool
+    pub const fn are_valid(&self) -> bool
         ensures { IsTrue result ↔ IsValid self.now }
     {
         let are_groups_valid = match self.digit_grouping {
@@ -73,7 +73,7 @@ pub const STANDARD: NumberFormat = NumberFormat {
 
 impl NumberFormat {
     /// Returns the mantissa radix, from 2 to 36, as `mantissa_radix` does.
-    pub fn radix(&self) -> u32
+    pub const fn radix(&self) -> u32
         ensures value { result ≡ self.now.mantissa_radix }
         ensures radix { IsRadix result }
     {
@@ -81,7 +81,7 @@ impl NumberFormat {
     }
 
     /// Returns the mantissa radix, from 2 to 36, in which integers are written.
-    pub fn mantissa_radix(&self) -> u32
+    pub const fn mantissa_radix(&self) -> u32
         ensures value { result ≡ self.now.mantissa_radix }
         ensures radix { IsRadix result }
     {
@@ -89,7 +89,7 @@ impl NumberFormat {
     }
 
     /// Returns the exponent radix, from 2 to 36, in which exponents are written.
-    pub fn exponent_radix(&self) -> u32
+    pub const fn exponent_radix(&self) -> u32
         ensures value { result ≡ self.now.exponent_radix }
         ensures radix { IsRadix result }
     {
@@ -97,7 +97,7 @@ impl NumberFormat {
     }
 
     /// Returns whether a `+` precedes a number that is not negative.
-    pub fn required_mantissa_sign(&self) -> bool
+    pub const fn required_mantissa_sign(&self) -> bool
         ensures { result ≡ self.now.required_mantissa_sign }
     {
         self.parts.required_mantissa_sign
@@ -105,7 +105,7 @@ impl NumberFormat {
 
     /// Returns the number of digits of a group, from 1 to 64, and the separator between two groups,
     /// or `None` if the digits are not grouped.
-    pub fn digit_grouping(&self) -> Option<(u8, u8)>
+    pub const fn digit_grouping(&self) -> Option<(u8, u8)>
         ensures value { result ≡ self.now.digit_grouping }
         ensures valid { ForSome result IsGrouping }
     {
@@ -119,7 +119,7 @@ impl NumberFormat {
     /// # Panics
     ///
     /// If the digits are grouped and the count is above `isize::MAX`.
-    pub fn grouped_len(&self, count: usize) -> usize
+    pub const fn grouped_len(&self, count: usize) -> usize
         requires { count < 2 ^ 63 }
         ensures { result ≡ grouped_length self.now.digit_grouping count }
     {
@@ -134,7 +134,7 @@ impl NumberFormat {
     }
 
     /// A law: the parts of the format are in their ranges.
-    pub fn in_range(&self)
+    pub const fn in_range(&self)
         ensures { IsValid self.now }
     {
         // Reading the parts makes their invariant known to the prover.
@@ -143,7 +143,7 @@ impl NumberFormat {
 
     /// Returns whether numbers can be written in the format. It is always true, because a builder makes no other
     /// formats.
-    pub fn is_valid(&self) -> bool
+    pub const fn is_valid(&self) -> bool
         ensures always { IsTrue result }
         ensures valid { IsValid self.now }
     {

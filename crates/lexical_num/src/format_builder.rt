@@ -37,7 +37,7 @@ impl Model for NumberFormatBuilder {
 impl NumberFormatBuilder {
     /// Returns a builder with the fields of `format::STANDARD`: both radices are 10, no sign is required, and
     /// the digits are not grouped.
-    pub fn new() -> Self
+    pub const fn new() -> Self
         ensures { result ≡ standard }
     {
         NumberFormatBuilder {
@@ -46,14 +46,14 @@ impl NumberFormatBuilder {
     }
 
     /// Returns the format whose radices are both 2, with no required sign and no groups.
-    pub fn binary() -> NumberFormat
+    pub const fn binary() -> NumberFormat
         ensures { result ≡ record standard { mantissa_radix = 2; exponent_radix = 2 } }
     {
         Self::from_radix(2)
     }
 
     /// Returns the format whose radices are both 16, with no required sign and no groups.
-    pub fn hexadecimal() -> NumberFormat
+    pub const fn hexadecimal() -> NumberFormat
         ensures { result ≡ record standard { mantissa_radix = 16; exponent_radix = 16 } }
     {
         Self::from_radix(16)
@@ -65,7 +65,7 @@ impl NumberFormatBuilder {
     /// # Panics
     ///
     /// If the radix is not from 2 to 36.
-    pub fn from_radix(radix: u8) -> NumberFormat
+    pub const fn from_radix(radix: u8) -> NumberFormat
         requires { IsRadix radix }
         ensures { result ≡ record standard { mantissa_radix = radix; exponent_radix = radix } }
     {
@@ -81,14 +81,14 @@ impl NumberFormatBuilder {
     }
 
     /// Sets the mantissa radix, as `mantissa_radix` does. The exponent radix is unchanged.
-    pub fn radix(self, radix: u8) -> Self
+    pub const fn radix(self, radix: u8) -> Self
         ensures { result ≡ record self { mantissa_radix = radix } }
     {
         self.mantissa_radix(radix)
     }
 
     /// Sets the mantissa radix. The exponent radix is unchanged.
-    pub fn mantissa_radix(mut self, radix: u8) -> Self
+    pub const fn mantissa_radix(mut self, radix: u8) -> Self
         ensures { result ≡ record self { mantissa_radix = radix } }
     {
         self.parts.mantissa_radix = radix;
@@ -96,7 +96,7 @@ impl NumberFormatBuilder {
     }
 
     /// Sets the exponent radix. The mantissa radix is unchanged.
-    pub fn exponent_radix(mut self, radix: u8) -> Self
+    pub const fn exponent_radix(mut self, radix: u8) -> Self
         ensures { result ≡ record self { exponent_radix = radix } }
     {
         self.parts.exponent_radix = radix;
@@ -104,7 +104,7 @@ impl NumberFormatBuilder {
     }
 
     /// Sets whether a `+` precedes a number that is not negative.
-    pub fn required_mantissa_sign(mut self, required: bool) -> Self
+    pub const fn required_mantissa_sign(mut self, required: bool) -> Self
         ensures { result ≡ record self { required_mantissa_sign = required } }
     {
         self.parts.required_mantissa_sign = required;
@@ -113,7 +113,7 @@ impl NumberFormatBuilder {
 
     /// Sets the number of digits of a group, and the separator between two groups. Groups are
     /// counted from the right: in groups of three digits `1234567` is written `1,234,567`.
-    pub fn digit_grouping(mut self, size: u8, mark: u8) -> Self
+    pub const fn digit_grouping(mut self, size: u8, mark: u8) -> Self
         ensures { result ≡ record self { digit_grouping = Some (size, mark) } }
     {
         self.parts.digit_grouping = Some((size, mark));
@@ -126,7 +126,7 @@ impl NumberFormatBuilder {
     ///
     /// The error names the first invalid field: the mantissa radix is checked first, then the exponent
     /// radix, then the group size, then the separator.
-    pub fn build(&self) -> Result<NumberFormat>
+    pub const fn build(&self) -> Result<NumberFormat>
         ensures valid { IsOk result ↔ IsValid self.now }
         ensures format { IfOk result (λ format. format ≡ self.now) }
         ensures mantissa { IsErrOf result (Error.InvalidMantissaRadix self.now.mantissa_radix)
@@ -165,7 +165,7 @@ impl NumberFormatBuilder {
     /// # Panics
     ///
     /// If a part is invalid: then `build` returns an error.
-    pub fn build_strict(&self) -> NumberFormat
+    pub const fn build_strict(&self) -> NumberFormat
         requires { IsValid self.now }
         ensures { result ≡ self.now }
     {

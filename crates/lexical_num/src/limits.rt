@@ -5,14 +5,14 @@ ghost use Rattle.std.specs.Prelude.{◌↔◌, IsTrue};
 ghost use Rattle.lexical_num.specs.Format.{IsRadix, IsGroupSize, IsMark};
 
 /// Returns whether the radix is from 2 to 36, so that each of its digits has a character.
-pub fn is_radix(radix: u64) -> bool
+pub const fn is_radix(radix: u64) -> bool
     ensures { IsTrue result ↔ IsRadix radix }
 {
     2 <= radix && radix <= 36
 }
 
 /// Returns whether a group can have this number of digits: from 1 to 64.
-pub fn is_group_size(size: u64) -> bool
+pub const fn is_group_size(size: u64) -> bool
     ensures { IsTrue result ↔ IsGroupSize size }
 {
     1 <= size && size <= 64
@@ -20,7 +20,7 @@ pub fn is_group_size(size: u64) -> bool
 
 /// Returns whether the byte can separate two groups: a character of printable ASCII, which are the
 /// bytes from 32 to 126, that is not a letter, a digit, `+` or `-`.
-pub fn is_mark(byte: u64) -> bool
+pub const fn is_mark(byte: u64) -> bool
     ensures { IsTrue result ↔ IsMark byte }
 {
     32 <= byte

@@ -51,21 +51,21 @@ impl Options {
     ghost use Rattle.lexical_num.specs.declared.options.OptionsBuilder.{OptionsBuilder};
 
     /// Returns the options.
-    pub fn new() -> Self
+    pub const fn new() -> Self
         ensures { (other : Options) → result ≡ other }
     {
         STANDARD
     }
 
     /// Returns the options, which do not depend on the radix.
-    pub fn from_radix(_radix: u8) -> Self
+    pub const fn from_radix(_radix: u8) -> Self
         ensures { (other : Options) → result ≡ other }
     {
         Self::new()
     }
 
     /// Returns whether numbers can be written with the options. This is always true.
-    pub fn is_valid(&self) -> bool
+    pub const fn is_valid(&self) -> bool
         ensures { IsTrue result }
     {
         true
@@ -73,7 +73,7 @@ impl Options {
 
     /// Returns the length of a buffer that is enough for every number of the type in the format, as `buffer_size` does,
     /// also in a constant.
-    pub fn buffer_size_const<T: FormattedSize>(&self, format: &NumberFormat) -> usize
+    pub const fn buffer_size_const<T: FormattedSize>(&self, format: &NumberFormat) -> usize
         ensures { result ≡ size_in T.FORMATTED_SIZE T.FORMATTED_SIZE_DECIMAL format.now }
     {
         if format.mantissa_radix() != 10 {
@@ -84,14 +84,14 @@ impl Options {
     }
 
     /// Returns a builder of options.
-    pub fn builder() -> OptionsBuilder
+    pub const fn builder() -> OptionsBuilder
         ensures { (other : OptionsBuilder) → result ≡ other }
     {
         OptionsBuilder::new()
     }
 
     /// Returns a builder that builds these options.
-    pub fn rebuild(&self) -> OptionsBuilder
+    pub const fn rebuild(&self) -> OptionsBuilder
         ensures { (other : OptionsBuilder) → result ≡ other }
     {
         Self::builder()
@@ -131,28 +131,28 @@ impl OptionsBuilder {
     ghost use Rattle.lexical_num.specs.declared.options.OptionsBuilder.{OptionsBuilder};
 
     /// Returns a builder of options.
-    pub fn new() -> Self
+    pub const fn new() -> Self
         ensures { (other : OptionsBuilder) → result ≡ other }
     {
         OptionsBuilder {}
     }
 
     /// Returns whether options can be built. This is always true.
-    pub fn is_valid(&self) -> bool
+    pub const fn is_valid(&self) -> bool
         ensures { IsTrue result }
     {
         true
     }
 
     /// Returns the options without checking them.
-    pub fn build_unchecked(&self) -> Options
+    pub const fn build_unchecked(&self) -> Options
         ensures { (other : Options) → result ≡ other }
     {
         Options::new()
     }
 
     /// Returns the options.
-    pub fn build_strict(&self) -> Options
+    pub const fn build_strict(&self) -> Options
         ensures { (other : Options) → result ≡ other }
     {
         self.build_unchecked()
@@ -163,7 +163,7 @@ impl OptionsBuilder {
     /// # Errors
     ///
     /// None: options have one value.
-    pub fn build(&self) -> Result<Options>
+    pub const fn build(&self) -> Result<Options>
         ensures { IsOk result }
     {
         Ok(self.build_unchecked())

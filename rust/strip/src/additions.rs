@@ -1,9 +1,7 @@
-//! Adds what a package says of a function or a type and the crate does not: attributes, and `const`. Without `#[inline]`
-//! rustc would inline few functions of a package into another one. Leaves out the clauses, after a check that the
-//! documentation says when the function panics.
+//! Adds attributes of functions and types. Without `#[inline]` rustc would inline few functions of a package into another
+//! one. Leaves out the clauses, after a check that the documentation says when the function panics.
 
 use crate::items::{Function, functions, start};
-use crate::packages::has;
 use crate::repository::File;
 use crate::tokens::{Token, closing, find, words};
 use std::ops::Range;
@@ -28,9 +26,6 @@ pub(crate) fn add(tokens: &mut Vec<Token>, file: &File, pages: &str) -> Result<(
             lines += attributes.unwrap_or("#[inline]");
         }
         insert_lines(&mut tokens[function.visibility], &lines);
-        if is_public && has(file.source.constant, function.name(tokens)) {
-            tokens[function.at].text = "const fn".to_owned();
-        }
         for clause in function.clauses.into_iter().rev() {
             tokens.drain(clause);
         }

@@ -82,7 +82,7 @@ pub(crate) fn is_public(tokens: &[Token], start: usize) -> bool {
 
 /// Returns the names of all functions and constants.
 pub(crate) fn names(tokens: &[Token]) -> impl Iterator<Item = &String> {
-    let is_name = |pair: &&[Token]| pair[0].is_in(&["fn", "const"]) && pair[1].is_word();
+    let is_name = |pair: &&[Token]| pair[0].is_in(&["fn", "const"]) && pair[1].is_word() && pair[1] != "fn";
     tokens.windows(2).filter(is_name).map(|pair| &pair[1].text)
 }
 

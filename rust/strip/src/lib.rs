@@ -7,7 +7,7 @@
 //! 1. `rules` writes what `tables` lists otherwise, for example `prove!` as `assert!`.
 //! 2. `left_out` leaves out items that only the prover reads, such as ghost items, laws, models and tactics.
 //! 3. `ghosts` leaves out counters with all that passes them on, and calls of laws.
-//! 4. `additions` writes what a package needs and the crate does not say: `#[inline]`, `const` and `#[must_use]`. It
+//! 4. `additions` writes attributes that a package needs and the crate does not have: `#[inline]` and `#[must_use]`. It
 //!    leaves out the contracts, after a check that the documentation says when a function panics.
 //! 5. `left_out` leaves out imports of what is gone, and refuses each word of Rattle that is left.
 //!

@@ -16,8 +16,6 @@ pub(crate) struct Source {
     /// Attributes other than `#[inline]`, each with the functions and types that have it, the files, paths in `src`, whose
     /// functions have it, and functions of one file, as `FILE:NAME`. The first that names a function counts.
     pub attributes: Listed,
-    /// The names of public functions that are `const fn`.
-    pub constant: &'static str,
     /// The other modules of which nothing is made, as paths in `src`: only proofs need them, or only Rattle has them.
     pub left_out: &'static str,
     /// Laws, which are functions that only prove something, functions that only record, constants that only contracts
@@ -56,7 +54,7 @@ impl Source {
     /// Returns the names of functions, files and modules that the lists have.
     pub fn names(&self) -> impl Iterator<Item = &'static str> {
         let attributes = self.attributes.iter().map(|(_, names)| *names);
-        attributes.chain([self.constant, self.left_out, self.laws]).flat_map(str::split_whitespace)
+        attributes.chain([self.left_out, self.laws]).flat_map(str::split_whitespace)
     }
 
     /// Returns whether a function of a file is a law.
@@ -99,8 +97,7 @@ pub(crate) fn has(list: &str, name: &str) -> bool {
     list.split_whitespace().any(|listed| listed == name)
 }
 
-const LIBRARY: Source =
-    Source { name: "", package: "cojimuran", module: "", attributes: &[], constant: "", left_out: "", laws: "" };
+const LIBRARY: Source = Source { name: "", package: "cojimuran", module: "", attributes: &[], left_out: "", laws: "" };
 
 /// The lines of the program.
 const PROGRAM: Source = Source { package: "lexwrite", ..LIBRARY };
@@ -119,10 +116,6 @@ pub(crate) const SOURCES: &[Source] = &[
             // So neither a new error nor a field breaks a user.
             ("#[non_exhaustive]", "Error Options OptionsBuilder"),
         ],
-        constant: "
-            digit_to_char is_radix is_group_size is_mark are_valid new binary hexadecimal from_radix radix
-            mantissa_radix exponent_radix required_mantissa_sign digit_grouping grouped_len is_valid build build_strict
-            build_unchecked buffer_size_const builder rebuild",
         left_out: "ghost_log",
         laws: "in_range fits_bits",
         ..LIBRARY

@@ -196,7 +196,7 @@ fn a_rule_or_a_name_of_a_list_that_is_for_nothing_is_refused() {
     let error = |sources, rules| Repository::read(top(), sources, rules).err().unwrap();
     let rules = vec![Rule::new("lexical_tables", "gone", "")];
     assert_eq!(error(&SOURCES[1..2], rules), "lexical_tables: the rule for `gone` matches nothing");
-    const OTHER: &[Source] = &[Source { constant: "digit_to_byte", ..SOURCES[1] }];
+    const OTHER: &[Source] = &[Source { laws: "digit_to_byte", ..SOURCES[1] }];
     assert_eq!(error(OTHER, Vec::new()), "lexical_tables: it has no digit_to_byte");
 }
 
