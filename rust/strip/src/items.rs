@@ -42,7 +42,7 @@ impl Function {
     }
 
     pub fn is_public(&self, tokens: &[Token]) -> bool {
-        is_public(tokens, self.visibility)
+        tokens[self.visibility] == "pub" && tokens[self.visibility + 1] != "("
     }
 }
 
@@ -57,27 +57,15 @@ pub(crate) fn function(tokens: &[Token], at: usize) -> Option<Function> {
         return None;
     }
     let parameters = after_generics(tokens, at + 2);
+    let mut body = find(tokens, closing(tokens, parameters) + 1, &["requires", "ensures", "{", ";"]);
     let mut clauses = Vec::new();
-    let mut body = closing(tokens, parameters) + 1;
-    while !tokens[body].is_in(&["{", ";", ""]) {
-        body = find(tokens, body, &["{", ";", "requires", "ensures"]);
-        if tokens[body].is_in(&["requires", "ensures"]) {
-            let open = find(tokens, body, &["{", ";"]);
-            // A clause without brackets is none, and so refused as a word of Rattle that is left.
-            let end = if tokens[open] == "{" { closing(tokens, open) + 1 } else { open };
-            if end > open {
-                clauses.push(body..end);
-            }
-            body = end;
-        }
+    while tokens[body].is_in(&["requires", "ensures"]) {
+        let end = closing(tokens, find(tokens, body, &["{"])) + 1;
+        clauses.push(body..end);
+        body = end;
     }
     let (first, visibility) = (start_with_attributes(tokens, at), start(tokens, at));
     Some(Function { first, visibility, at, parameters, clauses, body })
-}
-
-/// Returns whether an item is public whose first token after its attributes is at an index.
-pub(crate) fn is_public(tokens: &[Token], start: usize) -> bool {
-    tokens[start] == "pub" && tokens[start + 1] != "("
 }
 
 /// Returns the names of all functions and constants.
@@ -131,28 +119,13 @@ pub(crate) fn start_with_attributes(tokens: &[Token], at: usize) -> usize {
 
 /// Returns the elements of a list in brackets, each without its comma.
 pub(crate) fn elements(tokens: &[Token], open: usize) -> Vec<Range<usize>> {
-    let (end, mut found, mut from, mut at) = (closing(tokens, open), Vec::new(), open + 1, open + 1);
-    while at < end {
-        match &*tokens[at].text {
-            "(" | "[" | "{" => at = closing(tokens, at),
-            "<" if tokens[at - 1] == "::" || is_type(&tokens[at - 1].text) => at = after_generics(tokens, at) - 1,
-            "," => {
-                found.push(from..at);
-                from = at + 1;
-            }
-            _ => {}
-        }
-        at += 1;
-    }
-    if from < end {
-        found.push(from..end);
+    let (end, mut from, mut found) = (closing(tokens, open), open + 1, Vec::new());
+    while from < end {
+        let comma = find(tokens, from, &[","]);
+        found.push(from..comma);
+        from = comma + 1;
     }
     found
-}
-
-/// Returns whether a word is a type by its letters: the name of a constant has no small ones.
-fn is_type(word: &str) -> bool {
-    word.starts_with(char::is_uppercase) && word.contains(char::is_lowercase)
 }
 
 /// Removes tokens with the comment directly before them, which speaks of them. A comment with an empty line after it

@@ -2,7 +2,7 @@
 
 use crate::items::remove_and_keep_comment;
 use crate::tables::RULES;
-use crate::tokens::{Token, lex, lex_part, print};
+use crate::tokens::{Token, lex, print};
 
 /// Tokens of a source, and those that are written there. A rule of a table that matches nothing is an error.
 pub(crate) struct Rule {
@@ -16,7 +16,7 @@ pub(crate) struct Rule {
 impl Rule {
     pub fn new(of: &'static str, from: &str, to: &str) -> Rule {
         let [from, to] = [from, to].map(|text| {
-            let mut tokens = lex_part(text).expect("a rule has tokens");
+            let mut tokens = lex(text).expect("a rule has tokens");
             tokens.pop();
             tokens
         });
@@ -81,7 +81,7 @@ pub(crate) fn lex_and_apply(text: &str, place: [&str; 3], rules: &mut [Rule]) ->
             is_example = !is_fenced && language.is_empty();
             is_fenced = !is_fenced;
         } else if is_example {
-            let mut code = lex_part(line).map_err(|what| format!("{}: in an example: {what}", token.line))?;
+            let mut code = lex(line).map_err(|what| format!("{}: in an example: {what}", token.line))?;
             for rule in rules.iter_mut().filter(|rule| rule.of.is_empty()) {
                 rule.apply(&mut code);
             }

@@ -3,7 +3,7 @@
 use crate::packages::{SOURCES, Source};
 use crate::repository::{File, Repository};
 use crate::rules::{Rule, lex_and_apply};
-use crate::tokens::{lex_part, print, words};
+use crate::tokens::{lex, print, words};
 use crate::{files, translated};
 use std::path::Path;
 
@@ -18,7 +18,7 @@ fn made(text: &str) -> Result<String, String> {
 
 /// Returns the tokens of a text without its comments.
 fn code(text: &str) -> String {
-    words(&lex_part(text).unwrap())
+    words(&lex(text).unwrap())
 }
 
 #[track_caller]
@@ -78,7 +78,6 @@ fn ghost_items_clauses_and_tactics_are_left_out() {
 
 #[test]
 fn what_is_left_of_rattle_is_refused() {
-    is_refused("fn f() requires a; fn i() { b }", "1: only Rattle has `requires`");
     is_refused("fn f() { ghost }", "1: only Rattle has `ghost`");
     is_refused("\nfn f() { λ }", "2: only Rattle has `λ`");
     is_refused("fn f() { let a: Option<Turns>; }", "1: only Rattle has `Turns`");
@@ -179,11 +178,8 @@ fn a_condition_needs_a_section_panics() {
 
 #[test]
 fn what_cannot_be_read_is_refused() {
-    is_refused("fn f() {\n(a] }", "2: nothing opened this `]`");
-    is_refused("\nfn f() {", "2: no `}` closes this bracket");
-    is_refused("fn f() { a(\"b) }", "1: nothing closes this quote");
-    for text in ["/* a */", "r\"a\"", "br#\"a\"#", "r#type"] {
-        is_refused(text, "1: this program reads no block comment, no raw string and no raw name");
+    for text in ["\n/* a */", "\nr\"a\"", "\nbr#\"a\"#", "\nr#type"] {
+        is_refused(text, "2: this program reads no block comment, no raw string and no raw name");
     }
 }
 
@@ -205,7 +201,7 @@ fn a_rule_or_a_name_of_a_list_that_is_for_nothing_is_refused() {
 fn no_comment_and_no_layout_of_a_source_decides() {
     let (repository, mut rules) = (Repository::read(top(), SOURCES, Rule::all()).unwrap(), Rule::all());
     for file in repository.files.iter().filter(|file| file.source.path_of_made(&file.name).is_some()) {
-        let mut other = lex_part(&files::read(&top().join(file.path())).unwrap()).unwrap();
+        let mut other = lex(&files::read(&top().join(file.path())).unwrap()).unwrap();
         for (at, token) in other.iter_mut().enumerate() {
             token.before = if at % 5 == 0 { "\n// ghost requires { #[cold]\n" } else { "\n" }.to_owned();
             token.after.clear();

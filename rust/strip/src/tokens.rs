@@ -32,16 +32,9 @@ impl PartialEq<&str> for Token {
     }
 }
 
-/// Returns the tokens of a source, whose brackets match, or an error that begins with the line. The last token is
-/// empty, and has what is after the others.
+/// Returns the tokens of a text, or an error that begins with the line. The last token is empty, and has what is after
+/// the others. The brackets of a source match, because the compiler of Rattle has read it.
 pub(crate) fn lex(text: &str) -> Result<Vec<Token>, String> {
-    let tokens = lex_part(text)?;
-    check_brackets(&tokens)?;
-    Ok(tokens)
-}
-
-/// Returns the tokens of a part of a source, in which a bracket may be open.
-pub(crate) fn lex_part(text: &str) -> Result<Vec<Token>, String> {
     let (mut tokens, mut rest, mut line): (Vec<Token>, _, _) = (Vec::new(), text, 1);
     loop {
         let (mut space, code) = rest.split_at(space_length(rest));
@@ -130,23 +123,6 @@ fn length_while(text: &str, is_part: impl Fn(char) -> bool) -> usize {
 
 fn character_length(text: &str) -> usize {
     text.chars().next().map_or(0, char::len_utf8)
-}
-
-/// Returns an error unless the brackets match.
-fn check_brackets(tokens: &[Token]) -> Result<(), String> {
-    let mut expected = Vec::new();
-    for token in tokens {
-        match &*token.text {
-            "(" => expected.push((")", token.line)),
-            "[" => expected.push(("]", token.line)),
-            "{" => expected.push(("}", token.line)),
-            ")" | "]" | "}" if !expected.pop().is_some_and(|(bracket, _)| *token == bracket) => {
-                return Err(format!("{}: nothing opened this `{}`", token.line, token.text));
-            }
-            _ => {}
-        }
-    }
-    expected.pop().map_or(Ok(()), |(bracket, line)| Err(format!("{line}: no `{bracket}` closes this bracket")))
 }
 
 /// Returns the text of tokens, with their comments.
