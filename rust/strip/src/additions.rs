@@ -1,5 +1,5 @@
-//! Adds attributes of functions and types. Without `#[inline]` rustc would inline few functions of a package into another
-//! one. Leaves out the clauses, after a check that the documentation says when the function panics.
+//! Adds attributes of functions and types. Without `#[inline]` rustc would inline few functions of a package into
+//! another one. Leaves out the clauses, after a check that the documentation says when the function panics.
 
 use crate::items::{Function, functions, start};
 use crate::repository::File;

@@ -1,8 +1,8 @@
 //! Leaves out ghosts, which are values that only contracts read, and calls of laws, which only prove something.
 //!
-//! A statement is left out if it does nothing but to call a method of a ghost or a law, and then what is empty or unused
-//! around it. So are parameters, arguments and fields that are ghosts, and functions that only pass a new ghost to
-//! another one. What else names a ghost or a law stays, and is refused at the end.
+//! A statement is left out if it only calls a method of a ghost, or a law; and then what is empty or unused around it.
+//! So are parameters, arguments and fields that are ghosts, and functions that only pass a new ghost to another one.
+//! What else names a ghost or calls a law stays, and is refused at the end.
 
 use crate::items::{Function, after_type_arguments, elements, functions};
 use crate::items::{remove, remove_and_keep_comment, remove_element};

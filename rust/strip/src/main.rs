@@ -1,6 +1,6 @@
-//! Makes the sources of the Rust packages: `cargo run -p strip`. With `-- --check` it changes nothing, and fails with the
-//! name of each made file that is out of date, its first line that differs, and each whose source is gone. With `--
-//! --built PACKAGE FOLDER` it makes in the folder what is made when cargo builds that package.
+//! Makes the sources of the Rust packages: `cargo run -p strip`. With `-- --check` it changes nothing, and fails with
+//! the name of each made file that is out of date, its first line that differs, and each whose source is gone. With
+//! `-- --built PACKAGE FOLDER` it makes in the folder what is made when cargo builds that package.
 
 use std::path::Path;
 use std::process::ExitCode;

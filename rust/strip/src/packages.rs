@@ -13,9 +13,9 @@ pub(crate) struct Source {
     pub package: &'static str,
     /// The module of the package that is made of the crate, or empty for its root.
     pub module: &'static str,
-    /// Attributes other than `#[inline]`, each with the functions and types that have it, the files, paths in `src`, whose
-    /// functions have it, and functions of one file, as `FILE:NAME`. The first that names a function counts.
-    pub attributes: Listed,
+    /// Attributes other than `#[inline]`, each with the functions and types that have it. A path in `src` means all
+    /// functions of that file, and `FILE:NAME` those of one name in it. The first that names a function counts.
+    pub attributes: &'static [(&'static str, &'static str)],
     /// The other modules of which nothing is made, as paths in `src`: only proofs need them, or only Rattle has them.
     pub left_out: &'static str,
     /// Laws, which are functions that only prove something, functions that only record, constants that only contracts
@@ -23,9 +23,6 @@ pub(crate) struct Source {
     /// without a result might be called for what it asserts. One that does more than a law is refused.
     pub laws: &'static str,
 }
-
-/// Texts, and the names that each is for.
-pub(crate) type Listed = &'static [(&'static str, &'static str)];
 
 impl Source {
     /// Returns the folder of its sources.
