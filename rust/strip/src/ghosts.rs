@@ -56,18 +56,20 @@ fn statement(tokens: &[Token], mut at: usize) -> usize {
 
 /// Returns whether a statement, without its `;`, only calls a method of a ghost or a law.
 fn is_for_proofs(statement: &[Token], laws: &Names) -> bool {
-    if statement.last().is_none_or(|token| *token != ")") {
+    let ([first, ..], [.., last]) = (statement, statement) else { return false };
+    if *first == "." || *last != ")" {
         return false;
     }
     let arguments = opening(statement, statement.len() - 1);
-    let calls = |at: usize| after_type_arguments(statement, at + 1) == arguments;
-    let is_method_of_ghost = |at: usize| at > 1 && statement[at - 1] == "." && statement[at - 2].is_in(&GHOSTS);
-    let is_for_proofs = |at: usize| calls(at) && (laws.contains(&statement[at].text) || is_method_of_ghost(at));
-    let is_other_call = |at: usize| statement[at].is_word() && !calls(at) && statement[at + 1] == "(";
-    let has_effect =
-        |at: usize| statement[at].is_in(&EFFECTS) || is_other_call(at) && !statement[at].is_in(&WITHOUT_EFFECT);
-    let is_whole = statement[0] != ".";
-    is_whole && (0..arguments).any(is_for_proofs) && !(0..statement.len()).any(has_effect)
+    let Some(name) = (0..arguments).find(|at| after_type_arguments(statement, at + 1) == arguments) else {
+        return false;
+    };
+    let is_method_of_ghost = name > 1 && statement[name - 1] == "." && statement[name - 2].is_in(&GHOSTS);
+    let has_effect = |at: usize| {
+        let is_other_call = at != name && statement[at].is_word() && statement[at + 1] == "(";
+        statement[at].is_in(&EFFECTS) || is_other_call && !statement[at].is_in(&WITHOUT_EFFECT)
+    };
+    (is_method_of_ghost || laws.contains(&statement[name].text)) && !(0..statement.len()).any(has_effect)
 }
 
 /// Leaves out what is left around a statement that was at an index. That is an `if` with nothing in it whose condition
