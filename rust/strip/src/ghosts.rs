@@ -33,16 +33,14 @@ pub(crate) fn without_ghosts(tokens: &mut Vec<Token>, laws: &Names) {
             }
         }
     }
-    let mut at = 0;
-    while at < tokens.len() {
-        if tokens[at].is_in(&["(", "{"]) {
-            for element in elements(tokens, at).into_iter().rev() {
+    for open in (0..tokens.len()).rev() {
+        if tokens[open].is_in(&["(", "{"]) {
+            for element in elements(tokens, open).into_iter().rev() {
                 if is_ghost(&tokens[element.clone()]) {
                     remove_element(tokens, element);
                 }
             }
         }
-        at += 1;
     }
 }
 

@@ -12,7 +12,7 @@ use std::ops::Range;
 pub(crate) type Names = BTreeSet<String>;
 
 /// What only Rattle has.
-const OF_RATTLE: [&str; 8] = ["ghost", "requires", "ensures", "tactic", "prove", "final", "Model", "Drop"];
+const OF_RATTLE: [&str; 7] = ["requires", "ensures", "tactic", "prove", "final", "Model", "Drop"];
 
 /// Leaves out the items, with the modules of these names. The clauses of a function stay until they have been read.
 pub(crate) fn without_items(tokens: &mut Vec<Token>, modules: &[&str], laws: &Names) {
@@ -35,7 +35,7 @@ pub(crate) fn without_items(tokens: &mut Vec<Token>, modules: &[&str], laws: &Na
 fn item_left_out(tokens: &[Token], at: usize, modules: &[&str], laws: &Names) -> Option<Range<usize>> {
     let next = tokens.get(at + 1).map_or("", |token| &token.text);
     let end = match &*tokens[at].text {
-        "ghost" if next == "use" || is_ghost_field_or_item(tokens, at) => {
+        "ghost" => {
             let end = find(tokens, at, &[";", ","]);
             end + usize::from(tokens[end].is_in(&[";", ","]))
         }
@@ -49,11 +49,6 @@ fn item_left_out(tokens: &[Token], at: usize, modules: &[&str], laws: &Names) ->
         _ => return None,
     };
     Some(start_with_attributes(tokens, at)..end)
-}
-
-/// Returns whether this `ghost` begins `ghost NAME: ..` or `ghost NAME = ..`.
-fn is_ghost_field_or_item(tokens: &[Token], at: usize) -> bool {
-    tokens[find(tokens, at, &[":", "=", ";", ","])].is_in(&[":", "="])
 }
 
 /// Leaves out imports of what is left out, and of what only that has named. Tests may import what they do not use.

@@ -31,6 +31,20 @@ pub(crate) struct File {
 }
 
 impl File {
+    /// Reads the file of a crate at a path in the repository, and applies these rules to it.
+    fn read(top: &Path, source: &'static Source, path: &Path, rules: &mut [Rule]) -> Result<File, String> {
+        let name = path.strip_prefix(source.folder_of_crate()).unwrap_or(path).to_string_lossy().into_owned();
+        let place = [source.package, source.name, &format!("{}/{name}", source.name)];
+        let tokens = lex_and_apply(&read(&top.join(path))?, place, rules);
+        Ok(File { source, name, tokens: tokens.map_err(|what| format!("{}:{what}", path.display()))? })
+    }
+
+    /// Returns what a list can name: the file, its module, and each of its words, alone or as `FILE:NAME`.
+    fn names(&self) -> impl Iterator<Item = String> {
+        let words = self.tokens.iter().flat_map(|token| [token.text.clone(), format!("{}:{}", self.name, token.text)]);
+        words.chain([self.name.clone(), self.name.trim_end_matches(".rt").to_owned()])
+    }
+
     /// Returns its path in the repository.
     pub fn path(&self) -> PathBuf {
         self.source.folder_of_crate().join(&self.name)
@@ -44,14 +58,10 @@ impl Repository {
         for source in sources {
             let mut known = Names::new();
             for path in files_of(top, &source.folder_of_crate(), "rt")? {
-                let name = path.strip_prefix(source.folder_of_crate()).unwrap_or(&path).to_string_lossy().into_owned();
-                let place = [source.package, source.name, &format!("{}/{name}", source.name)];
-                let tokens = lex_and_apply(&read(&top.join(&path))?, place, &mut rules);
-                let tokens = tokens.map_err(|what| format!("{}:{what}", path.display()))?;
-                repository.laws.extend(names(&tokens).filter(|law| source.is_law(law, &name)).cloned());
-                known.extend([name.clone(), name.trim_end_matches(".rt").to_owned()]);
-                known.extend(tokens.iter().flat_map(|token| [token.text.clone(), format!("{name}:{}", token.text)]));
-                repository.files.push(File { source, name, tokens });
+                let file = File::read(top, source, &path, &mut rules)?;
+                repository.laws.extend(names(&file.tokens).filter(|law| source.is_law(law, &file.name)).cloned());
+                known.extend(file.names());
+                repository.files.push(file);
             }
             if let Some(name) = source.names().find(|name| !known.contains(*name)) {
                 return Err(format!("{}: it has no {name}", source.name));
