@@ -6,24 +6,18 @@ use crate::repository::File;
 use crate::tokens::{Token, closing, find, words};
 use std::ops::Range;
 
-/// Adds it to all functions and types of a file.
+/// Adds them to all functions and types of a file.
 pub(crate) fn add(tokens: &mut Vec<Token>, file: &File, pages: &str) -> Result<(), String> {
     let traits = traits(tokens);
     // From the last one: so the places of the others stay as they are.
     for function in functions(tokens).into_iter().rev() {
-        let is_public = function.is_public(tokens);
-        let mut lines = String::new();
-        if file.source.is_documented() && (is_public || traits.iter().any(|each| each.contains(&function.at))) {
+        let is_in_trait = traits.iter().any(|each| each.contains(&function.at));
+        let mut lines = inlining(tokens, &function, file).to_owned();
+        if file.source.is_documented() && (is_in_trait || function.is_public(tokens)) {
             check_documentation(tokens, &function, pages)?;
             if must_be_used(tokens, &function) {
-                lines += "#[must_use]\n";
+                lines.insert_str(0, "#[must_use]\n");
             }
-        }
-        // Tests need no inlining, and a function with an ABI has attributes of its own.
-        let is_exported = tokens[function.visibility..function.at].iter().any(|token| *token == "extern");
-        if tokens[function.body] == "{" && !file.source.is_test() && !is_exported {
-            let attributes = file.source.attributes_of(function.name(tokens), &file.name);
-            lines += attributes.unwrap_or("#[inline]");
         }
         insert_lines(&mut tokens[function.visibility], &lines);
         for clause in function.clauses.into_iter().rev() {
@@ -38,6 +32,15 @@ pub(crate) fn add(tokens: &mut Vec<Token>, file: &File, pages: &str) -> Result<(
         }
     }
     Ok(())
+}
+
+/// Returns the attributes for inlining. Tests need none, and a function with an ABI has attributes of its own.
+fn inlining(tokens: &[Token], function: &Function, file: &File) -> &'static str {
+    let is_exported = tokens[function.visibility..function.at].iter().any(|token| *token == "extern");
+    if tokens[function.body] != "{" || file.source.is_test() || is_exported {
+        return "";
+    }
+    file.source.attributes_of(function.name(tokens), &file.name).unwrap_or("#[inline]")
 }
 
 /// Returns where the traits of a file are.
