@@ -58,6 +58,7 @@ impl Rule {
             return remove_and_keep_comment(tokens, at..end);
         };
         last.after.clone_from(&tokens[end - 1].after);
+        // No program lays out the examples in documentation.
         if *last == "(" && tokens[end].before == " " {
             tokens[end].before.clear();
         }
@@ -67,13 +68,18 @@ impl Rule {
 }
 
 /// Returns the tokens of a file, with what the rules for it make of them. `place` has its package, its crate, and its
-/// path as `CRATE/FILE`. The rules for everything are also for the examples in its documentation. What else a comment
-/// says is copied.
+/// path as `CRATE/FILE`.
 pub(crate) fn lex_and_apply(text: &str, place: [&str; 3], rules: &mut [Rule]) -> Result<Vec<Token>, String> {
     let mut tokens = lex(text)?;
     for rule in rules.iter_mut().filter(|rule| rule.of.is_empty() || place.contains(&rule.of)) {
         rule.apply(&mut tokens);
     }
+    apply_to_examples(&mut tokens, rules)?;
+    Ok(tokens)
+}
+
+/// Applies the rules for everything to the examples in documentation. What else a comment says is copied.
+fn apply_to_examples(tokens: &mut [Token], rules: &mut [Rule]) -> Result<(), String> {
     let (mut is_fenced, mut is_example) = (false, false);
     for token in tokens.iter_mut().filter(|token| token.is_documentation()) {
         let (mark, line) = token.text.split_at("///".len());
@@ -88,5 +94,5 @@ pub(crate) fn lex_and_apply(text: &str, place: [&str; 3], rules: &mut [Rule]) ->
             token.text = format!("{mark}{}", print(&code));
         }
     }
-    Ok(tokens)
+    Ok(())
 }
