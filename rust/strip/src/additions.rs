@@ -26,7 +26,7 @@ pub(crate) fn add(tokens: &mut Vec<Token>, file: &File, pages: &str) -> Result<(
     }
     for at in 0..tokens.len() {
         if tokens[at].is_in(&["struct", "enum", "trait"]) {
-            let attributes = file.source.attributes_of(&tokens[at + 1].text, "").unwrap_or_default();
+            let attributes = file.source.attributes_of(&[&tokens[at + 1].text]).unwrap_or_default();
             let first = start(tokens, at);
             insert_lines(&mut tokens[first], attributes);
         }
@@ -40,7 +40,8 @@ fn inlining(tokens: &[Token], function: &Function, file: &File) -> &'static str 
     if tokens[function.body] != "{" || file.source.is_test() || is_exported {
         return "";
     }
-    file.source.attributes_of(function.name(tokens), &file.name).unwrap_or("#[inline]")
+    let (name, file_and_name) = (function.name(tokens), format!("{}:{}", file.name, function.name(tokens)));
+    file.source.attributes_of(&[name, &file.name, &file_and_name]).unwrap_or("#[inline]")
 }
 
 /// Returns where the traits of a file are.

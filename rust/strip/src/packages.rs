@@ -41,10 +41,9 @@ impl Source {
         modules.map(|path| path.rsplit('/').next().unwrap_or_default()).collect()
     }
 
-    /// Returns the attributes that are listed for a function or a type of a file.
-    pub fn attributes_of(&self, name: &str, file: &str) -> Option<&'static str> {
-        let both = format!("{file}:{name}");
-        let is_listed = |(_, names): &&(_, &str)| [name, file, &both].iter().any(|each| has(names, each));
+    /// Returns the first attributes that are listed for one of these.
+    pub fn attributes_of(&self, names: &[&str]) -> Option<&'static str> {
+        let is_listed = |(_, list): &&(_, &str)| names.iter().any(|name| has(list, name));
         self.attributes.iter().find(is_listed).map(|(attributes, _)| *attributes)
     }
 
@@ -90,7 +89,7 @@ fn is_in(file: &str, modules: &str) -> bool {
 }
 
 /// Returns whether a list has the name.
-pub(crate) fn has(list: &str, name: &str) -> bool {
+fn has(list: &str, name: &str) -> bool {
     list.split_whitespace().any(|listed| listed == name)
 }
 
