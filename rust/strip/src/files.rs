@@ -1,5 +1,6 @@
 //! Reads, lays out and writes files.
 
+use crate::tokens::lex;
 use std::path::{Path, PathBuf};
 use std::process::{Command, Stdio};
 use std::{fs, io};
@@ -50,4 +51,20 @@ pub(crate) fn laid_out(text: &str, top: &Path) -> Result<String, String> {
     let output = child.wait_with_output().map_err(say)?;
     let text = String::from_utf8_lossy(&output.stdout).into_owned();
     if output.status.success() { Ok(text) } else { Err(format!("rustfmt cannot read what is made: {text}")) }
+}
+
+/// Returns a text without what a layout changes: the white space between tokens and around the lines of comments, and
+/// the last comma before a bracket.
+pub(crate) fn without_layout(text: &str) -> String {
+    let Ok(tokens) = lex(text) else {
+        return text.to_owned();
+    };
+    let mut parts = Vec::new();
+    for token in &tokens {
+        parts.extend(token.before.lines().map(str::trim));
+        parts.extend([&*token.text, token.after.trim()]);
+    }
+    parts.retain(|part| !part.is_empty());
+    let text = parts.join("\n");
+    text.replace("\n,\n)", "\n)").replace("\n,\n]", "\n]").replace("\n,\n}", "\n}")
 }

@@ -27,7 +27,7 @@ mod rules;
 mod tables;
 mod tokens;
 
-use files::{files_of, laid_out, read, remove, write};
+use files::{files_of, laid_out, read, remove, without_layout, write};
 use packages::{SOURCES, Source};
 use repository::{File, Repository};
 use rules::Rule;
@@ -47,14 +47,15 @@ pub fn make(top: &Path) -> Result<(), String> {
     made.into_iter().try_for_each(|(path, text)| write(&top.join(path), &text))
 }
 
-/// Returns an error that names each made file that is not what would be made now, and its first line that differs.
+/// Returns an error that names each made file that is not what would be made now, and its first line that differs. What
+/// only another version of rustfmt would lay out otherwise is no difference.
 pub fn check(top: &Path) -> Result<(), String> {
     let made = made(top)?;
     let is_gone = |path: PathBuf| format!("{}: its source is gone", path.display());
     let mut wrong: Vec<String> = stale(top, &made)?.into_iter().map(is_gone).collect();
     for (path, text) in made {
         let there = read(&top.join(&path)).unwrap_or_default();
-        if there != text {
+        if without_layout(&there) != without_layout(&text) {
             let same = there.lines().zip(text.lines()).take_while(|(a, b)| a == b).count();
             wrong.push(format!("{}:{}: it is not what is made now", path.display(), same + 1));
         }
