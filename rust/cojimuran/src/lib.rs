@@ -1,47 +1,64 @@
-//! Writes integers as text, in every radix from 2 to 36, into a buffer that you supply. It allocates only if the target
-//! of `append_to` or `write_pieces` grows, if `append_to` needs a temporary buffer, or if the `Display` in a
-//! [`Displayed`] allocates.
-//!
-//! The sources are written in Rattle, a dialect of Rust with contracts, and a prover has checked them: when its
-//! [conditions] hold, a call does not panic, and writes exactly the right bytes (`{}` and `write_pieces` only if they
-//! succeed). The prover is not public. A program makes this Rust code from the sources, and the Rust code is tested.
-//! [`Displayed`] and what needs the feature `alloc` are written by hand and tested. What calls cost is on the page
-//! [`costs`].
-//!
-//! # A first program
+//! Writes integers as text into a buffer that you supply, in every radix from 2 to 36, and whole lines of numbers and
+//! texts.
 //!
 //! ```
 #![doc = include_str!("../examples/first_program.rs")]
 //! ```
 //!
-//! It prints the lines `-1234`, `3W5E11264SGSF` and `id=7 flags=0xFF`. The digits above 9 are `A` to `Z`. For lowercase
-//! write [`Lower(Digits(36, number))`](Lower).
+//! It prints the lines `-1234`, `3W5E11264SGSF` and `id=7 flags=0xFF`.
 //!
 //! # What you call
 //!
-//! - [`Buffer`] writes one number in decimal and returns a `&str`: `Buffer::new().format(number)`.
-//! - [`Part`] is the trait of values that have a text: numbers, `&str`, tuples of 2 to 12 parts, and the parts below. Its
-//!   method [`to_str`](Part::to_str) writes the text to a buffer and returns a `&str`. [`to_text`](Part::to_text) returns
-//!   bytes.
-//! - Parts that are numbers: [`Digits`] in a radix, [`Hex`], [`FullHex`] and [`Binary`], [`Formatted`] in a
-//!   [`NumberFormat`] with groups or a `+`, [`Padded`] and [`PaddedDigits`] with leading zeros, [`Fixed`],
-//!   [`GroupedFixed`] and [`TrimmedFixed`] for amounts such as `-19.95`, [`Scientific`], [`Plus`], and [`Decimal`] for
-//!   generic code.
-//! - Parts that change, place or join others: [`Lower`], [`Left`], [`Right`] and [`Center`] for columns, [`ZeroPadded`],
-//!   [`Joined`] for a slice with separators, `Option` and [`OrElse`].
-//! - [`Displayed`] makes a part of any value with `Display`, such as a float: `("t=", Displayed(&1.5))`.
-//! - [`Show`] is the trait of parts that a format string can have: `{}` of [`Shown(part)`](Shown) writes the text. Its
-//!   method [`write_pieces`](Show::write_pieces) writes the text to a `String` or any other `fmt::Write`.
-//! - [`ToLexical`] is the trait of numbers that are written in decimal, as bytes. [`ToLexicalWithOptions`] does so in a
-//!   [`NumberFormat`].
-//! - `Append`, with the feature `alloc`, writes a part to the end of a `String` or a `Vec<u8>`:
-//!   `(7u8, " apples").append_to(&mut string)`. With this feature, references to a `String` are parts too.
+//! A part is a value that has a text, such as a number, a `&str` or a tuple of 2 to 12 parts.
 //!
-//! Most programs need nothing else. [`padded::write_padded`] fills a buffer with a number, [`group_digits`] and
-//! [`write_sign`] are for writers of your own, and [`compact::Compact`] is for small programs. The other modules and items
-//! mirror the Rust crate `lexical-write-integer`, so that a program can move from that crate: options, which have no
-//! effect, the writers of digits without a sign, and their tables. [What to change](from_other_crates) in a program that
-//! uses that crate, `itoa` or `format!` is on a page of its own.
+//! | you want | call |
+//! |---|---|
+//! | one decimal number as a `&str` | [`Buffer::new().format(number)`](Buffer::format) |
+//! | a part, such as a tuple, in an array, as a `&str` | [`part.to_str(&mut buffer)`](Part::to_str) |
+//! | the same as bytes | [`part.to_text(&mut buffer)`](Part::to_text) |
+//! | the same in an array that may be too short | [`part.try_to_str(&mut buffer)`](Part::try_to_str) |
+//! | a part in a `String` or any other `fmt::Write` | [`part.write_pieces(&mut text)`](Show::write_pieces) |
+//! | a part at the end of a `String` or a `Vec`, with the feature `alloc` | `part.append_to(&mut text)` of `Append` |
+//! | a part in a format string | [`Shown(part)`](Shown) |
+//!
+//! The array must have [`part.room()`](Part::room) bytes, otherwise the call may panic. [`BUFFER_SIZE`] bytes are
+//! enough for one number in any format.
+//!
+//! A `char`, a `bool`, an `Option` of a part and a reference to a part are also parts, and with the feature `alloc` a
+//! reference to a `String`. This crate has these parts:
+//!
+//! | part | what it writes |
+//! |---|---|
+//! | [`Digits`], [`Hex`], [`FullHex`], [`Binary`] | an unsigned number in a radix; [`Lower`] of it is in lowercase |
+//! | [`Formatted`] | a number in a [`NumberFormat`], which has a radix, groups of digits or a `+` |
+//! | [`Fixed`], [`GroupedFixed`], [`TrimmedFixed`] | an amount, such as `-19.95` |
+//! | [`Padded`], [`PaddedDigits`], [`ZeroPadded`] | leading zeros, as in `07:05` |
+//! | [`Decimal`], [`Plus`], [`Scientific`] | a number of a generic type, with a `+`, or with an exponent |
+//! | [`Left`], [`Right`], [`Center`] | a part in a column |
+//! | [`Joined`], [`OrElse`] | the parts of a slice with separators, or a part in the place of `None` |
+//! | [`Bytes`], [`HexBytes`], [`Byte`] | bytes, or bytes in hexadecimal |
+//! | [`Displayed`] | any value with `Display`, such as a float or a `u128` |
+//!
+//! Most programs need nothing else. The other items mirror the crate `lexical-write-integer`, so that a program can
+//! move from that crate: [`ToLexical`] writes bytes in decimal, [`ToLexicalWithOptions`] does so in a [`NumberFormat`],
+//! options have no effect, and the modules have the writers of digits without a sign. [`compact::Compact`] is for small
+//! programs, [`padded::write_padded`] fills a buffer with a number, and [`group_digits`] and [`write_sign`] are for
+//! writers of your own.
+//!
+//! These pages have the details: [how large a buffer must be](buffers), [when calls panic](conditions), [what they
+//! cost](costs), and [what to write in place of another crate or `format!`](from_other_crates).
+//!
+//! # What is proved
+//!
+//! The sources are written in Rattle, a dialect of Rust with contracts, and each of their functions is proved: if its
+//! [conditions] hold, a call does not panic, and writes exactly the right bytes (`{}` and `write_pieces` if they
+//! succeed). The prover is not public. A program makes this Rust code from the sources, and the Rust code is tested,
+//! not proved. [`Displayed`] and what needs the feature `alloc` are written by hand.
+//!
+//! # What allocates
+//!
+//! No call allocates, unless the target of `append_to` or `write_pieces` grows, `append_to` needs a temporary buffer,
+//! or the `Display` in a [`Displayed`] allocates.
 //!
 //! # A `String`, a `Vec`, a format string
 //!
@@ -70,10 +87,11 @@
 //!
 //! # Options in a format string
 //!
-//! Numbers as parts take the width, the fill, the `+` and the `0` of an integer: [`Decimal`], [`Plus`], [`Formatted`],
-//! [`Hex`], [`FullHex`], [`Binary`], [`Digits`], [`Padded`], [`PaddedDigits`], [`Fixed`], [`GroupedFixed`] and
-//! [`TrimmedFixed`]. `#` and a precision have no effect. A [`Displayed`] passes all options to its value. All other parts,
-//! among them [`Shown`] and [`Lower`] of a number, take the width, the fill and the precision of a `&str`:
+//! Most parts have `Display`. A tuple, an `Option`, a [`Byte`], a [`Bytes`], a [`Sign`] and a part of your own have
+//! none: print them by [`Shown`]. Parts that are one number, except [`Scientific`], take the width, the fill, the `+`
+//! and the `0` of an integer; `#` and a precision have no effect on them. A [`Displayed`] passes all options to its
+//! value. All other parts, among them [`Shown`] and [`Lower`] of a number, take the width, the fill and the precision
+//! of a `&str`:
 //!
 //! ```
 //! use cojimuran::{Hex, Lower, Shown};
@@ -84,7 +102,7 @@
 //! ```
 //!
 //! `{}` of a part that is [not valid](conditions#valid-parts) returns an error, so `format!` and `println!` panic. The
-//! standard library expects a `Display` to fail only if its formatter does; but a proved function cannot panic.
+//! standard library expects a `Display` to fail only if its formatter does, but a proved function cannot panic.
 //!
 //! # A part of your own
 //!
@@ -94,12 +112,14 @@
 #![doc = include_str!("../examples/own_part.rs")]
 //! ```
 //!
-//! # How large the buffer must be
+//! # If it does not compile
 //!
-//! A number in decimal requires the room that the longest number of its type would need: 20 bytes for a `u64`, even for 7.
-//! [`FormattedSize::FORMATTED_SIZE_DECIMAL`] is this size, [`BUFFER_SIZE`] is enough for every number in every format, and
-//! [`Part::room`] is enough for a part. A [`Buffer`] needs no size. With a shorter buffer a call panics, or works for some
-//! values: do not rely on that. The page [`buffers`] has the room of each part.
+//! | rustc says | write |
+//! |---|---|
+//! | `i32` is not an unsigned integer type, or `to_str` exists for `Hex<i32>`, but its trait bounds were not satisfied | an unsigned number, such as `Hex(255u8)`, or for a negative number in a radix `Formatted(number, &FORMAT)` |
+//! | `to_str` exists for a tuple, but its trait bounds were not satisfied | `Displayed(&value)` for the member that is no part, or nested tuples if there are more than 12 members |
+//! | no method named `write_pieces`, or `append_to` | `use cojimuran::Show`, or `use cojimuran::Append` and the feature `alloc` |
+//! | `(&str, u8)` doesn't implement `Display` | `Shown((..))` |
 //!
 //! # What is written is read back
 //!
@@ -112,12 +132,6 @@
 //! assert_eq!((-1234i32).to_str(&mut buffer).parse(), Ok(-1234));
 //! assert_eq!(u64::from_str_radix(Digits(36, u64::MAX).to_str(&mut buffer), 36), Ok(u64::MAX));
 //! ```
-//!
-//! # Versions
-//!
-//! The versions follow semantic versioning, by cargo's rules for 0.x versions: a version 0.x.y is compatible with 0.x.0,
-//! and a version 0.x.0 may break your program, where the changelog says so. The integer traits are sealed, so a compatible
-//! version may add methods to them.
 #![no_std]
 #![deny(unsafe_code)]
 #![warn(missing_docs, clippy::missing_errors_doc)]
@@ -159,13 +173,13 @@ mod misuse;
 pub mod buffers {}
 
 /// A page, not a module: what calls require, and what happens otherwise.
+///
+/// [buffers]: crate::buffers#a-buffer-that-may-be-too-short
 #[cfg(doc)]
 #[doc = include_str!("../CONDITIONS.md")]
 pub mod conditions {}
 
 /// A page, not a module: the time and the code size of calls.
-///
-/// [128]: crate::from_other_crates#numbers-of-128-bits
 #[cfg(doc)]
 #[doc = include_str!("../COSTS.md")]
 pub mod costs {}
