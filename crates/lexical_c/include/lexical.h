@@ -34,15 +34,14 @@
  *
  * Text. A negative number begins with '-'. Any other number begins with '+' if the
  * format requires a sign, and otherwise with its first digit. The digits are '0' to
- * '9' and 'A' to 'Z', or 'a' to 'z' if the format requests lowercase. The most
- * significant digit is the first one. There are no leading zeros, but lexical_pad can
- * add them. If the format has groups, a separator (its mark) is written between groups
- * of digits.
+ * '9' and 'A' to 'Z', or 'a' to 'z' if the format requests lowercase. There are no
+ * leading zeros, but lexical_pad can add them. If the format has groups, its mark is
+ * written between groups of digits.
  *
- * Format. `format` points to a struct lexical_format. A call only reads it. The pointer
- * must not be NULL. Each function detects invalid values of the fields, so they do not make
- * the behaviour undefined: lexical_check_format tells which field is invalid, and every
- * other function that takes a format returns 0.
+ * Format. `format` points to a struct lexical_format, and must not be NULL. A call only
+ * reads it. Invalid values of its fields do not make the behaviour undefined, because each
+ * function detects them: lexical_check_format tells which field is invalid, and every other
+ * function that takes a format returns 0.
  *
  * Buffer. `buffer` points to `size` bytes that the call may write. The size must not
  * exceed PTRDIFF_MAX; no object is larger. The pointer may be NULL if the size is 0. The
@@ -52,24 +51,20 @@
  * text keep their values.
  *
  * Size of the buffer. LEXICAL_BUFFER_SIZE bytes are enough for every number of every
- * type in every format. A terminating NUL needs one byte more.
+ * type in every format. A terminating NUL needs one byte more. A call is fastest if the
+ * buffer is long enough for every number of the type.
  *
- * Return value. A call that writes returns the length of the text in the buffer, without
- * a NUL. A text is never empty, so 0 always means an error.
- *
- * Errors. If the format is invalid or the text does not fit the buffer, a call that writes
- * returns 0, and the buffer is unchanged. (lexical_terminate is the exception: it makes
- * the buffer an empty string, unless `size` is 0.) To learn why a call returned 0, call
- * lexical_check_format(format): 0 means that the buffer was too short, and any other result
- * is the constant LEXICAL_INVALID_.. of the first invalid field. No call changes errno.
- *
- * Speed. A call is fastest if the buffer is long enough for every number of the type.
- *
- * Proof. The sources of the library were proved by a prover that is not public, and the
- * compiled library and this header are only tested, as README.md of the sources explains.
+ * Errors. A call that writes returns the length of the text, without a NUL. A text is never
+ * empty, so 0 means an error: the format is invalid or the text does not fit. The buffer is
+ * then unchanged, except by lexical_terminate, which makes it an empty string, unless
+ * `size` is 0. To tell which error it was, call lexical_check_format(format). If it returns
+ * 0, the buffer was too short. No call changes errno.
  *
  * Threads and signals. The functions have no state and allocate nothing. So you can call
  * them in any thread, with a buffer of its own, and in any signal handler.
+ *
+ * Proof. The sources of the library were proved by a prover that is not public. The
+ * compiled library and this header are tested, and not proved.
  *
  * Names. All names begin with lexical_ or LEXICAL_. Those that begin with
  * lexical_private_ or LEXICAL_PRIVATE_ may change in any version, so do not use them.
