@@ -14,6 +14,7 @@ use std::fmt;
 /// A part that is aligned to the left of a column: a byte, often a space, is added after its text, up to
 /// the width. `Left(Decimal(12), 4, b'.')` writes `12..`. Nothing is added to a text longer than the
 /// width, which counts bytes and not characters. Its room is the width or that of the part, whichever is larger.
+/// In a `&str`, a `String` or a format string that byte must be below 128.
 ///
 /// ```
 /// use lexical_parts::{Decimal, Left, Part};
@@ -71,6 +72,7 @@ impl<P: Show> Show for Left<P> {
 /// A part that is aligned to the right of a column: a byte, often a space, is added before its text, up
 /// to the width. `Right(Decimal(42), 4, b'.')` writes `..42`. Nothing is added to a text longer than the
 /// width, which counts bytes and not characters. Its room is the width or that of the part, whichever is larger.
+/// In a `&str`, a `String` or a format string that byte must be below 128.
 ///
 /// ```
 /// use lexical_parts::{Decimal, Part, Right};
@@ -130,6 +132,7 @@ impl<P: Show> Show for Right<P> {
 /// the width. Of an odd number of bytes one more is after the text than before it, as with `{:^6}`:
 /// `Center(Decimal(-12), 6, b'*')` writes `*-12**`. Nothing is added to a text longer than the width,
 /// which counts bytes and not characters. Its room is the width or that of the part, whichever is larger.
+/// In a `&str`, a `String` or a format string that byte must be below 128.
 ///
 /// ```
 /// use lexical_parts::{Center, Decimal, Part};

@@ -21,7 +21,8 @@ use core::fmt;
 /// # Errors
 ///
 /// `fmt` returns an error, so `format!` and `println!` panic, if a part in it is not valid, or if it contains a byte
-/// that `to_str` refuses.
+/// that `to_str` refuses. It also returns the error of the writer behind the format string, of the `Display` of a value
+/// in a `Displayed`, and of `write_pieces` of a part of your own.
 ///
 /// ```
 /// use cojimuran::{Hex, Shown};

@@ -9,7 +9,8 @@ use crate::write_integer::buffer::copy_to_front;
 use core::fmt;
 use core::str::from_utf8;
 
-/// A part whose text is the bytes of a slice: `Bytes(b"ab")` writes `ab`. Its room is the length of the slice.
+/// A part whose text is the bytes of a slice: `Bytes(b"ab")` writes `ab`. Its room is the length of the slice. In a
+/// `&str`, a `String` or a format string the bytes must be UTF-8.
 ///
 /// ```
 /// use cojimuran::{Bytes, Part};
@@ -61,7 +62,8 @@ impl Show for Bytes<'_> {
     }
 }
 
-/// A part whose text is one byte: `Byte(b'a')` writes `a`. Its room is 1.
+/// A part whose text is one byte: `Byte(b'a')` writes `a`. Its room is 1. In a `&str`, a `String` or a format string the
+/// byte must be below 128.
 ///
 /// ```
 /// use cojimuran::{Byte, Part};
