@@ -55,27 +55,38 @@ fn item_left_out(tokens: &[Token], at: usize, modules: &[&str], laws: &Names) ->
 pub(crate) fn without_imports(tokens: &mut Vec<Token>, file: &File, laws: &Names) {
     let used = words_outside_imports(tokens);
     let used_before = if file.source.is_test() { Names::new() } else { words_outside_imports(&file.tokens) };
-    let is_left_out = |name: &str| name == "Model" || GHOSTS.contains(&name) || laws.contains(name);
+    let is_gone = |name: &str| name == "Model" || GHOSTS.contains(&name) || laws.contains(name);
+    let is_unused = |name: &str| used_before.contains(name) && !used.contains(name);
     for at in (0..tokens.len()).rev().filter(|at| tokens[*at] == "use").collect::<Vec<_>>() {
         let is_private = start(tokens, at) == at;
-        let is_unused = |name: &str| is_private && used_before.contains(name) && !used.contains(name);
-        for name in (at..find(tokens, at, &[";"])).rev() {
-            let text = &tokens[name].text;
-            let is_name = tokens[name].is_word() && tokens[name + 1].is_in(&[",", "}", ";"]);
-            if is_name && (is_left_out(text) || is_unused(text)) {
-                let before = (at..name).rev().find(|before| tokens[*before].is_in(&["{", ","]));
-                remove_element(tokens, before.unwrap_or(at) + 1..name + 1);
-            }
+        without_names(tokens, at, |name| is_gone(name) || is_private && is_unused(name));
+        without_brackets(tokens, at);
+    }
+}
+
+/// Leaves out names of the import that begins at an index, and each that is there a second time: without its ending,
+/// a name with `_counted` may be another one.
+fn without_names(tokens: &mut Vec<Token>, at: usize, is_left_out: impl Fn(&str) -> bool) {
+    for name in (at..find(tokens, at, &[";"])).rev() {
+        let text = &tokens[name].text;
+        let is_name = tokens[name].is_word() && tokens[name + 1].is_in(&[",", "}", ";"]);
+        let is_again = (at..name).any(|other| tokens[other].text == *text && tokens[other + 1] == ",");
+        if is_name && (is_left_out(text) || is_again) {
+            let before = (at..name).rev().find(|before| tokens[*before].is_in(&["{", ","]));
+            remove_element(tokens, before.unwrap_or(at) + 1..name + 1);
         }
-        let end = find(tokens, at, &[";"]);
-        let import = words(&tokens[at..end]);
-        if import == "use" || import.ends_with("{ }") {
-            remove(tokens, start_with_attributes(tokens, at)..end + 1);
-        } else if import.ends_with(" }") && tokens[end - 3] == "{" && tokens[end - 2] != "self" {
-            // One name needs no brackets.
-            tokens.remove(end - 1);
-            tokens.remove(end - 3);
-        }
+    }
+}
+
+/// Leaves out the import that begins at an index if it has no name, and its brackets if it has one.
+fn without_brackets(tokens: &mut Vec<Token>, at: usize) {
+    let end = find(tokens, at, &[";"]);
+    let import = words(&tokens[at..end]);
+    if import == "use" || import.ends_with("{ }") {
+        remove(tokens, start_with_attributes(tokens, at)..end + 1);
+    } else if import.ends_with(" }") && tokens[end - 3] == "{" && tokens[end - 2] != "self" {
+        tokens.remove(end - 1);
+        tokens.remove(end - 3);
     }
 }
 

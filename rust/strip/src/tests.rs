@@ -150,6 +150,7 @@ fn rules_write_tokens_otherwise() {
 fn imports_of_what_is_gone_are_left_out() {
     becomes("use a::{B, in_range, C}; use b::Turns; pub use c::fits_bits;", "use a::{B, C};");
     becomes("use c::{D, E}; fn f() requires { D } { E }", "use c::E; #[inline] fn f() { E }");
+    becomes("use d::{from_u8, from_u8_counted, g};", "use d::{from_u8, g};");
 }
 
 #[test]
