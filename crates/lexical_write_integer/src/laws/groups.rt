@@ -16,6 +16,9 @@ use lexical_num::num::LexicalInteger;
 /// without groups is at position `right + right / size`, and the separator before the last `groups`
 /// groups is at position `groups * size + groups - 1`. A number of at most `size` digits has the text
 /// that it has without groups.
+///
+/// For example, 1234567 in groups of three is `1,234,567`. Its `4`, at position 3 without groups, is at position 4,
+/// because 3 + 3 / 3 is 4. The separator before the last two groups is at position 7, because 2 * 3 + 2 - 1 is 7.
 pub fn text_in_groups<T: LexicalInteger>(number: T, format: &NumberFormat, size: u8, mark: u8)
     requires { format.now.digit_grouping ≡ Some (size, mark) }
     ensures one_group { (text : List ℕ) → IsText (T.number number) format.now text
