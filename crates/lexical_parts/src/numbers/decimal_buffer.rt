@@ -1,12 +1,14 @@
 //! The text of a number as a `&str`, in a buffer of its own.
 
-ghost use Rattle.std.specs.Prelude.{◌≤◌, length};
+ghost use Rattle.std.specs.Fmt.{signed_decimal};
+ghost use Rattle.std.specs.Prelude.{◌≡◌, ◌≤◌, length};
 ghost use Rattle.lexical_num.specs.Format.{standard};
 ghost use Rattle.lexical_write_integer.specs.Text.{IsText};
 
 use crate::numbers::decimal::Decimal;
 use crate::part::Part;
 use lexical_write_integer::ToLexical;
+use lexical_write_integer::laws::text_is_decimal;
 
 /// A buffer for one number in decimal. It is long enough for every number of every type that this crate
 /// writes.
@@ -32,9 +34,12 @@ impl Buffer {
     /// Returns the number in decimal, with a `-` if it is negative.
     pub fn format<T: ToLexical>(&mut self, number: T) -> &str
         ensures text { IsText (T.number number) standard result.now }
+        ensures decimal { result.now ≡ signed_decimal (T.number number) }
         ensures at_most { length result.now ≤ 20 }
     {
-        Decimal(number).to_str(&mut self.bytes)
+        let text = Decimal(number).to_str(&mut self.bytes);
+        text_is_decimal(number, text.as_bytes());
+        text
     }
 }
 
