@@ -1,4 +1,4 @@
-//! A part of your own that delegates to another part.
+// A part of your own that delegates to another part.
 
 use cojimuran::{Padded, Part, Show, Shown};
 use std::fmt;

@@ -41,9 +41,9 @@
 //!
 //! Most programs need nothing else. The other items mirror the crate `lexical-write-integer`, so that a program can
 //! move from that crate: [`ToLexical`] writes bytes in decimal, [`ToLexicalWithOptions`] does so in a [`NumberFormat`],
-//! options have no effect, and the modules have the writers of digits without a sign. [`compact::Compact`] is for small
-//! programs, [`padded::write_padded`] fills a buffer with a number, and [`group_digits`] and [`write_sign`] are for
-//! writers of your own.
+//! and the modules have the writers of digits without a sign. [`Options`] has no fields, and is there only for
+//! compatibility. [`compact::Compact`] is for small programs, [`padded::write_padded`] fills a buffer with a number, and
+//! [`group_digits`] and [`write_sign`] are for writers of your own.
 //!
 //! These pages have the details: [how large a buffer must be](buffers), [when calls panic](conditions), [what they
 //! cost](costs), and [what to write in place of another crate or `format!`](from_other_crates).
@@ -57,8 +57,8 @@
 //!
 //! # What allocates
 //!
-//! No call allocates, unless the target of `append_to` or `write_pieces` grows, `append_to` needs a temporary buffer,
-//! or the `Display` in a [`Displayed`] allocates.
+//! No call allocates by itself. `append_to` and `write_pieces` may grow their target, `append_to` of a `String` may need a
+//! temporary buffer, and a [`Displayed`] allocates if its `Display` does.
 //!
 //! # A `String`, a `Vec`, a format string
 //!
@@ -101,8 +101,8 @@
 //! assert_eq!(format!("{:03}|{:>3}", Shown(5u8), Shown(5u8)), "5  |  5");
 //! ```
 //!
-//! `{}` of a part that is [not valid](conditions#valid-parts) returns an error, so `format!` and `println!` panic. The
-//! standard library expects a `Display` to fail only if its formatter does, but a proved function cannot panic.
+//! `{}` of a part that is [not valid](conditions#valid-parts) returns an error, so `format!` and `println!` panic. By the
+//! convention of the standard library a `Display` fails only if its formatter does.
 //!
 //! # A part of your own
 //!
@@ -117,8 +117,10 @@
 //! | rustc says | write |
 //! |---|---|
 //! | `i32` is not an unsigned integer type, or `to_str` exists for `Hex<i32>`, but its trait bounds were not satisfied | an unsigned number, such as `Hex(255u8)`, or for a negative number in a radix `Formatted(number, &FORMAT)` |
-//! | `to_str` exists for a tuple, but its trait bounds were not satisfied | `Displayed(&value)` for the member that is no part, or nested tuples if there are more than 12 members |
-//! | no method named `write_pieces`, or `append_to` | `use cojimuran::Show`, or `use cojimuran::Append` and the feature `alloc` |
+//! | `(f64, u8)` is not a part | `Displayed(&value)` for the member that is not a part, or nested tuples if there are more than 12 members |
+//! | `(String, u8)` is not a part, or `to_str` exists for `(&str, &String)`, but its trait bounds were not satisfied | `string.as_str()`, or, with the feature `alloc`, `&string` |
+//! | no method named `write_pieces` | `use cojimuran::Show` |
+//! | no method named `append_to`, or unresolved import `cojimuran::Append` | `use cojimuran::Append`, and the feature `alloc` |
 //! | `(&str, u8)` doesn't implement `Display` | `Shown((..))` |
 //!
 //! # What is written is read back
@@ -273,9 +275,10 @@ pub mod radix {
 }
 
 pub mod table {
-    //! Tables of digit pairs, one for each radix. A table holds the characters of the two digits of each
-    //! number below the square of its radix, so a writer gets two digits from one look-up. Here a byte is
-    //! written in hexadecimal:
+    //! Tables of digit pairs, one for each radix.
+    //!
+    //! A table holds the characters of the two digits of each number below the square of its radix, so a writer gets
+    //! two digits from one look-up. Here a byte is written in hexadecimal:
     //!
     //! ```
     //! use cojimuran::table::get_table;

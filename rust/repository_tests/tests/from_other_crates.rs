@@ -116,8 +116,8 @@ fn from_itoa() {
     assert_eq!(Buffer::new().format(number), "7");
     assert_eq!((text_of(i8::MIN), text_of(usize::MAX)), (i8::MIN.to_string(), usize::MAX.to_string()));
     output.extend_from_slice(number.to_lexical(&mut buffer));
-    text.push_str((a, ",", b, "\n").to_str(&mut buffer));
-    assert_eq!((output, text), (b"7".to_vec(), "-1,2\n".to_owned()));
+    text.push_str((a, ",", b).to_str(&mut buffer));
+    assert_eq!((output, text), (b"7".to_vec(), "-1,2".to_owned()));
     let number = u128::MAX;
     assert_eq!(Displayed(&number).to_str(&mut buffer), number.to_string());
 }

@@ -16,8 +16,8 @@ use crate::write_integer::radix::Radix;
 /// `Digits(36, 1000u64)`. If an error says that `i32: UnsignedInteger` or `i32: Radix` is not satisfied, the number is
 /// signed: write it by `Formatted`. The room is the number of digits.
 ///
-/// If you name the radix as a constant, your program has only the code of that radix, but for `{}`, `append_to` and [a
-/// few other calls](crate::costs#the-code-of-all-radices): they have the code of every radix, which is 60 KB or more.
+/// If you name the radix as a constant, your program has only the code of that radix. With `{}`, `append_to` and [a few
+/// other calls](crate::costs#the-code-of-all-radices) rustc may include the code of every radix, which is 60 KB or more.
 ///
 /// ```
 /// use cojimuran::{Digits, Lower, Part};

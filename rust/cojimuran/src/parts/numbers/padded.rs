@@ -30,8 +30,8 @@ fn has_few_bits(number: u64, radix: u32, width: usize) -> bool {
 /// `PaddedDigits(16, 1u8, 2)` writes `01`. The number must be below `radix.pow(width)`, and a literal needs a type. Its
 /// room is the width.
 ///
-/// If you name the radix as a constant, your program has only the code of that radix, but for `{}`, `append_to` and [a
-/// few other calls](crate::costs#the-code-of-all-radices): they have the code of every radix, which is 60 KB or more.
+/// If you name the radix as a constant, your program has only the code of that radix. With `{}`, `append_to` and [a few
+/// other calls](crate::costs#the-code-of-all-radices) rustc may include the code of every radix, which is 60 KB or more.
 ///
 /// ```
 /// use cojimuran::{PaddedDigits, Part};
