@@ -102,7 +102,7 @@ all_digits n count is =
 abbrev pub hexadecimal : Format
 hexadecimal = record standard { mantissa_radix = 16 }
 
--- it is valid
+-- the format of radix 16 is valid
 pub hexadecimal_valid : IsValid hexadecimal
 hexadecimal_valid = plain_valid 16 record { at_least_two = omega arith; at_most_36 = omega arith }
 

@@ -25,13 +25,13 @@ each byte zero = 0
 each byte (suc k) = each byte k * 2 ^ 8 + byte
 
 -- the smallest number that does not fit in `k` bytes
-abbrev pub all_bits : ℕ → ℕ
-all_bits zero = 1
-all_bits (suc k) = all_bits k * 2 ^ 8
+abbrev pub word_limit : ℕ → ℕ
+word_limit zero = 1
+word_limit (suc k) = word_limit k * 2 ^ 8
 
 -- what is found in a word of `k` bytes in which each newline is 0
 abbrev pub found : ℕ → ℕ → ℕ
-found k left = bit_and (bit_and ((left + (all_bits k - each 1 k)) % all_bits k) (all_bits k - 1 - left)) (each 128 k)
+found k left = bit_and (bit_and ((left + (word_limit k - each 1 k)) % word_limit k) (word_limit k - 1 - left)) (each 128 k)
 
 -- bit 7 of the first newline is the lowest that is set
 pub record Marks (bytes : List ℕ) (marked : ℕ) : Type 0 where
@@ -41,7 +41,7 @@ pub record Marks (bytes : List ℕ) (marked : ℕ) : Type 0 where
   pub bits : marked ≡ (above * 2 + 1) * 2 ^ (8 * index + 7)
 
 -- the word of k bytes that are each 1 is below the smallest number that does not fit in k bytes
-ones_small : (k : ℕ) → each 1 k < all_bits k
+ones_small : (k : ℕ) → each 1 k < word_limit k
 ones_small zero = omega arith
 ones_small (suc k) = omega (arith, ones_small k)
 
@@ -62,28 +62,28 @@ split-mod a r m some small =
     ap (λ x. x % (m * 2 ^ 8)) whole ∙ mod-mul-add (a / m) (m * 2 ^ 8) (a % m * 2 ^ 8 + r) (omega (arith, mod-lt a some))
 
 abbrev difference : ℕ → ℕ → ℕ
-difference k left = left + (all_bits k - each 1 k)
+difference k left = left + (word_limit k - each 1 k)
 
 -- a byte before a word, of which `less` is left after the difference
-found-split : (k left c more less : ℕ) → left < all_bits k → c < 256 → less < 256
+found-split : (k left c more less : ℕ) → left < word_limit k → c < 256 → less < 256
     → difference (suc k) (left * 2 ^ 8 + c) ≡ more * 2 ^ 8 + less
     → found (suc k) (left * 2 ^ 8 + c)
-    ≡ bit_and (bit_and (more % all_bits k) (all_bits k - 1 - left)) (each 128 k) * 2 ^ 8
+    ≡ bit_and (bit_and (more % word_limit k) (word_limit k - 1 - left)) (each 128 k) * 2 ^ 8
     + bit_and (bit_and less (255 - c)) 128
 found-split k left c more less fits small short is =
     let ones = ones_small k in
-    let rest = ap (λ x. x % all_bits (suc k)) is ∙ split-mod more less (all_bits k) (omega arith) short in
-    let not_left : all_bits (suc k) - 1 - (left * 2 ^ 8 + c) ≡ (all_bits k - 1 - left) * 2 ^ 8 + (255 - c) =
+    let rest = ap (λ x. x % word_limit (suc k)) is ∙ split-mod more less (word_limit k) (omega arith) short in
+    let not_left : word_limit (suc k) - 1 - (left * 2 ^ 8 + c) ≡ (word_limit k - 1 - left) * 2 ^ 8 + (255 - c) =
     omega arith in
-    let both = ap₂ bit_and rest not_left ∙ and_block 8 (more % all_bits k) (all_bits k - 1 - left) less (255 - c)
+    let both = ap₂ bit_and rest not_left ∙ and_block 8 (more % word_limit k) (word_limit k - 1 - left) less (255 - c)
     (omega arith) (omega arith) in
     ap (λ x. bit_and x (each 128 (suc k))) both
-    ∙ and_block 8 (bit_and (more % all_bits k) (all_bits k - 1 - left)) (each 128 k) (bit_and less (255 - c)) 128
+    ∙ and_block 8 (bit_and (more % word_limit k) (word_limit k - 1 - left)) (each 128 k) (bit_and less (255 - c)) 128
     (omega (arith, and_le_l less (255 - c))) (omega arith)
 
 -- if the lowest byte of a word of k + 1 bytes is not 0, what the search for bytes 0 finds in the word is what it finds
 -- in the k other bytes, times 256
-found-other : (k left c : ℕ) → left < all_bits k → c < 256 → 0 < c
+found-other : (k left c : ℕ) → left < word_limit k → c < 256 → 0 < c
     → found (suc k) (left * 2 ^ 8 + c) ≡ found k left * 2 ^ 8
 found-other k left c fits small some =
     let ones = ones_small k in
@@ -92,11 +92,11 @@ found-other k left c fits small some =
 
 -- if the lowest byte of a word of k + 1 bytes is 0, bit 7 is the lowest bit that is set in what the search for bytes 0
 -- finds in the word
-found-newline : (k left : ℕ) → left < all_bits k → (above : ℕ)
+found-newline : (k left : ℕ) → left < word_limit k → (above : ℕ)
     × (found (suc k) (left * 2 ^ 8 + 0) ≡ (above * 2 + 1) * 2 ^ 7)
 found-newline k left fits =
     let ones = ones_small k in
-    let above = bit_and (bit_and ((difference k left - 1) % all_bits k) (all_bits k - 1 - left)) (each 128 k) in (
+    let above = bit_and (bit_and ((difference k left - 1) % word_limit k) (word_limit k - 1 - left)) (each 128 k) in (
       above,
       found-split k left 0 (difference k left - 1) 255 fits (omega arith) (omega arith) (omega arith)
           ∙ omega arith,
@@ -116,7 +116,7 @@ without-split : (b : ℕ) (bytes : List ℕ) → b < 256 → without (b ∷ byte
 without-split b bytes small = xor_block 8 (word bytes) (each 10 (length bytes)) b 10 (omega arith) (omega arith)
 
 -- the exclusive or of the word of k bytes with 10 in each byte is a number that fits in k bytes
-without_small : (bytes : List ℕ) → AreBytes bytes → without bytes < all_bits (length bytes)
+without_small : (bytes : List ℕ) → AreBytes bytes → without bytes < word_limit (length bytes)
 without_small [] h = omega arith
 without_small (b ∷ bytes) h =
     let small = All-head (λ b. b < 256) b bytes h in
@@ -206,7 +206,7 @@ in_word n fits =
 pub none_found : (n : ℕ) → n < 2 ^ 64 → found 8 (bit_xor n (each 10 8)) ≡ 0 → NoNewline (to_le_bytes w64 n)
 none_found n fits zeros = grind (arith, in_word n fits, pow_pos)
 
--- otherwise the position of the lowest bit that is found, divided by 8, is the index of the first newline
+-- if a word has a newline, the position of the lowest bit that is found, divided by 8, is the index of the first newline
 pub first_found : (n : ℕ) → n < 2 ^ 64 → found 8 (bit_xor n (each 10 8)) ≢ 0
     → IsFirstNewline (to_le_bytes w64 n) (trailing_zeros w64 (found 8 (bit_xor n (each 10 8))) / 8)
 first_found n fits some = elim (in_word n fits) [

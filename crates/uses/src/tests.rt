@@ -54,7 +54,7 @@ fn check_bytes(rt: &impl Abort, bytes: &[u8], text: &[u8]) {
     check(rt, bytes, text);
 }
 
-// Checks that the part writes the text to the start of the buffer, and returns it as a `&str`.
+// Checks the `&str` that `to_str` returns.
 fn check_str<P: Part>(rt: &impl Abort, part: P, buffer: &mut [u8], text: &str)
     requires valid { P.is_valid part }
     requires utf8 { P.is_utf8 part }

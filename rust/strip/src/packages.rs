@@ -138,7 +138,7 @@ pub(crate) const SOURCES: &[Source] = &[
             ),
         ],
         left_out: "turns",
-        laws: "laws note_up_to_eight",
+        laws: "laws note_up_to_eight note_up_to_four",
         ..LIBRARY
     },
     Source {

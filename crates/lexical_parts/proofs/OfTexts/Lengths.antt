@@ -26,7 +26,7 @@ use Rattle.std.specs.Prelude.{Option}
 use Rattle.lexical_write_integer.specs.ZerosAfterSign.{sign_length}
 use Rattle.lexical_parts.specs.ZeroPadded.{IsZeroPadded}
 
--- the length of given bytes
+-- a text that is exactly these bytes has their length
 pub exactly_length : (bytes : List ℕ) (count : ℕ) → count ≡ length bytes → HasLength (IsExactly bytes) count
 exactly_length bytes count is = record { each = λ text same. ap length same ∙ sym is }
 

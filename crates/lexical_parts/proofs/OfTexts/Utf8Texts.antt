@@ -31,7 +31,7 @@ digits_are_utf8 r number few = grind (arith, IsUtf8-from_ascii, IsAscii-digit_ch
 pub padded_is_utf8 : (r width number : ℕ) → r ≤ 36 → AreUtf8 (IsPadded r width number)
 padded_is_utf8 r width number few = grind (arith, IsUtf8-from_ascii, IsAscii-digit_chars)
 
--- the text of a number in such a radix, if its groups are valid
+-- the text of a number in a radix up to 36 is UTF-8, if the separator of its groups is valid
 pub text_is_utf8 : (number : ℤ) (format : Format) → format.mantissa_radix ≤ 36
     → ForSome format.digit_grouping IsGrouping → AreUtf8 (IsText number format)
 text_is_utf8 number format few groups =

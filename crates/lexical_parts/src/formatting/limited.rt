@@ -32,7 +32,8 @@ impl<O: fmt::Write> fmt::Write for Limited<'_, O> {
     }
 }
 
-// Returns the length of the text. If the part does not know it, the text is written to count its bytes.
+// Returns the length of the text. If the part does not know it, the text is written to count its bytes. No clause says
+// that the count is right: `write_exactly` compares it with what is then written.
 pub(crate) fn count_bytes<P: Show>(part: P) -> Result<usize, fmt::Error>
     requires valid { P.is_valid part }
     requires utf8 { P.is_utf8 part }

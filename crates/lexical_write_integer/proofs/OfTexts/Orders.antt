@@ -24,7 +24,7 @@ use Rattle.lexical_write_integer.specs.Padded.{IsPadded}
 use Rattle.lexical_write_integer.specs.Order.{ComesBefore, IsEarlier}
 use Rattle.lexical_write_integer.specs.Text.{IsDigits, IsText}
 use Rattle.lexical_write_integer.proofs.OfDigits.Count.DigitCounts.{digit_count-monotone}
-use Rattle.lexical_write_integer.proofs.OfTexts.Grouping.Digits.{grouped-injective, length-grouped_lt}
+use Rattle.lexical_write_integer.proofs.OfTexts.Grouping.Digits.{grouped-injective, length-grouped-lt}
 use Rattle.lexical_write_integer.proofs.OfTexts.Grouping.Digits.{length-grouped_same}
 use Rattle.lexical_write_integer.proofs.OfDigits.Numerals.{length-IsDigits}
 use Rattle.lexical_write_integer.proofs.OfDigits.DigitValues.{value_of-lt}
@@ -213,7 +213,7 @@ slice_cmp-grouped grouping s t long = grind (arith, slice_cmp-in_groups)
 -- in the groups of a format, if it has any
 ComesBefore-grouped : (grouping : Option (ℕ × ℕ)) (s t : List ℕ) → ComesBefore s t
     ↔ ComesBefore (grouped grouping s) (grouped grouping t)
-ComesBefore-grouped grouping s t = grind (arith, length-grouped_lt, length-grouped_same, slice_cmp-grouped, cases_order)
+ComesBefore-grouped grouping s t = grind (arith, length-grouped-lt, length-grouped_same, slice_cmp-grouped, cases_order)
 
 -- of numbers that are not negative, one is smaller if and only if its text is shorter, or as long and earlier
 pub ComesBefore-IsText : (m n : ℤ) (format : Format) (s t : List ℕ)

@@ -6,7 +6,7 @@ use Rattle.std.specs.Prelude.{if◌then◌else◌}
 use Rattle.lexical_num.specs.Sign.{sign_of}
 use mir.Val.{bool_byte}
 
--- if it is below 0, the sign is `-`
+-- the sign of a number below 0 is `-`
 pub sign_of-below : {negative : Bool} (x : ℤ) (required : Bool) → (IsTrue negative ↔ x <ℤ pos 0) → negative ≡ true
     → sign_of x required ≡ 45 ∷ []
 sign_of-below x required test is = grind arith

@@ -22,7 +22,7 @@ use crate::laws::digit_count_within_bits;
 use crate::turns::Turns;
 use binary_words::write_binary;
 use by_radix::by_radix;
-use count_first_writer::{write_after_count, write_short};
+use count_first_writer::{write_after_count, write_one_or_two_digits};
 use counting_writer::{
     count_and_write_five_to_eight, count_and_write_more, count_and_write_up_to_four, eighth_power,
 };
@@ -49,7 +49,7 @@ fn write_by_fast_count<const R: u32>(
     if R == 2 && number >= 256 {
         write_binary(number, buffer, turns)
     } else if number < u64::from(R * R) {
-        write_short(number, table, buffer, turns)
+        write_one_or_two_digits(number, table, buffer, turns)
     } else {
         write_after_count(number, table, buffer, turns)
     }
@@ -116,7 +116,8 @@ fn write_out_of_line<T: UnsignedInteger, const R: u32>(
     ensures digits { WritesDigits R (T.magnitude value) buffer.old buffer.new result }
     ensures notes { turns.new ≡ turns.old ++ table_notes R (T.magnitude value) }
 {
-    write_digits::<T, R>(value, get_table(R), buffer, turns)
+    let table = get_table(R);
+    write_digits::<T, R>(value, table, buffer, turns)
 }
 
 // Writes a number as `write_by_table` does. One or two digits, which are frequent, and each number of a type of 8 or 16
@@ -134,7 +135,7 @@ fn write_long_out_of_line<T: UnsignedInteger, const R: u32>(
     value.fits_bits();
     let number = value.as_u64();
     if number < u64::from(R * R) {
-        return write_short(number, RadixTable::<R>::new(), buffer, turns);
+        return write_one_or_two_digits(number, RadixTable::<R>::new(), buffer, turns);
     }
     if T::BITS < 32 {
         return write_by_table::<T, R>(value, buffer, turns);

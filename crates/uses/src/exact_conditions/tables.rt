@@ -8,7 +8,7 @@ use lexical_write_integer::algorithm::algorithm;
 use lexical_write_integer::table::get_table;
 
 /// Returns the length of the table of the largest radix.
-pub fn table_of_the_largest_radix() -> usize {
+pub fn length_of_the_largest_table() -> usize {
     get_table(36).len()
 }
 

@@ -34,8 +34,8 @@ in_groups-one grouping (digit ∷ next ∷ digits) few =
     rw part (ap (λ rest. digit ∷ rest) (in_groups-one grouping (next ∷ digits) (omega arith)))
 
 -- if a product is not 0, its first factor is not 0
-pub some_factor : (m n product : ℕ) → m * n ≡ product → 0 < product → 0 < m
-some_factor m n product is some = grind arith
+pub factor-pos : (m n product : ℕ) → m * n ≡ product → 0 < product → 0 < m
+factor-pos m n product is some = grind arith
 
 -- the separator before a byte is counted as one further group to its right
 pub length-mark_before : (grouping : ℕ × ℕ) (right : ℕ)
@@ -45,14 +45,14 @@ length-mark_before grouping right some any =
     let groups = right / size in
     elim (cases_eq (right % size) 0) [
       | inl whole ↦
-          let more : groups * size ≡ (groups - 1 + 1) * size = grind (arith, some_factor) in
+          let more : groups * size ≡ (groups - 1 + 1) * size = grind (arith, factor-pos) in
           let before : right - 1 ≡ (groups - 1) * size + (size - 1) = omega arith in
           let fewer : (right - 1) / size ≡ groups - 1 =
           ap (λ n. n / size) before ∙ div-mul-add (groups - 1) size (size - 1) (omega arith) in
           omega (
             arith,
             fewer,
-            some_factor groups size right (omega arith) any,
+            factor-pos groups size right (omega arith) any,
             ap length (mark_before-whole grouping right whole),
           )
       | inr part ↦
@@ -115,12 +115,12 @@ length-in_groups_same grouping (x ∷ next ∷ xs) (y ∷ other ∷ ys) same =
     )
 
 -- fewer digits take fewer bytes in the same groups
-length-in_groups_lt : (grouping : ℕ × ℕ) (xs ys : List ℕ) → length xs < length ys
+length-in_groups-lt : (grouping : ℕ × ℕ) (xs ys : List ℕ) → length xs < length ys
     → length (in_groups grouping xs) < length (in_groups grouping ys)
-length-in_groups_lt grouping xs [] less = absurd (omega arith)
-length-in_groups_lt grouping xs (y ∷ ys) less =
+length-in_groups-lt grouping xs [] less = absurd (omega arith)
+length-in_groups-lt grouping xs (y ∷ ys) less =
     elim (cases_lt (length xs) (length ys)) [
-      | inl fewer ↦ omega (arith, length-in_groups_lt grouping xs ys fewer, length-in_groups_more grouping y ys)
+      | inl fewer ↦ omega (arith, length-in_groups-lt grouping xs ys fewer, length-in_groups_more grouping y ys)
       | inr more ↦ omega (
         arith,
         length-in_groups_same grouping xs ys (omega arith),
@@ -129,9 +129,9 @@ length-in_groups_lt grouping xs (y ∷ ys) less =
     ]
 
 -- more digits take more bytes in the groups of a format
-pub length-grouped_lt : (grouping : Option (ℕ × ℕ)) (xs ys : List ℕ) → length xs < length ys
+pub length-grouped-lt : (grouping : Option (ℕ × ℕ)) (xs ys : List ℕ) → length xs < length ys
     → length (grouped grouping xs) < length (grouped grouping ys)
-length-grouped_lt grouping xs ys less = grind (arith, length-in_groups_lt)
+length-grouped-lt grouping xs ys less = grind (arith, length-in_groups-lt)
 
 -- equally many digits take equally many bytes in the groups of a format
 pub length-grouped_same : (grouping : Option (ℕ × ℕ)) (xs ys : List ℕ) → length xs ≡ length ys
@@ -173,7 +173,7 @@ grouped-injective (Some grouping) xs ys same =
     elim (cases_order (length xs) (length ys)) [
       | inl long ↦ in_groups-injective grouping xs ys long same
       | inr other ↦ elim other [
-        | inl shorter ↦ absurd (omega (arith, length-in_groups_lt grouping xs ys shorter, ap length same))
-        | inr longer ↦ absurd (omega (arith, length-in_groups_lt grouping ys xs longer, ap length same))
+        | inl shorter ↦ absurd (omega (arith, length-in_groups-lt grouping xs ys shorter, ap length same))
+        | inr longer ↦ absurd (omega (arith, length-in_groups-lt grouping ys xs longer, ap length same))
       ]
     ]

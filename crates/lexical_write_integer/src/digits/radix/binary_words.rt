@@ -5,8 +5,8 @@ ghost use Rattle.lexical_write_integer.specs.Buffer.{WritesBlock, WritesDigits};
 ghost use Rattle.lexical_write_integer.specs.DigitCount.{digit_count};
 ghost use Rattle.lexical_write_integer.specs.LoopTurns.{loop_notes, table_notes};
 
-use super::count_first_writer::count_some;
-use super::steps::{remove_four, remove_two};
+use super::count_first_writer::count_of_nonzero;
+use super::steps::{note_up_to_four, remove_four};
 use crate::turns::Turns;
 
 // Writes the eight binary digits of a number below 256 at index `at`. Each byte of the product is the number, of which
@@ -29,12 +29,12 @@ fn note_up_to_eight(number: u64, turns: &mut Turns)
     ensures { turns.new ≡ turns.old ++ loop_notes 2 number }
 {
     if number < 16 {
-        remove_two::<2>(number, turns);
+        note_up_to_four::<2>(number, turns);
         return;
     }
     let left = number / 16;
     turns.tick(left);
-    remove_two::<2>(left, turns);
+    note_up_to_four::<2>(left, turns);
 }
 
 // Returns the number without its last eight digits.
@@ -56,7 +56,7 @@ pub(super) fn write_binary(value: u64, buffer: &mut [u8], turns: &mut Turns) -> 
     ensures digits { WritesDigits 2 value buffer.old buffer.new result }
     ensures notes { turns.new ≡ turns.old ++ table_notes 2 value }
 {
-    let count = count_some(value, 2);
+    let count = count_of_nonzero(value, 2);
     let mut left = value;
     let mut at = count;
     while at > 16 {

@@ -99,8 +99,8 @@ pub fn compact_counted<T: UnsignedInteger>(
     write_each_digit_in(value.as_u64(), radix, buffer, turns)
 }
 
-/// An unsigned integer type, with a writer of digits that takes little code: it divides once for each digit, and uses
-/// no table.
+/// An unsigned integer type, with a writer of digits that takes little code: it divides once for each digit after the
+/// first, and uses no table.
 ///
 /// ```
 /// use lexical_write_integer::compact::Compact;

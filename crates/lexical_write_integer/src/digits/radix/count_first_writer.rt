@@ -9,8 +9,8 @@ ghost use Rattle.lexical_write_integer.specs.DigitCount.{digit_count};
 ghost use Rattle.lexical_write_integer.specs.LoopTurns.{count_notes, loop_notes, table_notes};
 
 use super::steps::{
-    count_one_or_two, fourth_power, last_four, remove_four, remove_two, write_counted_pair,
-    write_four, write_one_pair,
+    count_one_or_two_by_division, fourth_power, last_four, note_up_to_four, remove_four,
+    remove_two, write_counted_pair, write_four, write_pair_as_word,
 };
 use crate::digits::count::{DigitCount, fast_log2, has_fast_count};
 use crate::digits::pairs::RadixTable;
@@ -40,12 +40,12 @@ fn write_three_or_four<const R: u32>(
     requires below { number < R ^ 4 }
     requires room { digit_count R number ≤ length buffer.old }
     ensures digits { WritesDigits R number buffer.old buffer.new result }
-    ensures notes { loop_turns.new ≡ loop_turns.old ++ loop_notes R number }
+    ensures notes_in_loop { loop_turns.new ≡ loop_turns.old ++ loop_notes R number }
 {
     let count = count_three_or_four(number, R);
     // rustc tests the end of these bytes once.
     let written = &mut buffer[..count];
-    write_one_pair(
+    write_pair_as_word(
         remove_two::<R>(number, loop_turns),
         count - 2,
         table,
@@ -60,7 +60,7 @@ fn write_three_or_four<const R: u32>(
 }
 
 // Returns how many digits a number has that is not 0. Its logarithm is one instruction, which that of 0 is not.
-pub(super) fn count_some(value: u64, radix: u32) -> usize
+pub(super) fn count_of_nonzero(value: u64, radix: u32) -> usize
     requires radix { IsRadix radix }
     requires some { 0 < value }
     ensures count { result ≡ digit_count radix value }
@@ -82,7 +82,7 @@ pub(super) fn count_some(value: u64, radix: u32) -> usize
 
 // Returns how many digits a number of one or two digits has: by a division unless the radix has
 // a fast count.
-fn count_short(number: u64, radix: u32, turns: &mut Turns) -> usize
+fn count_one_or_two_digits(number: u64, radix: u32, turns: &mut Turns) -> usize
     requires radix { IsRadix radix }
     requires below { number < radix ^ 2 }
     ensures count { result ≡ digit_count radix number }
@@ -91,12 +91,12 @@ fn count_short(number: u64, radix: u32, turns: &mut Turns) -> usize
     if has_fast_count(radix) {
         1 + usize::from(number >= u64::from(radix))
     } else {
-        count_one_or_two(number as u32, radix, turns)
+        count_one_or_two_by_division(number as u32, radix, turns)
     }
 }
 
 // Counts the one or two digits of a number, and writes them.
-pub(super) fn write_short<const R: u32>(
+pub(super) fn write_one_or_two_digits<const R: u32>(
     number: u64,
     table: RadixTable<'_, R>,
     buffer: &mut [u8],
@@ -107,8 +107,8 @@ pub(super) fn write_short<const R: u32>(
     ensures digits { WritesDigits R number buffer.old buffer.new result }
     ensures notes { turns.new ≡ turns.old ++ table_notes R number }
 {
-    let count = count_short(number, R, turns);
-    write_one_pair(number, count, table, buffer);
+    let count = count_one_or_two_digits(number, R, turns);
+    write_pair_as_word(number, count, table, buffer);
     count
 }
 
@@ -124,7 +124,7 @@ fn write_up_to_four<const R: u32>(
     requires digits { digits ≡ digit_count R number }
     requires room { digits ≤ length buffer.old }
     ensures digits { WritesDigits R number buffer.old buffer.new digits }
-    ensures notes { loop_turns.new ≡ loop_turns.old ++ loop_notes R number }
+    ensures notes_in_loop { loop_turns.new ≡ loop_turns.old ++ loop_notes R number }
 {
     if digits > 2 {
         write_three_or_four(u64::from(number), table, buffer, loop_turns);
@@ -151,7 +151,7 @@ pub(super) fn write_after_count<const R: u32>(
     if value < fourth_power(R) {
         return write_three_or_four(value, table, buffer, loop_turns);
     }
-    let count = count_some(value, R);
+    let count = count_of_nonzero(value, R);
     // So rustc tests the end of the buffer once.
     prove!(count <= buffer.len(), "the buffer is too short");
     let bits = fast_log2(R);
@@ -168,8 +168,8 @@ pub(super) fn write_after_count<const R: u32>(
         left = remove_four::<R>(left, loop_turns);
     }
     if R == 1 << bits {
-        // The counter, which only contracts see, notes this quotient. Its digits are those of `first`.
-        remove_two::<R>(left, loop_turns);
+        // Its digits are those of `first`.
+        note_up_to_four::<R>(left, loop_turns);
         write_four(first, table, buffer, 0);
     } else {
         write_up_to_four(left as u32, at, table, buffer, loop_turns);

@@ -9,8 +9,8 @@ ghost use Rattle.lexical_write_integer.specs.DigitCount.{digit_count};
 ghost use Rattle.lexical_write_integer.specs.LoopTurns.{loop_notes, slow_notes};
 
 use super::steps::{
-    count_one_or_two, fourth_power, last_four, remove_four, remove_two, write_counted_pair,
-    write_four,
+    count_one_or_two_by_division, fourth_power, last_four, remove_four, remove_two,
+    write_counted_pair, write_four,
 };
 use crate::digits::pairs::RadixTable;
 use crate::turns::Turns;
@@ -35,7 +35,7 @@ fn count_and_write_one_or_two<const R: u32>(
     ensures digits { WritesDigits R number buffer.old buffer.new result }
     ensures notes { turns.new ≡ turns.old ++ slow_notes R number }
 {
-    let count = count_one_or_two(number, R, turns);
+    let count = count_one_or_two_by_division(number, R, turns);
     write_counted_pair(number, count, table, buffer);
     count
 }

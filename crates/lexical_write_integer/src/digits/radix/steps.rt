@@ -1,5 +1,5 @@
-// The steps of `count_first_writer` and `counting_writer`, each for two or four digits: removing them from a number, and
-// writing them from a table of digit pairs.
+// The steps of the writers, each for two or four digits: removing them from a number, and writing them from a table of
+// digit pairs.
 
 // `turns` is the counter for the notes of a count, and `loop_turns` that for the notes of the writing.
 ghost use Rattle.std.specs.Prelude.{◌≡◌, ◌+◌, ◌*◌, ◌/◌, ◌%◌, ◌^◌, ◌<◌, ◌≤◌, ◌++◌, length};
@@ -49,19 +49,28 @@ pub(super) fn remove_four<const R: u32>(value: u64, loop_turns: &mut Turns) -> u
 pub(super) fn remove_two<const R: u32>(number: u64, loop_turns: &mut Turns) -> u64
     requires radix { IsRadix R }
     requires below { number < R ^ 4 }
-    ensures pair { result ≡ number / (R * R) }
+    ensures left { result ≡ number / (R * R) }
     // The note is what is left, unless it is 0.
-    ensures notes { loop_turns.new ≡ loop_turns.old ++ loop_notes R number }
+    ensures notes_in_loop { loop_turns.new ≡ loop_turns.old ++ loop_notes R number }
 {
-    let pair = number / u64::from(R * R);
-    if pair > 0 {
-        loop_turns.tick(pair);
+    let left = number / u64::from(R * R);
+    if left > 0 {
+        loop_turns.tick(left);
     }
-    pair
+    left
+}
+
+// Notes a number of up to four digits without its last two, unless that is 0. It does nothing else.
+pub(super) fn note_up_to_four<const R: u32>(number: u64, loop_turns: &mut Turns)
+    requires radix { IsRadix R }
+    requires below { number < R ^ 4 }
+    ensures notes_in_loop { loop_turns.new ≡ loop_turns.old ++ loop_notes R number }
+{
+    remove_two::<R>(number, loop_turns);
 }
 
 // Returns how many digits a number of one or two digits has, by a division.
-pub(super) fn count_one_or_two(number: u32, radix: u32, turns: &mut Turns) -> usize
+pub(super) fn count_one_or_two_by_division(number: u32, radix: u32, turns: &mut Turns) -> usize
     requires radix { IsRadix radix }
     requires below { number < radix ^ 2 }
     ensures count { result ≡ digit_count radix number }
@@ -94,9 +103,9 @@ pub(super) fn write_counted_pair<const R: u32>(
     buffer[digits - 1] = table.pairs[pair + 1];
 }
 
-// Writes the one or two digits of a number as `write_counted_pair` does. It reads both characters as one number, in one
+// Writes the one or two digits of a number as `write_counted_pair` does. It reads both characters as one word, in one
 // instruction, but into one of few registers.
-pub(super) fn write_one_pair<const R: u32>(
+pub(super) fn write_pair_as_word<const R: u32>(
     number: u64,
     digits: usize,
     table: RadixTable<'_, R>,

@@ -26,7 +26,8 @@ impl<O: fmt::Write> fmt::Write for Limited<'_, O> {
     }
 }
 
-// Returns the length of the text. If the part does not know it, the text is written to count its bytes.
+// Returns the length of the text. If the part does not know it, the text is written to count its bytes. No clause says
+// that the count is right: `write_exactly` compares it with what is then written.
 #[inline]
 pub(crate) fn count_bytes<P: Show>(part: P) -> Result<usize, fmt::Error> {
     if let Some(count) = part.text_len() {

@@ -17,7 +17,7 @@ use crate::write_integer::digits::count::has_fast_count;
 use crate::write_integer::digits::pairs::RadixTable;
 use binary_words::write_binary;
 use by_radix::by_radix;
-use count_first_writer::{write_after_count, write_short};
+use count_first_writer::{write_after_count, write_one_or_two_digits};
 use counting_writer::{
     count_and_write_five_to_eight, count_and_write_more, count_and_write_up_to_four, eighth_power,
 };
@@ -32,7 +32,7 @@ fn write_by_fast_count<const R: u32>(number: u64, table: &[u8], buffer: &mut [u8
     if R == 2 && number >= 256 {
         write_binary(number, buffer)
     } else if number < u64::from(R * R) {
-        write_short(number, table, buffer)
+        write_one_or_two_digits(number, table, buffer)
     } else {
         write_after_count(number, table, buffer)
     }
@@ -74,7 +74,8 @@ fn write_by_table<T: UnsignedInteger, const R: u32>(value: T, buffer: &mut [u8])
 #[cold]
 #[inline]
 fn write_out_of_line<T: UnsignedInteger, const R: u32>(value: T, buffer: &mut [u8]) -> usize {
-    write_digits::<T, R>(value, get_table(R), buffer)
+    let table = get_table(R);
+    write_digits::<T, R>(value, table, buffer)
 }
 
 // Writes a number as `write_by_table` does. One or two digits, which are frequent, and each number of a type of 8 or 16
@@ -83,7 +84,7 @@ fn write_out_of_line<T: UnsignedInteger, const R: u32>(value: T, buffer: &mut [u
 fn write_long_out_of_line<T: UnsignedInteger, const R: u32>(value: T, buffer: &mut [u8]) -> usize {
     let number = value.as_u64();
     if number < u64::from(R * R) {
-        return write_short(number, RadixTable::<R>::new(), buffer);
+        return write_one_or_two_digits(number, RadixTable::<R>::new(), buffer);
     }
     if T::BITS < 32 {
         return write_by_table::<T, R>(value, buffer);

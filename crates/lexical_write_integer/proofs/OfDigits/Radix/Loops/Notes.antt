@@ -34,7 +34,7 @@ left_left r n i j = let order : j + i ≡ i + j = omega arith in div-pow_more r 
 
 -- ---- the loop that divides by the square of the radix, after the one that divides by its fourth power
 
--- it has at most one iteration
+-- the loop that divides by the square has at most one iteration
 two_notes : {r n four left : ℕ} {a b : List ℕ}
     → 2 ≤ r → TakesDigits r n 4 four left a b
     → quotients r left 2 (digits_after_first r left / 2)

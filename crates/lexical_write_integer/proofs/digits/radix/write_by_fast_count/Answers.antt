@@ -2,7 +2,7 @@ use Rattle.lexical_write_integer.proofs.OfDigits.Radix.Loops.Notes.{none_noted, 
 use Rattle.lexical_write_integer.proofs.digits.radix.write_by_fast_count.Goals as goal
 
 pub returns-then-number-from-clause-digits : goal.returns-then-number-from-clause-digits
-returns-then-number-from-clause-digits g c = c.write_short.ensures.digits
+returns-then-number-from-clause-digits g c = c.write_one_or_two_digits.ensures.digits
 
 -- the count notes nothing
 pub returns-else-number-from-clause-notes : goal.returns-else-number-from-clause-notes

@@ -2,7 +2,7 @@
 
 // Writing binary digits, eight at a time, as the bytes of a word.
 
-use super::count_first_writer::count_some;
+use super::count_first_writer::count_of_nonzero;
 use super::steps::remove_four;
 
 // Writes the eight binary digits of a number below 256 at index `at`. Each byte of the product is the number, of which
@@ -26,7 +26,7 @@ fn remove_eight(value: u64) -> u64 {
 // those, the first are written with zeros after them, eight characters in total, and then the last eight.
 #[inline]
 pub(super) fn write_binary(value: u64, buffer: &mut [u8]) -> usize {
-    let count = count_some(value, 2);
+    let count = count_of_nonzero(value, 2);
     let mut left = value;
     let mut at = count;
     while at > 16 {

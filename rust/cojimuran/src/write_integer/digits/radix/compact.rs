@@ -61,8 +61,8 @@ pub(crate) fn compact<T: UnsignedInteger>(value: T, radix: u32, buffer: &mut [u8
     write_each_digit_in(value.as_u64(), radix, buffer)
 }
 
-/// An unsigned integer type, with a writer of digits that takes little code: it divides once for each digit, and uses
-/// no table.
+/// An unsigned integer type, with a writer of digits that takes little code: it divides once for each digit after the
+/// first, and uses no table.
 ///
 /// ```
 /// use cojimuran::compact::Compact;

@@ -4,8 +4,8 @@
 // radices in which a count needs no division.
 
 use super::steps::{
-    count_one_or_two, fourth_power, last_four, remove_four, remove_two, write_counted_pair,
-    write_four, write_one_pair,
+    count_one_or_two_by_division, fourth_power, last_four, remove_four, remove_two,
+    write_counted_pair, write_four, write_pair_as_word,
 };
 use crate::write_integer::digits::count::{DigitCount, fast_log2, has_fast_count};
 use crate::write_integer::digits::pairs::RadixTable;
@@ -29,7 +29,7 @@ fn write_three_or_four<const R: u32>(
     let count = count_three_or_four(number, R);
     // rustc tests the end of these bytes once.
     let written = &mut buffer[..count];
-    write_one_pair(remove_two::<R>(number), count - 2, table, written);
+    write_pair_as_word(remove_two::<R>(number), count - 2, table, written);
     let pair = 2 * (number as u32 % (R * R)) as usize;
     // Both bytes are read first, so a compiler moves them as one number.
     let (third, fourth) = (table.pairs[pair], table.pairs[pair + 1]);
@@ -41,7 +41,7 @@ fn write_three_or_four<const R: u32>(
 // Returns how many digits a number has that is not 0. Its logarithm is one instruction, which that of 0 is not.
 #[inline(always)]
 #[track_caller]
-pub(super) fn count_some(value: u64, radix: u32) -> usize {
+pub(super) fn count_of_nonzero(value: u64, radix: u32) -> usize {
     let bits = fast_log2(radix);
     if radix == 1 << bits {
         let log2 = value.ilog2() as usize;
@@ -60,24 +60,24 @@ pub(super) fn count_some(value: u64, radix: u32) -> usize {
 // a fast count.
 #[inline(always)]
 #[track_caller]
-fn count_short(number: u64, radix: u32) -> usize {
+fn count_one_or_two_digits(number: u64, radix: u32) -> usize {
     if has_fast_count(radix) {
         1 + usize::from(number >= u64::from(radix))
     } else {
-        count_one_or_two(number as u32, radix)
+        count_one_or_two_by_division(number as u32, radix)
     }
 }
 
 // Counts the one or two digits of a number, and writes them.
 #[inline(always)]
 #[track_caller]
-pub(super) fn write_short<const R: u32>(
+pub(super) fn write_one_or_two_digits<const R: u32>(
     number: u64,
     table: RadixTable<'_, R>,
     buffer: &mut [u8],
 ) -> usize {
-    let count = count_short(number, R);
-    write_one_pair(number, count, table, buffer);
+    let count = count_one_or_two_digits(number, R);
+    write_pair_as_word(number, count, table, buffer);
     count
 }
 
@@ -110,7 +110,7 @@ pub(super) fn write_after_count<const R: u32>(
     if value < fourth_power(R) {
         return write_three_or_four(value, table, buffer);
     }
-    let count = count_some(value, R);
+    let count = count_of_nonzero(value, R);
     // So rustc tests the end of the buffer once.
     assert!(count <= buffer.len(), "the buffer is too short");
     let bits = fast_log2(R);
@@ -127,8 +127,6 @@ pub(super) fn write_after_count<const R: u32>(
         left = remove_four::<R>(left);
     }
     if R == 1 << bits {
-        // The counter, which only contracts see, notes this quotient. Its digits are those of `first`.
-        remove_two::<R>(left);
         write_four(first, table, buffer, 0);
     } else {
         write_up_to_four(left as u32, at, table, buffer);

@@ -1,7 +1,7 @@
 // Made by `strip` from crates/lexical_write_integer/src/digits/radix/steps.rt. Edit that file, not this one.
 
-// The steps of `count_first_writer` and `counting_writer`, each for two or four digits: removing them from a number, and
-// writing them from a table of digit pairs.
+// The steps of the writers, each for two or four digits: removing them from a number, and writing them from a table of
+// digit pairs.
 
 use crate::write_integer::digits::pairs::RadixTable;
 
@@ -37,7 +37,7 @@ pub(super) fn remove_two<const R: u32>(number: u64) -> u64 {
 // Returns how many digits a number of one or two digits has, by a division.
 #[inline(always)]
 #[track_caller]
-pub(super) fn count_one_or_two(number: u32, radix: u32) -> usize {
+pub(super) fn count_one_or_two_by_division(number: u32, radix: u32) -> usize {
     let left = number / radix;
     1 + usize::from(left > 0)
 }
@@ -59,11 +59,11 @@ pub(super) fn write_counted_pair<const R: u32>(
     buffer[digits - 1] = table.pairs[pair + 1];
 }
 
-// Writes the one or two digits of a number as `write_counted_pair` does. It reads both characters as one number, in one
+// Writes the one or two digits of a number as `write_counted_pair` does. It reads both characters as one word, in one
 // instruction, but into one of few registers.
 #[inline(always)]
 #[track_caller]
-pub(super) fn write_one_pair<const R: u32>(
+pub(super) fn write_pair_as_word<const R: u32>(
     number: u64,
     digits: usize,
     table: RadixTable<'_, R>,

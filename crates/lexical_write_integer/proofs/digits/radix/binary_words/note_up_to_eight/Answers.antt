@@ -4,6 +4,6 @@ use Rattle.lexical_write_integer.proofs.digits.radix.binary_words.note_up_to_eig
 
 pub returns : goal.returns
 returns c =
-    loop_notes-after 2 c.args.number c.args.turns.now c.tick.new.self c.remove_two-2.new.loop_turns (omega arith)
+    loop_notes-after 2 c.args.number c.args.turns.now c.tick.new.self c.note_up_to_four-2.new.loop_turns (omega arith)
     c.if-number-lt16.false
-    c.tick.ensures c.remove_two-2.ensures.notes
+    c.tick.ensures c.note_up_to_four-2.ensures.notes_in_loop

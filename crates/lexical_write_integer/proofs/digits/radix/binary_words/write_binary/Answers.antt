@@ -16,12 +16,12 @@ use Rattle.lexical_write_integer.proofs.digits.radix.binary_words.write_binary.G
 pub loop-at-init : goal.loop-at-init
 loop-at-init c =
     let n = c.args.value in
-    let count = c.count_some-count.result in
+    let count = c.count_of_nonzero-count.result in
     let none : count - count ≡ 0 = omega arith in
     record {
       noted = refl;
       written = rw none IsWrittenBack-start;
-      more = omega (arith, c.count_some-count.ensures.count, digit_count-more 2 8 n (omega arith) c.requires.long);
+      more = omega (arith, c.count_of_nonzero-count.ensures.count, digit_count-more 2 8 n (omega arith) c.requires.long);
       within = omega arith;
       room = refl;
     }
@@ -31,7 +31,7 @@ loop-at-init c =
 -- more than eight digits are left, in each iteration and after the last
 long : (c : In-loop-at) → 2 ^ 8 ≤ c.loop-at.left
 long c =
-    let counts = IsWrittenBack-left (omega arith) c.count_some-count.ensures.count c.loop-at.invariant.within
+    let counts = IsWrittenBack-left (omega arith) c.count_of_nonzero-count.ensures.count c.loop-at.invariant.within
     c.loop-at.invariant.written in
     longer-than 2 c.loop-at.left 8 (omega arith) (omega (arith, counts, c.loop-at.invariant.more))
 
@@ -41,7 +41,7 @@ remove_eight-left-requires c = omega (arith, long (goal.at.remove_eight-left-req
 pub loop-at-preserved : goal.loop-at-preserved
 loop-at-preserved c =
     let left = c.loop-at.left in
-    let count = c.count_some-count.result in
+    let count = c.count_of_nonzero-count.result in
     let order : 8 + (count - c.loop-at.at) ≡ count - (c.loop-at.at - 8) =
     omega (arith, c.loop-at-test.true, c.loop-at.invariant.within) in
     let place : c.loop-at.at ≡ c.loop-at.at - 8 + 8 = omega (arith, c.loop-at-test.true) in
@@ -61,7 +61,7 @@ loop-at-preserved c =
 
 count_left : (c : After-loop-at) → digit_count 2 c.loop-at.left ≡ c.loop-at.at
 count_left c =
-    IsWrittenBack-left (omega arith) c.count_some-count.ensures.count c.loop-at.invariant.within
+    IsWrittenBack-left (omega arith) c.count_of_nonzero-count.ensures.count c.loop-at.invariant.within
     c.loop-at.invariant.written
 
 long_after : (c : After-loop-at) → 2 ^ 8 ≤ c.loop-at.left
@@ -92,8 +92,8 @@ returns c =
     let at = goal.at.returns c in
     let left = c.loop-at.left in
     let end = c.loop-at.at in
-    let count = c.count_some-count.result in
-    let is = c.count_some-count.ensures.count in
+    let count = c.count_of_nonzero-count.result in
+    let is = c.count_of_nonzero-count.ensures.count in
     let same : c.remove_eight-rest.result * 2 ^ (16 - end) % 2 ^ 64 ≡ left / 2 ^ 8 * 2 ^ (16 - end) =
     rw c.remove_eight-rest.ensures.left (mod-eq_of_lt (omega (arith, first_short at.After-loop-at))) in
     let first = subst (λ m. WritesBlock 2 8 m 0 (take end c.loop-at.buffer) c.write_eight_bits-2.new.buffer)

@@ -24,7 +24,7 @@ write_counted_pair-requires g c =
     (lit< tt, (below, (c.requires.digits, c.requires.room)))
 
 -- the writer notes nothing
-pub returns-else-digits-gt2-clause-notes : goal.returns-else-digits-gt2-clause-notes
-returns-else-digits-gt2-clause-notes g c =
-    let c' = (goal.at.returns-else-digits-gt2-clause-notes g c).Else-digits-gt2 in
+pub returns-else-digits-gt2-clause-notes_in_loop : goal.returns-else-digits-gt2-clause-notes_in_loop
+returns-else-digits-gt2-clause-notes_in_loop g c =
+    let c' = (goal.at.returns-else-digits-gt2-clause-notes_in_loop g c).Else-digits-gt2 in
     loop_notes-none g.row.R c.args.number c.args.loop_turns.now c.args.table.is_radix.at_least_two (few g c')

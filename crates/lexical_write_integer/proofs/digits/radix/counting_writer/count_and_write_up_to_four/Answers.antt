@@ -29,7 +29,7 @@ count_and_write_one_or_two-head-requires g c =
     let r = g.row.R in
     let n = c.args.number in
     let two = c.args.table.is_radix.at_least_two in
-    let is = rw c.from.ensures at c.remove_two-pair.ensures.pair in
+    let is = rw c.from.ensures at c.remove_two-pair.ensures.left in
     let below : n / (r * r) < r * r = div_below n (r * r) (r * r) (some r two) (rw pow-four at c.requires.below) in
     let counted = two_more r n _ two is (omega (arith, c.if-pair-eq0.false)) in
     (lit< tt, (rw is below, omega (arith, counted, c.requires.room)))
@@ -39,7 +39,7 @@ write-requires g c =
     let r = g.row.R in
     let n = c.args.number in
     let two = c.args.table.is_radix.at_least_two in
-    let is = rw c.from.ensures at c.remove_two-pair.ensures.pair in
+    let is = rw c.from.ensures at c.remove_two-pair.ensures.left in
     let counted = two_more r n _ two is (omega (arith, c.if-pair-eq0.false)) in (
       lit< tt,
       (
@@ -60,7 +60,7 @@ returns-clause-digits g c =
     let n = c.args.number in
     let head = c.count_and_write_one_or_two-head in
     let two = c.args.table.is_radix.at_least_two in
-    let is = rw c.from.ensures at c.remove_two-pair.ensures.pair in
+    let is = rw c.from.ensures at c.remove_two-pair.ensures.left in
     let more = long r n _ is (omega (arith, c.if-pair-eq0.false)) in
     let first : WritesDigits r (n / r ^ 2) c.args.buffer.now head.new.buffer head.result =
     rw pow-two (rw is at head.ensures.digits) in

@@ -5,8 +5,8 @@ use Rattle.lexical_write_integer.proofs.OfDigits.Count.DigitCounts.{digit_count-
 use Rattle.lexical_write_integer.proofs.OfDigits.Powers.{pow-one}
 use Rattle.lexical_write_integer.proofs.OfDigits.Radix.Loops.Notes.{slow_notes-one, slow_notes-two}
 use Rattle.lexical_write_integer.proofs.OfDigits.Radix.Loops.ShortNumbers.{quotient-some, quotient-none}
-use Rattle.lexical_write_integer.proofs.digits.radix.steps.count_one_or_two.Goals as goal
-use Rattle.lexical_write_integer.proofs.digits.radix.steps.count_one_or_two.Goals.{then-left-gt0, else-left-gt0}
+use Rattle.lexical_write_integer.proofs.digits.radix.steps.count_one_or_two_by_division.Goals as goal
+use Rattle.lexical_write_integer.proofs.digits.radix.steps.count_one_or_two_by_division.Goals.{then-left-gt0, else-left-gt0}
 
 -- the quotient is 0 if there is one digit
 pub returns-clause-count : goal.returns-clause-count
