@@ -16,15 +16,16 @@
  * C11 and later, and in C99 with gcc or clang. In any C you can name the type, as in
  * lexical_decimal_i32(-42, text, sizeof text).
  *
- * These lines make the string "-42", and count becomes 3:
+ * These lines store the string "-42", and set count to 3:
  *
  *     char text[LEXICAL_BUFFER_SIZE_DECIMAL_I32 + 1];
  *     size_t count = lexical_decimal(-42, text, sizeof text);
  *     lexical_terminate(count, text, sizeof text);
  *
- * These lines make the string "0x0000beef": a prefix, followed by a number in lowercase,
- * with zeros up to 8 digits. If count is then 0, something did not fit, and the string is
- * "0x". Use a prefix only with unsigned types, because a '-' would come after it:
+ * These lines store the string "0x0000beef": a prefix, followed by a number in lowercase,
+ * with zeros up to 8 digits. If count is then 0, the number or its zeros did not fit, and
+ * the string is "0x". Use a prefix only with unsigned types, because a '-' would come
+ * after it:
  *
  *     char prefixed[2 + LEXICAL_BUFFER_SIZE + 1] = "0x";
  *     count = lexical_write(48879u, LEXICAL_FORMAT(.radix = 16, .lowercase = 1),
@@ -44,11 +45,10 @@
  * function that takes a format returns 0.
  *
  * Buffer. `buffer` points to `size` bytes that the call may write. The size must not
- * exceed PTRDIFF_MAX; no object is larger. The pointer may be NULL if the size is 0. The
- * buffer must not overlap the format, and no other thread may use it during the call.
- * It need not be initialized, except for the text that you pass to lexical_pad. The
- * call writes nothing outside the buffer, and keeps no pointer to it. Bytes after the
- * text keep their values.
+ * exceed PTRDIFF_MAX. The pointer may be NULL if the size is 0. The buffer must not
+ * overlap the format, and no other thread may use it during the call. It need not be
+ * initialized, except for the text that you pass to lexical_pad. The call writes nothing
+ * outside the buffer, and keeps no pointer to it. Bytes after the text keep their values.
  *
  * Size of the buffer. LEXICAL_BUFFER_SIZE bytes are enough for every number of every
  * type in every format. A terminating NUL needs one byte more. A call is fastest if the
