@@ -1,7 +1,7 @@
 //! Leaves out items that only Rattle reads: what is marked as ghost, tactics, models, laws, and modules of them; then
 //! imports of what is gone. At the end it checks that nothing of Rattle is left.
 
-use crate::ghosts::GHOSTS;
+use crate::counters::COUNTERS;
 use crate::items::{function, remove, remove_and_keep_comment, remove_element, start, start_with_attributes};
 use crate::repository::File;
 use crate::tokens::{Token, closing, find, words};
@@ -55,7 +55,7 @@ fn item_left_out(tokens: &[Token], at: usize, modules: &[&str], laws: &Names) ->
 pub(crate) fn without_imports(tokens: &mut Vec<Token>, file: &File, laws: &Names) {
     let used = words_outside_imports(tokens);
     let used_before = if file.source.is_test() { Names::new() } else { words_outside_imports(&file.tokens) };
-    let is_gone = |name: &str| name == "Model" || GHOSTS.contains(&name) || laws.contains(name);
+    let is_gone = |name: &str| name == "Model" || COUNTERS.contains(&name) || laws.contains(name);
     let is_unused = |name: &str| used_before.contains(name) && !used.contains(name);
     for at in (0..tokens.len()).rev().filter(|at| tokens[*at] == "use").collect::<Vec<_>>() {
         let is_private = start(tokens, at) == at;
@@ -107,7 +107,7 @@ pub(crate) fn check_rust(tokens: &[Token], laws: &Names) -> Result<(), String> {
     let is_literal = |text: &str| ["\"", "'", "b\"", "b'", "//"].iter().any(|start| text.starts_with(start));
     let is_of_rattle = |pair: &&[Token]| {
         let (token, is_call) = (&pair[0], pair[1] == "(");
-        let is_known = token.is_in(&OF_RATTLE) || token.is_in(&GHOSTS) || laws.contains(&token.text) && is_call;
+        let is_known = token.is_in(&OF_RATTLE) || token.is_in(&COUNTERS) || laws.contains(&token.text) && is_call;
         is_known || !token.text.is_ascii() && !is_literal(&token.text)
     };
     match tokens.windows(2).find(is_of_rattle) {

@@ -6,7 +6,7 @@
 //!
 //! 1. `rules` writes what `tables` lists otherwise, for example `prove!` as `assert!`.
 //! 2. `left_out` leaves out items that only the prover reads, such as ghost items, laws, models and tactics.
-//! 3. `ghosts` leaves out counters with all that passes them on, and calls of laws.
+//! 3. `counters` leaves out counters with all that passes them on, and calls of laws.
 //! 4. `additions` writes attributes that a package needs and the crate does not have: `#[inline]` and `#[must_use]`. It
 //!    leaves out the contracts, after a check that the documentation says when a function panics.
 //! 5. `left_out` leaves out imports of what is gone, and refuses each word of Rattle that is left.
@@ -17,8 +17,8 @@
 #![forbid(unsafe_code)]
 
 mod additions;
+mod counters;
 mod files;
-mod ghosts;
 mod items;
 mod left_out;
 mod packages;
@@ -113,8 +113,8 @@ fn made_of(repository: &Repository, is_source: impl Fn(&Source) -> bool) -> Resu
 fn translated(file: &File, Repository { laws, pages, .. }: &Repository) -> Result<String, String> {
     let mut code = file.tokens.clone();
     left_out::without_items(&mut code, &file.source.modules(), laws);
-    ghosts::without_ghosts(&mut code, laws);
-    ghosts::without_counted(&mut code);
+    counters::without_counters(&mut code, laws);
+    counters::without_counted(&mut code);
     additions::add(&mut code, file, pages)?;
     left_out::without_imports(&mut code, file, laws);
     left_out::check_rust(&code, laws)?;

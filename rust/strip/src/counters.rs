@@ -1,16 +1,16 @@
-//! Leaves out ghosts, which are values that only contracts read, and calls of laws, which only prove something.
+//! Leaves out counters, which are values that only contracts read, and calls of laws, which only prove something.
 //!
-//! A statement is left out if it only calls a method of a ghost, or a law; and then what is empty or unused around it.
-//! So are parameters, arguments and fields that are ghosts, and functions that only pass a new ghost to another one.
-//! What else names a ghost or calls a law stays, and is refused at the end.
+//! A statement is left out if it only calls a method of a counter, or a law; and then what is empty or unused around it.
+//! So are parameters, arguments and fields that are counters, and functions that only pass a new counter to another one.
+//! What else names a counter or calls a law stays, and is refused at the end.
 
 use crate::items::{Function, after_type_arguments, elements, functions};
 use crate::items::{remove, remove_and_keep_comment, remove_element};
 use crate::left_out::Names;
 use crate::tokens::{Token, find, opening, words};
 
-/// The types of ghosts, and the names that all variables, parameters and fields of these types have.
-pub(crate) const GHOSTS: [&str; 5] = ["Turns", "Trace", "turns", "loop_turns", "trace"];
+/// The types of counters, and the names that all variables, parameters and fields of these types have.
+pub(crate) const COUNTERS: [&str; 5] = ["Turns", "Trace", "turns", "loop_turns", "trace"];
 
 /// The functions that the arguments of laws call. They change nothing, so they are left out with the call of the law.
 const WITHOUT_EFFECT: [&str; 6] = ["as_bytes", "as_u64", "exponent_radix", "from", "from_radix", "mantissa_radix"];
@@ -18,11 +18,11 @@ const WITHOUT_EFFECT: [&str; 6] = ["as_bytes", "as_u64", "exponent_radix", "from
 /// What a statement that is only a call does not have.
 const EFFECTS: [&str; 5] = ["?", "!", "=", "{", "return"];
 
-/// The ending of the name of a function with a ghost.
+/// The ending of the name of a function with a counter.
 const COUNTED: &str = "_counted";
 
-/// Leaves out the ghosts of a file, and the calls of laws.
-pub(crate) fn without_ghosts(tokens: &mut Vec<Token>, laws: &Names) {
+/// Leaves out the counters of a file, and the calls of laws.
+pub(crate) fn without_counters(tokens: &mut Vec<Token>, laws: &Names) {
     // From the last one: so the places of the others stay as they are.
     for end in (1..tokens.len()).rev() {
         if tokens.get(end).is_some_and(|token| *token == ";") {
@@ -36,7 +36,7 @@ pub(crate) fn without_ghosts(tokens: &mut Vec<Token>, laws: &Names) {
     for open in (0..tokens.len()).rev() {
         if tokens[open].is_in(&["(", "{"]) {
             for element in elements(tokens, open).into_iter().rev() {
-                if is_ghost(&tokens[element.clone()]) {
+                if is_counter(&tokens[element.clone()]) {
                     remove_element(tokens, element);
                 }
             }
@@ -52,7 +52,7 @@ fn statement(tokens: &[Token], mut at: usize) -> usize {
     at
 }
 
-/// Returns whether a statement, without its `;`, only calls a method of a ghost or a law.
+/// Returns whether a statement, without its `;`, only calls a method of a counter or a law.
 fn is_for_proofs(statement: &[Token], laws: &Names) -> bool {
     let ([first, ..], [.., last]) = (statement, statement) else { return false };
     if *first == "." || *last != ")" {
@@ -62,12 +62,12 @@ fn is_for_proofs(statement: &[Token], laws: &Names) -> bool {
     let Some(name) = (0..arguments).find(|at| after_type_arguments(statement, at + 1) == arguments) else {
         return false;
     };
-    let is_method_of_ghost = name > 1 && statement[name - 1] == "." && statement[name - 2].is_in(&GHOSTS);
+    let is_method_of_counter = name > 1 && statement[name - 1] == "." && statement[name - 2].is_in(&COUNTERS);
     let has_effect = |at: usize| {
         let is_other_call = at != name && statement[at].is_word() && statement[at + 1] == "(";
         statement[at].is_in(&EFFECTS) || is_other_call && !statement[at].is_in(&WITHOUT_EFFECT)
     };
-    (is_method_of_ghost || laws.contains(&statement[name].text)) && !(0..statement.len()).any(has_effect)
+    (is_method_of_counter || laws.contains(&statement[name].text)) && !(0..statement.len()).any(has_effect)
 }
 
 /// Leaves out what is left around a statement that was at an index. That is an `if` with nothing in it whose condition
@@ -91,14 +91,14 @@ fn without_rest(tokens: &mut Vec<Token>, at: usize) {
     }
 }
 
-/// Returns whether an element of a list is a ghost: `turns`, `self.trace`, `&mut Turns::new()`, `turns: &mut Turns`.
-fn is_ghost(element: &[Token]) -> bool {
+/// Returns whether an element of a list is a counter: `turns`, `self.trace`, `&mut Turns::new()`, `turns: &mut Turns`.
+fn is_counter(element: &[Token]) -> bool {
     let start = element.iter().position(|token| !token.is_in(&["pub", "&", "mut", "self", "."])).unwrap_or(0);
     let rest = &element[start + 1..];
-    element[start].is_in(&GHOSTS) && (rest.is_empty() || rest[0] == ":" || words(rest) == ":: new ( )")
+    element[start].is_in(&COUNTERS) && (rest.is_empty() || rest[0] == ":" || words(rest) == ":: new ( )")
 }
 
-/// Gives each function `NAME_counted`, whose ghost is left out, the name `NAME`. If another function of that name does
+/// Gives each function `NAME_counted`, whose counter is left out, the name `NAME`. If another function of that name does
 /// nothing but to call it, with its own parameters, one function is made of the two.
 pub(crate) fn without_counted(tokens: &mut Vec<Token>) {
     let is_counted = |each: &Function| each.name(tokens).strip_suffix(COUNTED).map(str::to_owned);
