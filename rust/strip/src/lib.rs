@@ -4,14 +4,14 @@
 //! so a comment goes to the package as it is, or is left out with what it stands at. `tokens` reads and prints,
 //! `items` finds functions and their parts, and `repository` reads all crates. These are the steps:
 //!
-//! 1. `rules` writes what `tables` lists otherwise, for example `prove!` as `assert!`.
+//! 1. `rules` writes what `replacements` lists otherwise, for example `prove!` as `assert!`.
 //! 2. `left_out` leaves out items that only the prover reads, such as ghost items, laws, models and tactics.
 //! 3. `counters` leaves out counters with all that passes them on, and calls of laws.
 //! 4. `additions` writes attributes that a package needs and the crate does not have: `#[inline]` and `#[must_use]`. It
 //!    leaves out the contracts, after a check that the documentation says when a function panics.
 //! 5. `left_out` leaves out imports of what is gone, and refuses each word of Rattle that is left.
 //!
-//! `packages` lists the crates, what is made of each, and the functions that the steps need to know, such as laws. What
+//! `sources` lists the crates, what is made of each, and the functions that the steps need to know, such as laws. What
 //! no step knows is an error with the file and the line. A rule or a listed name that is for nothing is an error too.
 
 #![forbid(unsafe_code)]
@@ -21,16 +21,16 @@ mod counters;
 mod files;
 mod items;
 mod left_out;
-mod packages;
+mod replacements;
 mod repository;
 mod rules;
-mod tables;
+mod sources;
 mod tokens;
 
 use files::{files_of, laid_out, read, remove, without_layout, write};
-use packages::{SOURCES, Source};
 use repository::{File, Repository};
 use rules::Rule;
+use sources::{SOURCES, Source};
 use std::collections::BTreeMap;
 use std::path::{Path, PathBuf};
 

@@ -3,8 +3,8 @@
 use crate::files::{files_of, read};
 use crate::items::names;
 use crate::left_out::Names;
-use crate::packages::Source;
 use crate::rules::{Rule, lex_and_apply};
+use crate::sources::Source;
 use crate::tokens::Token;
 use std::path::{Path, PathBuf};
 

@@ -1,7 +1,7 @@
 //! Rules: tokens of a source, and those that are written in their place.
 
 use crate::items::remove_and_keep_comment;
-use crate::tables::RULES;
+use crate::replacements::RULES;
 use crate::tokens::{Token, lex, print};
 
 /// Tokens of a source, and those that are written there. A rule of a table that matches nothing is an error.

@@ -1,8 +1,8 @@
 //! Small sources, and what becomes of each. The made files, which the gate compares, show the rest.
 
-use crate::packages::{SOURCES, Source};
 use crate::repository::{File, Repository};
 use crate::rules::{Rule, lex_and_apply};
+use crate::sources::{SOURCES, Source};
 use crate::tokens::{lex, print, words};
 use crate::{files, translated};
 use std::path::Path;

@@ -1,6 +1,6 @@
 //! Which crate becomes which files, and what the files have that the crate does not say.
 
-use crate::tables::{NO_INTEGER, NO_PART, NO_SHOW, NOT_UNSIGNED};
+use crate::replacements::{NO_INTEGER, NO_PART, NO_SHOW, NOT_UNSIGNED};
 use std::path::{Path, PathBuf};
 
 /// A crate of Rattle, and the files that are made of it. rustc checks what is added. White space parts the names of a
